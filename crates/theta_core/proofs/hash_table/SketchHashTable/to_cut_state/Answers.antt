@@ -1,0 +1,20 @@
+use Rattle.std.proofs.Common.{◌≡◌, ◌<◌, ◌≤◌, ◌^◌, arith, ap, ◌∙◌, sym, length}
+use Rattle.std.proofs.Math.Pow.{pow_mono}
+use Rattle.theta_core.specs.Cut.{Retained, cut}
+use Rattle.theta_core.specs.Table.{IsRetained}
+use Rattle.theta_core.proofs.Upserts.{IsRetained-cut, length-cut}
+use Rattle.theta_core.proofs.Shown.{IsShown-retained}
+use Rattle.theta_core.proofs.hash_table.SketchHashTable.to_cut_state.Goals as goal
+
+pub non_empty-requires : goal.non_empty-requires
+non_empty-requires g c =
+    let key = g.E.SketchEntry.key in
+    let same : c.in_ok-entries.entries.items ≡ c.self.inside.entries.items = c.in_ok-entries.ensures.items_if_clones_equal c.requires.clones_equal ∙ c.deref.ensures.value in
+    let is_cut = c.cut_entries-theta.ensures in
+    let good : IsRetained key (record { entries = c.cut_entries-theta.new.entries.items; theta = c.cut_entries-theta.result }) =
+    rw (is_cut, same) (IsRetained-cut key _ c.self.inside.entries.items c.self.inside.theta c.self.invariant.kept) in
+    let few : length c.cut_entries-theta.new.entries.items < 2 ^ 32 =
+    let low : length (cut key c.nominal_size-nominal.result c.in_ok-entries.entries.items c.self.inside.theta).entries ≤ c.nominal_size-nominal.result = length-cut key _ c.in_ok-entries.entries.items c.self.inside.theta (rw same c.self.invariant.kept.ascending) in
+    let power : 2 ^ c.self.inside.lg_nom_size ≤ 2 ^ 26 = pow_mono (rw (← c.self.view_is) at c.requires.small) in
+    omega (arith, low, ap (λ v. length v.entries) is_cut, power, c.nominal_size-nominal.ensures.power) in
+    IsShown-retained key (record { entries = c.cut_entries-theta.new.entries.items; theta = c.cut_entries-theta.result }) _ _ good few

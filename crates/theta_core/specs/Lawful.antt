@@ -1,0 +1,19 @@
+-- Thetas that a sketch may come to, and what it then retains of a whole map.
+use Rattle.std.specs.Prelude.{ℕ, ◌<◌, ◌≤◌, ◌≡◌, ◌⊎◌, IsSome, List}
+use Rattle.std.specs.Option.{option_map_or}
+use Rattle.theta_core.specs.Cut.{IsAscending, Retained, below, rank, entry_at, with_entry}
+use Rattle.theta_core.specs.Step.{Step}
+
+-- theta is the start, or a key below it that has at least k smaller ones
+abbrev pub IsLawful : {X : Type 0} → (X → ℕ) → List X → (k start theta : ℕ) → Type 0
+IsLawful key xs k start theta = (theta ≡ start) ⊎ record { below_start : theta < start; is_key : IsSome (entry_at key xs theta); ranked : k ≤ rank key xs theta }
+
+-- what is retained stands within a whole map: all of it below a lawful theta
+pub record IsWithin {X : Type 0} (key : X → ℕ) (k start : ℕ) (v : Retained X) (whole : List X) : Type 0 where
+  pub ascending : IsAscending key whole
+  pub entries_are : v.entries ≡ below key whole v.theta
+  pub lawful : IsLawful key whole k start v.theta
+
+-- a step at h on a whole map, which knows no theta
+abbrev pub whole_upsert : {X : Type 0} → (X → ℕ) → ℕ → Step X → List X → List X
+whole_upsert key h step whole = option_map_or (λ x. with_entry key whole (step.writes x)) (entry_at key whole h) (option_map_or (λ x. with_entry key whole x) step.makes whole)

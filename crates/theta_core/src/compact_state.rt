@@ -1,0 +1,131 @@
+//! Compact states: the entries of a sketch that no longer changes.
+ghost use Rattle.std.specs.Prelude.{◌≡◌, ◌==◌, ◌&&◌, ◌<◌, ◌≤◌, length, nat_lt, not, false, true, None, IfOk};
+ghost use Rattle.theta_core.specs.CompactState.{Compact, IsCompact, empty_compact, shown_of};
+ghost use Rattle.theta_core.specs.Refusal.{Refuses};
+ghost use Rattle.theta_core.specs.View.{IsShown};
+
+use crate::MAX_THETA;
+use crate::entry::SketchEntry;
+use sketch_base::error::Error;
+use std::alloc::{Allocator, Global};
+use std::marker::Model;
+
+/// The entries of a sketch in a list, with its theta. Contracts see it as a record of these.
+///
+/// An empty state has no entries, the greatest theta, and is ordered.
+#[derive(Drop)]
+pub struct CompactSketchState<E: SketchEntry, A: Allocator = Global> {
+    empty: bool,
+    entries: Vec<E, A>,
+    theta: u64,
+    seed_hash: u16,
+    ordered: bool,
+}
+
+impl<E: SketchEntry, A: Allocator> Model for CompactSketchState<E, A> {
+    ghost use Rattle.theta_core.specs.CompactState.{Compact, IsCompact};
+
+    ghost Value = { Compact E };
+
+    ghost view = { λ s. record { empty = s.empty; entries = s.entries.items; theta = s.theta; seed_hash = s.seed_hash; ordered = s.ordered } };
+
+    ghost invariant = { λ s. IsCompact E.key (record { empty = s.empty; entries = s.entries.items; theta = s.theta; seed_hash = s.seed_hash; ordered = s.ordered }) };
+}
+
+impl<E: SketchEntry, A: Allocator> CompactSketchState<E, A> {
+    /// The state of an empty sketch with this seed hash.
+    pub fn empty(alloc: A, seed_hash: u16) -> Self
+        ensures { result ≡ empty_compact seed_hash }
+    {
+        CompactSketchState {
+            empty: true,
+            entries: Vec::new(alloc),
+            theta: MAX_THETA,
+            seed_hash,
+            ordered: true,
+        }
+    }
+
+    /// The state of a sketch that is not empty, though it may have no entries: fewer than 2^32, of distinct hashes from 1 to
+    /// below theta, ascending where it is ordered.
+    pub fn non_empty(entries: Vec<E, A>, theta: u64, seed_hash: u16, ordered: bool) -> Self
+        requires { IsShown (shown_of E.key (record { empty = false; entries = entries.items; theta = theta; seed_hash = seed_hash; ordered = ordered })) }
+        ensures { result ≡ record { empty = false; entries = entries.items; theta = theta; seed_hash = seed_hash; ordered = ordered } }
+    {
+        CompactSketchState {
+            empty: false,
+            entries,
+            theta,
+            seed_hash,
+            ordered,
+        }
+    }
+
+    /// Its entries, in their order: ascending by hash where it is ordered.
+    pub fn retained_entries(&self) -> &[E]
+        ensures all { result.now ≡ self.now.entries }
+        ensures sound { IsCompact E.key self.now }
+    {
+        &self.entries
+    }
+
+    /// For how many entries there is room: at least as many as there are.
+    pub fn retained_entries_capacity(&self) -> usize
+        ensures { length self.now.entries ≤ result }
+    {
+        self.entries.capacity()
+    }
+
+    /// From 1 to `MAX_THETA`, which it is for an empty state.
+    pub fn theta(&self) -> u64
+        ensures { result ≡ self.now.theta }
+    {
+        self.theta
+    }
+
+    /// Whether no update was accepted.
+    pub fn is_empty(&self) -> bool
+        ensures { result ≡ self.now.empty }
+    {
+        self.empty
+    }
+
+    /// Whether it is not empty and its theta is below the greatest.
+    pub fn is_estimation_mode(&self) -> bool
+        ensures { result ≡ (not self.now.empty && nat_lt self.now.theta MAX_THETA) }
+    {
+        !self.empty && self.theta < MAX_THETA
+    }
+
+    /// The hash of its seed.
+    pub fn seed_hash(&self) -> u16
+        ensures { result ≡ self.now.seed_hash }
+    {
+        self.seed_hash
+    }
+
+    /// Whether its entries are known to ascend by hash.
+    pub fn is_ordered(&self) -> bool
+        ensures { result ≡ self.now.ordered }
+    {
+        self.ordered
+    }
+}
+
+impl<E: SketchEntry + Clone, A: Allocator + Clone> CompactSketchState<E, A> {
+    /// The same state again, in memory of a clone of its allocator. Refused with `OutOfMemory` alone.
+    pub fn clone(&self) -> Result<Self, Error>
+        requires clones_equal { (x y : E) → E.is_clone x y → y ≡ x }
+        ensures ok { IfOk result (λ s. s ≡ self.now) }
+        ensures refused { Refuses result None true }
+    {
+        let alloc = self.entries.allocator().clone()?;
+        Ok(CompactSketchState {
+            empty: self.empty,
+            entries: Vec::from_clones(alloc, &self.entries)?,
+            theta: self.theta,
+            seed_hash: self.seed_hash,
+            ordered: self.ordered,
+        })
+    }
+}

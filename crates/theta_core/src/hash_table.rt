@@ -1,0 +1,327 @@
+//! The table of retained entries.
+ghost use Rattle.std.specs.Prelude.{◌≡◌, ℕ, ◌<◌, ◌≤◌, ◌^◌, true, false, None, nat_lt, length, IfOk, IfErr, OnOk, OnErr, MatchResult, IsPermutation};
+ghost use Rattle.std.specs.List.{AllByRecursion};
+ghost use Rattle.std.specs.Option.{ForSome, option_copied};
+ghost use Rattle.theta_core.specs.CompactState.{IsCompactOf, empty_compact};
+ghost use Rattle.theta_core.specs.Cut.{IsAscending, Retained, retained, entry_at, with_entry, cut};
+ghost use Rattle.theta_core.specs.Hash.{hash_key, hash_step};
+ghost use Rattle.theta_core.specs.Places.{IsAt, IsGapFor};
+ghost use Rattle.theta_core.specs.Refusal.{Refuses};
+ghost use Rattle.theta_core.specs.Table.{MapTable, Table, IsTable, IsRetained, empty_table, after_reset, table_refusal, rebuilt, after_upsert, creates, upsert_refusal, upsert_allocates};
+
+use crate::compact_state::CompactSketchState;
+use crate::entry::{SketchEntry, ThetaEntry};
+use crate::iter::SketchHashTableIter;
+use crate::resize_factor::ResizeFactor;
+use crate::step::{ThetaStep, UpsertStep};
+use crate::{MAX_LG_K, MAX_THETA, MIN_LG_K};
+use sketch_base::error::{Error, ErrorKind};
+use sketch_base::seed::compute_seed_hash;
+use std::alloc::{AllocError, Allocator, Global};
+use std::marker::Model;
+
+/// The entries of a sketch below its theta. Contracts see them as a map, ascending by hash, and the theta.
+///
+/// With k the nominal entries, 2 to the power of its nominal logarithm, an insertion that makes them more than 15k/8
+/// lowers theta to the (k+1)th smallest hash, and exactly the k below it stay.
+#[derive(Drop)]
+pub struct SketchHashTable<E: SketchEntry, A: Allocator = Global> {
+    lg_nom_size: u8,
+    starting_theta: u64,
+    seed: u64,
+    seed_hash: u16,
+    theta: u64,
+    entries: Vec<E, A>,
+}
+
+impl<E: SketchEntry, A: Allocator> Model for SketchHashTable<E, A> {
+    ghost use Rattle.std.specs.Prelude.{true};
+    ghost use Rattle.theta_core.specs.Table.{Table, IsTable};
+
+    ghost Value = { Table E };
+
+    ghost view = { λ t. record { map = record { kept = record { entries = t.entries.items; theta = t.theta }; lg_nom = t.lg_nom_size; has_slots = true; start = t.starting_theta; seed = t.seed; seed_hash = t.seed_hash } } };
+
+    ghost invariant = { λ t. IsTable E.key (record { kept = record { entries = t.entries.items; theta = t.theta }; lg_nom = t.lg_nom_size; has_slots = true; start = t.starting_theta; seed = t.seed; seed_hash = t.seed_hash }) };
+}
+
+impl<E: SketchEntry, A: Allocator> SketchHashTable<E, A> {
+    /// An empty table of 2^`lg_nom_size` nominal entries, with `lg_nom_size` from 5 to 26, and a starting theta from 1 to `MAX_THETA`.
+    ///
+    /// Refused with `InvalidArgument` outside these ranges, and for a seed whose seed hash is 0; with `OutOfMemory` where
+    /// memory is. The resize factor has no effect on what the table answers.
+    pub fn new(
+        alloc: A,
+        lg_nom_size: u8,
+        _resize_factor: ResizeFactor,
+        starting_theta: u64,
+        seed: u64,
+    ) -> Result<Self, Error>
+    where
+        A: Drop,
+        ensures made { IfOk result (λ t. t.map ≡ empty_table lg_nom_size starting_theta seed) }
+        ensures refused { Refuses result (table_refusal lg_nom_size starting_theta seed) true }
+    {
+        let size_fits = MIN_LG_K <= lg_nom_size && lg_nom_size <= MAX_LG_K;
+        if !size_fits || starting_theta == 0 || starting_theta > MAX_THETA {
+            return Err(Error::new(ErrorKind::InvalidArgument));
+        }
+        let seed_hash = compute_seed_hash(seed, ErrorKind::InvalidArgument)?;
+        Ok(SketchHashTable {
+            lg_nom_size,
+            starting_theta,
+            seed,
+            seed_hash,
+            theta: starting_theta,
+            entries: Vec::new(alloc),
+        })
+    }
+
+    /// How many entries it retains.
+    pub fn num_retained(&self) -> usize
+        ensures { result ≡ length self.now.map.kept.entries }
+    {
+        self.entries.len()
+    }
+
+    /// The theta that all retained hashes are below, from 1 to `MAX_THETA`.
+    pub fn retention_theta(&self) -> u64
+        ensures theta { result ≡ self.now.map.kept.theta }
+        ensures sound { IsTable E.key self.now.map }
+    {
+        self.theta
+    }
+
+    /// The binary logarithm of its nominal entries.
+    pub fn lg_nom_size(&self) -> u8
+        ensures { result ≡ self.now.map.lg_nom }
+    {
+        self.lg_nom_size
+    }
+
+    /// The seed that it was made with.
+    pub fn seed(&self) -> u64
+        ensures { result ≡ self.now.map.seed }
+    {
+        self.seed
+    }
+
+    /// The hash of its seed.
+    pub fn seed_hash(&self) -> u16
+        ensures { result ≡ self.now.map.seed_hash }
+    {
+        self.seed_hash
+    }
+
+    /// The retained entry of a hash.
+    pub fn entry(&self, hash: u64) -> Option<&E>
+        ensures { option_copied result ≡ entry_at E.key self.now.map.kept.entries hash }
+    {
+        match place_of(&self.entries, hash) {
+            Ok(at) => Some(&self.entries[at]),
+            Err(_) => None,
+        }
+    }
+
+    /// Each retained entry once, in an open order.
+    pub fn iter_entries(&self) -> SketchHashTableIter<'_, E>
+        ensures each_once { IsPermutation self.now.map.kept.entries result }
+        ensures sound { IsTable E.key self.now.map }
+    {
+        SketchHashTableIter::over(&self.entries)
+    }
+}
+
+impl<E: SketchEntry + Drop, A: Allocator> SketchHashTable<E, A> {
+    /// Removes all entries, and takes the starting theta back. It takes no memory.
+    pub fn reset(&mut self)
+        ensures { self.new.map ≡ after_reset self.old.map }
+    {
+        self.entries.clear();
+        self.theta = self.starting_theta;
+    }
+
+    /// Keeps what is below a theta, which is at most its own.
+    pub(crate) fn lower_theta(&mut self, theta: u64)
+        requires low { 0 < theta }
+        requires high { theta ≤ self.old.map.kept.theta }
+        ensures { self.new.map ≡ record self.old.map { kept = retained E.key self.old.map.kept.entries theta } }
+    {
+        let at = match place_of(&self.entries, theta) {
+            Ok(at) => at,
+            Err(at) => at,
+        };
+        self.entries.truncate(at);
+        self.theta = theta;
+    }
+}
+
+impl<E: SketchEntry + Drop, A: Allocator + Clone> SketchHashTable<E, A> {
+    /// Inserts a hash: the step writes the entry that has it, or else makes one. Answers whether an entry was made.
+    ///
+    /// A hash that is 0 or at least theta is screened: no step is called, nothing changes and the answer is false.
+    /// Refused with what the step refuses, or with `OutOfMemory`; then nothing has changed.
+    pub fn upsert_entry<S: UpsertStep<E> + Drop>(
+        &mut self,
+        hash: u64,
+        step: S,
+    ) -> Result<bool, Error>
+        requires keeps_hash { (x : E) → E.key x ≡ hash → E.key ((S.means step).writes x) ≡ hash }
+        requires makes_hash { ForSome (S.means step).makes (λ x. E.key x ≡ hash) }
+        ensures ok { IfOk result (λ created. created ≡ creates E.key hash (S.means step) self.old.map.kept) }
+        ensures after { OnOk result (self.new.map ≡ record self.old.map { kept = after_upsert E.key (2 ^ self.old.map.lg_nom) hash (S.means step) self.old.map.kept }) }
+        ensures err { OnErr result (self.new.map ≡ self.old.map) }
+        ensures refused { Refuses result (upsert_refusal E.key hash (S.means step) self.old.map.kept) (upsert_allocates E.key hash (S.means step) self.old.map.kept) }
+    {
+        if hash == 0 || hash >= self.theta {
+            return Ok(false);
+        }
+        match place_of(&self.entries, hash) {
+            Ok(at) => {
+                step.existing(&mut self.entries[at])?;
+                Ok(false)
+            }
+            Err(at) => match step.absent()? {
+                None => Ok(false),
+                Some(entry) => {
+                    let nominal = nominal_size(self.lg_nom_size);
+                    self.theta = put_entry(&mut self.entries, self.theta, nominal, at, entry)?;
+                    Ok(true)
+                }
+            },
+        }
+    }
+
+    /// Where more than k entries are retained, lowers theta to the (k+1)th smallest hash and keeps the k below it.
+    ///
+    /// Refused with `OutOfMemory` alone, and only where more than k are retained; then nothing has changed.
+    pub fn trim(&mut self) -> Result<(), Error>
+        ensures after { OnOk result (self.new.map ≡ record self.old.map { kept = cut E.key (2 ^ self.old.map.lg_nom) self.old.map.kept.entries self.old.map.kept.theta }) }
+        ensures err { OnErr result (self.new.map ≡ self.old.map) }
+        ensures refused { Refuses result None (nat_lt (2 ^ self.old.map.lg_nom) (length self.old.map.kept.entries)) }
+    {
+        let nominal = nominal_size(self.lg_nom_size);
+        self.theta = cut_entries(&mut self.entries, self.theta, nominal);
+        Ok(())
+    }
+}
+
+impl<E: SketchEntry + Clone, A: Allocator + Clone> SketchHashTable<E, A> {
+    /// What it retains, as the state of a sketch that is not empty, ordered where that is asked or it has one entry at the
+    /// greatest theta. Its memory is from a clone of the table's allocator. Refused with `OutOfMemory` alone.
+    pub fn to_non_empty_compact_state(
+        &self,
+        ordered: bool,
+    ) -> Result<CompactSketchState<E, A>, Error>
+        requires clones_equal { (x y : E) → E.is_clone x y → y ≡ x }
+        requires count_fits { length self.now.map.kept.entries < 2 ^ 32 }
+        ensures ok { IfOk result (IsCompactOf self.now.map.kept self.now.map.seed_hash ordered) }
+        ensures refused { Refuses result None true }
+    {
+        let alloc = self.entries.allocator().clone()?;
+        let entries = Vec::from_clones(alloc, &self.entries)?;
+        let ordered = ordered || entries.len() == 1 && self.theta == MAX_THETA;
+        Ok(CompactSketchState::non_empty(entries, self.theta, self.seed_hash, ordered))
+    }
+
+    /// What it retains, cut to k, as the state of a sketch that is not empty. The table stays as it is.
+    pub(crate) fn to_cut_state(&self, ordered: bool) -> Result<CompactSketchState<E, A>, Error>
+        requires clones_equal { (x y : E) → E.is_clone x y → y ≡ x }
+        requires small { self.now.map.lg_nom ≤ MAX_LG_K }
+        ensures ok { IfOk result (IsCompactOf (cut E.key (2 ^ self.now.map.lg_nom) self.now.map.kept.entries self.now.map.kept.theta) self.now.map.seed_hash ordered) }
+        ensures refused { Refuses result None true }
+    {
+        let nominal = nominal_size(self.lg_nom_size);
+        let alloc = self.entries.allocator().clone()?;
+        let mut entries = Vec::from_clones(alloc, &self.entries)?;
+        let theta = cut_entries(&mut entries, self.theta, nominal);
+        let ordered = ordered || entries.len() == 1 && theta == MAX_THETA;
+        Ok(CompactSketchState::non_empty(entries, theta, self.seed_hash, ordered))
+    }
+
+    /// An empty state with the table's seed hash, in memory of a clone of its allocator.
+    pub(crate) fn to_empty_state(&self) -> Result<CompactSketchState<E, A>, Error>
+        ensures ok { IfOk result (λ s. s ≡ empty_compact self.now.map.seed_hash) }
+        ensures refused { Refuses result None true }
+    {
+        let alloc = self.entries.allocator().clone()?;
+        Ok(CompactSketchState::empty(alloc, self.seed_hash))
+    }
+}
+
+/// The table of a theta sketch, whose entries are hashes alone.
+pub type ThetaHashTable<A = Global> = SketchHashTable<ThetaEntry, A>;
+
+impl<A: Allocator + Clone> SketchHashTable<ThetaEntry, A> {
+    /// Inserts a hash, and answers whether it is new and below theta.
+    ///
+    /// Refused with `OutOfMemory` alone, and only where the hash is new and below theta; then nothing has changed.
+    pub fn try_insert_hash(&mut self, hash: u64) -> Result<bool, Error>
+        ensures ok { IfOk result (λ created. created ≡ creates hash_key hash (hash_step hash) self.old.map.kept) }
+        ensures after { OnOk result (self.new.map ≡ record self.old.map { kept = after_upsert hash_key (2 ^ self.old.map.lg_nom) hash (hash_step hash) self.old.map.kept }) }
+        ensures err { OnErr result (self.new.map ≡ self.old.map) }
+        ensures refused { Refuses result None (upsert_allocates hash_key hash (hash_step hash) self.old.map.kept) }
+    {
+        self.upsert_entry(hash, ThetaStep::new(hash))
+    }
+}
+
+/// Where a hash stands, or would go, in entries that ascend.
+fn place_of<E: SketchEntry>(entries: &[E], hash: u64) -> Result<usize, usize>
+    requires { IsAscending E.key entries.now }
+    ensures found { IfOk result (IsAt E.key entries.now hash) }
+    ensures absent { IfErr result (IsGapFor E.key entries.now hash) }
+{
+    entries.binary_search_by_key(&hash, |entry| entry.hash())
+}
+
+/// Keeps the k entries of least hash, where there are more, and answers the theta above them.
+fn cut_entries<E: SketchEntry + Drop, A: Allocator>(
+    entries: &mut Vec<E, A>,
+    theta: u64,
+    nominal: usize,
+) -> u64
+    requires ascending { IsAscending E.key entries.old.items }
+    requires below_theta { AllByRecursion (λ x. E.key x < theta) entries.old.items }
+    ensures { record { entries = entries.new.items; theta = result } ≡ cut E.key nominal entries.old.items theta }
+{
+    if entries.len() <= nominal {
+        return theta;
+    }
+    let cut_theta = entries[nominal].hash();
+    entries.truncate(nominal);
+    cut_theta
+}
+
+/// Puts an entry at its place, and cuts where the entries are then more than fifteen eighths of k. Answers the new theta.
+fn put_entry<E: SketchEntry + Drop, A: Allocator>(
+    entries: &mut Vec<E, A>,
+    theta: u64,
+    nominal: usize,
+    at: usize,
+    entry: E,
+) -> Result<u64, AllocError>
+    requires retained { IsRetained E.key (record { entries = entries.old.items; theta = theta }) }
+    requires gap { IsGapFor E.key entries.old.items (E.key entry) at }
+    requires nonzero { 0 < E.key entry }
+    requires small { E.key entry < theta }
+    requires nominal_high { nominal ≤ 2 ^ 32 }
+    ensures ok { IfOk result (λ new_theta. record { entries = entries.new.items; theta = new_theta } ≡ rebuilt E.key nominal (with_entry E.key entries.old.items entry) theta) }
+    ensures err { OnErr result (entries.new.items ≡ entries.old.items) }
+{
+    entries.insert(at, entry)?;
+    if nominal >= 8 && entries.len() > 15 * nominal / 8 {
+        Ok(cut_entries(entries, theta, nominal))
+    } else {
+        Ok(theta)
+    }
+}
+
+/// The nominal entries k, for their binary logarithm.
+fn nominal_size(lg_nom_size: u8) -> usize
+    requires { lg_nom_size ≤ 32 }
+    ensures power { result ≡ 2 ^ lg_nom_size }
+    ensures small { result ≤ 2 ^ 32 }
+{
+    1usize << lg_nom_size
+}

@@ -1,0 +1,186 @@
+//! Iterators over the entries of tables and slices. Contracts see of each what it has left.
+ghost use Rattle.std.specs.Prelude.{◌≡◌, ⊤, Some, true, false, length, map, IfSome, IsPermutation};
+ghost use Rattle.std.specs.Iterator.{YieldsFirst, YieldsFirstRef, MakesProgress, UpTo, item_count};
+ghost use Rattle.std.specs.Iterator.SizeHint.{IsWithinCount};
+
+use crate::entry::SketchEntry;
+use crate::hash_table::SketchHashTable;
+use std::alloc::Allocator;
+use std::marker::Model;
+
+/// The entries of a table, each once, in an open order.
+#[derive(Drop)]
+pub struct SketchHashTableIter<'a, E> {
+    rest: &'a [E],
+}
+
+impl<'a, E> Model for SketchHashTableIter<'a, E> {
+    ghost use Rattle.std.specs.Prelude.{List};
+
+    ghost Value = { List E };
+
+    ghost view = { λ s. s.rest.now };
+}
+
+impl<'a, E> SketchHashTableIter<'a, E> {
+    pub(crate) fn over(entries: &'a [E]) -> Self
+        ensures { result ≡ entries.entry.now }
+    {
+        SketchHashTableIter { rest: entries }
+    }
+}
+
+impl<'a, E> Iterator for SketchHashTableIter<'a, E> {
+    type Item = &'a E;
+
+    ghost next_gives = { YieldsFirstRef (λ s. s) };
+
+    ghost remaining = { item_count (λ s. s) };
+
+    fn next(&mut self) -> Option<&'a E> {
+        let (first, others) = self.rest.split_first()?;
+        self.rest = others;
+        Some(first)
+    }
+
+    /// At least none, and at most a number that is no less than the entries left.
+    fn size_hint(&self) -> (usize, Option<usize>)
+        ensures lower { IsWithinCount result.0 (item_count (λ s. s) self.now) }
+        ensures upper { IfSome result.1 (UpTo (item_count (λ s. s) self.now)) }
+        ensures from_none { result.0 ≡ 0 }
+    {
+        (0, Some(self.rest.len()))
+    }
+}
+
+#[derive(Drop)]
+enum Source<'a, E> {
+    Table(SketchHashTableIter<'a, E>),
+    Slice(&'a [E]),
+}
+
+/// The entries of a table or of a slice, lent one by one: a table's in an open order, a slice's in its own.
+#[derive(Drop)]
+pub struct EntryIter<'a, E> {
+    source: Source<'a, E>,
+}
+
+impl<'a, E> Model for EntryIter<'a, E> {
+    ghost use Rattle.theta_core.specs.Lending.{Lending};
+
+    ghost Value = { Lending E };
+
+    ghost use Rattle.theta_core.specs.Source.{left_in};
+
+    ghost view = { λ s. left_in s.source };
+}
+
+impl<'a, E> EntryIter<'a, E> {
+    /// The entries of a slice, in its order.
+    pub fn of_slice(entries: &'a [E]) -> Self
+        ensures { result ≡ record { rest = entries.entry.now; counted = true } }
+    {
+        EntryIter {
+            source: Source::Slice(entries),
+        }
+    }
+}
+
+impl<'a, E: SketchEntry> EntryIter<'a, E> {
+    /// The entries of a table, each once, in an open order.
+    pub fn of_table<A: Allocator>(table: &'a SketchHashTable<E, A>) -> Self
+        ensures each_once { IsPermutation table.entry.now.map.kept.entries result.rest }
+        ensures uncounted { result.counted ≡ false }
+    {
+        EntryIter {
+            source: Source::Table(table.iter_entries()),
+        }
+    }
+}
+
+impl<'a, E> Iterator for EntryIter<'a, E> {
+    type Item = &'a E;
+
+    ghost next_gives = { YieldsFirstRef (λ s. s.rest) };
+
+    ghost remaining = { item_count (λ s. s.rest) };
+
+    fn next(&mut self) -> Option<&'a E>
+        ensures steps { YieldsFirstRef (λ s. s.rest) self.old result self.new }
+        ensures goes { MakesProgress (λ _. ⊤) (item_count (λ s. s.rest)) self.old result self.new }
+        ensures same_kind { self.new.counted ≡ self.old.counted }
+    {
+        match &mut self.source {
+            Source::Table(entries) => entries.next(),
+            Source::Slice(entries) => {
+                let (first, others) = entries.split_first()?;
+                *entries = others;
+                Some(first)
+            }
+        }
+    }
+
+    /// Exact over a slice; else at least none, and at most a number that is no less than the entries left.
+    fn size_hint(&self) -> (usize, Option<usize>)
+        ensures lower { IsWithinCount result.0 (item_count (λ s. s.rest) self.now) }
+        ensures upper { IfSome result.1 (UpTo (item_count (λ s. s.rest) self.now)) }
+        ensures exact { self.now.counted ≡ true → result ≡ (length self.now.rest, Some (length self.now.rest)) }
+        ensures from_none { self.now.counted ≡ false → result.0 ≡ 0 }
+    {
+        match &self.source {
+            Source::Table(entries) => entries.size_hint(),
+            Source::Slice(entries) => (entries.len(), Some(entries.len())),
+        }
+    }
+}
+
+/// The hashes of the entries of an `EntryIter`, in its order.
+#[derive(Drop)]
+pub struct HashIter<'a, E: SketchEntry> {
+    entries: EntryIter<'a, E>,
+}
+
+impl<'a, E: SketchEntry> Model for HashIter<'a, E> {
+    ghost use Rattle.std.specs.Prelude.{ℕ, map};
+    ghost use Rattle.theta_core.specs.Lending.{Lending};
+
+    ghost Value = { Lending ℕ };
+
+    ghost view = { λ s. record { rest = map E.key s.entries.rest; counted = s.entries.counted } };
+}
+
+impl<'a, E: SketchEntry> HashIter<'a, E> {
+    /// The hashes of these entries.
+    pub fn new(entries: EntryIter<'a, E>) -> Self
+        ensures { result ≡ record { rest = map E.key entries.entry.rest; counted = entries.entry.counted } }
+    {
+        HashIter { entries }
+    }
+}
+
+impl<'a, E: SketchEntry> Iterator for HashIter<'a, E> {
+    type Item = u64;
+
+    ghost next_gives = { YieldsFirst (λ s. s.rest) };
+
+    ghost remaining = { item_count (λ s. s.rest) };
+
+    fn next(&mut self) -> Option<u64>
+        ensures steps { YieldsFirst (λ s. s.rest) self.old result self.new }
+        ensures goes { MakesProgress (λ _. ⊤) (item_count (λ s. s.rest)) self.old result self.new }
+        ensures same_kind { self.new.counted ≡ self.old.counted }
+    {
+        let entry = self.entries.next()?;
+        Some(entry.hash())
+    }
+
+    /// That of the entries.
+    fn size_hint(&self) -> (usize, Option<usize>)
+        ensures lower { IsWithinCount result.0 (item_count (λ s. s.rest) self.now) }
+        ensures upper { IfSome result.1 (UpTo (item_count (λ s. s.rest) self.now)) }
+        ensures exact { self.now.counted ≡ true → result ≡ (length self.now.rest, Some (length self.now.rest)) }
+        ensures from_none { self.now.counted ≡ false → result.0 ≡ 0 }
+    {
+        self.entries.size_hint()
+    }
+}
