@@ -1,13 +1,14 @@
 //! The table of retained entries.
-ghost use Rattle.std.specs.Prelude.{◌≡◌, ℕ, ◌<◌, ◌≤◌, ◌^◌, true, false, None, nat_lt, length, IfOk, IfErr, OnOk, OnErr, MatchResult, IsPermutation};
-ghost use Rattle.std.specs.List.{AllByRecursion};
+ghost use Rattle.std.specs.Prelude.{◌≡◌, ℕ, ◌<◌, ◌≤◌, ◌^◌, true, false, None, nat_lt, length, IfOk, IfErr, OnOk, OnErr, MatchResult};
+ghost use Rattle.std.specs.List.{AllByRecursion, concat};
 ghost use Rattle.std.specs.Option.{ForSome, option_copied};
+ghost use Rattle.sketch_base.specs.Seed.{hash_of};
 ghost use Rattle.theta_core.specs.CompactState.{IsCompactOf, empty_compact};
 ghost use Rattle.theta_core.specs.Cut.{IsAscending, Retained, retained, entry_at, with_entry, cut};
 ghost use Rattle.theta_core.specs.Hash.{hash_key, hash_step};
 ghost use Rattle.theta_core.specs.Places.{IsAt, IsGapFor};
 ghost use Rattle.theta_core.specs.Refusal.{Refuses};
-ghost use Rattle.theta_core.specs.Table.{MapTable, Table, IsTable, IsRetained, empty_table, after_reset, table_refusal, rebuilt, after_upsert, creates, upsert_refusal, upsert_allocates};
+ghost use Rattle.theta_core.specs.Table.{MapTable, Table, IsTable, IsRetained, IsLent, empty_table, after_reset, table_refusal, rebuilt, after_upsert, creates, upsert_refusal, upsert_allocates};
 
 use crate::compact_state::CompactSketchState;
 use crate::entry::{SketchEntry, ThetaEntry};
@@ -16,8 +17,9 @@ use crate::resize_factor::ResizeFactor;
 use crate::step::{ThetaStep, UpsertStep};
 use crate::{MAX_LG_K, MAX_THETA, MIN_LG_K};
 use sketch_base::error::{Error, ErrorKind};
-use sketch_base::seed::compute_seed_hash;
+use sketch_base::seed::{self, compute_seed_hash};
 use std::alloc::{AllocError, Allocator, Global};
+use std::hash::Hash;
 use std::marker::Model;
 
 /// The entries of a sketch below its theta. Contracts see them as a map, ascending by hash, and the theta.
@@ -40,7 +42,7 @@ impl<E: SketchEntry, A: Allocator> Model for SketchHashTable<E, A> {
 
     ghost Value = { Table E };
 
-    ghost view = { λ t. record { map = record { kept = record { entries = t.entries.items; theta = t.theta }; lg_nom = t.lg_nom_size; has_slots = true; start = t.starting_theta; seed = t.seed; seed_hash = t.seed_hash } } };
+    ghost view = { λ t. record { map = record { kept = record { entries = t.entries.items; theta = t.theta }; lg_nom = t.lg_nom_size; has_slots = true; start = t.starting_theta; seed = t.seed; seed_hash = t.seed_hash }; lends = t.entries.items } };
 
     ghost invariant = { λ t. IsTable E.key (record { kept = record { entries = t.entries.items; theta = t.theta }; lg_nom = t.lg_nom_size; has_slots = true; start = t.starting_theta; seed = t.seed; seed_hash = t.seed_hash }) };
 }
@@ -123,9 +125,23 @@ impl<E: SketchEntry, A: Allocator> SketchHashTable<E, A> {
         }
     }
 
+    /// The hash of a value under the table's seed: the first half of MurmurHash3 x64 128 over the bytes that the value
+    /// writes, shifted right by one, so of 63 bits.
+    pub fn hash<T: Hash + Drop>(&self, value: T) -> u64
+        ensures { result ≡ hash_of self.now.map.seed (concat (T.hash_input value)) }
+    {
+        seed::hash(self.seed, value)
+    }
+
+    /// How many bytes the retained entries take.
+    pub fn estimated_size(&self) -> usize {
+        size_of_val(self.entries.as_slice())
+    }
+
     /// Each retained entry once, in an open order.
     pub fn iter_entries(&self) -> SketchHashTableIter<'_, E>
-        ensures each_once { IsPermutation self.now.map.kept.entries result }
+        ensures lent { result ≡ self.now.lends }
+        ensures each_once { IsLent E.key self.now.map.kept.entries self.now.lends }
         ensures sound { IsTable E.key self.now.map }
     {
         SketchHashTableIter::over(&self.entries)
@@ -253,6 +269,17 @@ impl<E: SketchEntry + Clone, A: Allocator + Clone> SketchHashTable<E, A> {
 pub type ThetaHashTable<A = Global> = SketchHashTable<ThetaEntry, A>;
 
 impl<A: Allocator + Clone> SketchHashTable<ThetaEntry, A> {
+    /// Inserts the hash of a value, and answers whether it is new and below theta. Refused as `try_insert_hash` is.
+    pub fn try_insert<T: Hash + Drop>(&mut self, value: T) -> Result<bool, Error>
+        ensures ok { let h = hash_of self.old.map.seed (concat (T.hash_input value)) in IfOk result (λ created. created ≡ creates hash_key h (hash_step h) self.old.map.kept) }
+        ensures after { let h = hash_of self.old.map.seed (concat (T.hash_input value)) in OnOk result (self.new.map ≡ record self.old.map { kept = after_upsert hash_key (2 ^ self.old.map.lg_nom) h (hash_step h) self.old.map.kept }) }
+        ensures err { OnErr result (self.new.map ≡ self.old.map) }
+        ensures refused { let h = hash_of self.old.map.seed (concat (T.hash_input value)) in Refuses result None (upsert_allocates hash_key h (hash_step h) self.old.map.kept) }
+    {
+        let hash = self.hash(value);
+        self.try_insert_hash(hash)
+    }
+
     /// Inserts a hash, and answers whether it is new and below theta.
     ///
     /// Refused with `OutOfMemory` alone, and only where the hash is new and below theta; then nothing has changed.

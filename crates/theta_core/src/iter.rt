@@ -1,5 +1,6 @@
 //! Iterators over the entries of tables and slices. Contracts see of each what it has left.
-ghost use Rattle.std.specs.Prelude.{◌≡◌, ⊤, Some, true, false, length, map, IfSome, IsPermutation};
+ghost use Rattle.std.specs.Prelude.{◌≡◌, ⊤, Some, true, false, length, map, IfSome};
+ghost use Rattle.theta_core.specs.Table.{IsLent};
 ghost use Rattle.std.specs.Iterator.{YieldsFirst, YieldsFirstRef, MakesProgress, UpTo, item_count};
 ghost use Rattle.std.specs.Iterator.SizeHint.{IsWithinCount};
 
@@ -89,8 +90,8 @@ impl<'a, E> EntryIter<'a, E> {
 impl<'a, E: SketchEntry> EntryIter<'a, E> {
     /// The entries of a table, each once, in an open order.
     pub fn of_table<A: Allocator>(table: &'a SketchHashTable<E, A>) -> Self
-        ensures each_once { IsPermutation table.entry.now.map.kept.entries result.rest }
-        ensures uncounted { result.counted ≡ false }
+        ensures lent { result ≡ record { rest = table.entry.now.lends; counted = false } }
+        ensures each_once { IsLent E.key table.entry.now.map.kept.entries table.entry.now.lends }
     {
         EntryIter {
             source: Source::Table(table.iter_entries()),

@@ -1,6 +1,7 @@
 use Rattle.std.proofs.Common.{◌≡◌, refl, take, arith}
 use Rattle.theta_core.specs.Cut.{below}
 use Rattle.theta_core.proofs.Ascending.{Parts, below_parts}
+use Rattle.theta_core.proofs.Cuts.{length-below, parts_rank}
 use Rattle.theta_core.proofs.Inserts.{parts_before, parts_gap}
 use Rattle.theta_core.proofs.Upserts.{IsRetained-below}
 use Rattle.theta_core.proofs.hash_table.SketchHashTable.lower_theta.Goals as goal
@@ -16,6 +17,7 @@ invariant_of-self g c =
     ] in
     record {
       kept = rw (c.truncate.ensures.items, ← below_parts key _ _ _ parts) (IsRetained-below key c.self.inside.entries.items c.self.inside.theta c.args.theta c.self.invariant.kept c.requires.low (rw (← c.self.view_is) at c.requires.high));
+      few = λ large. rw (c.truncate.ensures.items, ← below_parts key _ _ _ parts) (omega (arith, c.self.invariant.few large, length-below key c.self.inside.entries.items c.args.theta, (parts_rank key c.self.inside.entries.items c.args.theta c.self.invariant.kept.ascending).within));
       made = c.self.invariant.made;
     }
 

@@ -5,6 +5,7 @@ use Rattle.theta_core.proofs.hash_table.SketchHashTable.new.Goals as goal
 pub invariant_of-result : goal.invariant_of-result
 invariant_of-result g c = rw c.new-2.ensures.items (record {
   kept = record { ascending = ascending-nil _; nonzero = tt; below_theta = tt; theta_low = omega arith; theta_high = omega arith };
+  few = λ _. omega arith;
   made = record {
     lg_nom_high = omega arith;
     start_low = omega arith;

@@ -1,10 +1,12 @@
-use Rattle.std.proofs.Common.{◌≡◌, ℕ, ◌^◌, ◌<◌, ◌≤◌, true, false, Some, None, get_or, rules, sym, ap, ◌∙◌, refl, inl, inr, arith}
+use Rattle.std.proofs.Common.{◌≡◌, ℕ, ◌^◌, ◌<◌, ◌≤◌, true, false, Some, None, get_or, length, rules, sym, ap, ◌∙◌, refl, inl, inr, arith}
 use Rattle.std.specs.Prelude.{is_some}
 use Rattle.std.proofs.lemmas.Result.{err_from_is_err_and}
 use Rattle.theta_core.specs.Cut.{Retained, with_entry, entry_at}
-use Rattle.theta_core.specs.Table.{IsTable, IsRetained, is_screened}
+use Rattle.theta_core.specs.Table.{IsTable, IsRetained, is_screened, rebuilt}
 use Rattle.theta_core.proofs.Inserts.{entry_at_place, entry_at_gap, with_entry_at}
-use Rattle.theta_core.proofs.Upserts.{IsRetained-with_entry, IsRetained-rebuilt, screened_case, existing_case, absent_case, is_screened_true, is_screened_false}
+use Rattle.std.proofs.Math.ListN.{length-set}
+use Rattle.theta_core.proofs.Ascending.{ascending-with_entry}
+use Rattle.theta_core.proofs.Upserts.{few-rebuilt, IsRetained-with_entry, IsRetained-rebuilt, screened_case, existing_case, absent_case, is_screened_true, is_screened_false}
 use Rattle.theta_core.proofs.hash_table.SketchHashTable.upsert_entry.Goals as goal
 use Rattle.theta_core.proofs.hash_table.SketchHashTable.upsert_entry.Goals.{then-hash-eq0-via-then-hash-eq0, then-hash-eq0-via-else-hash-eq0+then-hash-self}
 
@@ -48,6 +50,7 @@ invariant_of-self-in-Ok g c =
     let put = with_entry_at key c.self.inside.entries.items c.args.hash c.in-Ok.at c.self.invariant.kept.ascending found c.existing.new.entry has_key in
     record {
       kept = rw (← put) (IsRetained-with_entry key _ _ _ c.self.invariant.kept (omega (arith, has_key, c.if-hash-eq0.false)) (omega (arith, has_key, c.if-hash-self.false)));
+      few = λ large. rw (length-set) (c.self.invariant.few large);
       made = c.self.invariant.made;
     }
 
@@ -79,6 +82,11 @@ invariant_of-self-in-Some g c =
     let put : IsRetained key _ = IsRetained-rebuilt key _ _ _ (IsRetained-with_entry key _ _ c.in-Some.entry c.self.invariant.kept (omega (arith, has_key, c.if-hash-eq0.false)) (omega (arith, has_key, c.if-hash-self.false))) in
     record {
       kept = rw c.in_ok-self-inside-in-Some.ensures.ok put;
+      few = λ large.
+          let k : ℕ = c.nominal_size-nominal.result in
+          let joined = with_entry key c.self.inside.entries.items c.in-Some.entry in
+          let same : length c.put_entry.new.entries.items ≡ length (rebuilt key k joined c.self.inside.theta).entries = ap (λ v. length v.entries) c.in_ok-self-inside-in-Some.ensures.ok in
+          omega (arith, same, few-rebuilt key k joined c.self.inside.theta (ascending-with_entry key c.self.inside.entries.items c.in-Some.entry c.self.invariant.kept.ascending) (omega (arith, large, c.nominal_size-nominal.ensures.power)), c.nominal_size-nominal.ensures.power);
       made = c.self.invariant.made;
     }
 

@@ -1,0 +1,64 @@
+-- Entries in the order in which a table lends them.
+use Rattle.std.proofs.Common.{◌≡◌, ℕ, zero, suc, ◌<◌, ◌≤◌, ◌≢◌, ◌^◌, Bool, true, false, cond, eqb, List, [], ◌∷◌, length, get_or, map, Option, Some, None, refl, sym, ap, ◌∙◌, arith}
+use Rattle.std.specs.List.{AllByRecursion, AllPairs, All}
+use Rattle.std.proofs.lemmas.Bool.Decides.{nat_tests}
+use Rattle.std.proofs.lemmas.List.{length-map}
+use Rattle.std.proofs.lemmas.List.Sorted.{IsPermutation-refl, length_permutation, All-permutation}
+use Rattle.theta_core.specs.declared.TheConstants.{MAX_THETA}
+use Rattle.theta_core.specs.Cut.{IsAscending, IsApart, Retained, entry_at, map_of}
+use Rattle.theta_core.specs.Table.{IsRetained, IsLent}
+use Rattle.theta_core.specs.View.{Shown, IsShown}
+use Rattle.theta_core.proofs.Ascending.{each-get_or}
+use Rattle.theta_core.proofs.Looks.{ascending-apart}
+use Rattle.theta_core.proofs.Maps.{same_map}
+use Rattle.theta_core.proofs.UnionSteps.{entry_at-map_of, ascending-map_of}
+
+module _ {X : Type 0} (key : X → ℕ) where
+  -- entries that ascend may be lent as they stand
+  pub lent-ascending : (xs : List X) → IsAscending key xs → IsLent key xs xs
+  lent-ascending xs up = record {
+    each_once = IsPermutation-refl xs;
+    apart = ascending-apart key xs up;
+    same_map = same_map key (map_of key xs) xs (ascending-map_of key xs) up (entry_at-map_of key xs);
+  }
+
+  absent_at : (xs : List X) (h j : ℕ) (d : ℕ) → entry_at key xs h ≡ None → j < length (map key xs) → h ≢ get_or (map key xs) j d
+  absent_at [] h j d none lt same = absurd (omega arith)
+  absent_at (x ∷ xs) h zero d none lt same =
+      (elim (eqb (key x) h) as (λ b. eqb (key x) h ≡ b → cond b (Some x) (entry_at key xs h) ≡ None → ⊥) [ true ↦ λ e n. cc | false ↦ λ e n. grind (arith, nat_tests, same) ]) refl none
+  absent_at (x ∷ xs) h (suc j) d none lt same =
+      (elim (eqb (key x) h) as (λ b. eqb (key x) h ≡ b → cond b (Some x) (entry_at key xs h) ≡ None → ⊥) [ true ↦ λ e n. cc | false ↦ λ e n. absent_at xs h j d n (omega arith) same ]) refl none
+
+  -- entries of different keys have distinct hashes
+  pub distinct-apart : (xs : List X) → IsApart key xs → AllPairs (λ x y. x ≢ y) (map key xs)
+  distinct-apart [] apart i j d lt in_range = absurd (omega arith)
+  distinct-apart (x ∷ xs) apart zero zero d lt in_range = absurd (omega arith)
+  distinct-apart (x ∷ xs) apart zero (suc j) d lt in_range = absent_at xs (key x) j d apart.0 (omega arith)
+  distinct-apart (x ∷ xs) apart (suc i) zero d lt in_range = absurd (omega arith)
+  distinct-apart (x ∷ xs) apart (suc i) (suc j) d lt in_range = distinct-apart xs apart.1 i j d (omega arith) (omega arith)
+
+  each-indexed : (P : X → Type 0) (xs : List X) → All P xs → AllByRecursion P xs
+  each-indexed P [] all = tt
+  each-indexed P (x ∷ xs) all = (all 0 x (omega arith), each-indexed P xs (λ k d lt. all (suc k) d (omega arith)))
+
+  -- what holds of each entry of a map holds of each that it lends
+  pub each-lent : (P : X → Type 0) (entries lends : List X) → IsLent key entries lends → AllByRecursion P entries → AllByRecursion P lends
+  each-lent P entries lends lent all = each-indexed P lends (All-permutation P entries lends lent.each_once (λ k d lt. each-get_or P entries k d lt all))
+
+  each-hash : (P : ℕ → Type 0) (xs : List X) → AllByRecursion (λ x. P (key x)) xs → AllByRecursion P (map key xs)
+  each-hash P [] all = tt
+  each-hash P (x ∷ xs) all = (all.0, each-hash P xs all.1)
+
+  -- what a sketch shows that lends what is retained, in whatever order
+  pub shown-lent : (v : Retained X) (lends : List X) (seed_hash : ℕ) → IsRetained key v → IsLent key v.entries lends → length v.entries < 2 ^ 32 → IsShown (record { empty = false; theta = v.theta; seed_hash = seed_hash; ordered = false; hashes = map key lends })
+  shown-lent v lends seed_hash good lent few = record {
+    theta_low = good.theta_low;
+    theta_high = good.theta_high;
+    distinct = distinct-apart lends lent.apart;
+    nonzero = each-hash (λ h. 0 < h) lends (each-lent (λ x. 0 < key x) v.entries lends lent good.nonzero);
+    below_theta = each-hash (λ h. h < v.theta) lends (each-lent (λ x. key x < v.theta) v.entries lends lent good.below_theta);
+    few = rw (length-map lends key, length_permutation v.entries lends lent.each_once) few;
+    ascending = λ e. absurd (cc);
+    none = λ e. absurd (cc);
+    greatest = λ e. absurd (cc);
+  }
