@@ -1,16 +1,21 @@
 -- Entries in the order in which a table lends them.
 use Rattle.std.proofs.Common.{◌≡◌, ℕ, zero, suc, ◌<◌, ◌≤◌, ◌≢◌, ◌^◌, Bool, true, false, cond, eqb, List, [], ◌∷◌, length, get_or, map, Option, Some, None, refl, sym, ap, ◌∙◌, arith}
 use Rattle.std.specs.List.{AllByRecursion, AllPairs, All}
+use Rattle.std.proofs.Math.Pow.{pow_mono}
 use Rattle.std.proofs.lemmas.Bool.Decides.{nat_tests}
 use Rattle.std.proofs.lemmas.List.{length-map}
 use Rattle.std.proofs.lemmas.List.Sorted.{IsPermutation-refl, length_permutation, All-permutation}
 use Rattle.theta_core.specs.declared.TheConstants.{MAX_THETA}
-use Rattle.theta_core.specs.Cut.{IsAscending, IsApart, Retained, entry_at, map_of}
-use Rattle.theta_core.specs.Table.{IsRetained, IsLent}
+use Rattle.theta_core.specs.Cut.{IsAscending, IsApart, Retained, cut, entry_at, map_of}
+use Rattle.theta_core.specs.Sketch.{Empty, NonEmpty}
+use Rattle.theta_core.specs.Table.{MapTable, none_below, IsRetained, IsTable, IsLent}
+use Rattle.theta_core.specs.Updatable.{Updatable, IsUpdatable, sketch_shows, theta_of}
 use Rattle.theta_core.specs.View.{Shown, IsShown}
-use Rattle.theta_core.proofs.Ascending.{each-get_or}
+use Rattle.theta_core.proofs.Ascending.{ascending-nil, each-get_or}
+use Rattle.theta_core.proofs.Cuts.{cut_few}
 use Rattle.theta_core.proofs.Looks.{ascending-apart}
 use Rattle.theta_core.proofs.Maps.{same_map}
+use Rattle.theta_core.proofs.Shown.{IsShown-none}
 use Rattle.theta_core.proofs.UnionSteps.{entry_at-map_of, ascending-map_of}
 
 module _ {X : Type 0} (key : X → ℕ) where
@@ -61,4 +66,42 @@ module _ {X : Type 0} (key : X → ℕ) where
     ascending = λ e. absurd (cc);
     none = λ e. absurd (cc);
     greatest = λ e. absurd (cc);
+  }
+
+  nothing : (xs : List X) → length xs ≡ 0 → xs ≡ []
+  nothing [] e = refl
+  nothing (x ∷ xs) e = absurd (omega arith)
+
+  -- a sketch shows what meets the laws
+  pub shown-sketch : (s : Updatable X) → IsUpdatable s → IsTable key s.map → IsLent key s.map.kept.entries s.lends → IsShown (sketch_shows key s)
+  shown-sketch s sound table lent =
+      (elim s.empty as (λ b. s.empty ≡ b → IsShown (record { empty = b; theta = theta_of (cond b Empty (NonEmpty s.map.kept)); seed_hash = s.map.seed_hash; ordered = false; hashes = map key s.lends })) [
+        | true ↦ λ e.
+            let entries : s.map.kept.entries ≡ [] = ap (λ v. v.entries) (sound.none_yet e) in
+            let lends : s.lends ≡ [] = nothing s.lends (length_permutation s.map.kept.entries s.lends lent.each_once ∙ ap length entries) in
+            rw lends (IsShown-none MAX_THETA s.map.seed_hash true false (omega arith) (omega arith) (λ _. refl))
+        | false ↦ λ e.
+            let low : 2 ^ 5 ≤ 2 ^ s.map.lg_nom = pow_mono {i = 5} {j = s.map.lg_nom} sound.lg_k_low in
+            let high : 2 ^ s.map.lg_nom ≤ 2 ^ 26 = pow_mono {i = s.map.lg_nom} {j = 26} sound.lg_k_high in
+            shown-lent s.map.kept s.lends s.map.seed_hash table.kept lent (omega (arith, table.few (omega (arith, low)), high))
+      ]) refl
+
+  -- a trim leaves a sketch one
+  pub updatable-trimmed : (s : Updatable X) (m : MapTable X) (lends : List X) → IsUpdatable s → m ≡ record s.map { kept = cut key (2 ^ s.map.lg_nom) s.map.kept.entries s.map.kept.theta } → IsUpdatable (record { empty = s.empty; map = m; lends = lends })
+  updatable-trimmed s m lends sound after = record {
+    lg_k_low = rw (ap (λ t. t.lg_nom) after) sound.lg_k_low;
+    lg_k_high = rw (ap (λ t. t.lg_nom) after) sound.lg_k_high;
+    none_yet = λ e.
+        ap (λ t. t.kept) after
+        ∙ ap (λ v. cut key (2 ^ s.map.lg_nom) v.entries v.theta) (sound.none_yet e)
+        ∙ cut_few key (2 ^ s.map.lg_nom) [] s.map.start (ascending-nil key) (omega arith)
+        ∙ sym (ap (λ t. none_below t.start) after);
+  }
+
+  -- and so does a call that leaves its map as it was
+  pub updatable-same : (s : Updatable X) (m : MapTable X) (lends : List X) → IsUpdatable s → m ≡ s.map → IsUpdatable (record { empty = s.empty; map = m; lends = lends })
+  updatable-same s m lends sound same = record {
+    lg_k_low = rw same sound.lg_k_low;
+    lg_k_high = rw same sound.lg_k_high;
+    none_yet = λ e. ap (λ t. t.kept) same ∙ sound.none_yet e ∙ sym (ap (λ t. none_below t.start) same);
   }

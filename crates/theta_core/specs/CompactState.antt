@@ -1,7 +1,8 @@
 -- Compact states.
-use Rattle.std.specs.Prelude.{ℕ, ◌≡◌, ◌==◌, ◌&&◌, ◌||◌, Bool, true, false, List, [], length, map, IsPermutation}
+use Rattle.std.specs.Prelude.{ℕ, ◌≡◌, ◌==◌, ◌&&◌, ◌||◌, Bool, true, false, List, [], length, map, IsPermutation, if◌then◌else◌}
 use Rattle.theta_core.specs.declared.TheConstants.{MAX_THETA}
-use Rattle.theta_core.specs.Cut.{Retained}
+use Rattle.theta_core.specs.Cut.{Retained, map_of}
+use Rattle.theta_core.specs.Sketch.{Sketch, Empty, NonEmpty}
 use Rattle.theta_core.specs.View.{Shown, IsShown}
 
 -- what a compact state holds: its entries in their order, and whether they are known to ascend
@@ -37,3 +38,12 @@ pub record IsCompactOf {X : Type 0} (v : Retained X) (seed_hash : ℕ) (asked : 
   pub ordered_if : s.ordered ≡ is_answer_ordered asked (length v.entries) v.theta
   pub lists_all : IsPermutation v.entries s.entries
   pub in_order : s.ordered ≡ true → s.entries ≡ v.entries
+
+-- s is the answer that has this value
+abbrev pub IsAnswer : {X : Type 0} → Sketch X → (seed_hash : ℕ) → (asked : Bool) → Compact X → Type 0
+IsAnswer Empty seed_hash asked s = s ≡ empty_compact seed_hash
+IsAnswer (NonEmpty v) seed_hash asked s = IsCompactOf v seed_hash asked s
+
+-- the value of a compact state
+abbrev pub compact_value : {X : Type 0} → (X → ℕ) → Compact X → Sketch X
+compact_value key s = if s.empty then Empty else NonEmpty (record { entries = map_of key s.entries; theta = s.theta })

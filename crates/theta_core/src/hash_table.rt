@@ -3,7 +3,7 @@ ghost use Rattle.std.specs.Prelude.{◌≡◌, ℕ, ◌<◌, ◌≤◌, ◌^◌,
 ghost use Rattle.std.specs.List.{AllByRecursion, concat};
 ghost use Rattle.std.specs.Option.{ForSome, option_copied};
 ghost use Rattle.sketch_base.specs.Seed.{hash_of};
-ghost use Rattle.theta_core.specs.CompactState.{IsCompactOf, empty_compact};
+ghost use Rattle.theta_core.specs.CompactState.{IsCompactOf};
 ghost use Rattle.theta_core.specs.Cut.{IsAscending, Retained, retained, entry_at, with_entry, cut};
 ghost use Rattle.theta_core.specs.Hash.{hash_key, hash_step};
 ghost use Rattle.theta_core.specs.Places.{IsAt, IsGapFor};
@@ -133,6 +133,11 @@ impl<E: SketchEntry, A: Allocator> SketchHashTable<E, A> {
         seed::hash(self.seed, value)
     }
 
+    /// The allocator that it keeps.
+    pub fn allocator(&self) -> &A {
+        self.entries.allocator()
+    }
+
     /// How many bytes the retained entries take.
     pub fn estimated_size(&self) -> usize {
         size_of_val(self.entries.as_slice())
@@ -253,15 +258,6 @@ impl<E: SketchEntry + Clone, A: Allocator + Clone> SketchHashTable<E, A> {
         let theta = cut_entries(&mut entries, self.theta, nominal);
         let ordered = ordered || entries.len() == 1 && theta == MAX_THETA;
         Ok(CompactSketchState::non_empty(entries, theta, self.seed_hash, ordered))
-    }
-
-    /// An empty state with the table's seed hash, in memory of a clone of its allocator.
-    pub(crate) fn to_empty_state(&self) -> Result<CompactSketchState<E, A>, Error>
-        ensures ok { IfOk result (λ s. s ≡ empty_compact self.now.map.seed_hash) }
-        ensures refused { Refuses result None true }
-    {
-        let alloc = self.entries.allocator().clone()?;
-        Ok(CompactSketchState::empty(alloc, self.seed_hash))
     }
 }
 

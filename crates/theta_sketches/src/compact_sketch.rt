@@ -1,0 +1,130 @@
+//! Theta sketches that no longer change.
+ghost use Rattle.std.specs.Prelude.{◌≡◌, ◌&&◌, true, not, nat_lt, None, length, IfOk};
+ghost use Rattle.theta_core.specs.CompactState.{IsCompact, shown_of};
+ghost use Rattle.theta_core.specs.Hash.{hash_key};
+ghost use Rattle.theta_core.specs.Refusal.{Refuses};
+ghost use Rattle.theta_sketches.specs.Fraction.{compact_fraction};
+ghost use Rattle.theta_core.specs.View.{IsShown};
+ghost use Rattle.theta_sketches.specs.View.{view_shows};
+
+use crate::iter::ThetaSketchIter;
+use crate::view::ThetaSketchView;
+use sketch_base::error::Error;
+use std::alloc::{Allocator, Global};
+use std::marker::Model;
+use theta_core::{CompactSketchState, EntryIter, MAX_THETA, ThetaEntry};
+
+/// A theta sketch that no longer changes: its hashes in a list, with its theta. Contracts see a record of these.
+#[derive(Drop)]
+pub struct CompactThetaSketch<A: Allocator = Global> {
+    state: CompactSketchState<ThetaEntry, A>,
+}
+
+impl<A: Allocator> Model for CompactThetaSketch<A> {
+    ghost use Rattle.std.specs.Prelude.{ℕ};
+    ghost use Rattle.theta_core.specs.CompactState.{Compact};
+
+    ghost Value = { Compact ℕ };
+
+    ghost view = { λ s. s.state };
+}
+
+impl<A: Allocator> CompactThetaSketch<A> {
+    pub(crate) fn of_state(state: CompactSketchState<ThetaEntry, A>) -> Self
+        ensures { result ≡ state }
+    {
+        CompactThetaSketch { state }
+    }
+
+    /// A view of the sketch, for operators.
+    pub fn as_view(&self) -> ThetaSketchView<'_, A>
+        ensures { view_shows result ≡ shown_of hash_key self.now }
+    {
+        ThetaSketchView::of_compact(self)
+    }
+
+    /// Whether no update was accepted.
+    pub fn is_empty(&self) -> bool
+        ensures { result ≡ self.now.empty }
+    {
+        self.state.is_empty()
+    }
+
+    /// Whether it is not empty and its theta is below the greatest.
+    pub fn is_estimation_mode(&self) -> bool
+        ensures { result ≡ (not self.now.empty && nat_lt self.now.theta MAX_THETA) }
+    {
+        self.state.is_estimation_mode()
+    }
+
+    /// Its theta, from 1 to `MAX_THETA`, which it is for an empty sketch.
+    pub fn theta64(&self) -> u64
+        ensures { result ≡ self.now.theta }
+    {
+        self.state.theta()
+    }
+
+    /// How many hashes it retains, fewer than 2^32.
+    pub fn num_retained(&self) -> usize
+        ensures count { result ≡ length self.now.entries }
+        ensures sound { IsCompact hash_key self.now }
+    {
+        self.state.retained_entries().len()
+    }
+
+    /// The fraction whose quotient estimates how many distinct values were seen: the retained hashes times `MAX_THETA`, over
+    /// theta, not reduced; 0 over 1 for an empty sketch.
+    pub fn estimate_fraction(&self) -> (u128, u128)
+        ensures { result ≡ compact_fraction self.now }
+    {
+        if self.is_empty() {
+            return (0, 1);
+        }
+        let count = self.num_retained() as u128;
+        (count * MAX_THETA as u128, self.theta64() as u128)
+    }
+
+    /// Whether its hashes are known to ascend.
+    pub fn is_ordered(&self) -> bool
+        ensures { result ≡ self.now.ordered }
+    {
+        self.state.is_ordered()
+    }
+
+    /// The hash of its seed.
+    pub fn seed_hash(&self) -> u16
+        ensures { result ≡ self.now.seed_hash }
+    {
+        self.state.seed_hash()
+    }
+
+    /// Its entries, in its order: ascending where it is ordered.
+    pub fn iter(&self) -> ThetaSketchIter<'_>
+        ensures { result ≡ record { rest = self.now.entries; counted = true } }
+    {
+        ThetaSketchIter::over(self.entries())
+    }
+
+    pub(crate) fn entries(&self) -> EntryIter<'_, ThetaEntry>
+        ensures { result ≡ record { rest = self.now.entries; counted = true } }
+    {
+        EntryIter::of_slice(self.state.retained_entries())
+    }
+
+    /// How many bytes its hashes take.
+    pub fn estimated_size(&self) -> usize {
+        size_of_val(self.state.retained_entries())
+    }
+}
+
+impl<A: Allocator + Clone> CompactThetaSketch<A> {
+    /// The same sketch again, in memory of a clone of its allocator. Refused with `OutOfMemory` alone.
+    pub fn clone(&self) -> Result<Self, Error>
+        ensures ok { IfOk result (λ s. s ≡ self.now) }
+        ensures refused { Refuses result None true }
+    {
+        Ok(CompactThetaSketch {
+            state: self.state.clone()?,
+        })
+    }
+}

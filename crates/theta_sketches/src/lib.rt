@@ -1,0 +1,20 @@
+//! Theta sketches: distinct counts over streams, their compact forms and their unions.
+//!
+//! A theta sketch retains the smallest hashes of a stream below its theta. Contracts see its value: Empty, or the
+//! retained hashes as a map, ascending, with the theta. Every call is stated on that value.
+#![tactic(auto)]
+
+mod builder;
+mod compact_sketch;
+mod iter;
+mod policy;
+mod sketch;
+mod union;
+mod view;
+
+pub use builder::{ThetaSketchBuilder, ThetaUnionBuilder};
+pub use compact_sketch::CompactThetaSketch;
+pub use iter::ThetaSketchIter;
+pub use sketch::ThetaSketch;
+pub use union::ThetaUnion;
+pub use view::ThetaSketchView;

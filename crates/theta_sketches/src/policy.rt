@@ -1,0 +1,22 @@
+//! How theta operators combine entries: they are hashes alone, so the first stays.
+ghost use Rattle.std.specs.Prelude.{false};
+ghost use Rattle.theta_core.specs.Hash.{first_hash};
+
+use sketch_base::error::Error;
+use theta_core::{ThetaEntry, UnionMergePolicy};
+
+/// A union's policy that changes nothing.
+#[derive(Debug, Clone, Copy)]
+pub(crate) struct NoopUnionPolicy;
+
+impl UnionMergePolicy<ThetaEntry> for NoopUnionPolicy {
+    ghost merges = { λ _ entry incoming. first_hash entry incoming };
+
+    ghost refuses = { λ _ _ _. false };
+
+    fn merge(&self, _entry: &mut ThetaEntry, _incoming: &ThetaEntry) -> Result<(), Error> {
+        Ok(())
+    }
+
+    ghost keeps_hash = { λ p x y same. same };
+}

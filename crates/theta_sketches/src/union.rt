@@ -1,0 +1,95 @@
+//! Unions of theta sketches.
+ghost use Rattle.std.specs.Prelude.{◌≡◌, ◌^◌, [], ◌∷◌, true, false, None, IfOk, IfErr, OnOk, MatchOption};
+ghost use Rattle.sketch_base.specs.Seed.{seed_hash};
+ghost use Rattle.sketch_base.specs.declared.error.ErrorKind.TheVariants.{OutOfMemory};
+ghost use Rattle.theta_core.specs.CompactState.{IsAnswer};
+ghost use Rattle.theta_core.specs.Hash.{hash_key, first_hash};
+ghost use Rattle.theta_core.specs.Operators.{unite};
+ghost use Rattle.theta_core.specs.Refusal.{Refuses};
+ghost use Rattle.theta_core.specs.Table.{table_refusal};
+ghost use Rattle.theta_core.specs.Union.{Union, empty_union, union_value, update_refusal, failure, IsUnion};
+ghost use Rattle.theta_core.specs.View.{shown_value};
+ghost use Rattle.theta_sketches.specs.View.{view_shows, view_lends};
+
+use crate::compact_sketch::CompactThetaSketch;
+use crate::policy::NoopUnionPolicy;
+use crate::view::ThetaSketchView;
+use sketch_base::error::Error;
+use std::alloc::{Allocator, Global};
+use std::marker::Model;
+use theta_core::{ResizeFactor, ThetaEntry, UnionState};
+
+/// A union of theta sketches that are handed over one by one.
+///
+/// Its value has the united hashes below the least theta of its inputs and its own start; where these are more than k, the
+/// k least, below the (k+1)th. Where memory is refused to an update the union has failed, until it is reset.
+#[derive(Drop)]
+pub struct ThetaUnion<A: Allocator = Global> {
+    state: UnionState<ThetaEntry, NoopUnionPolicy, A>,
+}
+
+impl<A: Allocator> Model for ThetaUnion<A> {
+    ghost use Rattle.std.specs.Prelude.{ℕ};
+    ghost use Rattle.theta_core.specs.Union.{Union};
+    ghost use Rattle.theta_sketches.specs.declared.policy.NoopUnionPolicy.{NoopUnionPolicy};
+
+    ghost Value = { Union ℕ NoopUnionPolicy };
+
+    ghost view = { λ u. u.state };
+}
+
+impl<A: Allocator + Drop> ThetaUnion<A> {
+    pub(crate) fn new(
+        alloc: A,
+        lg_k: u8,
+        resize_factor: ResizeFactor,
+        starting_theta: u64,
+        seed: u64,
+    ) -> Result<Self, Error>
+        ensures made { IfOk result (λ u. u ≡ empty_union lg_k starting_theta (seed_hash seed) (record {})) }
+        ensures refused { Refuses result (table_refusal lg_k starting_theta seed) true }
+    {
+        let policy = NoopUnionPolicy;
+        let state = UnionState::new(alloc, lg_k, resize_factor, starting_theta, seed, policy)?;
+        Ok(ThetaUnion { state })
+    }
+
+    /// Makes it empty again, and ends a failure. It takes no memory.
+    pub fn reset(&mut self)
+        ensures { self.new ≡ empty_union self.old.lg_k self.old.start self.old.seed_hash self.old.policy }
+    {
+        self.state.reset();
+    }
+}
+
+impl<A: Allocator + Clone> ThetaUnion<A> {
+    /// Joins a sketch. An empty one changes nothing, and its seed is not checked.
+    ///
+    /// Refused with `Failed` where the union has failed, whatever the input, and with `InvalidArgument` for a sketch of
+    /// another seed; then nothing has changed. Refused with `OutOfMemory`; then the union has failed.
+    pub fn update<B: Allocator>(&mut self, sketch: ThetaSketchView<'_, B>) -> Result<(), Error>
+        ensures skipped { OnOk result ((view_shows sketch.entry).empty ≡ true → self.new ≡ self.old) }
+        ensures united { OnOk result ((view_shows sketch.entry).empty ≡ false → union_value hash_key self.new ≡ unite hash_key first_hash (2 ^ self.old.lg_k) self.old.start (union_value hash_key self.old ∷ shown_value hash_key (view_shows sketch.entry) (view_lends sketch.entry) ∷ [])) }
+        ensures made_with { OnOk result (self.new ≡ record self.old { empty = self.new.empty; held = self.new.held }) }
+        ensures accepted { OnOk result (update_refusal self.old (view_shows sketch.entry) ≡ None) }
+        ensures refused { IfErr result (λ e. MatchOption (update_refusal self.old (view_shows sketch.entry)) ((e ≡ OutOfMemory) × (self.new ≡ record self.old { failed = true; held = self.new.held })) (λ kind. (e ≡ kind) × (self.new ≡ self.old))) }
+    {
+        self.state.update(sketch)?;
+        Ok(())
+    }
+
+    /// Its value, ordered where that is asked, or it is empty or has one hash at the greatest theta. The union stays as it is.
+    /// Refused with `Failed` where the union has failed, and with `OutOfMemory`.
+    pub fn to_sketch(&self, ordered: bool) -> Result<CompactThetaSketch<A>, Error>
+        ensures ok { IfOk result (IsAnswer (union_value hash_key self.now) self.now.seed_hash ordered) }
+        ensures refused { Refuses result (failure self.now.failed) true }
+    {
+        let state = self.state.to_compact_sketch_state(ordered)?;
+        Ok(CompactThetaSketch::of_state(state))
+    }
+
+    /// How many bytes the hashes that it holds take.
+    pub fn estimated_size(&self) -> usize {
+        self.state.estimated_size()
+    }
+}
