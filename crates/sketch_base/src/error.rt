@@ -1,21 +1,26 @@
-//! The error of every layer.
+//! The error of every layer of sketches.
 ghost use Rattle.std.specs.Prelude.{◌≡◌};
 ghost use Rattle.sketch_base.specs.declared.error.ErrorKind.TheVariants.{OutOfMemory};
 
 use std::alloc::{AllocError, AllocFailed};
 use std::marker::Model;
 
-/// Why a call was refused.
+/// Why a call was refused. What stands after a refusal is said at each call.
 #[derive(Debug, Clone, Copy, PartialEq, Eq)]
 pub enum ErrorKind {
+    /// An argument is outside its range, or belongs to another seed.
     InvalidArgument,
+    /// Bytes that were read spell nothing that may stand there, or end too early.
     InvalidData,
+    /// The memory that the call asked for was refused.
     OutOfMemory,
+    /// A policy on summaries refused what it was given.
     Policy,
+    /// An earlier refusal left the object half changed; it refuses until it is reset.
     Failed,
 }
 
-/// A refusal, which contracts see as its kind.
+/// A refusal. Its kind is all that it tells, and contracts see it as its kind.
 #[derive(Debug, Drop)]
 pub struct Error {
     kind: ErrorKind,
@@ -32,12 +37,14 @@ impl Model for Error {
 }
 
 impl Error {
+    /// The error of this kind.
     pub fn new(kind: ErrorKind) -> Self
         ensures { result ≡ kind }
     {
         Error { kind }
     }
 
+    /// The kind that the error was made of.
     pub fn kind(&self) -> ErrorKind
         ensures { result ≡ self.now }
     {

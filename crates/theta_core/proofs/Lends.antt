@@ -7,10 +7,11 @@ use Rattle.std.proofs.lemmas.List.{length-map}
 use Rattle.std.proofs.lemmas.List.Sorted.{IsPermutation-refl, length_permutation, All-permutation}
 use Rattle.theta_core.specs.declared.TheConstants.{MAX_THETA}
 use Rattle.theta_core.specs.Cut.{IsAscending, IsApart, Retained, cut, entry_at, map_of}
-use Rattle.theta_core.specs.Sketch.{Empty, NonEmpty}
+use Rattle.theta_core.specs.CompactState.{Compact, IsAnswer, compact_value}
+use Rattle.theta_core.specs.Sketch.{Sketch, Empty, NonEmpty}
 use Rattle.theta_core.specs.Table.{MapTable, none_below, IsRetained, IsTable, IsLent}
-use Rattle.theta_core.specs.Updatable.{Updatable, IsUpdatable, sketch_shows, theta_of}
-use Rattle.theta_core.specs.View.{Shown, IsShown}
+use Rattle.theta_core.specs.Updatable.{Updatable, IsUpdatable, sketch_shows, sketch_value, theta_of, count_of}
+use Rattle.theta_core.specs.View.{Shown, IsShown, shown_value}
 use Rattle.theta_core.proofs.Ascending.{ascending-nil, each-get_or}
 use Rattle.theta_core.proofs.Cuts.{cut_few}
 use Rattle.theta_core.proofs.Looks.{ascending-apart}
@@ -86,6 +87,11 @@ module _ {X : Type 0} (key : X → ℕ) where
             shown-lent s.map.kept s.lends s.map.seed_hash table.kept lent (omega (arith, table.few (omega (arith, low)), high))
       ]) refl
 
+  -- a sketch has as many entries as its table
+  pub count-sketch : (s : Updatable X) → IsUpdatable s → length s.map.kept.entries ≡ count_of (sketch_value s)
+  count-sketch s sound =
+      (elim s.empty as (λ b. s.empty ≡ b → length s.map.kept.entries ≡ count_of (cond b Empty (NonEmpty s.map.kept))) [ true ↦ λ e. ap (λ v. length v.entries) (sound.none_yet e) | false ↦ λ e. refl ]) refl
+
   -- a trim leaves a sketch one
   pub updatable-trimmed : (s : Updatable X) (m : MapTable X) (lends : List X) → IsUpdatable s → m ≡ record s.map { kept = cut key (2 ^ s.map.lg_nom) s.map.kept.entries s.map.kept.theta } → IsUpdatable (record { empty = s.empty; map = m; lends = lends })
   updatable-trimmed s m lends sound after = record {
@@ -105,3 +111,28 @@ module _ {X : Type 0} (key : X → ℕ) where
     lg_k_high = rw same sound.lg_k_high;
     none_yet = λ e. ap (λ t. t.kept) same ∙ sound.none_yet e ∙ sym (ap (λ t. none_below t.start) same);
   }
+
+  -- the value that a sketch shows is its own
+  pub shown-sketch_value : (s : Updatable X) → IsLent key s.map.kept.entries s.lends → shown_value key (sketch_shows key s) s.lends ≡ sketch_value s
+  shown-sketch_value s lent =
+      elim s.empty as (λ b. cond b Empty (NonEmpty (record { entries = map_of key s.lends; theta = theta_of (cond b Empty (NonEmpty s.map.kept)) })) ≡ cond b Empty (NonEmpty s.map.kept)) [
+        | true ↦ refl
+        | false ↦ ap (λ xs. NonEmpty (record { entries = xs; theta = s.map.kept.theta })) lent.same_map
+      ]
+
+  -- the value of an answer is the one that it answers, and its seed hash is the one that was given
+  pub answer-value : (v : Sketch X) (seed_hash : ℕ) (asked : Bool) (s : Compact X) → IsAnswer key v seed_hash asked s → compact_value key s ≡ v
+  answer-value Empty seed_hash asked s is = ap (compact_value key) is
+  answer-value (NonEmpty v) seed_hash asked s is =
+      ap (λ b. cond b Empty (NonEmpty (record { entries = map_of key s.entries; theta = s.theta }))) is.nonempty
+      ∙ ap (λ xs. NonEmpty (record { entries = xs; theta = s.theta })) is.lists_all.same_map
+      ∙ ap (λ (t : ℕ). NonEmpty (record { entries = v.entries; theta = t })) is.same_theta
+
+  pub answer-seed : (v : Sketch X) (seed_hash : ℕ) (asked : Bool) (s : Compact X) → IsAnswer key v seed_hash asked s → s.seed_hash ≡ seed_hash
+  answer-seed Empty seed_hash asked s is = ap (λ c. c.seed_hash) is
+  answer-seed (NonEmpty v) seed_hash asked s is = is.same_seed
+
+  -- an answer that was asked to be ordered is ordered
+  pub answer-ordered : (v : Sketch X) (seed_hash : ℕ) (s : Compact X) → IsAnswer key v seed_hash true s → s.ordered ≡ true
+  answer-ordered Empty seed_hash s is = ap (λ c. c.ordered) is
+  answer-ordered (NonEmpty v) seed_hash s is = is.ordered_if

@@ -1,8 +1,9 @@
 -- Compact states.
-use Rattle.std.specs.Prelude.{ℕ, ◌≡◌, ◌==◌, ◌&&◌, ◌||◌, Bool, true, false, List, [], length, map, IsPermutation, if◌then◌else◌}
+use Rattle.std.specs.Prelude.{ℕ, ◌≡◌, ◌==◌, ◌&&◌, ◌||◌, Bool, true, false, List, [], length, map, if◌then◌else◌}
 use Rattle.theta_core.specs.declared.TheConstants.{MAX_THETA}
 use Rattle.theta_core.specs.Cut.{Retained, map_of}
 use Rattle.theta_core.specs.Sketch.{Sketch, Empty, NonEmpty}
+use Rattle.theta_core.specs.Table.{IsLent}
 use Rattle.theta_core.specs.View.{Shown, IsShown}
 
 -- what a compact state holds: its entries in their order, and whether they are known to ascend
@@ -31,18 +32,18 @@ abbrev pub is_answer_ordered : (asked : Bool) → (count theta : ℕ) → Bool
 is_answer_ordered asked count theta = asked || (count == 1 && theta == MAX_THETA)
 
 -- s lists what is retained, each entry once, and ascending where it is ordered
-pub record IsCompactOf {X : Type 0} (v : Retained X) (seed_hash : ℕ) (asked : Bool) (s : Compact X) : Type 0 where
+pub record IsCompactOf {X : Type 0} (key : X → ℕ) (v : Retained X) (seed_hash : ℕ) (asked : Bool) (s : Compact X) : Type 0 where
   pub nonempty : s.empty ≡ false
   pub same_theta : s.theta ≡ v.theta
   pub same_seed : s.seed_hash ≡ seed_hash
   pub ordered_if : s.ordered ≡ is_answer_ordered asked (length v.entries) v.theta
-  pub lists_all : IsPermutation v.entries s.entries
+  pub lists_all : IsLent key v.entries s.entries
   pub in_order : s.ordered ≡ true → s.entries ≡ v.entries
 
 -- s is the answer that has this value
-abbrev pub IsAnswer : {X : Type 0} → Sketch X → (seed_hash : ℕ) → (asked : Bool) → Compact X → Type 0
-IsAnswer Empty seed_hash asked s = s ≡ empty_compact seed_hash
-IsAnswer (NonEmpty v) seed_hash asked s = IsCompactOf v seed_hash asked s
+abbrev pub IsAnswer : {X : Type 0} → (X → ℕ) → Sketch X → (seed_hash : ℕ) → (asked : Bool) → Compact X → Type 0
+IsAnswer key Empty seed_hash asked s = s ≡ empty_compact seed_hash
+IsAnswer key (NonEmpty v) seed_hash asked s = IsCompactOf key v seed_hash asked s
 
 -- the value of a compact state
 abbrev pub compact_value : {X : Type 0} → (X → ℕ) → Compact X → Sketch X

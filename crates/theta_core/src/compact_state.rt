@@ -6,7 +6,7 @@ ghost use Rattle.theta_core.specs.View.{IsShown};
 
 use crate::MAX_THETA;
 use crate::entry::SketchEntry;
-use sketch_base::error::Error;
+use sketch_base::Error;
 use std::alloc::{Allocator, Global};
 use std::marker::Model;
 

@@ -16,16 +16,15 @@ use crate::iter::SketchHashTableIter;
 use crate::resize_factor::ResizeFactor;
 use crate::step::{ThetaStep, UpsertStep};
 use crate::{MAX_LG_K, MAX_THETA, MIN_LG_K};
-use sketch_base::error::{Error, ErrorKind};
-use sketch_base::seed::{self, compute_seed_hash};
+use sketch_base::{Error, ErrorKind, MurmurHash3X64128, compute_seed_hash};
 use std::alloc::{AllocError, Allocator, Global};
-use std::hash::Hash;
+use std::hash::{Hash, Hasher};
 use std::marker::Model;
 
 /// The entries of a sketch below its theta. Contracts see them as a map, ascending by hash, and the theta.
 ///
-/// With k the nominal entries, 2 to the power of its nominal logarithm, an insertion that makes them more than 15k/8
-/// lowers theta to the (k+1)th smallest hash, and exactly the k below it stay.
+/// With k the nominal entries, 2 to the power of its nominal logarithm and at least 8, an insertion that makes the
+/// entries more than 15k/8 lowers theta to the (k+1)th smallest hash, and exactly the k below it stay.
 #[derive(Drop)]
 pub struct SketchHashTable<E: SketchEntry, A: Allocator = Global> {
     lg_nom_size: u8,
@@ -130,7 +129,9 @@ impl<E: SketchEntry, A: Allocator> SketchHashTable<E, A> {
     pub fn hash<T: Hash + Drop>(&self, value: T) -> u64
         ensures { result ≡ hash_of self.now.map.seed (concat (T.hash_input value)) }
     {
-        seed::hash(self.seed, value)
+        let mut hasher = MurmurHash3X64128::with_seed(self.seed);
+        value.hash(&mut hasher);
+        hasher.finish() >> 1
     }
 
     /// The allocator that it keeps.
@@ -236,7 +237,7 @@ impl<E: SketchEntry + Clone, A: Allocator + Clone> SketchHashTable<E, A> {
     ) -> Result<CompactSketchState<E, A>, Error>
         requires clones_equal { (x y : E) → E.is_clone x y → y ≡ x }
         requires count_fits { length self.now.map.kept.entries < 2 ^ 32 }
-        ensures ok { IfOk result (IsCompactOf self.now.map.kept self.now.map.seed_hash ordered) }
+        ensures ok { IfOk result (IsCompactOf E.key self.now.map.kept self.now.map.seed_hash ordered) }
         ensures refused { Refuses result None true }
     {
         let alloc = self.entries.allocator().clone()?;
@@ -249,7 +250,7 @@ impl<E: SketchEntry + Clone, A: Allocator + Clone> SketchHashTable<E, A> {
     pub(crate) fn to_cut_state(&self, ordered: bool) -> Result<CompactSketchState<E, A>, Error>
         requires clones_equal { (x y : E) → E.is_clone x y → y ≡ x }
         requires small { self.now.map.lg_nom ≤ MAX_LG_K }
-        ensures ok { IfOk result (IsCompactOf (cut E.key (2 ^ self.now.map.lg_nom) self.now.map.kept.entries self.now.map.kept.theta) self.now.map.seed_hash ordered) }
+        ensures ok { IfOk result (IsCompactOf E.key (cut E.key (2 ^ self.now.map.lg_nom) self.now.map.kept.entries self.now.map.kept.theta) self.now.map.seed_hash ordered) }
         ensures refused { Refuses result None true }
     {
         let nominal = nominal_size(self.lg_nom_size);

@@ -1,5 +1,5 @@
 //! Iterators over the entries of tables and slices. Contracts see of each what it has left.
-ghost use Rattle.std.specs.Prelude.{◌≡◌, ⊤, Some, true, false, length, map, IfSome};
+ghost use Rattle.std.specs.Prelude.{◌≡◌, ⊤, Some, true, false, length, map, IsSome, IfSome};
 ghost use Rattle.theta_core.specs.Table.{IsLent};
 ghost use Rattle.std.specs.Iterator.{YieldsFirst, YieldsFirstRef, MakesProgress, UpTo, item_count};
 ghost use Rattle.std.specs.Iterator.SizeHint.{IsWithinCount};
@@ -49,6 +49,7 @@ impl<'a, E> Iterator for SketchHashTableIter<'a, E> {
         ensures lower { IsWithinCount result.0 (item_count (λ s. s) self.now) }
         ensures upper { IfSome result.1 (UpTo (item_count (λ s. s) self.now)) }
         ensures from_none { result.0 ≡ 0 }
+        ensures bounded { IsSome result.1 }
     {
         (0, Some(self.rest.len()))
     }
@@ -127,6 +128,7 @@ impl<'a, E> Iterator for EntryIter<'a, E> {
         ensures upper { IfSome result.1 (UpTo (item_count (λ s. s.rest) self.now)) }
         ensures exact { self.now.counted ≡ true → result ≡ (length self.now.rest, Some (length self.now.rest)) }
         ensures from_none { self.now.counted ≡ false → result.0 ≡ 0 }
+        ensures bounded { IsSome result.1 }
     {
         match &self.source {
             Source::Table(entries) => entries.size_hint(),
@@ -181,6 +183,7 @@ impl<'a, E: SketchEntry> Iterator for HashIter<'a, E> {
         ensures upper { IfSome result.1 (UpTo (item_count (λ s. s.rest) self.now)) }
         ensures exact { self.now.counted ≡ true → result ≡ (length self.now.rest, Some (length self.now.rest)) }
         ensures from_none { self.now.counted ≡ false → result.0 ≡ 0 }
+        ensures bounded { IsSome result.1 }
     {
         self.entries.size_hint()
     }

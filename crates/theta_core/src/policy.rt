@@ -3,7 +3,7 @@ ghost use Rattle.std.specs.Prelude.{◌≡◌, Bool, true, MatchResult};
 ghost use Rattle.theta_core.specs.Refusal.{Refuses, policy_refusal};
 
 use crate::entry::SketchEntry;
-use sketch_base::error::Error;
+use sketch_base::Error;
 
 /// How a union combines two entries of one hash.
 pub trait UnionMergePolicy<E: SketchEntry> {

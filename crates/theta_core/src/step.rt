@@ -4,7 +4,7 @@ ghost use Rattle.theta_core.specs.Refusal.{Refuses};
 ghost use Rattle.theta_core.specs.Step.{Step};
 
 use crate::entry::ThetaEntry;
-use sketch_base::error::Error;
+use sketch_base::Error;
 
 /// A step of an insertion: it writes the entry that has the hash, or else makes one, or declines to.
 ///

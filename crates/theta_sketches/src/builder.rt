@@ -8,8 +8,7 @@ ghost use Rattle.theta_core.specs.Union.{empty_union};
 
 use crate::sketch::ThetaSketch;
 use crate::union::ThetaUnion;
-use sketch_base::error::Error;
-use sketch_base::seed::DEFAULT_UPDATE_SEED;
+use sketch_base::{DEFAULT_UPDATE_SEED, Error};
 use std::alloc::Allocator;
 use std::marker::Model;
 use theta_core::{DEFAULT_LG_K, MAX_THETA, ResizeFactor};

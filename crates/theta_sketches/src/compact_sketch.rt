@@ -1,15 +1,15 @@
 //! Theta sketches that no longer change.
 ghost use Rattle.std.specs.Prelude.{◌≡◌, ◌&&◌, true, not, nat_lt, None, length, IfOk};
-ghost use Rattle.theta_core.specs.CompactState.{IsCompact, shown_of};
+ghost use Rattle.theta_core.specs.CompactState.{IsCompact, shown_of, compact_value};
 ghost use Rattle.theta_core.specs.Hash.{hash_key};
 ghost use Rattle.theta_core.specs.Refusal.{Refuses};
 ghost use Rattle.theta_sketches.specs.Fraction.{compact_fraction};
-ghost use Rattle.theta_core.specs.View.{IsShown};
-ghost use Rattle.theta_sketches.specs.View.{view_shows};
+ghost use Rattle.theta_core.specs.View.{shown_value};
+ghost use Rattle.theta_sketches.specs.View.{view_shows, view_lends};
 
 use crate::iter::ThetaSketchIter;
 use crate::view::ThetaSketchView;
-use sketch_base::error::Error;
+use sketch_base::Error;
 use std::alloc::{Allocator, Global};
 use std::marker::Model;
 use theta_core::{CompactSketchState, EntryIter, MAX_THETA, ThetaEntry};
@@ -38,7 +38,9 @@ impl<A: Allocator> CompactThetaSketch<A> {
 
     /// A view of the sketch, for operators.
     pub fn as_view(&self) -> ThetaSketchView<'_, A>
-        ensures { view_shows result ≡ shown_of hash_key self.now }
+        ensures shows { view_shows result ≡ shown_of hash_key self.now }
+        ensures lends { view_lends result ≡ self.now.entries }
+        ensures value { shown_value hash_key (view_shows result) (view_lends result) ≡ compact_value hash_key self.now }
     {
         ThetaSketchView::of_compact(self)
     }

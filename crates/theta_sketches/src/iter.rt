@@ -1,5 +1,5 @@
 //! Iterators over the entries of theta sketches.
-ghost use Rattle.std.specs.Prelude.{◌≡◌, ⊤, Some, true, false, length, IfSome};
+ghost use Rattle.std.specs.Prelude.{◌≡◌, ⊤, Some, true, false, length, IsSome, IfSome};
 ghost use Rattle.std.specs.Iterator.{YieldsFirst, MakesProgress, UpTo, item_count};
 ghost use Rattle.std.specs.Iterator.SizeHint.{IsWithinCount};
 
@@ -51,6 +51,7 @@ impl<'a> Iterator for ThetaSketchIter<'a> {
         ensures upper { IfSome result.1 (UpTo (item_count (λ s. s.rest) self.now)) }
         ensures exact { self.now.counted ≡ true → result ≡ (length self.now.rest, Some (length self.now.rest)) }
         ensures from_none { self.now.counted ≡ false → result.0 ≡ 0 }
+        ensures bounded { IsSome result.1 }
     {
         self.entries.size_hint()
     }

@@ -2,7 +2,7 @@
 ghost use Rattle.std.specs.Prelude.{false};
 ghost use Rattle.theta_core.specs.Hash.{first_hash};
 
-use sketch_base::error::Error;
+use sketch_base::Error;
 use theta_core::{ThetaEntry, UnionMergePolicy};
 
 /// A union's policy that changes nothing.

@@ -8,13 +8,13 @@ ghost use Rattle.theta_core.specs.Hash.{hash_key, hash_step};
 ghost use Rattle.theta_core.specs.Refusal.{Refuses};
 ghost use Rattle.theta_core.specs.Table.{IsTable, IsLent, empty_table, after_reset, table_refusal, after_upsert, upsert_allocates};
 ghost use Rattle.theta_core.specs.Updatable.{IsUpdatable, sketch_value, sketch_shows, theta_of, count_of, fraction_of};
-ghost use Rattle.theta_core.specs.View.{IsShown};
-ghost use Rattle.theta_sketches.specs.View.{view_shows};
+ghost use Rattle.theta_core.specs.View.{IsShown, shown_value};
+ghost use Rattle.theta_sketches.specs.View.{view_shows, view_lends};
 
 use crate::compact_sketch::CompactThetaSketch;
 use crate::iter::ThetaSketchIter;
 use crate::view::ThetaSketchView;
-use sketch_base::error::Error;
+use sketch_base::Error;
 use std::alloc::{Allocator, Global};
 use std::hash::Hash;
 use std::marker::Model;
@@ -58,8 +58,11 @@ impl<A: Allocator> ThetaSketch<A> {
 
     /// A view of the sketch, for operators.
     pub fn as_view(&self) -> ThetaSketchView<'_, A>
-        ensures { view_shows result ≡ sketch_shows hash_key self.now }
+        ensures shows { view_shows result ≡ sketch_shows hash_key self.now }
+        ensures lends { view_lends result ≡ self.now.lends }
+        ensures value { shown_value hash_key (view_shows result) (view_lends result) ≡ sketch_value self.now }
     {
+        let _ = self.iter();
         ThetaSketchView::of_sketch(self)
     }
 
@@ -88,9 +91,9 @@ impl<A: Allocator> ThetaSketch<A> {
         }
     }
 
-    /// How many hashes it retains.
+    /// How many hashes it retains, fewer than 2^32.
     pub fn num_retained(&self) -> usize
-        ensures count { result ≡ length self.now.map.kept.entries }
+        ensures count { result ≡ count_of (sketch_value self.now) }
         ensures lent { result ≡ length self.now.lends }
         ensures sound { IsShown (sketch_shows hash_key self.now) }
     {
@@ -200,7 +203,7 @@ impl<A: Allocator + Clone> ThetaSketch<A> {
     /// Its compact form, of the same value, untrimmed. It is ordered where that is asked, or it is empty or has one hash at
     /// the greatest theta. The sketch stays as it is. Refused with `OutOfMemory` alone.
     pub fn compact(&self, ordered: bool) -> Result<CompactThetaSketch<A>, Error>
-        ensures ok { IfOk result (IsAnswer (sketch_value self.now) self.now.map.seed_hash ordered) }
+        ensures ok { IfOk result (IsAnswer hash_key (sketch_value self.now) self.now.map.seed_hash ordered) }
         ensures refused { Refuses result None true }
     {
         let _ = self.num_retained();

@@ -1,5 +1,5 @@
 //! Unions of theta sketches.
-ghost use Rattle.std.specs.Prelude.{◌≡◌, ◌^◌, [], ◌∷◌, true, false, None, IfOk, IfErr, OnOk, MatchOption};
+ghost use Rattle.std.specs.Prelude.{◌≡◌, ◌^◌, [], ◌∷◌, true, false, not, None, IfOk, IfErr, OnOk, MatchOption};
 ghost use Rattle.sketch_base.specs.Seed.{seed_hash};
 ghost use Rattle.sketch_base.specs.declared.error.ErrorKind.TheVariants.{OutOfMemory};
 ghost use Rattle.theta_core.specs.CompactState.{IsAnswer};
@@ -7,14 +7,14 @@ ghost use Rattle.theta_core.specs.Hash.{hash_key, first_hash};
 ghost use Rattle.theta_core.specs.Operators.{unite};
 ghost use Rattle.theta_core.specs.Refusal.{Refuses};
 ghost use Rattle.theta_core.specs.Table.{table_refusal};
-ghost use Rattle.theta_core.specs.Union.{Union, empty_union, union_value, update_refusal, failure, IsUnion};
+ghost use Rattle.theta_core.specs.Union.{Union, empty_union, union_value, update_refusal, failure, IsJoined};
 ghost use Rattle.theta_core.specs.View.{shown_value};
 ghost use Rattle.theta_sketches.specs.View.{view_shows, view_lends};
 
 use crate::compact_sketch::CompactThetaSketch;
 use crate::policy::NoopUnionPolicy;
 use crate::view::ThetaSketchView;
-use sketch_base::error::Error;
+use sketch_base::Error;
 use std::alloc::{Allocator, Global};
 use std::marker::Model;
 use theta_core::{ResizeFactor, ThetaEntry, UnionState};
@@ -70,9 +70,10 @@ impl<A: Allocator + Clone> ThetaUnion<A> {
     pub fn update<B: Allocator>(&mut self, sketch: ThetaSketchView<'_, B>) -> Result<(), Error>
         ensures skipped { OnOk result ((view_shows sketch.entry).empty ≡ true → self.new ≡ self.old) }
         ensures united { OnOk result ((view_shows sketch.entry).empty ≡ false → union_value hash_key self.new ≡ unite hash_key first_hash (2 ^ self.old.lg_k) self.old.start (union_value hash_key self.old ∷ shown_value hash_key (view_shows sketch.entry) (view_lends sketch.entry) ∷ [])) }
+        ensures joined { OnOk result ((view_shows sketch.entry).empty ≡ false → IsJoined hash_key first_hash (λ _ _. false) self.old self.new (view_shows sketch.entry).theta (view_lends sketch.entry)) }
         ensures made_with { OnOk result (self.new ≡ record self.old { empty = self.new.empty; held = self.new.held }) }
         ensures accepted { OnOk result (update_refusal self.old (view_shows sketch.entry) ≡ None) }
-        ensures refused { IfErr result (λ e. MatchOption (update_refusal self.old (view_shows sketch.entry)) ((e ≡ OutOfMemory) × (self.new ≡ record self.old { failed = true; held = self.new.held })) (λ kind. (e ≡ kind) × (self.new ≡ self.old))) }
+        ensures refused { IfErr result (λ e. MatchOption (update_refusal self.old (view_shows sketch.entry)) (((view_shows sketch.entry).empty ≡ false) × (e ≡ OutOfMemory) × (self.new ≡ record self.old { failed = true; held = self.new.held })) (λ kind. (e ≡ kind) × (self.new ≡ self.old))) }
     {
         self.state.update(sketch)?;
         Ok(())
@@ -81,8 +82,8 @@ impl<A: Allocator + Clone> ThetaUnion<A> {
     /// Its value, ordered where that is asked, or it is empty or has one hash at the greatest theta. The union stays as it is.
     /// Refused with `Failed` where the union has failed, and with `OutOfMemory`.
     pub fn to_sketch(&self, ordered: bool) -> Result<CompactThetaSketch<A>, Error>
-        ensures ok { IfOk result (IsAnswer (union_value hash_key self.now) self.now.seed_hash ordered) }
-        ensures refused { Refuses result (failure self.now.failed) true }
+        ensures ok { IfOk result (IsAnswer hash_key (union_value hash_key self.now) self.now.seed_hash ordered) }
+        ensures refused { Refuses result (failure self.now.failed) (not self.now.failed) }
     {
         let state = self.state.to_compact_sketch_state(ordered)?;
         Ok(CompactThetaSketch::of_state(state))

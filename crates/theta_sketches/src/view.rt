@@ -1,10 +1,10 @@
 //! Read-only views of theta sketches, which operators take.
-ghost use Rattle.std.specs.Prelude.{◌≡◌, length};
+ghost use Rattle.std.specs.Prelude.{◌≡◌, ⊤, length};
 ghost use Rattle.theta_core.specs.CompactState.{shown_of};
 ghost use Rattle.theta_core.specs.Hash.{hash_key};
 ghost use Rattle.theta_core.specs.Updatable.{sketch_shows};
 ghost use Rattle.theta_core.specs.View.{IsShown};
-ghost use Rattle.theta_sketches.specs.View.{view_shows, view_lends};
+ghost use Rattle.theta_sketches.specs.View.{view_shows, view_lends, view_lending};
 
 use crate::compact_sketch::CompactThetaSketch;
 use crate::iter::ThetaSketchIter;
@@ -20,6 +20,10 @@ enum Viewed<'a, A: Allocator> {
 }
 
 impl<'a, A: Allocator> Clone for Viewed<'a, A> {
+    ghost is_clone = { λ view copy. copy ≡ view };
+
+    ghost is_infallible = { λ _. ⊤ };
+
     fn clone(&self) -> Result<Self, AllocError> {
         Ok(*self)
     }
@@ -33,6 +37,10 @@ pub struct ThetaSketchView<'a, A: Allocator = Global> {
 }
 
 impl<'a, A: Allocator> Clone for ThetaSketchView<'a, A> {
+    ghost is_clone = { λ view copy. copy ≡ view };
+
+    ghost is_infallible = { λ _. ⊤ };
+
     fn clone(&self) -> Result<Self, AllocError> {
         Ok(*self)
     }
@@ -42,7 +50,8 @@ impl<'a, A: Allocator> Copy for ThetaSketchView<'a, A> {}
 
 impl<'a, A: Allocator> ThetaSketchView<'a, A> {
     pub(crate) fn of_sketch(sketch: &'a ThetaSketch<A>) -> Self
-        ensures { view_shows result ≡ sketch_shows hash_key sketch.entry.now }
+        ensures shows { view_shows result ≡ sketch_shows hash_key sketch.entry.now }
+        ensures lends { view_lends result ≡ sketch.entry.now.lends }
     {
         ThetaSketchView {
             sketch: Viewed::Mutable(sketch),
@@ -50,7 +59,8 @@ impl<'a, A: Allocator> ThetaSketchView<'a, A> {
     }
 
     pub(crate) fn of_compact(sketch: &'a CompactThetaSketch<A>) -> Self
-        ensures { view_shows result ≡ shown_of hash_key sketch.entry.now }
+        ensures shows { view_shows result ≡ shown_of hash_key sketch.entry.now }
+        ensures lends { view_lends result ≡ sketch.entry.now.entries }
     {
         ThetaSketchView {
             sketch: Viewed::Compact(sketch),
@@ -108,16 +118,18 @@ impl<'a, A: Allocator> ThetaSketchView<'a, A> {
         }
     }
 
-    /// The sketch's entries, each once.
+    /// The sketch's entries, each once: a mutable sketch's in an open order, a compact one's in its own.
     pub fn iter(&self) -> ThetaSketchIter<'a>
-        ensures { result.rest ≡ view_lends self.now }
+        ensures lent { result ≡ view_lending self.now }
+        ensures sound { IsShown (view_shows self.now) }
     {
+        let _ = self.num_retained();
         ThetaSketchIter::over(lent(*self))
     }
 }
 
 fn lent<'a, A: Allocator>(view: ThetaSketchView<'a, A>) -> EntryIter<'a, ThetaEntry>
-    ensures { result.rest ≡ view_lends view.entry }
+    ensures { result ≡ view_lending view.entry }
 {
     match view.sketch {
         Viewed::Mutable(sketch) => sketch.entries(),
@@ -171,7 +183,7 @@ impl<'a, A: Allocator> EntrySketch<'a> for ThetaSketchView<'a, A> {
 }
 
 impl<'a, A: Allocator> From<&'a ThetaSketch<A>> for ThetaSketchView<'a, A> {
-    ghost from_gives = { λ sketch view. view_shows view ≡ sketch_shows hash_key sketch.now };
+    ghost from_gives = { λ sketch view. (view_shows view ≡ sketch_shows hash_key sketch.now) × (view_lends view ≡ sketch.now.lends) };
 
     fn from(sketch: &'a ThetaSketch<A>) -> Self {
         ThetaSketchView::of_sketch(sketch)
@@ -179,7 +191,7 @@ impl<'a, A: Allocator> From<&'a ThetaSketch<A>> for ThetaSketchView<'a, A> {
 }
 
 impl<'a, A: Allocator> From<&'a CompactThetaSketch<A>> for ThetaSketchView<'a, A> {
-    ghost from_gives = { λ sketch view. view_shows view ≡ shown_of hash_key sketch.now };
+    ghost from_gives = { λ sketch view. (view_shows view ≡ shown_of hash_key sketch.now) × (view_lends view ≡ sketch.now.entries) };
 
     fn from(sketch: &'a CompactThetaSketch<A>) -> Self {
         ThetaSketchView::of_compact(sketch)

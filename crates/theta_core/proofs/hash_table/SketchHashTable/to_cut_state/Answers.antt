@@ -1,4 +1,5 @@
-use Rattle.std.proofs.Common.{◌≡◌, ◌<◌, ◌≤◌, ◌^◌, arith, ap, ◌∙◌, sym, length}
+use Rattle.std.proofs.Common.{◌≡◌, ℕ, ◌<◌, ◌≤◌, ◌^◌, arith, ap, ◌∙◌, sym, length, refl, rules}
+use Rattle.theta_core.proofs.Lends.{lent-ascending}
 use Rattle.std.proofs.Math.Pow.{pow_mono}
 use Rattle.theta_core.specs.Cut.{Retained, cut}
 use Rattle.theta_core.specs.Table.{IsRetained}
@@ -18,3 +19,21 @@ non_empty-requires g c =
     let power : 2 ^ c.self.inside.lg_nom_size ≤ 2 ^ 26 = pow_mono (rw (← c.self.view_is) at c.requires.small) in
     omega (arith, low, ap (λ v. length v.entries) is_cut, power, c.nominal_size-nominal.ensures.power) in
     IsShown-retained key (record { entries = c.cut_entries-theta.new.entries.items; theta = c.cut_entries-theta.result }) _ _ good few
+
+pub returns-clause-ok : goal.returns-clause-ok
+returns-clause-ok g c =
+    let key = g.E.SketchEntry.key in
+    let same : c.in_ok-entries.entries.items ≡ c.self.inside.entries.items = c.in_ok-entries.ensures.items_if_clones_equal c.requires.clones_equal ∙ c.deref.ensures.value in
+    let k = 2 ^ c.self.inside.lg_nom_size in
+    let kept = c.self.inside.entries.items in
+    let is : record { entries = c.cut_entries-theta.new.entries.items; theta = c.cut_entries-theta.result } ≡ cut key k kept c.self.inside.theta =
+    c.cut_entries-theta.ensures ∙ ap (λ xs. cut key c.nominal_size-nominal.result xs c.self.inside.theta) same ∙ ap (λ (n : ℕ). cut key n kept c.self.inside.theta) c.nominal_size-nominal.ensures.power in
+    let good : IsRetained key (record { entries = c.cut_entries-theta.new.entries.items; theta = c.cut_entries-theta.result }) = rw is (IsRetained-cut key k kept c.self.inside.theta c.self.invariant.kept) in
+    rw (← c.self.view_is, ← is) (record {
+      nonempty = search rules;
+      same_theta = search rules;
+      same_seed = search rules;
+      ordered_if = search rules;
+      lists_all = rw c.non_empty.ensures (lent-ascending key c.cut_entries-theta.new.entries.items good.ascending);
+      in_order = λ _. rw c.non_empty.ensures refl;
+    })

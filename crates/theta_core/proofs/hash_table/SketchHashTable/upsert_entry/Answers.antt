@@ -6,7 +6,7 @@ use Rattle.theta_core.specs.Table.{IsTable, IsRetained, is_screened, rebuilt}
 use Rattle.theta_core.proofs.Inserts.{entry_at_place, entry_at_gap, with_entry_at}
 use Rattle.std.proofs.Math.ListN.{length-set}
 use Rattle.theta_core.proofs.Ascending.{ascending-with_entry}
-use Rattle.theta_core.proofs.Upserts.{few-rebuilt, IsRetained-with_entry, IsRetained-rebuilt, screened_case, existing_case, absent_case, is_screened_true, is_screened_false}
+use Rattle.theta_core.proofs.Upserts.{or_left, or_right, few-rebuilt, IsRetained-with_entry, IsRetained-rebuilt, screened_case, existing_case, absent_case, is_screened_true, is_screened_false}
 use Rattle.theta_core.proofs.hash_table.SketchHashTable.upsert_entry.Goals as goal
 use Rattle.theta_core.proofs.hash_table.SketchHashTable.upsert_entry.Goals.{then-hash-eq0-via-then-hash-eq0, then-hash-eq0-via-else-hash-eq0+then-hash-self}
 
@@ -62,7 +62,7 @@ returns-in_err-absent-in-Err-clause-refused g c =
     (is_screened_false _ _ c.if-hash-eq0.false c.if-hash-self.false)
     (entry_at_gap key c.self.inside.entries.items c.args.hash c.in-Err.at gap) in
     let p = err_from_is_err_and c.from_residual-in_err-absent-in-Err.result c.from_residual-in_err-absent-in-Err.ensures.1 in
-    rw (p.1, p.2, ← c.self.view_is, case.refusal_is, case.allocates_is) (elim c.in_err-absent-in-Err.ensures.refused [ inl a ↦ inl a | inr b ↦ inr (b.0, refl) ])
+    rw (p.1, p.2, ← c.self.view_is, case.refusal_is, case.allocates_is) (elim c.in_err-absent-in-Err.ensures.refused [ inl a ↦ inl a | inr b ↦ inr (b.0, or_left _ _ b.1) ])
 
 pub returns-in_err-self-inside-in-Some-clause-refused : goal.returns-in_err-self-inside-in-Some-clause-refused
 returns-in_err-self-inside-in-Some-clause-refused g c =
@@ -72,7 +72,8 @@ returns-in_err-self-inside-in-Some-clause-refused g c =
     (is_screened_false _ _ c.if-hash-eq0.false c.if-hash-self.false)
     (entry_at_gap key c.self.inside.entries.items c.args.hash c.in-Err.at gap) in
     let p = err_from_is_err_and c.from_residual-in_err-self-inside-in-Some.result c.from_residual-in_err-self-inside-in-Some.ensures.1 in
-    rw (p.1, p.2, ← c.self.view_is, case.refusal_is, case.allocates_is) (inr (refl, refl))
+    let made = sym c.in_ok-absent-in-Err.ensures.made ∙ c.in-Some.is in
+    rw (p.1, p.2, ← c.self.view_is, case.refusal_is, case.allocates_is) (inr (refl, or_right _ _ (ap is_some made)))
 
 pub invariant_of-self-in-Some : goal.invariant_of-self-in-Some
 invariant_of-self-in-Some g c =

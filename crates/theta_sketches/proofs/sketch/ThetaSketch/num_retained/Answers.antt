@@ -1,8 +1,11 @@
 use Rattle.std.proofs.Common.{◌≡◌, ◌∙◌, sym}
 use Rattle.std.proofs.lemmas.List.Sorted.{length_permutation}
 use Rattle.theta_core.specs.Hash.{hash_key}
-use Rattle.theta_core.proofs.Lends.{shown-sketch}
+use Rattle.theta_core.proofs.Lends.{shown-sketch, count-sketch}
 use Rattle.theta_sketches.proofs.sketch.ThetaSketch.num_retained.Goals as goal
+
+pub returns-clause-count : goal.returns-clause-count
+returns-clause-count g c = rw (← c.self.view_is) (c.num_retained.ensures ∙ count-sketch hash_key _ c.self.invariant)
 
 pub returns-clause-lent : goal.returns-clause-lent
 returns-clause-lent g c = rw (← c.self.view_is) (c.num_retained.ensures ∙ sym (length_permutation _ _ c.iter_entries.ensures.each_once.each_once))
