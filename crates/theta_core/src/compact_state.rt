@@ -1,5 +1,6 @@
 //! Compact states: the entries of a sketch that no longer changes.
-ghost use Rattle.std.specs.Prelude.{◌≡◌, ◌==◌, ◌&&◌, ◌<◌, ◌≤◌, length, nat_lt, not, false, true, None, IfOk};
+ghost use Rattle.std.specs.Prelude.{◌≡◌, ◌==◌, ◌&&◌, ◌<◌, ◌≤◌, length, nat_lt, not, false, true, None, map, IfOk};
+ghost use Rattle.std.specs.List.{AllZip};
 ghost use Rattle.theta_core.specs.CompactState.{Compact, IsCompact, empty_compact, shown_of};
 ghost use Rattle.theta_core.specs.Refusal.{Refuses};
 ghost use Rattle.theta_core.specs.View.{IsShown};
@@ -7,7 +8,7 @@ ghost use Rattle.theta_core.specs.View.{IsShown};
 use crate::MAX_THETA;
 use crate::entry::SketchEntry;
 use sketch_base::Error;
-use std::alloc::{Allocator, Global};
+use std::alloc::{AllocError, Allocator, Global};
 use std::marker::Model;
 
 /// The entries of a sketch in a list, with its theta. Contracts see it as a record of these.
@@ -110,6 +111,51 @@ impl<E: SketchEntry, A: Allocator> CompactSketchState<E, A> {
     {
         self.ordered
     }
+}
+
+impl<E: SketchEntry + Drop, A: Allocator + Clone> CompactSketchState<E, A> {
+    /// The state with what `f` makes of each entry in its place, of the same hash, in memory of a clone of its allocator.
+    ///
+    /// Refused with `OutOfMemory` alone; then the entries are dropped.
+    pub fn map_retained_entries<F: SketchEntry + Drop, G: FnMut(E) -> F + Drop>(
+        self,
+        f: G,
+    ) -> Result<CompactSketchState<F, A>, Error>
+        requires callable { G.IsAlwaysCallable f }
+        requires keeps_hash { (g : G) (x : E) (y : F) → G.post g x y → F.key y ≡ E.key x }
+        ensures entries { IfOk result (λ s. AllZip (λ x y. (g : G) × G.post g x y) self.entries s.entries) }
+        ensures same { IfOk result (λ s. s ≡ record { empty = self.empty; entries = s.entries; theta = self.theta; seed_hash = self.seed_hash; ordered = self.ordered }) }
+        ensures refused { Refuses result None true }
+    {
+        let alloc = self.entries.allocator().clone()?;
+        let CompactSketchState { empty, entries, theta, seed_hash, ordered } = self;
+        let entries = images(alloc, entries, f)?;
+        Ok(CompactSketchState {
+            empty,
+            entries,
+            theta,
+            seed_hash,
+            ordered,
+        })
+    }
+}
+
+/// What a closure makes of each item, in their order.
+fn images<E: SketchEntry + Drop, F: SketchEntry + Drop, G: FnMut(E) -> F + Drop, A: Allocator>(
+    alloc: A,
+    entries: Vec<E, A>,
+    mut f: G,
+) -> Result<Vec<F, A>, AllocError>
+    requires callable { G.IsAlwaysCallable f }
+    requires keeps_hash { (g : G) (x : E) (y : F) → G.post g x y → F.key y ≡ E.key x }
+    ensures images { IfOk result (λ ys. AllZip (λ x y. (g : G) × G.post g x y) entries.items ys.items) }
+    ensures hashes { IfOk result (λ ys. map F.key ys.items ≡ map E.key entries.items) }
+{
+    let mut images = Vec::new(alloc);
+    for entry in entries {
+        images.push(f(entry))?;
+    }
+    Ok(images)
 }
 
 impl<E: SketchEntry + Clone, A: Allocator + Clone> CompactSketchState<E, A> {

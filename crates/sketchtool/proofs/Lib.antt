@@ -1,0 +1,13 @@
+pub mod Cuts
+pub mod Numbers
+pub mod Loop
+pub mod Nodes
+pub mod Spelled
+pub mod FirstFault
+pub mod Begins
+pub mod Deep
+pub mod Whole
+pub mod Puts
+pub mod Steps
+pub mod Parts
+pub mod Trimmed

@@ -1,0 +1,15 @@
+use Rattle.std.proofs.Common.{◌≡◌, ◌^◌, true, take, map}
+use Rattle.std.specs.List.{list_all}
+use Rattle.theta_core.specs.Hash.{hash_key, first_hash}
+use Rattle.theta_core.specs.Operators.{unite}
+use Rattle.theta_core.specs.Union.{union_value}
+use Rattle.sketchtool.specs.Value.{value_of, fits}
+use Rattle.sketchtool.proofs.evaluate.+evaluate.Given as goal
+
+-- the union has the value of the parts so far, which all fit, and is what it was made
+abbrev pub invariant-loop-part : goal.invariant-loop-part
+invariant-loop-part g l = record {
+  value : union_value hash_key l.union ≡ unite hash_key first_hash (2 ^ l.union.lg_k) l.union.start (map value_of (take l.part-index l.part-items));
+  made : l.union ≡ record l.initial.union { empty = l.union.empty; held = l.union.held };
+  fit : list_all (λ f. f) (map (fits l.seed) (take l.part-index l.part-items)) ≡ true;
+}

@@ -1,0 +1,74 @@
+-- What is written for an input.
+use Rattle.std.specs.Prelude.{◌≡◌, ◌≢◌, ℕ, List, [], ◌∷◌, ◌++◌, length, codes, Bool, true, false, if◌then◌else◌, Option, Some, decimal}
+use Rattle.std.specs.List.{flat_map}
+use Rattle.std.specs.Io.KnownBytes.{Appends}
+use Rattle.sketch_base.specs.declared.seed.TheConstants.{DEFAULT_UPDATE_SEED}
+use Rattle.sketch_base.specs.declared.error.ErrorKind.{ErrorKind}
+use Rattle.sketch_base.specs.declared.error.ErrorKind.TheVariants.{InvalidArgument}
+use Rattle.theta_core.specs.declared.TheConstants.{MAX_THETA}
+use Rattle.theta_core.specs.Sketch.{Sketch, Empty, NonEmpty}
+use Rattle.sketchtool.specs.declared.command.Command.{Command}
+use Rattle.sketchtool.specs.declared.command.Command.TheVariants.{ThetaShow}
+use Rattle.sketchtool.specs.declared.fault.Fault.TheVariants.{Syntax, Limit}
+use Rattle.sketchtool.specs.Spelling.{Spells}
+use Rattle.sketchtool.specs.Faults.{fault_of}
+use Rattle.sketchtool.specs.Value.{value_of, plan_refusal}
+
+-- a text and the LF that ends its line
+abbrev pub ended_line : List ℕ → List ℕ
+ended_line text = text ++ 10 ∷ []
+
+-- a number on a line of its own
+abbrev pub line_of : ℕ → List ℕ
+line_of n = ended_line (decimal n)
+
+-- whether a sketch is empty, its theta, and how many hashes it retains
+abbrev pub shown_head : Bool → ℕ → ℕ → List ℕ
+shown_head empty theta count =
+    ended_line (codes "empty " ++ (if empty then codes "yes" else codes "no"))
+    ++ codes "theta " ++ line_of theta
+    ++ codes "count " ++ line_of count
+
+-- the text of `show`: this, and then the hashes, one on a line
+abbrev pub shown_text : Bool → ℕ → List ℕ → List ℕ
+shown_text empty theta hashes = shown_head empty theta (length hashes) ++ flat_map line_of hashes
+
+-- the text of `show` for a value: Empty has the greatest theta and no hashes
+abbrev pub shown : Sketch ℕ → List ℕ
+shown Empty = shown_text true MAX_THETA []
+shown (NonEmpty v) = shown_text false v.theta v.entries
+
+-- `error`, a line's number and what it is at fault in
+abbrev pub fault_line : ℕ → List ℕ → List ℕ
+fault_line line kind = ended_line (codes "error " ++ decimal line ++ 32 ∷ kind)
+
+abbrev pub argument_line : List ℕ
+argument_line = ended_line (codes "error argument")
+
+abbrev pub memory_line : List ℕ
+memory_line = ended_line (codes "error memory")
+
+-- the value that a command asks for, under the default seed
+abbrev pub command_value : {Z : Type 0} → Command Z → Sketch ℕ
+command_value (ThetaShow plan) = value_of plan
+
+-- what the evaluation of a command's plan is refused with
+abbrev pub command_refusal : {Z : Type 0} → Command Z → Option ErrorKind
+command_refusal (ThetaShow plan) = plan_refusal DEFAULT_UPDATE_SEED plan
+
+-- the status and the text that may answer an input: what its command shows, a refused evaluation,
+-- the first fault of the input, or want of memory
+pub data Answers (Z : Type 0) (input : List ℕ) : ℕ → List ℕ → Type 0 where
+  shows : (command : Command Z) → Spells input command → Answers Z input 0 (shown (command_value command))
+  argument : (command : Command Z) → Spells input command → command_refusal command ≡ Some InvalidArgument → Answers Z input 1 argument_line
+  wrong : (line : ℕ) → fault_of input ≡ Some (Syntax line) → Answers Z input 1 (fault_line line (codes "syntax"))
+  too_deep : (line : ℕ) → fault_of input ≡ Some (Limit line) → Answers Z input 1 (fault_line line (codes "limit"))
+  no_memory : Answers Z input 1 memory_line
+
+-- an answer to every input that spells the command
+abbrev pub AnswersCommand : {Z : Type 0} → Command Z → ℕ → List ℕ → Type 0
+AnswersCommand {Z} command status text = (input : List ℕ) → Spells input command → Answers Z input status text
+
+-- where a run did not fail, it wrote an answer of its status and nothing else
+abbrev pub RunAnswers : Type 0 → List ℕ → ℕ → Option (List ℕ) → Option (List ℕ) → Type 0
+RunAnswers Z input status old new = status ≢ 2 → (text : List ℕ) × Answers Z input status text × Appends old new text

@@ -1,0 +1,11 @@
+pub mod Words
+pub mod Text
+pub mod Lines
+pub mod Reading
+pub mod Spelling
+pub mod Faults
+pub mod First
+pub mod Value
+pub mod Answer
+pub mod Ending
+pub mod formers

@@ -1,0 +1,60 @@
+-- The lines of a command, in prefix order.
+use Rattle.std.specs.Prelude.{◌≡◌, ℕ, suc, ◌≤◌, max, List, [], ◌∷◌, ◌++◌, length, map, Option, Some}
+use Rattle.sketchtool.specs.declared.plan.Plan.{Plan}
+use Rattle.sketchtool.specs.declared.plan.Plan.TheOpen.{Plan-F}
+use Rattle.sketchtool.specs.declared.plan.Plan.TheFolds.{fold-Plan}
+use Rattle.sketchtool.specs.declared.plan.Step.{Step}
+use Rattle.sketchtool.specs.declared.plan.Step.TheVariants as step
+use Rattle.sketchtool.specs.declared.line.Line.{Line}
+use Rattle.sketchtool.specs.declared.line.Line.TheVariants as line
+use Rattle.sketchtool.specs.declared.command.Command.{Command}
+use Rattle.sketchtool.specs.declared.command.Command.TheVariants.{ThetaShow}
+use Rattle.sketchtool.specs.Reading.{says}
+
+-- the line of a step of a theta plan
+abbrev pub theta_line : Step (Unit {0}) → Line
+theta_line (step.Add hash value) = line.Add hash
+theta_line step.Trim = line.Trim
+theta_line step.Reset = line.Reset
+
+-- lists, one after the other
+abbrev pub joined : {X : Type 0} → List (List X) → List X
+joined [] = []
+joined (xs ∷ others) = xs ++ joined others
+
+-- a node's line, and then those of its steps or of its parts
+abbrev pub node_lines : {V Z : Type 0} → (Step V → Line) → Plan-F V Z (List Line) → List Line
+node_lines step_line (Plan-F.Leaf lg_k start steps) = line.Leaf lg_k start (length steps) ∷ map step_line steps
+node_lines step_line (Plan-F.Union lg_k start parts) = line.Union lg_k start (length parts) ∷ joined parts
+
+abbrev pub plan_lines : {V Z : Type 0} → (Step V → Line) → Plan V Z → List Line
+plan_lines {V} {Z} step_line = fold-Plan V Z (List Line) (node_lines step_line)
+
+abbrev pub greatest : List ℕ → ℕ
+greatest [] = 0
+greatest (n ∷ ns) = max n (greatest ns)
+
+-- the root has level 1, a part one more than its node
+abbrev pub node_levels : {V Z : Type 0} → Plan-F V Z ℕ → ℕ
+node_levels (Plan-F.Leaf lg_k start steps) = 1
+node_levels (Plan-F.Union lg_k start parts) = suc (greatest parts)
+
+-- how many levels a plan has
+abbrev pub levels_of : {V Z : Type 0} → Plan V Z → ℕ
+levels_of {V} {Z} = fold-Plan V Z ℕ node_levels
+
+-- what is asked, and then the plan's lines
+abbrev pub command_lines : {Z : Type 0} → Command Z → List Line
+command_lines (ThetaShow plan) = line.ThetaShow ∷ plan_lines theta_line plan
+
+abbrev pub command_levels : {Z : Type 0} → Command Z → ℕ
+command_levels (ThetaShow plan) = levels_of plan
+
+-- these lines, and no others, say a command's
+abbrev pub Say : {Z : Type 0} → List (Option Line) → Command Z → Type 0
+Say lines command = lines ≡ map (λ l. Some l) (command_lines command)
+
+-- a text spells a command: its lines say the command's, of at most 64 levels
+pub record Spells {Z : Type 0} (text : List ℕ) (command : Command Z) : Type 0 where
+  pub lines : Say (says text) command
+  pub levels : command_levels command ≤ 64

@@ -1,0 +1,143 @@
+//! Evaluating plans, through the public calls of theta sketches alone.
+ghost use Rattle.std.specs.Prelude.{◌≡◌, ℕ, ◌^◌, ◌++◌, ◌∷◌, [], List, true, false, not, None, IfOk, OnOk};
+ghost use Rattle.sketch_base.specs.Seed.{seed_hash};
+ghost use Rattle.theta_core.specs.CompactState.{IsAnswer};
+ghost use Rattle.theta_core.specs.Hash.{hash_key};
+ghost use Rattle.theta_core.specs.Leaf.{leaf_step, leaf, updated_step, is_updated, hash_step_of, added, kmin};
+ghost use Rattle.theta_core.specs.Refusal.{Refuses};
+ghost use Rattle.theta_core.specs.Table.{table_refusal};
+ghost use Rattle.theta_core.specs.Union.{empty_union};
+ghost use Rattle.theta_core.specs.Updatable.{sketch_value};
+ghost use Rattle.theta_core.specs.View.{shown_value};
+ghost use Rattle.theta_sketches.specs.View.{view_shows, view_lends};
+ghost use Rattle.sketchtool.specs.Value.{leaf_step_of, leaf_steps, value_of, plan_refusal, Joins};
+ghost use Rattle.sketchtool.specs.declared.plan.Plan.TheVariants as plans;
+ghost use Rattle.sketchtool.specs.declared.plan.Step.{Step as Steps};
+ghost use Rattle.sketchtool.specs.declared.plan.Step.TheVariants.{Trim};
+
+use crate::plan::{Plan, Step};
+use sketch_base::error::Error;
+use std::alloc::Allocator;
+use theta_sketches::{
+    CompactThetaSketch, ThetaSketch, ThetaSketchBuilder, ThetaSketchView, ThetaUnion,
+    ThetaUnionBuilder,
+};
+
+/// The sketch of a plan under a seed, ordered. Its value is the plan's. Where the plan is a leaf that isn't empty and whose
+/// last step is a trim, that is the k-minimum of the hashes that were added to it, for its own k and start.
+///
+/// Refused with `InvalidArgument` where the seed hash is 0 or some node's `lg_k` is outside 5 to 26 or its start outside
+/// 1 to `MAX_THETA`, and with `OutOfMemory`.
+pub fn evaluate_theta<A: Allocator + Clone, B: Allocator>(
+    alloc: A,
+    plan: &Plan<(), B>,
+    seed: u64,
+) -> Result<CompactThetaSketch<A>, Error>
+    ensures value { IfOk result (IsAnswer hash_key (value_of plan.now) (seed_hash seed) true) }
+    ensures trimmed { (lg_k start : ℕ) (steps : List (Steps (Unit {0}))) → plan.now ≡ plans.Leaf lg_k start (steps ++ Trim ∷ []) → is_updated (leaf_steps steps) false ≡ true → IfOk result (λ s. record { entries = s.entries; theta = s.theta } ≡ kmin (2 ^ lg_k) (added (leaf_steps steps)) start) }
+    ensures refused { Refuses result (plan_refusal seed plan.now) true }
+{
+    evaluate(&alloc, plan, seed, true)
+}
+
+/// The sketch of a plan, ordered where that is asked. A union takes in its parts one by one: a leaf as it is, any other
+/// node compacted, in whatever order.
+fn evaluate<A: Allocator + Clone, B: Allocator>(
+    alloc: &A,
+    plan: &Plan<(), B>,
+    seed: u64,
+    ordered: bool,
+) -> Result<CompactThetaSketch<A>, Error>
+    ensures value { IfOk result (IsAnswer hash_key (value_of plan.now) (seed_hash seed) ordered) }
+    ensures refused { Refuses result (plan_refusal seed plan.now) true }
+{
+    match plan {
+        Plan::Leaf { lg_k, start, steps } => {
+            let sketch = updated(alloc, *lg_k, *start, steps.as_slice(), seed)?;
+            sketch.compact(ordered)
+        }
+        Plan::Union { lg_k, start, parts } => {
+            let mut union = new_union(alloc, *lg_k, *start, seed)?;
+            for part in parts.as_slice() {
+                match part {
+                    Plan::Leaf { lg_k, start, steps } => {
+                        let sketch = updated(alloc, *lg_k, *start, steps.as_slice(), seed)?;
+                        join(&mut union, sketch.as_view())?;
+                    }
+                    Plan::Union { .. } => {
+                        let sketch = evaluate(alloc, part, seed, false)?;
+                        join(&mut union, sketch.as_view())?;
+                    }
+                }
+            }
+            union.to_sketch(ordered)
+        }
+    }
+}
+
+/// A new union.
+fn new_union<A: Allocator + Clone>(
+    alloc: &A,
+    lg_k: u8,
+    start: u64,
+    seed: u64,
+) -> Result<ThetaUnion<A>, Error>
+    ensures made { IfOk result (λ u. u ≡ empty_union lg_k start (seed_hash seed) u.policy) }
+    ensures refused { Refuses result (table_refusal lg_k start seed) true }
+{
+    let builder = ThetaUnionBuilder::default().lg_k(lg_k);
+    let builder = builder.starting_theta(start).seed(seed);
+    builder.build(alloc.clone()?)
+}
+
+/// Hands a sketch of the union's seed over to a union that has not failed.
+fn join<A: Allocator + Clone>(
+    union: &mut ThetaUnion<A>,
+    sketch: ThetaSketchView<'_, A>,
+) -> Result<(), Error>
+    requires same_seed { union.old.seed_hash ≡ (view_shows sketch).seed_hash }
+    requires at_work { union.old.failed ≡ false }
+    ensures joins { OnOk result (Joins union.old union.new (shown_value hash_key (view_shows sketch.entry) (view_lends sketch.entry))) }
+    ensures made_with { OnOk result (union.new ≡ record union.old { empty = union.new.empty; held = union.new.held }) }
+    ensures refused { Refuses result None true }
+{
+    union.update(sketch)?;
+    Ok(())
+}
+
+/// A new sketch after steps.
+fn updated<A: Allocator + Clone>(
+    alloc: &A,
+    lg_k: u8,
+    start: u64,
+    steps: &[Step<()>],
+    seed: u64,
+) -> Result<ThetaSketch<A>, Error>
+    ensures value { IfOk result (λ s. sketch_value s ≡ leaf hash_key hash_step_of (2 ^ lg_k) start (leaf_steps steps.now)) }
+    ensures seed { IfOk result (λ s. s.map.seed_hash ≡ seed_hash seed) }
+    ensures refused { Refuses result (table_refusal lg_k start seed) true }
+{
+    let builder = ThetaSketchBuilder::default().lg_k(lg_k);
+    let builder = builder.starting_theta(start).seed(seed);
+    let mut sketch = builder.build(alloc.clone()?)?;
+    for step in steps {
+        apply(&mut sketch, step)?;
+    }
+    Ok(sketch)
+}
+
+/// Applies a step to a sketch.
+fn apply<A: Allocator + Clone>(sketch: &mut ThetaSketch<A>, step: &Step<()>) -> Result<(), Error>
+    ensures map { OnOk result (sketch.new.map ≡ record sketch.old.map { kept = leaf_step hash_key hash_step_of (2 ^ sketch.old.map.lg_nom) sketch.old.map.start (leaf_step_of step.now) sketch.old.map.kept }) }
+    ensures empty { OnOk result (sketch.new.empty ≡ not (updated_step (leaf_step_of step.now) (not sketch.old.empty))) }
+    ensures refused { Refuses result None true }
+{
+    match step {
+        Step::Add(hash, _) => sketch.update_hash(*hash),
+        Step::Trim => sketch.trim(),
+        Step::Reset => {
+            sketch.reset();
+            Ok(())
+        }
+    }
+}

@@ -1,0 +1,29 @@
+//! `sketchtool` reads one command from standard input: a line that says what is asked, and a plan
+//! of theta sketches in prefix order. It writes the answer, or the first fault of the text, to
+//! standard output, and nothing elsewhere. What it writes is a function of what it reads, and its
+//! status tells an answer (0) from a fault (1) and from a failed read or write (2).
+#![tactic(auto)]
+
+mod answer;
+mod command;
+mod descent;
+mod evaluate;
+mod fault;
+mod items;
+pub mod laws;
+mod line;
+mod plan;
+mod reading;
+mod run;
+mod step_value;
+#[cfg(test)]
+mod tests;
+mod text;
+
+use std::process::ExitCode;
+
+fn main(rt: HostRuntime) -> ExitCode {
+    let mut reader = rt.stdin();
+    let mut writer = rt.stdout();
+    ExitCode::from(run::run(rt.alloc(), &mut reader, &mut writer))
+}

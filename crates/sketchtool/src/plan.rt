@@ -1,0 +1,37 @@
+//! Plans: expressions of sketches.
+
+use crate::items::Items;
+use std::alloc::{Allocator, Global};
+
+/// One step of a leaf. `V` is what an update carries beside its hash: nothing in a theta plan.
+#[derive(Drop)]
+pub enum Step<V> {
+    /// An update with a hash, of which any 64 bits will do: 0, and those from the sketch's theta
+    /// on, are screened.
+    Add(u64, V),
+    /// Cuts the sketch to its nominal number of entries.
+    Trim,
+    /// Makes the sketch empty again.
+    Reset,
+}
+
+/// What is evaluated.
+#[derive(Drop)]
+pub enum Plan<V, A: Allocator = Global> {
+    /// A sketch that is updated step by step.
+    Leaf {
+        /// The binary logarithm of the nominal number of entries.
+        lg_k: u8,
+        /// The starting theta.
+        start: u64,
+        steps: Items<Step<V>, A>,
+    },
+    /// The union of its parts, in their order.
+    Union {
+        /// The binary logarithm of the nominal number of entries.
+        lg_k: u8,
+        /// The starting theta.
+        start: u64,
+        parts: Items<Plan<V, A>, A>,
+    },
+}

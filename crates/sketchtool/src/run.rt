@@ -1,0 +1,110 @@
+//! A whole run, over a reader and a writer.
+ghost use Rattle.std.specs.Prelude.{◌≡◌, IfOk, IfSome};
+ghost use Rattle.std.specs.Io.KnownBytes.{Keeps, IsAtEnd};
+ghost use Rattle.sketchtool.specs.Ending.{Puts, Ends};
+ghost use Rattle.sketchtool.specs.Answer.{RunAnswers};
+ghost use Rattle.sketchtool.specs.declared.run.Unread.TheVariants.{Memory};
+
+use crate::answer::answer;
+use std::alloc::{AllocError, Allocator};
+use std::io::{ErrorKind, Read, Write};
+
+/// How many reads a run makes at most.
+const READS: u32 = 1 << 24;
+
+/// How many bytes each read asks for.
+const READ_BYTES: usize = 4096;
+
+/// Why an input was not read to its end.
+enum Unread {
+    Memory,
+    Failed,
+}
+
+impl From<AllocError> for Unread {
+    ghost from_gives = { λ _ e. e ≡ Memory };
+
+    fn from(_e: AllocError) -> Self {
+        Unread::Memory
+    }
+}
+
+/// All that is left of a reader.
+fn read_all<A: Allocator, R: Read>(alloc: A, reader: &mut R) -> Result<Vec<u8, A>, Unread>
+    ensures all { IfOk result (λ text. IfSome (R.remaining reader.old) (λ bytes. text.items ≡ bytes)) }
+    ensures end { IfOk result (λ _. IsAtEnd (R.remaining reader.new)) }
+{
+    let mut text = Vec::new(alloc);
+    let mut buffer = [0u8; READ_BYTES];
+    for _ in 0..READS {
+        match reader.read(&mut buffer) {
+            Ok(0) => return Ok(text),
+            Ok(count) => text.extend_from_slice(&buffer[..count])?,
+            Err(error) => {
+                if error.kind() != ErrorKind::Interrupted {
+                    return Err(Unread::Failed);
+                }
+            }
+        }
+    }
+    Err(Unread::Failed)
+}
+
+/// How a run ended.
+pub enum Ending {
+    /// An answer of this status was written.
+    Answered(u8),
+    /// A read failed, and nothing was written.
+    NotRead,
+    /// A write failed.
+    NotWritten,
+}
+
+/// Writes an answer.
+fn put<W: Write>(writer: &mut W, text: &[u8], status: u8) -> Ending
+    ensures { Puts text.now status result (W.contents writer.old) (W.contents writer.new) }
+{
+    match writer.write_all(text) {
+        Ok(()) => Ending::Answered(status),
+        Err(_) => Ending::NotWritten,
+    }
+}
+
+/// Reads all there is, and only then writes the answer to it, whole, and nothing else.
+pub fn attempt<A: Allocator + Clone, R: Read, W: Write>(
+    alloc: A,
+    reader: &mut R,
+    writer: &mut W,
+) -> Ending
+    ensures answered { IfSome (R.remaining reader.old) (λ input. Ends A input result (W.contents writer.old) (W.contents writer.new)) }
+    ensures unread { result ≡ Ending.NotRead → Keeps (W.contents writer.old) (W.contents writer.new) }
+{
+    let Ok(own) = alloc.clone() else {
+        return put(writer, b"error memory\n", 1);
+    };
+    let input = match read_all(own, reader) {
+        Ok(input) => input,
+        Err(Unread::Memory) => return put(writer, b"error memory\n", 1),
+        Err(Unread::Failed) => return Ending::NotRead,
+    };
+    match answer(&alloc, input.as_slice()) {
+        Ok((status, text)) => put(writer, text.as_bytes(), status),
+        Err(_) => put(writer, b"error memory\n", 1),
+    }
+}
+
+/// Answers all that a reader has, and tells the status: 0 where the answer is what a command
+/// shows, 1 where it is a fault, and 2 where a read or a write failed. After a failed read nothing
+/// was written; after a failed write nothing is said of how much was.
+///
+/// Each read asks for 4096 bytes, one that was interrupted is made again, and an input that has
+/// not ended after 2^24 reads counts as a failed read.
+pub fn run<A: Allocator + Clone, R: Read, W: Write>(alloc: A, reader: &mut R, writer: &mut W) -> u8
+    ensures { IfSome (R.remaining reader.old) (λ input. RunAnswers A input result (W.contents writer.old) (W.contents writer.new)) }
+{
+    match attempt(alloc, reader, writer) {
+        Ending::Answered(status) => status,
+        Ending::NotRead => 2,
+        Ending::NotWritten => 2,
+    }
+}

@@ -1,0 +1,100 @@
+//! A reader and a writer that fail where a test wants.
+
+use std::alloc::Allocator;
+use std::io::{Error, ErrorKind, Read, Result, Write};
+
+/// What a reader does after its text.
+#[derive(Drop)]
+pub enum After {
+    End,
+    Failure,
+    /// It gives one byte at each read, and never ends.
+    More,
+}
+
+/// A reader that gives its text in pieces of so many bytes at most.
+#[derive(Drop)]
+pub struct Pieces<'a> {
+    text: &'a [u8],
+    piece: usize,
+    after: After,
+    reads: u64,
+    least_asked: usize,
+}
+
+impl<'a> Pieces<'a> {
+    pub fn new(text: &'a [u8], piece: usize, after: After) -> Pieces<'a> {
+        Pieces {
+            text,
+            piece,
+            after,
+            reads: 0,
+            least_asked: usize::MAX,
+        }
+    }
+
+    /// How many reads there were.
+    pub fn reads(&self) -> u64 {
+        self.reads
+    }
+
+    /// How many bytes a read asked for, at least.
+    pub fn least_asked(&self) -> usize {
+        self.least_asked
+    }
+}
+
+impl Read for Pieces<'_> {
+    fn read(&mut self, buf: &mut [u8]) -> Result<usize> {
+        self.reads = self.reads.saturating_add(1);
+        self.least_asked = self.least_asked.min(buf.len());
+        let count = self.piece.min(buf.len()).min(self.text.len());
+        if count > 0 {
+            buf[..count].copy_from_slice(&self.text[..count]);
+            self.text = &self.text[count..];
+            return Ok(count);
+        }
+        match self.after {
+            After::End => Ok(0),
+            After::Failure => Err(Error::from(ErrorKind::BrokenPipe)),
+            After::More => Ok(buf.len().min(1)),
+        }
+    }
+}
+
+/// A writer that takes so many bytes, and then fails.
+#[derive(Drop)]
+pub struct Room<A: Allocator> {
+    bytes: Vec<u8, A>,
+    room: usize,
+}
+
+impl<A: Allocator> Room<A> {
+    pub fn new(alloc: A, room: usize) -> Room<A> {
+        Room {
+            bytes: Vec::new(alloc),
+            room,
+        }
+    }
+
+    /// What was written.
+    pub fn written(&self) -> &[u8] {
+        self.bytes.as_slice()
+    }
+}
+
+impl<A: Allocator> Write for Room<A> {
+    fn write(&mut self, buf: &[u8]) -> Result<usize> {
+        let count = self.room.min(buf.len());
+        if count == 0 {
+            return Err(Error::from(ErrorKind::StorageFull));
+        }
+        self.bytes.extend_from_slice(&buf[..count])?;
+        self.room -= count;
+        Ok(count)
+    }
+
+    fn flush(&mut self) -> Result<()> {
+        Ok(())
+    }
+}
