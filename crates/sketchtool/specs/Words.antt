@@ -1,4 +1,5 @@
 -- The words of a line, and the numbers among them.
+use Rattle.theta_core.specs.declared.TheConstants.{MAX_THETA}
 use Rattle.std.specs.Prelude.{ℕ, ◌^◌, List, [], ◌==◌, ◌&&◌, nat_lt, nat_le, length, codes, Option, Some, None, if◌then◌else◌}
 use Rattle.std.specs.List.{slice_split}
 use Rattle.std.specs.Str.{bytes_eq, all_ascii_digits}
@@ -29,10 +30,6 @@ at_most limit (Some n) = if nat_le n limit then Some n else None
 abbrev pub small : ℕ → List ℕ → Option ℕ
 small limit word = at_most limit (number word)
 
--- the greatest theta there is
-abbrev pub max_theta : ℕ
-max_theta = 9223372036854775807
-
 -- a starting theta: a number, or the greatest theta by name
 abbrev pub start_of : List ℕ → Option ℕ
-start_of word = if bytes_eq word (codes "max") then Some max_theta else number word
+start_of word = if bytes_eq word (codes "max") then Some MAX_THETA else number word

@@ -4,6 +4,7 @@ ghost use Rattle.sketchtool.specs.Words.{words, more_words, number, small, start
 ghost use Rattle.sketchtool.specs.Lines.{said, said_one, said_two, said_four};
 
 use crate::text::cut;
+use theta_core::MAX_THETA;
 
 /// A line that the text may have.
 #[derive(Clone, Copy)]
@@ -19,9 +20,6 @@ pub enum Line {
     Trim,
     Reset,
 }
-
-/// The starting theta that the word `max` stands for: the greatest there is.
-const MAX_THETA: u64 = 9223372036854775807;
 
 /// How many digits a number has at most.
 const MAX_DIGITS: usize = 20;
