@@ -1,10 +1,9 @@
 -- Unions of hashes, where a policy refuses nothing.
-use Rattle.std.proofs.Common.{◌≡◌, ℕ, Bool, true, false, List, [], ◌∷◌, map, refl, sym, ap, ◌∙◌}
-use Rattle.theta_core.specs.Cut.{Retained}
+use Rattle.std.proofs.Common.{◌≡◌, ℕ, Bool, List, [], ◌∷◌, map, refl, sym, ap, ◌∙◌}
 use Rattle.theta_core.specs.Hash.{hash_key, first_hash}
 use Rattle.theta_core.specs.Keys.{keys}
 use Rattle.theta_core.specs.Operators.{unite}
-use Rattle.theta_core.specs.Sketch.{Sketch, Empty, NonEmpty, Fold, Value, fold_key, fold_merges, unmarked_value}
+use Rattle.theta_core.specs.Sketch.{Sketch, Empty, NonEmpty, Value, fold_key, fold_merges, unmarked_value}
 use Rattle.theta_core.proofs.Keys.{unite-keys_two}
 use Rattle.theta_core.proofs.Unmarked.{fold_keeps}
 

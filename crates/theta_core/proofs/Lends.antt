@@ -1,5 +1,5 @@
 -- Entries in the order in which a table lends them.
-use Rattle.std.proofs.Common.{◌≡◌, ℕ, zero, suc, ◌<◌, ◌≤◌, ◌≢◌, ◌^◌, Bool, true, false, cond, eqb, List, [], ◌∷◌, length, get_or, map, Option, Some, None, refl, sym, ap, ◌∙◌, arith}
+use Rattle.std.proofs.Common.{◌≡◌, ℕ, zero, suc, ◌<◌, ◌≤◌, ◌≢◌, ◌^◌, Bool, true, false, cond, eqb, List, [], ◌∷◌, length, get_or, map, Some, None, refl, sym, ap, ◌∙◌, arith}
 use Rattle.std.specs.List.{AllByRecursion, AllPairs, All}
 use Rattle.std.proofs.Math.Pow.{pow_mono}
 use Rattle.std.proofs.lemmas.Bool.Decides.{nat_tests}
@@ -11,7 +11,7 @@ use Rattle.theta_core.specs.CompactState.{Compact, IsAnswer, compact_value}
 use Rattle.theta_core.specs.Sketch.{Sketch, Empty, NonEmpty}
 use Rattle.theta_core.specs.Table.{MapTable, none_below, IsRetained, IsTable, IsLent}
 use Rattle.theta_core.specs.Updatable.{Updatable, IsUpdatable, sketch_shows, sketch_value, theta_of, count_of}
-use Rattle.theta_core.specs.View.{Shown, IsShown, shown_value}
+use Rattle.theta_core.specs.View.{IsShown, shown_value}
 use Rattle.theta_core.proofs.Ascending.{ascending-nil, each-get_or}
 use Rattle.theta_core.proofs.Cuts.{cut_few}
 use Rattle.theta_core.proofs.Looks.{ascending-apart}

@@ -1,23 +1,21 @@
 -- What is retained, against a whole map that knows no theta.
-use Rattle.std.proofs.Common.{◌≡◌, ℕ, zero, suc, ◌+◌, ◌*◌, ◌/◌, ◌-◌, ◌<◌, ◌≤◌, ◌≢◌, Bool, true, false, cond, leb, ltb, eqb, IsSome, List, [], ◌∷◌, ◌++◌, length, get_or, take, Option, Some, None, inl, inr, refl, sym, ap, ◌∙◌, subst, arith, length-append, append-nil}
-use Rattle.std.specs.Prelude.{◌⊎◌, ◌&&◌, is_some}
-use Rattle.std.specs.List.{filter, find, AllByRecursion}
-use Rattle.std.proofs.lemmas.Bool.{cases_lt, ltb-true, lt-ltb}
+use Rattle.std.proofs.Common.{◌≡◌, ℕ, suc, ◌+◌, ◌*◌, ◌/◌, ◌<◌, ◌≤◌, Bool, true, false, cond, leb, ltb, eqb, IsSome, List, [], ◌∷◌, ◌++◌, length, get_or, take, Some, None, inl, inr, refl, sym, ap, ◌∙◌, subst, arith, length-append, append-nil}
+use Rattle.std.specs.Prelude.{◌&&◌, is_some}
+use Rattle.std.specs.List.{filter}
+use Rattle.std.proofs.lemmas.Bool.{cases_lt}
 use Rattle.std.proofs.lemmas.Bool.Decides.{nat_tests}
 use Rattle.std.proofs.lemmas.List.{take-take, get_or-take, get_or_default}
 use Rattle.std.proofs.lemmas.List.Elements.{filter-append}
-use Rattle.theta_core.specs.declared.TheConstants.{MAX_THETA}
 use Rattle.theta_core.specs.Step.{Step}
-use Rattle.theta_core.specs.Cut.{IsAscending, Retained, below, above, rank, retained, cut, entry_at, with_entry}
-use Rattle.theta_core.specs.Table.{is_screened, rebuilt, after_absent, after_upsert}
+use Rattle.theta_core.specs.Cut.{IsAscending, Retained, below, above, rank, cut, entry_at, with_entry}
+use Rattle.theta_core.specs.Table.{is_screened, rebuilt, after_upsert}
 use Rattle.theta_core.specs.Lawful.{IsLawful, IsWithin, whole_upsert}
-use Rattle.theta_core.proofs.Ascending.{each-weaker, each-get_or, each-filter, filter_each, each-passes, ascending-head, ascending-tail, ascending-nil, ascending-filter, ascending-with_entry, Parts, parts_at, rank_parts}
+use Rattle.theta_core.proofs.Ascending.{each-weaker, filter_each, ascending-head, ascending-tail, ascending-filter, ascending-with_entry}
 use Rattle.theta_core.proofs.Cuts.{cut_more, cut_few, parts_rank, below_rank, cut_is_below, length-below, rank_at}
 use Rattle.theta_core.proofs.Upserts.{screened_case, existing_case, absent_case, is_screened_true, is_screened_false}
 use Rattle.std.specs.Option.{option_map_or}
 use Rattle.theta_core.proofs.Maps.{entry_at-below}
 use Rattle.theta_core.proofs.Inserts.{entry_at_place}
-use Rattle.theta_core.proofs.Lawful.{cut_lawful}
 
 module _ {X : Type 0} where
   pub filter-filter : (p q : X → Bool) (xs : List X) → ((x : X) → p x ≡ true → q x ≡ true) → filter p (filter q xs) ≡ filter p xs

@@ -1,7 +1,6 @@
 -- Sketches that take updates, of either family.
 use Rattle.std.specs.Prelude.{ℕ, ◌≤◌, ◌≡◌, ◌*◌, Bool, true, false, if◌then◌else◌, List, length, map}
 use Rattle.theta_core.specs.declared.TheConstants.{MAX_THETA, MIN_LG_K, MAX_LG_K}
-use Rattle.theta_core.specs.Cut.{Retained}
 use Rattle.theta_core.specs.Sketch.{Sketch, Empty, NonEmpty}
 use Rattle.theta_core.specs.Table.{MapTable, none_below}
 use Rattle.theta_core.specs.View.{Shown}

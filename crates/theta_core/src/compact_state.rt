@@ -70,6 +70,11 @@ impl<E: SketchEntry, A: Allocator> CompactSketchState<E, A> {
         &self.entries
     }
 
+    /// The allocator that it keeps its entries in the memory of.
+    pub fn allocator(&self) -> &A {
+        self.entries.allocator()
+    }
+
     /// For how many entries there is room: at least as many as there are.
     pub fn retained_entries_capacity(&self) -> usize
         ensures { length self.now.entries ≤ result }
@@ -128,7 +133,13 @@ impl<E: SketchEntry + Drop, A: Allocator + Clone> CompactSketchState<E, A> {
         ensures refused { Refuses result None true }
     {
         let alloc = self.entries.allocator().clone()?;
-        let CompactSketchState { empty, entries, theta, seed_hash, ordered } = self;
+        let CompactSketchState {
+            empty,
+            entries,
+            theta,
+            seed_hash,
+            ordered,
+        } = self;
         let entries = images(alloc, entries, f)?;
         Ok(CompactSketchState {
             empty,

@@ -1,2 +1,4 @@
 pub mod Fraction
 pub mod View
+pub mod Image
+pub mod ImageLayout

@@ -36,6 +36,12 @@ impl<A: Allocator> CompactThetaSketch<A> {
         CompactThetaSketch { state }
     }
 
+    pub(crate) fn state(&self) -> &CompactSketchState<ThetaEntry, A>
+        ensures { result.now ≡ self.now }
+    {
+        &self.state
+    }
+
     /// A view of the sketch, for operators.
     pub fn as_view(&self) -> ThetaSketchView<'_, A>
         ensures shows { view_shows result ≡ shown_of hash_key self.now }

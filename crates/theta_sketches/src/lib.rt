@@ -6,7 +6,9 @@
 
 mod builder;
 mod compact_sketch;
+mod image;
 mod iter;
+pub mod laws;
 mod policy;
 mod sketch;
 mod union;

@@ -1,5 +1,4 @@
-use Rattle.std.proofs.Common.{rules, sym, ap, ◌∙◌, refl, arith, length}
-use Rattle.theta_core.specs.Cut.{Retained, rank}
+use Rattle.std.proofs.Common.{refl, arith}
 use Rattle.theta_core.proofs.Cuts.{cut_few, cut_more, below_all, rank_all}
 use Rattle.theta_core.proofs.hash_table.cut_entries.Goals as goal
 

@@ -1,8 +1,5 @@
-use Rattle.std.proofs.Common.{◌≡◌, ◌∷◌, rules, sym, ap, ◌∙◌, refl, arith, length}
+use Rattle.std.proofs.Common.{◌≡◌, sym, ◌∙◌, refl, arith}
 use Rattle.std.specs.List.{insert}
-use Rattle.std.proofs.lemmas.Bool.Decides.{nat_tests}
-use Rattle.theta_core.specs.Cut.{with_entry}
-use Rattle.theta_core.specs.Table.{rebuilt}
 use Rattle.theta_core.proofs.Inserts.{with_entry_gap}
 use Rattle.theta_core.proofs.Upserts.{IsRetained-with_entry, rebuilt_full, rebuilt_small, rebuilt_free}
 use Rattle.theta_core.proofs.hash_table.put_entry.Goals as goal

@@ -1,4 +1,4 @@
-use Rattle.std.proofs.Common.{rules, sym, ap, ◌∙◌, Some}
+use Rattle.std.proofs.Common.{sym, ap, ◌∙◌, Some}
 use Rattle.theta_core.proofs.Inserts.{entry_at_gap, entry_at_place}
 use Rattle.theta_core.proofs.hash_table.SketchHashTable.entry.Goals as goal
 

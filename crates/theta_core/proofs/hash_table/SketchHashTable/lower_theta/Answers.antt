@@ -1,5 +1,4 @@
-use Rattle.std.proofs.Common.{◌≡◌, refl, take, arith}
-use Rattle.theta_core.specs.Cut.{below}
+use Rattle.std.proofs.Common.{refl, arith}
 use Rattle.theta_core.proofs.Ascending.{Parts, below_parts}
 use Rattle.theta_core.proofs.Cuts.{length-below, parts_rank}
 use Rattle.theta_core.proofs.Inserts.{parts_before, parts_gap}

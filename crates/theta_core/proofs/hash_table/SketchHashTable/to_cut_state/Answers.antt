@@ -1,7 +1,7 @@
-use Rattle.std.proofs.Common.{◌≡◌, ℕ, ◌<◌, ◌≤◌, ◌^◌, arith, ap, ◌∙◌, sym, length, refl, rules}
+use Rattle.std.proofs.Common.{◌≡◌, ℕ, ◌<◌, ◌≤◌, ◌^◌, arith, ap, ◌∙◌, length, refl, rules}
 use Rattle.theta_core.proofs.Lends.{lent-ascending}
 use Rattle.std.proofs.Math.Pow.{pow_mono}
-use Rattle.theta_core.specs.Cut.{Retained, cut}
+use Rattle.theta_core.specs.Cut.{cut}
 use Rattle.theta_core.specs.Table.{IsRetained}
 use Rattle.theta_core.proofs.Upserts.{IsRetained-cut, length-cut}
 use Rattle.theta_core.proofs.Shown.{IsShown-retained}

@@ -1,4 +1,4 @@
-use Rattle.std.proofs.Common.{◌≡◌, arith, ap, ◌∙◌, refl, rules}
+use Rattle.std.proofs.Common.{◌≡◌, ◌∙◌, refl, rules}
 use Rattle.theta_core.proofs.Lends.{lent-ascending}
 use Rattle.theta_core.proofs.Shown.{IsShown-retained}
 use Rattle.theta_core.proofs.hash_table.SketchHashTable.to_non_empty_compact_state.Goals as goal

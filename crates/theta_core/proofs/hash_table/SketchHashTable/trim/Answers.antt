@@ -1,4 +1,4 @@
-use Rattle.std.proofs.Common.{◌≡◌, ◌≤◌, ℕ, ap, length, arith}
+use Rattle.std.proofs.Common.{◌≡◌, ℕ, ap, length, arith}
 use Rattle.theta_core.specs.Cut.{cut}
 use Rattle.theta_core.proofs.Upserts.{IsRetained-cut, few-cut}
 use Rattle.theta_core.proofs.hash_table.SketchHashTable.trim.Goals as goal

@@ -1,8 +1,8 @@
-use Rattle.std.proofs.Common.{◌≡◌, ℕ, ◌^◌, ◌<◌, ◌≤◌, true, false, Some, None, get_or, length, rules, sym, ap, ◌∙◌, refl, inl, inr, arith}
+use Rattle.std.proofs.Common.{◌≡◌, ℕ, ◌^◌, true, Some, length, sym, ap, ◌∙◌, refl, inl, inr, arith}
 use Rattle.std.specs.Prelude.{is_some}
 use Rattle.std.proofs.lemmas.Result.{err_from_is_err_and}
-use Rattle.theta_core.specs.Cut.{Retained, with_entry, entry_at}
-use Rattle.theta_core.specs.Table.{IsTable, IsRetained, is_screened, rebuilt}
+use Rattle.theta_core.specs.Cut.{with_entry}
+use Rattle.theta_core.specs.Table.{IsRetained, is_screened, rebuilt}
 use Rattle.theta_core.proofs.Inserts.{entry_at_place, entry_at_gap, with_entry_at}
 use Rattle.std.proofs.Math.ListN.{length-set}
 use Rattle.theta_core.proofs.Ascending.{ascending-with_entry}

@@ -1,0 +1,78 @@
+//! The hashes of values.
+
+use sketch_base::{Error, MurmurHash3X64128};
+use std::alloc::Global;
+use std::hash::Hash;
+use std::test::Fail;
+use theta_core::{MAX_THETA, ResizeFactor, ThetaHashTable};
+use theta_sketches::{ThetaSketchBuilder, ThetaUnionBuilder};
+
+/// The first half of a text's MurmurHash3 under a seed, shifted right by one.
+fn murmur(seed: u64, text: &str) -> u64 {
+    let mut hasher = MurmurHash3X64128::with_seed(seed);
+    text.hash(&mut hasher);
+    hasher.finish128().0 >> 1
+}
+
+/// A table's hash of a text under a seed, and whether the text was new to it.
+fn in_table(alloc: Global, seed: u64, text: &str) -> Result<(u64, bool), Error> {
+    let mut table = ThetaHashTable::new(alloc, 5, ResizeFactor::X8, MAX_THETA, seed)?;
+    let is_new = table.try_insert(text)?;
+    Ok((table.hash(text), is_new))
+}
+
+/// The first hash of a sketch that was given a text, and how many it has.
+fn in_sketch(alloc: Global, seed: u64, text: &str) -> Result<(Option<u64>, usize), Error> {
+    let mut sketch = ThetaSketchBuilder::default().seed(seed).build(alloc)?;
+    sketch.update(text)?;
+    let first = sketch.iter().next().map(|entry| entry.hash());
+    Ok((first, sketch.num_retained()))
+}
+
+#[test]
+fn values_are_hashed(rt: HostRuntime) -> Result<(), Fail> {
+    let cases = [
+        (9001, "apple"),
+        (9001, "banana"),
+        (123, "apple"),
+        (123, "banana"),
+    ];
+    let mut last = 0;
+    for (seed, text) in cases {
+        let hash = murmur(seed, text);
+        assert_eq!(rt;
+            in_table(rt.alloc(), seed, text)?,
+            (hash, true),
+            "of {text} under {seed}"
+        );
+        let kept = in_sketch(rt.alloc(), seed, text)?;
+        assert_eq!(rt; kept, (Some(hash), 1), "of {text} under {seed}");
+        assert_ne!(rt; hash, last, "of {text} under {seed}");
+        last = hash;
+    }
+    assert_ne!(rt; murmur(9001, "apple"), murmur(123, "apple"));
+    Ok(())
+}
+
+/// How many distinct values were seen on either day, as an exact fraction.
+fn seen_on_both_days(alloc: Global) -> Result<(u128, u128), Error> {
+    let mut monday = ThetaSketchBuilder::default().build(alloc)?;
+    monday.update("apple")?;
+    monday.update(7u64)?;
+
+    let mut tuesday = ThetaSketchBuilder::default().build(alloc)?;
+    tuesday.update("apple")?;
+    tuesday.update("banana")?;
+
+    let mut both = ThetaUnionBuilder::default().build(alloc)?;
+    both.update(monday.as_view())?;
+    both.update(tuesday.as_view())?;
+    Ok(both.to_sketch(true)?.estimate_fraction())
+}
+
+#[test]
+fn readme_example(rt: HostRuntime) -> Result<(), Fail> {
+    let fraction = seen_on_both_days(rt.alloc())?;
+    assert_eq!(rt; fraction, (27670116110564327421, 9223372036854775807));
+    Ok(())
+}

@@ -1,0 +1,97 @@
+//! Tables of 32 nominal entries.
+
+use crate::common::numbers;
+use sketch_base::Error;
+use std::alloc::{AllocError, Global};
+use std::test::Fail;
+use theta_core::{CompactSketchState, MAX_THETA, ResizeFactor, ThetaHashTable};
+
+const FACTORS: [ResizeFactor; 4] = [
+    ResizeFactor::X1,
+    ResizeFactor::X2,
+    ResizeFactor::X4,
+    ResizeFactor::X8,
+];
+
+/// A table that was given the hashes from 1 to the last, or from the last to 1.
+fn table_of(
+    alloc: Global,
+    factor: ResizeFactor,
+    last: u64,
+    descend: bool,
+) -> Result<ThetaHashTable, Error> {
+    let mut table = ThetaHashTable::new(alloc, 5, factor, MAX_THETA, 9001)?;
+    for number in 1..=last {
+        let hash = if descend { last - number + 1 } else { number };
+        table.try_insert_hash(hash)?;
+    }
+    Ok(table)
+}
+
+/// The theta of a table and its hashes, ascending.
+fn value_of(alloc: Global, table: &ThetaHashTable) -> Result<(u64, Vec<u64>), AllocError> {
+    let mut hashes = Vec::new(alloc);
+    for entry in table.iter_entries() {
+        hashes.push(entry.hash())?;
+    }
+    hashes.sort_unstable();
+    Ok((table.retention_theta(), hashes))
+}
+
+#[test]
+fn tables_keep_the_least(rt: HostRuntime) -> Result<(), Fail> {
+    // The last hash, whether they descend, whether a trim follows, theta, and the last that is kept.
+    let cases: [(u64, bool, bool, u64, u64); 5] = [
+        (60, false, false, MAX_THETA, 60),
+        (61, false, false, 33, 32),
+        (62, true, false, 34, 33),
+        (62, true, true, 33, 32),
+        (32, false, true, MAX_THETA, 32),
+    ];
+    for factor in FACTORS {
+        for (last, descend, trim, theta, kept) in cases {
+            let mut table = table_of(rt.alloc(), factor, last, descend)?;
+            if trim {
+                table.trim()?;
+            }
+            let value = value_of(rt.alloc(), &table)?;
+            let wanted = (theta, numbers(rt.alloc(), 1, kept)?);
+            assert_eq!(rt; value, wanted, "at {last}, {factor:?}");
+        }
+    }
+    Ok(())
+}
+
+/// A state's emptiness, theta, seed hash, order and hashes.
+fn told(
+    alloc: Global,
+    state: &CompactSketchState<theta_core::ThetaEntry>,
+) -> Result<((bool, u64, u16, bool), Vec<u64>), AllocError> {
+    let mut hashes = Vec::new(alloc);
+    for entry in state.retained_entries() {
+        hashes.push(entry.hash())?;
+    }
+    let others = (
+        state.is_empty(),
+        state.theta(),
+        state.seed_hash(),
+        state.is_ordered(),
+    );
+    Ok((others, hashes))
+}
+
+#[test]
+fn states_are_cloned(rt: HostRuntime) -> Result<(), Fail> {
+    let table = table_of(rt.alloc(), ResizeFactor::X8, 61, true)?;
+    assert!(rt; table.num_retained() < 4294967296);
+    for ordered in [false, true] {
+        let state = table.to_non_empty_compact_state(ordered)?;
+        let wanted = ((false, 33, 37836, ordered), numbers(rt.alloc(), 1, 32)?);
+        let copy = state.clone()?;
+        assert_eq!(rt; told(rt.alloc(), &copy)?, wanted, "at {ordered}");
+    }
+    let none = CompactSketchState::empty(rt.alloc(), 5).clone()?;
+    let wanted = ((true, MAX_THETA, 5, true), numbers(rt.alloc(), 1, 0)?);
+    assert_eq!(rt; told(rt.alloc(), &none)?, wanted);
+    Ok(())
+}

@@ -1,0 +1,10 @@
+use Rattle.theta_core.specs.Hash.{hash_key}
+use Rattle.theta_core.specs.ImageHash.{SpellsHash}
+use Rattle.theta_core.specs.ImageLaws.{one_hash}
+use Rattle.theta_core.proofs.ImageLayouts.{comes_one}
+use Rattle.theta_sketches.specs.ImageLayout.{theta_layout}
+use Rattle.theta_sketches.proofs.Layouts.{theta_from}
+use Rattle.theta_sketches.proofs.laws.one_reading.Goals as goal
+
+pub returns : goal.returns
+returns c bytes h r s p q = comes_one hash_key SpellsHash bytes h one_hash (theta_layout bytes h) r s (theta_from bytes h p.spelled) (theta_from bytes h q.spelled)

@@ -1,0 +1,43 @@
+-- Images of theta sketches: which bytes are read as which sketch, and which are written.
+use Rattle.std.specs.Prelude.{ℕ, ◌≡◌, ◌≤◌, ◌<◌, ◌==◌, ◌&&◌, Bool, true, false, List, length}
+use Rattle.std.specs.Int.{w64, to_le_bytes}
+use Rattle.theta_core.specs.CompactState.{Compact, empty_compact}
+use Rattle.theta_core.specs.Hash.{hash_key}
+use Rattle.theta_core.specs.Image.{Begins, ReadsFlagged, announced, seed_hash_at, count_at, theta_at, written_image}
+use Rattle.theta_core.specs.ImageEntries.{Lists, listing}
+use Rattle.theta_core.specs.ImageHash.{SpellsHash}
+use Rattle.theta_core.specs.declared.TheConstants.{MAX_THETA}
+use Rattle.theta_core.specs.declared.image.preamble.Preamble.{Preamble}
+
+-- a preamble of no entries at the greatest theta: where there are no flags, it is of the empty sketch
+abbrev pub is_vacant : Preamble → Bool
+is_vacant p = p.count == 0 && p.theta == MAX_THETA
+
+-- Versions 1 and 2 behind such a preamble: the seed hash that the image tells is asked only of a sketch that is not empty.
+pub data ReadsUnflagged (bytes : List ℕ) (p : Preamble) (told h : ℕ) : Compact ℕ → Type 0 where
+  vacant_image : p.start ≤ length bytes → is_vacant p ≡ true → ReadsUnflagged bytes p told h (empty_compact h)
+  filled_image : (xs : List ℕ) → is_vacant p ≡ false → told ≡ h → Lists hash_key SpellsHash bytes p h xs → ReadsUnflagged bytes p told h (listing p h xs)
+
+-- A beginning of the bytes spells the sketch, under the reader's seed hash h: a case for each version and count of preamble longs.
+pub data SpellsSketch (bytes : List ℕ) (h : ℕ) : Compact ℕ → Type 0 where
+  version_3 : (longs : ℕ) (s : Compact ℕ) → Begins bytes longs 3 3 → ReadsFlagged hash_key SpellsHash bytes longs h s → SpellsSketch bytes h s
+  version_2_empty : Begins bytes 1 2 3 → SpellsSketch bytes h (empty_compact h)
+  version_2_exact : (s : Compact ℕ) → Begins bytes 2 2 3
+      → ReadsUnflagged bytes (announced 2 (count_at bytes) MAX_THETA true) (seed_hash_at bytes) h s → SpellsSketch bytes h s
+  version_2_estimating : (s : Compact ℕ) → Begins bytes 3 2 3
+      → ReadsUnflagged bytes (announced 3 (count_at bytes) (theta_at bytes) true) (seed_hash_at bytes) h s → SpellsSketch bytes h s
+  version_1 : (longs : ℕ) (s : Compact ℕ) → Begins bytes longs 1 3
+      → ReadsUnflagged bytes (announced 3 (count_at bytes) (theta_at bytes) true) h h s → SpellsSketch bytes h s
+
+-- the bytes are read as the sketch, under the reader's seed hash h, which is not 0
+pub record Reads (bytes : List ℕ) (h : ℕ) (s : Compact ℕ) : Type 0 where
+  pub seeded : 0 < h
+  pub spelled : SpellsSketch bytes h s
+
+-- the bytes are read as some sketch
+abbrev pub IsReadable : List ℕ → (h : ℕ) → Type 0
+IsReadable bytes h = (s : Compact ℕ) × Reads bytes h s
+
+-- the image that is written of a sketch
+abbrev pub written : Compact ℕ → List ℕ
+written = written_image (λ hash. to_le_bytes w64 hash) 3 0

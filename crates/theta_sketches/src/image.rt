@@ -1,0 +1,122 @@
+//! Images of theta sketches, in the DataSketches format of family 3. All numbers are little endian.
+//!
+//! Serial version 3 is written and read. Versions 1 and 2 are read: they have no flags, and are ordered.
+ghost use Rattle.std.specs.Prelude.{◌≡◌, ◌≤◌, None, true, length, IfOk, IfErr};
+ghost use Rattle.sketch_base.specs.Seed.{seed_hash};
+ghost use Rattle.sketch_base.specs.declared.seed.TheConstants.{DEFAULT_UPDATE_SEED};
+ghost use Rattle.theta_core.specs.ImageAnswer.{IsRefused};
+ghost use Rattle.theta_core.specs.Refusal.{Refuses};
+ghost use Rattle.theta_sketches.specs.Image.{Reads, IsReadable, written};
+ghost use Rattle.theta_sketches.specs.ImageLayout.{unflagged_layout, version_1_layout, version_2_layout, theta_layout};
+
+use crate::compact_sketch::CompactThetaSketch;
+use sketch_base::{DEFAULT_UPDATE_SEED, Error, ErrorKind, Family, compute_seed_hash};
+use std::alloc::Allocator;
+use theta_core::MAX_THETA;
+use theta_core::image::{
+    Layout, Preamble, admitted, announced, count_at, flagged_layout, read_behind, seed_hash_at,
+    theta_at, write_image,
+};
+
+#[tactic(auto, unfolding(crate::specs::ImageLayout::unflagged_layout))]
+fn unflagged_layout(p: Preamble, told: u16, seed_hash: u16) -> Option<Layout>
+    ensures { result ≡ unflagged_layout p told seed_hash }
+{
+    if p.count == 0 && p.theta == MAX_THETA {
+        Some(Layout::Empty)
+    } else if told == seed_hash {
+        admitted(p)
+    } else {
+        None
+    }
+}
+
+#[tactic(auto, unfolding(crate::specs::ImageLayout::version_2_layout))]
+fn version_2_layout(bytes: &[u8], longs: u8, seed_hash: u16) -> Option<Layout>
+    requires whole { 8 ≤ length bytes.now }
+    requires low { 1 ≤ longs }
+    requires high { longs ≤ 3 }
+    ensures { result ≡ version_2_layout bytes.now longs seed_hash }
+{
+    if longs == 1 {
+        return Some(Layout::Empty);
+    }
+    if bytes.len() < 8 * longs as usize {
+        return None;
+    }
+    let theta = if longs == 2 {
+        MAX_THETA
+    } else {
+        theta_at(bytes)
+    };
+    unflagged_layout(
+        announced(longs, count_at(bytes), theta, true),
+        seed_hash_at(bytes),
+        seed_hash,
+    )
+}
+
+#[tactic(auto, unfolding(crate::specs::ImageLayout::version_1_layout))]
+fn version_1_layout(bytes: &[u8], seed_hash: u16) -> Option<Layout>
+    ensures { result ≡ version_1_layout bytes.now seed_hash }
+{
+    if bytes.len() < 24 {
+        return None;
+    }
+    unflagged_layout(
+        announced(3, count_at(bytes), theta_at(bytes), true),
+        seed_hash,
+        seed_hash,
+    )
+}
+
+#[tactic(auto, unfolding(crate::specs::ImageLayout::theta_layout))]
+fn theta_layout(bytes: &[u8], seed_hash: u16) -> Option<Layout>
+    ensures { result ≡ theta_layout bytes.now seed_hash }
+{
+    if bytes.len() < 8 || !(1 <= bytes[0] && bytes[0] <= 3) || bytes[2] != 3 {
+        return None;
+    }
+    match bytes[1] {
+        3 => flagged_layout(bytes, bytes[0], seed_hash),
+        2 => version_2_layout(bytes, bytes[0], seed_hash),
+        1 => version_1_layout(bytes, seed_hash),
+        _ => None,
+    }
+}
+
+impl<A: Allocator + Clone + Drop> CompactThetaSketch<A> {
+    /// The sketch's image, in memory of a clone of its allocator. Refused with `OutOfMemory` alone.
+    pub fn serialize(&self) -> Result<Vec<u8, A>, Error>
+        ensures ok { IfOk result (λ v. v.items ≡ written self.now) }
+        ensures refused { Refuses result None true }
+    {
+        let alloc = self.state().allocator().clone()?;
+        write_image(alloc, self.state(), Family::THETA, 0)
+    }
+
+    /// The sketch that a beginning of the bytes spells, under the seed of sketches for which no other is asked.
+    ///
+    /// Refused as `deserialize_with_seed` is.
+    pub fn deserialize(alloc: A, bytes: &[u8]) -> Result<Self, Error>
+        ensures ok { IfOk result (λ s. Reads bytes.now (seed_hash DEFAULT_UPDATE_SEED) s) }
+        ensures refused { IfErr result (λ e. IsRefused e (IsReadable bytes.now (seed_hash DEFAULT_UPDATE_SEED))) }
+    {
+        CompactThetaSketch::deserialize_with_seed(alloc, bytes, DEFAULT_UPDATE_SEED)
+    }
+
+    /// The sketch that a beginning of the bytes spells, under this seed. Bytes after the image are ignored.
+    ///
+    /// Refused with `InvalidData` exactly where the seed hash is 0 or the bytes spell no sketch: they end too early, are of
+    /// another family or version, tell another seed hash, or tell hashes that repeat, do not ascend where they are said to, or
+    /// are not from 1 to below theta. An empty sketch's seed hash is not asked. Refused with `OutOfMemory` where memory is:
+    /// it asks for no more than the bytes could fill with hashes, and as much again to compare hashes that do not ascend.
+    pub fn deserialize_with_seed(alloc: A, bytes: &[u8], seed: u64) -> Result<Self, Error>
+        ensures ok { IfOk result (λ s. Reads bytes.now (seed_hash seed) s) }
+        ensures refused { IfErr result (λ e. IsRefused e (IsReadable bytes.now (seed_hash seed))) }
+    {
+        let seed_hash = compute_seed_hash(seed, ErrorKind::InvalidData)?;
+        let state = read_behind(alloc, bytes, theta_layout(bytes, seed_hash), seed_hash)?;
+        Ok(CompactThetaSketch::of_state(state))
+    }
+}
