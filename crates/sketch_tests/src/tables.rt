@@ -95,3 +95,14 @@ fn states_are_cloned(rt: HostRuntime) -> Result<(), Fail> {
     assert_eq!(rt; told(rt.alloc(), &none)?, wanted);
     Ok(())
 }
+
+#[test]
+fn states_are_mapped(rt: HostRuntime) -> Result<(), Fail> {
+    let table = table_of(rt.alloc(), ResizeFactor::X8, 61, true)?;
+    assert!(rt; table.num_retained() < 4294967296);
+    let state = table.to_non_empty_compact_state(true)?;
+    let mapped = state.map_retained_entries(|entry| entry)?;
+    let wanted = ((false, 33, 37836, true), numbers(rt.alloc(), 1, 32)?);
+    assert_eq!(rt; told(rt.alloc(), &mapped)?, wanted);
+    Ok(())
+}
