@@ -2,11 +2,17 @@
 #![tactic(auto)]
 
 #[cfg(test)]
+mod audience;
+#[cfg(test)]
 mod common;
+#[cfg(test)]
+mod differences;
 #[cfg(test)]
 mod hashes;
 #[cfg(test)]
 mod images;
+#[cfg(test)]
+mod intersections;
 #[cfg(test)]
 mod readings;
 #[cfg(test)]

@@ -23,7 +23,9 @@ fn table_of(
     let mut table = ThetaHashTable::new(alloc, 5, factor, MAX_THETA, 9001)?;
     for number in 1..=last {
         let hash = if descend { last - number + 1 } else { number };
-        table.try_insert_hash(hash)?;
+        if table.has_room() {
+            table.try_insert_hash(hash)?;
+        }
     }
     Ok(table)
 }

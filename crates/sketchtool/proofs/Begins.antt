@@ -9,7 +9,7 @@ use Rattle.sketchtool.specs.declared.line.Line.{Line}
 use Rattle.sketchtool.specs.declared.line.Line.TheVariants as line
 use Rattle.sketchtool.specs.declared.plan.Step.{Step}
 use Rattle.sketchtool.specs.declared.command.Command.{Command}
-use Rattle.sketchtool.specs.declared.command.Command.TheVariants.{ThetaShow}
+use Rattle.sketchtool.specs.declared.command.Command.TheVariants.{ThetaShow, ThetaImage}
 use Rattle.sketchtool.specs.Reading.{Stop, syntax, limit, ◌>>=◌, theta_step, or_stop, step_at, many, plan_at}
 use Rattle.sketchtool.specs.Spelling.{theta_line, plan_lines, levels_of, command_lines, command_levels, Say}
 use Rattle.sketchtool.specs.Faults.{Next, wanted, wrong, too_deep, Want, a_command, a_step, a_node, led, next, fault_at}
@@ -39,8 +39,12 @@ module _ (deepest : ℕ) where
 
   pub theta_known : Knows theta_step
   theta_known line.ThetaShow wants = refl
+  theta_known line.ThetaImage wants = refl
   theta_known (line.Leaf a b n) wants = refl
   theta_known (line.Union a b n) wants = refl
+  theta_known (line.Meet n) wants = refl
+  theta_known line.Minus wants = refl
+  theta_known (line.Via ordered) wants = refl
   theta_known (line.Add hash) wants = refl
   theta_known line.Trim wants = refl
   theta_known line.Reset wants = refl
@@ -73,25 +77,45 @@ module _ (deepest : ℕ) where
   shallow left go level wants le = rw (le-ltb deepest level le) refl
 
   module _ {V : Type 0} (Z : Type 0) (step_of : Line → Option (Step V)) (known : Knows step_of) where
+    minus_within : (k level : ℕ) (r : Result (Plan V Z × Said) Stop) (wants : List Want) → ((lines : Said) → fault_at deepest lines (a_node (suc level) ∷ wants) ≡ so_within (plan_at {Z = Z} step_of k lines) wants)
+        → so_within r (a_node (suc level) ∷ wants) ≡ so_within (r >>= λ first. plan_at {Z = Z} step_of k first.1 >>= λ second. Ok (plan.Minus first.0 second.0, second.1)) wants
+    minus_within k level (Ok x) wants h = h x.1 ∙ sym (then_within (plan_at {Z = Z} step_of k x.1) (λ second. plan.Minus x.0 second) wants)
+    minus_within k level (Err e) wants h = refl
+
     pub plan_within : (k level : ℕ) → level + k ≡ suc deepest → (lines : Said) (wants : List Want) → fault_at deepest lines (a_node level ∷ wants) ≡ so_within (plan_at {Z = Z} step_of k lines) wants
     unfolding plan_at
     plan_within zero level is [] wants = refl
     plan_within zero level is (None ∷ rest) wants = refl
     plan_within zero level is (Some line.ThetaShow ∷ rest) wants = refl
+    plan_within zero level is (Some line.ThetaImage ∷ rest) wants = refl
     plan_within zero level is (Some (line.Leaf a b n) ∷ rest) wants = deep (length rest) (fault_at deepest rest) level _ (omega arith)
     plan_within zero level is (Some (line.Union a b n) ∷ rest) wants = deep (length rest) (fault_at deepest rest) level _ (omega arith)
+    plan_within zero level is (Some (line.Meet n) ∷ rest) wants = deep (length rest) (fault_at deepest rest) level _ (omega arith)
+    plan_within zero level is (Some line.Minus ∷ rest) wants = deep (length rest) (fault_at deepest rest) level _ (omega arith)
+    plan_within zero level is (Some (line.Via ordered) ∷ rest) wants = deep (length rest) (fault_at deepest rest) level _ (omega arith)
     plan_within zero level is (Some (line.Add hash) ∷ rest) wants = refl
     plan_within zero level is (Some line.Trim ∷ rest) wants = refl
     plan_within zero level is (Some line.Reset ∷ rest) wants = refl
     plan_within (suc k) level is [] wants = refl
     plan_within (suc k) level is (None ∷ rest) wants = refl
     plan_within (suc k) level is (Some line.ThetaShow ∷ rest) wants = refl
+    plan_within (suc k) level is (Some line.ThetaImage ∷ rest) wants = refl
     plan_within (suc k) level is (Some (line.Leaf a b n) ∷ rest) wants =
         shallow (length rest) (fault_at deepest rest) level (replicate n a_step ++ wants) (omega arith)
         ∙ many_within a_step (step_at step_of) (step_within step_of known) n rest wants ∙ sym (then_within (many (step_at step_of) n rest) (λ steps. plan.Leaf a b steps) wants)
     plan_within (suc k) level is (Some (line.Union a b n) ∷ rest) wants =
         shallow (length rest) (fault_at deepest rest) level (replicate n (a_node (suc level)) ++ wants) (omega arith)
         ∙ many_within (a_node (suc level)) (plan_at {Z = Z} step_of k) (plan_within k (suc level) (omega arith)) n rest wants ∙ sym (then_within (many (plan_at {Z = Z} step_of k) n rest) (λ parts. plan.Union a b parts) wants)
+    plan_within (suc k) level is (Some (line.Meet n) ∷ rest) wants =
+        shallow (length rest) (fault_at deepest rest) level (replicate n (a_node (suc level)) ++ wants) (omega arith)
+        ∙ many_within (a_node (suc level)) (plan_at {Z = Z} step_of k) (plan_within k (suc level) (omega arith)) n rest wants ∙ sym (then_within (many (plan_at {Z = Z} step_of k) n rest) (λ parts. plan.Meet parts) wants)
+    plan_within (suc k) level is (Some line.Minus ∷ rest) wants =
+        shallow (length rest) (fault_at deepest rest) level (a_node (suc level) ∷ a_node (suc level) ∷ wants) (omega arith)
+        ∙ plan_within k (suc level) (omega arith) rest (a_node (suc level) ∷ wants)
+        ∙ minus_within k level (plan_at {Z = Z} step_of k rest) wants (λ more. plan_within k (suc level) (omega arith) more wants)
+    plan_within (suc k) level is (Some (line.Via ordered) ∷ rest) wants =
+        shallow (length rest) (fault_at deepest rest) level (a_node (suc level) ∷ wants) (omega arith)
+        ∙ plan_within k (suc level) (omega arith) rest wants ∙ sym (then_within (plan_at {Z = Z} step_of k rest) (λ part. plan.Via ordered part) wants)
     plan_within (suc k) level is (Some (line.Add hash) ∷ rest) wants = refl
     plan_within (suc k) level is (Some line.Trim ∷ rest) wants = refl
     plan_within (suc k) level is (Some line.Reset ∷ rest) wants = refl
@@ -105,6 +129,7 @@ module _ (deepest : ℕ) where
   -- what is spelled within the depth has no fault
   pub spelled_within : {Z : Type 0} (c : Command Z) → command_levels c ≤ deepest → fault_at deepest (told (command_lines c)) (a_command ∷ []) ≡ None
   spelled_within {Z} (ThetaShow p) le = plan_wanted Z theta_step theta_known theta_line theta_writes p le
+  spelled_within {Z} (ThetaImage p) le = plan_wanted Z theta_step theta_known theta_line theta_writes p le
 
 -- a syntax fault at a line: nothing spelled, of any depth, begins with the lines up to it
 pub no_beginning : {Z : Type 0} (c : Command Z) (front : Said) (l : Option Line) (rest more : Said)
@@ -175,26 +200,35 @@ nothing_left : (n : ℕ) (lines : Said) → fault_at n lines [] ≡ None → lin
 nothing_left n [] e = refl
 nothing_left n (None ∷ rest) e = absurd cc
 nothing_left n (Some line.ThetaShow ∷ rest) e = absurd cc
+nothing_left n (Some line.ThetaImage ∷ rest) e = absurd cc
 nothing_left n (Some (line.Leaf a b c) ∷ rest) e = absurd cc
 nothing_left n (Some (line.Union a b c) ∷ rest) e = absurd cc
+nothing_left n (Some (line.Meet c) ∷ rest) e = absurd cc
+nothing_left n (Some line.Minus ∷ rest) e = absurd cc
+nothing_left n (Some (line.Via ordered) ∷ rest) e = absurd cc
 nothing_left n (Some (line.Add h) ∷ rest) e = absurd cc
 nothing_left n (Some line.Trim ∷ rest) e = absurd cc
 nothing_left n (Some line.Reset ∷ rest) e = absurd cc
 
-whole_of : {Z : Type 0} (n : ℕ) (rest : Said) (r : Result (Plan (Unit {0}) Z × Said) Stop) → plan_at {Z = Z} theta_step n rest ≡ r → so_within n r [] ≡ None → (c : Command Z) × Say (Some line.ThetaShow ∷ rest) c
-whole_of {Z} n rest (Ok x) is e =
+whole_of : {Z : Type 0} (l : Line) (c : Plan (Unit {0}) Z → Command Z) → ((p : Plan (Unit {0}) Z) → command_lines (c p) ≡ l ∷ plan_lines theta_line p) → (n : ℕ) (rest : Said) (r : Result (Plan (Unit {0}) Z × Said) Stop) → plan_at {Z = Z} theta_step n rest ≡ r → so_within n r [] ≡ None
+    → (d : Command Z) × Say (Some l ∷ rest) d
+whole_of {Z} l c lines_are n rest (Ok x) is e =
     let t = plan_found Z theta_step theta_line theta_writes n rest x is in
     let lines = plan_lines theta_line x.0 in
-    (ThetaShow x.0, ap (λ (y : Said). Some line.ThetaShow ∷ y) (t.0 ∙ ap (λ (y : Said). told lines ++ y) (nothing_left n x.1 e) ∙ append-nil (told lines)))
-whole_of n rest (Err f) is e = absurd cc
+    (c x.0, ap (λ (y : Said). Some l ∷ y) (t.0 ∙ ap (λ (y : Said). told lines ++ y) (nothing_left n x.1 e) ∙ append-nil (told lines)) ∙ ap told (sym (lines_are x.0)))
+whole_of l c lines_are n rest (Err f) is e = absurd cc
 
 -- lines with no fault are spelled
 pub is_whole : (Z : Type 0) (n : ℕ) (lines : Said) → fault_at n lines (a_command ∷ []) ≡ None → (c : Command Z) × Say lines c
 is_whole Z n [] e = absurd cc
 is_whole Z n (None ∷ rest) e = absurd cc
-is_whole Z n (Some line.ThetaShow ∷ rest) e = whole_of {Z = Z} n rest (plan_at {Z = Z} theta_step n rest) refl (sym (plan_within n Z theta_step (theta_known n) n 1 (omega arith) rest []) ∙ e)
+is_whole Z n (Some line.ThetaShow ∷ rest) e = whole_of {Z = Z} line.ThetaShow (λ p. ThetaShow p) (λ p. refl) n rest (plan_at {Z = Z} theta_step n rest) refl (sym (plan_within n Z theta_step (theta_known n) n 1 (omega arith) rest []) ∙ e)
+is_whole Z n (Some line.ThetaImage ∷ rest) e = whole_of {Z = Z} line.ThetaImage (λ p. ThetaImage p) (λ p. refl) n rest (plan_at {Z = Z} theta_step n rest) refl (sym (plan_within n Z theta_step (theta_known n) n 1 (omega arith) rest []) ∙ e)
 is_whole Z n (Some (line.Leaf a b c) ∷ rest) e = absurd cc
 is_whole Z n (Some (line.Union a b c) ∷ rest) e = absurd cc
+is_whole Z n (Some (line.Meet c) ∷ rest) e = absurd cc
+is_whole Z n (Some line.Minus ∷ rest) e = absurd cc
+is_whole Z n (Some (line.Via ordered) ∷ rest) e = absurd cc
 is_whole Z n (Some (line.Add h) ∷ rest) e = absurd cc
 is_whole Z n (Some line.Trim ∷ rest) e = absurd cc
 is_whole Z n (Some line.Reset ∷ rest) e = absurd cc

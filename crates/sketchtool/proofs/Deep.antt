@@ -35,6 +35,10 @@ opens m line.ThetaShow [] e = absurd cc
 opens m line.ThetaShow (a_command ∷ wants) e = absurd cc
 opens m line.ThetaShow (a_step ∷ wants) e = absurd cc
 opens m line.ThetaShow (a_node k ∷ wants) e = absurd cc
+opens m line.ThetaImage [] e = absurd cc
+opens m line.ThetaImage (a_command ∷ wants) e = absurd cc
+opens m line.ThetaImage (a_step ∷ wants) e = absurd cc
+opens m line.ThetaImage (a_node k ∷ wants) e = absurd cc
 opens m (line.Add h) [] e = absurd cc
 opens m (line.Add h) (a_command ∷ wants) e = absurd cc
 opens m (line.Add h) (a_step ∷ wants) e = absurd cc
@@ -55,6 +59,18 @@ opens m (line.Union a b c) [] e = absurd cc
 opens m (line.Union a b c) (a_command ∷ wants) e = absurd cc
 opens m (line.Union a b c) (a_step ∷ wants) e = absurd cc
 opens m (line.Union a b c) (a_node k ∷ wants) e = (replicate c (a_node (suc k)) ++ wants, λ n le. opens_node n k (replicate c (a_node (suc k)) ++ wants) (omega (arith, le)))
+opens m (line.Meet c) [] e = absurd cc
+opens m (line.Meet c) (a_command ∷ wants) e = absurd cc
+opens m (line.Meet c) (a_step ∷ wants) e = absurd cc
+opens m (line.Meet c) (a_node k ∷ wants) e = (replicate c (a_node (suc k)) ++ wants, λ n le. opens_node n k (replicate c (a_node (suc k)) ++ wants) (omega (arith, le)))
+opens m line.Minus [] e = absurd cc
+opens m line.Minus (a_command ∷ wants) e = absurd cc
+opens m line.Minus (a_step ∷ wants) e = absurd cc
+opens m line.Minus (a_node k ∷ wants) e = (a_node (suc k) ∷ a_node (suc k) ∷ wants, λ n le. opens_node n k (a_node (suc k) ∷ a_node (suc k) ∷ wants) (omega (arith, le)))
+opens m (line.Via ordered) [] e = absurd cc
+opens m (line.Via ordered) (a_command ∷ wants) e = absurd cc
+opens m (line.Via ordered) (a_step ∷ wants) e = absurd cc
+opens m (line.Via ordered) (a_node k ∷ wants) e = (a_node (suc k) ∷ wants, λ n le. opens_node n k (a_node (suc k) ∷ wants) (omega (arith, le)))
 
 deep_line : (m : ℕ) (x : Line) (rest : Said) (wants : List Want) (nx : Next) → next m x wants ≡ nx → led (length rest) (fault_at m rest) nx ≡ Some (limit (suc (length rest))) → Opens x wants
 deep_line m x rest wants (wanted inner) is e = let low = within_lines m rest inner (limit (suc (length rest))) e in absurd (omega (arith, low))

@@ -11,3 +11,8 @@ pub mod Puts
 pub mod Steps
 pub mod Parts
 pub mod Trimmed
+pub mod Imaged
+pub mod Meetings
+pub mod Ways
+pub mod Induction
+pub mod Composed

@@ -14,7 +14,7 @@ use Rattle.sketchtool.specs.declared.line.Line.TheVariants as line
 use Rattle.sketchtool.specs.declared.fault.ReadError.{ReadError}
 use Rattle.sketchtool.specs.declared.fault.ReadError.TheVariants as errors
 use Rattle.sketchtool.specs.declared.command.Command.{Command}
-use Rattle.sketchtool.specs.declared.command.Command.TheVariants.{ThetaShow}
+use Rattle.sketchtool.specs.declared.command.Command.TheVariants.{ThetaShow, ThetaImage}
 use Rattle.sketchtool.specs.Reading.{Stop, syntax, limit, first_of, says, ◌>>=◌, Fails, theta_step, step_at, many, plan_at, ended, whole_at, command_at}
 
 -- a fault stays what it is, whatever would have followed
@@ -32,23 +32,47 @@ module _ {V : Type 0} (Z : Type 0) (step_of : Line → Option (Step V)) where
   at_unknown (suc levels) (None ∷ rest) h = refl
   at_unknown levels (Some l ∷ rest) h = absurd cc
 
-  other_line : (levels : ℕ) (l : Line) (rest : List (Option Line)) → ((a b n : ℕ) → l ≡ line.Leaf a b n → ⊥) → ((a b n : ℕ) → l ≡ line.Union a b n → ⊥)
-      → plan_at {Z = Z} step_of levels (Some l ∷ rest) ≡ Err (syntax (suc (length rest)))
-  unfolding plan_at
-  other_line levels (line.Leaf a b n) rest h k = absurd (h a b n refl)
-  other_line levels (line.Union a b n) rest h k = absurd (k a b n refl)
-  other_line zero line.ThetaShow rest h k = refl
-  other_line (suc levels) line.ThetaShow rest h k = refl
-  other_line zero (line.Add hash) rest h k = refl
-  other_line (suc levels) (line.Add hash) rest h k = refl
-  other_line zero line.Trim rest h k = refl
-  other_line (suc levels) line.Trim rest h k = refl
-  other_line zero line.Reset rest h k = refl
-  other_line (suc levels) line.Reset rest h k = refl
+  -- a line that no node begins with
+  abbrev pub IsNoNode : Line → Type 0
+  IsNoNode (line.Leaf a b n) = ⊥
+  IsNoNode (line.Union a b n) = ⊥
+  IsNoNode (line.Meet n) = ⊥
+  IsNoNode line.Minus = ⊥
+  IsNoNode (line.Via ordered) = ⊥
+  IsNoNode _ = Unit {0}
 
-  pub at_other : (levels : ℕ) (lines : List (Option Line)) (l : Line) (rest : List (Option Line)) → lines ≡ Some l ∷ rest → ((a b n : ℕ) → l ≡ line.Leaf a b n → ⊥) → ((a b n : ℕ) → l ≡ line.Union a b n → ⊥)
-      → plan_at {Z = Z} step_of levels lines ≡ Err (syntax (length lines))
-  at_other levels lines l rest e h k = rw e (other_line levels l rest h k)
+  pub no_node : (l : Line) → ((a b n : ℕ) → l ≡ line.Leaf a b n → ⊥) → ((a b n : ℕ) → l ≡ line.Union a b n → ⊥) → ((n : ℕ) → l ≡ line.Meet n → ⊥) → (l ≡ line.Minus → ⊥) → ((ordered : Bool) → l ≡ line.Via ordered → ⊥) → IsNoNode l
+  no_node (line.Leaf a b n) leaf union meet minus via = leaf a b n refl
+  no_node (line.Union a b n) leaf union meet minus via = union a b n refl
+  no_node (line.Meet n) leaf union meet minus via = meet n refl
+  no_node line.Minus leaf union meet minus via = minus refl
+  no_node (line.Via ordered) leaf union meet minus via = via ordered refl
+  no_node line.ThetaShow leaf union meet minus via = tt
+  no_node line.ThetaImage leaf union meet minus via = tt
+  no_node (line.Add hash) leaf union meet minus via = tt
+  no_node line.Trim leaf union meet minus via = tt
+  no_node line.Reset leaf union meet minus via = tt
+
+  other_line : (levels : ℕ) (l : Line) (rest : List (Option Line)) → IsNoNode l → plan_at {Z = Z} step_of levels (Some l ∷ rest) ≡ Err (syntax (suc (length rest)))
+  unfolding plan_at
+  other_line levels (line.Leaf a b n) rest h = absurd h
+  other_line levels (line.Union a b n) rest h = absurd h
+  other_line levels (line.Meet n) rest h = absurd h
+  other_line levels line.Minus rest h = absurd h
+  other_line levels (line.Via ordered) rest h = absurd h
+  other_line zero line.ThetaShow rest h = refl
+  other_line (suc levels) line.ThetaShow rest h = refl
+  other_line zero line.ThetaImage rest h = refl
+  other_line (suc levels) line.ThetaImage rest h = refl
+  other_line zero (line.Add hash) rest h = refl
+  other_line (suc levels) (line.Add hash) rest h = refl
+  other_line zero line.Trim rest h = refl
+  other_line (suc levels) line.Trim rest h = refl
+  other_line zero line.Reset rest h = refl
+  other_line (suc levels) line.Reset rest h = refl
+
+  pub at_other : (levels : ℕ) (lines : List (Option Line)) (l : Line) (rest : List (Option Line)) → lines ≡ Some l ∷ rest → IsNoNode l → plan_at {Z = Z} step_of levels lines ≡ Err (syntax (length lines))
+  at_other levels lines l rest e h = rw e (other_line levels l rest h)
 
   pub leaf_limit : (levels : ℕ) (lines : List (Option Line)) (a b n : ℕ) (rest : List (Option Line)) → levels ≡ 0 → lines ≡ Some (line.Leaf a b n) ∷ rest → plan_at {Z = Z} step_of levels lines ≡ Err (limit (length lines))
   unfolding plan_at
@@ -58,11 +82,63 @@ module _ {V : Type 0} (Z : Type 0) (step_of : Line → Option (Step V)) where
   unfolding plan_at
   union_limit levels lines a b n rest none e = rw (none, e) refl
 
+  pub meet_limit : (levels : ℕ) (lines : List (Option Line)) (n : ℕ) (rest : List (Option Line)) → levels ≡ 0 → lines ≡ Some (line.Meet n) ∷ rest → plan_at {Z = Z} step_of levels lines ≡ Err (limit (length lines))
+  unfolding plan_at
+  meet_limit levels lines n rest none e = rw (none, e) refl
+
+  pub minus_limit : (levels : ℕ) (lines : List (Option Line)) (rest : List (Option Line)) → levels ≡ 0 → lines ≡ Some line.Minus ∷ rest → plan_at {Z = Z} step_of levels lines ≡ Err (limit (length lines))
+  unfolding plan_at
+  minus_limit levels lines rest none e = rw (none, e) refl
+
+  pub via_limit : (levels : ℕ) (lines : List (Option Line)) (ordered : Bool) (rest : List (Option Line)) → levels ≡ 0 → lines ≡ Some (line.Via ordered) ∷ rest → plan_at {Z = Z} step_of levels lines ≡ Err (limit (length lines))
+  unfolding plan_at
+  via_limit levels lines ordered rest none e = rw (none, e) refl
+
   abbrev pub leaf_of : ℕ → ℕ → List (Step V) × List (Option Line) → Result (Plan V Z × List (Option Line)) Stop
   leaf_of a b steps = Ok (plan.Leaf a b steps.0, steps.1)
 
   abbrev pub union_of : ℕ → ℕ → List (Plan V Z) × List (Option Line) → Result (Plan V Z × List (Option Line)) Stop
   union_of a b parts = Ok (plan.Union a b parts.0, parts.1)
+
+  abbrev pub meet_of : List (Plan V Z) × List (Option Line) → Result (Plan V Z × List (Option Line)) Stop
+  meet_of parts = Ok (plan.Meet parts.0, parts.1)
+
+  abbrev pub minus_of : Plan V Z → Plan V Z × List (Option Line) → Result (Plan V Z × List (Option Line)) Stop
+  minus_of first second = Ok (plan.Minus first second.0, second.1)
+
+  -- the second operand after the first
+  abbrev pub minus_after : ℕ → Plan V Z × List (Option Line) → Result (Plan V Z × List (Option Line)) Stop
+  minus_after levels first = plan_at {Z = Z} step_of levels first.1 >>= minus_of first.0
+
+  abbrev pub via_of : Bool → Plan V Z × List (Option Line) → Result (Plan V Z × List (Option Line)) Stop
+  via_of ordered part = Ok (plan.Via ordered part.0, part.1)
+
+  pub at_meet : (levels : ℕ) (lines : List (Option Line)) (n : ℕ) (rest : List (Option Line)) → (levels ≡ 0 → ⊥) → lines ≡ Some (line.Meet n) ∷ rest → plan_at {Z = Z} step_of levels lines ≡ (many (plan_at {Z = Z} step_of (levels - 1)) n rest >>= meet_of)
+  unfolding plan_at
+  at_meet zero lines n rest some e = absurd (some refl)
+  at_meet (suc levels) lines n rest some e = let one : suc levels - 1 ≡ levels = omega arith in rw (e, one) refl
+
+  pub at_minus : (levels : ℕ) (lines : List (Option Line)) (rest : List (Option Line)) → (levels ≡ 0 → ⊥) → lines ≡ Some line.Minus ∷ rest → plan_at {Z = Z} step_of levels lines ≡ (plan_at {Z = Z} step_of (levels - 1) rest >>= minus_after (levels - 1))
+  unfolding plan_at
+  at_minus zero lines rest some e = absurd (some refl)
+  at_minus (suc levels) lines rest some e = let one : suc levels - 1 ≡ levels = omega arith in rw (e, one) refl
+
+  pub at_via : (levels : ℕ) (lines : List (Option Line)) (ordered : Bool) (rest : List (Option Line)) → (levels ≡ 0 → ⊥) → lines ≡ Some (line.Via ordered) ∷ rest → plan_at {Z = Z} step_of levels lines ≡ (plan_at {Z = Z} step_of (levels - 1) rest >>= via_of ordered)
+  unfolding plan_at
+  at_via zero lines ordered rest some e = absurd (some refl)
+  at_via (suc levels) lines ordered rest some e = let one : suc levels - 1 ≡ levels = omega arith in rw (e, one) refl
+
+  pub meet_read : (levels : ℕ) (lines : List (Option Line)) (n : ℕ) (rest : List (Option Line)) (parts items : List (Plan V Z)) (after : List (Option Line)) → (levels ≡ 0 → ⊥) → lines ≡ Some (line.Meet n) ∷ rest
+      → many (plan_at {Z = Z} step_of (levels - 1)) n rest ≡ Ok (parts, after) → items ≡ parts → plan_at {Z = Z} step_of levels lines ≡ Ok (plan.Meet items, after)
+  meet_read levels lines n rest parts items after some e read is = at_meet levels lines n rest some e ∙ rw (read, is) refl
+
+  pub minus_read : (levels : ℕ) (lines : List (Option Line)) (rest : List (Option Line)) (first second a b : Plan V Z) (between after : List (Option Line)) → (levels ≡ 0 → ⊥) → lines ≡ Some line.Minus ∷ rest
+      → plan_at {Z = Z} step_of (levels - 1) rest ≡ Ok (first, between) → plan_at {Z = Z} step_of (levels - 1) between ≡ Ok (second, after) → a ≡ first → b ≡ second → plan_at {Z = Z} step_of levels lines ≡ Ok (plan.Minus a b, after)
+  minus_read levels lines rest first second a b between after some e one two is also = at_minus levels lines rest some e ∙ rw (one, two, is, also) refl
+
+  pub via_read : (levels : ℕ) (lines : List (Option Line)) (ordered : Bool) (rest : List (Option Line)) (part a : Plan V Z) (after : List (Option Line)) → (levels ≡ 0 → ⊥) → lines ≡ Some (line.Via ordered) ∷ rest
+      → plan_at {Z = Z} step_of (levels - 1) rest ≡ Ok (part, after) → a ≡ part → plan_at {Z = Z} step_of levels lines ≡ Ok (plan.Via ordered a, after)
+  via_read levels lines ordered rest part a after some e read is = at_via levels lines ordered rest some e ∙ rw (read, is) refl
 
   pub at_leaf : (levels : ℕ) (lines : List (Option Line)) (a b n : ℕ) (rest : List (Option Line)) → (levels ≡ 0 → ⊥) → lines ≡ Some (line.Leaf a b n) ∷ rest → plan_at {Z = Z} step_of levels lines ≡ (many (step_at step_of) n rest >>= leaf_of a b)
   unfolding plan_at
@@ -116,17 +192,31 @@ module _ (Z : Type 0) where
   no_command (None ∷ rest) h = refl
   no_command (Some l ∷ rest) h = absurd cc
 
-  other_first : (l : Line) (rest : List (Option Line)) → (l ≡ line.ThetaShow → ⊥) → command_at {Z = Z} (Some l ∷ rest) ≡ Err (syntax (suc (length rest)))
+  other_first : (l : Line) (rest : List (Option Line)) → (l ≡ line.ThetaShow → ⊥) → (l ≡ line.ThetaImage → ⊥) → command_at {Z = Z} (Some l ∷ rest) ≡ Err (syntax (suc (length rest)))
   unfolding command_at
-  other_first line.ThetaShow rest h = absurd (h refl)
-  other_first (line.Leaf a b n) rest h = refl
-  other_first (line.Union a b n) rest h = refl
-  other_first (line.Add hash) rest h = refl
-  other_first line.Trim rest h = refl
-  other_first line.Reset rest h = refl
+  other_first line.ThetaShow rest h i = absurd (h refl)
+  other_first line.ThetaImage rest h i = absurd (i refl)
+  other_first (line.Leaf a b n) rest h i = refl
+  other_first (line.Union a b n) rest h i = refl
+  other_first (line.Meet n) rest h i = refl
+  other_first line.Minus rest h i = refl
+  other_first (line.Via ordered) rest h i = refl
+  other_first (line.Add hash) rest h i = refl
+  other_first line.Trim rest h i = refl
+  other_first line.Reset rest h i = refl
 
-  pub other_command : (lines : List (Option Line)) (l : Line) (rest : List (Option Line)) → lines ≡ Some l ∷ rest → (l ≡ line.ThetaShow → ⊥) → command_at {Z = Z} lines ≡ Err (syntax (length lines))
-  other_command lines l rest e h = rw e (other_first l rest h)
+  pub other_command : (lines : List (Option Line)) (l : Line) (rest : List (Option Line)) → lines ≡ Some l ∷ rest → (l ≡ line.ThetaShow → ⊥) → (l ≡ line.ThetaImage → ⊥) → command_at {Z = Z} lines ≡ Err (syntax (length lines))
+  other_command lines l rest e h i = rw e (other_first l rest h i)
+
+  abbrev pub image_of : Plan (Unit {0}) Z → Result (Command Z) Stop
+  image_of p = Ok (ThetaImage p)
+
+  pub images_plan : (r : Result (Plan (Unit {0}) Z) Stop) (p : Plan (Unit {0}) Z) → r ≡ Ok p → (r >>= image_of) ≡ Ok (ThetaImage p)
+  images_plan r p e = rw e refl
+
+  pub image_at : (lines rest : List (Option Line)) → lines ≡ Some line.ThetaImage ∷ rest → command_at {Z = Z} lines ≡ (whole_at {Z = Z} theta_step rest >>= image_of)
+  unfolding command_at
+  image_at lines rest e = rw e refl
 
   pub show_at : (lines rest : List (Option Line)) → lines ≡ Some line.ThetaShow ∷ rest → command_at {Z = Z} lines ≡ (whole_at {Z = Z} theta_step rest >>= show_of)
   unfolding command_at

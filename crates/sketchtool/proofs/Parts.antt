@@ -1,14 +1,16 @@
--- Parts of a union, one by one.
+-- Parts of a node, one by one.
 use Rattle.std.proofs.Common.{◌≡◌, ℕ, zero, suc, ◌^◌, ◌<◌, ◌+◌, Bool, true, false, cond, eqb, List, [], ◌∷◌, ◌++◌, length, get_or, take, map, Option, Some, None, refl, sym, ap, ◌∙◌, arith}
 use Rattle.std.specs.Prelude.{◌&&◌, is_none}
 use Rattle.std.specs.List.{list_all}
 use Rattle.std.proofs.lemmas.List.{take_more, map_more}
 use Rattle.std.proofs.lemmas.Bool.Decides.{nat_tests}
+use Rattle.sketch_base.specs.Seed.{seed_hash}
 use Rattle.sketch_base.specs.declared.error.ErrorKind.{ErrorKind}
 use Rattle.sketch_base.specs.declared.error.ErrorKind.TheVariants.{InvalidArgument}
 use Rattle.theta_core.specs.Hash.{hash_key, first_hash}
+use Rattle.theta_core.specs.Intersection.{seed_refusal}
 use Rattle.theta_core.specs.Leaf.{leaf, hash_step_of}
-use Rattle.theta_core.specs.Operators.{unite, unite_nonempty}
+use Rattle.theta_core.specs.Operators.{unite, unite_nonempty, meet, minus}
 use Rattle.theta_core.specs.Sketch.{Sketch, Empty, NonEmpty}
 use Rattle.theta_core.specs.Cut.{map_of}
 use Rattle.theta_core.specs.Table.{table_refusal}
@@ -18,10 +20,10 @@ use Rattle.theta_core.proofs.Unions.{nonempties-more, union_of_union}
 use Rattle.sketchtool.specs.declared.plan.Plan.{Plan}
 use Rattle.sketchtool.specs.declared.plan.Plan.TheOpen.{Plan-F}
 use Rattle.sketchtool.specs.declared.plan.Plan.TheVariants as plan
-use Rattle.sketchtool.specs.declared.plan.Plan.TheVariants.{rolls-Leaf, rolls-Union}
+use Rattle.sketchtool.specs.declared.plan.Plan.TheVariants.{rolls-Leaf, rolls-Union, rolls-Meet, rolls-Minus, rolls-Via}
 use Rattle.sketchtool.specs.declared.plan.Plan.TheFolds.{fold-roll-Plan}
 use Rattle.sketchtool.specs.declared.plan.Step.{Step}
-use Rattle.sketchtool.specs.Value.{leaf_steps, node_value, value_of, may_be_built, node_fits, fits, plan_refusal, Joins}
+use Rattle.sketchtool.specs.Value.{leaf_steps, node_value, value_of, may_be_built, may_have_seed, node_fits, fits, plan_refusal, Joins}
 
 module _ (Z : Type 0) where
   pub value_leaf : (lg_k start : ℕ) (steps : List (Step (Unit {0}))) → value_of {Z = Z} (plan.Leaf lg_k start steps) ≡ leaf hash_key hash_step_of (2 ^ lg_k) start (leaf_steps steps)
@@ -29,6 +31,24 @@ module _ (Z : Type 0) where
 
   pub value_union : (lg_k start : ℕ) (parts : List (Plan (Unit {0}) Z)) → value_of {Z = Z} (plan.Union lg_k start parts) ≡ unite hash_key first_hash (2 ^ lg_k) start (map value_of parts)
   value_union lg_k start parts = ap (value_of {Z = Z}) (sym (rolls-Union lg_k start parts)) ∙ fold-roll-Plan (Unit {0}) Z (Sketch ℕ) (node_value hash_key first_hash hash_step_of) (Plan-F.Union lg_k start parts)
+
+  pub value_meet : (parts : List (Plan (Unit {0}) Z)) → value_of {Z = Z} (plan.Meet parts) ≡ meet hash_key first_hash (map value_of parts)
+  value_meet parts = ap (value_of {Z = Z}) (sym (rolls-Meet parts)) ∙ fold-roll-Plan (Unit {0}) Z (Sketch ℕ) (node_value hash_key first_hash hash_step_of) (Plan-F.Meet parts)
+
+  pub value_minus : (first second : Plan (Unit {0}) Z) → value_of {Z = Z} (plan.Minus first second) ≡ minus hash_key hash_key (value_of first) (value_of second)
+  value_minus first second = ap (value_of {Z = Z}) (sym (rolls-Minus first second)) ∙ fold-roll-Plan (Unit {0}) Z (Sketch ℕ) (node_value hash_key first_hash hash_step_of) (Plan-F.Minus first second)
+
+  pub value_via : (ordered : Bool) (part : Plan (Unit {0}) Z) → value_of {Z = Z} (plan.Via ordered part) ≡ value_of part
+  value_via ordered part = ap (value_of {Z = Z}) (sym (rolls-Via ordered part)) ∙ fold-roll-Plan (Unit {0}) Z (Sketch ℕ) (node_value hash_key first_hash hash_step_of) (Plan-F.Via ordered part)
+
+  pub fits_meet : (seed : ℕ) (parts : List (Plan (Unit {0}) Z)) → fits {Z = Z} seed (plan.Meet parts) ≡ (may_have_seed seed && list_all (λ f. f) (map (fits seed) parts))
+  fits_meet seed parts = ap (fits {V = Unit {0}} {Z = Z} seed) (sym (rolls-Meet parts)) ∙ fold-roll-Plan (Unit {0}) Z Bool (node_fits seed) (Plan-F.Meet parts)
+
+  pub fits_minus : (seed : ℕ) (first second : Plan (Unit {0}) Z) → fits {Z = Z} seed (plan.Minus first second) ≡ (may_have_seed seed && (fits seed first && fits seed second))
+  fits_minus seed first second = ap (fits {V = Unit {0}} {Z = Z} seed) (sym (rolls-Minus first second)) ∙ fold-roll-Plan (Unit {0}) Z Bool (node_fits seed) (Plan-F.Minus first second)
+
+  pub fits_via : (seed : ℕ) (ordered : Bool) (part : Plan (Unit {0}) Z) → fits {Z = Z} seed (plan.Via ordered part) ≡ fits seed part
+  fits_via seed ordered part = ap (fits {V = Unit {0}} {Z = Z} seed) (sym (rolls-Via ordered part)) ∙ fold-roll-Plan (Unit {0}) Z Bool (node_fits seed) (Plan-F.Via ordered part)
 
   pub fits_leaf : (seed lg_k start : ℕ) (steps : List (Step (Unit {0}))) → fits {Z = Z} seed (plan.Leaf lg_k start steps) ≡ may_be_built lg_k start seed
   fits_leaf seed lg_k start steps = ap (fits {V = Unit {0}} {Z = Z} seed) (sym (rolls-Leaf lg_k start steps)) ∙ fold-roll-Plan (Unit {0}) Z Bool (node_fits seed) (Plan-F.Leaf lg_k start steps)
@@ -137,3 +157,16 @@ module _ (Z : Type 0) (seed : ℕ) where
 
     pub accepted_union : (parts : List (Plan (Unit {0}) Z)) → table_refusal lg_k start seed ≡ None → list_all (λ f. f) (map (fits seed) parts) ≡ true → plan_refusal {Z = Z} seed (plan.Union lg_k start parts) ≡ None
     accepted_union parts accepted fit = ap (λ b. cond b None (Some InvalidArgument)) (fits_union Z seed lg_k start parts) ∙ own_accepted _ _ accepted fit
+
+  -- an intersection is refused where some part is
+  pub refused_meet : (parts : List (Plan (Unit {0}) Z)) (i : ℕ) (d : Plan (Unit {0}) Z) (e : ErrorKind) → i < length parts → plan_refusal seed (get_or parts i d) ≡ Some e → plan_refusal {Z = Z} seed (plan.Meet parts) ≡ Some e
+  refused_meet parts i d e lt refused =
+      let bad = bad_fit _ e refused in
+      ap (λ b. cond b None (Some InvalidArgument)) (fits_meet Z seed parts) ∙ part_refused _ _ e (all_bad parts i d lt bad.0) bad.1
+
+  seed_accepted : (c all : Bool) → cond c (Some InvalidArgument) None ≡ None → all ≡ true → cond (is_none (cond c (Some InvalidArgument) None) && all) None (Some InvalidArgument) ≡ None
+  seed_accepted true all accepted fit = absurd (cc)
+  seed_accepted false all accepted fit = rw fit refl
+
+  pub accepted_meet : (parts : List (Plan (Unit {0}) Z)) → seed_refusal seed ≡ None → list_all (λ f. f) (map (fits seed) parts) ≡ true → plan_refusal {Z = Z} seed (plan.Meet parts) ≡ None
+  accepted_meet parts accepted fit = ap (λ b. cond b None (Some InvalidArgument)) (fits_meet Z seed parts) ∙ seed_accepted (eqb (seed_hash seed) 0) _ accepted fit

@@ -1,38 +1,46 @@
 -- What makes and puts an answer.
-use Rattle.std.proofs.Common.{◌≡◌, ℕ, List, Option, Some, None, true, false, inl, inr, refl, sym, ap, ◌∙◌}
-use Rattle.std.specs.Prelude.{IfSome, IsTrue, ◌⊎◌}
+use Rattle.std.proofs.Common.{◌≡◌, ℕ, List, Option, Some, None, Result, Ok, Err, true, inl, inr, refl, sym, ap, ◌∙◌}
+use Rattle.std.specs.Prelude.{IfOk, IfSome, IsTrue, ◌⊎◌}
 use Rattle.std.specs.Io.KnownBytes.{Keeps}
+use Rattle.sketch_base.specs.Seed.{seed_hash}
+use Rattle.theta_sketches.specs.Image.{written}
 use Rattle.sketch_base.specs.declared.seed.TheConstants.{DEFAULT_UPDATE_SEED}
 use Rattle.sketch_base.specs.declared.error.ErrorKind.{ErrorKind}
 use Rattle.sketch_base.specs.declared.error.ErrorKind.TheVariants.{InvalidArgument, OutOfMemory}
-use Rattle.theta_core.specs.CompactState.{Compact, IsAnswer}
-use Rattle.theta_core.specs.Hash.{hash_key}
+use Rattle.theta_core.specs.CompactState.{Compact}
 use Rattle.theta_core.specs.Sketch.{Sketch, Empty, NonEmpty}
-use Rattle.theta_core.proofs.Lends.{answer-ordered}
 use Rattle.sketchtool.specs.declared.plan.Plan.{Plan}
-use Rattle.sketchtool.specs.declared.command.Command.TheVariants.{ThetaShow}
+use Rattle.sketchtool.specs.declared.command.Command.{Command}
+use Rattle.sketchtool.specs.declared.command.Command.TheVariants.{ThetaShow, ThetaImage}
 use Rattle.sketchtool.specs.declared.run.Ending.{Ending}
 use Rattle.sketchtool.specs.declared.run.Ending.TheVariants.{Answered, NotRead, NotWritten}
-use Rattle.sketchtool.specs.Value.{value_of, plan_refusal}
-use Rattle.sketchtool.specs.Answer.{Answers, AnswersCommand, shows, argument, shown_text, shown, argument_line}
+use Rattle.sketchtool.specs.Value.{value_of}
+use Rattle.sketchtool.specs.Answer.{Answers, AnswersCommand, shows, argument, shown_text, shown, hex_line, argument_line, command_refusal}
+use Rattle.sketchtool.specs.Evaluated.{ordered_sketch}
 use Rattle.sketchtool.specs.Ending.{Puts, Ends}
 
--- what is shown of an ordered answer is what is shown of its value
-shown-answer : (v : Sketch ℕ) (seed_hash : ℕ) (s : Compact ℕ) → IsAnswer hash_key v seed_hash true s → shown_text s.empty s.theta s.entries ≡ shown v
-shown-answer Empty seed_hash s is = ap (λ c. shown_text c.empty c.theta c.entries) is
-shown-answer (NonEmpty v) seed_hash s is =
-    ap (λ b. shown_text b s.theta s.entries) is.nonempty
-    ∙ ap (λ (t : ℕ). shown_text false t s.entries) is.same_theta
-    ∙ ap (λ xs. shown_text false v.theta xs) (is.in_order (answer-ordered hash_key (NonEmpty v) seed_hash s is))
+-- what is shown of an ordered sketch is what is shown of its value
+shown-ordered : (v : Sketch ℕ) (seed_hash : ℕ) → shown_text (ordered_sketch v seed_hash).empty (ordered_sketch v seed_hash).theta (ordered_sketch v seed_hash).entries ≡ shown v
+shown-ordered Empty seed_hash = refl
+shown-ordered (NonEmpty v) seed_hash = refl
 
 -- the text of a plan's value answers `theta show`
-pub shows_value : {Z : Type 0} (plan : Plan (Unit {0}) Z) (seed_hash : ℕ) (sketch : Compact ℕ) (text : List ℕ) → IsAnswer hash_key (value_of plan) seed_hash true sketch → text ≡ shown_text sketch.empty sketch.theta sketch.entries → AnswersCommand (ThetaShow plan) 0 text
-shows_value plan seed_hash sketch text value is = λ input s. rw (is ∙ shown-answer (value_of plan) seed_hash sketch value) (shows (ThetaShow plan) s)
+pub shows_value : {Z : Type 0} (plan : Plan (Unit {0}) Z) (h : ℕ) (sketch : Compact ℕ) (text : List ℕ) → sketch ≡ ordered_sketch (value_of plan) h → text ≡ shown_text sketch.empty sketch.theta sketch.entries → AnswersCommand (ThetaShow plan) 0 text
+shows_value plan h sketch text value is = λ input s. rw (is ∙ ap (λ c. shown_text c.empty c.theta c.entries) value ∙ shown-ordered (value_of plan) h) (shows (ThetaShow plan) s)
+
+-- the image of a plan's value answers `theta image`
+pub images_value : {Z : Type 0} (plan : Plan (Unit {0}) Z) (sketch : Compact ℕ) (image text : List ℕ) → sketch ≡ ordered_sketch (value_of plan) (seed_hash DEFAULT_UPDATE_SEED) → image ≡ written sketch → text ≡ hex_line image → AnswersCommand (ThetaImage plan) 0 text
+images_value plan sketch image text value written_is is = λ input s. rw (is ∙ ap hex_line (written_is ∙ ap written value)) (shows (ThetaImage plan) s)
 
 -- a plan whose evaluation was refused for an argument
-pub tells_argument : {Z : Type 0} (plan : Plan (Unit {0}) Z) (kind : ErrorKind) (text : List ℕ) → (plan_refusal DEFAULT_UPDATE_SEED plan ≡ Some kind) ⊎ ((kind ≡ OutOfMemory) × IsTrue true) → kind ≡ InvalidArgument → text ≡ argument_line → AnswersCommand (ThetaShow plan) 1 text
-tells_argument plan kind text (inl refused) is e = λ input s. rw e (argument (ThetaShow plan) s (refused ∙ ap Some is))
-tells_argument plan kind text (inr memory) is e = absurd (let other : OutOfMemory ≡ InvalidArgument = sym memory.0 ∙ is in cc)
+tells_argument : {Z : Type 0} (command : Command Z) (kind : ErrorKind) (status : ℕ) (text : List ℕ) → (command_refusal command ≡ Some kind) ⊎ ((kind ≡ OutOfMemory) × IsTrue true) → (kind ≡ InvalidArgument) × (status ≡ 1) × (text ≡ argument_line) → AnswersCommand command status text
+tells_argument command kind status text (inl refused) told = λ input s. rw (told.1, told.2) (argument command s (refused ∙ ap Some told.0))
+tells_argument command kind status text (inr memory) told = absurd (let other : OutOfMemory ≡ InvalidArgument = sym memory.0 ∙ told.0 in cc)
+
+pub tells_refused : {Z T E : Type 0} (command : Command Z) (kind : ErrorKind) (status : T → ℕ) (text : T → List ℕ) (r : Result T E) → (command_refusal command ≡ Some kind) ⊎ ((kind ≡ OutOfMemory) × IsTrue true)
+    → IfOk r (λ x. (kind ≡ InvalidArgument) × (status x ≡ 1) × (text x ≡ argument_line)) → IfOk r (λ x. AnswersCommand command (status x) (text x))
+tells_refused command kind status text (Ok x) refused told = tells_argument command kind (status x) (text x) refused told
+tells_refused command kind status text (Err e) refused told = tt
 
 -- a text that answers the input was put
 pub puts_answer : (Z : Type 0) (input text : List ℕ) (status : ℕ) (e : Ending) (old new : Option (List ℕ)) → Answers Z input status text → Puts text status e old new → Ends Z input e old new

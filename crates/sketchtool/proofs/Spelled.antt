@@ -1,10 +1,10 @@
 -- What is read is spelled so, what is spelled so is read, and a fault is the first one.
-use Rattle.std.proofs.Common.{◌≡◌, ℕ, zero, suc, ◌≤◌, List, [], ◌∷◌, ◌++◌, length, map, Option, Some, None, Result, Ok, Err, refl, sym, ap, subst, ◌∙◌, append_assoc, arith}
+use Rattle.std.proofs.Common.{◌≡◌, Bool, ℕ, zero, suc, ◌≤◌, max, List, [], ◌∷◌, ◌++◌, length, map, Option, Some, None, Result, Ok, Err, refl, sym, ap, subst, ◌∙◌, append_assoc, arith}
 use Rattle.std.specs.List.{AllByRecursion}
 use Rattle.std.proofs.lemmas.List.{map-append, length-map}
 use Rattle.sketchtool.specs.declared.plan.Plan.{Plan, roll-Plan, roll-out-Plan, out-Plan}
 use Rattle.sketchtool.specs.declared.plan.Plan.TheVariants as plan
-use Rattle.sketchtool.specs.declared.plan.Plan.TheVariants.{rolls-Leaf, rolls-Union}
+use Rattle.sketchtool.specs.declared.plan.Plan.TheVariants.{rolls-Leaf, rolls-Union, rolls-Meet, rolls-Minus, rolls-Via}
 use Rattle.sketchtool.specs.declared.plan.Plan.TheOpen.{Plan-F}
 use Rattle.sketchtool.specs.declared.plan.Plan.TheFolds.{fold-roll-Plan}
 use Rattle.sketchtool.specs.declared.plan.Step.{Step}
@@ -25,11 +25,30 @@ module _ {V : Type 0} (Z : Type 0) where
   lines_union write a b parts = ap (plan_lines {Z = Z} write) (sym (rolls-Union a b parts)) ∙ fold-roll-Plan V Z (List Line) (node_lines write) (Plan-F.Union a b parts)
       ∙ ap (λ (n : ℕ). line.Union a b n ∷ joined (map (plan_lines write) parts)) (length-map parts (plan_lines write))
 
+  pub lines_meet : (write : Step V → Line) (parts : List (Plan V Z)) → plan_lines write (plan.Meet parts) ≡ line.Meet (length parts) ∷ joined (map (plan_lines write) parts)
+  lines_meet write parts = ap (plan_lines {Z = Z} write) (sym (rolls-Meet parts)) ∙ fold-roll-Plan V Z (List Line) (node_lines write) (Plan-F.Meet parts)
+      ∙ ap (λ (n : ℕ). line.Meet n ∷ joined (map (plan_lines write) parts)) (length-map parts (plan_lines write))
+
+  pub lines_minus : (write : Step V → Line) (first second : Plan V Z) → plan_lines write (plan.Minus first second) ≡ line.Minus ∷ plan_lines write first ++ plan_lines write second
+  lines_minus write first second = ap (plan_lines {Z = Z} write) (sym (rolls-Minus first second)) ∙ fold-roll-Plan V Z (List Line) (node_lines write) (Plan-F.Minus first second)
+
+  pub lines_via : (write : Step V → Line) (ordered : Bool) (part : Plan V Z) → plan_lines write (plan.Via ordered part) ≡ line.Via ordered ∷ plan_lines write part
+  lines_via write ordered part = ap (plan_lines {Z = Z} write) (sym (rolls-Via ordered part)) ∙ fold-roll-Plan V Z (List Line) (node_lines write) (Plan-F.Via ordered part)
+
   pub levels_leaf : (a b : ℕ) (steps : List (Step V)) → levels_of {Z = Z} (plan.Leaf a b steps) ≡ 1
   levels_leaf a b steps = ap (levels_of {V = V} {Z = Z}) (sym (rolls-Leaf a b steps)) ∙ fold-roll-Plan V Z ℕ node_levels (Plan-F.Leaf a b steps)
 
   pub levels_union : (a b : ℕ) (parts : List (Plan V Z)) → levels_of (plan.Union a b parts) ≡ suc (greatest (map levels_of parts))
   levels_union a b parts = ap (levels_of {V = V} {Z = Z}) (sym (rolls-Union a b parts)) ∙ fold-roll-Plan V Z ℕ node_levels (Plan-F.Union a b parts)
+
+  pub levels_meet : (parts : List (Plan V Z)) → levels_of (plan.Meet parts) ≡ suc (greatest (map levels_of parts))
+  levels_meet parts = ap (levels_of {V = V} {Z = Z}) (sym (rolls-Meet parts)) ∙ fold-roll-Plan V Z ℕ node_levels (Plan-F.Meet parts)
+
+  pub levels_minus : (first second : Plan V Z) → levels_of (plan.Minus first second) ≡ suc (max (levels_of first) (levels_of second))
+  levels_minus first second = ap (levels_of {V = V} {Z = Z}) (sym (rolls-Minus first second)) ∙ fold-roll-Plan V Z ℕ node_levels (Plan-F.Minus first second)
+
+  pub levels_via : (ordered : Bool) (part : Plan V Z) → levels_of (plan.Via ordered part) ≡ suc (levels_of part)
+  levels_via ordered part = ap (levels_of {V = V} {Z = Z}) (sym (rolls-Via ordered part)) ∙ fold-roll-Plan V Z ℕ node_levels (Plan-F.Via ordered part)
 
 -- ---- what is read
 
@@ -62,8 +81,12 @@ same_step s t e = let is : s ≡ t = cc in ap theta_line is
 
 theta_found : (l : Line) (s : Step (Unit {0})) → theta_step l ≡ Some s → l ≡ theta_line s
 theta_found line.ThetaShow s e = absurd cc
+theta_found line.ThetaImage s e = absurd cc
 theta_found (line.Leaf a b n) s e = absurd cc
 theta_found (line.Union a b n) s e = absurd cc
+theta_found (line.Meet n) s e = absurd cc
+theta_found line.Minus s e = absurd cc
+theta_found (line.Via ordered) s e = absurd cc
 theta_found (line.Add hash) s e = same_step (step.Add hash tt) s e
 theta_found line.Trim s e = same_step step.Trim s e
 theta_found line.Reset s e = same_step step.Reset s e
@@ -165,19 +188,46 @@ module _ {V : Type 0} (Z : Type 0) (step_of : Line → Option (Step V)) (write :
     rw (levels_union Z a b parts) (omega (arith, greatest_le levels parts all)),
   )
 
+  meet_takes : (levels n : ℕ) (from : Said) (parts : List (Plan V Z)) (rest : Said) → from ≡ told (joined (map (plan_lines write) parts)) ++ rest → length parts ≡ n → AllByRecursion (Shallow levels) parts → TakesPlan (suc levels) (Some (line.Meet n) ∷ from) (plan.Meet parts, rest)
+  meet_takes levels n from parts rest e f all = (
+    ap (λ (y : Said). Some (line.Meet n) ∷ y) e ∙ ap (λ (m : ℕ). Some (line.Meet m) ∷ (told (joined (map (plan_lines write) parts)) ++ rest)) (sym f) ∙ sym (ap (λ (ls : List Line). told ls ++ rest) (lines_meet Z write parts)),
+    rw (levels_meet Z parts) (omega (arith, greatest_le levels parts all)),
+  )
+
+  -- the lines of two plans, one after the other
+  two_told : (a b : Plan V Z) (rest : Said) → told (plan_lines write a ++ plan_lines write b) ++ rest ≡ told (plan_lines write a) ++ (told (plan_lines write b) ++ rest)
+  two_told a b rest = ap (λ (y : Said). y ++ rest) (told_append (plan_lines write a) (plan_lines write b)) ∙ append_assoc (told (plan_lines write a)) (told (plan_lines write b)) rest
+
+  minus_takes : (levels : ℕ) (from between rest : Said) (first second : Plan V Z) → TakesPlan levels from (first, between) → TakesPlan levels between (second, rest) → TakesPlan (suc levels) (Some line.Minus ∷ from) (plan.Minus first second, rest)
+  minus_takes levels from between rest first second one two = (
+    ap (λ (y : Said). Some line.Minus ∷ y) (one.0 ∙ ap (λ (y : Said). told (plan_lines write first) ++ y) two.0 ∙ sym (two_told first second rest)) ∙ sym (ap (λ (ls : List Line). told ls ++ rest) (lines_minus Z write first second)),
+    rw (levels_minus Z first second) (omega (arith, one.1, two.1)),
+  )
+
+  via_takes : (levels : ℕ) (ordered : Bool) (from rest : Said) (part : Plan V Z) → TakesPlan levels from (part, rest) → TakesPlan (suc levels) (Some (line.Via ordered) ∷ from) (plan.Via ordered part, rest)
+  via_takes levels ordered from rest part one = (
+    ap (λ (y : Said). Some (line.Via ordered) ∷ y) one.0 ∙ sym (ap (λ (ls : List Line). told ls ++ rest) (lines_via Z write ordered part)),
+    rw (levels_via Z ordered part) (omega (arith, one.1)),
+  )
+
   pub plan_found : (levels : ℕ) (from : Said) (x : Plan V Z × Said) → plan_at {Z = Z} step_of levels from ≡ Ok x → TakesPlan levels from x
   unfolding plan_at
   plan_found zero [] x e = absurd cc
   plan_found zero (None ∷ rest) x e = absurd cc
   plan_found zero (Some line.ThetaShow ∷ rest) x e = absurd cc
+  plan_found zero (Some line.ThetaImage ∷ rest) x e = absurd cc
   plan_found zero (Some (line.Leaf a b n) ∷ rest) x e = absurd cc
   plan_found zero (Some (line.Union a b n) ∷ rest) x e = absurd cc
+  plan_found zero (Some (line.Meet n) ∷ rest) x e = absurd cc
+  plan_found zero (Some line.Minus ∷ rest) x e = absurd cc
+  plan_found zero (Some (line.Via ordered) ∷ rest) x e = absurd cc
   plan_found zero (Some (line.Add hash) ∷ rest) x e = absurd cc
   plan_found zero (Some line.Trim ∷ rest) x e = absurd cc
   plan_found zero (Some line.Reset ∷ rest) x e = absurd cc
   plan_found (suc levels) [] x e = absurd cc
   plan_found (suc levels) (None ∷ rest) x e = absurd cc
   plan_found (suc levels) (Some line.ThetaShow ∷ rest) x e = absurd cc
+  plan_found (suc levels) (Some line.ThetaImage ∷ rest) x e = absurd cc
   plan_found (suc levels) (Some (line.Leaf a b n) ∷ rest) x e =
       let d = bind_ok (many (step_at step_of) n rest) (λ steps. Ok (plan.Leaf a b steps.0, steps.1)) x e in
       let f = steps_found step_of write w n rest d.0 d.1 in
@@ -190,6 +240,23 @@ module _ {V : Type 0} (Z : Type 0) (step_of : Line → Option (Step V)) (write :
       let made : Plan V Z × Said = (plan.Union a b d.0.0, d.0.1) in
       subst (TakesPlan (suc levels) (Some (line.Union a b n) ∷ rest)) (ok_is made x d.2)
       (union_takes levels a b n rest d.0.0 d.0.1 f.0 f.1 f.2)
+  plan_found (suc levels) (Some (line.Meet n) ∷ rest) x e =
+      let d = bind_ok (many (plan_at {Z = Z} step_of levels) n rest) (λ parts. Ok (plan.Meet parts.0, parts.1)) x e in
+      let f = many_found (plan_lines write) (Shallow levels) (plan_at {Z = Z} step_of levels) (plan_found levels) n rest d.0 d.1 in
+      let made : Plan V Z × Said = (plan.Meet d.0.0, d.0.1) in
+      subst (TakesPlan (suc levels) (Some (line.Meet n) ∷ rest)) (ok_is made x d.2)
+      (meet_takes levels n rest d.0.0 d.0.1 f.0 f.1 f.2)
+  plan_found (suc levels) (Some line.Minus ∷ rest) x e =
+      let d = bind_ok (plan_at {Z = Z} step_of levels rest) (λ first. plan_at {Z = Z} step_of levels first.1 >>= λ second. Ok (plan.Minus first.0 second.0, second.1)) x e in
+      let m = bind_ok (plan_at {Z = Z} step_of levels d.0.1) (λ second. Ok (plan.Minus d.0.0 second.0, second.1)) x d.2 in
+      let made : Plan V Z × Said = (plan.Minus d.0.0 m.0.0, m.0.1) in
+      subst (TakesPlan (suc levels) (Some line.Minus ∷ rest)) (ok_is made x m.2)
+      (minus_takes levels rest d.0.1 m.0.1 d.0.0 m.0.0 (plan_found levels rest d.0 d.1) (plan_found levels d.0.1 m.0 m.1))
+  plan_found (suc levels) (Some (line.Via ordered) ∷ rest) x e =
+      let d = bind_ok (plan_at {Z = Z} step_of levels rest) (λ part. Ok (plan.Via ordered part.0, part.1)) x e in
+      let made : Plan V Z × Said = (plan.Via ordered d.0.0, d.0.1) in
+      subst (TakesPlan (suc levels) (Some (line.Via ordered) ∷ rest)) (ok_is made x d.2)
+      (via_takes levels ordered rest d.0.1 d.0.0 (plan_found levels rest d.0 d.1))
   plan_found (suc levels) (Some (line.Add hash) ∷ rest) x e = absurd cc
   plan_found (suc levels) (Some line.Trim ∷ rest) x e = absurd cc
   plan_found (suc levels) (Some line.Reset ∷ rest) x e = absurd cc
@@ -200,6 +267,9 @@ module _ {V : Type 0} (Z : Type 0) (step_of : Line → Option (Step V)) (write :
   zero_again : (rest : Said) (x : Plan-F V Z (Plan V Z)) → AgainAt zero rest (roll-Plan V Z x)
   zero_again rest (Plan-F.Leaf a b steps) = subst (AgainAt zero rest) (sym (rolls-Leaf a b steps)) (λ le. absurd (omega (arith, levels_leaf Z a b steps, le)))
   zero_again rest (Plan-F.Union a b parts) = subst (AgainAt zero rest) (sym (rolls-Union a b parts)) (λ le. absurd (omega (arith, levels_union Z a b parts, le)))
+  zero_again rest (Plan-F.Meet parts) = subst (AgainAt zero rest) (sym (rolls-Meet parts)) (λ le. absurd (omega (arith, levels_meet Z parts, le)))
+  zero_again rest (Plan-F.Minus first second) = subst (AgainAt zero rest) (sym (rolls-Minus first second)) (λ le. absurd (omega (arith, levels_minus Z first second, le)))
+  zero_again rest (Plan-F.Via ordered part) = subst (AgainAt zero rest) (sym (rolls-Via ordered part)) (λ le. absurd (omega (arith, levels_via Z ordered part, le)))
 
   leaf_again : (k a b : ℕ) (steps : List (Step V)) (rest : Said) → plan_at {Z = Z} step_of (suc k) (told (line.Leaf a b (length steps) ∷ map write steps) ++ rest) ≡ Ok (plan.Leaf a b steps, rest)
   unfolding plan_at
@@ -210,11 +280,35 @@ module _ {V : Type 0} (Z : Type 0) (step_of : Line → Option (Step V)) (write :
   unfolding plan_at
   union_again k a b parts rest e = rw e refl
 
+  meet_again : (k : ℕ) (parts : List (Plan V Z)) (rest : Said) → many (plan_at {Z = Z} step_of k) (length parts) (told (joined (map (plan_lines write) parts)) ++ rest) ≡ Ok (parts, rest)
+      → plan_at {Z = Z} step_of (suc k) (told (line.Meet (length parts) ∷ joined (map (plan_lines write) parts)) ++ rest) ≡ Ok (plan.Meet parts, rest)
+  unfolding plan_at
+  meet_again k parts rest e = rw e refl
+
+  minus_again : (k : ℕ) (first second : Plan V Z) (rest : Said) → plan_at {Z = Z} step_of k (told (plan_lines write first) ++ (told (plan_lines write second) ++ rest)) ≡ Ok (first, told (plan_lines write second) ++ rest)
+      → plan_at {Z = Z} step_of k (told (plan_lines write second) ++ rest) ≡ Ok (second, rest)
+      → plan_at {Z = Z} step_of (suc k) (told (line.Minus ∷ plan_lines write first ++ plan_lines write second) ++ rest) ≡ Ok (plan.Minus first second, rest)
+  unfolding plan_at
+  minus_again k first second rest one two = rw (two_told first second rest, one, two) refl
+
+  via_again : (k : ℕ) (ordered : Bool) (part : Plan V Z) (rest : Said) → plan_at {Z = Z} step_of k (told (plan_lines write part) ++ rest) ≡ Ok (part, rest) → plan_at {Z = Z} step_of (suc k) (told (line.Via ordered ∷ plan_lines write part) ++ rest) ≡ Ok (plan.Via ordered part, rest)
+  unfolding plan_at
+  via_again k ordered part rest one = rw one refl
+
   suc_again : (k : ℕ) → ((p : Plan V Z) (rest : Said) → Shallow k p → plan_at {Z = Z} step_of k (told (plan_lines write p) ++ rest) ≡ Ok (p, rest)) → (rest : Said) (x : Plan-F V Z (Plan V Z)) → AgainAt (suc k) rest (roll-Plan V Z x)
   suc_again k again rest (Plan-F.Leaf a b steps) = subst (AgainAt (suc k) rest) (sym (rolls-Leaf a b steps)) (λ le. ap (λ (ls : List Line). plan_at {Z = Z} step_of (suc k) (told ls ++ rest)) (lines_leaf Z write a b steps) ∙ leaf_again k a b steps rest)
   suc_again k again rest (Plan-F.Union a b parts) = subst (AgainAt (suc k) rest) (sym (rolls-Union a b parts)) (λ le.
       let all = all_shallow k parts (omega (arith, levels_union Z a b parts, le)) in
       ap (λ (ls : List Line). plan_at {Z = Z} step_of (suc k) (told ls ++ rest)) (lines_union Z write a b parts) ∙ union_again k a b parts rest (many_again (plan_lines write) (Shallow k) (plan_at {Z = Z} step_of k) again parts rest all))
+  suc_again k again rest (Plan-F.Meet parts) = subst (AgainAt (suc k) rest) (sym (rolls-Meet parts)) (λ le.
+      let all = all_shallow k parts (omega (arith, levels_meet Z parts, le)) in
+      ap (λ (ls : List Line). plan_at {Z = Z} step_of (suc k) (told ls ++ rest)) (lines_meet Z write parts) ∙ meet_again k parts rest (many_again (plan_lines write) (Shallow k) (plan_at {Z = Z} step_of k) again parts rest all))
+  suc_again k again rest (Plan-F.Minus first second) = subst (AgainAt (suc k) rest) (sym (rolls-Minus first second)) (λ le.
+      let levels = levels_minus Z first second in
+      ap (λ (ls : List Line). plan_at {Z = Z} step_of (suc k) (told ls ++ rest)) (lines_minus Z write first second)
+      ∙ minus_again k first second rest (again first (told (plan_lines write second) ++ rest) (omega (arith, levels, le))) (again second rest (omega (arith, levels, le))))
+  suc_again k again rest (Plan-F.Via ordered part) = subst (AgainAt (suc k) rest) (sym (rolls-Via ordered part)) (λ le.
+      ap (λ (ls : List Line). plan_at {Z = Z} step_of (suc k) (told ls ++ rest)) (lines_via Z write ordered part) ∙ via_again k ordered part rest (again part rest (omega (arith, levels_via Z ordered part, le))))
 
   pub plan_again : (levels : ℕ) (p : Plan V Z) (rest : Said) → levels_of p ≤ levels → plan_at {Z = Z} step_of levels (told (plan_lines write p) ++ rest) ≡ Ok (p, rest)
   plan_again zero p rest = subst (AgainAt zero rest) (roll-out-Plan V Z p) (zero_again rest (out-Plan V Z p))

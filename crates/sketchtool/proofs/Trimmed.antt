@@ -1,20 +1,15 @@
 -- A leaf whose last step is a trim.
-use Rattle.std.proofs.Common.{◌≡◌, ℕ, ◌^◌, ◌≤◌, Bool, true, false, cond, List, [], ◌∷◌, ◌++◌, Some, None, Result, Ok, Err, refl, sym, ap, ◌∙◌, arith}
-use Rattle.std.specs.Prelude.{IfOk, ◌&&◌, nat_le}
+use Rattle.std.proofs.Common.{◌≡◌, ℕ, ◌^◌, ◌≤◌, Bool, true, false, cond, List, [], ◌∷◌, ◌++◌, Some, None, refl, sym, ap, ◌∙◌, arith}
+use Rattle.std.specs.Prelude.{◌&&◌, nat_le}
 use Rattle.std.proofs.lemmas.Bool.Decides.{nat_tests}
 use Rattle.std.proofs.lemmas.List.{map-append}
-use Rattle.sketch_base.specs.declared.error.ErrorKind.{ErrorKind}
 use Rattle.sketch_base.specs.declared.error.ErrorKind.TheVariants.{InvalidArgument}
 use Rattle.theta_core.specs.declared.TheConstants.{MAX_THETA}
-use Rattle.theta_core.specs.CompactState.{Compact, IsAnswer}
-use Rattle.theta_core.specs.Cut.{Retained}
 use Rattle.theta_core.specs.Hash.{hash_key}
 use Rattle.theta_core.specs.Leaf.{leaf, is_updated, hash_step_of, added, kmin}
-use Rattle.theta_core.specs.Refusal.{Refuses}
 use Rattle.theta_core.specs.Sketch.{NonEmpty}
 use Rattle.theta_core.specs.Table.{table_refusal}
 use Rattle.theta_core.proofs.Leaf.{trimmed, hash_keeps}
-use Rattle.theta_core.proofs.Lends.{answer-ordered}
 use Rattle.sketchtool.specs.declared.plan.Plan.{Plan}
 use Rattle.sketchtool.specs.declared.plan.Plan.TheVariants as plan
 use Rattle.sketchtool.specs.declared.plan.Step.{Step}
@@ -22,36 +17,28 @@ use Rattle.sketchtool.specs.declared.plan.Step.TheVariants as step
 use Rattle.sketchtool.specs.Value.{leaf_step_of, leaf_steps, value_of, plan_refusal}
 use Rattle.sketchtool.proofs.Parts.{value_leaf, refused_leaf}
 
-accepted : (c : Bool) → cond c None (Some InvalidArgument) ≡ None → c ≡ true
+pub accepted : (c : Bool) → cond c None (Some InvalidArgument) ≡ None → c ≡ true
 accepted true e = refl
 accepted false e = absurd (cc)
 
-and_left : (a b : Bool) → (a && b) ≡ true → a ≡ true
+pub and_left : (a b : Bool) → (a && b) ≡ true → a ≡ true
 and_left true b e = refl
 and_left false b e = cc
 
-and_right : (a b : Bool) → (a && b) ≡ true → b ≡ true
+pub and_right : (a b : Bool) → (a && b) ≡ true → b ≡ true
 and_right true b e = e
 and_right false b e = absurd (cc)
 
-start_fits : (lg_k start seed : ℕ) → table_refusal lg_k start seed ≡ None → start ≤ MAX_THETA
+pub start_fits : (lg_k start seed : ℕ) → table_refusal lg_k start seed ≡ None → start ≤ MAX_THETA
 start_fits lg_k start seed fits =
     let all = accepted _ fits in
     let high : nat_le start MAX_THETA ≡ true = and_right _ _ (and_left _ _ all) in
     grind (arith, nat_tests)
 
--- what an answer of a k-minimum retains
-kept : (v : Retained ℕ) (hash : ℕ) (s : Compact ℕ) → IsAnswer hash_key (NonEmpty v) hash true s → record { entries = s.entries; theta = s.theta } ≡ v
-kept v hash s is = ap (λ xs. record { entries = xs; theta = s.theta }) (is.in_order (answer-ordered hash_key (NonEmpty v) hash s is)) ∙ ap (λ (t : ℕ). record { entries = v.entries; theta = t }) is.same_theta
-
-module _ {Z : Type 0} (seed hash lg_k start : ℕ) (steps : List (Step (Unit {0}))) (p : Plan (Unit {0}) Z) (is : p ≡ plan.Leaf lg_k start (steps ++ step.Trim ∷ [])) (updated : is_updated (leaf_steps steps) false ≡ true) where
-  value_trimmed : plan_refusal seed p ≡ None → value_of p ≡ NonEmpty (kmin (2 ^ lg_k) (added (leaf_steps steps)) start)
+module _ {Z : Type 0} (seed lg_k start : ℕ) (steps : List (Step (Unit {0}))) (p : Plan (Unit {0}) Z) (is : p ≡ plan.Leaf lg_k start (steps ++ step.Trim ∷ [])) (updated : is_updated (leaf_steps steps) false ≡ true) where
+  pub value_trimmed : plan_refusal seed p ≡ None → value_of p ≡ NonEmpty (kmin (2 ^ lg_k) (added (leaf_steps steps)) start)
   value_trimmed fits =
       let own : table_refusal lg_k start seed ≡ None = sym (refused_leaf Z seed lg_k start (steps ++ step.Trim ∷ [])) ∙ sym (ap (plan_refusal seed) is) ∙ fits in
       ap value_of is ∙ value_leaf Z lg_k start (steps ++ step.Trim ∷ [])
       ∙ ap (leaf hash_key hash_step_of (2 ^ lg_k) start) (map-append leaf_step_of steps (step.Trim ∷ []))
       ∙ trimmed hash_key hash_step_of hash_keeps (2 ^ lg_k) start (leaf_steps steps) (start_fits lg_k start seed own) updated
-
-  pub trimmed_answer : (r : Result (Compact ℕ) ErrorKind) → IfOk r (IsAnswer hash_key (value_of p) hash true) → Refuses r (plan_refusal seed p) true → IfOk r (λ s. record { entries = s.entries; theta = s.theta } ≡ kmin (2 ^ lg_k) (added (leaf_steps steps)) start)
-  trimmed_answer (Err e) value fits = tt
-  trimmed_answer (Ok s) value fits = kept (kmin (2 ^ lg_k) (added (leaf_steps steps)) start) hash s (rw (value_trimmed fits) at value)

@@ -7,7 +7,7 @@ use Rattle.sketchtool.specs.declared.plan.Step.{Step}
 use Rattle.sketchtool.specs.declared.line.Line.{Line}
 use Rattle.sketchtool.specs.declared.line.Line.TheVariants as line
 use Rattle.sketchtool.specs.declared.command.Command.{Command}
-use Rattle.sketchtool.specs.declared.command.Command.TheVariants.{ThetaShow}
+use Rattle.sketchtool.specs.declared.command.Command.TheVariants.{ThetaShow, ThetaImage}
 use Rattle.sketchtool.specs.declared.fault.Fault.TheVariants as fault
 use Rattle.sketchtool.specs.Text.{lines_of}
 use Rattle.sketchtool.specs.Words.{words}
@@ -16,7 +16,7 @@ use Rattle.sketchtool.specs.Reading.{Stop, syntax, limit, ◌>>=◌, theta_step,
 use Rattle.sketchtool.specs.Spelling.{theta_line, plan_lines, levels_of, command_lines, command_levels, Say, Spells}
 use Rattle.sketchtool.specs.Faults.{a_command, a_node, fault_at, numbered, fault_of}
 use Rattle.sketchtool.proofs.Loop.{Said}
-use Rattle.sketchtool.proofs.Nodes.{with_end, show_of}
+use Rattle.sketchtool.proofs.Nodes.{with_end}
 use Rattle.sketchtool.proofs.Spelled.{told, bind_ok, ok_is, Writes, theta_writes, plan_found, plan_again}
 use Rattle.sketchtool.proofs.Begins.{Knows, theta_known, so_within, plan_within, spelled_within}
 
@@ -29,8 +29,12 @@ module _ {V : Type 0} (Z : Type 0) where
   ended_wanted p [] e h = absurd cc
   ended_wanted p (None ∷ rest) e h = cc
   ended_wanted p (Some line.ThetaShow ∷ rest) e h = cc
+  ended_wanted p (Some line.ThetaImage ∷ rest) e h = cc
   ended_wanted p (Some (line.Leaf a b n) ∷ rest) e h = cc
   ended_wanted p (Some (line.Union a b n) ∷ rest) e h = cc
+  ended_wanted p (Some (line.Meet n) ∷ rest) e h = cc
+  ended_wanted p (Some line.Minus ∷ rest) e h = cc
+  ended_wanted p (Some (line.Via ordered) ∷ rest) e h = cc
   ended_wanted p (Some (line.Add hash) ∷ rest) e h = cc
   ended_wanted p (Some line.Trim ∷ rest) e h = cc
   ended_wanted p (Some line.Reset ∷ rest) e h = cc
@@ -66,19 +70,25 @@ module _ (Z : Type 0) where
   abbrev IsCommand : Said → Command Z → Type 0
   IsCommand lines c = Say lines c × (command_levels c ≤ 64)
 
-  show_found : (rest : Said) (c : Command Z) → (whole_at {Z = Z} theta_step rest >>= show_of Z) ≡ Ok c → IsCommand (Some line.ThetaShow ∷ rest) c
-  show_found rest c e =
-      let b = bind_ok (whole_at {Z = Z} theta_step rest) (show_of Z) c e in
+  -- what is asked on the first line, and the plan after it
+  asked_found : (l : Line) (c : Plan (Unit {0}) Z → Command Z) → ((p : Plan (Unit {0}) Z) → command_lines (c p) ≡ l ∷ plan_lines theta_line p) → ((p : Plan (Unit {0}) Z) → command_levels (c p) ≡ levels_of p) → (rest : Said) (d : Command Z) → (whole_at {Z = Z} theta_step rest >>= λ p. Ok (c p)) ≡ Ok d
+      → IsCommand (Some l ∷ rest) d
+  asked_found l c lines_are levels_are rest d e =
+      let b = bind_ok (whole_at {Z = Z} theta_step rest) (λ p. Ok (c p)) d e in
       let f = whole_found Z theta_step theta_line theta_writes rest b.0 b.1 in
-      subst (IsCommand (Some line.ThetaShow ∷ rest)) (ok_is (ThetaShow b.0) c b.2) (ap (λ (y : Said). Some line.ThetaShow ∷ y) f.0, f.1)
+      subst (IsCommand (Some l ∷ rest)) (ok_is (c b.0) d b.2) (ap (λ (y : Said). Some l ∷ y) f.0 ∙ ap told (sym (lines_are b.0)), rw (levels_are b.0) f.1)
 
   command_found : (lines : Said) (c : Command Z) → command_at {Z = Z} lines ≡ Ok c → IsCommand lines c
   unfolding command_at
   command_found [] c e = absurd cc
   command_found (None ∷ rest) c e = absurd cc
-  command_found (Some line.ThetaShow ∷ rest) c e = show_found rest c e
+  command_found (Some line.ThetaShow ∷ rest) c e = asked_found line.ThetaShow (λ p. ThetaShow p) (λ p. refl) (λ p. refl) rest c e
+  command_found (Some line.ThetaImage ∷ rest) c e = asked_found line.ThetaImage (λ p. ThetaImage p) (λ p. refl) (λ p. refl) rest c e
   command_found (Some (line.Leaf a b n) ∷ rest) c e = absurd cc
   command_found (Some (line.Union a b n) ∷ rest) c e = absurd cc
+  command_found (Some (line.Meet n) ∷ rest) c e = absurd cc
+  command_found (Some line.Minus ∷ rest) c e = absurd cc
+  command_found (Some (line.Via ordered) ∷ rest) c e = absurd cc
   command_found (Some (line.Add hash) ∷ rest) c e = absurd cc
   command_found (Some line.Trim ∷ rest) c e = absurd cc
   command_found (Some line.Reset ∷ rest) c e = absurd cc
@@ -86,19 +96,24 @@ module _ (Z : Type 0) where
   command_again : (c : Command Z) → command_levels c ≤ 64 → command_at {Z = Z} (told (command_lines c)) ≡ Ok c
   unfolding command_at
   command_again (ThetaShow p) le = rw (whole_again Z theta_step theta_line theta_writes p le) refl
+  command_again (ThetaImage p) le = rw (whole_again Z theta_step theta_line theta_writes p le) refl
 
   -- a fault of what follows the first line
-  so_shown : (r : Result (Plan (Unit {0}) Z) Stop) (e : Stop) → (r >>= show_of Z) ≡ Err e → r ≡ Err e
-  so_shown (Ok p) e h = absurd cc
-  so_shown (Err f) e h = cc
+  so_asked : (c : Plan (Unit {0}) Z → Command Z) (r : Result (Plan (Unit {0}) Z) Stop) (e : Stop) → (r >>= λ p. Ok (c p)) ≡ Err e → r ≡ Err e
+  so_asked c (Ok p) e h = absurd cc
+  so_asked c (Err f) e h = cc
 
   command_wanted : (lines : Said) (e : Stop) → command_at {Z = Z} lines ≡ Err e → fault_at 64 lines (a_command ∷ []) ≡ Some e
   unfolding command_at
   command_wanted [] e h = cc
   command_wanted (None ∷ rest) e h = cc
-  command_wanted (Some line.ThetaShow ∷ rest) e h = whole_wanted Z theta_step theta_line theta_writes (theta_known 64) rest e (so_shown (whole_at {Z = Z} theta_step rest) e h)
+  command_wanted (Some line.ThetaShow ∷ rest) e h = whole_wanted Z theta_step theta_line theta_writes (theta_known 64) rest e (so_asked (λ p. ThetaShow p) (whole_at {Z = Z} theta_step rest) e h)
+  command_wanted (Some line.ThetaImage ∷ rest) e h = whole_wanted Z theta_step theta_line theta_writes (theta_known 64) rest e (so_asked (λ p. ThetaImage p) (whole_at {Z = Z} theta_step rest) e h)
   command_wanted (Some (line.Leaf a b n) ∷ rest) e h = cc
   command_wanted (Some (line.Union a b n) ∷ rest) e h = cc
+  command_wanted (Some (line.Meet n) ∷ rest) e h = cc
+  command_wanted (Some line.Minus ∷ rest) e h = cc
+  command_wanted (Some (line.Via ordered) ∷ rest) e h = cc
   command_wanted (Some (line.Add hash) ∷ rest) e h = cc
   command_wanted (Some line.Trim ∷ rest) e h = cc
   command_wanted (Some line.Reset ∷ rest) e h = cc

@@ -1,17 +1,20 @@
 -- What is written for an input.
-use Rattle.std.specs.Prelude.{◌≡◌, ◌≢◌, ℕ, List, [], ◌∷◌, ◌++◌, length, codes, Bool, true, false, if◌then◌else◌, Option, Some, decimal}
+use Rattle.std.specs.Prelude.{◌≡◌, ◌≢◌, ℕ, List, [], ◌∷◌, ◌++◌, ◌+◌, ◌/◌, ◌%◌, length, codes, nat_lt, Bool, true, false, if◌then◌else◌, Option, Some, decimal}
 use Rattle.std.specs.List.{flat_map}
 use Rattle.std.specs.Io.KnownBytes.{Appends}
+use Rattle.sketch_base.specs.Seed.{seed_hash}
 use Rattle.sketch_base.specs.declared.seed.TheConstants.{DEFAULT_UPDATE_SEED}
 use Rattle.sketch_base.specs.declared.error.ErrorKind.{ErrorKind}
 use Rattle.sketch_base.specs.declared.error.ErrorKind.TheVariants.{InvalidArgument}
 use Rattle.theta_core.specs.declared.TheConstants.{MAX_THETA}
 use Rattle.theta_core.specs.Sketch.{Sketch, Empty, NonEmpty}
 use Rattle.sketchtool.specs.declared.command.Command.{Command}
-use Rattle.sketchtool.specs.declared.command.Command.TheVariants.{ThetaShow}
+use Rattle.sketchtool.specs.declared.command.Command.TheVariants.{ThetaShow, ThetaImage}
 use Rattle.sketchtool.specs.declared.fault.Fault.TheVariants.{Syntax, Limit}
 use Rattle.sketchtool.specs.Spelling.{Spells}
 use Rattle.sketchtool.specs.Faults.{fault_of}
+use Rattle.theta_sketches.specs.Image.{written}
+use Rattle.sketchtool.specs.Evaluated.{ordered_sketch}
 use Rattle.sketchtool.specs.Value.{value_of, plan_refusal}
 
 -- a text and the LF that ends its line
@@ -38,6 +41,21 @@ abbrev pub shown : Sketch ℕ → List ℕ
 shown Empty = shown_text true MAX_THETA []
 shown (NonEmpty v) = shown_text false v.theta v.entries
 
+-- a byte as two digits of lower-case hexadecimal
+abbrev pub hex_digit : ℕ → ℕ
+hex_digit n = if nat_lt n 10 then 48 + n else 87 + n
+
+abbrev pub hex_byte : ℕ → List ℕ
+hex_byte byte = hex_digit (byte / 16) ∷ hex_digit (byte % 16) ∷ []
+
+-- bytes in hexadecimal, on a line
+abbrev pub hex_line : List ℕ → List ℕ
+hex_line bytes = ended_line (flat_map hex_byte bytes)
+
+-- the text of `image` for a value: what is written of its ordered sketch
+abbrev pub imaged : Sketch ℕ → (seed_hash : ℕ) → List ℕ
+imaged v seed_hash = hex_line (written (ordered_sketch v seed_hash))
+
 -- `error`, a line's number and what it is at fault in
 abbrev pub fault_line : ℕ → List ℕ → List ℕ
 fault_line line kind = ended_line (codes "error " ++ decimal line ++ 32 ∷ kind)
@@ -48,18 +66,20 @@ argument_line = ended_line (codes "error argument")
 abbrev pub memory_line : List ℕ
 memory_line = ended_line (codes "error memory")
 
--- the value that a command asks for, under the default seed
-abbrev pub command_value : {Z : Type 0} → Command Z → Sketch ℕ
-command_value (ThetaShow plan) = value_of plan
+-- the text that answers a command, under the default seed
+abbrev pub command_text : {Z : Type 0} → Command Z → List ℕ
+command_text (ThetaShow plan) = shown (value_of plan)
+command_text (ThetaImage plan) = imaged (value_of plan) (seed_hash DEFAULT_UPDATE_SEED)
 
 -- what the evaluation of a command's plan is refused with
 abbrev pub command_refusal : {Z : Type 0} → Command Z → Option ErrorKind
 command_refusal (ThetaShow plan) = plan_refusal DEFAULT_UPDATE_SEED plan
+command_refusal (ThetaImage plan) = plan_refusal DEFAULT_UPDATE_SEED plan
 
--- the status and the text that may answer an input: what its command shows, a refused evaluation,
+-- the status and the text that may answer an input: what answers its command, a refused evaluation,
 -- the first fault of the input, or want of memory
 pub data Answers (Z : Type 0) (input : List ℕ) : ℕ → List ℕ → Type 0 where
-  shows : (command : Command Z) → Spells input command → Answers Z input 0 (shown (command_value command))
+  shows : (command : Command Z) → Spells input command → Answers Z input 0 (command_text command)
   argument : (command : Command Z) → Spells input command → command_refusal command ≡ Some InvalidArgument → Answers Z input 1 argument_line
   wrong : (line : ℕ) → fault_of input ≡ Some (Syntax line) → Answers Z input 1 (fault_line line (codes "syntax"))
   too_deep : (line : ℕ) → fault_of input ≡ Some (Limit line) → Answers Z input 1 (fault_line line (codes "limit"))

@@ -21,6 +21,7 @@ pub data Next : Type 0 where
 -- a line answers the first want, and puts its own wants in that place
 abbrev pub next : ℕ → Line → List Want → Next
 next deepest line.ThetaShow (a_command ∷ wants) = wanted (a_node 1 ∷ wants)
+next deepest line.ThetaImage (a_command ∷ wants) = wanted (a_node 1 ∷ wants)
 next deepest (line.Add hash) (a_step ∷ wants) = wanted wants
 next deepest line.Trim (a_step ∷ wants) = wanted wants
 next deepest line.Reset (a_step ∷ wants) = wanted wants
@@ -28,6 +29,12 @@ next deepest (line.Leaf lg_k start count) (a_node level ∷ wants) =
     if nat_lt deepest level then too_deep else wanted (replicate count a_step ++ wants)
 next deepest (line.Union lg_k start count) (a_node level ∷ wants) =
     if nat_lt deepest level then too_deep else wanted (replicate count (a_node (suc level)) ++ wants)
+next deepest (line.Meet count) (a_node level ∷ wants) =
+    if nat_lt deepest level then too_deep else wanted (replicate count (a_node (suc level)) ++ wants)
+next deepest line.Minus (a_node level ∷ wants) =
+    if nat_lt deepest level then too_deep else wanted (a_node (suc level) ∷ a_node (suc level) ∷ wants)
+next deepest (line.Via ordered) (a_node level ∷ wants) =
+    if nat_lt deepest level then too_deep else wanted (a_node (suc level) ∷ wants)
 next deepest l wants = wrong
 
 -- the fault that a line leads to, with so many lines after it

@@ -6,6 +6,9 @@ pub mod Spelling
 pub mod Faults
 pub mod First
 pub mod Value
+pub mod Whole
+pub mod MergePlan
+pub mod Evaluated
 pub mod Answer
 pub mod Ending
 pub mod formers

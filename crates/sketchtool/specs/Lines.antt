@@ -1,25 +1,30 @@
 -- What a line says, by its words.
-use Rattle.std.specs.Prelude.{ℕ, List, [], ◌∷◌, ◌&&◌, codes, Option, Some, None, option_and_then, if◌then◌else◌}
+use Rattle.std.specs.Prelude.{ℕ, List, [], ◌∷◌, ◌&&◌, ◌==◌, true, false, codes, Option, Some, None, option_and_then, if◌then◌else◌}
 use Rattle.std.specs.Str.{bytes_eq}
 use Rattle.sketchtool.specs.declared.line.Line.{Line}
-use Rattle.sketchtool.specs.declared.line.Line.TheVariants.{ThetaShow, Leaf, Union, Add, Trim, Reset}
+use Rattle.sketchtool.specs.declared.line.Line.TheVariants.{ThetaShow, ThetaImage, Leaf, Union, Meet, Minus, Via, Add, Trim, Reset}
 use Rattle.sketchtool.specs.Words.{number, small, start_of}
 
 infixl 10 ◌>>=◌
 abbrev pub ◌>>=◌ : {A B : Type 0} → Option A → (A → Option B) → Option B
 o >>= f = option_and_then f o
 
--- `trim` or `reset`
+-- `trim`, `reset` or `minus`
 abbrev pub said_one : List ℕ → Option Line
 said_one first =
     if bytes_eq first (codes "trim") then Some Trim else
-    if bytes_eq first (codes "reset") then Some Reset else None
+    if bytes_eq first (codes "reset") then Some Reset else
+    if bytes_eq first (codes "minus") then Some Minus else None
 
--- `theta show`, or `add` and a hash
+-- `theta` and what is asked, `via` and an order, `add` and a hash, or `meet` and a count that isn't 0
 abbrev pub said_two : List ℕ → List ℕ → Option Line
 said_two first second =
     if bytes_eq first (codes "theta") && bytes_eq second (codes "show") then Some ThetaShow else
-    if bytes_eq first (codes "add") then (number second >>= λ hash. Some (Add hash)) else None
+    if bytes_eq first (codes "theta") && bytes_eq second (codes "image") then Some ThetaImage else
+    if bytes_eq first (codes "via") && bytes_eq second (codes "ordered") then Some (Via true) else
+    if bytes_eq first (codes "via") && bytes_eq second (codes "unordered") then Some (Via false) else
+    if bytes_eq first (codes "add") then (number second >>= λ hash. Some (Add hash)) else
+    if bytes_eq first (codes "meet") then (small 4294967295 second >>= λ count. if count == 0 then None else Some (Meet count)) else None
 
 -- `leaf` or `union`, then the logarithm of the nominal entries, the starting theta and a count
 abbrev pub said_four : List ℕ → List ℕ → List ℕ → List ℕ → Option Line

@@ -74,6 +74,9 @@ many one (suc n) lines = do
 unfoldable pub plan_at : {V Z : Type 0} → (Line → Option (Step V)) → ℕ → List (Option Line) → Result (Plan V Z × List (Option Line)) Stop
 plan_at step_of zero (Some (line.Leaf lg_k start count) ∷ rest) = Err (limit (suc (length rest)))
 plan_at step_of zero (Some (line.Union lg_k start count) ∷ rest) = Err (limit (suc (length rest)))
+plan_at step_of zero (Some (line.Meet count) ∷ rest) = Err (limit (suc (length rest)))
+plan_at step_of zero (Some line.Minus ∷ rest) = Err (limit (suc (length rest)))
+plan_at step_of zero (Some (line.Via ordered) ∷ rest) = Err (limit (suc (length rest)))
 plan_at step_of zero lines = Err (syntax (length lines))
 plan_at step_of (suc levels) (Some (line.Leaf lg_k start count) ∷ rest) = do
   steps ← many (step_at step_of) count rest
@@ -81,6 +84,16 @@ plan_at step_of (suc levels) (Some (line.Leaf lg_k start count) ∷ rest) = do
 plan_at step_of (suc levels) (Some (line.Union lg_k start count) ∷ rest) = do
   parts ← many (plan_at step_of levels) count rest
   Ok (plan.Union lg_k start parts.0, parts.1)
+plan_at step_of (suc levels) (Some (line.Meet count) ∷ rest) = do
+  parts ← many (plan_at step_of levels) count rest
+  Ok (plan.Meet parts.0, parts.1)
+plan_at step_of (suc levels) (Some line.Minus ∷ rest) = do
+  first ← plan_at step_of levels rest
+  second ← plan_at step_of levels first.1
+  Ok (plan.Minus first.0 second.0, second.1)
+plan_at step_of (suc levels) (Some (line.Via ordered) ∷ rest) = do
+  part ← plan_at step_of levels rest
+  Ok (plan.Via ordered part.0, part.1)
 plan_at step_of (suc levels) lines = Err (syntax (length lines))
 
 -- nothing may follow
@@ -99,4 +112,7 @@ unfoldable pub command_at : {Z : Type 0} → List (Option Line) → Result (Comm
 command_at (Some line.ThetaShow ∷ rest) = do
   plan ← whole_at theta_step rest
   Ok (command.ThetaShow plan)
+command_at (Some line.ThetaImage ∷ rest) = do
+  plan ← whole_at theta_step rest
+  Ok (command.ThetaImage plan)
 command_at lines = Err (syntax (length lines))

@@ -8,7 +8,7 @@ use Rattle.sketchtool.specs.declared.plan.Step.TheVariants as step
 use Rattle.sketchtool.specs.declared.line.Line.{Line}
 use Rattle.sketchtool.specs.declared.line.Line.TheVariants as line
 use Rattle.sketchtool.specs.declared.command.Command.{Command}
-use Rattle.sketchtool.specs.declared.command.Command.TheVariants.{ThetaShow}
+use Rattle.sketchtool.specs.declared.command.Command.TheVariants.{ThetaShow, ThetaImage}
 use Rattle.sketchtool.specs.Reading.{says}
 
 -- the line of a step of a theta plan
@@ -22,10 +22,13 @@ abbrev pub joined : {X : Type 0} → List (List X) → List X
 joined [] = []
 joined (xs ∷ others) = xs ++ joined others
 
--- a node's line, and then those of its steps or of its parts
+-- a node's line, and then those of its steps, of its parts or of its operands
 abbrev pub node_lines : {V Z : Type 0} → (Step V → Line) → Plan-F V Z (List Line) → List Line
 node_lines step_line (Plan-F.Leaf lg_k start steps) = line.Leaf lg_k start (length steps) ∷ map step_line steps
 node_lines step_line (Plan-F.Union lg_k start parts) = line.Union lg_k start (length parts) ∷ joined parts
+node_lines step_line (Plan-F.Meet parts) = line.Meet (length parts) ∷ joined parts
+node_lines step_line (Plan-F.Minus first second) = line.Minus ∷ first ++ second
+node_lines step_line (Plan-F.Via ordered part) = line.Via ordered ∷ part
 
 abbrev pub plan_lines : {V Z : Type 0} → (Step V → Line) → Plan V Z → List Line
 plan_lines {V} {Z} step_line = fold-Plan V Z (List Line) (node_lines step_line)
@@ -38,6 +41,9 @@ greatest (n ∷ ns) = max n (greatest ns)
 abbrev pub node_levels : {V Z : Type 0} → Plan-F V Z ℕ → ℕ
 node_levels (Plan-F.Leaf lg_k start steps) = 1
 node_levels (Plan-F.Union lg_k start parts) = suc (greatest parts)
+node_levels (Plan-F.Meet parts) = suc (greatest parts)
+node_levels (Plan-F.Minus first second) = suc (max first second)
+node_levels (Plan-F.Via ordered part) = suc part
 
 -- how many levels a plan has
 abbrev pub levels_of : {V Z : Type 0} → Plan V Z → ℕ
@@ -46,9 +52,11 @@ levels_of {V} {Z} = fold-Plan V Z ℕ node_levels
 -- what is asked, and then the plan's lines
 abbrev pub command_lines : {Z : Type 0} → Command Z → List Line
 command_lines (ThetaShow plan) = line.ThetaShow ∷ plan_lines theta_line plan
+command_lines (ThetaImage plan) = line.ThetaImage ∷ plan_lines theta_line plan
 
 abbrev pub command_levels : {Z : Type 0} → Command Z → ℕ
 command_levels (ThetaShow plan) = levels_of plan
+command_levels (ThetaImage plan) = levels_of plan
 
 -- these lines, and no others, say a command's
 abbrev pub Say : {Z : Type 0} → List (Option Line) → Command Z → Type 0

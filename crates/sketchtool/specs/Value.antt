@@ -4,9 +4,10 @@ use Rattle.std.specs.List.{list_all}
 use Rattle.sketch_base.specs.declared.error.ErrorKind.{ErrorKind}
 use Rattle.sketch_base.specs.declared.error.ErrorKind.TheVariants.{InvalidArgument}
 use Rattle.theta_core.specs.Hash.{hash_key, first_hash}
+use Rattle.theta_core.specs.Intersection.{seed_refusal}
 use Rattle.theta_core.specs.Leaf as leaves
 use Rattle.theta_core.specs.Leaf.{LeafStep, leaf, hash_step_of}
-use Rattle.theta_core.specs.Operators.{unite}
+use Rattle.theta_core.specs.Operators.{unite, meet, minus}
 use Rattle.theta_core.specs.Sketch.{Sketch, Empty, NonEmpty}
 use Rattle.theta_core.specs.Step.{Step as Upsert}
 use Rattle.theta_core.specs.Table.{table_refusal}
@@ -26,10 +27,13 @@ leaf_step_of step.Reset = leaves.Reset
 abbrev pub leaf_steps : {V : Type 0} → List (Step V) → List (LeafStep V)
 leaf_steps steps = map leaf_step_of steps
 
--- the value of a node: of a leaf by its steps, of a union by the values of its parts
+-- the value of a node: of a leaf by its steps, of an operator by the values of its parts, and of what is written and read its own
 abbrev pub node_value : {V Z X : Type 0} → (X → ℕ) → (X → X → X) → (ℕ → V → Upsert X) → Plan-F V Z (Sketch X) → Sketch X
 node_value key merges step_of (Plan-F.Leaf lg_k start steps) = leaf key step_of (2 ^ lg_k) start (leaf_steps steps)
 node_value key merges step_of (Plan-F.Union lg_k start parts) = unite key merges (2 ^ lg_k) start parts
+node_value key merges step_of (Plan-F.Meet parts) = meet key merges parts
+node_value key merges step_of (Plan-F.Minus first second) = minus key key first second
+node_value key merges step_of (Plan-F.Via ordered part) = part
 
 -- the value of a theta plan
 abbrev pub value_of : {Z : Type 0} → Plan (Unit {0}) Z → Sketch ℕ
@@ -39,10 +43,17 @@ value_of {Z} = fold-Plan (Unit {0}) Z (Sketch ℕ) (node_value hash_key first_ha
 abbrev pub may_be_built : (lg_k start seed : ℕ) → Bool
 may_be_built lg_k start seed = is_none (table_refusal lg_k start seed)
 
+-- whether an operator of no settings may be built
+abbrev pub may_have_seed : (seed : ℕ) → Bool
+may_have_seed seed = is_none (seed_refusal seed)
+
 -- whether every node of a plan may be built with its settings under a seed
 abbrev pub node_fits : {V Z : Type 0} → (seed : ℕ) → Plan-F V Z Bool → Bool
 node_fits seed (Plan-F.Leaf lg_k start steps) = may_be_built lg_k start seed
 node_fits seed (Plan-F.Union lg_k start parts) = may_be_built lg_k start seed && list_all (λ fits. fits) parts
+node_fits seed (Plan-F.Meet parts) = may_have_seed seed && list_all (λ fits. fits) parts
+node_fits seed (Plan-F.Minus first second) = may_have_seed seed && (first && second)
+node_fits seed (Plan-F.Via ordered part) = part
 
 abbrev pub fits : {V Z : Type 0} → (seed : ℕ) → Plan V Z → Bool
 fits {V} {Z} seed = fold-Plan V Z Bool (node_fits seed)

@@ -1,14 +1,15 @@
 //! The text that answers an input.
 ghost use Rattle.std.specs.Prelude.{◌≡◌, ◌++◌, OnOk, IfOk, string_bytes};
-ghost use Rattle.sketchtool.specs.Answer.{Answers, AnswersCommand, line_of, shown_head, shown_text, fault_line};
-ghost use Rattle.sketchtool.specs.declared.command.Command.TheVariants.{ThetaShow};
+ghost use Rattle.sketch_base.specs.declared.error.ErrorKind.TheVariants.{InvalidArgument};
+ghost use Rattle.sketchtool.specs.Answer.{Answers, AnswersCommand, line_of, shown_head, shown_text, hex_byte, hex_line, fault_line, argument_line};
+ghost use Rattle.sketchtool.specs.declared.command.Command.TheVariants.{ThetaShow, ThetaImage};
 
 use crate::command::Command;
 use crate::evaluate::evaluate_theta;
 use crate::fault::Fault;
 use crate::plan::Plan;
 use crate::reading::read_plan;
-use sketch_base::{DEFAULT_UPDATE_SEED, ErrorKind};
+use sketch_base::{DEFAULT_UPDATE_SEED, Error, ErrorKind};
 use std::alloc::{AllocError, Allocator};
 use theta_sketches::CompactThetaSketch;
 
@@ -63,6 +64,22 @@ fn fault_text<A: Allocator>(alloc: A, line: u64, kind: &str) -> Result<String<A>
     Ok(text)
 }
 
+/// The status and the text that answer a plan whose evaluation was refused.
+fn refused_text<A: Allocator + Clone>(
+    alloc: &A,
+    refused: Error,
+) -> Result<(u8, String<A>), AllocError>
+    ensures { IfOk result (λ x. (refused ≡ InvalidArgument) × (x.0 ≡ 1) × (string_bytes x.1 ≡ argument_line)) }
+{
+    match refused.kind() {
+        ErrorKind::InvalidArgument => {
+            let text = String::from_str(alloc.clone()?, "error argument\n")?;
+            Ok((1, text))
+        }
+        _ => Err(AllocError),
+    }
+}
+
 /// The status and the text that answer `theta show` with this plan.
 fn theta_show<A: Allocator + Clone>(
     alloc: &A,
@@ -75,13 +92,45 @@ fn theta_show<A: Allocator + Clone>(
             let text = show(alloc.clone()?, &sketch)?;
             Ok((0, text))
         }
-        Err(refused) => match refused.kind() {
-            ErrorKind::InvalidArgument => {
-                let text = String::from_str(alloc.clone()?, "error argument\n")?;
-                Ok((1, text))
-            }
-            _ => Err(AllocError),
-        },
+        Err(refused) => refused_text(alloc, refused),
+    }
+}
+
+/// Puts a byte as two digits of lower-case hexadecimal.
+fn put_byte<A: Allocator>(text: &mut String<A>, byte: u8) -> Result<(), AllocError>
+    ensures { OnOk result (string_bytes text.new ≡ string_bytes text.old ++ hex_byte byte) }
+{
+    write!(text, "{byte:02x}")
+}
+
+/// The line of an image.
+fn image_text<A: Allocator>(alloc: A, image: &[u8]) -> Result<String<A>, AllocError>
+    ensures { IfOk result (λ text. string_bytes text ≡ hex_line image.now) }
+{
+    let mut text = String::new(alloc);
+    for byte in image {
+        put_byte(&mut text, *byte)?;
+    }
+    text.push('\n')?;
+    Ok(text)
+}
+
+/// The status and the text that answer `theta image` with this plan.
+fn theta_image<A: Allocator + Clone>(
+    alloc: &A,
+    plan: &Plan<(), A>,
+) -> Result<(u8, String<A>), AllocError>
+    ensures { IfOk result (λ x. AnswersCommand (ThetaImage plan.now) x.0 (string_bytes x.1)) }
+{
+    match evaluate_theta(alloc.clone()?, plan, DEFAULT_UPDATE_SEED) {
+        Ok(sketch) => {
+            let Ok(image) = sketch.serialize() else {
+                return Err(AllocError);
+            };
+            let text = image_text(alloc.clone()?, image.as_slice())?;
+            Ok((0, text))
+        }
+        Err(refused) => refused_text(alloc, refused),
     }
 }
 
@@ -94,6 +143,7 @@ fn command_answer<A: Allocator + Clone>(
 {
     match command {
         Command::ThetaShow(plan) => theta_show(alloc, plan),
+        Command::ThetaImage(plan) => theta_image(alloc, plan),
     }
 }
 

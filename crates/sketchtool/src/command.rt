@@ -8,4 +8,6 @@ use std::alloc::{Allocator, Global};
 pub enum Command<A: Allocator = Global> {
     /// The emptiness, theta and hashes of a plan of theta sketches.
     ThetaShow(Plan<(), A>),
+    /// The ordered image of a plan of theta sketches.
+    ThetaImage(Plan<(), A>),
 }

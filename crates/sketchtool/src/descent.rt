@@ -1,14 +1,15 @@
 //! Reading a plan, node by node.
-ghost use Rattle.std.specs.Prelude.{◌≡◌, ◌∷◌, Some, None, MatchOption};
+ghost use Rattle.std.specs.Prelude.{◌≡◌, ◌∷◌, Some, None, MatchOption, IfOk};
 ghost use Rattle.sketchtool.specs.Reading.{says, first_of, Gives, step_at, many, plan_at};
 
+use crate::boxed::Boxed;
 use crate::fault::ReadError;
 use crate::items::Items;
 use crate::line::{Line, line_of};
 use crate::plan::{Plan, Step};
 use crate::step_value::StepValue;
 use crate::text::next_line;
-use std::alloc::Allocator;
+use std::alloc::{AllocError, Allocator};
 
 /// What the first line says, and the text after it, if there is a line that says anything.
 pub fn next(text: &[u8]) -> Option<(Line, &[u8])>
@@ -48,6 +49,17 @@ fn steps<'a, V: StepValue, A: Allocator + Clone>(
         rest = after;
     }
     Ok((steps, rest))
+}
+
+/// A plan in memory of its own.
+fn boxed<V: StepValue, A: Allocator + Clone>(
+    alloc: &A,
+    plan: Plan<V, A>,
+) -> Result<Boxed<Plan<V, A>, A>, AllocError>
+    ensures { IfOk result (λ b. b ≡ plan) }
+{
+    let held = Box::new(alloc.clone()?, plan)?;
+    Ok(Boxed::from_box(held))
 }
 
 /// So many plans of at most so many levels, and the text after them.
@@ -98,6 +110,32 @@ pub fn plan<'a, V: StepValue, A: Allocator + Clone>(
             let (parts, rest) = parts::<V, A>(alloc, levels - 1, count, rest)?;
             let parts = Items::from_vec(parts);
             Ok((Plan::Union { lg_k, start, parts }, rest))
+        }
+        Line::Meet { count } => {
+            if levels == 0 {
+                return Err(ReadError::Limit(text));
+            }
+            let (met, rest) = parts::<V, A>(alloc, levels - 1, count, rest)?;
+            let parts = Items::from_vec(met);
+            Ok((Plan::Meet { parts }, rest))
+        }
+        Line::Minus => {
+            if levels == 0 {
+                return Err(ReadError::Limit(text));
+            }
+            let (a, between) = plan::<V, A>(alloc, levels - 1, rest)?;
+            let (b, after) = plan::<V, A>(alloc, levels - 1, between)?;
+            let first = boxed(alloc, a)?;
+            let second = boxed(alloc, b)?;
+            Ok((Plan::Minus(first, second), after))
+        }
+        Line::Via { ordered } => {
+            if levels == 0 {
+                return Err(ReadError::Limit(text));
+            }
+            let (a, after) = plan::<V, A>(alloc, levels - 1, rest)?;
+            let part = boxed(alloc, a)?;
+            Ok((Plan::Via { ordered, part }, after))
         }
         _ => Err(ReadError::Syntax(text)),
     }

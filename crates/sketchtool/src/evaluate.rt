@@ -1,16 +1,22 @@
 //! Evaluating plans, through the public calls of theta sketches alone.
-ghost use Rattle.std.specs.Prelude.{◌≡◌, ℕ, ◌^◌, ◌++◌, ◌∷◌, [], List, true, false, not, None, IfOk, OnOk};
+ghost use Rattle.std.specs.Prelude.{◌≡◌, ℕ, ◌<◌, ◌^◌, ◌++◌, ◌∷◌, [], List, Bool, true, false, not, Some, None, IfOk, OnOk};
 ghost use Rattle.sketch_base.specs.Seed.{seed_hash};
 ghost use Rattle.theta_core.specs.CompactState.{IsAnswer};
-ghost use Rattle.theta_core.specs.Hash.{hash_key};
+ghost use Rattle.theta_core.specs.Hash.{hash_key, first_hash};
+ghost use Rattle.theta_core.specs.Intersection.{meet_next};
 ghost use Rattle.theta_core.specs.Leaf.{leaf_step, leaf, updated_step, is_updated, hash_step_of, added, kmin};
 ghost use Rattle.theta_core.specs.Refusal.{Refuses};
+ghost use Rattle.theta_core.specs.Samples.{IsAllBelow};
+ghost use Rattle.theta_core.specs.Sketch.{Sketch, NonEmpty};
 ghost use Rattle.theta_core.specs.Table.{table_refusal};
 ghost use Rattle.theta_core.specs.Union.{empty_union};
 ghost use Rattle.theta_core.specs.Updatable.{sketch_value};
 ghost use Rattle.theta_core.specs.View.{shown_value};
 ghost use Rattle.theta_sketches.specs.View.{view_shows, view_lends};
+ghost use Rattle.sketchtool.specs.Evaluated.{HasValue, IsAnswerAtLeast, ordered_sketch, come_to};
+ghost use Rattle.sketchtool.specs.MergePlan.{IsMergePlan};
 ghost use Rattle.sketchtool.specs.Value.{leaf_step_of, leaf_steps, value_of, plan_refusal, Joins};
+ghost use Rattle.sketchtool.specs.Whole.{whole_of};
 ghost use Rattle.sketchtool.specs.declared.plan.Plan.TheVariants as plans;
 ghost use Rattle.sketchtool.specs.declared.plan.Step.{Step as Steps};
 ghost use Rattle.sketchtool.specs.declared.plan.Step.TheVariants.{Trim};
@@ -18,9 +24,10 @@ ghost use Rattle.sketchtool.specs.declared.plan.Step.TheVariants.{Trim};
 use crate::plan::{Plan, Step};
 use sketch_base::error::Error;
 use std::alloc::Allocator;
+use theta_sketches::laws::{one_reading, read_again};
 use theta_sketches::{
-    CompactThetaSketch, ThetaSketch, ThetaSketchBuilder, ThetaSketchView, ThetaUnion,
-    ThetaUnionBuilder,
+    CompactThetaSketch, ThetaANotB, ThetaIntersection, ThetaSketch, ThetaSketchBuilder,
+    ThetaSketchView, ThetaUnion, ThetaUnionBuilder,
 };
 
 /// The sketch of a plan under a seed, ordered. Its value is the plan's. Where the plan is a leaf that isn't empty and whose
@@ -33,44 +40,149 @@ pub fn evaluate_theta<A: Allocator + Clone, B: Allocator>(
     plan: &Plan<(), B>,
     seed: u64,
 ) -> Result<CompactThetaSketch<A>, Error>
-    ensures value { IfOk result (IsAnswer hash_key (value_of plan.now) (seed_hash seed) true) }
-    ensures trimmed { (lg_k start : ℕ) (steps : List (Steps (Unit {0}))) → plan.now ≡ plans.Leaf lg_k start (steps ++ Trim ∷ []) → is_updated (leaf_steps steps) false ≡ true → IfOk result (λ s. record { entries = s.entries; theta = s.theta } ≡ kmin (2 ^ lg_k) (added (leaf_steps steps)) start) }
+    ensures value { IfOk result (λ s. s ≡ ordered_sketch (value_of plan.now) (seed_hash seed)) }
+    ensures whole { OnOk result (IsAllBelow hash_key (value_of plan.now) (whole_of plan.now)) }
+    ensures merged { (lg_k start : ℕ) → IsMergePlan lg_k start plan.now → OnOk result (value_of plan.now ≡ NonEmpty (kmin (2 ^ lg_k) (whole_of plan.now) start)) }
+    ensures trimmed { (lg_k start : ℕ) (steps : List (Steps (Unit {0}))) → plan.now ≡ plans.Leaf lg_k start (steps ++ Trim ∷ []) → is_updated (leaf_steps steps) false ≡ true → OnOk result (value_of plan.now ≡ NonEmpty (kmin (2 ^ lg_k) (added (leaf_steps steps)) start)) }
     ensures refused { Refuses result (plan_refusal seed plan.now) true }
 {
-    evaluate(&alloc, plan, seed, true)
+    let sketch = evaluate(&alloc, plan, seed, true)?;
+    compact(sketch, true)
 }
 
-/// The sketch of a plan, ordered where that is asked. A union takes in its parts one by one: a leaf as it is, any other
-/// node compacted, in whatever order.
+/// What a node of a plan comes to: a leaf that an operator may see as it is, or a compact sketch.
+#[derive(Drop)]
+enum Evaluated<A: Allocator> {
+    Mutable(ThetaSketch<A>),
+    Compact(CompactThetaSketch<A>),
+}
+
+/// A view of what a node came to.
+fn view<A: Allocator>(evaluated: &Evaluated<A>) -> ThetaSketchView<'_, A>
+    ensures { (v : Sketch ℕ) (seed_hash : ℕ) (asked : Bool) → HasValue evaluated.now v seed_hash asked → (shown_value hash_key (view_shows result) (view_lends result) ≡ v) × ((view_shows result).seed_hash ≡ seed_hash) }
+{
+    match evaluated {
+        Evaluated::Mutable(sketch) => sketch.as_view(),
+        Evaluated::Compact(sketch) => sketch.as_view(),
+    }
+}
+
+/// What a node came to as a compact sketch, a leaf's ordered where that is asked.
+fn compact<A: Allocator + Clone>(
+    evaluated: Evaluated<A>,
+    ordered: bool,
+) -> Result<CompactThetaSketch<A>, Error>
+    ensures ok { (v : Sketch ℕ) (seed_hash : ℕ) → HasValue evaluated v seed_hash ordered → IfOk result (IsAnswerAtLeast v seed_hash ordered) }
+    ensures refused { Refuses result None true }
+{
+    match evaluated {
+        Evaluated::Mutable(sketch) => sketch.compact(ordered),
+        Evaluated::Compact(sketch) => Ok(sketch),
+    }
+}
+
+/// What a node of a plan comes to, ordered where that is asked and it is no leaf. An operator is built first; then it takes
+/// in its parts one by one, a leaf as it is, any other node compacted, in whatever order.
 fn evaluate<A: Allocator + Clone, B: Allocator>(
     alloc: &A,
     plan: &Plan<(), B>,
     seed: u64,
     ordered: bool,
-) -> Result<CompactThetaSketch<A>, Error>
-    ensures value { IfOk result (IsAnswer hash_key (value_of plan.now) (seed_hash seed) ordered) }
+) -> Result<Evaluated<A>, Error>
+    ensures value { IfOk result (λ e. HasValue e (value_of plan.now) (seed_hash seed) ordered) }
+    ensures seeded { OnOk result (0 < seed_hash seed) }
     ensures refused { Refuses result (plan_refusal seed plan.now) true }
 {
     match plan {
         Plan::Leaf { lg_k, start, steps } => {
             let sketch = updated(alloc, *lg_k, *start, steps.as_slice(), seed)?;
-            sketch.compact(ordered)
+            Ok(Evaluated::Mutable(sketch))
         }
         Plan::Union { lg_k, start, parts } => {
             let mut union = new_union(alloc, *lg_k, *start, seed)?;
             for part in parts.as_slice() {
-                match part {
-                    Plan::Leaf { lg_k, start, steps } => {
-                        let sketch = updated(alloc, *lg_k, *start, steps.as_slice(), seed)?;
-                        join(&mut union, sketch.as_view())?;
-                    }
-                    Plan::Union { .. } => {
-                        let sketch = evaluate(alloc, part, seed, false)?;
-                        join(&mut union, sketch.as_view())?;
-                    }
-                }
+                let sketch = evaluate(alloc, part, seed, false)?;
+                join(&mut union, view(&sketch))?;
             }
-            union.to_sketch(ordered)
+            let answer = union.to_sketch(ordered)?;
+            Ok(Evaluated::Compact(answer))
+        }
+        Plan::Meet { parts } => {
+            let mut intersection = ThetaIntersection::with_seed(alloc.clone()?, seed)?;
+            for part in parts.as_slice() {
+                let sketch = evaluate(alloc, part, seed, false)?;
+                meet(&mut intersection, view(&sketch))?;
+            }
+            let answer = shared(alloc, &intersection, seed, ordered)?;
+            Ok(Evaluated::Compact(answer))
+        }
+        Plan::Minus(first, second) => {
+            let difference = ThetaANotB::with_seed(seed)?;
+            let a = evaluate(alloc, first.get(), seed, false)?;
+            let b = evaluate(alloc, second.get(), seed, false)?;
+            let answer = difference.compute(alloc.clone()?, view(&a), view(&b), ordered)?;
+            Ok(Evaluated::Compact(answer))
+        }
+        Plan::Via { ordered: own, part } => {
+            let asked = *own || ordered;
+            let a = evaluate(alloc, part.get(), seed, asked)?;
+            let sketch = compact(a, asked)?;
+            let answer = through_image(alloc, &sketch, seed)?;
+            Ok(Evaluated::Compact(answer))
+        }
+    }
+}
+
+/// A sketch of this seed, written and read back.
+fn through_image<A: Allocator + Clone>(
+    alloc: &A,
+    sketch: &CompactThetaSketch<A>,
+    seed: u64,
+) -> Result<CompactThetaSketch<A>, Error>
+    requires same_seed { sketch.now.seed_hash ≡ seed_hash seed }
+    requires seeded { 0 < seed_hash seed }
+    ensures same { IfOk result (λ s. s ≡ sketch.now) }
+    ensures refused { Refuses result None true }
+{
+    one_reading();
+    read_again();
+    let _ = sketch.num_retained();
+    let image = sketch.serialize()?;
+    CompactThetaSketch::deserialize_with_seed(alloc.clone()?, image.as_slice(), seed)
+}
+
+/// Hands a sketch of the intersection's seed over to it.
+fn meet<A: Allocator + Clone>(
+    intersection: &mut ThetaIntersection<A>,
+    sketch: ThetaSketchView<'_, A>,
+) -> Result<(), Error>
+    requires same_seed { intersection.old.seed_hash ≡ (view_shows sketch).seed_hash }
+    ensures met { OnOk result (intersection.new.result ≡ Some (meet_next hash_key first_hash intersection.old.result (shown_value hash_key (view_shows sketch.entry) (view_lends sketch.entry)))) }
+    ensures made_with { OnOk result (intersection.new ≡ record intersection.old { result = intersection.new.result }) }
+    ensures refused { Refuses result None true }
+{
+    intersection.update(sketch)?;
+    Ok(())
+}
+
+/// What an intersection of this seed has come to; it is Empty if it has seen no sketch.
+fn shared<A: Allocator + Clone>(
+    alloc: &A,
+    intersection: &ThetaIntersection<A>,
+    seed: u64,
+    ordered: bool,
+) -> Result<CompactThetaSketch<A>, Error>
+    requires same_seed { intersection.now.seed_hash ≡ seed_hash seed }
+    requires seeded { 0 < seed_hash seed }
+    ensures value { IfOk result (IsAnswer hash_key (come_to intersection.now.result) (seed_hash seed) ordered) }
+    ensures refused { Refuses result None true }
+{
+    match intersection.to_sketch(ordered)? {
+        Some(sketch) => Ok(sketch),
+        None => {
+            let builder = ThetaSketchBuilder::default().seed(seed);
+            let sketch = builder.build(alloc.clone()?)?;
+            sketch.compact(ordered)
         }
     }
 }

@@ -11,10 +11,18 @@ use theta_core::MAX_THETA;
 pub enum Line {
     /// The first line, before a plan whose answer is shown.
     ThetaShow,
+    /// The first line, before a plan whose image is the answer.
+    ThetaImage,
     /// A leaf, with so many steps on the lines after it.
     Leaf { lg_k: u8, start: u64, count: u32 },
     /// A union, with so many plans on the lines after it.
     Union { lg_k: u8, start: u64, count: u32 },
+    /// An intersection, with so many plans on the lines after it, at least one.
+    Meet { count: u32 },
+    /// A difference, with two plans on the lines after it.
+    Minus,
+    /// A plan on the lines after it, to be written, ordered or not, and read back.
+    Via { ordered: bool },
     /// An update with this hash.
     Add(u64),
     Trim,
@@ -71,6 +79,9 @@ fn one_word(first: &[u8]) -> Option<Line>
     if first == b"reset".as_slice() {
         return Some(Line::Reset);
     }
+    if first == b"minus".as_slice() {
+        return Some(Line::Minus);
+    }
     None
 }
 
@@ -81,8 +92,24 @@ fn two_words(first: &[u8], second: &[u8]) -> Option<Line>
     if first == b"theta".as_slice() && second == b"show".as_slice() {
         return Some(Line::ThetaShow);
     }
+    if first == b"theta".as_slice() && second == b"image".as_slice() {
+        return Some(Line::ThetaImage);
+    }
+    if first == b"via".as_slice() && second == b"ordered".as_slice() {
+        return Some(Line::Via { ordered: true });
+    }
+    if first == b"via".as_slice() && second == b"unordered".as_slice() {
+        return Some(Line::Via { ordered: false });
+    }
     if first == b"add".as_slice() {
         return Some(Line::Add(number(second)?));
+    }
+    if first == b"meet".as_slice() {
+        let count = u32::try_from(number(second)?).ok()?;
+        if count == 0 {
+            return None;
+        }
+        return Some(Line::Meet { count });
     }
     None
 }

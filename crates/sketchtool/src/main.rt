@@ -5,6 +5,7 @@
 #![tactic(auto)]
 
 mod answer;
+mod boxed;
 mod command;
 mod descent;
 mod evaluate;

@@ -1,5 +1,6 @@
 //! Plans: expressions of sketches.
 
+use crate::boxed::Boxed;
 use crate::items::Items;
 use std::alloc::{Allocator, Global};
 
@@ -33,5 +34,18 @@ pub enum Plan<V, A: Allocator = Global> {
         /// The starting theta.
         start: u64,
         parts: Items<Plan<V, A>, A>,
+    },
+    /// The intersection of its parts, in their order.
+    Meet {
+        /// At least one: the intersection of none is empty.
+        parts: Items<Plan<V, A>, A>,
+    },
+    /// The difference: what of the first the second lacks.
+    Minus(Boxed<Plan<V, A>, A>, Boxed<Plan<V, A>, A>),
+    /// What its part comes to, written and read back.
+    Via {
+        /// Whether the image is to be ordered.
+        ordered: bool,
+        part: Boxed<Plan<V, A>, A>,
     },
 }

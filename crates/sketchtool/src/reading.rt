@@ -42,6 +42,7 @@ fn command<'a, A: Allocator + Clone>(alloc: &A, text: &'a [u8]) -> Result<Comman
     };
     match line {
         Line::ThetaShow => Ok(Command::ThetaShow(whole_plan::<(), A>(alloc, rest)?)),
+        Line::ThetaImage => Ok(Command::ThetaImage(whole_plan::<(), A>(alloc, rest)?)),
         _ => Err(ReadError::Syntax(text)),
     }
 }

@@ -11,7 +11,7 @@ use std::io::Read;
 use std::test::Fail;
 
 /// Faults, each the whole answer with status 1.
-const FAULTS: [(&str, &str); 40] = [
+const FAULTS: [(&str, &str); 53] = [
     ("", "error 1 syntax\n"),
     ("\n", "error 1 syntax\n"),
     ("theta show\r\n", "error 1 syntax\n"),
@@ -19,14 +19,36 @@ const FAULTS: [(&str, &str); 40] = [
     (" theta show\n", "error 1 syntax\n"),
     ("theta show \n", "error 1 syntax\n"),
     ("theta\n", "error 1 syntax\n"),
-    ("theta image\nleaf 5 max 0\n", "error 1 syntax\n"),
     ("tuple show\nleaf 5 max 0\n", "error 1 syntax\n"),
     ("tuple image\nleaf 5 max 0\n", "error 1 syntax\n"),
     ("theta show", "error 2 syntax\n"),
     ("theta show\n", "error 2 syntax\n"),
     ("theta show\nmeet 0\n", "error 2 syntax\n"),
-    ("theta show\nminus\n", "error 2 syntax\n"),
-    ("theta show\nvia ordered\n", "error 2 syntax\n"),
+    ("theta image\n", "error 2 syntax\n"),
+    ("theta show\nmeet 00\n", "error 2 syntax\n"),
+    ("theta show\nmeet\n", "error 2 syntax\n"),
+    ("theta show\nmeet 4294967296\n", "error 2 syntax\n"),
+    ("theta show\nminus 2\n", "error 2 syntax\n"),
+    ("theta show\nvia\n", "error 2 syntax\n"),
+    ("theta show\nvia Ordered\n", "error 2 syntax\n"),
+    ("theta show\nvia ordered 1\n", "error 2 syntax\n"),
+    ("theta show\nminus\n", "error 3 syntax\n"),
+    ("theta show\nvia ordered\n", "error 3 syntax\n"),
+    ("theta show\nmeet 4294967295\n", "error 3 syntax\n"),
+    ("theta show\nvia ordered\nadd 5\n", "error 3 syntax\n"),
+    ("theta show\nminus\nleaf 5 max 0\n", "error 4 syntax\n"),
+    (
+        "theta show\nvia ordered\nleaf 5 max 0\nleaf 5 max 0\n",
+        "error 4 syntax\n",
+    ),
+    (
+        "theta show\nmeet 1\nleaf 5 max 0\nleaf 5 max 0\n",
+        "error 4 syntax\n",
+    ),
+    (
+        "theta show\nminus\nleaf 5 max 0\nleaf 5 max 0\nleaf 5 max 0\n",
+        "error 5 syntax\n",
+    ),
     ("theta show\ntrim\n", "error 2 syntax\n"),
     ("theta show\nleaf 256 max 0\n", "error 2 syntax\n"),
     ("theta show\nleaf 5 Max 0\n", "error 2 syntax\n"),
@@ -79,7 +101,7 @@ const FAULTS: [(&str, &str); 40] = [
 ];
 
 /// Texts that spell a command.
-const SPELLED: [&str; 9] = [
+const SPELLED: [&str; 10] = [
     "theta show\nleaf 5 max 2\nadd 7\nadd 3\n",
     "theta show\nleaf 5 max 0",
     "theta show\nleaf 0 0 0\n",
@@ -89,6 +111,7 @@ const SPELLED: [&str; 9] = [
     "theta show\nleaf 5 max 3\nadd 0\ntrim\nreset\n",
     "theta show\nunion 5 max 0\n",
     "theta show\nunion 5 1000 2\nleaf 5 max 1\nadd 2000\nunion 6 max 1\nleaf 7 max 0\n",
+    "theta image\nvia unordered\nmeet 1\nminus\nleaf 5 max 0\nvia ordered\nleaf 5 max 0\n",
 ];
 
 /// The status of a run, and what it wrote.
@@ -121,15 +144,29 @@ fn reads_commands(rt: HostRuntime) {
 #[test]
 fn limits_levels(rt: HostRuntime) -> Result<(), Fail> {
     let cases = [
-        (64, "leaf 5 max 0\n", "error 66 limit\n"),
-        (64, "union 5 max 1\ntrim\n", "error 66 limit\n"),
-        (64, "meet 0\n", "error 66 syntax\n"),
-        (63, "leaf 5 max 1\nleaf 5 max 0\n", "error 66 syntax\n"),
+        (64, "union 5 max 1\n", "leaf 5 max 0\n", "error 66 limit\n"),
+        (
+            64,
+            "union 5 max 1\n",
+            "union 5 max 1\ntrim\n",
+            "error 66 limit\n",
+        ),
+        (64, "union 5 max 1\n", "meet 0\n", "error 66 syntax\n"),
+        (
+            63,
+            "union 5 max 1\n",
+            "leaf 5 max 1\nleaf 5 max 0\n",
+            "error 66 syntax\n",
+        ),
+        (64, "via ordered\n", "leaf 5 max 0\n", "error 66 limit\n"),
+        (64, "meet 1\n", "minus\n", "error 66 limit\n"),
+        (64, "minus\n", "via unordered\n", "error 66 limit\n"),
+        (64, "via unordered\n", "meet 1\n", "error 66 limit\n"),
     ];
-    for (unions, last, answer) in cases {
+    for (nodes, node, last, answer) in cases {
         let mut text = String::from_str(rt.alloc(), "theta show\n")?;
-        for _ in 0..unions {
-            text.push_str("union 5 max 1\n")?;
+        for _ in 0..nodes {
+            text.push_str(node)?;
         }
         text.push_str(last)?;
         let mut reader = text.as_bytes();
@@ -146,7 +183,7 @@ type Line = (&'static str, u64, u64, u64);
 /// Steps down by one.
 const DOWN: u64 = u64::MAX;
 
-/// Plans of leaves and unions: the lines, what is shown before the hashes, and up to which hash they go, from 1 on.
+/// Plans whose hashes are all from 1 on: the lines, what is shown before the hashes, and up to which hash they go, from 1 on.
 const SHOWN: [(&[Line], &str, u64); 19] = [
     (
         &[("leaf 5 max 60", 0, 0, 0), ("", 1, 60, 1)],
@@ -308,8 +345,82 @@ const SHOWN: [(&[Line], &str, u64); 19] = [
     ),
 ];
 
+/// Whole texts with their answers.
+const ANSWERED: [(&str, &str); 19] = [
+    (
+        "theta image\nleaf 5 max 1\nadd 5\n",
+        "01030300001acc930500000000000000\n",
+    ),
+    (
+        "theta image\nvia unordered\nleaf 5 max 2\nadd 9\nadd 7\n",
+        "02030300001acc93020000000000000007000000000000000900000000000000\n",
+    ),
+    (
+        "theta image\nleaf 5 1000 1\nadd 2000\n",
+        "03030300001acc930000000000000000e803000000000000\n",
+    ),
+    ("theta image\nunion 5 max 0\n", "01030300001e0000\n"),
+    ("theta image\nleaf 5 1000 0\n", "01030300001e0000\n"),
+    (
+        "theta image\nleaf 5 max 1\nadd 0\n",
+        "02030300001acc930000000000000000\n",
+    ),
+    (
+        "theta show\nvia unordered\nleaf 5 max 0\n",
+        "empty yes\ntheta 9223372036854775807\ncount 0\n",
+    ),
+    (
+        "theta show\nminus\nleaf 5 max 5\nadd 1\nadd 2\nadd 3\nadd 4\nadd 5\nleaf 5 4 1\nadd 2\n",
+        "empty no\ntheta 4\ncount 2\n1\n3\n",
+    ),
+    (
+        "theta show\nmeet 3\nleaf 5 max 2\nadd 1\nadd 2\nleaf 5 max 2\nadd 3\nadd 4\nleaf 5 1000 1\nadd 7\n",
+        "empty yes\ntheta 9223372036854775807\ncount 0\n",
+    ),
+    (
+        "theta show\nmeet 3\nleaf 5 1000 1\nadd 7\nleaf 5 max 2\nadd 1\nadd 2\nleaf 5 max 2\nadd 3\nadd 4\n",
+        "empty no\ntheta 1000\ncount 0\n",
+    ),
+    (
+        "theta show\nmeet 1\nleaf 5 1000 2\nadd 9\nadd 7\n",
+        "empty no\ntheta 1000\ncount 2\n7\n9\n",
+    ),
+    (
+        "theta show\nmeet 2\nleaf 5 max 3\nadd 9\nadd 7\nadd 8\nvia ordered\nleaf 5 max 3\nadd 7\nadd 9\nadd 6\n",
+        "empty no\ntheta 9223372036854775807\ncount 2\n7\n9\n",
+    ),
+    (
+        "theta show\nmeet 2\nleaf 5 max 0\nleaf 5 max 1\nadd 1\n",
+        "empty yes\ntheta 9223372036854775807\ncount 0\n",
+    ),
+    (
+        "theta show\nmeet 2\nleaf 5 max 1\nadd 0\nleaf 5 max 1\nadd 1\n",
+        "empty no\ntheta 9223372036854775807\ncount 0\n",
+    ),
+    (
+        "theta show\nminus\nleaf 5 max 1\nadd 1\nleaf 5 max 1\nadd 1\n",
+        "empty yes\ntheta 9223372036854775807\ncount 0\n",
+    ),
+    (
+        "theta show\nminus\nleaf 5 max 2\nadd 2\nadd 1\nleaf 5 max 0\n",
+        "empty no\ntheta 9223372036854775807\ncount 2\n1\n2\n",
+    ),
+    (
+        "theta show\nminus\nleaf 5 max 0\nleaf 5 max 1\nadd 1\n",
+        "empty yes\ntheta 9223372036854775807\ncount 0\n",
+    ),
+    (
+        "theta show\nminus\nunion 5 max 2\nleaf 5 max 2\nadd 1\nadd 2\nleaf 5 max 1\nadd 3\nvia unordered\nleaf 5 max 1\nadd 2\n",
+        "empty no\ntheta 9223372036854775807\ncount 2\n1\n3\n",
+    ),
+    (
+        "theta image\nminus\nvia ordered\nleaf 5 max 3\nadd 3\nadd 2\nadd 1\nvia ordered\nleaf 5 max 1\nadd 2\n",
+        "02030300001acc93020000000000000001000000000000000300000000000000\n",
+    ),
+];
+
 /// Plans that no sketch may be built with.
-const ARGUMENTS: [&str; 8] = [
+const ARGUMENTS: [&str; 11] = [
     "leaf 4 max 0\n",
     "leaf 27 max 0\n",
     "leaf 255 max 0\n",
@@ -318,6 +429,9 @@ const ARGUMENTS: [&str; 8] = [
     "union 4 max 0\n",
     "union 5 0 0\n",
     "union 5 max 2\nleaf 5 max 0\nleaf 27 max 0\n",
+    "meet 2\nleaf 5 max 0\nleaf 27 max 0\n",
+    "minus\nleaf 5 max 0\nleaf 27 max 0\n",
+    "via ordered\nleaf 27 max 0\n",
 ];
 
 fn text_of(alloc: Global, lines: &[Line]) -> Result<String, AllocError> {
@@ -346,6 +460,103 @@ fn shows_values(rt: HostRuntime) -> Result<(), Fail> {
         let (status, written) = answer_to(rt.alloc(), &mut reader);
         assert_eq!(rt; written.as_slice(), wanted.as_bytes(), "at {text:?}");
         assert_eq!(rt; status, 0, "at {text:?}");
+    }
+    Ok(())
+}
+
+#[test]
+fn answers_texts(rt: HostRuntime) {
+    for (text, answer) in ANSWERED {
+        let mut reader = text.as_bytes();
+        let (status, written) = answer_to(rt.alloc(), &mut reader);
+        assert_eq!(rt; written.as_slice(), answer.as_bytes(), "at {text:?}");
+        assert_eq!(rt; status, 0, "at {text:?}");
+    }
+}
+
+/// Plans of one list of updates, split over three leaves: the nodes that join the leaves, and the order of these.
+const MERGES: [(&[&str], [u64; 3]); 8] = [
+    (&["union 5 max 3", "", "", ""], [1, 2, 3]),
+    (&["union 5 max 3", "", "", ""], [3, 1, 2]),
+    (
+        &["union 5 max 3", "", "via unordered", "", "via ordered", ""],
+        [2, 3, 1],
+    ),
+    (
+        &[
+            "via unordered",
+            "union 5 max 2",
+            "union 6 max 2",
+            "",
+            "",
+            "",
+        ],
+        [1, 2, 3],
+    ),
+    (&["union 5 max 2", "", "union 6 max 2", "", ""], [3, 2, 1]),
+    (
+        &[
+            "union 5 max 2",
+            "via unordered",
+            "union 6 max 2",
+            "",
+            "",
+            "",
+        ],
+        [2, 1, 3],
+    ),
+    (
+        &["union 5 max 2", "", "via ordered", "union 6 max 2", "", ""],
+        [1, 3, 2],
+    ),
+    (
+        &[
+            "union 5 max 2",
+            "union 6 max 1",
+            "",
+            "union 7 max 2",
+            "",
+            "",
+        ],
+        [3, 1, 2],
+    ),
+];
+
+/// The hashes from 1 to 300 of one remainder modulo 3, in a leaf of a size of its own.
+fn put_leaf(text: &mut String, part: u64) -> Result<(), AllocError> {
+    let lg_k = part + 4;
+    writeln!(text, "leaf {lg_k} max 100")?;
+    for step in 0..100u64 {
+        let hash = part + 3 * step;
+        writeln!(text, "add {hash}")?;
+    }
+    Ok(())
+}
+
+#[test]
+fn merges_in_any_order(rt: HostRuntime) -> Result<(), Fail> {
+    let mut wanted = String::from_str(
+        rt.alloc(),
+        "03030300001acc9320000000000000002100000000000000",
+    )?;
+    for hash in 1..=32u8 {
+        write!(wanted, "{hash:02x}00000000000000")?;
+    }
+    wanted.push('\n')?;
+    for (nodes, leaves) in MERGES {
+        let mut text = String::from_str(rt.alloc(), "theta image\n")?;
+        let mut next = leaves.iter();
+        for node in nodes {
+            if node.is_empty() {
+                put_leaf(&mut text, *next.next().ok_or("too few")?)?;
+            } else {
+                writeln!(text, "{node}")?;
+            }
+        }
+        let mut reader = text.as_bytes();
+        let (status, written) = answer_to(rt.alloc(), &mut reader);
+        assert_eq!(rt; written.as_slice(), wanted.as_bytes(), "at {leaves:?}");
+        assert_eq!(rt; status, 0, "at {leaves:?}");
     }
     Ok(())
 }

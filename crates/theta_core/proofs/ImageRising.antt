@@ -84,10 +84,10 @@ by_distinct theta xs b e d =
     (λ yes. record { distinct = d.0 yes; nonzero = within.0; below_theta = within.1; ascending = λ o. absurd (cc) }, λ good. d.1 good.distinct)
 
 -- a sorted copy of the hashes rises just where no two are the same
-apart : (xs : List ℕ) → AllPairs (λ x y. x ≢ y) xs → IsDistinct eqb xs
+pub apart : (xs : List ℕ) → AllPairs (λ x y. x ≢ y) xs → IsDistinct eqb xs
 apart xs pairs = IsDistinct-from_apart eqb xs (λ i j d lt in_range. ne_eqb _ _ (pairs i j d lt in_range))
 
-pairs_of : (xs : List ℕ) → IsDistinct eqb xs → AllPairs (λ x y. x ≢ y) xs
+pub pairs_of : (xs : List ℕ) → IsDistinct eqb xs → AllPairs (λ x y. x ≢ y) xs
 pairs_of xs different = λ i j d lt in_range same.
     let differ = apart_from_distinct eqb xs i j d different lt in_range in
     let here : eqb (get_or xs i d) (get_or xs j d) ≡ true = eq-eqb _ _ same in

@@ -51,7 +51,7 @@ module _ {X : Type 0} (key : X → ℕ) where
   pub each-lent : (P : X → Type 0) (entries lends : List X) → IsLent key entries lends → AllByRecursion P entries → AllByRecursion P lends
   each-lent P entries lends lent all = each-indexed P lends (All-permutation P entries lends lent.each_once (λ k d lt. each-get_or P entries k d lt all))
 
-  each-hash : (P : ℕ → Type 0) (xs : List X) → AllByRecursion (λ x. P (key x)) xs → AllByRecursion P (map key xs)
+  pub each-hash : (P : ℕ → Type 0) (xs : List X) → AllByRecursion (λ x. P (key x)) xs → AllByRecursion P (map key xs)
   each-hash P [] all = tt
   each-hash P (x ∷ xs) all = (all.0, each-hash P xs all.1)
 

@@ -1,5 +1,5 @@
 //! The table of retained entries.
-ghost use Rattle.std.specs.Prelude.{◌≡◌, ℕ, ◌<◌, ◌≤◌, ◌^◌, true, false, None, nat_lt, length, IfOk, IfErr, OnOk, OnErr, MatchResult};
+ghost use Rattle.std.specs.Prelude.{◌≡◌, ◌==◌, ℕ, ◌<◌, ◌≤◌, ◌^◌, not, true, false, None, nat_lt, length, IfOk, IfErr, OnOk, OnErr, MatchResult, IsTrue};
 ghost use Rattle.std.specs.List.{AllByRecursion, concat};
 ghost use Rattle.std.specs.Option.{ForSome, option_copied};
 ghost use Rattle.sketch_base.specs.Seed.{hash_of};
@@ -8,7 +8,7 @@ ghost use Rattle.theta_core.specs.Cut.{IsAscending, Retained, retained, entry_at
 ghost use Rattle.theta_core.specs.Hash.{hash_key, hash_step};
 ghost use Rattle.theta_core.specs.Places.{IsAt, IsGapFor};
 ghost use Rattle.theta_core.specs.Refusal.{Refuses};
-ghost use Rattle.theta_core.specs.Table.{MapTable, Table, IsTable, IsRetained, IsLent, empty_table, after_reset, table_refusal, rebuilt, after_upsert, creates, upsert_refusal, upsert_allocates};
+ghost use Rattle.theta_core.specs.Table.{MapTable, Table, IsTable, IsRetained, IsLent, IsSized, IsSeedHash, empty_table, set_table, after_reset, none_below, table_refusal, lg_size_for, whole_log, has_room, may_insert, rebuilt, after_upsert, creates, upsert_refusal, upsert_allocates};
 
 use crate::compact_state::CompactSketchState;
 use crate::entry::{SketchEntry, ThetaEntry};
@@ -28,6 +28,7 @@ use std::marker::Model;
 #[derive(Drop)]
 pub struct SketchHashTable<E: SketchEntry, A: Allocator = Global> {
     lg_nom_size: u8,
+    has_slots: bool,
     starting_theta: u64,
     seed: u64,
     seed_hash: u16,
@@ -41,9 +42,9 @@ impl<E: SketchEntry, A: Allocator> Model for SketchHashTable<E, A> {
 
     ghost Value = { Table E };
 
-    ghost view = { λ t. record { map = record { kept = record { entries = t.entries.items; theta = t.theta }; lg_nom = t.lg_nom_size; has_slots = true; start = t.starting_theta; seed = t.seed; seed_hash = t.seed_hash }; lends = t.entries.items } };
+    ghost view = { λ t. record { map = record { kept = record { entries = t.entries.items; theta = t.theta }; lg_nom = t.lg_nom_size; has_slots = t.has_slots; start = t.starting_theta; seed = t.seed; seed_hash = t.seed_hash }; lends = t.entries.items } };
 
-    ghost invariant = { λ t. IsTable E.key (record { kept = record { entries = t.entries.items; theta = t.theta }; lg_nom = t.lg_nom_size; has_slots = true; start = t.starting_theta; seed = t.seed; seed_hash = t.seed_hash }) };
+    ghost invariant = { λ t. IsTable E.key (record { kept = record { entries = t.entries.items; theta = t.theta }; lg_nom = t.lg_nom_size; has_slots = t.has_slots; start = t.starting_theta; seed = t.seed; seed_hash = t.seed_hash }) };
 }
 
 impl<E: SketchEntry, A: Allocator> SketchHashTable<E, A> {
@@ -70,12 +71,60 @@ impl<E: SketchEntry, A: Allocator> SketchHashTable<E, A> {
         let seed_hash = compute_seed_hash(seed, ErrorKind::InvalidArgument)?;
         Ok(SketchHashTable {
             lg_nom_size,
+            has_slots: true,
             starting_theta,
             seed,
             seed_hash,
             theta: starting_theta,
             entries: Vec::new(alloc),
         })
+    }
+
+    /// An empty table of an operator, that retains hashes below `retention_theta`, from 1 to `MAX_THETA`. It has
+    /// 2^`lg_cur_size` slots, at most 2^33, for 2^`lg_nom_size` nominal entries, half as many; or no slots and one nominal
+    /// entry where both logarithms are 0. Its starting theta is `MAX_THETA`, and `seed_hash` is the hash of `seed`, which is
+    /// not 0.
+    ///
+    /// Refused with `OutOfMemory` alone, and never without slots.
+    pub fn for_set_operation(
+        alloc: A,
+        lg_cur_size: u8,
+        lg_nom_size: u8,
+        retention_theta: u64,
+        seed: u64,
+        seed_hash: u16,
+    ) -> Result<Self, Error>
+        requires sized { IsSized lg_cur_size lg_nom_size }
+        requires size_high { lg_cur_size ≤ 33 }
+        requires theta_low { 0 < retention_theta }
+        requires theta_high { retention_theta ≤ MAX_THETA }
+        requires of_seed { IsSeedHash seed seed_hash }
+        ensures made { IfOk result (λ t. t.map ≡ set_table lg_nom_size (not (lg_cur_size == 0)) retention_theta seed seed_hash) }
+        ensures refused { Refuses result None (not (lg_cur_size == 0)) }
+    {
+        Ok(SketchHashTable {
+            lg_nom_size,
+            has_slots: lg_cur_size != 0,
+            starting_theta: MAX_THETA,
+            seed,
+            seed_hash,
+            theta: retention_theta,
+            entries: Vec::new(alloc),
+        })
+    }
+
+    /// The binary logarithm of the slots for which a rebuild comes only beyond `count` entries: `count` is at most fifteen
+    /// sixteenths of them. From 1, for no entry or one, to 65.
+    pub fn lg_size_from_count_for_rebuild(count: usize) -> u8
+        ensures { result ≡ lg_size_for count }
+    {
+        let lg = whole_log(count);
+        let filled = (FILLED_SIXTEENTHS << (lg + 1)) / 16;
+        if count as u128 > filled {
+            lg + 2
+        } else {
+            lg + 1
+        }
     }
 
     /// How many entries it retains.
@@ -91,6 +140,27 @@ impl<E: SketchEntry, A: Allocator> SketchHashTable<E, A> {
         ensures sound { IsTable E.key self.now.map }
     {
         self.theta
+    }
+
+    /// Whether there is room for an entry more: always in a table of 16 slots or more, which is rebuilt before it is full; in
+    /// one of fewer, while two of its slots are free; never without slots.
+    pub fn has_room(&self) -> bool
+        ensures { result ≡ has_room self.now.map }
+    {
+        if self.lg_nom_size >= ALWAYS_ROOM_LG_NOM {
+            return true;
+        }
+        self.has_slots && self.entries.len() < 2 * nominal_size(self.lg_nom_size) - 1
+    }
+
+    /// Sets the theta that hashes to be retained are below, from 1 to `MAX_THETA`. It is above every retained hash.
+    pub fn set_retention_theta(&mut self, retention_theta: u64)
+        requires low { 0 < retention_theta }
+        requires high { retention_theta ≤ MAX_THETA }
+        requires above { AllByRecursion (λ x. E.key x < retention_theta) self.old.map.kept.entries }
+        ensures { self.new.map ≡ record self.old.map { kept = record self.old.map.kept { theta = retention_theta } } }
+    {
+        self.theta = retention_theta;
     }
 
     /// The binary logarithm of its nominal entries.
@@ -155,12 +225,21 @@ impl<E: SketchEntry, A: Allocator> SketchHashTable<E, A> {
 }
 
 impl<E: SketchEntry + Drop, A: Allocator> SketchHashTable<E, A> {
-    /// Removes all entries, and takes the starting theta back. It takes no memory.
+    /// Removes all entries, and takes the starting theta back. It takes no memory. The table is one of a sketch, whose
+    /// nominal logarithm is at least 5.
     pub fn reset(&mut self)
+        requires of_sketch { MIN_LG_K ≤ self.old.map.lg_nom }
         ensures { self.new.map ≡ after_reset self.old.map }
     {
         self.entries.clear();
         self.theta = self.starting_theta;
+    }
+
+    /// Removes all entries, and keeps its theta. It takes no memory.
+    pub(crate) fn clear(&mut self)
+        ensures { self.new.map ≡ record self.old.map { kept = none_below self.old.map.kept.theta } }
+    {
+        self.entries.clear();
     }
 
     /// Keeps what is below a theta, which is at most its own.
@@ -182,7 +261,8 @@ impl<E: SketchEntry + Drop, A: Allocator + Clone> SketchHashTable<E, A> {
     /// Inserts a hash: the step writes the entry that has it, or else makes one. Answers whether an entry was made.
     ///
     /// A hash that is 0 or at least theta is screened: no step is called, nothing changes and the answer is false.
-    /// Refused with what the step refuses, or with `OutOfMemory`; then nothing has changed.
+    /// Any other hash is retained already, or there is room for an entry more. Refused with what the step refuses, or with
+    /// `OutOfMemory`; then nothing has changed.
     pub fn upsert_entry<S: UpsertStep<E> + Drop>(
         &mut self,
         hash: u64,
@@ -190,6 +270,7 @@ impl<E: SketchEntry + Drop, A: Allocator + Clone> SketchHashTable<E, A> {
     ) -> Result<bool, Error>
         requires keeps_hash { (x : E) → E.key x ≡ hash → E.key ((S.means step).writes x) ≡ hash }
         requires makes_hash { ForSome (S.means step).makes (λ x. E.key x ≡ hash) }
+        requires room { IsTrue (may_insert E.key hash self.old.map) }
         ensures ok { IfOk result (λ created. created ≡ creates E.key hash (S.means step) self.old.map.kept) }
         ensures after { OnOk result (self.new.map ≡ record self.old.map { kept = after_upsert E.key (2 ^ self.old.map.lg_nom) hash (S.means step) self.old.map.kept }) }
         ensures err { OnErr result (self.new.map ≡ self.old.map) }
@@ -266,8 +347,10 @@ impl<E: SketchEntry + Clone, A: Allocator + Clone> SketchHashTable<E, A> {
 pub type ThetaHashTable<A = Global> = SketchHashTable<ThetaEntry, A>;
 
 impl<A: Allocator + Clone> SketchHashTable<ThetaEntry, A> {
-    /// Inserts the hash of a value, and answers whether it is new and below theta. Refused as `try_insert_hash` is.
+    /// Inserts the hash of a value, and answers whether it is new and below theta. A hash that is is inserted only where there
+    /// is room. Refused as `try_insert_hash` is.
     pub fn try_insert<T: Hash + Drop>(&mut self, value: T) -> Result<bool, Error>
+        requires room { let h = hash_of self.old.map.seed (concat (T.hash_input value)) in IsTrue (may_insert hash_key h self.old.map) }
         ensures ok { let h = hash_of self.old.map.seed (concat (T.hash_input value)) in IfOk result (λ created. created ≡ creates hash_key h (hash_step h) self.old.map.kept) }
         ensures after { let h = hash_of self.old.map.seed (concat (T.hash_input value)) in OnOk result (self.new.map ≡ record self.old.map { kept = after_upsert hash_key (2 ^ self.old.map.lg_nom) h (hash_step h) self.old.map.kept }) }
         ensures err { OnErr result (self.new.map ≡ self.old.map) }
@@ -277,10 +360,11 @@ impl<A: Allocator + Clone> SketchHashTable<ThetaEntry, A> {
         self.try_insert_hash(hash)
     }
 
-    /// Inserts a hash, and answers whether it is new and below theta.
+    /// Inserts a hash, and answers whether it is new and below theta. One that is is inserted only where there is room.
     ///
     /// Refused with `OutOfMemory` alone, and only where the hash is new and below theta; then nothing has changed.
     pub fn try_insert_hash(&mut self, hash: u64) -> Result<bool, Error>
+        requires room { IsTrue (may_insert hash_key hash self.old.map) }
         ensures ok { IfOk result (λ created. created ≡ creates hash_key hash (hash_step hash) self.old.map.kept) }
         ensures after { OnOk result (self.new.map ≡ record self.old.map { kept = after_upsert hash_key (2 ^ self.old.map.lg_nom) hash (hash_step hash) self.old.map.kept }) }
         ensures err { OnErr result (self.new.map ≡ self.old.map) }
@@ -288,6 +372,20 @@ impl<A: Allocator + Clone> SketchHashTable<ThetaEntry, A> {
     {
         self.upsert_entry(hash, ThetaStep::new(hash))
     }
+}
+
+/// The nominal logarithm from which a table is rebuilt before its slots are full.
+const ALWAYS_ROOM_LG_NOM: u8 = 3;
+
+/// How many sixteenths of its slots a table fills before it is rebuilt.
+const FILLED_SIXTEENTHS: u128 = 15;
+
+/// The whole binary logarithm of a number, and 0 for 0.
+fn whole_log(n: usize) -> u8
+    ensures log { result ≡ whole_log n }
+    ensures small { result ≤ 63 }
+{
+    if n == 0 { 0 } else { n.ilog2() as u8 }
 }
 
 /// Where a hash stands, or would go, in entries that ascend.

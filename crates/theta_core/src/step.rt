@@ -51,3 +51,31 @@ impl UpsertStep<ThetaEntry> for ThetaStep {
         Ok(Some(ThetaEntry { hash: self.hash }))
     }
 }
+
+/// The step that puts an entry in where its hash is new.
+#[derive(Drop)]
+pub(crate) struct PutStep<X> {
+    entry: X,
+}
+
+impl<X> PutStep<X> {
+    pub(crate) fn new(entry: X) -> PutStep<X>
+        ensures { result.entry ≡ entry }
+    {
+        PutStep { entry }
+    }
+}
+
+impl<X: Drop> UpsertStep<X> for PutStep<X> {
+    ghost use Rattle.theta_core.specs.Step.{put_step};
+
+    ghost means = { λ step. put_step step.entry };
+
+    fn existing(self, _entry: &mut X) -> Result<(), Error> {
+        Ok(())
+    }
+
+    fn absent(self) -> Result<Option<X>, Error> {
+        Ok(Some(self.entry))
+    }
+}

@@ -1,56 +1,43 @@
-use Rattle.std.proofs.Common.{◌≡◌, ◌^◌, ℕ, map, None, false, inl, inr, refl, sym, ap, ◌∙◌}
+use Rattle.std.proofs.Common.{◌≡◌, ◌^◌, ℕ, map, false, inl, inr, refl, sym, ap, ◌∙◌}
+use Rattle.std.specs.Prelude.{◌||◌}
 use Rattle.std.proofs.lemmas.List.{take_all}
 use Rattle.std.proofs.lemmas.Result.{err_from_is_err_and}
 use Rattle.sketch_base.specs.Seed.{seed_hash}
 use Rattle.theta_core.specs.Hash.{hash_key, first_hash}
-use Rattle.theta_core.specs.Leaf.{leaf, hash_step_of}
-use Rattle.theta_core.specs.Operators.{unite}
+use Rattle.theta_core.specs.Operators.{unite, minus}
 use Rattle.theta_core.specs.Union.{union_value}
-use Rattle.theta_core.proofs.Lends.{answer-value, answer-seed}
+use Rattle.theta_core.specs.View.{shown_value}
+use Rattle.theta_sketches.specs.View.{view_shows, view_lends}
 use Rattle.sketchtool.specs.declared.plan.Plan.TheVariants as plan
-use Rattle.sketchtool.specs.Value.{leaf_steps, value_of, plan_refusal}
-use Rattle.sketchtool.proofs.Parts.{value_leaf, value_union, refused_leaf, refused_part, accepted_union, fit_next, value_next, made_next}
+use Rattle.sketchtool.specs.Evaluated.{come_to}
+use Rattle.sketchtool.specs.Value.{value_of, plan_refusal}
+use Rattle.sketchtool.proofs.Meetings.{met_of, come_to-met, met_next, made_met}
+use Rattle.sketchtool.proofs.Parts.{value_union, value_meet, value_minus, value_via, refused_part, refused_meet, accepted_union, accepted_meet, fit_next, value_next, made_next}
+use Rattle.sketchtool.proofs.Ways.{as_asked, or_more, asked_by_image, both_taken, no_other}
+use Rattle.sketchtool.proofs.evaluate.+evaluate.Goals.{then-own, else-own}
 use Rattle.sketchtool.proofs.evaluate.+evaluate.Goals as goal
-use Rattle.sketchtool.proofs.evaluate.+evaluate.Goals.{in-Leaf-part+in_ok-sketch-in-Leaf-part+in_ok-join-in-Leaf-part, in-Union-part+in_ok-sketch-in-Union-part+in_ok-join-in-Union-part}
 
-pub loop-part-init : goal.loop-part-init
-loop-part-init g t c = record { value = ap (union_value hash_key) c.in_ok-union-in-Union.ensures.made; made = refl; fit = refl }
+-- ---- unions
 
-pub returns-in_err-sketch-in-Leaf-part-clause-refused : goal.returns-in_err-sketch-in-Leaf-part-clause-refused
-returns-in_err-sketch-in-Leaf-part-clause-refused g t c =
-    let p = err_from_is_err_and c.from_residual-in_err-sketch-in-Leaf-part.result c.from_residual-in_err-sketch-in-Leaf-part.ensures.1 in
+pub returns-in_err-sketch-in-Union-clause-refused : goal.returns-in_err-sketch-in-Union-clause-refused
+returns-in_err-sketch-in-Union-clause-refused g t c =
+    let p = err_from_is_err_and c.from_residual-in_err-sketch-in-Union.result c.from_residual-in_err-sketch-in-Union.ensures.1 in
     let whole = c.in-Union.is ∙ ap (plan.Union c.in-Union.lg_k c.in-Union.start) (sym c.as_slice-part-items.ensures) in
-    rw (p.1, p.2) (elim c.in_err-sketch-in-Leaf-part.ensures.refused [
+    rw (p.1, p.2) (elim c.in_err-sketch-in-Union.ensures.refused [
       | inl r ↦ inl (ap (plan_refusal c.args.seed) whole ∙ refused_part g.row.B.Denot c.args.seed c.in-Union.lg_k c.in-Union.start c.as_slice-part-items.result.now c.loop-part.part-index c.part-item.result _ c.loop-part-test.true
-          (ap (plan_refusal c.args.seed) (sym c.part-item.is ∙ c.in-Leaf-part.is) ∙ refused_leaf g.row.B.Denot c.args.seed c.in-Leaf-part.lg_k c.in-Leaf-part.start c.in-Leaf-part.steps ∙ r))
+          (ap (plan_refusal c.args.seed) (sym c.part-item.is) ∙ r))
       | inr o ↦ inr o
     ])
 
 pub join-requires-clause-same_seed : goal.join-requires-clause-same_seed
 join-requires-clause-same_seed g t c =
     ap (λ u. u.seed_hash) c.loop-part.invariant.made ∙ ap (λ u. u.seed_hash) c.in_ok-union-in-Union.ensures.made
-    ∙ sym (ap (λ s. s.seed_hash) c.as_view.ensures.shows ∙ c.in_ok-sketch-in-Leaf-part.ensures.seed)
+    ∙ sym ((c.view.ensures (value_of c.part-item.result) (seed_hash c.args.seed) false c.in_ok-sketch-in-Union.ensures.value).1)
 
-pub join-requires-clause-at_work : goal.join-requires-clause-at_work
-join-requires-clause-at_work g t c = ap (λ u. u.failed) c.loop-part.invariant.made ∙ ap (λ u. u.failed) c.in_ok-union-in-Union.ensures.made
-
-pub returns-in_err-sketch-in-Union-part-clause-refused : goal.returns-in_err-sketch-in-Union-part-clause-refused
-returns-in_err-sketch-in-Union-part-clause-refused g t c =
-    let p = err_from_is_err_and c.from_residual-in_err-sketch-in-Union-part.result c.from_residual-in_err-sketch-in-Union-part.ensures.1 in
-    let whole = c.in-Union.is ∙ ap (plan.Union c.in-Union.lg_k c.in-Union.start) (sym c.as_slice-part-items.ensures) in
-    rw (p.1, p.2) (elim c.in_err-sketch-in-Union-part.ensures.refused [
-      | inl r ↦ inl (ap (plan_refusal c.args.seed) whole ∙ refused_part g.row.B.Denot c.args.seed c.in-Union.lg_k c.in-Union.start c.as_slice-part-items.result.now c.loop-part.part-index c.part-item.result _ c.loop-part-test.true
-          (ap (plan_refusal c.args.seed) (sym c.part-item.is) ∙ r))
-      | inr o ↦ inr o
-    ])
-
-pub join-requires-in-Union-part-clause-same_seed : goal.join-requires-in-Union-part-clause-same_seed
-join-requires-in-Union-part-clause-same_seed g t c =
-    ap (λ u. u.seed_hash) c.loop-part.invariant.made ∙ ap (λ u. u.seed_hash) c.in_ok-union-in-Union.ensures.made
-    ∙ sym (ap (λ s. s.seed_hash) c.as_view-in-Union-part.ensures.shows ∙ answer-seed hash_key (value_of c.part-item.result) (seed_hash c.args.seed) false c.in_ok-sketch-in-Union-part.sketch c.in_ok-sketch-in-Union-part.ensures.value)
-
-pub join-requires-in-Union-part-clause-at_work : goal.join-requires-in-Union-part-clause-at_work
-join-requires-in-Union-part-clause-at_work g t c = ap (λ u. u.failed) c.loop-part.invariant.made ∙ ap (λ u. u.failed) c.in_ok-union-in-Union.ensures.made
+pub returns-in_err-join-in-Union-clause-refused : goal.returns-in_err-join-in-Union-clause-refused
+returns-in_err-join-in-Union-clause-refused g t c =
+    let p = err_from_is_err_and c.from_residual-in_err-join-in-Union.result c.from_residual-in_err-join-in-Union.ensures.1 in
+    rw (p.1, p.2) (no_other (plan_refusal c.args.seed c.args.plan.now) _ c.in_err-join-in-Union.ensures.refused)
 
 pub loop-part-preserved : goal.loop-part-preserved
 loop-part-preserved g t c =
@@ -59,28 +46,16 @@ loop-part-preserved g t c =
     let i = c.loop-part.part-index in
     let d = c.part-item.result in
     let lt = c.loop-part-test.true in
-    elim c.match-part.branch [
-      | in-Leaf-part+in_ok-sketch-in-Leaf-part+in_ok-join-in-Leaf-part w ↦
-          let value = w.as_view.ensures.value ∙ w.in_ok-sketch-in-Leaf-part.ensures.value ∙ ap (λ ss. leaf hash_key hash_step_of (2 ^ w.in-Leaf-part.lg_k) w.in-Leaf-part.start (leaf_steps ss)) w.as_slice-in-Leaf-part.ensures
-          ∙ sym (value_leaf g.row.B.Denot w.in-Leaf-part.lg_k w.in-Leaf-part.start w.in-Leaf-part.steps) ∙ ap value_of (sym w.in-Leaf-part.is ∙ c.part-item.is) in
-          let accepted = ap (plan_refusal c.args.seed) (sym c.part-item.is ∙ w.in-Leaf-part.is) ∙ refused_leaf g.row.B.Denot c.args.seed w.in-Leaf-part.lg_k w.in-Leaf-part.start w.in-Leaf-part.steps ∙ w.in_ok-sketch-in-Leaf-part.ensures.refused in
-          rw w.union-is (record {
-            value = value_next c.in_ok-union-in-Union.union c.loop-part.union w.join.new.union parts i d lt _ was.value w.in_ok-join-in-Leaf-part.ensures.joins value w.in_ok-join-in-Leaf-part.ensures.made_with;
-            made = made_next c.in_ok-union-in-Union.union c.loop-part.union w.join.new.union parts i d lt was.made w.in_ok-join-in-Leaf-part.ensures.made_with;
-            fit = fit_next g.row.B.Denot c.args.seed parts i d lt was.fit accepted;
-          })
-      | in-Union-part+in_ok-sketch-in-Union-part+in_ok-join-in-Union-part w ↦
-          let value = w.as_view-in-Union-part.ensures.value ∙ answer-value hash_key (value_of d) (seed_hash c.args.seed) false w.in_ok-sketch-in-Union-part.sketch w.in_ok-sketch-in-Union-part.ensures.value ∙ ap value_of c.part-item.is in
-          let accepted = ap (plan_refusal c.args.seed) (sym c.part-item.is) ∙ w.in_ok-sketch-in-Union-part.ensures.refused in
-          rw w.union-is (record {
-            value = value_next c.in_ok-union-in-Union.union c.loop-part.union w.join-in-Union-part.new.union parts i d lt _ was.value w.in_ok-join-in-Union-part.ensures.joins value w.in_ok-join-in-Union-part.ensures.made_with;
-            made = made_next c.in_ok-union-in-Union.union c.loop-part.union w.join-in-Union-part.new.union parts i d lt was.made w.in_ok-join-in-Union-part.ensures.made_with;
-            fit = fit_next g.row.B.Denot c.args.seed parts i d lt was.fit accepted;
-          })
-    ]
+    let seen = c.view.ensures (value_of d) (seed_hash c.args.seed) false c.in_ok-sketch-in-Union.ensures.value in
+    let accepted = ap (plan_refusal c.args.seed) (sym c.part-item.is) ∙ c.in_ok-sketch-in-Union.ensures.refused in
+    record {
+      value = value_next c.in_ok-union-in-Union.union c.loop-part.union c.join.new.union parts i d lt _ was.value c.in_ok-join-in-Union.ensures.joins (seen.0 ∙ ap value_of c.part-item.is) c.in_ok-join-in-Union.ensures.made_with;
+      made = made_next c.in_ok-union-in-Union.union c.loop-part.union c.join.new.union parts i d lt was.made c.in_ok-join-in-Union.ensures.made_with;
+      fit = fit_next g.row.B.Denot c.args.seed parts i d lt was.fit accepted;
+    }
 
-pub returns-after-loop-part-clause-value : goal.returns-after-loop-part-clause-value
-returns-after-loop-part-clause-value g t c =
+pub returns-in_ok-answer-in-Union-clause-value : goal.returns-in_ok-answer-in-Union-clause-value
+returns-in_ok-answer-in-Union-clause-value g t c =
     let whole = c.in-Union.is ∙ ap (plan.Union c.in-Union.lg_k c.in-Union.start) (sym c.as_slice-part-items.ensures) in
     let all = take_all c.loop-part.part-index c.as_slice-part-items.result.now c.loop-part-test.false in
     let lg_is : c.loop-part.union.lg_k ≡ c.in-Union.lg_k = ap (λ u. u.lg_k) c.loop-part.invariant.made ∙ ap (λ u. u.lg_k) c.in_ok-union-in-Union.ensures.made in
@@ -92,13 +67,98 @@ returns-after-loop-part-clause-value g t c =
     ∙ ap (λ (n : ℕ). unite hash_key first_hash (2 ^ n) c.loop-part.union.start (map value_of c.as_slice-part-items.result.now)) lg_is
     ∙ ap (λ (n : ℕ). unite hash_key first_hash (2 ^ c.in-Union.lg_k) n (map value_of c.as_slice-part-items.result.now)) start_is
     ∙ sym (ap value_of whole ∙ value_union g.row.B.Denot c.in-Union.lg_k c.in-Union.start c.as_slice-part-items.result.now) in
-    rw (value, seed_is) at c.to_sketch.ensures.ok
+    as_asked (union_value hash_key c.loop-part.union) (value_of c.args.plan.now) c.loop-part.union.seed_hash (seed_hash c.args.seed) c.args.ordered c.in_ok-answer-in-Union.answer c.in_ok-answer-in-Union.ensures.ok value seed_is
 
-pub returns-after-loop-part-clause-refused : goal.returns-after-loop-part-clause-refused
-returns-after-loop-part-clause-refused g t c =
+pub returns-in_ok-answer-in-Union-clause-refused : goal.returns-in_ok-answer-in-Union-clause-refused
+returns-in_ok-answer-in-Union-clause-refused g t c =
     let whole = c.in-Union.is ∙ ap (plan.Union c.in-Union.lg_k c.in-Union.start) (sym c.as_slice-part-items.ensures) in
     let all = take_all c.loop-part.part-index c.as_slice-part-items.result.now c.loop-part-test.false in
-    let at_work : c.loop-part.union.failed ≡ false = ap (λ u. u.failed) c.loop-part.invariant.made ∙ ap (λ u. u.failed) c.in_ok-union-in-Union.ensures.made in
-    let accepted : plan_refusal c.args.seed c.args.plan.now ≡ None =
-    ap (plan_refusal c.args.seed) whole ∙ accepted_union g.row.B.Denot c.args.seed c.in-Union.lg_k c.in-Union.start c.as_slice-part-items.result.now c.in_ok-union-in-Union.ensures.refused (rw all at c.loop-part.invariant.fit) in
-    rw accepted (rw at_work at c.to_sketch.ensures.refused)
+    ap (plan_refusal c.args.seed) whole ∙ accepted_union g.row.B.Denot c.args.seed c.in-Union.lg_k c.in-Union.start c.as_slice-part-items.result.now c.in_ok-union-in-Union.ensures.refused (rw all at c.loop-part.invariant.fit)
+
+-- ---- intersections
+
+pub returns-in_err-sketch-in-Meet-clause-refused : goal.returns-in_err-sketch-in-Meet-clause-refused
+returns-in_err-sketch-in-Meet-clause-refused g t c =
+    let p = err_from_is_err_and c.from_residual-in_err-sketch-in-Meet.result c.from_residual-in_err-sketch-in-Meet.ensures.1 in
+    let whole = c.in-Meet.is ∙ ap plan.Meet (sym c.as_slice-part-items-in-Meet.ensures) in
+    rw (p.1, p.2) (elim c.in_err-sketch-in-Meet.ensures.refused [
+      | inl r ↦ inl (ap (plan_refusal c.args.seed) whole ∙ refused_meet g.row.B.Denot c.args.seed c.as_slice-part-items-in-Meet.result.now c.loop-part-2.part-index c.part-item-in-loop-part-2.result _ c.loop-part-2-test.true
+          (ap (plan_refusal c.args.seed) (sym c.part-item-in-loop-part-2.is) ∙ r))
+      | inr o ↦ inr o
+    ])
+
+pub meet-requires : goal.meet-requires
+meet-requires g t c = record {
+  same_seed = ap (λ u. u.seed_hash) c.loop-part-2.invariant.made ∙ ap (λ u. u.seed_hash) c.in_ok-intersection-in-Meet.ensures.made
+      ∙ sym ((c.view-in-loop-part-2.ensures (value_of c.part-item-in-loop-part-2.result) (seed_hash c.args.seed) false c.in_ok-sketch-in-Meet.ensures.value).1);
+}
+
+pub returns-in_err-meet-in-Meet-clause-refused : goal.returns-in_err-meet-in-Meet-clause-refused
+returns-in_err-meet-in-Meet-clause-refused g t c =
+    let p = err_from_is_err_and c.from_residual-in_err-meet-in-Meet.result c.from_residual-in_err-meet-in-Meet.ensures.1 in
+    rw (p.1, p.2) (no_other (plan_refusal c.args.seed c.args.plan.now) _ c.in_err-meet-in-Meet.ensures.refused)
+
+pub loop-part-2-preserved : goal.loop-part-2-preserved
+loop-part-2-preserved g t c =
+    let was = c.loop-part-2.invariant in
+    let parts = c.as_slice-part-items-in-Meet.result.now in
+    let i = c.loop-part-2.part-index in
+    let d = c.part-item-in-loop-part-2.result in
+    let lt = c.loop-part-2-test.true in
+    let seen = c.view-in-loop-part-2.ensures (value_of d) (seed_hash c.args.seed) false c.in_ok-sketch-in-Meet.ensures.value in
+    let accepted = ap (plan_refusal c.args.seed) (sym c.part-item-in-loop-part-2.is) ∙ c.in_ok-sketch-in-Meet.ensures.refused in
+    record {
+      value = met_next c.in_ok-intersection-in-Meet.intersection c.loop-part-2.intersection c.meet.new.intersection parts i d lt _ was.value c.in_ok-meet-in-Meet.ensures.met (seen.0 ∙ ap value_of c.part-item-in-loop-part-2.is);
+      made = made_met c.in_ok-intersection-in-Meet.intersection c.loop-part-2.intersection c.meet.new.intersection parts i d lt was.made c.in_ok-meet-in-Meet.ensures.made_with;
+      fit = fit_next g.row.B.Denot c.args.seed parts i d lt was.fit accepted;
+    }
+
+pub returns-in_ok-answer-in-Meet-clause-value : goal.returns-in_ok-answer-in-Meet-clause-value
+returns-in_ok-answer-in-Meet-clause-value g t c =
+    let parts = c.as_slice-part-items-in-Meet.result.now in
+    let whole = c.in-Meet.is ∙ ap plan.Meet (sym c.as_slice-part-items-in-Meet.ensures) in
+    let all = take_all c.loop-part-2.part-index parts c.loop-part-2-test.false in
+    let value : come_to c.loop-part-2.intersection.result ≡ value_of c.args.plan.now =
+    ap come_to (c.loop-part-2.invariant.value ∙ ap (λ ps. met_of (map value_of ps)) all) ∙ come_to-met (map value_of parts) ∙ sym (ap value_of whole ∙ value_meet g.row.B.Denot parts) in
+    as_asked (come_to c.loop-part-2.intersection.result) (value_of c.args.plan.now) (seed_hash c.args.seed) (seed_hash c.args.seed) c.args.ordered c.in_ok-answer-in-Meet.answer c.in_ok-answer-in-Meet.ensures.value value refl
+
+pub returns-in_ok-answer-in-Meet-clause-refused : goal.returns-in_ok-answer-in-Meet-clause-refused
+returns-in_ok-answer-in-Meet-clause-refused g t c =
+    let parts = c.as_slice-part-items-in-Meet.result.now in
+    let whole = c.in-Meet.is ∙ ap plan.Meet (sym c.as_slice-part-items-in-Meet.ensures) in
+    let all = take_all c.loop-part-2.part-index parts c.loop-part-2-test.false in
+    ap (plan_refusal c.args.seed) whole ∙ accepted_meet g.row.B.Denot c.args.seed parts c.in_ok-intersection-in-Meet.ensures.refused (rw all at c.loop-part-2.invariant.fit)
+
+-- ---- differences, and what is written and read
+
+pub returns-in_err-answer-in-Minus-clause-refused : goal.returns-in_err-answer-in-Minus-clause-refused
+returns-in_err-answer-in-Minus-clause-refused g t c =
+    let p = err_from_is_err_and c.from_residual-in_err-answer-in-Minus.result c.from_residual-in_err-answer-in-Minus.ensures.1 in
+    let made = c.in_ok-difference-in-Minus.ensures.ok in
+    let a = c.view-in-Minus.ensures (value_of c.get.result.now) (seed_hash c.args.seed) false c.in_ok-a-in-Minus.ensures.value in
+    let b = c.view-in-Minus-2.ensures (value_of c.get-in-Minus.result.now) (seed_hash c.args.seed) false c.in_ok-b-in-Minus.ensures.value in
+    let taken = both_taken c.in_ok-difference-in-Minus.difference (view_shows c.view-in-Minus.result) (view_shows c.view-in-Minus-2.result) (made ∙ sym a.1) (made ∙ sym b.1) in
+    rw (p.1, p.2) (no_other (plan_refusal c.args.seed c.args.plan.now) _ (rw taken at c.in_err-answer-in-Minus.ensures.refused))
+
+pub returns-in_ok-answer-in-Minus-clause-value : goal.returns-in_ok-answer-in-Minus-clause-value
+returns-in_ok-answer-in-Minus-clause-value g t c =
+    let a = c.view-in-Minus.ensures (value_of c.get.result.now) (seed_hash c.args.seed) false c.in_ok-a-in-Minus.ensures.value in
+    let b = c.view-in-Minus-2.ensures (value_of c.get-in-Minus.result.now) (seed_hash c.args.seed) false c.in_ok-b-in-Minus.ensures.value in
+    let va = shown_value hash_key (view_shows c.view-in-Minus.result) (view_lends c.view-in-Minus.result) in
+    let vb = shown_value hash_key (view_shows c.view-in-Minus-2.result) (view_lends c.view-in-Minus-2.result) in
+    let value : minus hash_key hash_key va vb ≡ value_of c.args.plan.now =
+    ap (λ u. minus hash_key hash_key u vb) (a.0 ∙ ap value_of c.get.ensures) ∙ ap (minus hash_key hash_key (value_of c.in-Minus.first)) (b.0 ∙ ap value_of c.get-in-Minus.ensures)
+    ∙ sym (ap value_of c.in-Minus.is ∙ value_minus g.row.B.Denot c.in-Minus.first c.in-Minus.second) in
+    or_more (minus hash_key hash_key va vb) (value_of c.args.plan.now) (view_shows c.view-in-Minus.result).seed_hash (seed_hash c.args.seed) c.args.ordered (view_shows c.view-in-Minus.result).ordered
+    c.in_ok-answer-in-Minus.answer c.in_ok-answer-in-Minus.ensures.ok value a.1
+
+pub returns-in_ok-answer-in-Via-clause-value : goal.returns-in_ok-answer-in-Via-clause-value
+returns-in_ok-answer-in-Via-clause-value g t c =
+    let asked : c.if-own.asked ≡ (c.in-Via.own || c.args.ordered) = elim c.if-own.branch [
+      | then-own w ↦ w.asked-is ∙ w.if-own.true ∙ sym (ap (λ b. b || c.args.ordered) w.if-own.true)
+      | else-own w ↦ w.asked-is ∙ sym (ap (λ b. b || c.args.ordered) w.if-own.false)
+    ] in
+    let came = c.in_ok-sketch-in-Via.ensures.ok (value_of c.get-in-Via.result.now) (seed_hash c.args.seed) c.in_ok-a-in-Via.ensures.value in
+    let value : value_of c.get-in-Via.result.now ≡ value_of c.args.plan.now = ap value_of c.get-in-Via.ensures ∙ sym (ap value_of c.in-Via.is ∙ value_via g.row.B.Denot c.in-Via.own c.in-Via.part) in
+    asked_by_image (value_of c.get-in-Via.result.now) (value_of c.args.plan.now) (seed_hash c.args.seed) c.in-Via.own c.args.ordered c.if-own.asked c.in_ok-sketch-in-Via.sketch c.in_ok-answer-in-Via.answer
+    came asked value c.in_ok-answer-in-Via.ensures.same

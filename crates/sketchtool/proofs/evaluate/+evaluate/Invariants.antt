@@ -4,6 +4,7 @@ use Rattle.theta_core.specs.Hash.{hash_key, first_hash}
 use Rattle.theta_core.specs.Operators.{unite}
 use Rattle.theta_core.specs.Union.{union_value}
 use Rattle.sketchtool.specs.Value.{value_of, fits}
+use Rattle.sketchtool.proofs.Meetings.{met_of}
 use Rattle.sketchtool.proofs.evaluate.+evaluate.Given as goal
 
 -- the union has the value of the parts so far, which all fit, and is what it was made
@@ -11,5 +12,13 @@ abbrev pub invariant-loop-part : goal.invariant-loop-part
 invariant-loop-part g l = record {
   value : union_value hash_key l.union ≡ unite hash_key first_hash (2 ^ l.union.lg_k) l.union.start (map value_of (take l.part-index l.part-items));
   made : l.union ≡ record l.initial.union { empty = l.union.empty; held = l.union.held };
+  fit : list_all (λ f. f) (map (fits l.seed) (take l.part-index l.part-items)) ≡ true;
+}
+
+-- the intersection has come to the parts so far, which all fit, and is what it was made
+abbrev pub invariant-loop-part-2 : goal.invariant-loop-part-2
+invariant-loop-part-2 g l = record {
+  value : l.intersection.result ≡ met_of (map value_of (take l.part-index l.part-items));
+  made : l.intersection ≡ record l.initial.intersection { result = l.intersection.result };
   fit : list_all (λ f. f) (map (fits l.seed) (take l.part-index l.part-items)) ≡ true;
 }

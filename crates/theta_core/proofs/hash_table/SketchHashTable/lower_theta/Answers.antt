@@ -18,6 +18,7 @@ invariant_of-self g c =
       kept = rw (c.truncate.ensures.items, ← below_parts key _ _ _ parts) (IsRetained-below key c.self.inside.entries.items c.self.inside.theta c.args.theta c.self.invariant.kept c.requires.low (rw (← c.self.view_is) at c.requires.high));
       few = λ large. rw (c.truncate.ensures.items, ← below_parts key _ _ _ parts) (omega (arith, c.self.invariant.few large, length-below key c.self.inside.entries.items c.args.theta, (parts_rank key c.self.inside.entries.items c.args.theta c.self.invariant.kept.ascending).within));
       made = c.self.invariant.made;
+      without_slots = c.self.invariant.without_slots;
     }
 
 pub returns : goal.returns

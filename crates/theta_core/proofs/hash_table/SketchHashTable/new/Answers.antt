@@ -13,4 +13,5 @@ invariant_of-result g c = rw c.new-2.ensures.items (record {
     of_seed = c.in_ok-seed_hash.ensures.ok;
     hash_low = rw c.in_ok-seed_hash.ensures.ok (omega (arith, c.in_ok-seed_hash.ensures.nonzero));
   };
+  without_slots = λ without. absurd (cc);
 })

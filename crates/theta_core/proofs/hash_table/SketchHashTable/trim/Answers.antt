@@ -13,4 +13,5 @@ invariant_of-self g c =
           let same : length c.cut_entries-self-inside.new.entries.items ≡ length (cut key k c.self.inside.entries.items c.self.inside.theta).entries = ap (λ v. length v.entries) c.cut_entries-self-inside.ensures in
           omega (arith, same, few-cut key k c.self.inside.entries.items c.self.inside.theta c.self.invariant.kept.ascending (omega (arith, large, c.nominal_size-nominal.ensures.power)), c.nominal_size-nominal.ensures.power);
       made = c.self.invariant.made;
+      without_slots = c.self.invariant.without_slots;
     }

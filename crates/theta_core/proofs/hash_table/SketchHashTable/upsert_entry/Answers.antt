@@ -52,6 +52,7 @@ invariant_of-self-in-Ok g c =
       kept = rw (← put) (IsRetained-with_entry key _ _ _ c.self.invariant.kept (omega (arith, has_key, c.if-hash-eq0.false)) (omega (arith, has_key, c.if-hash-self.false)));
       few = λ large. rw (length-set) (c.self.invariant.few large);
       made = c.self.invariant.made;
+      without_slots = c.self.invariant.without_slots;
     }
 
 pub returns-in_err-absent-in-Err-clause-refused : goal.returns-in_err-absent-in-Err-clause-refused
@@ -89,6 +90,7 @@ invariant_of-self-in-Some g c =
           let same : length c.put_entry.new.entries.items ≡ length (rebuilt key k joined c.self.inside.theta).entries = ap (λ v. length v.entries) c.in_ok-self-inside-in-Some.ensures.ok in
           omega (arith, same, few-rebuilt key k joined c.self.inside.theta (ascending-with_entry key c.self.inside.entries.items c.in-Some.entry c.self.invariant.kept.ascending) (omega (arith, large, c.nominal_size-nominal.ensures.power)), c.nominal_size-nominal.ensures.power);
       made = c.self.invariant.made;
+      without_slots = c.self.invariant.without_slots;
     }
 
 pub returns-in_ok-existing-in-Ok-clause-ok : goal.returns-in_ok-existing-in-Ok-clause-ok

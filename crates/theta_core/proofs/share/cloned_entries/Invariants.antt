@@ -1,0 +1,12 @@
+use Rattle.std.proofs.Common.{◌≡◌, ◌++◌, length}
+use Rattle.theta_core.proofs.share.cloned_entries.Given as goal
+
+-- the entries so far and those that are left are all
+abbrev pub invariant-loop-entry : goal.invariant-loop-entry
+invariant-loop-entry g l = record {
+  all : l.entries.items ++ l.entry-iterator.rest ≡ g.S.EntrySketch.listing l.fn.sketch;
+}
+
+-- the entries that are left
+abbrev pub decreases-loop-entry : goal.decreases-loop-entry
+decreases-loop-entry g l = length l.entry-iterator.rest

@@ -1,0 +1,6 @@
+use Rattle.std.proofs.Common.{false}
+use Rattle.theta_core.proofs.Bridge.{met-hashes}
+use Rattle.theta_sketches.proofs.intersection.ThetaIntersection.update.Goals as goal
+
+pub returns-clause-met : goal.returns-clause-met
+returns-clause-met g c = rw (← c.self.view_is) (met-hashes (λ x y. false) c.update.new.self.result c.self.inside.state.result _ c.in_ok-update.ensures.met)

@@ -1,0 +1,87 @@
+//! Differences of theta sketches.
+ghost use Rattle.std.specs.Prelude.{◌≡◌, ◌||◌, true, false, IfOk};
+ghost use Rattle.sketch_base.specs.Seed.{seed_hash};
+ghost use Rattle.theta_core.specs.CompactState.{IsAnswer};
+ghost use Rattle.theta_core.specs.Difference.{difference_refusal};
+ghost use Rattle.theta_core.specs.Hash.{hash_key};
+ghost use Rattle.theta_core.specs.Intersection.{seed_refusal};
+ghost use Rattle.theta_core.specs.Operators.{minus};
+ghost use Rattle.theta_core.specs.Refusal.{Refuses};
+ghost use Rattle.theta_core.specs.View.{shown_value};
+ghost use Rattle.theta_sketches.specs.View.{view_shows, view_lends};
+
+use crate::compact_sketch::CompactThetaSketch;
+use crate::view::ThetaSketchView;
+use sketch_base::{DEFAULT_UPDATE_SEED, Error, ErrorKind, compute_seed_hash};
+use std::alloc::Allocator;
+use std::marker::Model;
+use theta_core::a_not_b;
+
+/// The difference of theta sketches of one seed: the hashes of the one that the other lacks. Contracts see the seed's hash.
+#[derive(Debug, Clone, Copy)]
+pub struct ThetaANotB {
+    seed_hash: u16,
+}
+
+impl Model for ThetaANotB {
+    ghost use Rattle.std.specs.Prelude.{ℕ};
+
+    ghost Value = { ℕ };
+
+    ghost view = { λ d. d.seed_hash };
+
+    ghost inverse = { λ h. record { seed_hash = h } };
+}
+
+impl ThetaANotB {
+    /// For sketches of the default seed, 9001. It takes no memory.
+    ///
+    /// Refused as `with_seed` is.
+    pub fn default() -> Result<Self, Error>
+        ensures ok { IfOk result (λ d. d ≡ seed_hash DEFAULT_UPDATE_SEED) }
+        ensures refused { Refuses result (seed_refusal DEFAULT_UPDATE_SEED) false }
+    {
+        ThetaANotB::with_seed(DEFAULT_UPDATE_SEED)
+    }
+
+    /// For sketches of this seed. It takes no memory.
+    ///
+    /// Refused with `InvalidArgument` for a seed whose seed hash is 0.
+    pub fn with_seed(seed: u64) -> Result<Self, Error>
+        ensures ok { IfOk result (λ d. d ≡ seed_hash seed) }
+        ensures refused { Refuses result (seed_refusal seed) false }
+    {
+        let seed_hash = compute_seed_hash(seed, ErrorKind::InvalidArgument)?;
+        Ok(ThetaANotB { seed_hash })
+    }
+
+    /// The hash of the seed of its sketches, of 16 bits, other than 0 for what `with_seed` made.
+    pub fn seed_hash(&self) -> u16
+        ensures { result ≡ self.now }
+    {
+        self.seed_hash
+    }
+
+    /// The hashes of `a` that `b` lacks, below the lesser theta, in memory of `alloc` or a clone of it.
+    ///
+    /// An empty `a` gives an empty sketch with its own seed hash, and then no seed is checked. An empty `b` gives the value
+    /// of `a`, and its own seed is not checked. Where neither is empty and no hash is left below the greatest theta,
+    /// `MAX_THETA`, the sketch is empty. It is ordered where that is asked or `a` is ordered, and where it is empty or has
+    /// one hash at the greatest theta.
+    ///
+    /// Refused with `InvalidArgument` where `a` isn't empty and it, or a `b` that isn't empty, is of another seed; with
+    /// `OutOfMemory` where memory is. The inputs stay as they are.
+    pub fn compute<A: Allocator + Clone, B: Allocator, C: Allocator>(
+        &self,
+        alloc: A,
+        a: ThetaSketchView<'_, B>,
+        b: ThetaSketchView<'_, C>,
+        ordered: bool,
+    ) -> Result<CompactThetaSketch<A>, Error>
+        ensures ok { IfOk result (IsAnswer hash_key (minus hash_key hash_key (shown_value hash_key (view_shows a.entry) (view_lends a.entry)) (shown_value hash_key (view_shows b.entry) (view_lends b.entry))) (view_shows a.entry).seed_hash (ordered || (view_shows a.entry).ordered)) }
+        ensures refused { Refuses result (difference_refusal self.now (view_shows a.entry) (view_shows b.entry)) true }
+    {
+        let state = a_not_b::compute(alloc, self.seed_hash, a, b, ordered)?;
+        Ok(CompactThetaSketch::of_state(state))
+    }
+}

@@ -1,0 +1,119 @@
+//! Intersections of theta sketches.
+ghost use Rattle.std.specs.Prelude.{◌≡◌, Some, None, true, false, is_some, IfOk, IfErr, OnOk, MatchOption};
+ghost use Rattle.sketch_base.specs.Seed.{seed_hash};
+ghost use Rattle.sketch_base.specs.declared.error.ErrorKind.TheVariants.{OutOfMemory};
+ghost use Rattle.sketch_base.specs.declared.seed.TheConstants.{DEFAULT_UPDATE_SEED};
+ghost use Rattle.theta_core.specs.Hash.{hash_key, first_hash};
+ghost use Rattle.theta_core.specs.Intersection.{Intersection, new_intersection, seed_refusal, intersect_refusal, meet_next, is_settled, IsAnswerIfAny};
+ghost use Rattle.theta_core.specs.Refusal.{Refuses};
+ghost use Rattle.theta_core.specs.View.{shown_value};
+ghost use Rattle.theta_sketches.specs.View.{view_shows, view_lends};
+
+use crate::compact_sketch::CompactThetaSketch;
+use crate::view::ThetaSketchView;
+use sketch_base::{DEFAULT_UPDATE_SEED, Error};
+use std::alloc::{Allocator, Global};
+use std::marker::Model;
+use theta_core::{IntersectionMergePolicy, IntersectionState, ThetaEntry};
+
+/// An intersection's policy that changes nothing: entries are hashes alone, so the one that is held stays.
+#[derive(Debug, Clone, Copy)]
+struct NoopIntersectionPolicy;
+
+impl IntersectionMergePolicy<ThetaEntry> for NoopIntersectionPolicy {
+    ghost merges = { λ _ entry incoming. first_hash entry incoming };
+
+    ghost refuses = { λ _ _ _. false };
+
+    fn merge(&self, _entry: &mut ThetaEntry, _incoming: &ThetaEntry) -> Result<(), Error> {
+        Ok(())
+    }
+
+    ghost keeps_hash = { λ p x y same. same };
+}
+
+/// An intersection of theta sketches that are handed over one by one.
+///
+/// It has no value before its first sketch. Its value has the hashes that all its sketches share, below their least theta.
+/// It is empty once a sketch is, or once sketches with hashes and at the greatest theta share none. A refused update
+/// leaves it as it was.
+#[derive(Drop)]
+pub struct ThetaIntersection<A: Allocator = Global> {
+    state: IntersectionState<ThetaEntry, NoopIntersectionPolicy, A>,
+}
+
+impl<A: Allocator> Model for ThetaIntersection<A> {
+    ghost use Rattle.std.specs.Prelude.{ℕ};
+    ghost use Rattle.theta_core.specs.Intersection.{Intersection};
+    ghost use Rattle.theta_sketches.specs.declared.intersection.NoopIntersectionPolicy.{NoopIntersectionPolicy};
+
+    ghost Value = { Intersection ℕ NoopIntersectionPolicy };
+
+    ghost view = { λ i. i.state };
+}
+
+impl<A: Allocator + Drop> ThetaIntersection<A> {
+    /// An intersection of sketches of the default seed, 9001, which has seen none. It takes no memory.
+    ///
+    /// Refused as `with_seed` is.
+    pub fn default(alloc: A) -> Result<Self, Error>
+        ensures made { IfOk result (λ i. i ≡ new_intersection (seed_hash DEFAULT_UPDATE_SEED) (record {})) }
+        ensures refused { Refuses result (seed_refusal DEFAULT_UPDATE_SEED) false }
+    {
+        ThetaIntersection::with_seed(alloc, DEFAULT_UPDATE_SEED)
+    }
+
+    /// An intersection of sketches of this seed, which has seen none. It takes no memory.
+    ///
+    /// Refused with `InvalidArgument` for a seed whose seed hash is 0.
+    pub fn with_seed(alloc: A, seed: u64) -> Result<Self, Error>
+        ensures made { IfOk result (λ i. i ≡ new_intersection (seed_hash seed) (record {})) }
+        ensures refused { Refuses result (seed_refusal seed) false }
+    {
+        let state = IntersectionState::new(alloc, seed, NoopIntersectionPolicy)?;
+        Ok(ThetaIntersection { state })
+    }
+}
+
+impl<A: Allocator> ThetaIntersection<A> {
+    /// Whether it has seen a sketch, and so has a value.
+    pub fn has_result(&self) -> bool
+        ensures { result ≡ is_some self.now.result }
+    {
+        self.state.has_result()
+    }
+
+    /// How many bytes the hashes that it holds take.
+    pub fn estimated_size(&self) -> usize {
+        self.state.estimated_size()
+    }
+}
+
+impl<A: Allocator + Clone> ThetaIntersection<A> {
+    /// Intersects with a sketch. In this order: once empty it accepts every sketch unchecked and stays empty; an empty sketch
+    /// makes it empty, and its seed is not checked; a sketch of another seed is refused; the first sketch is taken whole; of
+    /// each other one only the hashes that are held too stay, below the lesser theta.
+    ///
+    /// Refused with `InvalidArgument` for a sketch of another seed, and with `OutOfMemory`; then nothing has changed.
+    pub fn update<B: Allocator>(&mut self, sketch: ThetaSketchView<'_, B>) -> Result<(), Error>
+        ensures met { OnOk result (self.new.result ≡ Some (meet_next hash_key first_hash self.old.result (shown_value hash_key (view_shows sketch.entry) (view_lends sketch.entry)))) }
+        ensures made_with { self.new ≡ record self.old { result = self.new.result } }
+        ensures accepted { OnOk result (intersect_refusal self.old (view_shows sketch.entry) ≡ None) }
+        ensures refused { IfErr result (λ e. (self.new ≡ self.old) × MatchOption (intersect_refusal self.old (view_shows sketch.entry)) (((view_shows sketch.entry).empty ≡ false) × (is_settled self.old.result ≡ false) × (e ≡ OutOfMemory)) (λ kind. e ≡ kind)) }
+    {
+        self.state.update(sketch)?;
+        Ok(())
+    }
+
+    /// Its value, or `None` before its first sketch. Ordered where that is asked, or it is empty or has one hash at the
+    /// greatest theta. The intersection stays as it is. Refused with `OutOfMemory` alone, and only where there is a value.
+    pub fn to_sketch(&self, ordered: bool) -> Result<Option<CompactThetaSketch<A>>, Error>
+        ensures ok { IfOk result (IsAnswerIfAny hash_key self.now.result self.now.seed_hash ordered) }
+        ensures refused { Refuses result None (is_some self.now.result) }
+    {
+        match self.state.to_compact_sketch_state(ordered)? {
+            Some(state) => Ok(Some(CompactThetaSketch::of_state(state))),
+            None => Ok(None),
+        }
+    }
+}
