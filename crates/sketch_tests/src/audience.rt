@@ -1,5 +1,6 @@
 //! The audience of the README's second example.
 
+use crate::common::ascending;
 use sketch_base::Error;
 use std::alloc::Global;
 use std::test::Fail;
@@ -31,10 +32,7 @@ fn audience(alloc: Global) -> Result<CompactThetaSketch, Error> {
 #[test]
 fn audience_example(rt: HostRuntime) -> Result<(), Fail> {
     let answer = audience(rt.alloc())?;
-    let mut hashes = Vec::new(rt.alloc());
-    for entry in answer.iter() {
-        hashes.push(entry.hash())?;
-    }
+    let hashes = ascending(rt.alloc(), answer.iter())?;
     assert_eq!(rt; hashes.as_slice(), [11, 13, 14].as_slice());
     assert_eq!(rt;
         answer.estimate_fraction(),

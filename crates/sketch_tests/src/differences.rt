@@ -5,7 +5,7 @@ use sketch_base::{Error, ErrorKind};
 use std::alloc::Global;
 use std::test::Fail;
 use theta_core::MAX_THETA;
-use theta_sketches::{ThetaANotB, ThetaSketchView};
+use theta_sketches::{ThetaANotB, ThetaSketch, ThetaSketchBuilder, ThetaSketchView};
 
 /// The emptiness, theta and hashes, ascending, of what is left of one view without another's hashes, and whether it is ordered.
 fn left_of(
@@ -84,5 +84,23 @@ fn differences_want_one_seed(rt: HostRuntime) -> Result<(), Fail> {
     }
     let kind = ThetaANotB::with_seed(50541).err().map(|e| e.kind());
     assert_eq!(rt; kind, refused);
+    Ok(())
+}
+
+fn words(alloc: Global, words: &[&str]) -> Result<ThetaSketch, Error> {
+    let mut sketch = ThetaSketchBuilder::default().build(alloc)?;
+    for word in words {
+        sketch.update(*word)?;
+    }
+    Ok(sketch)
+}
+
+#[test]
+fn differences_of_words(rt: HostRuntime) -> Result<(), Fail> {
+    let a = words(rt.alloc(), &["apple", "banana"])?;
+    let b = words(rt.alloc(), &["banana"])?;
+    let difference = ThetaANotB::default()?;
+    let answer = difference.compute(rt.alloc(), a.as_view(), b.as_view(), true)?;
+    assert_eq!(rt; answer.num_retained(), 1);
     Ok(())
 }

@@ -16,6 +16,8 @@ mod intersections;
 #[cfg(test)]
 mod readings;
 #[cfg(test)]
+mod requests;
+#[cfg(test)]
 mod sketches;
 #[cfg(test)]
 mod tables;

@@ -149,6 +149,13 @@ fn counts_numbers(rt: HostRuntime) -> Result<(), Fail> {
                 estimates,
                 "at {lg_k}, {ordered}"
             );
+            let image = compact.serialize()?;
+            let again = CompactThetaSketch::deserialize(rt.alloc(), &image)?;
+            assert_eq!(rt;
+                value_of(rt.alloc(), &again)?,
+                wanted,
+                "at {lg_k}, {ordered}"
+            );
         }
     }
     Ok(())

@@ -2,6 +2,7 @@
 //! becomes of reads and writes that fail.
 
 mod fakes;
+mod requests;
 
 use crate::reading::read_plan;
 use crate::run::run;
@@ -524,10 +525,10 @@ const MERGES: [(&[&str], [u64; 3]); 8] = [
 
 /// The hashes from 1 to 300 of one remainder modulo 3, in a leaf of a size of its own.
 fn put_leaf(text: &mut String, part: u64) -> Result<(), AllocError> {
-    let lg_k = part + 4;
+    let lg_k = part.wrapping_add(4);
     writeln!(text, "leaf {lg_k} max 100")?;
     for step in 0..100u64 {
-        let hash = part + 3 * step;
+        let hash = part.wrapping_add(3 * step);
         writeln!(text, "add {hash}")?;
     }
     Ok(())

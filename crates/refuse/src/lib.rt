@@ -1,0 +1,92 @@
+//! An allocator for tests: it counts the requests for memory and refuses those that a test names.
+//!
+//! What it grants it takes from another allocator, to which it gives each block back. A test passes it by
+//! reference, so that it can ask for the count and name other requests while the memory is in use.
+#![tactic(auto)]
+
+use std::alloc::{AllocError, Allocator};
+use std::cell::Cell;
+
+/// Which requests are refused. Requests are counted from 0.
+#[derive(Clone, Copy, Debug, PartialEq, Eq)]
+pub enum Refusal {
+    /// None.
+    Never,
+    /// The request of this number alone.
+    Only(u64),
+    /// The request of this number and all after it.
+    From(u64),
+}
+
+/// How many requests were seen, and which of them are refused.
+#[derive(Drop)]
+struct Requests {
+    seen: Cell<u64>,
+    refusal: Cell<Refusal>,
+}
+
+impl Requests {
+    /// Counts a request, and answers whether it is granted.
+    fn grants(&self) -> bool {
+        let request = self.seen.get();
+        self.seen.set(request.saturating_add(1));
+        match self.refusal.get() {
+            Refusal::Never => true,
+            Refusal::Only(refused) => request != refused,
+            Refusal::From(first) => request < first,
+        }
+    }
+}
+
+/// An allocator that passes each request on to another one, but for those that are refused.
+///
+/// To make a block larger or smaller is one request, and to give one back is none.
+#[derive(Drop)]
+pub struct Refusing<B: Allocator> {
+    inner: B,
+    requests: Requests,
+}
+
+impl<B: Allocator> Refusing<B> {
+    /// An allocator over `inner` that has seen no request and refuses none.
+    pub fn new(inner: B) -> Refusing<B> {
+        Refusing {
+            inner,
+            requests: Requests {
+                seen: Cell::new(0),
+                refusal: Cell::new(Refusal::Never),
+            },
+        }
+    }
+
+    /// Counts requests from 0 again, and from here on refuses those of `refusal`.
+    pub fn restart(&self, refusal: Refusal) {
+        self.requests.seen.set(0);
+        self.requests.refusal.set(refusal);
+    }
+
+    /// The allocator that grants the requests. What is asked of it directly is neither counted nor refused.
+    pub fn inner(&self) -> &B {
+        &self.inner
+    }
+
+    /// How many requests came since the last `restart`, refused ones included.
+    pub fn seen(&self) -> u64 {
+        self.requests.seen.get()
+    }
+}
+
+unsafe impl<B: Allocator> Allocator for Refusing<B> {
+    ghost dealloc_token = { λ heap ty ptr. B.dealloc_token heap.inner ty ptr };
+
+    fn allocate(&self, size: usize, align: usize) -> Result<*mut u8, AllocError> {
+        if self.requests.grants() {
+            return self.inner.allocate(size, align);
+        }
+        Err(AllocError)
+    }
+
+    unsafe fn deallocate(&self, ptr: *mut u8, size: usize, align: usize) {
+        self.inner.deallocate(ptr, size, align);
+    }
+}
