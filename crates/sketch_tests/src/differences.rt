@@ -104,3 +104,18 @@ fn differences_of_words(rt: HostRuntime) -> Result<(), Fail> {
     assert_eq!(rt; answer.num_retained(), 1);
     Ok(())
 }
+
+#[test]
+fn differences_are_cut_at_the_lesser_theta(rt: HostRuntime) -> Result<(), Fail> {
+    let a = sketch_of(rt.alloc(), 9001, 1, 5)?;
+    let builder = ThetaSketchBuilder::default().lg_k(5);
+    let mut b = builder.starting_theta(4).build(rt.alloc())?;
+    b.update_hash(2)?;
+    for asked in [false, true] {
+        let (value, _) = left_of(rt.alloc(), a.as_view(), b.as_view(), asked)?;
+        let mut hashes = numbers(rt.alloc(), 1, 1)?;
+        hashes.push(3)?;
+        assert_eq!(rt; value, (false, 4, hashes), "asked {asked}");
+    }
+    Ok(())
+}

@@ -89,6 +89,13 @@ fn intersections_keep_what_all_share(rt: HostRuntime) -> Result<(), Fail> {
             let value = value_in(rt.alloc(), &intersection)?;
             let wanted = Some((empty, theta, numbers(rt.alloc(), first, last)?));
             assert_eq!(rt; value, wanted, "of {parts:?}");
+            let one = first == last && theta == MAX_THETA;
+            for asked in [false, true] {
+                let told = intersection
+                    .to_sketch(asked)?
+                    .map(|answer| answer.is_ordered());
+                assert_eq!(rt; told, Some(asked || empty || one), "of {parts:?}");
+            }
             assert!(rt; intersection.has_result(), "of {parts:?}");
         }
     }

@@ -1,7 +1,7 @@
 //! Tables of 32 nominal entries.
 
 use crate::common::numbers;
-use sketch_base::Error;
+use sketch_base::{Error, ErrorKind, compute_seed_hash};
 use std::alloc::{AllocError, Global};
 use std::test::Fail;
 use theta_core::{CompactSketchState, MAX_THETA, ResizeFactor, ThetaHashTable};
@@ -106,5 +106,19 @@ fn states_are_mapped(rt: HostRuntime) -> Result<(), Fail> {
     let mapped = state.map_retained_entries(|entry| entry)?;
     let wanted = ((false, 33, 37836, true), numbers(rt.alloc(), 1, 32)?);
     assert_eq!(rt; told(rt.alloc(), &mapped)?, wanted);
+    Ok(())
+}
+
+#[test]
+fn few_slots_have_little_room(rt: HostRuntime) -> Result<(), Fail> {
+    let seed_hash = compute_seed_hash(9001, ErrorKind::InvalidArgument)?;
+    let mut table = ThetaHashTable::for_set_operation(rt.alloc(), 3, 2, 1000, 9001, seed_hash)?;
+    for hash in 1..=20u64 {
+        if table.has_room() {
+            table.try_insert_hash(hash)?;
+        }
+    }
+    let wanted = (1000, numbers(rt.alloc(), 1, 7)?);
+    assert_eq!(rt; value_of(rt.alloc(), &table)?, wanted);
     Ok(())
 }

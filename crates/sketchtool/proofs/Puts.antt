@@ -14,7 +14,7 @@ use Rattle.sketchtool.specs.declared.command.Command.{Command}
 use Rattle.sketchtool.specs.declared.command.Command.TheVariants.{ThetaShow, ThetaImage}
 use Rattle.sketchtool.specs.declared.run.Ending.{Ending}
 use Rattle.sketchtool.specs.declared.run.Ending.TheVariants.{Answered, NotRead, NotWritten}
-use Rattle.sketchtool.specs.Value.{value_of}
+use Rattle.sketchtool.specs.Value.{value_of, plan_refusal}
 use Rattle.sketchtool.specs.Answer.{Answers, AnswersCommand, shows, argument, shown_text, shown, hex_line, argument_line, command_refusal}
 use Rattle.sketchtool.specs.Evaluated.{ordered_sketch}
 use Rattle.sketchtool.specs.Ending.{Puts, Ends}
@@ -25,12 +25,12 @@ shown-ordered Empty seed_hash = refl
 shown-ordered (NonEmpty v) seed_hash = refl
 
 -- the text of a plan's value answers `theta show`
-pub shows_value : {Z : Type 0} (plan : Plan (Unit {0}) Z) (h : ℕ) (sketch : Compact ℕ) (text : List ℕ) → sketch ≡ ordered_sketch (value_of plan) h → text ≡ shown_text sketch.empty sketch.theta sketch.entries → AnswersCommand (ThetaShow plan) 0 text
-shows_value plan h sketch text value is = λ input s. rw (is ∙ ap (λ c. shown_text c.empty c.theta c.entries) value ∙ shown-ordered (value_of plan) h) (shows (ThetaShow plan) s)
+pub shows_value : {Z : Type 0} (plan : Plan (Unit {0}) Z) (h : ℕ) (sketch : Compact ℕ) (text : List ℕ) → plan_refusal DEFAULT_UPDATE_SEED plan ≡ None → sketch ≡ ordered_sketch (value_of plan) h → text ≡ shown_text sketch.empty sketch.theta sketch.entries → AnswersCommand (ThetaShow plan) 0 text
+shows_value plan h sketch text accepted value is = λ input s. rw (is ∙ ap (λ c. shown_text c.empty c.theta c.entries) value ∙ shown-ordered (value_of plan) h) (shows (ThetaShow plan) s accepted)
 
 -- the image of a plan's value answers `theta image`
-pub images_value : {Z : Type 0} (plan : Plan (Unit {0}) Z) (sketch : Compact ℕ) (image text : List ℕ) → sketch ≡ ordered_sketch (value_of plan) (seed_hash DEFAULT_UPDATE_SEED) → image ≡ written sketch → text ≡ hex_line image → AnswersCommand (ThetaImage plan) 0 text
-images_value plan sketch image text value written_is is = λ input s. rw (is ∙ ap hex_line (written_is ∙ ap written value)) (shows (ThetaImage plan) s)
+pub images_value : {Z : Type 0} (plan : Plan (Unit {0}) Z) (sketch : Compact ℕ) (image text : List ℕ) → plan_refusal DEFAULT_UPDATE_SEED plan ≡ None → sketch ≡ ordered_sketch (value_of plan) (seed_hash DEFAULT_UPDATE_SEED) → image ≡ written sketch → text ≡ hex_line image → AnswersCommand (ThetaImage plan) 0 text
+images_value plan sketch image text accepted value written_is is = λ input s. rw (is ∙ ap hex_line (written_is ∙ ap written value)) (shows (ThetaImage plan) s accepted)
 
 -- a plan whose evaluation was refused for an argument
 tells_argument : {Z : Type 0} (command : Command Z) (kind : ErrorKind) (status : ℕ) (text : List ℕ) → (command_refusal command ≡ Some kind) ⊎ ((kind ≡ OutOfMemory) × IsTrue true) → (kind ≡ InvalidArgument) × (status ≡ 1) × (text ≡ argument_line) → AnswersCommand command status text

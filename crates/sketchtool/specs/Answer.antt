@@ -1,5 +1,5 @@
 -- What is written for an input.
-use Rattle.std.specs.Prelude.{◌≡◌, ◌≢◌, ℕ, List, [], ◌∷◌, ◌++◌, ◌+◌, ◌/◌, ◌%◌, length, codes, nat_lt, Bool, true, false, if◌then◌else◌, Option, Some, decimal}
+use Rattle.std.specs.Prelude.{◌≡◌, ◌≢◌, ℕ, List, [], ◌∷◌, ◌++◌, ◌+◌, ◌/◌, ◌%◌, length, codes, nat_lt, Bool, true, false, if◌then◌else◌, Option, Some, None, decimal}
 use Rattle.std.specs.List.{flat_map}
 use Rattle.std.specs.Io.KnownBytes.{Appends}
 use Rattle.sketch_base.specs.Seed.{seed_hash}
@@ -79,7 +79,7 @@ command_refusal (ThetaImage plan) = plan_refusal DEFAULT_UPDATE_SEED plan
 -- the status and the text that may answer an input: what answers its command, a refused evaluation,
 -- the first fault of the input, or want of memory
 pub data Answers (Z : Type 0) (input : List ℕ) : ℕ → List ℕ → Type 0 where
-  shows : (command : Command Z) → Spells input command → Answers Z input 0 (command_text command)
+  shows : (command : Command Z) → Spells input command → command_refusal command ≡ None → Answers Z input 0 (command_text command)
   argument : (command : Command Z) → Spells input command → command_refusal command ≡ Some InvalidArgument → Answers Z input 1 argument_line
   wrong : (line : ℕ) → fault_of input ≡ Some (Syntax line) → Answers Z input 1 (fault_line line (codes "syntax"))
   too_deep : (line : ℕ) → fault_of input ≡ Some (Limit line) → Answers Z input 1 (fault_line line (codes "limit"))

@@ -30,8 +30,13 @@ use theta_sketches::{
     ThetaSketchView, ThetaUnion, ThetaUnionBuilder,
 };
 
-/// The sketch of a plan under a seed, ordered. Its value is the plan's. Where the plan is a leaf that isn't empty and whose
-/// last step is a trim, that is the k-minimum of the hashes that were added to it, for its own k and start.
+/// The sketch of a plan under a seed, ordered. Its value is the plan's: it retains all of the whole streams' map below its
+/// theta, and where it is empty that map has no keys.
+///
+/// Where the plan merges leaves of one start, of nominal entries no fewer than those of the union at its root, with no union
+/// that starts below them, and some leaf is updated, the value is the k-minimum of the hashes from 1 on that were added after
+/// the leaves' last resets, whatever the order and grouping and whether parts go through images. Where the plan is a leaf
+/// that isn't empty and whose last step is a trim, it is the k-minimum of those that were added to it.
 ///
 /// Refused with `InvalidArgument` where the seed hash is 0 or some node's `lg_k` is outside 5 to 26 or its start outside
 /// 1 to `MAX_THETA`, and with `OutOfMemory`.

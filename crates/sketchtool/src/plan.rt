@@ -21,17 +21,17 @@ pub enum Step<V> {
 pub enum Plan<V, A: Allocator = Global> {
     /// A sketch that is updated step by step.
     Leaf {
-        /// The binary logarithm of the nominal number of entries.
+        /// The binary logarithm of the nominal number of entries; from 5 to 26, or it is refused.
         lg_k: u8,
-        /// The starting theta.
+        /// The starting theta; from 1 to `MAX_THETA`, or it is refused.
         start: u64,
         steps: Items<Step<V>, A>,
     },
     /// The union of its parts, in their order.
     Union {
-        /// The binary logarithm of the nominal number of entries.
+        /// The binary logarithm of the nominal number of entries; from 5 to 26, or it is refused.
         lg_k: u8,
-        /// The starting theta.
+        /// The starting theta; from 1 to `MAX_THETA`, or it is refused.
         start: u64,
         parts: Items<Plan<V, A>, A>,
     },

@@ -185,7 +185,7 @@ type Line = (&'static str, u64, u64, u64);
 const DOWN: u64 = u64::MAX;
 
 /// Plans whose hashes are all from 1 on: the lines, what is shown before the hashes, and up to which hash they go, from 1 on.
-const SHOWN: [(&[Line], &str, u64); 19] = [
+const SHOWN: [(&[Line], &str, u64); 20] = [
     (
         &[("leaf 5 max 60", 0, 0, 0), ("", 1, 60, 1)],
         "empty no\ntheta 9223372036854775807\ncount 60\n",
@@ -298,6 +298,18 @@ const SHOWN: [(&[Line], &str, u64); 19] = [
     (
         &[
             ("union 5 max 2", 0, 0, 0),
+            ("leaf 5 max 100", 0, 0, 0),
+            ("", 2, 100, 2),
+            ("leaf 5 max 100", 0, 0, 0),
+            ("", 1, 100, 2),
+        ],
+        "empty no\ntheta 33\ncount 32\n",
+        32,
+    ),
+    (
+        &[
+            ("union 5 max 2", 0, 0, 0),
+            ("via unordered", 0, 0, 0),
             ("leaf 5 max 100", 0, 0, 0),
             ("", 2, 100, 2),
             ("leaf 5 max 100", 0, 0, 0),

@@ -347,8 +347,8 @@ impl<E: SketchEntry + Clone, A: Allocator + Clone> SketchHashTable<E, A> {
 pub type ThetaHashTable<A = Global> = SketchHashTable<ThetaEntry, A>;
 
 impl<A: Allocator + Clone> SketchHashTable<ThetaEntry, A> {
-    /// Inserts the hash of a value, and answers whether it is new and below theta. A hash that is is inserted only where there
-    /// is room. Refused as `try_insert_hash` is.
+    /// Inserts the hash of a value, and answers whether it is new and below theta. For such a hash the caller has to know that
+    /// there is room (`has_room`), as there always is in a table of `new`. Refused as `try_insert_hash` is.
     pub fn try_insert<T: Hash + Drop>(&mut self, value: T) -> Result<bool, Error>
         requires room { let h = hash_of self.old.map.seed (concat (T.hash_input value)) in IsTrue (may_insert hash_key h self.old.map) }
         ensures ok { let h = hash_of self.old.map.seed (concat (T.hash_input value)) in IfOk result (λ created. created ≡ creates hash_key h (hash_step h) self.old.map.kept) }
@@ -360,7 +360,8 @@ impl<A: Allocator + Clone> SketchHashTable<ThetaEntry, A> {
         self.try_insert_hash(hash)
     }
 
-    /// Inserts a hash, and answers whether it is new and below theta. One that is is inserted only where there is room.
+    /// Inserts a hash, and answers whether it is new and below theta. For such a hash the caller has to know that there is
+    /// room (`has_room`), as there always is in a table of `new`.
     ///
     /// Refused with `OutOfMemory` alone, and only where the hash is new and below theta; then nothing has changed.
     pub fn try_insert_hash(&mut self, hash: u64) -> Result<bool, Error>
