@@ -64,7 +64,7 @@ held_of None = none_below MAX_THETA
 held_of (Some Empty) = none_below MAX_THETA
 held_of (Some (NonEmpty v)) = v
 
--- what the making of an intersection is refused with: a seed whose hash is 0
+-- what the making of an intersection or a difference is refused with: a seed whose hash is 0
 abbrev pub seed_refusal : (seed : ℕ) → Option ErrorKind
 seed_refusal seed = if seed_hash seed == 0 then Some InvalidArgument else None
 
