@@ -3,6 +3,7 @@ ghost use Rattle.std.specs.Prelude.{◌≡◌};
 ghost use Rattle.sketch_base.specs.declared.error.ErrorKind.TheVariants.{OutOfMemory};
 
 use std::alloc::{AllocError, AllocFailed};
+use std::fmt;
 use std::marker::Model;
 
 /// Why a call was refused. What stands after a refusal is said at each call.
@@ -51,6 +52,31 @@ impl Error {
         self.kind
     }
 }
+
+impl fmt::Display for Error {
+    ghost use Rattle.std.specs.Prelude.{Some};
+    ghost use Rattle.sketch_base.specs.Error.{error_text};
+
+    ghost output = { λ e. Some (error_text e) };
+
+    fn fmt<W: fmt::Write>(&self, f: &mut fmt::Formatter<W>) -> fmt::Result {
+        match self.kind {
+            ErrorKind::InvalidArgument => {
+                f.write_str("an argument is outside its range or belongs to another seed")
+            }
+            ErrorKind::InvalidData => {
+                f.write_str("the bytes spell nothing that may stand there, or end too early")
+            }
+            ErrorKind::OutOfMemory => f.write_str("the memory that was asked for was refused"),
+            ErrorKind::Policy => f.write_str("a policy on summaries refused what it was given"),
+            ErrorKind::Failed => {
+                f.write_str("an earlier refusal left it half changed; it refuses until it is reset")
+            }
+        }
+    }
+}
+
+impl std::error::Error for Error {}
 
 impl From<AllocError> for Error {
     ghost from_gives = { λ _ e. e ≡ OutOfMemory };

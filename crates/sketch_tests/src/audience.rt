@@ -1,11 +1,12 @@
 //! The audience of the README's second example.
 
-use crate::common::ascending;
+use crate::common::{add, ascending};
 use sketch_base::Error;
 use std::alloc::Global;
 use std::test::Fail;
 use theta_sketches::{
-    CompactThetaSketch, ThetaANotB, ThetaSketch, ThetaSketchBuilder, ThetaUnionBuilder,
+    CompactThetaSketch, ThetaANotB, ThetaSketch, ThetaSketchBuilder, ThetaSketchView,
+    ThetaUnionBuilder,
 };
 
 fn visitors(alloc: Global, hashes: &[u64]) -> Result<ThetaSketch, Error> {
@@ -16,27 +17,36 @@ fn visitors(alloc: Global, hashes: &[u64]) -> Result<ThetaSketch, Error> {
     Ok(sketch)
 }
 
+/// Who was seen in A or B.
+fn either(alloc: Global) -> Result<CompactThetaSketch, Error> {
+    let mut either = ThetaUnionBuilder::default().build(alloc)?;
+    add(&mut either, visitors(alloc, &[11, 12, 13])?)?;
+    add(&mut either, visitors(alloc, &[13, 14])?)?;
+    either.to_sketch(false)
+}
+
 /// Who was seen in A or B, but not in C.
 fn audience(alloc: Global) -> Result<CompactThetaSketch, Error> {
-    let a = visitors(alloc, &[11, 12, 13])?;
-    let b = visitors(alloc, &[13, 14])?;
-    let c = visitors(alloc, &[12, 15])?;
+    let either = either(alloc)?;
+    without_c(alloc, either.as_view())
+}
 
-    let mut either = ThetaUnionBuilder::default().build(alloc)?;
-    either.update(a.as_view())?;
-    either.update(b.as_view())?;
-    let either = either.to_sketch(false)?;
-    ThetaANotB::default()?.compute(alloc, either.as_view(), c.as_view(), true)
+fn without_c(alloc: Global, either: ThetaSketchView<'_>) -> Result<CompactThetaSketch, Error> {
+    let c = visitors(alloc, &[12, 15])?;
+    ThetaANotB::default()?.compute(alloc, either, c.as_view(), true)
+}
+
+/// The hashes of an audience, and how many they are as an exact fraction.
+fn told(alloc: Global) -> Result<(Vec<u64>, (u128, u128)), Error> {
+    let answer = audience(alloc)?;
+    let fraction = answer.estimate_fraction();
+    Ok((ascending(alloc, answer.iter())?, fraction))
 }
 
 #[test]
 fn audience_example(rt: HostRuntime) -> Result<(), Fail> {
-    let answer = audience(rt.alloc())?;
-    let hashes = ascending(rt.alloc(), answer.iter())?;
-    assert_eq!(rt; hashes.as_slice(), [11, 13, 14].as_slice());
-    assert_eq!(rt;
-        answer.estimate_fraction(),
-        (27670116110564327421, 9223372036854775807)
-    );
+    let told = told(rt.alloc())?;
+    assert_eq!(rt; told.0.as_slice(), [11, 13, 14].as_slice());
+    assert_eq!(rt; told.1, (27670116110564327421, 9223372036854775807));
     Ok(())
 }

@@ -1,8 +1,19 @@
-//! What the tests share.
+//! What tests share: sketches and tables of rows from outside, and memory that is refused.
 
-use sketch_base::Error;
-use std::alloc::{AllocError, Global};
-use theta_sketches::{CompactThetaSketch, ThetaSketch, ThetaSketchBuilder, ThetaSketchIter};
+use refuse::Refusing;
+use sketch_base::{Error, ErrorKind};
+use std::alloc::{AllocError, Allocator, Global};
+use theta_sketches::{
+    CompactThetaSketch, ThetaSketch, ThetaSketchBuilder, ThetaSketchIter, ThetaUnion,
+};
+
+/// Memory whose requests are counted, and refused where a test wants.
+pub type Heap = Refusing<Global>;
+
+/// Why a call was refused.
+pub fn kind_of<T: Drop>(answer: Result<T, Error>) -> Option<ErrorKind> {
+    answer.err().map(|e| e.kind())
+}
 
 /// The hashes of a sketch, ascending.
 pub fn ascending(alloc: Global, entries: ThetaSketchIter<'_>) -> Result<Vec<u64>, AllocError> {
@@ -30,11 +41,61 @@ pub fn sketch_of(alloc: Global, seed: u64, first: u64, last: u64) -> Result<Thet
     Ok(sketch)
 }
 
-/// A compact sketch's emptiness, theta and hashes, ascending.
-pub fn value_of(
+/// The compact form of a sketch of the default seed, of 32 nominal entries, that was given the hashes from the first to the last.
+pub fn compact_of(
     alloc: Global,
-    sketch: &CompactThetaSketch,
-) -> Result<(bool, u64, Vec<u64>), AllocError> {
+    first: u64,
+    last: u64,
+    ordered: bool,
+) -> Result<CompactThetaSketch, Error> {
+    let sketch = sketch_of(alloc, 9001, first, last)?;
+    sketch.compact(ordered)
+}
+
+/// Updates a union with a sketch.
+pub fn add(union: &mut ThetaUnion, sketch: ThetaSketch) -> Result<(), Error> {
+    union.update(sketch.as_view())
+}
+
+/// A sketch's emptiness, theta and hashes, ascending.
+pub type Value = (bool, u64, Vec<u64>);
+
+/// The value whose hashes are those from a first to a last.
+pub fn value_between(
+    alloc: Global,
+    empty: bool,
+    theta: u64,
+    (first, last): (u64, u64),
+) -> Result<Value, AllocError> {
+    Ok((empty, theta, numbers(alloc, first, last)?))
+}
+
+/// The emptiness, theta and hashes of a compact sketch.
+pub fn value_of<A: Allocator>(
+    alloc: Global,
+    sketch: &CompactThetaSketch<A>,
+) -> Result<Value, AllocError> {
     let hashes = ascending(alloc, sketch.iter())?;
     Ok((sketch.is_empty(), sketch.theta64(), hashes))
+}
+
+/// The bytes that a text of hexadecimal digits and spaces tells.
+pub fn bytes_of(alloc: Global, text: &str) -> Result<Vec<u8>, AllocError> {
+    let mut bytes = Vec::new(alloc);
+    let mut high = None;
+    for letter in text.bytes() {
+        let digit = match letter {
+            b'0'..=b'9' => letter - b'0',
+            b'a'..=b'f' => letter - b'a' + 10,
+            _ => continue,
+        };
+        match high {
+            None => high = Some(digit),
+            Some(first) => {
+                bytes.push(first << 4 | digit)?;
+                high = None;
+            }
+        }
+    }
+    Ok(bytes)
 }

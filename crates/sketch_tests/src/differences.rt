@@ -1,8 +1,8 @@
 //! Differences of sketches.
 
-use crate::common::{numbers, sketch_of, value_of};
+use crate::common::{Value, compact_of, kind_of, sketch_of, value_between, value_of};
 use sketch_base::{Error, ErrorKind};
-use std::alloc::Global;
+use std::alloc::{AllocError, Global};
 use std::test::Fail;
 use theta_core::MAX_THETA;
 use theta_sketches::{ThetaANotB, ThetaSketch, ThetaSketchBuilder, ThetaSketchView};
@@ -13,16 +13,68 @@ fn left_of(
     a: ThetaSketchView<'_>,
     b: ThetaSketchView<'_>,
     asked: bool,
-) -> Result<((bool, u64, Vec<u64>), bool), Error> {
-    let difference = ThetaANotB::default()?;
-    let answer = difference.compute(alloc, a, b, asked)?;
+) -> Result<(Value, bool), Error> {
+    let answer = ThetaANotB::default()?.compute(alloc, a, b, asked)?;
     Ok((value_of(alloc, &answer)?, answer.is_ordered()))
 }
 
+/// What is left of a view without the hashes from a first to a last, lent by a sketch or by its ordered compact form.
+fn left_without(
+    alloc: Global,
+    a: ThetaSketchView<'_>,
+    (first, last): (u64, u64),
+    compact: bool,
+    asked: bool,
+) -> Result<(Value, bool), Error> {
+    if compact {
+        let b = compact_of(alloc, first, last, true)?;
+        return left_of(alloc, a, b.as_view(), asked);
+    }
+    let b = sketch_of(alloc, 9001, first, last)?;
+    left_of(alloc, a, b.as_view(), asked)
+}
+
+/// The hashes of both, and then emptiness, theta and the hashes that are left.
+type Row = ((u64, u64), (u64, u64), bool, u64, (u64, u64));
+
+/// Whether each sketch is lent as its ordered compact form, and whether order is asked.
+type Way = (bool, bool, bool);
+
+/// What is left, and whether it is ordered.
+fn left_in(alloc: Global, row: Row, way: Way) -> Result<(Value, bool), Error> {
+    let ((first, last), b, ..) = row;
+    let (ordered, compact, asked) = way;
+    if ordered {
+        let a = compact_of(alloc, first, last, true)?;
+        return left_without(alloc, a.as_view(), b, compact, asked);
+    }
+    let a = sketch_of(alloc, 9001, first, last)?;
+    left_without(alloc, a.as_view(), b, compact, asked)
+}
+
+/// What is to be left, and whether it is to be ordered.
+fn wanted_in(alloc: Global, row: Row, way: Way) -> Result<(Value, bool), AllocError> {
+    let (_, _, empty, theta, (from, to)) = row;
+    let (ordered, _, asked) = way;
+    let one = from == to && theta == MAX_THETA;
+    let value = value_between(alloc, empty, theta, (from, to))?;
+    Ok((value, ordered || asked || empty || one))
+}
+
+const WAYS: [Way; 8] = [
+    (false, false, false),
+    (false, false, true),
+    (false, true, false),
+    (false, true, true),
+    (true, false, false),
+    (true, false, true),
+    (true, true, false),
+    (true, true, true),
+];
+
 #[test]
 fn differences_keep_what_the_other_lacks(rt: HostRuntime) -> Result<(), Fail> {
-    // The hashes of both, and then emptiness, theta and the hashes that are left.
-    let cases: [((u64, u64), (u64, u64), bool, u64, (u64, u64)); 8] = [
+    let rows: [Row; 8] = [
         ((1, 0), (1, 9), true, MAX_THETA, (1, 0)),
         ((1, 9), (1, 0), false, MAX_THETA, (1, 9)),
         ((1, 9), (5, 20), false, MAX_THETA, (1, 4)),
@@ -32,58 +84,66 @@ fn differences_keep_what_the_other_lacks(rt: HostRuntime) -> Result<(), Fail> {
         ((1, 61), (30, 40), false, 33, (1, 29)),
         ((30, 50), (31, 91), false, 63, (30, 30)),
     ];
-    for ((first, last), (other_first, other_last), empty, theta, (from, to)) in cases {
-        let a = sketch_of(rt.alloc(), 9001, first, last)?;
-        let b = sketch_of(rt.alloc(), 9001, other_first, other_last)?;
-        let ordered_a = a.compact(true)?;
-        let ordered_b = b.compact(true)?;
-        for (is_ordered, view) in [(false, a.as_view()), (true, ordered_a.as_view())] {
-            for other in [b.as_view(), ordered_b.as_view()] {
-                for asked in [false, true] {
-                    let (value, told) = left_of(rt.alloc(), view, other, asked)?;
-                    let wanted = (empty, theta, numbers(rt.alloc(), from, to)?);
-                    let one = from == to && theta == MAX_THETA;
-                    assert_eq!(rt; value, wanted, "of {first} to {last}");
-                    assert_eq!(rt;
-                        told,
-                        is_ordered || asked || empty || one,
-                        "of {first} to {last}"
-                    );
-                }
-            }
+    for row in rows {
+        for way in WAYS {
+            let left = left_in(rt.alloc(), row, way)?;
+            let wanted = wanted_in(rt.alloc(), row, way)?;
+            assert_eq!(rt; left, wanted, "of {row:?} in {way:?}");
         }
     }
     Ok(())
 }
 
+/// Whether what a difference of seed 123 leaves of one view without another's hashes has the seed hash of the one view.
+fn keeps_seed_hash(
+    alloc: Global,
+    a: ThetaSketchView<'_>,
+    b: ThetaSketchView<'_>,
+) -> Result<bool, Error> {
+    let left = ThetaANotB::with_seed(123)?.compute(alloc, a, b, true)?;
+    Ok(left.seed_hash() == a.seed_hash())
+}
+
+/// Why the difference is refused of sketches of a seed that have the hashes from 1 to a last; and, where it is not, whether it
+/// keeps the seed hash.
+fn refused(
+    alloc: Global,
+    (seed, last): (u64, u64),
+    other: (u64, u64),
+) -> Result<(Option<ErrorKind>, bool), Error> {
+    let a = sketch_of(alloc, seed, 1, last)?;
+    refused_without(alloc, a.as_view(), other)
+}
+
+fn refused_without(
+    alloc: Global,
+    a: ThetaSketchView<'_>,
+    (seed, last): (u64, u64),
+) -> Result<(Option<ErrorKind>, bool), Error> {
+    let b = sketch_of(alloc, seed, 1, last)?;
+    match keeps_seed_hash(alloc, a, b.as_view()) {
+        Ok(kept) => Ok((None, kept)),
+        Err(error) => Ok((Some(error.kind()), true)),
+    }
+}
+
 #[test]
 fn differences_want_one_seed(rt: HostRuntime) -> Result<(), Fail> {
-    let difference = ThetaANotB::with_seed(123)?;
     // The seeds and last hashes of both, from 1 on, and the refusal.
-    let refused = Some(ErrorKind::InvalidArgument);
+    let refusal = Some(ErrorKind::InvalidArgument);
     let cases: [((u64, u64), (u64, u64), Option<ErrorKind>); 6] = [
         ((123, 9), (123, 4), None),
         ((9001, 0), (9001, 4), None),
-        ((9001, 9), (123, 4), refused),
-        ((9001, 9), (123, 0), refused),
-        ((123, 9), (9001, 4), refused),
+        ((9001, 9), (123, 4), refusal),
+        ((9001, 9), (123, 0), refusal),
+        ((123, 9), (9001, 4), refusal),
         ((123, 9), (9001, 0), None),
     ];
-    for ((seed, last), (other_seed, other_last), refusal) in cases {
-        let a = sketch_of(rt.alloc(), seed, 1, last)?;
-        let b = sketch_of(rt.alloc(), other_seed, 1, other_last)?;
-        let answer = difference.compute(rt.alloc(), a.as_view(), b.as_view(), true);
-        if let Ok(left) = &answer {
-            assert_eq!(rt; left.seed_hash(), a.as_view().seed_hash());
-        }
-        assert_eq!(rt;
-            answer.err().map(|e| e.kind()),
-            refusal,
-            "of {seed} and {other_seed}"
-        );
+    for (a, b, kind) in cases {
+        let told = refused(rt.alloc(), a, b)?;
+        assert_eq!(rt; told, (kind, true), "of {a:?} and {b:?}");
     }
-    let kind = ThetaANotB::with_seed(50541).err().map(|e| e.kind());
-    assert_eq!(rt; kind, refused);
+    assert_eq!(rt; kind_of(ThetaANotB::with_seed(50541)), refusal);
     Ok(())
 }
 
@@ -95,27 +155,49 @@ fn words(alloc: Global, words: &[&str]) -> Result<ThetaSketch, Error> {
     Ok(sketch)
 }
 
+/// How many words are left of a view's without "banana".
+fn left_without_banana(alloc: Global, a: ThetaSketchView<'_>) -> Result<usize, Error> {
+    let b = words(alloc, &["banana"])?;
+    let answer = ThetaANotB::default()?.compute(alloc, a, b.as_view(), true)?;
+    Ok(answer.num_retained())
+}
+
+fn words_left(alloc: Global) -> Result<usize, Error> {
+    let a = words(alloc, &["apple", "banana"])?;
+    left_without_banana(alloc, a.as_view())
+}
+
 #[test]
 fn differences_of_words(rt: HostRuntime) -> Result<(), Fail> {
-    let a = words(rt.alloc(), &["apple", "banana"])?;
-    let b = words(rt.alloc(), &["banana"])?;
-    let difference = ThetaANotB::default()?;
-    let answer = difference.compute(rt.alloc(), a.as_view(), b.as_view(), true)?;
-    assert_eq!(rt; answer.num_retained(), 1);
+    assert_eq!(rt; words_left(rt.alloc())?, 1);
     Ok(())
+}
+
+/// The hash 2 below the theta 4.
+fn two_below_four(alloc: Global) -> Result<ThetaSketch, Error> {
+    let builder = ThetaSketchBuilder::default().lg_k(5);
+    let mut sketch = builder.starting_theta(4).build(alloc)?;
+    sketch.update_hash(2)?;
+    Ok(sketch)
+}
+
+/// What is left of the hashes 1 to 5 without the hash 2, below the theta 4.
+fn left_below_four(alloc: Global, asked: bool) -> Result<Value, Error> {
+    let a = sketch_of(alloc, 9001, 1, 5)?;
+    without_two(alloc, a.as_view(), asked)
+}
+
+fn without_two(alloc: Global, a: ThetaSketchView<'_>, asked: bool) -> Result<Value, Error> {
+    let b = two_below_four(alloc)?;
+    Ok(left_of(alloc, a, b.as_view(), asked)?.0)
 }
 
 #[test]
 fn differences_are_cut_at_the_lesser_theta(rt: HostRuntime) -> Result<(), Fail> {
-    let a = sketch_of(rt.alloc(), 9001, 1, 5)?;
-    let builder = ThetaSketchBuilder::default().lg_k(5);
-    let mut b = builder.starting_theta(4).build(rt.alloc())?;
-    b.update_hash(2)?;
     for asked in [false, true] {
-        let (value, _) = left_of(rt.alloc(), a.as_view(), b.as_view(), asked)?;
-        let mut hashes = numbers(rt.alloc(), 1, 1)?;
-        hashes.push(3)?;
-        assert_eq!(rt; value, (false, 4, hashes), "asked {asked}");
+        let value = left_below_four(rt.alloc(), asked)?;
+        let told = (value.0, value.1, value.2.as_slice());
+        assert_eq!(rt; told, (false, 4, [1, 3].as_slice()), "asked {asked}");
     }
     Ok(())
 }

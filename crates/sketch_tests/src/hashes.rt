@@ -1,11 +1,12 @@
 //! The hashes of values.
 
+use crate::common::add;
 use sketch_base::{Error, MurmurHash3X64128};
 use std::alloc::Global;
 use std::hash::Hash;
 use std::test::Fail;
 use theta_core::{MAX_THETA, ResizeFactor, ThetaHashTable};
-use theta_sketches::{ThetaSketchBuilder, ThetaUnionBuilder};
+use theta_sketches::{ThetaSketch, ThetaSketchBuilder, ThetaUnionBuilder};
 
 /// The first half of a text's MurmurHash3 under a seed, shifted right by one.
 fn murmur(seed: u64, text: &str) -> u64 {
@@ -29,6 +30,13 @@ fn in_sketch(alloc: Global, seed: u64, text: &str) -> Result<(Option<u64>, usize
     Ok((first, sketch.num_retained()))
 }
 
+/// What a table and what a sketch has of a text.
+type Hashed = ((u64, bool), (Option<u64>, usize));
+
+fn hashed(alloc: Global, seed: u64, text: &str) -> Result<Hashed, Error> {
+    Ok((in_table(alloc, seed, text)?, in_sketch(alloc, seed, text)?))
+}
+
 #[test]
 fn values_are_hashed(rt: HostRuntime) -> Result<(), Fail> {
     let cases = [
@@ -40,13 +48,12 @@ fn values_are_hashed(rt: HostRuntime) -> Result<(), Fail> {
     let mut last = 0;
     for (seed, text) in cases {
         let hash = murmur(seed, text);
+        let wanted = ((hash, true), (Some(hash), 1));
         assert_eq!(rt;
-            in_table(rt.alloc(), seed, text)?,
-            (hash, true),
+            hashed(rt.alloc(), seed, text)?,
+            wanted,
             "of {text} under {seed}"
         );
-        let kept = in_sketch(rt.alloc(), seed, text)?;
-        assert_eq!(rt; kept, (Some(hash), 1), "of {text} under {seed}");
         assert_ne!(rt; hash, last, "of {text} under {seed}");
         last = hash;
     }
@@ -54,19 +61,25 @@ fn values_are_hashed(rt: HostRuntime) -> Result<(), Fail> {
     Ok(())
 }
 
-/// How many distinct values were seen on either day, as an exact fraction.
-fn seen_on_both_days(alloc: Global) -> Result<(u128, u128), Error> {
+fn monday(alloc: Global) -> Result<ThetaSketch, Error> {
     let mut monday = ThetaSketchBuilder::default().build(alloc)?;
     monday.update("apple")?;
     monday.update(7u64)?;
+    Ok(monday)
+}
 
+fn tuesday(alloc: Global) -> Result<ThetaSketch, Error> {
     let mut tuesday = ThetaSketchBuilder::default().build(alloc)?;
     tuesday.update("apple")?;
     tuesday.update("banana")?;
+    Ok(tuesday)
+}
 
+/// How many distinct values were seen on either day, as an exact fraction.
+fn seen_on_both_days(alloc: Global) -> Result<(u128, u128), Error> {
     let mut both = ThetaUnionBuilder::default().build(alloc)?;
-    both.update(monday.as_view())?;
-    both.update(tuesday.as_view())?;
+    add(&mut both, monday(alloc)?)?;
+    add(&mut both, tuesday(alloc)?)?;
     Ok(both.to_sketch(true)?.estimate_fraction())
 }
 

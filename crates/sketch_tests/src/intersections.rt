@@ -1,8 +1,8 @@
 //! Intersections of sketches.
 
-use crate::common::{numbers, sketch_of, value_of};
+use crate::common::{Value, kind_of, sketch_of, value_between, value_of};
 use sketch_base::{Error, ErrorKind};
-use std::alloc::Global;
+use std::alloc::{AllocError, Global};
 use std::test::Fail;
 use theta_core::{MAX_THETA, ThetaHashTable};
 use theta_sketches::{ThetaIntersection, ThetaSketch, ThetaSketchBuilder};
@@ -21,35 +21,76 @@ fn part_of(alloc: Global, part: &Part) -> Result<ThetaSketch, Error> {
     sketch_of(alloc, 9001, *first, *last)
 }
 
-/// An intersection of parts, each as it is or as an ordered compact sketch.
+/// Updates an intersection with a part, as it is or as an ordered compact sketch.
+fn meet(
+    alloc: Global,
+    intersection: &mut ThetaIntersection,
+    part: &Part,
+    compact: bool,
+) -> Result<(), Error> {
+    let sketch = part_of(alloc, part)?;
+    if compact {
+        return intersection.update(sketch.compact(true)?.as_view());
+    }
+    intersection.update(sketch.as_view())
+}
+
+/// An intersection of parts.
 fn met(alloc: Global, parts: &[Part], compact: bool) -> Result<ThetaIntersection, Error> {
     let mut intersection = ThetaIntersection::default(alloc)?;
     for part in parts {
-        let sketch = part_of(alloc, part)?;
-        if compact {
-            intersection.update(sketch.compact(true)?.as_view())?;
-        } else {
-            intersection.update(sketch.as_view())?;
-        }
+        meet(alloc, &mut intersection, part, compact)?;
     }
     Ok(intersection)
 }
 
 /// Its emptiness, theta and hashes, ascending, once it has seen a sketch.
-fn value_in(
-    alloc: Global,
-    intersection: &ThetaIntersection,
-) -> Result<Option<(bool, u64, Vec<u64>)>, Error> {
+fn value_in(alloc: Global, intersection: &ThetaIntersection) -> Result<Option<Value>, Error> {
     match intersection.to_sketch(true)? {
         Some(answer) => Ok(Some(value_of(alloc, &answer)?)),
         None => Ok(None),
     }
 }
 
+/// Whether an answer is ordered, order asked or not.
+fn is_ordered(intersection: &ThetaIntersection, asked: bool) -> Result<Option<bool>, Error> {
+    match intersection.to_sketch(asked)? {
+        Some(answer) => Ok(Some(answer.is_ordered())),
+        None => Ok(None),
+    }
+}
+
+/// What an intersection holds, whether its answers are ordered where that is not asked and where it is, and whether it has
+/// one.
+type Told = (Option<Value>, [Option<bool>; 2], bool);
+
+fn told_of(alloc: Global, intersection: &ThetaIntersection) -> Result<Told, Error> {
+    let orders = [
+        is_ordered(intersection, false)?,
+        is_ordered(intersection, true)?,
+    ];
+    let value = value_in(alloc, intersection)?;
+    Ok((value, orders, intersection.has_result()))
+}
+
+fn told_in(alloc: Global, parts: &[Part], compact: bool) -> Result<Told, Error> {
+    let intersection = met(alloc, parts, compact)?;
+    told_of(alloc, &intersection)
+}
+
+/// The parts, and then emptiness, theta and the hashes.
+type Row<'a> = (&'a [Part], bool, u64, (u64, u64));
+
+fn wanted_in(alloc: Global, row: Row<'_>) -> Result<Told, AllocError> {
+    let (_, empty, theta, (first, last)) = row;
+    let one = first == last && theta == MAX_THETA;
+    let value = value_between(alloc, empty, theta, (first, last))?;
+    Ok((Some(value), [Some(empty || one), Some(true)], true))
+}
+
 #[test]
 fn intersections_keep_what_all_share(rt: HostRuntime) -> Result<(), Fail> {
-    // The parts, and then emptiness, theta and the hashes.
-    let cases: [(&[Part], bool, u64, (u64, u64)); 12] = [
+    let rows: [Row<'_>; 12] = [
         (&[(1, 20, None)], false, MAX_THETA, (1, 20)),
         (&[(1, 20, None), (11, 30, None)], false, MAX_THETA, (11, 20)),
         (&[(1, 20, None), (21, 30, None)], true, MAX_THETA, (1, 0)),
@@ -83,23 +124,39 @@ fn intersections_keep_what_all_share(rt: HostRuntime) -> Result<(), Fail> {
             (1, 0),
         ),
     ];
-    for (parts, empty, theta, (first, last)) in cases {
+    for row in rows {
         for compact in [false, true] {
-            let intersection = met(rt.alloc(), parts, compact)?;
-            let value = value_in(rt.alloc(), &intersection)?;
-            let wanted = Some((empty, theta, numbers(rt.alloc(), first, last)?));
-            assert_eq!(rt; value, wanted, "of {parts:?}");
-            let one = first == last && theta == MAX_THETA;
-            for asked in [false, true] {
-                let told = intersection
-                    .to_sketch(asked)?
-                    .map(|answer| answer.is_ordered());
-                assert_eq!(rt; told, Some(asked || empty || one), "of {parts:?}");
-            }
-            assert!(rt; intersection.has_result(), "of {parts:?}");
+            let told = told_in(rt.alloc(), row.0, compact)?;
+            let wanted = wanted_in(rt.alloc(), row)?;
+            assert_eq!(rt; told, wanted, "of {row:?}, {compact}");
         }
     }
     Ok(())
+}
+
+/// Why an update with a sketch of another seed is refused.
+fn refusal_of_another(
+    alloc: Global,
+    intersection: &mut ThetaIntersection,
+) -> Result<Option<ErrorKind>, Error> {
+    let other = sketch_of(alloc, 123, 3, 12)?;
+    Ok(kind_of(intersection.update(other.as_view())))
+}
+
+/// The refusal of a sketch of another seed by an intersection of parts, whether it has a result then, and its value before and
+/// after.
+type Refused = ((Option<ErrorKind>, bool), Option<Value>, Option<Value>);
+
+fn refused_after(alloc: Global, parts: &[Part]) -> Result<Refused, Error> {
+    let mut intersection = met(alloc, parts, false)?;
+    refused_by(alloc, &mut intersection)
+}
+
+fn refused_by(alloc: Global, intersection: &mut ThetaIntersection) -> Result<Refused, Error> {
+    let before = value_in(alloc, intersection)?;
+    let kind = refusal_of_another(alloc, intersection)?;
+    let begun = intersection.has_result();
+    Ok(((kind, begun), before, value_in(alloc, intersection)?))
 }
 
 #[test]
@@ -110,22 +167,12 @@ fn intersections_want_one_seed(rt: HostRuntime) -> Result<(), Fail> {
         (&[(1, 9, None)], Some(ErrorKind::InvalidArgument), true),
         (&[(1, 0, None)], None, true),
     ];
-    let other = sketch_of(rt.alloc(), 123, 3, 12)?;
     for (parts, refusal, begun) in cases {
-        let mut intersection = met(rt.alloc(), parts, false)?;
-        let before = value_in(rt.alloc(), &intersection)?;
-        let kind = intersection.update(other.as_view()).err().map(|e| e.kind());
-        assert_eq!(rt; kind, refusal, "after {parts:?}");
-        assert_eq!(rt; intersection.has_result(), begun, "after {parts:?}");
-        assert_eq!(rt;
-            value_in(rt.alloc(), &intersection)?,
-            before,
-            "after {parts:?}"
-        );
+        let told = refused_after(rt.alloc(), parts)?;
+        assert_eq!(rt; told.0, (refusal, begun), "after {parts:?}");
+        assert_eq!(rt; told.1, told.2, "after {parts:?}");
     }
-    let kind = ThetaIntersection::with_seed(rt.alloc(), 50541)
-        .err()
-        .map(|e| e.kind());
+    let kind = kind_of(ThetaIntersection::with_seed(rt.alloc(), 50541));
     assert_eq!(rt; kind, Some(ErrorKind::InvalidArgument));
     Ok(())
 }

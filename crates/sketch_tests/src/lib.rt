@@ -1,24 +1,23 @@
-//! Tests over the public calls of the theta sketches, with values from outside. It has no code of its own.
+//! Tests over the public calls of the theta sketches, with values from outside. Beside them stands what tests share.
 #![tactic(auto)]
 
 #[cfg(test)]
 mod audience;
-#[cfg(test)]
-mod common;
+pub mod common;
 #[cfg(test)]
 mod differences;
 #[cfg(test)]
-mod hashes;
+mod family;
 #[cfg(test)]
-mod images;
+mod hashes;
 #[cfg(test)]
 mod intersections;
 #[cfg(test)]
-mod readings;
-#[cfg(test)]
-mod requests;
+mod mapped;
 #[cfg(test)]
 mod sketches;
+#[cfg(test)]
+mod steps;
 #[cfg(test)]
 mod tables;
 #[cfg(test)]

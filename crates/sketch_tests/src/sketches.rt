@@ -1,6 +1,9 @@
 //! Sketches and their compact forms.
 
-use crate::common::{ascending, numbers, sketch_of, value_of};
+use crate::common::{
+    Heap, Value, ascending, compact_of, kind_of, sketch_of, value_between, value_of,
+};
+use refuse::{Refusal, Refusing};
 use sketch_base::{Error, ErrorKind, compute_seed_hash};
 use std::alloc::{AllocError, Global};
 use std::test::Fail;
@@ -17,6 +20,17 @@ fn started(alloc: Global, start: u64, given: Option<u64>) -> Result<ThetaSketch,
     Ok(sketch)
 }
 
+/// A sketch's emptiness and theta, how many hashes it has, and the fraction.
+fn told_of(
+    alloc: Global,
+    start: u64,
+    given: Option<u64>,
+) -> Result<((bool, u64, usize), (u128, u128)), Error> {
+    let sketch = started(alloc, start, given)?;
+    let told = (sketch.is_empty(), sketch.theta64(), sketch.num_retained());
+    Ok((told, sketch.estimate_fraction()))
+}
+
 #[test]
 fn screened_updates_make_nonempty(rt: HostRuntime) -> Result<(), Fail> {
     // The starting theta, the one hash that is taken in, and then emptiness, theta and the fraction.
@@ -29,23 +43,52 @@ fn screened_updates_make_nonempty(rt: HostRuntime) -> Result<(), Fail> {
         (1000, Some(2000), false, 1000, (0, 1000)),
     ];
     for (start, given, empty, theta, fraction) in cases {
-        let sketch = started(rt.alloc(), start, given)?;
-        let told = (sketch.is_empty(), sketch.theta64(), sketch.num_retained());
-        assert_eq!(rt; told, (empty, theta, 0), "at {start}, {given:?}");
+        let wanted = ((empty, theta, 0), fraction);
         assert_eq!(rt;
-            sketch.estimate_fraction(),
-            fraction,
+            told_of(rt.alloc(), start, given)?,
+            wanted,
             "at {start}, {given:?}"
         );
     }
     Ok(())
 }
 
+/// A compact sketch's value, the fractions of the sketch that it was made of and its own, and whether it tells that it is
+/// ordered and, where it does, whether its hashes ascend.
+type Form = (Value, [(u128, u128); 2], (bool, bool));
+
+fn form_of(alloc: Global, sketch: &ThetaSketch, asked: bool) -> Result<Form, Error> {
+    let compact = sketch.compact(asked)?;
+    let fractions = [sketch.estimate_fraction(), compact.estimate_fraction()];
+    let ascends = compact.iter().map(|entry| entry.hash()).is_sorted();
+    let ordered = compact.is_ordered();
+    Ok((
+        value_of(alloc, &compact)?,
+        fractions,
+        (ordered, ascends || !ordered),
+    ))
+}
+
+/// The hashes that are taken in, whether order is asked, whether there is order, theta, and the fraction.
+type Row = (u64, u64, bool, bool, u64, (u128, u128));
+
+fn form_in(alloc: Global, row: Row) -> Result<Form, Error> {
+    let (first, last, asked, ..) = row;
+    let sketch = sketch_of(alloc, 9001, first, last)?;
+    form_of(alloc, &sketch, asked)
+}
+
+fn wanted_in(alloc: Global, row: Row) -> Result<Form, AllocError> {
+    let (first, last, _, ordered, theta, fraction) = row;
+    let hashes = (first, last.min(theta.saturating_sub(1)));
+    let value = value_between(alloc, first > last, theta, hashes)?;
+    Ok((value, [fraction, fraction], (ordered, true)))
+}
+
 #[test]
 fn compact_forms(rt: HostRuntime) -> Result<(), Fail> {
-    // The hashes that are taken in, whether order is asked, whether there is order, theta, and the fraction.
     let max = 9223372036854775807;
-    let cases: [(u64, u64, bool, bool, u64, (u128, u128)); 7] = [
+    let rows: [Row; 7] = [
         (1, 0, false, true, MAX_THETA, (0, 1)),
         (5, 5, false, true, MAX_THETA, (max, max)),
         (5, 6, false, false, MAX_THETA, (18446744073709551614, max)),
@@ -54,50 +97,41 @@ fn compact_forms(rt: HostRuntime) -> Result<(), Fail> {
         (1, 40, true, true, MAX_THETA, (368934881474191032280, max)),
         (1, 61, true, true, 33, (295147905179352825824, 33)),
     ];
-    for (first, last, asked, ordered, theta, fraction) in cases {
-        let sketch = sketch_of(rt.alloc(), 9001, first, last)?;
-        let compact = sketch.compact(asked)?;
-        let wanted = numbers(rt.alloc(), first, last.min(theta - 1))?;
-        let wanted = (first > last, theta, wanted);
-        assert_eq!(rt;
-            value_of(rt.alloc(), &compact)?,
-            wanted,
-            "at {first} to {last}"
-        );
-        let fractions = (sketch.estimate_fraction(), compact.estimate_fraction());
-        assert_eq!(rt; fractions, (fraction, fraction), "at {first} to {last}");
-        let ascends = compact.iter().map(|entry| entry.hash()).is_sorted();
-        let orders = (compact.is_ordered(), ascends || !ordered);
-        assert_eq!(rt; orders, (ordered, true), "at {first} to {last}");
+    for row in rows {
+        let form = form_in(rt.alloc(), row)?;
+        let wanted = wanted_in(rt.alloc(), row)?;
+        assert_eq!(rt; form, wanted, "of {row:?}");
     }
     Ok(())
+}
+
+/// Theta and how many hashes are kept once a sketch of the hashes from 1 to a last is trimmed, and whether it is empty and how
+/// many are kept once it is reset.
+fn trimmed(alloc: Global, last: u64) -> Result<((u64, usize), (bool, usize)), Error> {
+    let mut sketch = sketch_of(alloc, 9001, 1, last)?;
+    sketch.trim()?;
+    let told = (sketch.theta64(), sketch.num_retained());
+    sketch.reset();
+    Ok((told, (sketch.is_empty(), sketch.num_retained())))
 }
 
 #[test]
 fn sketches_are_trimmed(rt: HostRuntime) -> Result<(), Fail> {
     // The last hash, and then theta and how many are kept.
     for (last, theta, kept) in [(32, MAX_THETA, 32), (33, 33, 32), (40, 33, 32)] {
-        let mut sketch = sketch_of(rt.alloc(), 9001, 1, last)?;
-        sketch.trim()?;
-        let told = (sketch.theta64(), sketch.num_retained());
-        assert_eq!(rt; told, (theta, kept), "at {last}");
-        sketch.reset();
-        let told = (sketch.is_empty(), sketch.num_retained());
-        assert_eq!(rt; told, (true, 0), "at {last}");
+        let wanted = ((theta, kept), (true, 0));
+        assert_eq!(rt; trimmed(rt.alloc(), last)?, wanted, "at {last}");
     }
     Ok(())
 }
 
 /// Why a sketch or a union of these settings is refused.
-fn refusals(alloc: Global, lg_k: u8, start: u64, seed: u64) -> [Option<ErrorKind>; 2] {
+fn refusals(heap: &Heap, lg_k: u8, start: u64, seed: u64) -> [Option<ErrorKind>; 2] {
     let builder = ThetaSketchBuilder::default().lg_k(lg_k);
-    let sketch = builder.starting_theta(start).seed(seed).build(alloc);
+    let sketch = builder.starting_theta(start).seed(seed).build(heap);
     let builder = ThetaUnionBuilder::default().lg_k(lg_k);
-    let union = builder.starting_theta(start).seed(seed).build(alloc);
-    [
-        sketch.err().map(|e| e.kind()),
-        union.err().map(|e| e.kind()),
-    ]
+    let union = builder.starting_theta(start).seed(seed).build(heap);
+    [kind_of(sketch), kind_of(union)]
 }
 
 #[test]
@@ -114,9 +148,16 @@ fn settings_are_refused(rt: HostRuntime) {
         (5, 9223372036854775808, 9001, refusal),
         (5, 1, 50541, refusal),
     ];
+    let heap = Refusing::new(rt.alloc());
     for (lg_k, start, seed, kind) in cases {
-        let kinds = refusals(rt.alloc(), lg_k, start, seed);
+        heap.restart(Refusal::Never);
+        let kinds = refusals(&heap, lg_k, start, seed);
         assert_eq!(rt; kinds, [kind, kind], "at {lg_k}, {start}, {seed}");
+        // A refusal comes before any request for memory.
+        assert!(rt;
+            kind.is_none() || heap.seen() == 0,
+            "at {lg_k}, {start}, {seed}"
+        );
     }
 }
 
@@ -129,75 +170,120 @@ fn counted(alloc: Global, lg_k: u8, bound: i32) -> Result<ThetaSketch, Error> {
     Ok(sketch)
 }
 
+/// What is read of a compact sketch's image.
+fn read_again(alloc: Global, compact: &CompactThetaSketch) -> Result<Value, Error> {
+    let image = compact.serialize()?;
+    let again = CompactThetaSketch::deserialize(alloc, &image)?;
+    Ok(value_of(alloc, &again)?)
+}
+
+/// The value of a sketch's compact form and that which is read of its image, and whether the form estimates.
+fn compacted(
+    alloc: Global,
+    sketch: &ThetaSketch,
+    ordered: bool,
+) -> Result<(Value, Value, bool), Error> {
+    let compact = sketch.compact(ordered)?;
+    let again = read_again(alloc, &compact)?;
+    Ok((
+        value_of(alloc, &compact)?,
+        again,
+        compact.is_estimation_mode(),
+    ))
+}
+
+/// A sketch's emptiness, theta and hashes, ascending.
+fn shown(alloc: Global, sketch: &ThetaSketch) -> Result<Value, AllocError> {
+    let hashes = ascending(alloc, sketch.iter())?;
+    Ok((sketch.is_empty(), sketch.theta64(), hashes))
+}
+
+/// Whether a sketch of numbers has 2000 hashes, whether it and its compact form estimate, and its value beside both of the form.
+type Counted = ((bool, [bool; 2]), (Value, Value, Value));
+
+fn told_of_numbers(alloc: Global, sketch: &ThetaSketch, ordered: bool) -> Result<Counted, Error> {
+    let value = shown(alloc, sketch)?;
+    let (form, again, estimates) = compacted(alloc, sketch, ordered)?;
+    let modes = [sketch.is_estimation_mode(), estimates];
+    Ok(((sketch.num_retained() == 2000, modes), (value, form, again)))
+}
+
+fn counted_in(alloc: Global, lg_k: u8, bound: i32, ordered: bool) -> Result<Counted, Error> {
+    let sketch = counted(alloc, lg_k, bound)?;
+    told_of_numbers(alloc, &sketch, ordered)
+}
+
 #[test]
 fn counts_numbers(rt: HostRuntime) -> Result<(), Fail> {
-    for (lg_k, bound, estimates) in [(12, 2000, false), (5, 5000, true)] {
-        let sketch = counted(rt.alloc(), lg_k, bound)?;
-        let told = (sketch.is_estimation_mode(), sketch.num_retained() == 2000);
-        assert_eq!(rt; told, (estimates, !estimates), "at {lg_k}");
-        for ordered in [false, true] {
-            let hashes = ascending(rt.alloc(), sketch.iter())?;
-            let wanted = (sketch.is_empty(), sketch.theta64(), hashes);
-            let compact = sketch.compact(ordered)?;
-            assert_eq!(rt;
-                value_of(rt.alloc(), &compact)?,
-                wanted,
-                "at {lg_k}, {ordered}"
-            );
-            assert_eq!(rt;
-                compact.is_estimation_mode(),
-                estimates,
-                "at {lg_k}, {ordered}"
-            );
-            let image = compact.serialize()?;
-            let again = CompactThetaSketch::deserialize(rt.alloc(), &image)?;
-            assert_eq!(rt;
-                value_of(rt.alloc(), &again)?,
-                wanted,
-                "at {lg_k}, {ordered}"
-            );
-        }
+    for (lg_k, bound, estimates, ordered) in [
+        (12, 2000, false, false),
+        (12, 2000, false, true),
+        (5, 5000, true, false),
+        (5, 5000, true, true),
+    ] {
+        let told = counted_in(rt.alloc(), lg_k, bound, ordered)?;
+        let wanted = (!estimates, [estimates, estimates]);
+        assert_eq!(rt; told.0, wanted, "at {lg_k}, {ordered}");
+        assert_eq!(rt; told.1.1, told.1.0, "at {lg_k}, {ordered}");
+        assert_eq!(rt; told.1.2, told.1.0, "at {lg_k}, {ordered}, read again");
     }
     Ok(())
 }
 
 /// A compact sketch's emptiness, theta and hashes, and its order and seed hash.
-fn all_of(
-    alloc: Global,
-    sketch: &CompactThetaSketch,
-) -> Result<((bool, u64, Vec<u64>), (bool, u16)), AllocError> {
+type All = (Value, (bool, u16));
+
+fn all_of(alloc: Global, sketch: &CompactThetaSketch) -> Result<All, AllocError> {
     let value = value_of(alloc, sketch)?;
     Ok((value, (sketch.is_ordered(), sketch.seed_hash())))
+}
+
+/// How many entries an iterator has at least and at most.
+type Hint = (usize, Option<usize>);
+
+/// The hints of a compact sketch of the hashes from 1 to a last, and of its view.
+fn compact_hints(alloc: Global, last: u64) -> Result<[Hint; 2], Error> {
+    let compact = compact_of(alloc, 1, last, false)?;
+    Ok([
+        compact.iter().size_hint(),
+        compact.as_view().iter().size_hint(),
+    ])
+}
+
+/// The hint of a sketch of the hashes from 1 to a last.
+fn hint_of(alloc: Global, last: u64) -> Result<Hint, Error> {
+    let sketch = sketch_of(alloc, 9001, 1, last)?;
+    Ok(sketch.iter().size_hint())
 }
 
 #[test]
 fn sizes_are_told(rt: HostRuntime) -> Result<(), Fail> {
     for (last, count) in [(0, 0), (1, 1), (40, 40)] {
-        let sketch = sketch_of(rt.alloc(), 9001, 1, last)?;
-        let compact = sketch.compact(false)?;
-        let hints = [
-            compact.iter().size_hint(),
-            compact.as_view().iter().size_hint(),
-        ];
+        let exact = (count, Some(count));
         assert_eq!(rt;
-            hints,
-            [(count, Some(count)), (count, Some(count))],
+            compact_hints(rt.alloc(), last)?,
+            [exact, exact],
             "at {last}"
         );
-        let (least, most) = sketch.iter().size_hint();
+        let (least, most) = hint_of(rt.alloc(), last)?;
         assert!(rt; least == 0 && most >= Some(count), "at {last}");
     }
     Ok(())
 }
 
+/// All of a copy.
+fn all_of_copy(alloc: Global, last: u64, ordered: bool) -> Result<All, Error> {
+    let compact = compact_of(alloc, 1, last, ordered)?;
+    let copy = compact.clone()?;
+    Ok(all_of(alloc, &copy)?)
+}
+
 #[test]
 fn compact_sketches_are_cloned(rt: HostRuntime) -> Result<(), Fail> {
     for (last, ordered) in [(0, true), (1, true), (40, false)] {
-        let compact = sketch_of(rt.alloc(), 9001, 1, last)?.compact(ordered)?;
-        let copy = compact.clone()?;
-        let wanted = (last == 0, MAX_THETA, numbers(rt.alloc(), 1, last)?);
-        let wanted = (wanted, (ordered, 37836));
-        assert_eq!(rt; all_of(rt.alloc(), &copy)?, wanted, "at {last}");
+        let all = all_of_copy(rt.alloc(), last, ordered)?;
+        let value = value_between(rt.alloc(), last == 0, MAX_THETA, (1, last))?;
+        assert_eq!(rt; all, (value, (ordered, 37836)), "at {last}");
     }
     Ok(())
 }

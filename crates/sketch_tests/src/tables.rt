@@ -4,7 +4,7 @@ use crate::common::numbers;
 use sketch_base::{Error, ErrorKind, compute_seed_hash};
 use std::alloc::{AllocError, Global};
 use std::test::Fail;
-use theta_core::{CompactSketchState, MAX_THETA, ResizeFactor, ThetaHashTable};
+use theta_core::{CompactSketchState, MAX_THETA, ResizeFactor, ThetaEntry, ThetaHashTable};
 
 const FACTORS: [ResizeFactor; 4] = [
     ResizeFactor::X1,
@@ -40,10 +40,21 @@ fn value_of(alloc: Global, table: &ThetaHashTable) -> Result<(u64, Vec<u64>), Al
     Ok((table.retention_theta(), hashes))
 }
 
+/// The hashes are from 1 to the last: the last, whether they descend, whether a trim follows, theta, and the last that is kept.
+type Row = (u64, bool, bool, u64, u64);
+
+fn value_in(alloc: Global, factor: ResizeFactor, row: Row) -> Result<(u64, Vec<u64>), Error> {
+    let (last, descend, trim, ..) = row;
+    let mut table = table_of(alloc, factor, last, descend)?;
+    if trim {
+        table.trim()?;
+    }
+    Ok(value_of(alloc, &table)?)
+}
+
 #[test]
 fn tables_keep_the_least(rt: HostRuntime) -> Result<(), Fail> {
-    // The last hash, whether they descend, whether a trim follows, theta, and the last that is kept.
-    let cases: [(u64, bool, bool, u64, u64); 5] = [
+    let rows: [Row; 5] = [
         (60, false, false, MAX_THETA, 60),
         (61, false, false, 33, 32),
         (62, true, false, 34, 33),
@@ -51,24 +62,19 @@ fn tables_keep_the_least(rt: HostRuntime) -> Result<(), Fail> {
         (32, false, true, MAX_THETA, 32),
     ];
     for factor in FACTORS {
-        for (last, descend, trim, theta, kept) in cases {
-            let mut table = table_of(rt.alloc(), factor, last, descend)?;
-            if trim {
-                table.trim()?;
-            }
-            let value = value_of(rt.alloc(), &table)?;
-            let wanted = (theta, numbers(rt.alloc(), 1, kept)?);
-            assert_eq!(rt; value, wanted, "at {last}, {factor:?}");
+        for row in rows {
+            let value = value_in(rt.alloc(), factor, row)?;
+            let wanted = (row.3, numbers(rt.alloc(), 1, row.4)?);
+            assert_eq!(rt; value, wanted, "of {row:?}, {factor:?}");
         }
     }
     Ok(())
 }
 
 /// A state's emptiness, theta, seed hash, order and hashes.
-fn told(
-    alloc: Global,
-    state: &CompactSketchState<theta_core::ThetaEntry>,
-) -> Result<((bool, u64, u16, bool), Vec<u64>), AllocError> {
+type Told = ((bool, u64, u16, bool), Vec<u64>);
+
+fn told(alloc: Global, state: &CompactSketchState<ThetaEntry>) -> Result<Told, AllocError> {
     let mut hashes = Vec::new(alloc);
     for entry in state.retained_entries() {
         hashes.push(entry.hash())?;
@@ -82,30 +88,49 @@ fn told(
     Ok((others, hashes))
 }
 
+/// The state of a table that was given the hashes from 61 to 1.
+fn state_of(alloc: Global, ordered: bool) -> Result<CompactSketchState<ThetaEntry>, Error> {
+    let table = table_of(alloc, ResizeFactor::X8, 61, true)?;
+    if table.num_retained() < 4294967296 {
+        return table.to_non_empty_compact_state(ordered);
+    }
+    Err(Error::new(ErrorKind::Failed))
+}
+
+fn told_of_copy(alloc: Global, ordered: bool) -> Result<Told, Error> {
+    let state = state_of(alloc, ordered)?;
+    let copy = state.clone()?;
+    Ok(told(alloc, &copy)?)
+}
+
+fn told_of_empty_copy(alloc: Global) -> Result<Told, Error> {
+    let copy = CompactSketchState::empty(alloc, 5).clone()?;
+    Ok(told(alloc, &copy)?)
+}
+
 #[test]
 fn states_are_cloned(rt: HostRuntime) -> Result<(), Fail> {
-    let table = table_of(rt.alloc(), ResizeFactor::X8, 61, true)?;
-    assert!(rt; table.num_retained() < 4294967296);
     for ordered in [false, true] {
-        let state = table.to_non_empty_compact_state(ordered)?;
+        let told = told_of_copy(rt.alloc(), ordered)?;
         let wanted = ((false, 33, 37836, ordered), numbers(rt.alloc(), 1, 32)?);
-        let copy = state.clone()?;
-        assert_eq!(rt; told(rt.alloc(), &copy)?, wanted, "at {ordered}");
+        assert_eq!(rt; told, wanted, "at {ordered}");
     }
-    let none = CompactSketchState::empty(rt.alloc(), 5).clone()?;
-    let wanted = ((true, MAX_THETA, 5, true), numbers(rt.alloc(), 1, 0)?);
-    assert_eq!(rt; told(rt.alloc(), &none)?, wanted);
+    let told = told_of_empty_copy(rt.alloc())?;
+    assert_eq!(rt; told, ((true, MAX_THETA, 5, true), Vec::new(rt.alloc())));
     Ok(())
+}
+
+fn told_of_mapped(alloc: Global) -> Result<Told, Error> {
+    let state = state_of(alloc, true)?;
+    let mapped = state.map_retained_entries(|entry| entry)?;
+    Ok(told(alloc, &mapped)?)
 }
 
 #[test]
 fn states_are_mapped(rt: HostRuntime) -> Result<(), Fail> {
-    let table = table_of(rt.alloc(), ResizeFactor::X8, 61, true)?;
-    assert!(rt; table.num_retained() < 4294967296);
-    let state = table.to_non_empty_compact_state(true)?;
-    let mapped = state.map_retained_entries(|entry| entry)?;
+    let told = told_of_mapped(rt.alloc())?;
     let wanted = ((false, 33, 37836, true), numbers(rt.alloc(), 1, 32)?);
-    assert_eq!(rt; told(rt.alloc(), &mapped)?, wanted);
+    assert_eq!(rt; told, wanted);
     Ok(())
 }
 

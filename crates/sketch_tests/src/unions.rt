@@ -1,8 +1,8 @@
 //! Unions of sketches.
 
-use crate::common::{numbers, sketch_of, value_of};
+use crate::common::{Value, add, kind_of, sketch_of, value_between, value_of};
 use sketch_base::{Error, ErrorKind};
-use std::alloc::Global;
+use std::alloc::{AllocError, Global};
 use std::test::Fail;
 use theta_core::MAX_THETA;
 use theta_sketches::{ThetaUnion, ThetaUnionBuilder};
@@ -12,20 +12,41 @@ fn union_of(alloc: Global, start: u64, parts: &[(u64, u64)]) -> Result<ThetaUnio
     let builder = ThetaUnionBuilder::default().lg_k(5);
     let mut union = builder.starting_theta(start).build(alloc)?;
     for (first, last) in parts {
-        let part = sketch_of(alloc, 9001, *first, *last)?;
-        union.update(part.as_view())?;
+        add(&mut union, sketch_of(alloc, 9001, *first, *last)?)?;
     }
     Ok(union)
 }
 
 /// A union's emptiness, theta and hashes, ascending.
-fn value_in(
-    alloc: Global,
-    union: &ThetaUnion,
-    ordered: bool,
-) -> Result<(bool, u64, Vec<u64>), Error> {
+fn value_in(alloc: Global, union: &ThetaUnion, ordered: bool) -> Result<Value, Error> {
     let answer = union.to_sketch(ordered)?;
     Ok(value_of(alloc, &answer)?)
+}
+
+/// The value of a union in an answer that is not ordered and in one that is, and that of the union once it is reset.
+type Told = (Value, Value, Value);
+
+fn values_in(alloc: Global, union: &ThetaUnion) -> Result<(Value, Value), Error> {
+    let value = value_in(alloc, union, false)?;
+    Ok((value, value_in(alloc, union, true)?))
+}
+
+fn told_in(alloc: Global, start: u64, parts: &[(u64, u64)]) -> Result<Told, Error> {
+    let mut union = union_of(alloc, start, parts)?;
+    let (value, ordered) = values_in(alloc, &union)?;
+    union.reset();
+    Ok((value, ordered, value_in(alloc, &union, true)?))
+}
+
+fn wanted_of(
+    alloc: Global,
+    empty: bool,
+    theta: u64,
+    hashes: (u64, u64),
+) -> Result<Told, AllocError> {
+    let value = value_between(alloc, empty, theta, hashes)?;
+    let ordered = value_between(alloc, empty, theta, hashes)?;
+    Ok((value, ordered, (true, MAX_THETA, Vec::new(alloc))))
 }
 
 #[test]
@@ -46,33 +67,33 @@ fn unions_keep_the_least(rt: HostRuntime) -> Result<(), Fail> {
         (MAX_THETA, &[(1, 61), (20, 40)], false, 33, (1, 32)),
         (1000, &[(2000, 2000)], false, 1000, (1, 0)),
     ];
-    for (start, parts, empty, theta, (first, last)) in cases {
-        let mut union = union_of(rt.alloc(), start, parts)?;
-        for ordered in [false, true] {
-            let wanted = (empty, theta, numbers(rt.alloc(), first, last)?);
-            let value = value_in(rt.alloc(), &union, ordered)?;
-            assert_eq!(rt; value, wanted, "of {parts:?}, {ordered}");
-        }
-        union.reset();
-        let wanted = (true, MAX_THETA, numbers(rt.alloc(), 1, 0)?);
-        assert_eq!(rt; value_in(rt.alloc(), &union, true)?, wanted, "of {parts:?}");
+    for (start, parts, empty, theta, hashes) in cases {
+        let told = told_in(rt.alloc(), start, parts)?;
+        let wanted = wanted_of(rt.alloc(), empty, theta, hashes)?;
+        assert_eq!(rt; told, wanted, "of {parts:?}");
     }
     Ok(())
+}
+
+/// Why a union refuses a sketch of another seed, and its value then.
+fn refused(
+    alloc: Global,
+    union: &mut ThetaUnion,
+    first: u64,
+    last: u64,
+) -> Result<(Option<ErrorKind>, Value), Error> {
+    let other = sketch_of(alloc, 123, first, last)?;
+    let kind = kind_of(union.update(other.as_view()));
+    Ok((kind, value_in(alloc, union, true)?))
 }
 
 #[test]
 fn unions_want_one_seed(rt: HostRuntime) -> Result<(), Fail> {
     let mut union = union_of(rt.alloc(), MAX_THETA, &[(1, 9)])?;
     for (first, last, refusal) in [(1, 0, None), (3, 12, Some(ErrorKind::InvalidArgument))] {
-        let other = sketch_of(rt.alloc(), 123, first, last)?;
-        let kind = union.update(other.as_view()).err().map(|e| e.kind());
-        assert_eq!(rt; kind, refusal, "at {first} to {last}");
-        let wanted = (false, MAX_THETA, numbers(rt.alloc(), 1, 9)?);
-        assert_eq!(rt;
-            value_in(rt.alloc(), &union, true)?,
-            wanted,
-            "at {first} to {last}"
-        );
+        let told = refused(rt.alloc(), &mut union, first, last)?;
+        let value = value_between(rt.alloc(), false, MAX_THETA, (1, 9))?;
+        assert_eq!(rt; told, (refusal, value), "at {first} to {last}");
     }
     Ok(())
 }

@@ -6,35 +6,38 @@ use Rattle.sketch_base.specs.Seed.{seed_hash}
 use Rattle.sketch_base.specs.declared.seed.TheConstants.{DEFAULT_UPDATE_SEED}
 use Rattle.sketch_base.specs.declared.error.ErrorKind.{ErrorKind}
 use Rattle.sketch_base.specs.declared.error.ErrorKind.TheVariants.{InvalidArgument}
-use Rattle.theta_core.specs.declared.TheConstants.{MAX_THETA}
-use Rattle.theta_core.specs.Sketch.{Sketch, Empty, NonEmpty}
-use Rattle.sketchtool.specs.declared.command.Command.{Command}
-use Rattle.sketchtool.specs.declared.command.Command.TheVariants.{ThetaShow, ThetaImage}
-use Rattle.sketchtool.specs.declared.fault.Fault.TheVariants.{Syntax, Limit}
-use Rattle.sketchtool.specs.Spelling.{Spells}
-use Rattle.sketchtool.specs.Faults.{fault_of}
+use Rattle.theta_laws.specs.declared.TheConstants.{MAX_THETA}
+use Rattle.theta_table.specs.CompactState.{Compact}
+use Rattle.theta_laws.specs.Values.{Sketch, Empty, NonEmpty}
+use Rattle.plan_text.specs.declared.command.Command.{Command}
+use Rattle.plan_text.specs.declared.command.Command.TheVariants.{Theta}
+use Rattle.plan_text.specs.declared.command.Form.{Form}
+use Rattle.plan_text.specs.declared.command.Form.TheVariants.{Show, Image}
+use Rattle.plan_text.specs.declared.fault.Fault.TheVariants.{Syntax, Limit}
+use Rattle.plan_text.specs.Spelling.{Spells}
+use Rattle.plan_text.specs.Faults.{fault_of}
 use Rattle.theta_sketches.specs.Image.{written}
-use Rattle.sketchtool.specs.Evaluated.{ordered_sketch}
-use Rattle.sketchtool.specs.Value.{value_of, plan_refusal}
+use Rattle.plan_evaluation.specs.Evaluated.{ordered_sketch}
+use Rattle.plan_evaluation.specs.Value.{value_of, plan_refusal}
 
 -- a text and the LF that ends its line
 abbrev pub ended_line : List ℕ → List ℕ
 ended_line text = text ++ 10 ∷ []
 
 -- a number on a line of its own
-abbrev pub line_of : ℕ → List ℕ
-line_of n = ended_line (decimal n)
+abbrev pub number_line : ℕ → List ℕ
+number_line n = ended_line (decimal n)
 
 -- whether a sketch is empty, its theta, and how many hashes it retains
 abbrev pub shown_head : Bool → ℕ → ℕ → List ℕ
 shown_head empty theta count =
     ended_line (codes "empty " ++ (if empty then codes "yes" else codes "no"))
-    ++ codes "theta " ++ line_of theta
-    ++ codes "count " ++ line_of count
+    ++ codes "theta " ++ number_line theta
+    ++ codes "count " ++ number_line count
 
 -- the text of `show`: this, and then the hashes, one on a line
 abbrev pub shown_text : Bool → ℕ → List ℕ → List ℕ
-shown_text empty theta hashes = shown_head empty theta (length hashes) ++ flat_map line_of hashes
+shown_text empty theta hashes = shown_head empty theta (length hashes) ++ flat_map number_line hashes
 
 -- the text of `show` for a value: Empty has the greatest theta and no hashes
 abbrev pub shown : Sketch ℕ → List ℕ
@@ -66,15 +69,23 @@ argument_line = ended_line (codes "error argument")
 abbrev pub memory_line : List ℕ
 memory_line = ended_line (codes "error memory")
 
--- the text that answers a command, under the default seed
+-- the text of a sketch in a form
+abbrev pub sketch_text : Form → Compact ℕ → List ℕ
+sketch_text Show s = shown_text s.empty s.theta s.entries
+sketch_text Image s = hex_line (written s)
+
+-- the text of a value in a form, under the default seed
+abbrev pub value_text : Form → Sketch ℕ → List ℕ
+value_text Show v = shown v
+value_text Image v = imaged v (seed_hash DEFAULT_UPDATE_SEED)
+
+-- the text that answers a command
 abbrev pub command_text : {Z : Type 0} → Command Z → List ℕ
-command_text (ThetaShow plan) = shown (value_of plan)
-command_text (ThetaImage plan) = imaged (value_of plan) (seed_hash DEFAULT_UPDATE_SEED)
+command_text (Theta form plan) = value_text form (value_of plan)
 
 -- what the evaluation of a command's plan is refused with
 abbrev pub command_refusal : {Z : Type 0} → Command Z → Option ErrorKind
-command_refusal (ThetaShow plan) = plan_refusal DEFAULT_UPDATE_SEED plan
-command_refusal (ThetaImage plan) = plan_refusal DEFAULT_UPDATE_SEED plan
+command_refusal (Theta form plan) = plan_refusal DEFAULT_UPDATE_SEED plan
 
 -- the status and the text that may answer an input: what answers its command, a refused evaluation,
 -- the first fault of the input, or want of memory
@@ -88,7 +99,3 @@ pub data Answers (Z : Type 0) (input : List ℕ) : ℕ → List ℕ → Type 0 w
 -- an answer to every input that spells the command
 abbrev pub AnswersCommand : {Z : Type 0} → Command Z → ℕ → List ℕ → Type 0
 AnswersCommand {Z} command status text = (input : List ℕ) → Spells input command → Answers Z input status text
-
--- where a run did not fail, it wrote an answer of its status and nothing else
-abbrev pub RunAnswers : Type 0 → List ℕ → ℕ → Option (List ℕ) → Option (List ℕ) → Type 0
-RunAnswers Z input status old new = status ≢ 2 → (text : List ℕ) × Answers Z input status text × Appends old new text

@@ -5,13 +5,19 @@ use Rattle.sketchtool.specs.declared.run.Ending.{Ending}
 use Rattle.sketchtool.specs.declared.run.Ending.TheVariants.{Answered, NotRead, NotWritten}
 use Rattle.sketchtool.specs.Answer.{Answers}
 
+-- the exit status: the answer's, or 2 where a read or a write failed
+abbrev pub status_of : Ending → ℕ
+status_of (Answered status) = status
+status_of NotRead = 2
+status_of NotWritten = 2
+
 -- the text was written whole with this status, or a write failed
 abbrev pub Puts : List ℕ → ℕ → Ending → Option (List ℕ) → Option (List ℕ) → Type 0
 Puts text status (Answered s) old new = (s ≡ status) × Appends old new text
 Puts text status NotRead old new = ⊥
 Puts text status NotWritten old new = Unit {0}
 
--- an answer of the status was written, and nothing else
+-- a run on an input: it wrote a text that answers the input with the status, and nothing else, unless a read or a write failed
 abbrev pub Ends : Type 0 → List ℕ → Ending → Option (List ℕ) → Option (List ℕ) → Type 0
 Ends Z input (Answered status) old new = (text : List ℕ) × Answers Z input status text × Appends old new text
 Ends Z input NotRead old new = Unit {0}

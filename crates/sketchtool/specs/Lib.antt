@@ -1,14 +1,2 @@
-pub mod Words
-pub mod Text
-pub mod Lines
-pub mod Reading
-pub mod Spelling
-pub mod Faults
-pub mod First
-pub mod Value
-pub mod Whole
-pub mod MergePlan
-pub mod Evaluated
 pub mod Answer
 pub mod Ending
-pub mod formers

@@ -1,21 +1,19 @@
 //! The text that answers an input.
 ghost use Rattle.std.specs.Prelude.{◌≡◌, ◌++◌, OnOk, IfOk, string_bytes};
 ghost use Rattle.sketch_base.specs.declared.error.ErrorKind.TheVariants.{InvalidArgument};
-ghost use Rattle.sketchtool.specs.Answer.{Answers, AnswersCommand, line_of, shown_head, shown_text, hex_byte, hex_line, fault_line, argument_line};
-ghost use Rattle.sketchtool.specs.declared.command.Command.TheVariants.{ThetaShow, ThetaImage};
+ghost use Rattle.plan_text.specs.declared.command.Command.TheVariants.{Theta};
+ghost use Rattle.sketchtool.specs.Answer.{Answers, AnswersCommand, number_line, shown_head, shown_text, hex_byte, hex_line, sketch_text, fault_line, argument_line};
+ghost use Rattle.theta_sketches.specs.Image.{written};
 
-use crate::command::Command;
-use crate::evaluate::evaluate_theta;
-use crate::fault::Fault;
-use crate::plan::Plan;
-use crate::reading::read_plan;
+use plan_evaluation::evaluate_theta;
+use plan_text::{Command, Fault, Form, Plan, read_plan};
 use sketch_base::{DEFAULT_UPDATE_SEED, Error, ErrorKind};
 use std::alloc::{AllocError, Allocator};
 use theta_sketches::CompactThetaSketch;
 
 /// Puts a number on a line of its own.
 fn put_line<A: Allocator>(text: &mut String<A>, number: u64) -> Result<(), AllocError>
-    ensures { OnOk result (string_bytes text.new ≡ string_bytes text.old ++ line_of number) }
+    ensures { OnOk result (string_bytes text.new ≡ string_bytes text.old ++ number_line number) }
 {
     writeln!(text, "{number}")
 }
@@ -36,7 +34,7 @@ fn put_head<A: Allocator>(
 }
 
 /// The text of `show` for a sketch: whether it is empty, its theta, how many hashes it retains, and these in its order.
-fn show<A: Allocator, B: Allocator>(
+fn show_text<A: Allocator, B: Allocator>(
     alloc: A,
     sketch: &CompactThetaSketch<B>,
 ) -> Result<String<A>, AllocError>
@@ -80,22 +78,6 @@ fn refused_text<A: Allocator + Clone>(
     }
 }
 
-/// The status and the text that answer `theta show` with this plan.
-fn theta_show<A: Allocator + Clone>(
-    alloc: &A,
-    plan: &Plan<(), A>,
-) -> Result<(u8, String<A>), AllocError>
-    ensures { IfOk result (λ x. AnswersCommand (ThetaShow plan.now) x.0 (string_bytes x.1)) }
-{
-    match evaluate_theta(alloc.clone()?, plan, DEFAULT_UPDATE_SEED) {
-        Ok(sketch) => {
-            let text = show(alloc.clone()?, &sketch)?;
-            Ok((0, text))
-        }
-        Err(refused) => refused_text(alloc, refused),
-    }
-}
-
 /// Puts a byte as two digits of lower-case hexadecimal.
 fn put_byte<A: Allocator>(text: &mut String<A>, byte: u8) -> Result<(), AllocError>
     ensures { OnOk result (string_bytes text.new ≡ string_bytes text.old ++ hex_byte byte) }
@@ -103,31 +85,56 @@ fn put_byte<A: Allocator>(text: &mut String<A>, byte: u8) -> Result<(), AllocErr
     write!(text, "{byte:02x}")
 }
 
-/// The line of an image.
-fn image_text<A: Allocator>(alloc: A, image: &[u8]) -> Result<String<A>, AllocError>
-    ensures { IfOk result (λ text. string_bytes text ≡ hex_line image.now) }
+/// The line of bytes in hexadecimal.
+fn hex_text<A: Allocator>(alloc: A, bytes: &[u8]) -> Result<String<A>, AllocError>
+    ensures { IfOk result (λ text. string_bytes text ≡ hex_line bytes.now) }
 {
     let mut text = String::new(alloc);
-    for byte in image {
+    for byte in bytes {
         put_byte(&mut text, *byte)?;
     }
     text.push('\n')?;
     Ok(text)
 }
 
-/// The status and the text that answer `theta image` with this plan.
-fn theta_image<A: Allocator + Clone>(
+/// The text of `image` for a sketch: what is written of it, in hexadecimal.
+fn image_text<A: Allocator, B: Allocator + Clone>(
+    alloc: A,
+    sketch: &CompactThetaSketch<B>,
+) -> Result<String<A>, AllocError>
+    ensures { IfOk result (λ text. string_bytes text ≡ hex_line (written sketch.now)) }
+{
+    let Ok(image) = sketch.serialize() else {
+        return Err(AllocError);
+    };
+    hex_text(alloc, image.as_slice())
+}
+
+/// The text of a sketch in the form that is asked for.
+fn sketch_text<A: Allocator, B: Allocator + Clone>(
+    alloc: A,
+    form: Form,
+    sketch: &CompactThetaSketch<B>,
+) -> Result<String<A>, AllocError>
+    ensures { IfOk result (λ text. string_bytes text ≡ sketch_text form sketch.now) }
+{
+    match form {
+        Form::Show => show_text(alloc, sketch),
+        Form::Image => image_text(alloc, sketch),
+    }
+}
+
+/// The status and the text that answer a plan of theta sketches in a form.
+fn theta_answer<A: Allocator + Clone>(
     alloc: &A,
+    form: Form,
     plan: &Plan<(), A>,
 ) -> Result<(u8, String<A>), AllocError>
-    ensures { IfOk result (λ x. AnswersCommand (ThetaImage plan.now) x.0 (string_bytes x.1)) }
+    ensures { IfOk result (λ x. AnswersCommand (Theta form plan.now) x.0 (string_bytes x.1)) }
 {
     match evaluate_theta(alloc.clone()?, plan, DEFAULT_UPDATE_SEED) {
         Ok(sketch) => {
-            let Ok(image) = sketch.serialize() else {
-                return Err(AllocError);
-            };
-            let text = image_text(alloc.clone()?, image.as_slice())?;
+            let text = sketch_text(alloc.clone()?, form, &sketch)?;
             Ok((0, text))
         }
         Err(refused) => refused_text(alloc, refused),
@@ -142,8 +149,7 @@ fn command_answer<A: Allocator + Clone>(
     ensures { IfOk result (λ x. AnswersCommand command.now x.0 (string_bytes x.1)) }
 {
     match command {
-        Command::ThetaShow(plan) => theta_show(alloc, plan),
-        Command::ThetaImage(plan) => theta_image(alloc, plan),
+        Command::Theta(form, plan) => theta_answer(alloc, *form, plan),
     }
 }
 

@@ -5,26 +5,15 @@
 #![tactic(auto)]
 
 mod answer;
-mod boxed;
-mod command;
-mod descent;
-mod evaluate;
-mod fault;
-mod items;
-pub mod laws;
-mod line;
-mod plan;
-mod reading;
 mod run;
-mod step_value;
 #[cfg(test)]
 mod tests;
-mod text;
 
 use std::process::ExitCode;
 
 fn main(rt: HostRuntime) -> ExitCode {
     let mut reader = rt.stdin();
     let mut writer = rt.stdout();
-    ExitCode::from(run::run(rt.alloc(), &mut reader, &mut writer))
+    let ending = run::run(rt.alloc(), &mut reader, &mut writer);
+    ExitCode::from(ending.status())
 }

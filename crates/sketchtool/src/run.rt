@@ -1,8 +1,7 @@
 //! A whole run, over a reader and a writer.
 ghost use Rattle.std.specs.Prelude.{◌≡◌, IfOk, IfSome};
 ghost use Rattle.std.specs.Io.KnownBytes.{Keeps, IsAtEnd};
-ghost use Rattle.sketchtool.specs.Ending.{Puts, Ends};
-ghost use Rattle.sketchtool.specs.Answer.{RunAnswers};
+ghost use Rattle.sketchtool.specs.Ending.{Puts, Ends, status_of};
 ghost use Rattle.sketchtool.specs.declared.run.Unread.TheVariants.{Memory};
 
 use crate::answer::answer;
@@ -51,13 +50,28 @@ fn read_all<A: Allocator, R: Read>(alloc: A, reader: &mut R) -> Result<Vec<u8, A
 }
 
 /// How a run ended.
+#[derive(Debug, Clone, Copy, PartialEq, Eq)]
 pub enum Ending {
-    /// An answer of this status was written.
+    /// An answer of this status was written: 0 where it is what a command asks for, 1 where it is
+    /// a fault.
     Answered(u8),
     /// A read failed, and nothing was written.
     NotRead,
-    /// A write failed.
+    /// A write failed, and nothing is said of how much was written.
     NotWritten,
+}
+
+impl Ending {
+    /// The exit status: the answer's, or 2 where a read or a write failed.
+    pub fn status(self) -> u8
+        ensures { result ≡ status_of self }
+    {
+        match self {
+            Ending::Answered(status) => status,
+            Ending::NotRead => 2,
+            Ending::NotWritten => 2,
+        }
+    }
 }
 
 /// Writes an answer.
@@ -70,8 +84,13 @@ fn put<W: Write>(writer: &mut W, text: &[u8], status: u8) -> Ending
     }
 }
 
-/// Reads all there is, and only then writes the answer to it, whole, and nothing else.
-pub fn attempt<A: Allocator + Clone, R: Read, W: Write>(
+/// Answers all that a reader has: reads to its end, and only then writes the answer, whole, and
+/// nothing else.
+///
+/// Each read asks for at least 4096 bytes, and one that was interrupted is made again. Any other failure of
+/// a read ends the run, whatever the reader would give later, and so does an input that has not
+/// ended after 2^24 reads.
+pub fn run<A: Allocator + Clone, R: Read, W: Write>(
     alloc: A,
     reader: &mut R,
     writer: &mut W,
@@ -90,21 +109,5 @@ pub fn attempt<A: Allocator + Clone, R: Read, W: Write>(
     match answer(&alloc, input.as_slice()) {
         Ok((status, text)) => put(writer, text.as_bytes(), status),
         Err(_) => put(writer, b"error memory\n", 1),
-    }
-}
-
-/// Answers all that a reader has, and tells the status: 0 where the answer is what a command
-/// shows, 1 where it is a fault, and 2 where a read or a write failed. After a failed read nothing
-/// was written; after a failed write nothing is said of how much was.
-///
-/// Each read asks for 4096 bytes, one that was interrupted is made again, and an input that has
-/// not ended after 2^24 reads counts as a failed read.
-pub fn run<A: Allocator + Clone, R: Read, W: Write>(alloc: A, reader: &mut R, writer: &mut W) -> u8
-    ensures { IfSome (R.remaining reader.old) (λ input. RunAnswers A input result (W.contents writer.old) (W.contents writer.new)) }
-{
-    match attempt(alloc, reader, writer) {
-        Ending::Answered(status) => status,
-        Ending::NotRead => 2,
-        Ending::NotWritten => 2,
     }
 }

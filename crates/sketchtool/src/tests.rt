@@ -4,11 +4,11 @@
 mod fakes;
 mod requests;
 
-use crate::reading::read_plan;
-use crate::run::run;
+use crate::run::{Ending, run};
 use fakes::{After, Pieces, Room};
+use plan_text::read_plan;
 use std::alloc::{AllocError, Global};
-use std::io::Read;
+use std::io::{ErrorKind, Read};
 use std::test::Fail;
 
 /// Faults, each the whole answer with status 1.
@@ -118,17 +118,22 @@ const SPELLED: [&str; 10] = [
 /// The status of a run, and what it wrote.
 fn answer_to<R: Read>(alloc: Global, reader: &mut R) -> (u8, Vec<u8>) {
     let mut written = Vec::new(alloc);
-    let status = run(alloc, reader, &mut written);
-    (status, written)
+    let ending = run(alloc, reader, &mut written);
+    (ending.status(), written)
+}
+
+/// The status of a run that reads this text, and what it wrote.
+fn answer_to_text(alloc: Global, text: &str) -> (u8, Vec<u8>) {
+    let mut reader = text.as_bytes();
+    answer_to(alloc, &mut reader)
 }
 
 #[test]
 fn answers_faults(rt: HostRuntime) {
     for (text, answer) in FAULTS {
-        let mut reader = text.as_bytes();
-        let (status, written) = answer_to(rt.alloc(), &mut reader);
-        assert_eq!(rt; written.as_slice(), answer.as_bytes(), "at {text:?}");
-        assert_eq!(rt; status, 1, "at {text:?}");
+        let (status, written) = answer_to_text(rt.alloc(), text);
+        let said = (status, written.as_slice());
+        assert_eq!(rt; said, (1, answer.as_bytes()), "at {text:?}");
     }
 }
 
@@ -140,6 +145,21 @@ fn reads_commands(rt: HostRuntime) {
             "at {text:?}"
         );
     }
+}
+
+/// The answer to a plan of so many nodes, one in the other, around the last lines.
+fn answer_to_nested(
+    alloc: Global,
+    nodes: u32,
+    node: &str,
+    last: &str,
+) -> Result<(u8, Vec<u8>), AllocError> {
+    let mut text = String::from_str(alloc, "theta show\n")?;
+    for _ in 0..nodes {
+        text.push_str(node)?;
+    }
+    text.push_str(last)?;
+    Ok(answer_to_text(alloc, text.as_str()))
 }
 
 #[test]
@@ -165,15 +185,9 @@ fn limits_levels(rt: HostRuntime) -> Result<(), Fail> {
         (64, "via unordered\n", "meet 1\n", "error 66 limit\n"),
     ];
     for (nodes, node, last, answer) in cases {
-        let mut text = String::from_str(rt.alloc(), "theta show\n")?;
-        for _ in 0..nodes {
-            text.push_str(node)?;
-        }
-        text.push_str(last)?;
-        let mut reader = text.as_bytes();
-        let (status, written) = answer_to(rt.alloc(), &mut reader);
-        assert_eq!(rt; written.as_slice(), answer.as_bytes(), "at {last:?}");
-        assert_eq!(rt; status, 1, "at {last:?}");
+        let (status, written) = answer_to_nested(rt.alloc(), nodes, node, last)?;
+        let said = (status, written.as_slice());
+        assert_eq!(rt; said, (1, answer.as_bytes()), "at {last:?}");
     }
     Ok(())
 }
@@ -447,32 +461,43 @@ const ARGUMENTS: [&str; 11] = [
     "via ordered\nleaf 27 max 0\n",
 ];
 
-fn text_of(alloc: Global, lines: &[Line]) -> Result<String, AllocError> {
+/// Puts `count` further lines, the first of this hash and each next one of a step more.
+fn put_adds(text: &mut String, hash: u64, count: u64, step: u64) -> Result<(), AllocError> {
+    for further in 0..count {
+        let added = hash.wrapping_add(further.wrapping_mul(step));
+        writeln!(text, "add {added}")?;
+    }
+    Ok(())
+}
+
+/// The answer to a plan of these lines.
+fn answer_to_lines(alloc: Global, lines: &[Line]) -> Result<(u8, Vec<u8>), AllocError> {
     let mut text = String::from_str(alloc, "theta show\n")?;
     for (line, hash, count, step) in lines {
         if *count == 0 {
             writeln!(text, "{line}")?;
         }
-        for further in 0..*count {
-            let added = hash.wrapping_add(further.wrapping_mul(*step));
-            writeln!(text, "add {added}")?;
-        }
+        put_adds(&mut text, *hash, *count, *step)?;
     }
-    Ok(text)
+    Ok(answer_to_text(alloc, text.as_str()))
+}
+
+/// What is shown of the hashes from 1 to the last, behind a head.
+fn shown_up_to(alloc: Global, head: &str, last: u64) -> Result<String, AllocError> {
+    let mut shown = String::from_str(alloc, head)?;
+    for hash in 1..=last {
+        writeln!(shown, "{hash}")?;
+    }
+    Ok(shown)
 }
 
 #[test]
 fn shows_values(rt: HostRuntime) -> Result<(), Fail> {
     for (lines, head, last) in SHOWN {
-        let text = text_of(rt.alloc(), lines)?;
-        let mut wanted = String::from_str(rt.alloc(), head)?;
-        for hash in 1..=last {
-            writeln!(wanted, "{hash}")?;
-        }
-        let mut reader = text.as_bytes();
-        let (status, written) = answer_to(rt.alloc(), &mut reader);
-        assert_eq!(rt; written.as_slice(), wanted.as_bytes(), "at {text:?}");
-        assert_eq!(rt; status, 0, "at {text:?}");
+        let (status, written) = answer_to_lines(rt.alloc(), lines)?;
+        let wanted = shown_up_to(rt.alloc(), head, last)?;
+        let said = (status, written.as_slice());
+        assert_eq!(rt; said, (0, wanted.as_bytes()), "at {lines:?}");
     }
     Ok(())
 }
@@ -480,10 +505,9 @@ fn shows_values(rt: HostRuntime) -> Result<(), Fail> {
 #[test]
 fn answers_texts(rt: HostRuntime) {
     for (text, answer) in ANSWERED {
-        let mut reader = text.as_bytes();
-        let (status, written) = answer_to(rt.alloc(), &mut reader);
-        assert_eq!(rt; written.as_slice(), answer.as_bytes(), "at {text:?}");
-        assert_eq!(rt; status, 0, "at {text:?}");
+        let (status, written) = answer_to_text(rt.alloc(), text);
+        let said = (status, written.as_slice());
+        assert_eq!(rt; said, (0, answer.as_bytes()), "at {text:?}");
     }
 }
 
@@ -546,30 +570,41 @@ fn put_leaf(text: &mut String, part: u64) -> Result<(), AllocError> {
     Ok(())
 }
 
+/// The answer to the plan of these nodes, whose leaves stand where a node has no words.
+fn answer_to_merge(
+    alloc: Global,
+    nodes: &[&str],
+    leaves: [u64; 3],
+) -> Result<(u8, Vec<u8>), AllocError> {
+    let mut text = String::from_str(alloc, "theta image\n")?;
+    let mut next = leaves.into_iter();
+    for node in nodes {
+        if !node.is_empty() {
+            writeln!(text, "{node}")?;
+        } else if let Some(part) = next.next() {
+            put_leaf(&mut text, part)?;
+        }
+    }
+    Ok(answer_to_text(alloc, text.as_str()))
+}
+
+/// The line of the image of the hashes from 1 to 32, below 33.
+fn merged_image(alloc: Global) -> Result<String, AllocError> {
+    let mut image = String::from_str(alloc, "03030300001acc9320000000000000002100000000000000")?;
+    for hash in 1..=32u8 {
+        write!(image, "{hash:02x}00000000000000")?;
+    }
+    image.push('\n')?;
+    Ok(image)
+}
+
 #[test]
 fn merges_in_any_order(rt: HostRuntime) -> Result<(), Fail> {
-    let mut wanted = String::from_str(
-        rt.alloc(),
-        "03030300001acc9320000000000000002100000000000000",
-    )?;
-    for hash in 1..=32u8 {
-        write!(wanted, "{hash:02x}00000000000000")?;
-    }
-    wanted.push('\n')?;
+    let wanted = merged_image(rt.alloc())?;
     for (nodes, leaves) in MERGES {
-        let mut text = String::from_str(rt.alloc(), "theta image\n")?;
-        let mut next = leaves.iter();
-        for node in nodes {
-            if node.is_empty() {
-                put_leaf(&mut text, *next.next().ok_or("too few")?)?;
-            } else {
-                writeln!(text, "{node}")?;
-            }
-        }
-        let mut reader = text.as_bytes();
-        let (status, written) = answer_to(rt.alloc(), &mut reader);
-        assert_eq!(rt; written.as_slice(), wanted.as_bytes(), "at {leaves:?}");
-        assert_eq!(rt; status, 0, "at {leaves:?}");
+        let (status, written) = answer_to_merge(rt.alloc(), nodes, leaves)?;
+        let said = (status, written.as_slice());
+        assert_eq!(rt; said, (0, wanted.as_bytes()), "at {leaves:?}");
     }
     Ok(())
 }
@@ -577,16 +612,9 @@ fn merges_in_any_order(rt: HostRuntime) -> Result<(), Fail> {
 #[test]
 fn refuses_arguments(rt: HostRuntime) -> Result<(), Fail> {
     for plan in ARGUMENTS {
-        let mut text = String::from_str(rt.alloc(), "theta show\n")?;
-        text.push_str(plan)?;
-        let mut reader = text.as_bytes();
-        let (status, written) = answer_to(rt.alloc(), &mut reader);
-        assert_eq!(rt;
-            written.as_slice(),
-            b"error argument\n".as_slice(),
-            "at {plan:?}"
-        );
-        assert_eq!(rt; status, 1, "at {plan:?}");
+        let (status, written) = answer_to_nested(rt.alloc(), 0, "", plan)?;
+        let said = (status, written.as_slice());
+        assert_eq!(rt; said, (1, b"error argument\n".as_slice()), "at {plan:?}");
     }
     Ok(())
 }
@@ -601,21 +629,30 @@ fn long_text(alloc: Global) -> Result<String, AllocError> {
     Ok(text)
 }
 
+/// The answer to a text that is read in pieces, and how many bytes a read asked for, at least.
+fn answer_in_pieces(alloc: Global, text: &str, piece: usize) -> (u8, Vec<u8>, usize) {
+    let mut reader = Pieces::new(text.as_bytes(), piece, After::End);
+    let (status, written) = answer_to(alloc, &mut reader);
+    (status, written, reader.least_asked())
+}
+
 #[test]
 fn reads_in_pieces(rt: HostRuntime) -> Result<(), Fail> {
     let text = long_text(rt.alloc())?;
     for piece in [1, 7, 4095, 4096, 1 << 20] {
-        let mut reader = Pieces::new(text.as_bytes(), piece, After::End);
-        let (status, written) = answer_to(rt.alloc(), &mut reader);
-        assert_eq!(rt;
-            written.as_slice(),
-            b"error 1002 syntax\n".as_slice(),
-            "in {piece}"
-        );
-        assert_eq!(rt; status, 1, "in {piece}");
-        assert!(rt; reader.least_asked() >= 4096, "in {piece}");
+        let (status, written, least_asked) = answer_in_pieces(rt.alloc(), text.as_str(), piece);
+        let said = (status, written.as_slice(), least_asked >= 4096);
+        let wanted = (1, b"error 1002 syntax\n".as_slice(), true);
+        assert_eq!(rt; said, wanted, "in {piece}");
     }
     Ok(())
+}
+
+/// The status of a run whose reads fail after these bytes, and how many bytes it wrote.
+fn answer_to_failure(alloc: Global, front: &[u8], piece: usize) -> (u8, usize) {
+    let mut reader = Pieces::new(front, piece, After::Failure);
+    let (status, written) = answer_to(alloc, &mut reader);
+    (status, written.len())
 }
 
 #[test]
@@ -623,10 +660,39 @@ fn fails_with_a_read(rt: HostRuntime) -> Result<(), Fail> {
     let text = long_text(rt.alloc())?;
     for (length, piece) in [(0, 1), (5, 1), (4096, 4096), (5000, 4096), (20000, 7)] {
         let front = text.as_bytes().get(..length).ok_or("too short")?;
-        let mut reader = Pieces::new(front, piece, After::Failure);
-        let (status, written) = answer_to(rt.alloc(), &mut reader);
-        assert_eq!(rt; status, 2, "after {length}");
-        assert!(rt; written.is_empty(), "after {length}");
+        let said = answer_to_failure(rt.alloc(), front, piece);
+        assert_eq!(rt; said, (2, 0), "after {length}");
+    }
+    Ok(())
+}
+
+/// How a run ends whose reads, seven bytes at most each, do this after the front of its text, and what it wrote.
+fn ending_after(alloc: Global, front: &[u8], after: After<'_>) -> (Ending, Vec<u8>) {
+    let mut reader = Pieces::new(front, 7, after);
+    let mut written = Vec::new(alloc);
+    let ending = run(alloc, &mut reader, &mut written);
+    (ending, written)
+}
+
+/// A read that fails once ends the run, though the reader would go on; one that was interrupted is
+/// made again.
+#[test]
+fn ends_at_the_first_failed_read(rt: HostRuntime) -> Result<(), Fail> {
+    let text = b"theta show\nleaf 5 max 0\n".as_slice();
+    let shown = b"empty yes\ntheta 9223372036854775807\ncount 0\n".as_slice();
+    for length in [0, 5, text.len()] {
+        let (front, rest) = text.split_at_checked(length).ok_or("too short")?;
+        let failing = After::Once(ErrorKind::BrokenPipe, rest);
+        let (ending, written) = ending_after(rt.alloc(), front, failing);
+        assert_eq!(rt;
+            (ending, written.len()),
+            (Ending::NotRead, 0),
+            "after {length}"
+        );
+        let interrupted = After::Once(ErrorKind::Interrupted, rest);
+        let (ending, written) = ending_after(rt.alloc(), front, interrupted);
+        let said = (ending, written.as_slice());
+        assert_eq!(rt; said, (Ending::Answered(0), shown), "after {length}");
     }
     Ok(())
 }
@@ -641,18 +707,20 @@ fn gives_up_a_reader_that_never_ends(rt: HostRuntime) {
     assert!(rt; reader.least_asked() >= 4096);
 }
 
+/// The status of a run that reads nothing and may write so many bytes, and its writer.
+fn written_in(alloc: Global, room: usize) -> (u8, Room<Global>) {
+    let mut reader: &[u8] = &[];
+    let mut writer = Room::new(alloc, room);
+    let status = run(alloc, &mut reader, &mut writer).status();
+    (status, writer)
+}
+
 #[test]
 fn fails_with_a_write(rt: HostRuntime) {
     let answer = b"error 1 syntax\n".as_slice();
     for (room, wanted) in [(0, 2), (1, 2), (14, 2), (15, 1)] {
-        let mut reader: &[u8] = &[];
-        let mut writer = Room::new(rt.alloc(), room);
-        let status = run(rt.alloc(), &mut reader, &mut writer);
-        assert_eq!(rt; status, wanted, "with room for {room}");
-        assert_eq!(rt;
-            Some(writer.written()),
-            answer.get(..room),
-            "with room for {room}"
-        );
+        let (status, writer) = written_in(rt.alloc(), room);
+        let said = (status, Some(writer.written()));
+        assert_eq!(rt; said, (wanted, answer.get(..room)), "with room for {room}");
     }
 }

@@ -2,16 +2,16 @@
 use Rattle.std.proofs.Common.{◌≡◌, ℕ, ◌*◌, ◌<◌, ◌≤◌, ◌⊎◌, Bool, true, false, cond, not, List, length, slice_index, Option, Some, None, refl, ◌∙◌, inl, inr, arith, le-ltb, eqb-true, subst, ltb, leb, eqb, ◌&&◌, ◌||◌}
 use Rattle.std.proofs.lemmas.Bool.Decides.{nat_tests}
 use Rattle.std.proofs.lemmas.Bool.{cases_eq}
-use Rattle.theta_core.specs.CompactState.{Compact}
-use Rattle.theta_core.specs.Hash.{hash_key}
-use Rattle.theta_core.specs.Image.{Begins, announced, seed_hash_at, count_at, theta_at}
-use Rattle.theta_core.specs.ImageHash.{SpellsHash}
-use Rattle.theta_core.specs.ImageLayout.{admitted, flagged_layout, LeavesOpen, IsWholeLayout}
-use Rattle.theta_core.specs.declared.TheConstants.{MAX_THETA}
-use Rattle.theta_core.specs.declared.image.preamble.Layout.{Layout}
-use Rattle.theta_core.specs.declared.image.preamble.Layout.TheVariants.{Empty, Listing}
-use Rattle.theta_core.specs.declared.image.preamble.Preamble.{Preamble}
-use Rattle.theta_core.proofs.ImageLayouts.{along, chosen, admitted_to, flagged_from, flagged_to, either_whole, admitted_whole, flagged_whole}
+use Rattle.theta_table.specs.CompactState.{Compact}
+use Rattle.theta_laws.specs.Entries.{hash_key}
+use Rattle.theta_images.specs.Preamble.{Begins, announced, seed_hash_at, count_at, theta_at, admitted, flagged_layout, IsWholeLayout}
+use Rattle.theta_images.specs.Entry.{SpellsHash}
+use Rattle.theta_images.specs.Read.{LeavesOpen}
+use Rattle.theta_laws.specs.declared.TheConstants.{MAX_THETA}
+use Rattle.theta_images.specs.declared.preamble.Layout.{Layout}
+use Rattle.theta_images.specs.declared.preamble.Layout.TheVariants.{Empty, Filled}
+use Rattle.theta_images.specs.declared.preamble.Preamble.{Preamble}
+use Rattle.theta_images.proofs.Layouts.{along, chosen, admitted_to, flagged_from, flagged_to, either_whole, admitted_whole, flagged_whole}
 use Rattle.theta_sketches.specs.Image.{SpellsSketch, version_3, version_2_empty, version_2_exact, version_2_estimating, version_1, ReadsUnflagged, vacant_image, filled_image, is_vacant}
 use Rattle.theta_sketches.specs.ImageLayout.{theta_layout, unflagged_layout, version_1_layout, version_2_layout}
 
@@ -19,7 +19,7 @@ unflagged_vacant : (p : Preamble) (told h : ℕ) → is_vacant p ≡ true → un
 unfolding unflagged_layout
 unflagged_vacant p told h e = rw e refl
 
-unflagged_filled : (p : Preamble) (told h : ℕ) → is_vacant p ≡ false → told ≡ h → 0 < p.theta → p.theta ≤ MAX_THETA → unflagged_layout p told h ≡ Some (Listing p)
+unflagged_filled : (p : Preamble) (told h : ℕ) → is_vacant p ≡ false → told ≡ h → 0 < p.theta → p.theta ≤ MAX_THETA → unflagged_layout p told h ≡ Some (Filled p)
 unfolding unflagged_layout admitted
 unflagged_filled p told h e t low high = grind (arith, nat_tests)
 

@@ -1,13 +1,14 @@
 -- Images of theta sketches: which bytes are read as which sketch, and which are written.
 use Rattle.std.specs.Prelude.{ℕ, ◌≡◌, ◌≤◌, ◌<◌, ◌==◌, ◌&&◌, Bool, true, false, List, length}
 use Rattle.std.specs.Int.{w64, to_le_bytes}
-use Rattle.theta_core.specs.CompactState.{Compact, empty_compact}
-use Rattle.theta_core.specs.Hash.{hash_key}
-use Rattle.theta_core.specs.Image.{Begins, ReadsFlagged, announced, seed_hash_at, count_at, theta_at, written_image}
-use Rattle.theta_core.specs.ImageEntries.{Lists, listing}
-use Rattle.theta_core.specs.ImageHash.{SpellsHash}
-use Rattle.theta_core.specs.declared.TheConstants.{MAX_THETA}
-use Rattle.theta_core.specs.declared.image.preamble.Preamble.{Preamble}
+use Rattle.theta_table.specs.CompactState.{Compact, empty_compact}
+use Rattle.theta_laws.specs.Entries.{hash_key}
+use Rattle.theta_images.specs.Preamble.{Begins, announced, seed_hash_at, count_at, theta_at}
+use Rattle.theta_images.specs.Read.{ReadsFlagged}
+use Rattle.theta_images.specs.Write.{written_image}
+use Rattle.theta_images.specs.Entry.{HasEntries, state_behind, SpellsHash}
+use Rattle.theta_laws.specs.declared.TheConstants.{MAX_THETA}
+use Rattle.theta_images.specs.declared.preamble.Preamble.{Preamble}
 
 -- a preamble of no entries at the greatest theta: where there are no flags, it is of the empty sketch
 abbrev pub is_vacant : Preamble → Bool
@@ -16,7 +17,7 @@ is_vacant p = p.count == 0 && p.theta == MAX_THETA
 -- Versions 1 and 2 behind such a preamble: the seed hash that the image tells is asked only of a sketch that is not empty.
 pub data ReadsUnflagged (bytes : List ℕ) (p : Preamble) (told h : ℕ) : Compact ℕ → Type 0 where
   vacant_image : p.start ≤ length bytes → is_vacant p ≡ true → ReadsUnflagged bytes p told h (empty_compact h)
-  filled_image : (xs : List ℕ) → is_vacant p ≡ false → told ≡ h → Lists hash_key SpellsHash bytes p h xs → ReadsUnflagged bytes p told h (listing p h xs)
+  filled_image : (xs : List ℕ) → is_vacant p ≡ false → told ≡ h → HasEntries hash_key SpellsHash bytes p h xs → ReadsUnflagged bytes p told h (state_behind p h xs)
 
 -- A beginning of the bytes spells the sketch, under the reader's seed hash h: a case for each version and count of preamble longs.
 pub data SpellsSketch (bytes : List ℕ) (h : ℕ) : Compact ℕ → Type 0 where

@@ -1,4 +1,3 @@
-pub mod Fraction
 pub mod View
 pub mod Image
 pub mod ImageLayout

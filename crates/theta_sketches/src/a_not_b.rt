@@ -1,13 +1,13 @@
 //! Differences of theta sketches.
 ghost use Rattle.std.specs.Prelude.{◌≡◌, ◌||◌, true, false, IfOk};
 ghost use Rattle.sketch_base.specs.Seed.{seed_hash};
-ghost use Rattle.theta_core.specs.CompactState.{IsAnswer};
-ghost use Rattle.theta_core.specs.Difference.{difference_refusal};
-ghost use Rattle.theta_core.specs.Hash.{hash_key};
-ghost use Rattle.theta_core.specs.Intersection.{seed_refusal};
-ghost use Rattle.theta_core.specs.Operators.{minus};
-ghost use Rattle.theta_core.specs.Refusal.{Refuses};
-ghost use Rattle.theta_core.specs.View.{shown_value};
+ghost use Rattle.theta_table.specs.CompactState.{IsAnswer};
+ghost use Rattle.theta_operators.specs.ANotB.{difference_refusal};
+ghost use Rattle.theta_laws.specs.Entries.{hash_key};
+ghost use Rattle.theta_operators.specs.Intersection.{seed_refusal};
+ghost use Rattle.theta_laws.specs.Operators.{minus};
+ghost use Rattle.theta_laws.specs.Refusal.{Refuses};
+ghost use Rattle.theta_laws.specs.Shown.{shown_value};
 ghost use Rattle.theta_sketches.specs.View.{view_shows, view_lends};
 
 use crate::compact_sketch::CompactThetaSketch;

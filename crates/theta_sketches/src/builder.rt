@@ -1,35 +1,33 @@
 //! Builders of theta sketches and unions.
 ghost use Rattle.std.specs.Prelude.{◌≡◌, true, IfOk};
 ghost use Rattle.sketch_base.specs.Seed.{seed_hash};
-ghost use Rattle.theta_core.specs.Refusal.{Refuses};
-ghost use Rattle.theta_core.specs.Settings.{default_settings};
-ghost use Rattle.theta_core.specs.Table.{empty_table, table_refusal};
-ghost use Rattle.theta_core.specs.Union.{empty_union};
+ghost use Rattle.theta_laws.specs.Refusal.{Refuses};
+ghost use Rattle.theta_family.specs.Settings.{default_settings};
+ghost use Rattle.theta_table.specs.HashTable.{empty_table, table_refusal};
+ghost use Rattle.theta_operators.specs.Union.{empty_union};
 
 use crate::sketch::ThetaSketch;
 use crate::union::ThetaUnion;
-use sketch_base::{DEFAULT_UPDATE_SEED, Error};
+use sketch_base::Error;
 use std::alloc::Allocator;
 use std::marker::Model;
-use theta_core::{DEFAULT_LG_K, MAX_THETA, ResizeFactor};
+use theta_core::ResizeFactor;
+use theta_family::Settings;
 
 /// Builds a theta sketch. Nothing is checked before `build`.
 #[derive(Debug, Drop)]
 pub struct ThetaSketchBuilder {
-    lg_k: u8,
-    resize_factor: ResizeFactor,
-    starting_theta: u64,
-    seed: u64,
+    settings: Settings,
 }
 
 impl Model for ThetaSketchBuilder {
-    ghost use Rattle.theta_core.specs.Settings.{Settings};
+    ghost use Rattle.theta_family.specs.Settings.{Settings};
 
     ghost Value = { Settings };
 
-    ghost view = { λ b. record { lg_k = b.lg_k; resize_factor = b.resize_factor; starting_theta = b.starting_theta; seed = b.seed } };
+    ghost view = { λ b. b.settings };
 
-    ghost inverse = { λ s. record { lg_k = s.lg_k; resize_factor = s.resize_factor; starting_theta = s.starting_theta; seed = s.seed } };
+    ghost inverse = { λ s. record { settings = s } };
 }
 
 impl Default for ThetaSketchBuilder {
@@ -37,12 +35,8 @@ impl Default for ThetaSketchBuilder {
 
     /// 4096 nominal entries, the greatest starting theta and the default seed.
     fn default() -> Self {
-        ThetaSketchBuilder {
-            lg_k: DEFAULT_LG_K,
-            resize_factor: ResizeFactor::X8,
-            starting_theta: MAX_THETA,
-            seed: DEFAULT_UPDATE_SEED,
-        }
+        let settings = Settings::default();
+        ThetaSketchBuilder { settings }
     }
 }
 
@@ -51,7 +45,7 @@ impl ThetaSketchBuilder {
     pub fn lg_k(mut self, lg_k: u8) -> Self
         ensures { result ≡ record self { lg_k = lg_k } }
     {
-        self.lg_k = lg_k;
+        self.settings = self.settings.with_lg_k(lg_k);
         self
     }
 
@@ -59,7 +53,7 @@ impl ThetaSketchBuilder {
     pub fn resize_factor(mut self, resize_factor: ResizeFactor) -> Self
         ensures { result ≡ record self { resize_factor = resize_factor } }
     {
-        self.resize_factor = resize_factor;
+        self.settings = self.settings.with_resize_factor(resize_factor);
         self
     }
 
@@ -67,7 +61,7 @@ impl ThetaSketchBuilder {
     pub fn starting_theta(mut self, starting_theta: u64) -> Self
         ensures { result ≡ record self { starting_theta = starting_theta } }
     {
-        self.starting_theta = starting_theta;
+        self.settings = self.settings.with_starting_theta(starting_theta);
         self
     }
 
@@ -75,7 +69,7 @@ impl ThetaSketchBuilder {
     pub fn seed(mut self, seed: u64) -> Self
         ensures { result ≡ record self { seed = seed } }
     {
-        self.seed = seed;
+        self.settings = self.settings.with_seed(seed);
         self
     }
 
@@ -86,33 +80,24 @@ impl ThetaSketchBuilder {
         ensures made { IfOk result (λ s. s.map ≡ empty_table self.lg_k self.starting_theta self.seed) }
         ensures refused { Refuses result (table_refusal self.lg_k self.starting_theta self.seed) true }
     {
-        ThetaSketch::new(
-            alloc,
-            self.lg_k,
-            self.resize_factor,
-            self.starting_theta,
-            self.seed,
-        )
+        ThetaSketch::new(alloc, self.settings)
     }
 }
 
 /// Builds a theta union. Nothing is checked before `build`.
 #[derive(Debug, Clone, Drop)]
 pub struct ThetaUnionBuilder {
-    lg_k: u8,
-    resize_factor: ResizeFactor,
-    starting_theta: u64,
-    seed: u64,
+    settings: Settings,
 }
 
 impl Model for ThetaUnionBuilder {
-    ghost use Rattle.theta_core.specs.Settings.{Settings};
+    ghost use Rattle.theta_family.specs.Settings.{Settings};
 
     ghost Value = { Settings };
 
-    ghost view = { λ b. record { lg_k = b.lg_k; resize_factor = b.resize_factor; starting_theta = b.starting_theta; seed = b.seed } };
+    ghost view = { λ b. b.settings };
 
-    ghost inverse = { λ s. record { lg_k = s.lg_k; resize_factor = s.resize_factor; starting_theta = s.starting_theta; seed = s.seed } };
+    ghost inverse = { λ s. record { settings = s } };
 }
 
 impl Default for ThetaUnionBuilder {
@@ -120,12 +105,8 @@ impl Default for ThetaUnionBuilder {
 
     /// 4096 nominal entries, the greatest starting theta and the default seed.
     fn default() -> Self {
-        ThetaUnionBuilder {
-            lg_k: DEFAULT_LG_K,
-            resize_factor: ResizeFactor::X8,
-            starting_theta: MAX_THETA,
-            seed: DEFAULT_UPDATE_SEED,
-        }
+        let settings = Settings::default();
+        ThetaUnionBuilder { settings }
     }
 }
 
@@ -134,7 +115,7 @@ impl ThetaUnionBuilder {
     pub fn lg_k(mut self, lg_k: u8) -> Self
         ensures { result ≡ record self { lg_k = lg_k } }
     {
-        self.lg_k = lg_k;
+        self.settings = self.settings.with_lg_k(lg_k);
         self
     }
 
@@ -142,7 +123,7 @@ impl ThetaUnionBuilder {
     pub fn resize_factor(mut self, resize_factor: ResizeFactor) -> Self
         ensures { result ≡ record self { resize_factor = resize_factor } }
     {
-        self.resize_factor = resize_factor;
+        self.settings = self.settings.with_resize_factor(resize_factor);
         self
     }
 
@@ -150,7 +131,7 @@ impl ThetaUnionBuilder {
     pub fn starting_theta(mut self, starting_theta: u64) -> Self
         ensures { result ≡ record self { starting_theta = starting_theta } }
     {
-        self.starting_theta = starting_theta;
+        self.settings = self.settings.with_starting_theta(starting_theta);
         self
     }
 
@@ -158,7 +139,7 @@ impl ThetaUnionBuilder {
     pub fn seed(mut self, seed: u64) -> Self
         ensures { result ≡ record self { seed = seed } }
     {
-        self.seed = seed;
+        self.settings = self.settings.with_seed(seed);
         self
     }
 
@@ -168,12 +149,6 @@ impl ThetaUnionBuilder {
         ensures made { IfOk result (λ u. u ≡ empty_union self.lg_k self.starting_theta (seed_hash self.seed) u.policy) }
         ensures refused { Refuses result (table_refusal self.lg_k self.starting_theta self.seed) true }
     {
-        ThetaUnion::new(
-            alloc,
-            self.lg_k,
-            self.resize_factor,
-            self.starting_theta,
-            self.seed,
-        )
+        ThetaUnion::new(alloc, self.settings)
     }
 }

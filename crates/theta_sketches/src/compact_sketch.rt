@@ -1,18 +1,19 @@
 //! Theta sketches that no longer change.
-ghost use Rattle.std.specs.Prelude.{◌≡◌, ◌&&◌, true, not, nat_lt, None, length, IfOk};
-ghost use Rattle.theta_core.specs.CompactState.{IsCompact, shown_of, compact_value};
-ghost use Rattle.theta_core.specs.Hash.{hash_key};
-ghost use Rattle.theta_core.specs.Refusal.{Refuses};
-ghost use Rattle.theta_sketches.specs.Fraction.{compact_fraction};
-ghost use Rattle.theta_core.specs.View.{shown_value};
+ghost use Rattle.std.specs.Prelude.{◌≡◌, ◌≤◌, ◌&&◌, true, not, nat_lt, None, length, IfOk};
+ghost use Rattle.theta_table.specs.CompactState.{IsCompact, shown_of, compact_value};
+ghost use Rattle.theta_laws.specs.Entries.{hash_key};
+ghost use Rattle.theta_laws.specs.Refusal.{Refuses};
+ghost use Rattle.theta_laws.specs.Shown.{shown_value};
+ghost use Rattle.theta_family.specs.Fraction.{decimal_of, compact_fraction};
+ghost use Rattle.theta_family.specs.declared.fraction.TheConstants.{MAX_PLACES};
 ghost use Rattle.theta_sketches.specs.View.{view_shows, view_lends};
 
-use crate::iter::ThetaSketchIter;
 use crate::view::ThetaSketchView;
 use sketch_base::Error;
 use std::alloc::{Allocator, Global};
 use std::marker::Model;
 use theta_core::{CompactSketchState, EntryIter, MAX_THETA, ThetaEntry};
+use theta_family::{Decimal, MAX_PLACES, ThetaSketchIter, compact_decimal, compact_fraction};
 
 /// A theta sketch that no longer changes: its hashes in a list, with its theta. Contracts see a record of these.
 #[derive(Drop)]
@@ -22,7 +23,7 @@ pub struct CompactThetaSketch<A: Allocator = Global> {
 
 impl<A: Allocator> Model for CompactThetaSketch<A> {
     ghost use Rattle.std.specs.Prelude.{ℕ};
-    ghost use Rattle.theta_core.specs.CompactState.{Compact};
+    ghost use Rattle.theta_table.specs.CompactState.{Compact};
 
     ghost Value = { Compact ℕ };
 
@@ -48,10 +49,10 @@ impl<A: Allocator> CompactThetaSketch<A> {
         ensures lends { view_lends result ≡ self.now.entries }
         ensures value { shown_value hash_key (view_shows result) (view_lends result) ≡ compact_value hash_key self.now }
     {
-        ThetaSketchView::of_compact(self)
+        ThetaSketchView::of_compact(&self.state)
     }
 
-    /// Whether no update was accepted.
+    /// Whether it is empty: no update was accepted, or an operator answered so.
     pub fn is_empty(&self) -> bool
         ensures { result ≡ self.now.empty }
     {
@@ -85,11 +86,15 @@ impl<A: Allocator> CompactThetaSketch<A> {
     pub fn estimate_fraction(&self) -> (u128, u128)
         ensures { result ≡ compact_fraction self.now }
     {
-        if self.is_empty() {
-            return (0, 1);
-        }
-        let count = self.num_retained() as u128;
-        (count * MAX_THETA as u128, self.theta64() as u128)
+        compact_fraction(&self.state)
+    }
+
+    /// The estimate as a decimal number with `places` decimals, from 0 to 19, rounded down; 0 for an empty sketch.
+    pub fn estimate_decimal(&self, places: u32) -> Decimal
+        requires few { places ≤ MAX_PLACES }
+        ensures { result ≡ decimal_of (compact_fraction self.now) places }
+    {
+        compact_decimal(&self.state, places)
     }
 
     /// Whether its hashes are known to ascend.
@@ -110,13 +115,7 @@ impl<A: Allocator> CompactThetaSketch<A> {
     pub fn iter(&self) -> ThetaSketchIter<'_>
         ensures { result ≡ record { rest = self.now.entries; counted = true } }
     {
-        ThetaSketchIter::over(self.entries())
-    }
-
-    pub(crate) fn entries(&self) -> EntryIter<'_, ThetaEntry>
-        ensures { result ≡ record { rest = self.now.entries; counted = true } }
-    {
-        EntryIter::of_slice(self.state.retained_entries())
+        ThetaSketchIter::over(EntryIter::of_slice(self.state.retained_entries()))
     }
 
     /// How many bytes its hashes take.

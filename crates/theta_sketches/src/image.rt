@@ -4,8 +4,8 @@
 ghost use Rattle.std.specs.Prelude.{◌≡◌, ◌≤◌, None, true, length, IfOk, IfErr};
 ghost use Rattle.sketch_base.specs.Seed.{seed_hash};
 ghost use Rattle.sketch_base.specs.declared.seed.TheConstants.{DEFAULT_UPDATE_SEED};
-ghost use Rattle.theta_core.specs.ImageAnswer.{IsRefused};
-ghost use Rattle.theta_core.specs.Refusal.{Refuses};
+ghost use Rattle.theta_images.specs.Read.{IsRefused};
+ghost use Rattle.theta_laws.specs.Refusal.{Refuses};
 ghost use Rattle.theta_sketches.specs.Image.{Reads, IsReadable, written};
 ghost use Rattle.theta_sketches.specs.ImageLayout.{unflagged_layout, version_1_layout, version_2_layout, theta_layout};
 
@@ -18,6 +18,8 @@ use theta_core::image::{
     theta_at, write_image,
 };
 
+/// What stands behind a preamble of version 1 or 2, which has no flags: nothing of an empty sketch, else its hashes under the
+/// told seed hash, or `None` where that is another than the reader's or the preamble is none that may stand there.
 #[tactic(auto, unfolding(crate::specs::ImageLayout::unflagged_layout))]
 fn unflagged_layout(p: Preamble, told: u16, seed_hash: u16) -> Option<Layout>
     ensures { result ≡ unflagged_layout p told seed_hash }
@@ -31,6 +33,8 @@ fn unflagged_layout(p: Preamble, told: u16, seed_hash: u16) -> Option<Layout>
     }
 }
 
+/// What stands in an image of version 2 behind its first three bytes, of 1, 2 or 3 preamble longs of 8 bytes each: an empty
+/// sketch, one at the greatest theta, or one with a theta of its own; `None` where the bytes end within the preamble.
 #[tactic(auto, unfolding(crate::specs::ImageLayout::version_2_layout))]
 fn version_2_layout(bytes: &[u8], longs: u8, seed_hash: u16) -> Option<Layout>
     requires whole { 8 ≤ length bytes.now }
@@ -56,6 +60,8 @@ fn version_2_layout(bytes: &[u8], longs: u8, seed_hash: u16) -> Option<Layout>
     )
 }
 
+/// What stands in an image of version 1 behind its first three bytes: its preamble has always three longs and tells no seed
+/// hash; `None` where the bytes end within it.
 #[tactic(auto, unfolding(crate::specs::ImageLayout::version_1_layout))]
 fn version_1_layout(bytes: &[u8], seed_hash: u16) -> Option<Layout>
     ensures { result ≡ version_1_layout bytes.now seed_hash }
@@ -70,6 +76,8 @@ fn version_1_layout(bytes: &[u8], seed_hash: u16) -> Option<Layout>
     )
 }
 
+/// What stands in an image of any version by its preamble, or `None` where there is no theta sketch of 1 to 3 preamble longs
+/// and of version 1, 2 or 3.
 #[tactic(auto, unfolding(crate::specs::ImageLayout::theta_layout))]
 fn theta_layout(bytes: &[u8], seed_hash: u16) -> Option<Layout>
     ensures { result ≡ theta_layout bytes.now seed_hash }

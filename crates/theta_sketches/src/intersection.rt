@@ -3,10 +3,12 @@ ghost use Rattle.std.specs.Prelude.{◌≡◌, Some, None, true, false, is_some,
 ghost use Rattle.sketch_base.specs.Seed.{seed_hash};
 ghost use Rattle.sketch_base.specs.declared.error.ErrorKind.TheVariants.{OutOfMemory};
 ghost use Rattle.sketch_base.specs.declared.seed.TheConstants.{DEFAULT_UPDATE_SEED};
-ghost use Rattle.theta_core.specs.Hash.{hash_key, first_hash};
-ghost use Rattle.theta_core.specs.Intersection.{Intersection, new_intersection, seed_refusal, intersect_refusal, meet_next, is_settled, IsAnswerIfAny};
-ghost use Rattle.theta_core.specs.Refusal.{Refuses};
-ghost use Rattle.theta_core.specs.View.{shown_value};
+ghost use Rattle.theta_laws.specs.Entries.{hash_key, first_hash};
+ghost use Rattle.theta_operators.specs.Intersection.{Intersection, new_intersection, seed_refusal, intersect_refusal, is_settled, IsAnswerIfAny, IsIntersection, held_of};
+ghost use Rattle.theta_laws.specs.Operators.{meet_next};
+ghost use Rattle.theta_laws.specs.Cuts.{IsRetained};
+ghost use Rattle.theta_laws.specs.Refusal.{Refuses};
+ghost use Rattle.theta_laws.specs.Shown.{shown_value};
 ghost use Rattle.theta_sketches.specs.View.{view_shows, view_lends};
 
 use crate::compact_sketch::CompactThetaSketch;
@@ -44,7 +46,7 @@ pub struct ThetaIntersection<A: Allocator = Global> {
 
 impl<A: Allocator> Model for ThetaIntersection<A> {
     ghost use Rattle.std.specs.Prelude.{ℕ};
-    ghost use Rattle.theta_core.specs.Intersection.{Intersection};
+    ghost use Rattle.theta_operators.specs.Intersection.{Intersection};
     ghost use Rattle.theta_sketches.specs.declared.intersection.NoopIntersectionPolicy.{NoopIntersectionPolicy};
 
     ghost Value = { Intersection ℕ NoopIntersectionPolicy };
@@ -100,6 +102,8 @@ impl<A: Allocator + Clone> ThetaIntersection<A> {
         ensures made_with { self.new ≡ record self.old { result = self.new.result } }
         ensures accepted { OnOk result (intersect_refusal self.old (view_shows sketch.entry) ≡ None) }
         ensures refused { IfErr result (λ e. (self.new ≡ self.old) × MatchOption (intersect_refusal self.old (view_shows sketch.entry)) (((view_shows sketch.entry).empty ≡ false) × (is_settled self.old.result ≡ false) × (e ≡ OutOfMemory)) (λ kind. e ≡ kind)) }
+        ensures sound { IsIntersection self.old }
+        ensures held { IsRetained hash_key (held_of self.old.result) }
     {
         self.state.update(sketch)?;
         Ok(())

@@ -1,6 +1,6 @@
 //! How theta operators combine entries: they are hashes alone, so the first stays.
 ghost use Rattle.std.specs.Prelude.{false};
-ghost use Rattle.theta_core.specs.Hash.{first_hash};
+ghost use Rattle.theta_laws.specs.Entries.{first_hash};
 
 use sketch_base::Error;
 use theta_core::{ThetaEntry, UnionMergePolicy};

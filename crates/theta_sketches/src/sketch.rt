@@ -1,59 +1,55 @@
 //! Theta sketches that take updates.
-ghost use Rattle.std.specs.Prelude.{◌≡◌, ◌==◌, ◌&&◌, ◌^◌, true, false, not, nat_lt, None, length, IfOk, OnOk, OnErr, is_some};
+ghost use Rattle.std.specs.Prelude.{◌≡◌, ◌≤◌, ◌==◌, ◌&&◌, ◌^◌, true, false, not, nat_lt, None, length, IfOk, OnOk, OnErr, is_some};
 ghost use Rattle.std.specs.List.{concat};
 ghost use Rattle.sketch_base.specs.Seed.{hash_of};
-ghost use Rattle.theta_core.specs.CompactState.{IsAnswer};
-ghost use Rattle.theta_core.specs.Cut.{cut};
-ghost use Rattle.theta_core.specs.Hash.{hash_key, hash_step};
-ghost use Rattle.theta_core.specs.Refusal.{Refuses};
-ghost use Rattle.theta_core.specs.Table.{IsTable, IsLent, empty_table, after_reset, table_refusal, after_upsert, upsert_allocates};
-ghost use Rattle.theta_core.specs.Updatable.{IsUpdatable, sketch_value, sketch_shows, theta_of, count_of, fraction_of};
-ghost use Rattle.theta_core.specs.View.{IsShown, shown_value};
+ghost use Rattle.theta_table.specs.CompactState.{IsAnswer};
+ghost use Rattle.theta_laws.specs.Cuts.{cut};
+ghost use Rattle.theta_laws.specs.Entries.{hash_key, hash_step};
+ghost use Rattle.theta_laws.specs.Refusal.{Refuses};
+ghost use Rattle.theta_table.specs.HashTable.{IsTable, empty_table, after_reset, table_refusal};
+ghost use Rattle.theta_laws.specs.Maps.{IsLent};
+ghost use Rattle.theta_laws.specs.Insertion.{after_upsert, upsert_allocates};
+ghost use Rattle.theta_family.specs.Updatable.{IsUpdatable, sketch_value, sketch_shows};
+ghost use Rattle.theta_laws.specs.Values.{theta_of, count_of, fraction_of};
+ghost use Rattle.theta_laws.specs.Shown.{IsShown, shown_value};
+ghost use Rattle.theta_family.specs.Fraction.{decimal_of};
+ghost use Rattle.theta_family.specs.declared.fraction.TheConstants.{MAX_PLACES};
 ghost use Rattle.theta_sketches.specs.View.{view_shows, view_lends};
 
 use crate::compact_sketch::CompactThetaSketch;
-use crate::iter::ThetaSketchIter;
 use crate::view::ThetaSketchView;
 use sketch_base::Error;
 use std::alloc::{Allocator, Global};
 use std::hash::Hash;
 use std::marker::Model;
-use theta_core::{CompactSketchState, EntryIter, MAX_THETA, ResizeFactor, ThetaHashTable};
+use theta_core::{MAX_THETA, ThetaEntry};
+use theta_family::{Decimal, MAX_PLACES, Settings, ThetaSketchIter, UpdatableState};
 
 /// A theta sketch that takes updates. Its value is Empty until the first one is accepted.
 #[derive(Drop)]
 pub struct ThetaSketch<A: Allocator = Global> {
-    table: ThetaHashTable<A>,
-    empty: bool,
+    state: UpdatableState<ThetaEntry, A>,
 }
 
 impl<A: Allocator> Model for ThetaSketch<A> {
     ghost use Rattle.std.specs.Prelude.{ℕ};
-    ghost use Rattle.theta_core.specs.Updatable.{Updatable, IsUpdatable};
+    ghost use Rattle.theta_family.specs.Updatable.{Updatable};
 
     ghost Value = { Updatable ℕ };
 
-    ghost view = { λ s. record { empty = s.empty; map = s.table.map; lends = s.table.lends } };
-
-    ghost invariant = { λ s. IsUpdatable (record { empty = s.empty; map = s.table.map; lends = s.table.lends }) };
+    ghost view = { λ s. s.state };
 }
 
 impl<A: Allocator> ThetaSketch<A> {
-    pub(crate) fn new(
-        alloc: A,
-        lg_k: u8,
-        resize_factor: ResizeFactor,
-        starting_theta: u64,
-        seed: u64,
-    ) -> Result<Self, Error>
+    pub(crate) fn new(alloc: A, settings: Settings) -> Result<Self, Error>
     where
         A: Drop,
         ensures empty { IfOk result (λ s. s.empty ≡ true) }
-        ensures made { IfOk result (λ s. s.map ≡ empty_table lg_k starting_theta seed) }
-        ensures refused { Refuses result (table_refusal lg_k starting_theta seed) true }
+        ensures made { IfOk result (λ s. s.map ≡ empty_table settings.lg_k settings.starting_theta settings.seed) }
+        ensures refused { Refuses result (table_refusal settings.lg_k settings.starting_theta settings.seed) true }
     {
-        let table = ThetaHashTable::new(alloc, lg_k, resize_factor, starting_theta, seed)?;
-        Ok(ThetaSketch { table, empty: true })
+        let state = UpdatableState::new(alloc, settings)?;
+        Ok(ThetaSketch { state })
     }
 
     /// A view of the sketch, for operators.
@@ -62,33 +58,28 @@ impl<A: Allocator> ThetaSketch<A> {
         ensures lends { view_lends result ≡ self.now.lends }
         ensures value { shown_value hash_key (view_shows result) (view_lends result) ≡ sketch_value self.now }
     {
-        let _ = self.iter();
-        ThetaSketchView::of_sketch(self)
+        ThetaSketchView::of_state(&self.state)
     }
 
     /// Whether no update was accepted since it was built or last reset.
     pub fn is_empty(&self) -> bool
         ensures { result ≡ self.now.empty }
     {
-        self.empty
+        self.state.is_empty()
     }
 
     /// Whether it is not empty and its theta is below the greatest.
     pub fn is_estimation_mode(&self) -> bool
         ensures { result ≡ (not self.now.empty && nat_lt self.now.map.kept.theta MAX_THETA) }
     {
-        !self.empty && self.table.retention_theta() < MAX_THETA
+        self.state.is_estimation_mode()
     }
 
     /// The theta of its value: from 1 to `MAX_THETA`, and `MAX_THETA` for an empty sketch, whatever its starting theta.
     pub fn theta64(&self) -> u64
         ensures { result ≡ theta_of (sketch_value self.now) }
     {
-        if self.empty {
-            MAX_THETA
-        } else {
-            self.table.retention_theta()
-        }
+        self.state.theta64()
     }
 
     /// How many hashes it retains, fewer than 2^32.
@@ -97,8 +88,7 @@ impl<A: Allocator> ThetaSketch<A> {
         ensures lent { result ≡ length self.now.lends }
         ensures sound { IsShown (sketch_shows hash_key self.now) }
     {
-        let _ = self.table.iter_entries();
-        self.table.num_retained()
+        self.state.num_retained()
     }
 
     /// The fraction whose quotient estimates how many distinct values were seen: the retained hashes times `MAX_THETA`, over
@@ -106,28 +96,29 @@ impl<A: Allocator> ThetaSketch<A> {
     pub fn estimate_fraction(&self) -> (u128, u128)
         ensures { result ≡ fraction_of (sketch_value self.now) }
     {
-        if self.empty {
-            return (0, 1);
-        }
-        let count = self.num_retained() as u128;
-        (
-            count * MAX_THETA as u128,
-            self.table.retention_theta() as u128,
-        )
+        self.state.estimate_fraction()
+    }
+
+    /// The estimate as a decimal number with `places` decimals, from 0 to 19, rounded down; 0 for an empty sketch.
+    pub fn estimate_decimal(&self, places: u32) -> Decimal
+        requires few { places ≤ MAX_PLACES }
+        ensures { result ≡ decimal_of (fraction_of (sketch_value self.now)) places }
+    {
+        self.state.estimate_decimal(places)
     }
 
     /// The binary logarithm of its nominal entries, from 5 to 26.
     pub fn lg_k(&self) -> u8
         ensures { result ≡ self.now.map.lg_nom }
     {
-        self.table.lg_nom_size()
+        self.state.lg_k()
     }
 
     /// The hash of its seed.
     pub fn seed_hash(&self) -> u16
         ensures { result ≡ self.now.map.seed_hash }
     {
-        self.table.seed_hash()
+        self.state.seed_hash()
     }
 
     /// Its entries, each once, in an open order.
@@ -135,18 +126,12 @@ impl<A: Allocator> ThetaSketch<A> {
         ensures lent { result ≡ record { rest = self.now.lends; counted = false } }
         ensures each_once { IsLent hash_key self.now.map.kept.entries self.now.lends }
     {
-        ThetaSketchIter::over(EntryIter::of_table(&self.table))
-    }
-
-    pub(crate) fn entries(&self) -> EntryIter<'_, theta_core::ThetaEntry>
-        ensures { result ≡ record { rest = self.now.lends; counted = false } }
-    {
-        EntryIter::of_table(&self.table)
+        ThetaSketchIter::over(self.state.entries())
     }
 
     /// How many bytes its retained entries take.
     pub fn estimated_size(&self) -> usize {
-        self.table.estimated_size()
+        self.state.estimated_size()
     }
 
     /// Makes it empty again, with its starting theta. It takes no memory.
@@ -154,13 +139,17 @@ impl<A: Allocator> ThetaSketch<A> {
         ensures empty { self.new.empty ≡ true }
         ensures map { self.new.map ≡ after_reset self.old.map }
     {
-        self.table.reset();
-        self.empty = true;
+        self.state.reset();
     }
 }
 
 impl<A: Allocator + Clone> ThetaSketch<A> {
     /// Takes in a value, by its hash under the sketch's seed. Refused as `update_hash` is.
+    ///
+    /// The value is hashed as std's `Hash` hands over its bytes, and behind a text std writes one byte more, 255. So
+    /// `update("ann")` gives another hash than libraries in other languages, which hash the bytes of the text alone. For
+    /// theirs, hash the bytes yourself and hand half of the first half to `update_hash`: `write` the bytes to a
+    /// `MurmurHash3X64128` of the sketch's seed, and take `finish128().0 >> 1`.
     pub fn update<T: Hash + Drop>(&mut self, value: T) -> Result<(), Error>
         ensures nonempty { OnOk result (self.new.empty ≡ false) }
         ensures after { let h = hash_of self.old.map.seed (concat (T.hash_input value)) in OnOk result (self.new.map ≡ record self.old.map { kept = after_upsert hash_key (2 ^ self.old.map.lg_nom) h (hash_step h) self.old.map.kept }) }
@@ -168,7 +157,7 @@ impl<A: Allocator + Clone> ThetaSketch<A> {
         ensures err { OnErr result (self.new.map ≡ self.old.map) }
         ensures refused { let h = hash_of self.old.map.seed (concat (T.hash_input value)) in Refuses result None (upsert_allocates hash_key h (hash_step h) self.old.map.kept) }
     {
-        let hash = self.table.hash(value);
+        let hash = self.state.hash(value);
         self.update_hash(hash)
     }
 
@@ -182,9 +171,7 @@ impl<A: Allocator + Clone> ThetaSketch<A> {
         ensures err { OnErr result (self.new.map ≡ self.old.map) }
         ensures refused { Refuses result None (upsert_allocates hash_key hash (hash_step hash) self.old.map.kept) }
     {
-        self.table.try_insert_hash(hash)?;
-        self.empty = false;
-        Ok(())
+        self.state.insert_hash(hash)
     }
 
     /// Where more than k hashes are retained, lowers theta to the (k+1)th smallest and keeps the k below it.
@@ -196,8 +183,7 @@ impl<A: Allocator + Clone> ThetaSketch<A> {
         ensures err { OnErr result (self.new.map ≡ self.old.map) }
         ensures refused { Refuses result None (nat_lt (2 ^ self.old.map.lg_nom) (length self.old.map.kept.entries)) }
     {
-        self.table.trim()?;
-        Ok(())
+        self.state.trim()
     }
 
     /// Its compact form, of the same value, untrimmed. It is ordered where that is asked, or it is empty or has one hash at
@@ -206,12 +192,7 @@ impl<A: Allocator + Clone> ThetaSketch<A> {
         ensures ok { IfOk result (IsAnswer hash_key (sketch_value self.now) self.now.map.seed_hash ordered) }
         ensures refused { Refuses result None true }
     {
-        let _ = self.num_retained();
-        let state = if self.empty {
-            CompactSketchState::empty(self.table.allocator().clone()?, self.seed_hash())
-        } else {
-            self.table.to_non_empty_compact_state(ordered)?
-        };
+        let state = self.state.compact(ordered)?;
         Ok(CompactThetaSketch::of_state(state))
     }
 }

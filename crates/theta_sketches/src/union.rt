@@ -2,13 +2,14 @@
 ghost use Rattle.std.specs.Prelude.{◌≡◌, ◌^◌, [], ◌∷◌, true, false, not, None, IfOk, IfErr, OnOk, MatchOption};
 ghost use Rattle.sketch_base.specs.Seed.{seed_hash};
 ghost use Rattle.sketch_base.specs.declared.error.ErrorKind.TheVariants.{OutOfMemory};
-ghost use Rattle.theta_core.specs.CompactState.{IsAnswer};
-ghost use Rattle.theta_core.specs.Hash.{hash_key, first_hash};
-ghost use Rattle.theta_core.specs.Operators.{unite};
-ghost use Rattle.theta_core.specs.Refusal.{Refuses};
-ghost use Rattle.theta_core.specs.Table.{table_refusal};
-ghost use Rattle.theta_core.specs.Union.{Union, empty_union, union_value, update_refusal, failure, IsJoined};
-ghost use Rattle.theta_core.specs.View.{shown_value};
+ghost use Rattle.theta_table.specs.CompactState.{IsAnswer};
+ghost use Rattle.theta_laws.specs.Entries.{hash_key, first_hash};
+ghost use Rattle.theta_laws.specs.Operators.{unite};
+ghost use Rattle.theta_laws.specs.Refusal.{Refuses};
+ghost use Rattle.theta_table.specs.HashTable.{table_refusal};
+ghost use Rattle.theta_laws.specs.Cuts.{IsRetained};
+ghost use Rattle.theta_operators.specs.Union.{Union, empty_union, union_value, update_refusal, failure, IsUnion, IsJoined};
+ghost use Rattle.theta_laws.specs.Shown.{shown_value};
 ghost use Rattle.theta_sketches.specs.View.{view_shows, view_lends};
 
 use crate::compact_sketch::CompactThetaSketch;
@@ -17,7 +18,8 @@ use crate::view::ThetaSketchView;
 use sketch_base::Error;
 use std::alloc::{Allocator, Global};
 use std::marker::Model;
-use theta_core::{ResizeFactor, ThetaEntry, UnionState};
+use theta_core::{ThetaEntry, UnionState};
+use theta_family::Settings;
 
 /// A union of theta sketches that are handed over one by one.
 ///
@@ -30,7 +32,7 @@ pub struct ThetaUnion<A: Allocator = Global> {
 
 impl<A: Allocator> Model for ThetaUnion<A> {
     ghost use Rattle.std.specs.Prelude.{ℕ};
-    ghost use Rattle.theta_core.specs.Union.{Union};
+    ghost use Rattle.theta_operators.specs.Union.{Union};
     ghost use Rattle.theta_sketches.specs.declared.policy.NoopUnionPolicy.{NoopUnionPolicy};
 
     ghost Value = { Union ℕ NoopUnionPolicy };
@@ -39,18 +41,18 @@ impl<A: Allocator> Model for ThetaUnion<A> {
 }
 
 impl<A: Allocator + Drop> ThetaUnion<A> {
-    pub(crate) fn new(
-        alloc: A,
-        lg_k: u8,
-        resize_factor: ResizeFactor,
-        starting_theta: u64,
-        seed: u64,
-    ) -> Result<Self, Error>
-        ensures made { IfOk result (λ u. u ≡ empty_union lg_k starting_theta (seed_hash seed) (record {})) }
-        ensures refused { Refuses result (table_refusal lg_k starting_theta seed) true }
+    pub(crate) fn new(alloc: A, settings: Settings) -> Result<Self, Error>
+        ensures made { IfOk result (λ u. u ≡ empty_union settings.lg_k settings.starting_theta (seed_hash settings.seed) (record {})) }
+        ensures refused { Refuses result (table_refusal settings.lg_k settings.starting_theta settings.seed) true }
     {
-        let policy = NoopUnionPolicy;
-        let state = UnionState::new(alloc, lg_k, resize_factor, starting_theta, seed, policy)?;
+        let state = UnionState::new(
+            alloc,
+            settings.lg_k(),
+            settings.resize_factor(),
+            settings.starting_theta(),
+            settings.seed(),
+            NoopUnionPolicy,
+        )?;
         Ok(ThetaUnion { state })
     }
 
@@ -74,6 +76,8 @@ impl<A: Allocator + Clone> ThetaUnion<A> {
         ensures made_with { OnOk result (self.new ≡ record self.old { empty = self.new.empty; held = self.new.held }) }
         ensures accepted { OnOk result (update_refusal self.old (view_shows sketch.entry) ≡ None) }
         ensures refused { IfErr result (λ e. MatchOption (update_refusal self.old (view_shows sketch.entry)) (((view_shows sketch.entry).empty ≡ false) × (e ≡ OutOfMemory) × (self.new ≡ record self.old { failed = true; held = self.new.held })) (λ kind. (e ≡ kind) × (self.new ≡ self.old))) }
+        ensures sound { IsUnion self.old }
+        ensures held { IsRetained hash_key self.old.held }
     {
         self.state.update(sketch)?;
         Ok(())

@@ -4,10 +4,13 @@ use std::alloc::Allocator;
 use std::io::{Error, ErrorKind, Read, Result, Write};
 
 /// What a reader does after its text.
-#[derive(Drop)]
-pub enum After {
+#[derive(Clone, Copy)]
+pub enum After<'a> {
     End,
+    /// It fails at each further read.
     Failure,
+    /// It fails at one read, and would then give this text.
+    Once(ErrorKind, &'a [u8]),
     /// It gives one byte at each read, and never ends.
     More,
 }
@@ -17,13 +20,13 @@ pub enum After {
 pub struct Pieces<'a> {
     text: &'a [u8],
     piece: usize,
-    after: After,
+    after: After<'a>,
     reads: u64,
     least_asked: usize,
 }
 
 impl<'a> Pieces<'a> {
-    pub fn new(text: &'a [u8], piece: usize, after: After) -> Pieces<'a> {
+    pub fn new(text: &'a [u8], piece: usize, after: After<'a>) -> Pieces<'a> {
         Pieces {
             text,
             piece,
@@ -57,6 +60,11 @@ impl Read for Pieces<'_> {
         match self.after {
             After::End => Ok(0),
             After::Failure => Err(Error::from(ErrorKind::BrokenPipe)),
+            After::Once(kind, rest) => {
+                self.text = rest;
+                self.after = After::End;
+                Err(Error::from(kind))
+            }
             After::More => Ok(buf.len().min(1)),
         }
     }

@@ -1,10 +1,8 @@
 //! How often memory is asked for, and what becomes of a run where it is refused.
 
-use crate::command::Command;
-use crate::evaluate::evaluate_theta;
-use crate::plan::Plan;
-use crate::reading::read_plan;
 use crate::run::run;
+use plan_evaluation::evaluate_theta;
+use plan_text::{Command, Plan, read_plan};
 use refuse::{Refusal, Refusing};
 use sketch_base::{DEFAULT_UPDATE_SEED, Error};
 use std::alloc::{AllocError, Global};
@@ -38,8 +36,8 @@ fn union_text(alloc: Global) -> Result<String, AllocError> {
 /// The plan that a text asks to show.
 fn plan_of(alloc: Global, text: &str) -> Option<Plan<()>> {
     match read_plan(alloc, text.as_bytes()) {
-        Ok(Command::ThetaShow(plan)) => Some(plan),
-        _ => None,
+        Ok(Command::Theta(_, plan)) => Some(plan),
+        Err(_) => None,
     }
 }
 
@@ -119,19 +117,28 @@ const ANSWERED: [(&str, &str); 2] = [
     ),
 ];
 
+/// Whether a run makes no more requests for memory than these, its status and what it wrote, where the next one is refused.
+fn answer_without(alloc: Global, text: &str, refused: u64) -> (bool, u8, Vec<u8>) {
+    let heap = Refusing::new(alloc);
+    heap.restart(Refusal::Only(refused));
+    let mut reader = text.as_bytes();
+    let mut written = Vec::new(alloc);
+    let status = run(&heap, &mut reader, &mut written).status();
+    (heap.seen() <= refused, status, written)
+}
+
 #[test]
 fn refuses_each_request_in_turn(rt: HostRuntime) -> Result<(), Fail> {
     for (text, answer) in ANSWERED {
         for refused in 0..u64::MAX {
-            let heap = Refusing::new(rt.alloc());
-            heap.restart(Refusal::Only(refused));
-            let mut reader = text.as_bytes();
-            let mut written = Vec::new(rt.alloc());
-            let status = run(&heap, &mut reader, &mut written);
-            let is_granted = heap.seen() <= refused;
+            let (is_granted, status, written) = answer_without(rt.alloc(), text, refused);
             let wanted = if is_granted { answer } else { "error memory\n" };
-            assert_eq!(rt; written.as_slice(), wanted.as_bytes(), "at {refused}");
-            assert_eq!(rt; status, u8::from(!is_granted), "at {refused}");
+            let said = (status, written.as_slice());
+            assert_eq!(rt;
+                said,
+                (u8::from(!is_granted), wanted.as_bytes()),
+                "at {refused}"
+            );
             if is_granted {
                 break;
             }

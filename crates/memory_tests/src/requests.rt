@@ -1,0 +1,310 @@
+//! Calls whose requests for memory are refused, one after another.
+
+use refuse::{Refusal, Refusing};
+use sketch_base::{Error, ErrorKind};
+use sketch_tests::common::{Heap, Value, ascending, kind_of, numbers, sketch_of, value_between};
+use std::alloc::{AllocError, Global};
+use std::process::Abort;
+use std::test::Fail;
+use theta_sketches::{
+    CompactThetaSketch, ThetaSketch, ThetaSketchBuilder, ThetaSketchView, ThetaUnion,
+    ThetaUnionBuilder,
+};
+
+/// A call on a sketch.
+#[derive(Clone, Copy, Debug)]
+enum Call {
+    Update(u64),
+    Trim,
+    Compact(bool),
+    Image,
+    /// What its unordered image is read as.
+    Read,
+    Reset,
+}
+
+/// How many entries a compact form has.
+fn compact_size<'a>(sketch: &ThetaSketch<&'a Heap>, ordered: bool) -> Result<usize, Error> {
+    let answer = sketch.compact(ordered)?;
+    Ok(answer.num_retained())
+}
+
+/// The image of a compact form.
+fn image_of<'a>(sketch: &ThetaSketch<&'a Heap>, ordered: bool) -> Result<Vec<u8, &'a Heap>, Error> {
+    let answer = sketch.compact(ordered)?;
+    answer.serialize()
+}
+
+/// How many entries are read of the unordered image.
+fn read_size<'a>(heap: &'a Heap, sketch: &ThetaSketch<&'a Heap>) -> Result<usize, Error> {
+    let image = image_of(sketch, false)?;
+    let read = CompactThetaSketch::deserialize(heap, image.as_slice())?;
+    Ok(read.num_retained())
+}
+
+/// Makes a call, and tells how many entries its answer has, or how many bytes.
+fn make<'a>(
+    heap: &'a Heap,
+    sketch: &mut ThetaSketch<&'a Heap>,
+    call: Call,
+) -> Result<usize, Error> {
+    match call {
+        Call::Update(hash) => sketch.update_hash(hash)?,
+        Call::Trim => sketch.trim()?,
+        Call::Compact(ordered) => return compact_size(sketch, ordered),
+        Call::Image => return Ok(image_of(sketch, true)?.len()),
+        Call::Read => return read_size(heap, sketch),
+        Call::Reset => sketch.reset(),
+    }
+    Ok(sketch.num_retained())
+}
+
+/// A sketch's emptiness, theta and hashes, ascending, in memory that is not refused.
+fn shown<'a>(alloc: Global, sketch: &ThetaSketch<&'a Heap>) -> Result<Value, AllocError> {
+    let hashes = ascending(alloc, sketch.iter())?;
+    Ok((sketch.is_empty(), sketch.theta64(), hashes))
+}
+
+/// Makes a call with one request refused. Tells what it answered, and whether it came to that request.
+fn attempt<'a>(
+    heap: &'a Heap,
+    sketch: &mut ThetaSketch<&'a Heap>,
+    call: Call,
+    refused: u64,
+) -> (Result<usize, ErrorKind>, bool) {
+    heap.restart(Refusal::Only(refused));
+    let answer = make(heap, sketch, call);
+    let is_refused = heap.seen() > refused;
+    heap.restart(Refusal::Never);
+    match answer {
+        Ok(size) => (Ok(size), is_refused),
+        Err(error) => (Err(error.kind()), is_refused),
+    }
+}
+
+/// The sketch has to be as it was.
+fn assert_shown<'a>(
+    rt: &impl Abort,
+    heap: &'a Heap,
+    sketch: &ThetaSketch<&'a Heap>,
+    before: &Value,
+    call: Call,
+) -> Result<(), Error> {
+    assert_eq!(rt; &shown(*heap.inner(), sketch)?, before, "{call:?}");
+    Ok(())
+}
+
+/// Makes a call with its first, its second and each later request refused, until none was. Each time the sketch has to be
+/// as before. Tells how many were refused, and what the call answered in the end.
+fn in_turn<'a>(
+    rt: &impl Abort,
+    heap: &'a Heap,
+    sketch: &mut ThetaSketch<&'a Heap>,
+    call: Call,
+) -> Result<(u64, Result<usize, ErrorKind>), Error> {
+    let before = shown(*heap.inner(), sketch)?;
+    for refused in 0..u64::MAX {
+        let (answer, is_refused) = attempt(heap, sketch, call, refused);
+        if !is_refused {
+            return Ok((refused, answer));
+        }
+        assert_eq!(rt; answer, Err(ErrorKind::OutOfMemory), "{call:?}");
+        assert_shown(rt, heap, sketch, &before, call)?;
+    }
+    Err(Error::new(ErrorKind::Failed))
+}
+
+/// How many requests are refused while a sketch is updated with the hashes from 100 to 1.
+fn update_in_turn<'a>(
+    rt: &impl Abort,
+    heap: &'a Heap,
+    sketch: &mut ThetaSketch<&'a Heap>,
+) -> Result<u64, Error> {
+    let mut refusals: u64 = 0;
+    for number in 1..=100u64 {
+        let call = Call::Update(101u64.wrapping_sub(number));
+        let (refused, answer) = in_turn(rt, heap, sketch, call)?;
+        assert!(rt; answer.is_ok(), "{call:?}");
+        refusals = refusals.saturating_add(refused);
+    }
+    Ok(refusals)
+}
+
+/// The call, how often it asks for memory at least and at most, how much it answers, and theta after it.
+type Row = (Call, u64, u64, usize, u64);
+
+fn assert_in_turn<'a>(
+    rt: &impl Abort,
+    heap: &'a Heap,
+    sketch: &mut ThetaSketch<&'a Heap>,
+    (call, least, most, size, theta): Row,
+) -> Result<(), Error> {
+    let (refused, answer) = in_turn(rt, heap, sketch, call)?;
+    assert!(rt; refused >= least && refused <= most, "{call:?}");
+    assert_eq!(rt; (answer, sketch.theta64()), (Ok(size), theta), "{call:?}");
+    Ok(())
+}
+
+fn assert_holds<'a>(
+    rt: &impl Abort,
+    heap: &'a Heap,
+    sketch: &ThetaSketch<&'a Heap>,
+    last: u64,
+) -> Result<(), Error> {
+    let alloc = *heap.inner();
+    let wanted = value_between(alloc, false, last.saturating_add(1), (1, last))?;
+    assert_eq!(rt; shown(alloc, sketch)?, wanted);
+    Ok(())
+}
+
+#[test]
+fn refused_calls_change_nothing(rt: HostRuntime) -> Result<(), Fail> {
+    let heap = Refusing::new(rt.alloc());
+    let mut sketch = ThetaSketchBuilder::default().lg_k(5).build(&heap)?;
+    assert!(rt; update_in_turn(&rt, &heap, &mut sketch)? > 0);
+    let rows: [Row; 9] = [
+        (Call::Update(0), 0, 0, 42, 43),
+        (Call::Update(1), 0, 0, 42, 43),
+        (Call::Compact(false), 1, u64::MAX, 42, 43),
+        (Call::Compact(true), 1, u64::MAX, 42, 43),
+        (Call::Image, 2, u64::MAX, 360, 43),
+        (Call::Read, 3, u64::MAX, 42, 43),
+        (Call::Trim, 0, u64::MAX, 32, 33),
+        (Call::Trim, 0, 0, 32, 33),
+        (Call::Image, 2, u64::MAX, 280, 33),
+    ];
+    for row in rows {
+        assert_in_turn(&rt, &heap, &mut sketch, row)?;
+    }
+    assert_holds(&rt, &heap, &sketch, 32)?;
+    let told = in_turn(&rt, &heap, &mut sketch, Call::Reset)?;
+    assert_eq!(rt; (told, sketch.is_empty()), ((0, Ok(0)), true));
+    Ok(())
+}
+
+/// A union that was given a sketch.
+fn union_with<'a>(
+    heap: &'a Heap,
+    view: ThetaSketchView<'_>,
+) -> Result<ThetaUnion<&'a Heap>, Error> {
+    let mut union = ThetaUnionBuilder::default().lg_k(5).build(heap)?;
+    union.update(view)?;
+    Ok(union)
+}
+
+/// Updates a union with one request refused. Tells why the update was, and whether it came to that request.
+fn attempt_update<'a>(
+    heap: &'a Heap,
+    union: &mut ThetaUnion<&'a Heap>,
+    view: ThetaSketchView<'_>,
+    refused: u64,
+) -> (Option<ErrorKind>, bool) {
+    heap.restart(Refusal::Only(refused));
+    let kind = kind_of(union.update(view));
+    let is_refused = heap.seen() > refused;
+    heap.restart(Refusal::Never);
+    (kind, is_refused)
+}
+
+/// A union's theta and how many hashes it has, once it is reset and updated.
+fn told_anew<'a>(
+    union: &mut ThetaUnion<&'a Heap>,
+    view: ThetaSketchView<'_>,
+) -> Result<(u64, usize), Error> {
+    union.reset();
+    union.update(view)?;
+    let answer = union.to_sketch(true)?;
+    Ok((answer.theta64(), answer.num_retained()))
+}
+
+/// Why an update is refused; and, where memory was, why the next update and the next answer are, and what the union tells anew.
+type Updated = (
+    Option<ErrorKind>,
+    Option<([Option<ErrorKind>; 2], (u64, usize))>,
+);
+
+fn update_twice(
+    heap: &Heap,
+    first: ThetaSketchView<'_>,
+    second: ThetaSketchView<'_>,
+    refused: u64,
+) -> Result<Updated, Error> {
+    let mut union = union_with(heap, first)?;
+    let (kind, is_refused) = attempt_update(heap, &mut union, second, refused);
+    if !is_refused {
+        return Ok((kind, None));
+    }
+    let kinds = [kind_of(union.update(first)), kind_of(union.to_sketch(true))];
+    let told = told_anew(&mut union, second)?;
+    Ok((kind, Some((kinds, told))))
+}
+
+/// A union of the hashes 31 to 33 is updated with the hashes 1 to 45.
+fn updated(alloc: Global, heap: &Heap, refused: u64) -> Result<Updated, Error> {
+    let first = sketch_of(alloc, 9001, 31, 33)?;
+    let second = sketch_of(alloc, 9001, 1, 45)?;
+    update_twice(heap, first.as_view(), second.as_view(), refused)
+}
+
+#[test]
+fn refused_updates_leave_a_union_failed(rt: HostRuntime) -> Result<(), Fail> {
+    let heap = Refusing::new(rt.alloc());
+    let failed = [Some(ErrorKind::Failed), Some(ErrorKind::Failed)];
+    let wanted = (Some(ErrorKind::OutOfMemory), Some((failed, (33, 32))));
+    for refused in 0..u64::MAX {
+        let told = updated(rt.alloc(), &heap, refused)?;
+        if told.1.is_none() {
+            assert_eq!(rt; (refused > 0, told.0), (true, None));
+            break;
+        }
+        assert_eq!(rt; told, wanted, "at {refused}");
+    }
+    Ok(())
+}
+
+/// A union of the hashes 1 to 45.
+fn union_of_45<'a>(alloc: Global, heap: &'a Heap) -> Result<ThetaUnion<&'a Heap>, Error> {
+    let sketch = sketch_of(alloc, 9001, 1, 45)?;
+    union_with(heap, sketch.as_view())
+}
+
+/// The hashes of an answer, or why it is refused, in memory that is not refused.
+fn hashes_of<'a>(
+    alloc: Global,
+    answer: Result<CompactThetaSketch<&'a Heap>, Error>,
+) -> Result<Result<Vec<u64>, ErrorKind>, AllocError> {
+    match answer {
+        Ok(answer) => Ok(Ok(ascending(alloc, answer.iter())?)),
+        Err(error) => Ok(Err(error.kind())),
+    }
+}
+
+/// Asks a union for its answer with one request refused. Tells the hashes or the refusal, and whether it came to that request.
+fn answered<'a>(
+    alloc: Global,
+    heap: &'a Heap,
+    union: &ThetaUnion<&'a Heap>,
+    refused: u64,
+) -> Result<(Result<Vec<u64>, ErrorKind>, bool), AllocError> {
+    heap.restart(Refusal::Only(refused));
+    let answer = union.to_sketch(true);
+    let is_refused = heap.seen() > refused;
+    heap.restart(Refusal::Never);
+    Ok((hashes_of(alloc, answer)?, is_refused))
+}
+
+#[test]
+fn refused_answers_leave_a_union_as_it_was(rt: HostRuntime) -> Result<(), Fail> {
+    let heap = Refusing::new(rt.alloc());
+    let union = union_of_45(rt.alloc(), &heap)?;
+    for refused in 0..u64::MAX {
+        let told = answered(rt.alloc(), &heap, &union, refused)?;
+        if !told.1 {
+            assert!(rt; refused > 0);
+            assert_eq!(rt; told.0, Ok(numbers(rt.alloc(), 1, 32)?));
+            break;
+        }
+        assert_eq!(rt; told.0, Err(ErrorKind::OutOfMemory), "at {refused}");
+    }
+    Ok(())
+}

@@ -1,0 +1,6 @@
+pub mod LeafSteps
+pub mod JoinedParts
+pub mod SharedParts
+pub mod WrittenAndRead
+pub mod RefusedPlans
+pub mod NodeAnswers

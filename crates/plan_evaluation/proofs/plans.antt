@@ -1,0 +1,5 @@
+pub mod NodeEquations
+pub mod EveryPlan
+pub mod PlanOutcome
+pub mod TrimmedLeaf
+pub mod WholeStreams

@@ -1,0 +1,4 @@
+pub mod Value
+pub mod WholeStreams
+pub mod MergePlan
+pub mod Evaluated

@@ -1,0 +1,3 @@
+pub mod words
+pub mod grammar
+pub mod faults

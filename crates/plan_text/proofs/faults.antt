@@ -1,0 +1,4 @@
+pub mod SyntaxStays
+pub mod BeforeFault
+pub mod TooDeep
+pub mod WholeText

@@ -1,0 +1,3 @@
+pub mod ReadMany
+pub mod ReadNodes
+pub mod ReadIsSpelled

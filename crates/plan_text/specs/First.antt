@@ -1,0 +1,45 @@
+-- The fault of a text is the first one, measured by what is spelled without a limit on levels.
+use Rattle.std.specs.Prelude.{◌≡◌, ◌↔◌, ℕ, suc, ◌≤◌, List, [], ◌∷◌, ◌++◌, length, Option, Some, None}
+use Rattle.std.specs.declared.alloc.Global.{Global}
+use Rattle.plan_text.specs.declared.line.Line.{Line}
+use Rattle.plan_text.specs.declared.command.Command.{Command}
+use Rattle.plan_text.specs.Reading.{Said, Stop, syntax, limit}
+use Rattle.plan_text.specs.Spelling.{Say, Spells}
+use Rattle.plan_text.specs.Faults.{a_command, fault_at, fault_of}
+
+-- these lines are a command's, of any number of levels
+abbrev pub IsSpelled : Said → Type 0
+IsSpelled lines = (command : Command Global) × Say lines command
+
+-- how many lines are left where reading stops, the one at fault included
+abbrev pub left_at : Stop → ℕ
+left_at (syntax left) = left
+left_at (limit left) = left
+
+-- the fault of these lines is this one
+abbrev pub HasFault : Said → Stop → Type 0
+HasFault lines fault = fault_at 64 lines (a_command ∷ []) ≡ Some fault
+
+-- nothing spelled begins with the lines up to a line at fault in its syntax
+abbrev pub NothingBegins : Type 0
+NothingBegins = (front : Said) (faulty : Option Line) (rest more : Said)
+    → HasFault (front ++ faulty ∷ rest) (syntax (suc (length rest))) → IsSpelled (front ++ faulty ∷ more) → ⊥
+
+-- the lines before the place of a fault begin something spelled
+abbrev pub FrontBegins : Type 0
+FrontBegins = (front rest : Said) (fault : Stop) → left_at fault ≤ length rest → HasFault (front ++ rest) fault
+    → (more : Said) × IsSpelled (front ++ more)
+
+-- the lines up to a node of one level too many begin something spelled
+abbrev pub DeepBegins : Type 0
+DeepBegins = (front : Said) (deep : Option Line) (rest : Said) → HasFault (front ++ deep ∷ rest) (limit (suc (length rest)))
+    → (more : Said) × IsSpelled (front ++ deep ∷ more)
+
+-- lines after which one is missing are not spelled as they are, but begin something spelled
+abbrev pub MissingBegins : Type 0
+MissingBegins = (lines : Said) → HasFault lines (syntax 0)
+    → (IsSpelled lines → ⊥) × ((more : Said) × IsSpelled (lines ++ more))
+
+-- a text has no fault exactly where it spells a command
+abbrev pub FaultlessIsSpelled : Type 0
+FaultlessIsSpelled = (text : List ℕ) → (fault_of text ≡ None) ↔ ((command : Command Global) × Spells text command)

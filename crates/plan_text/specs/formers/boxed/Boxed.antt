@@ -1,0 +1,61 @@
+-- `Boxed` as a type through which another reaches itself, as a plan does through its operands: its
+-- value is what it holds, whatever the allocator.
+use mathlib.Core.Path.{refl}
+use mathlib.Core.Former.{Former, this, const, pair, via}
+use base.Stored.{gnil}
+use base.Fml.{ftrue}
+use denote.RattleType.{RattleType}
+use denote.Memory.{part_of}
+use denote.RawPtr.{Ptr}
+use denote.Sharing.{nothing}
+use denote.HoleLaws.{Alike}
+use denote.HolePlaces.{Recodes, struct_places, laid, one_value}
+use denote.Hole.Fix.{over}
+use denote.Param.Weighed.{Weighed}
+use denote.Model.Placed.{view_places}
+use Rattle.std.specs.declared.alloc.Allocator.{Ghosts}
+use Rattle.std.specs.declared.boxed.Box.{Box}
+use Rattle.std.specs.contracts.boxed.Box as box
+use Rattle.plan_text.specs.declared.boxed.Boxed.TheInside.{Inside}
+use Rattle.plan_text.specs.declared.boxed.Boxed.TheView.{view, invariant}
+use Rattle.plan_text.specs.contracts.boxed.Boxed as contract
+use Rattle.plan_text.specs.contracts.boxed.Boxed.TheInside as inside
+
+-- what is held is all that it holds
+abbrev pub the_former : Former {0} → Type 0 → Former {0}
+the_former held A = held
+
+abbrev pub the_weighed : {held : Former {0}} → Weighed held → (A : Type 0) → Weighed (the_former held A)
+the_weighed weighed A = weighed
+
+-- the one field, a box: its place, its allocator and what it holds
+abbrev field : Type 0 → Former {0}
+field A = via (pair (const (Ptr × A)) this) (λ X. Inside X A) (λ X b. ((b.held.ptr, b.held.alloc), b.held.value))
+    (λ X v. record { held = record { ptr = v.0.0; alloc = v.0.1; value = v.1 } }) (λ X b. refl) (λ X v. refl)
+
+abbrev holding : {A X Y : Type 0} → Box X A → Y → Box Y A
+holding b y = record { ptr = b.ptr; alloc = b.alloc; value = y }
+
+module _ (A : RattleType) (G : Ghosts A.Denot) (R S : RattleType) (h : R.Denot → S.Denot) where
+  abbrev box_of : RattleType → RattleType
+  box_of T = box.the_row T A G
+
+  box_places : Alike R S h → Alike (box_of R) (box_of S) (λ b. holding b (h b.value))
+  unfolding part_of
+  box_places alike = record {
+    mir_same = λ i. (box_of (one_value R (alike.mir_same i) (λ _. ftrue) (λ _ _. nothing) gnil)).mir;
+    own_same = λ b i. (box_of (one_value R (alike.mir_same i) (alike.own_same b.value i) (alike.shr_same b.value i) gnil)).own_val (holding b tt);
+    shr_same = λ b i. (box_of (one_value R (alike.mir_same i) (alike.own_same b.value i) (alike.shr_same b.value i) gnil)).shr_at (holding b tt);
+  }
+
+  abbrev at : RattleType → RattleType
+  at T = contract.the_row T A G
+
+  pub the_places : Alike R S h → Alike (at R) (at S) ((the_former this A.Denot).map R.Denot S.Denot h)
+  the_places alike = view_places (field A.Denot) this (λ X. view X A.Denot G) (λ X Y k b. refl) (λ X b. refl) R.Denot S.Denot h (at R).coded (at S).coded
+      (invariant R.Denot A.Denot G) (invariant S.Denot A.Denot G) (λ b p q. refl) (λ b p q. refl) (λ b e. tt) (λ b e. tt)
+      (over (inside.the_row R A G)) (over (inside.the_row S A G))
+      (struct_places (inside.the_type R A G) (inside.the_type S A G) ((λ b. holding b (h b.value)), tt) _ (λ b. refl) refl (laid _ _ _ (box_places alike), tt))
+
+  pub the_codes_placed : Recodes R S h → Recodes (at R) (at S) ((the_former this A.Denot).map R.Denot S.Denot h)
+  the_codes_placed same item = same item

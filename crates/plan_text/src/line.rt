@@ -1,0 +1,191 @@
+//! What one line says.
+ghost use Rattle.std.specs.Prelude.{◌≡◌, ◌∷◌, ◌≤◌};
+ghost use Rattle.plan_text.specs.Words.{words, more_words, number, small, start_of};
+ghost use Rattle.plan_text.specs.Lines.{form_of, order_of, said, said_one, said_two, said_four};
+
+use crate::command::{Family, Form};
+use crate::text::cut;
+use theta_laws::MAX_THETA;
+
+/// A line that the text may have.
+#[derive(Clone, Copy)]
+pub enum Line {
+    /// The first line: of which sketches the plan after it is, and the form of its answer.
+    Command(Family, Form),
+    /// A node of a plan, before its steps or its parts.
+    Node(NodeLine),
+    /// A step of a leaf.
+    Step(StepLine),
+}
+
+/// A line that begins a node. Each number and count is what the line spells, also where no sketch
+/// may have it.
+#[derive(Clone, Copy)]
+pub enum NodeLine {
+    /// A leaf, with `count` steps on the lines after it.
+    Leaf { lg_k: u8, start: u64, count: u32 },
+    /// A union, with `count` plans on the lines after it.
+    Union { lg_k: u8, start: u64, count: u32 },
+    /// An intersection, with `count` plans on the lines after it, at least one.
+    Meet { count: u32 },
+    /// A difference, with two plans on the lines after it.
+    Minus,
+    /// A plan on the lines after it, to be written, ordered or not, and read back.
+    Via { ordered: bool },
+}
+
+/// A line that is a step of a leaf.
+#[derive(Clone, Copy)]
+pub enum StepLine {
+    /// An update with this hash.
+    Add(u64),
+    Trim,
+    Reset,
+}
+
+/// How many digits a number has at most.
+const MAX_DIGITS: usize = 20;
+
+/// The first word, and what comes after the space behind it.
+fn word(line: &[u8]) -> (&[u8], Option<&[u8]>)
+    ensures { words line.now ≡ result.0.now ∷ more_words result.1 }
+{
+    match cut(line, b' ') {
+        None => (line, None),
+        Some((front, rest)) => (front, Some(rest)),
+    }
+}
+
+/// The number that a word spells, if it spells one.
+fn number(word: &[u8]) -> Option<u64>
+    ensures { result ≡ number word.now }
+{
+    if word.is_empty() || word.len() > MAX_DIGITS {
+        return None;
+    }
+    let mut value = 0u64;
+    for byte in word {
+        if !byte.is_ascii_digit() {
+            return None;
+        }
+        value = value.checked_mul(10)?.checked_add(u64::from(*byte - b'0'))?;
+    }
+    Some(value)
+}
+
+/// The starting theta that a word spells, if it spells one.
+fn start_of(word: &[u8]) -> Option<u64>
+    ensures { result ≡ start_of word.now }
+{
+    if word == b"max".as_slice() {
+        return Some(MAX_THETA);
+    }
+    number(word)
+}
+
+/// What is asked, if a word says so.
+fn form_of(word: &[u8]) -> Option<Form>
+    ensures { result ≡ form_of word.now }
+{
+    if word == b"show".as_slice() {
+        return Some(Form::Show);
+    }
+    if word == b"image".as_slice() {
+        return Some(Form::Image);
+    }
+    None
+}
+
+/// Whether an image is to be ordered, if a word says so.
+fn order_of(word: &[u8]) -> Option<bool>
+    ensures { result ≡ order_of word.now }
+{
+    if word == b"ordered".as_slice() {
+        return Some(true);
+    }
+    if word == b"unordered".as_slice() {
+        return Some(false);
+    }
+    None
+}
+
+/// What a line of one word says.
+fn one_word(first: &[u8]) -> Option<Line>
+    ensures { result ≡ said_one first.now }
+{
+    if first == b"trim".as_slice() {
+        return Some(Line::Step(StepLine::Trim));
+    }
+    if first == b"reset".as_slice() {
+        return Some(Line::Step(StepLine::Reset));
+    }
+    if first == b"minus".as_slice() {
+        return Some(Line::Node(NodeLine::Minus));
+    }
+    None
+}
+
+/// What a line of two words says.
+fn two_words(first: &[u8], second: &[u8]) -> Option<Line>
+    ensures { result ≡ said_two first.now second.now }
+{
+    if first == b"theta".as_slice() {
+        let form = form_of(second)?;
+        return Some(Line::Command(Family::Theta, form));
+    }
+    if first == b"via".as_slice() {
+        let ordered = order_of(second)?;
+        return Some(Line::Node(NodeLine::Via { ordered }));
+    }
+    if first == b"add".as_slice() {
+        let hash = number(second)?;
+        return Some(Line::Step(StepLine::Add(hash)));
+    }
+    if first == b"meet".as_slice() {
+        let count = u32::try_from(number(second)?).ok()?;
+        if count == 0 {
+            return None;
+        }
+        return Some(Line::Node(NodeLine::Meet { count }));
+    }
+    None
+}
+
+/// What a line of four words says.
+fn four_words(first: &[u8], second: &[u8], third: &[u8], fourth: &[u8]) -> Option<Line>
+    ensures { result ≡ said_four first.now second.now third.now fourth.now }
+{
+    let lg_k = u8::try_from(number(second)?).ok()?;
+    let start = start_of(third)?;
+    let count = u32::try_from(number(fourth)?).ok()?;
+    if first == b"leaf".as_slice() {
+        return Some(Line::Node(NodeLine::Leaf { lg_k, start, count }));
+    }
+    if first == b"union".as_slice() {
+        return Some(Line::Node(NodeLine::Union { lg_k, start, count }));
+    }
+    None
+}
+
+/// What a line says, if it is one that the text may have.
+pub fn line_of(line: &[u8]) -> Option<Line>
+    ensures { result ≡ said (words line.now) }
+{
+    let (first, rest) = word(line);
+    let Some(rest) = rest else {
+        return one_word(first);
+    };
+    let (second, rest) = word(rest);
+    let Some(rest) = rest else {
+        return two_words(first, second);
+    };
+    let (third, rest) = word(rest);
+    let Some(rest) = rest else {
+        return None;
+    };
+    let (fourth, rest) = word(rest);
+    if rest.is_some() {
+        return None;
+    }
+    four_words(first, second, third, fourth)
+}

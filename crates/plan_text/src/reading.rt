@@ -1,0 +1,75 @@
+//! Reading a whole text.
+ghost use Rattle.std.specs.Prelude.{◌≡◌, ◌+◌, ◌-◌, length, IfOk, IfErr, MatchResult};
+ghost use Rattle.plan_text.specs.Reading.{says, Gives, whole_at, command_at};
+ghost use Rattle.plan_text.specs.Text.{lines_of};
+ghost use Rattle.plan_text.specs.Spelling.{Spells};
+ghost use Rattle.plan_text.specs.Faults.{IsFault};
+ghost use Rattle.plan_text.specs.declared.command.Command.{Command as Commands};
+
+use crate::command::{Command, Family};
+use crate::descent::{command_line, plan};
+use crate::fault::{Fault, ReadError};
+use crate::plan::Plan;
+use crate::step_value::StepValue;
+use crate::text::line_count;
+use std::alloc::Allocator;
+
+/// How many levels a plan has at most.
+const LEVELS: u8 = 64;
+
+/// A plan, with nothing after it.
+fn whole_plan<'a, V: StepValue, A: Allocator + Clone>(
+    alloc: &A,
+    text: &'a [u8],
+) -> Result<Plan<V, A>, ReadError<'a>>
+    ensures { Gives (λ x. x) result (whole_at V.step_of (says text.now)) }
+{
+    let (plan, rest) = plan::<V, A>(alloc, LEVELS, text)?;
+    if rest.is_empty() {
+        Ok(plan)
+    } else {
+        Err(ReadError::Syntax(rest))
+    }
+}
+
+/// A command, with nothing after its plan.
+fn command<'a, A: Allocator + Clone>(alloc: &A, text: &'a [u8]) -> Result<Command<A>, ReadError<'a>>
+    ensures { Gives (λ x. x) result (command_at (says text.now)) }
+{
+    let ((family, form), rest) = command_line(text)?;
+    match family {
+        Family::Theta => {
+            let plan = whole_plan::<(), A>(alloc, rest)?;
+            Ok(Command::Theta(form, plan))
+        }
+    }
+}
+
+/// The number of the first line of what is left of a text, from 1.
+fn line_number(text: &[u8], rest: &[u8]) -> u64
+    ensures { result ≡ length (lines_of text.now) - length (lines_of rest.now) + 1 }
+{
+    line_count(text).saturating_sub(line_count(rest)) + 1
+}
+
+/// The command that a text spells, or the text's first fault. Nothing is evaluated.
+///
+/// Lines end with LF, which the last may lack; words are separated by one space. The text is gone
+/// through once, and once more for the line of a fault; no line is copied.
+///
+/// # Errors
+///
+/// `Fault::Syntax` and `Fault::Limit` where the text spells no command; `Fault::Memory` where
+/// memory was refused, in place of any other answer.
+pub fn read_plan<A: Allocator + Clone>(alloc: A, text: &[u8]) -> Result<Command<A>, Fault>
+    ensures spelled { IfOk result (λ command. Spells text.now command) }
+    ensures only { (command : Commands A) → Spells text.now command → MatchResult result (λ c. c ≡ command) (λ e. e ≡ Fault.Memory) }
+    ensures fault { IfErr result (IsFault text.now) }
+{
+    match command(&alloc, text) {
+        Ok(command) => Ok(command),
+        Err(ReadError::Memory) => Err(Fault::Memory),
+        Err(ReadError::Syntax(rest)) => Err(Fault::Syntax(line_number(text, rest))),
+        Err(ReadError::Limit(rest)) => Err(Fault::Limit(line_number(text, rest))),
+    }
+}

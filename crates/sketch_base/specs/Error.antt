@@ -1,0 +1,12 @@
+-- What an error prints.
+use Rattle.std.specs.Prelude.{ℕ, List, codes}
+use Rattle.sketch_base.specs.declared.error.ErrorKind.{ErrorKind}
+use Rattle.sketch_base.specs.declared.error.ErrorKind.TheVariants.{InvalidArgument, InvalidData, OutOfMemory, Policy, Failed}
+
+-- the sentence of each kind
+abbrev pub error_text : ErrorKind → List ℕ
+error_text InvalidArgument = codes "an argument is outside its range or belongs to another seed"
+error_text InvalidData = codes "the bytes spell nothing that may stand there, or end too early"
+error_text OutOfMemory = codes "the memory that was asked for was refused"
+error_text Policy = codes "a policy on summaries refused what it was given"
+error_text Failed = codes "an earlier refusal left it half changed; it refuses until it is reset"

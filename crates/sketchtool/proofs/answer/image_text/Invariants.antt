@@ -1,9 +1,0 @@
-use Rattle.std.proofs.Common.{◌≡◌, take}
-use Rattle.std.specs.Prelude.{string_bytes}
-use Rattle.std.specs.List.{flat_map}
-use Rattle.sketchtool.specs.Answer.{hex_byte}
-use Rattle.sketchtool.proofs.answer.image_text.Given as goal
-
--- the bytes so far are there
-abbrev pub invariant-loop-byte : goal.invariant-loop-byte
-invariant-loop-byte g l = string_bytes l.text ≡ flat_map hex_byte (take l.byte-index l.image)

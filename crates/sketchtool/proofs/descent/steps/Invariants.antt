@@ -1,7 +1,0 @@
-use Rattle.std.proofs.Common.{◌≡◌, ◌-◌}
-use Rattle.sketchtool.specs.Reading.{says, many, step_at}
-use Rattle.sketchtool.proofs.Loop.{with_front}
-use Rattle.sketchtool.proofs.descent.steps.Given as goal
-
-abbrev pub invariant-loop : goal.invariant-loop
-invariant-loop g l = with_front l.steps.items (many (step_at g.V.StepValue.step_of) (l.count - l.counter) (says l.rest)) ≡ many (step_at g.V.StepValue.step_of) l.count (says l.text)

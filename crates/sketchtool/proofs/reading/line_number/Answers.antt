@@ -1,6 +1,0 @@
-use Rattle.std.proofs.Common.{arith}
-use Rattle.sketchtool.proofs.Cuts.{length-lines_of-le}
-use Rattle.sketchtool.proofs.reading.line_number.Goals as goal
-
-pub overflow_add-result : goal.overflow_add-result
-overflow_add-result c = omega (arith, length-lines_of-le c.args.text.now)

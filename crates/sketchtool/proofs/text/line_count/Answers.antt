@@ -1,9 +1,0 @@
-use Rattle.std.proofs.Common.{ap, arith, length, ◌≡◌, suc}
-use Rattle.sketchtool.specs.Text.{lines_of}
-use Rattle.sketchtool.proofs.Cuts.{length-lines_of-le}
-use Rattle.sketchtool.proofs.text.line_count.Goals as goal
-
-pub overflow_add-count : goal.overflow_add-count
-overflow_add-count c =
-    let step : length (lines_of c.loop-after.rest.now) ≡ suc (length (lines_of c.in-Some.after.now)) = ap length c.in-Some.ensures in
-    omega (arith, length-lines_of-le c.args.text.now, c.loop-after.invariant)

@@ -1,0 +1,4 @@
+pub mod Updatable
+pub mod Settings
+pub mod View
+pub mod Fraction

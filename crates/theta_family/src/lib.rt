@@ -1,0 +1,17 @@
+//! What sketches of both families share above the table: their updatable state, the views of it and of compact states, the
+//! settings behind their builders, and what they estimate.
+//!
+//! Everything is generic in the entry. A sketch's value is Empty, or its retained entries as a map with a theta.
+#![tactic(auto)]
+
+mod fraction;
+mod iter;
+mod settings;
+mod updatable;
+mod view;
+
+pub use fraction::{Decimal, MAX_PLACES, compact_decimal, compact_fraction, estimate_decimal};
+pub use iter::ThetaSketchIter;
+pub use settings::Settings;
+pub use updatable::UpdatableState;
+pub use view::SketchView;

@@ -1,0 +1,5 @@
+pub mod AscendingTests
+pub mod SpelledEntries
+pub mod ReadEntries
+pub mod Layouts
+pub mod ReadAgain

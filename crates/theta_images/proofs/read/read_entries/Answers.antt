@@ -1,0 +1,22 @@
+use Rattle.std.proofs.Common.{◌<◌, inr, arith, length}
+use Rattle.std.proofs.lemmas.Result.{err_from_is_err_and}
+use Rattle.theta_images.proofs.ReadEntries.{too_many, next_of, step, refused_weaker}
+use Rattle.theta_images.proofs.read.read_entries.Goals as goal
+
+pub returns-then-bytes-count-clause-refused : goal.returns-then-bytes-count-clause-refused
+returns-then-bytes-count-clause-refused g c =
+    inr (c.new.ensures, too_many g.E.ImageEntry.spells g.met.E.ImageEntry.has_hash c.args.bytes.now c.args.count (omega arith))
+
+pub returns-in_err-entry-clause-refused : goal.returns-in_err-entry-clause-refused
+returns-in_err-entry-clause-refused g c =
+    let p = err_from_is_err_and c.from_residual-in_err-entry.result c.from_residual-in_err-entry.ensures.1 in
+    let inv = c.read_each.invariant in
+    let less : c.read_each._i < c.args.count = c.read_each-test.true in
+    let fewer : length c.read_each.entries.items < c.args.count = rw inv.3 less in
+    rw (p.1, p.2) (refused_weaker c.in_err-entry.field-0.0 (next_of g.E.ImageEntry.spells g.met.E.ImageEntry.one_spelling c.args.bytes.now inv.0 c.read_each.slice c.args.count c.read_each.entries.items inv.1 inv.2 fewer) c.in_err-entry.ensures)
+
+pub read_each-preserved : goal.read_each-preserved
+read_each-preserved g c =
+    let inv = c.read_each.invariant in
+    let found = c.in_ok-entry.ensures in
+    rw c.in_ok-push.ensures.items (step g.E.ImageEntry.spells g.met.E.ImageEntry.one_spelling c.args.bytes.now inv.0 c.read_each.slice found.0 c.read.new.slice c.read_each.entries.items c.in_ok-entry.entry c.read_each._i inv.1 inv.2 inv.3 found.1 found.2)

@@ -1,0 +1,6 @@
+pub mod Preamble
+pub mod Entry
+pub mod Check
+pub mod Read
+pub mod Write
+pub mod HashSpelling

@@ -1,0 +1,66 @@
+//! Entries, and how images spell them.
+ghost use Rattle.std.specs.Prelude.{◌≡◌, ℕ, ◌<◌, ◌≤◌, ◌^◌, ◌++◌, List, length, None, true, OnOk};
+ghost use Rattle.theta_images.specs.Read.{Answers};
+ghost use Rattle.theta_laws.specs.Refusal.{Refuses};
+
+use sketch_base::{Error, SketchBytes, SketchSlice};
+use std::alloc::Allocator;
+use theta_table::{SketchEntry, ThetaEntry};
+
+/// An entry that images spell: by the eight bytes of its hash, the lowest first, and perhaps more.
+pub trait ImageEntry: SketchEntry {
+    /// Which bytes spell which entry.
+    ghost spells: { List ℕ → Self → Type 0 };
+    /// Which entries can be written.
+    ghost is_value: { Self → Type 0 };
+    /// The bytes that are written of an entry.
+    ghost text: { Self → List ℕ };
+
+    /// Appends the entry's bytes. It refuses with `OutOfMemory` alone, and the target is not used afterwards.
+    fn write<A: Allocator>(&self, bytes: &mut SketchBytes<A>) -> Result<(), Error>
+        ensures ok { OnOk result (bytes.new.bytes ≡ bytes.old.bytes ++ text self.now) }
+        ensures refused { Refuses result None true };
+
+    /// Reads the entry that a beginning of the bytes spells, and moves past that beginning. It refuses with `InvalidData`
+    /// exactly where none does, or with `OutOfMemory`; nothing is said of the cursor afterwards.
+    fn read(slice: &mut SketchSlice<'_>) -> Result<Self, Error>
+        ensures { Answers (λ x. λ rest. (first : List ℕ) × spells first x × (slice.old ≡ first ++ rest)) slice.new result };
+
+    /// No spelling begins another, and each is of one entry.
+    ghost one_spelling: { (a b u v : List ℕ) (x y : Self) → spells a x → spells b y → a ++ u ≡ b ++ v → (a ≡ b) × (x ≡ y) };
+
+    /// What is written of a value spells it.
+    ghost text_spells: { (x : Self) → is_value x → Self.key x < 2 ^ 64 → spells (text x) x };
+
+    /// A spelling has eight bytes at least.
+    ghost has_hash: { (a : List ℕ) (x : Self) → spells a x → 8 ≤ length a };
+}
+
+impl ImageEntry for ThetaEntry {
+    ghost use Rattle.std.specs.Prelude.{⊤};
+    ghost use Rattle.std.specs.Int.{w64, to_le_bytes};
+    ghost use Rattle.theta_images.specs.Entry.{SpellsHash};
+    ghost use Rattle.theta_images.specs.HashSpelling.{one_hash, hash_written, hash_long};
+
+    ghost spells = { SpellsHash };
+
+    ghost is_value = { λ _. ⊤ };
+
+    ghost text = { λ h. to_le_bytes w64 h };
+
+    #[inline(always)]
+    fn write<A: Allocator>(&self, bytes: &mut SketchBytes<A>) -> Result<(), Error> {
+        bytes.write_u64_le(self.hash())
+    }
+
+    #[inline(always)]
+    fn read(slice: &mut SketchSlice<'_>) -> Result<Self, Error> {
+        Ok(ThetaEntry::of_hash(slice.read_u64_le()?))
+    }
+
+    ghost one_spelling = { one_hash };
+
+    ghost text_spells = { λ x _ small. hash_written x small };
+
+    ghost has_hash = { hash_long };
+}

@@ -1,0 +1,20 @@
+//! Images of compact states, generic over the entry: what the families' formats share. The rules are those of the
+//! DataSketches format, serial version 3; all numbers are little endian.
+//!
+//! An image begins with preamble longs, words of eight bytes that tell its version, family, flags, seed hash, count of
+//! entries and theta. The entries follow, each by its own spelling. Bytes after an image are ignored.
+#![tactic(auto)]
+
+mod check;
+mod entry;
+pub mod laws;
+mod preamble;
+mod read;
+mod write;
+
+pub use entry::ImageEntry;
+pub use preamble::{
+    Layout, Preamble, admitted, announced, count_at, flagged_layout, seed_hash_at, theta_at,
+};
+pub use read::read_behind;
+pub use write::write_image;

@@ -1,0 +1,4 @@
+pub mod maps
+pub mod cuts
+pub mod insertions
+pub mod operators

@@ -1,0 +1,5 @@
+pub mod Cases
+pub mod Merges
+pub mod Unmarked
+pub mod FoldedSteps
+pub mod Leaves

@@ -1,0 +1,5 @@
+pub mod Ascending
+pub mod LookUps
+pub mod Insertions
+pub mod MapsOfLists
+pub mod MappedEntries

@@ -1,0 +1,10 @@
+pub mod JoinedMaps
+pub mod CommonMaps
+pub mod Unions
+pub mod UnionUpdates
+pub mod Meets
+pub mod Marks
+pub mod EmptyMeets
+pub mod KeysAlone
+pub mod FoldsOfHashes
+pub mod Samples

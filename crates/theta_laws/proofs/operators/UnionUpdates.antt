@@ -1,0 +1,67 @@
+-- What an update makes of a union's value.
+use Rattle.std.proofs.Common.{◌≡◌, ℕ, ◌<◌, ◌≤◌, min, Bool, List, [], ◌∷◌, map, refl, sym, ap, ◌∙◌, subst}
+use Rattle.std.specs.List.{AllByRecursion}
+use Rattle.theta_laws.specs.Maps.{IsAscending, below, entry_at, map_of, IsApart}
+use Rattle.theta_laws.specs.Cuts.{Retained, retained, cut}
+use Rattle.theta_laws.specs.Step.{merge_step}
+use Rattle.theta_laws.specs.Insertion.{after_upserts}
+use Rattle.theta_laws.specs.Lawful.{IsWithin}
+use Rattle.theta_laws.specs.Operators.{joined, unite}
+use Rattle.theta_laws.specs.Values.{Empty, NonEmpty}
+use Rattle.theta_laws.specs.Folds.{Fold, Value, fold_key, fold_merges, unmarked, never}
+use Rattle.theta_laws.proofs.maps.Ascending.{ascending-nil}
+use Rattle.theta_laws.proofs.maps.MappedEntries.{below-map}
+use Rattle.theta_laws.proofs.insertions.Merges.{within-joined, within-lowered}
+use Rattle.theta_laws.proofs.insertions.Unmarked.{fold_keeps, each-marked, ascending-marked}
+use Rattle.theta_laws.proofs.cuts.LawfulThetas.{cut_lawful}
+use Rattle.theta_laws.proofs.maps.LookUps.{same_map}
+use Rattle.theta_laws.proofs.operators.JoinedMaps.{either, entry_at-joined, ascending-joined, below-joined}
+use Rattle.theta_laws.proofs.maps.MapsOfLists.{ascending-apart, entry_at-map_of, ascending-map_of}
+use Rattle.theta_laws.proofs.operators.Unions.{cut-joined}
+use Rattle.theta_laws.proofs.cuts.WithinWholeMaps.{lawful-le, cut_below}
+use Rattle.theta_laws.specs.Entries.{KeepsKey}
+
+module _ {X : Type 0} (key : X → ℕ) (merges : X → X → X) (refuses : X → X → Bool) (keeps : KeepsKey key merges) where
+  pub union-joined : (k m : ℕ) (held listing : List X) (kept : Retained X) → IsAscending key held → AllByRecursion (λ x. 0 < key x) listing →
+      unmarked kept ≡ after_upserts (fold_key key) k (merge_step (fold_merges key merges refuses) never) (map Value listing) (unmarked (retained key held m)) →
+      IsWithin (fold_key key) k m (unmarked kept) (joined (fold_key key) (fold_merges key merges refuses) (map Value (below key held m)) (map Value (below key listing m)))
+  union-joined k m held listing kept up nonzero merged =
+      let start : IsWithin (fold_key key) k m (unmarked (retained key held m)) (map Value (below key held m)) =
+      subst (λ ys. IsWithin (fold_key key) k m (record { entries = ys; theta = m }) ys) (below-map Value key (fold_key key) (λ y. refl) held m) (within-lowered (fold_key key) k m (fold_merges key merges refuses) never (fold_keeps key merges refuses keeps) (map Value held) (ascending-marked key held up)) in
+      rw merged (subst (λ ys. IsWithin (fold_key key) k m (after_upserts (fold_key key) k (merge_step (fold_merges key merges refuses) never) (map Value listing) (unmarked (retained key held m))) (joined (fold_key key) (fold_merges key merges refuses) (map Value (below key held m)) ys)) (below-map Value key (fold_key key) (λ y. refl) listing m)
+      (within-joined (fold_key key) k m (fold_merges key merges refuses) never (fold_keeps key merges refuses keeps) (map Value listing) (unmarked (retained key held m)) (map Value (below key held m)) (each-marked key (λ h. 0 < h) listing nonzero) start))
+
+  -- and theta is not raised
+  pub union-lowers : (k m : ℕ) (v : Retained X) (whole : List (Fold X)) → IsWithin (fold_key key) k m (unmarked v) whole → v.theta ≤ m
+  union-lowers k m v whole within = lawful-le (fold_key key) whole k m v.theta within.lawful
+
+module _ {X : Type 0} (key : X → ℕ) (merges : X → X → X) (keeps : KeepsKey key merges) where
+  -- entries join in any order
+  pub joined-map_of : (whole xs : List X) → IsAscending key whole → IsApart key xs → joined key merges whole xs ≡ joined key merges whole (map_of key xs)
+  joined-map_of whole xs up apart =
+      same_map key _ _ (ascending-joined key merges keeps xs whole up) (ascending-joined key merges keeps (map_of key xs) whole up)
+      (λ q. entry_at-joined key merges keeps xs whole q apart ∙ ap (λ o. either merges (entry_at key whole q) o) (sym (entry_at-map_of key xs q)) ∙ sym (entry_at-joined key merges keeps (map_of key xs) whole q (ascending-apart key (map_of key xs) (ascending-map_of key xs))))
+
+  -- what stands within a joined map has the value that the cut of the whole has
+  pub joined-value : (k m : ℕ) (v : Retained X) (held xs : List X) → IsAscending key held → IsApart key xs → IsWithin key k m v (joined key merges (below key held m) (below key xs m)) → cut key k v.entries v.theta ≡ cut key k (joined key merges held (map_of key xs)) m
+  joined-value k m v held xs up apart within =
+      ap (λ ys. cut key k ys v.theta) within.entries_are
+      ∙ cut_below key k (joined key merges (below key held m) (below key xs m)) v.theta within.ascending
+      ∙ cut_lawful key (joined key merges (below key held m) (below key xs m)) k m v.theta within.ascending within.lawful
+      ∙ ap (λ ys. cut key k ys m) (sym (below-joined key merges keeps xs held m))
+      ∙ cut_below key k (joined key merges held xs) m (ascending-joined key merges keeps xs held up)
+      ∙ ap (λ ys. cut key k ys m) (joined-map_of held xs up apart)
+
+  -- the value after an update is the union of the value before and the input
+  pub update-value : (k start m : ℕ) (old new : Retained X) (xs : List X) (theta : ℕ) → m ≡ min old.theta theta → old.theta ≤ start → IsAscending key old.entries → IsApart key xs → IsWithin key k m new (joined key merges (below key old.entries m) (below key xs m)) →
+      NonEmpty (cut key k new.entries new.theta) ≡ unite key merges k start (NonEmpty (cut key k old.entries old.theta) ∷ NonEmpty (record { entries = map_of key xs; theta = theta }) ∷ [])
+  update-value k start m old new xs theta m_is le up apart within =
+      ap NonEmpty (joined-value k m new old.entries xs up apart within
+      ∙ ap (λ (t : ℕ). cut key k (joined key merges old.entries (map_of key xs)) t) m_is
+      ∙ cut-joined key merges keeps k old.theta start old.entries (record { entries = map_of key xs; theta = theta }) up le)
+
+  -- where the union held nothing
+  pub first-value : (k start m : ℕ) (new : Retained X) (xs : List X) (theta : ℕ) → m ≡ min start theta → IsApart key xs → IsWithin key k m new (joined key merges [] (below key xs m)) →
+      NonEmpty (cut key k new.entries new.theta) ≡ unite key merges k start (Empty ∷ NonEmpty (record { entries = map_of key xs; theta = theta }) ∷ [])
+  first-value k start m new xs theta m_is apart within =
+      ap NonEmpty (joined-value k m new [] xs (ascending-nil key) apart within ∙ ap (λ (t : ℕ). cut key k (joined key merges [] (map_of key xs)) t) m_is)

@@ -1,0 +1,14 @@
+pub mod Maps
+pub mod Cuts
+pub mod Places
+pub mod Refusal
+pub mod Step
+pub mod Entries
+pub mod Insertion
+pub mod Values
+pub mod Folds
+pub mod Lawful
+pub mod Leaf
+pub mod Operators
+pub mod Samples
+pub mod Shown

@@ -1,0 +1,321 @@
+-- Differences of listings, and the states of what is kept.
+use Rattle.std.proofs.Common.{◌≡◌, ℕ, suc, ◌<◌, ◌≤◌, ◌≢◌, ◌^◌, Bool, true, false, cond, ltb, leb, eqb, is_none, min, Result, Ok, Err, IfOk, IfErr, is_err, List, [], ◌∷◌, ◌++◌, length, map, Option, Some, None, refl, sym, ap, ◌∙◌, subst, arith}
+use Rattle.std.specs.Prelude.{◌&&◌, ◌==◌}
+use Rattle.std.specs.List.{filter, AllByRecursion, AllPairs}
+use Rattle.std.proofs.lemmas.Bool.Decides.{nat_tests}
+use Rattle.std.proofs.lemmas.List.{length-map, map-id, append_assoc}
+use Rattle.std.proofs.lemmas.List.Sorted.{length_permutation}
+use Rattle.theta_table.specs.CompactState.{Compact, IsCompactOf, IsAnswer, shown_of, empty_compact, is_answer_ordered}
+use Rattle.theta_laws.specs.Maps.{IsAscending, IsApart, below, entry_at, map_of}
+use Rattle.std.specs.Iterator.{YieldsFirst}
+use Rattle.std.specs.Option.{option_eq}
+use Rattle.theta_laws.specs.Places.{IsAt, IsGapFor}
+use Rattle.theta_laws.proofs.maps.Insertions.{entry_at_place, entry_at_gap}
+use Rattle.theta_operators.specs.ANotB.{at_hand_first, hashes_from}
+use Rattle.theta_laws.specs.Entries.{hash_key}
+use Rattle.theta_laws.specs.Operators.{lacking, minus, unless_nothing}
+use Rattle.theta_laws.specs.Shown.{Shown, IsShown, shown_value}
+use Rattle.theta_laws.specs.declared.TheConstants.{MAX_THETA}
+use Rattle.theta_laws.proofs.maps.Ascending.{each-filter, each-weaker, each-passes, ascending-head, ascending-tail, ascending-nil, ascending-cons, ascending-filter, filter_each}
+use Rattle.theta_laws.proofs.operators.CommonMaps.{filter-and, filter-agree, lacking-nil}
+use Rattle.theta_laws.proofs.cuts.Cuts.{below_all}
+use Rattle.theta_laws.proofs.maps.MapsOfLists.{distinct-apart, each-hash, apart-distinct, ascending-from_map, each-from_map, ascending-map, entry_at-map_of, ascending-map_of}
+use Rattle.theta_laws.proofs.maps.LookUps.{entry_at-filter_in, entry_at-filter_out, entry_at-below, entry_at_head, past, same_map}
+use Rattle.theta_operators.proofs.OtherOrders.{map_of-ascending, map_of-moved, each-map_of}
+use Rattle.theta_table.proofs.LawsOfShown.{IsShown-retained}
+
+-- what is shown of a state of entries, in their own order and sorted
+
+module _ {X : Type 0} (key : X → ℕ) (theta seed_hash : ℕ) where
+  abbrev listed : List X → Bool → Compact X
+  listed xs ordered = record { empty = false; entries = xs; theta = theta; seed_hash = seed_hash; ordered = ordered }
+
+  pub apart_shown : (xs : List X) (ordered : Bool) → IsShown (shown_of key (listed xs ordered)) → IsApart key xs
+  apart_shown xs ordered shown = apart-distinct key xs shown.distinct
+
+  one_ascends : (xs : List X) → length xs ≡ 1 → IsAscending key xs
+  one_ascends [] e = ascending-nil key
+  one_ascends (x ∷ []) e = ascending-cons key x [] tt (ascending-nil key)
+  one_ascends (x ∷ y ∷ xs) e = absurd (omega arith)
+
+  -- entries that are known to be in order ascend
+  known : (xs : List X) (ascending : Bool) → IsShown (shown_of key (listed xs ascending)) → is_answer_ordered ascending (length xs) theta ≡ true → IsAscending key xs
+  known xs true shown e = ascending-from_map key xs (shown.ascending refl)
+  known xs false shown e =
+      (elim (length xs == 1) as (λ b. (length xs == 1) ≡ b → (b && theta == MAX_THETA) ≡ true → IsAscending key xs) [
+        | true ↦ λ one _. one_ascends xs (grind (arith, nat_tests))
+        | false ↦ λ _ f. absurd (cc)
+      ]) refl e
+
+  pub shown_known : (xs : List X) (ascending : Bool) → IsShown (shown_of key (listed xs ascending)) → IsShown (shown_of key (listed xs (is_answer_ordered ascending (length xs) theta)))
+  shown_known xs ascending shown = record {
+    theta_low = shown.theta_low;
+    theta_high = shown.theta_high;
+    distinct = shown.distinct;
+    nonzero = shown.nonzero;
+    below_theta = shown.below_theta;
+    few = shown.few;
+    ascending = λ e. ascending-map key xs (known xs ascending shown e);
+    none = λ e. absurd (cc);
+    greatest = λ e. absurd (cc);
+  }
+
+  pub count_sorted : (xs : List X) → IsApart key xs → length (map_of key xs) ≡ length xs
+  count_sorted xs each = sym (length_permutation (map_of key xs) xs (map_of-moved key xs each))
+
+  pub shown_sorted : (xs : List X) (ordered : Bool) → IsShown (shown_of key (listed xs ordered)) → IsShown (shown_of key (listed (map_of key xs) true))
+  shown_sorted xs ordered shown =
+      IsShown-retained key (record { entries = map_of key xs; theta = theta }) seed_hash true
+      (record {
+        ascending = ascending-map_of key xs;
+        nonzero = each-map_of key (λ x. 0 < key x) xs (each-from_map key (λ h. 0 < h) xs shown.nonzero);
+        below_theta = each-map_of key (λ x. key x < theta) xs (each-from_map key (λ h. h < theta) xs shown.below_theta);
+        theta_low = shown.theta_low;
+        theta_high = shown.theta_high;
+      })
+      (rw (count_sorted xs (apart_shown xs ordered shown), ← length-map xs key) shown.few)
+
+  pub compact_known : (xs : List X) (ascending : Bool) → IsShown (shown_of key (listed xs ascending)) → IsCompactOf key (record { entries = map_of key xs; theta = theta }) seed_hash ascending (listed xs (is_answer_ordered ascending (length xs) theta))
+  compact_known xs ascending shown =
+      let each = apart_shown xs ascending shown in
+      record {
+        nonempty = refl;
+        same_theta = refl;
+        same_seed = refl;
+        ordered_if = ap (λ (n : ℕ). is_answer_ordered ascending n theta) (sym (count_sorted xs each));
+        lists_all = record { each_once = map_of-moved key xs each; apart = each; same_map = refl };
+        in_order = λ e. sym (map_of-ascending key xs (known xs ascending shown e));
+      }
+
+  pub compact_sorted : (xs : List X) (ordered : Bool) → IsShown (shown_of key (listed xs ordered)) → IsCompactOf key (record { entries = map_of key xs; theta = theta }) seed_hash true (listed (map_of key xs) true)
+  compact_sorted xs ordered shown =
+      let sound = shown_sorted xs ordered shown in
+      let each = apart_shown (map_of key xs) true sound in
+      rw (map_of-ascending key (map_of key xs) (ascending-map_of key xs)) at (compact_known (map_of key xs) true sound)
+
+module _ {X : Type 0} where
+  fewer : (p : X → Bool) (xs : List X) → length (filter p xs) ≤ length xs
+  fewer p [] = omega arith
+  fewer p (x ∷ xs) = elim (p x) as (λ b. length (cond b (x ∷ filter p xs) (filter p xs)) ≤ suc (length xs)) [ true ↦ omega (arith, fewer p xs) | false ↦ omega (arith, fewer p xs) ]
+
+module _ {X : Type 0} (key : X → ℕ) where
+  none_low : (xs : List X) (theta : ℕ) → AllByRecursion (λ y. theta ≤ key y) xs → below key xs theta ≡ []
+  none_low [] theta all = refl
+  none_low (x ∷ xs) theta all = let e : ltb (key x) theta ≡ false = grind (arith, nat_tests, all.0) in rw e (none_low xs theta all.1)
+
+  -- of entries that ascend none is below theta from the first on that is not
+  pub stops : (x : X) (left : List X) (theta : ℕ) → IsAscending key (x ∷ left) → theta ≤ key x → below key (x ∷ left) theta ≡ []
+  stops x left theta up le = none_low (x ∷ left) theta (le, each-weaker _ _ (λ y lt. omega (arith, le, lt)) left (ascending-head key x left up))
+
+  filter_absent : (p : X → Bool) (xs : List X) (q : ℕ) → entry_at key xs q ≡ None → entry_at key (filter p xs) q ≡ None
+  filter_absent p [] q none = refl
+  filter_absent p (x ∷ xs) q none =
+      (elim (eqb (key x) q) as (λ b. eqb (key x) q ≡ b → cond b (Some x) (entry_at key xs q) ≡ None → entry_at key (filter p (x ∷ xs)) q ≡ None) [
+        | true ↦ λ e n. absurd (cc)
+        | false ↦ λ e n. elim (p x) as (λ b. entry_at key (cond b (x ∷ filter p xs) (filter p xs)) q ≡ None) [ true ↦ rw e (filter_absent p xs q n) | false ↦ filter_absent p xs q n ]
+      ]) refl none
+
+  apart-filter : (p : X → Bool) (xs : List X) → IsApart key xs → IsApart key (filter p xs)
+  apart-filter p [] each = tt
+  apart-filter p (x ∷ xs) each =
+      elim (p x) as (λ b. IsApart key (cond b (x ∷ filter p xs) (filter p xs))) [ true ↦ (filter_absent p xs (key x) each.0, apart-filter p xs each.1) | false ↦ apart-filter p xs each.1 ]
+
+  -- where a test is of keys alone
+  entry_at-keyed : (f : ℕ → Bool) (xs : List X) (q : ℕ) → entry_at key (filter (λ x. f (key x)) xs) q ≡ cond (f q) (entry_at key xs q) None
+  entry_at-keyed f xs q =
+      (elim (f q) as (λ b. f q ≡ b → entry_at key (filter (λ x. f (key x)) xs) q ≡ cond b (entry_at key xs q) None) [
+        | true ↦ λ e. entry_at-filter_in key (λ x. f (key x)) xs q (λ x same. ap f same ∙ e)
+        | false ↦ λ e. entry_at-filter_out key (λ x. f (key x)) xs q (λ x same. ap f same ∙ e)
+      ]) refl
+
+  both_tests : (a b : Bool) (o : Option X) → cond a (cond b o None) None ≡ cond b (cond a o None) None
+  both_tests true true o = refl
+  both_tests true false o = refl
+  both_tests false true o = refl
+  both_tests false false o = refl
+
+  -- what of a listing is kept: below theta, and not among hashes
+  abbrev pub kept_of : List X → List ℕ → ℕ → List X
+  kept_of listing hashes theta = lacking key hash_key (below key listing theta) hashes
+
+  -- hashes that are not below theta take nothing away
+  pub kept_by_map : (xs : List X) (hs : List ℕ) (theta : ℕ) → kept_of xs (map_of hash_key (below hash_key hs theta)) theta ≡ kept_of xs hs theta
+  kept_by_map xs hs theta =
+      filter-and (λ x. is_none (entry_at hash_key (map_of hash_key (below hash_key hs theta)) (key x))) (λ x. ltb (key x) theta) xs
+      ∙ filter-agree _ (λ x. ltb (key x) theta && is_none (entry_at hash_key hs (key x))) xs (λ x.
+      (elim (ltb (key x) theta) as (λ b. ltb (key x) theta ≡ b → (b && is_none (entry_at hash_key (map_of hash_key (below hash_key hs theta)) (key x))) ≡ (b && is_none (entry_at hash_key hs (key x)))) [
+        | true ↦ λ e. ap is_none (entry_at-map_of hash_key (below hash_key hs theta) (key x) ∙ entry_at-below hash_key hs theta (key x) ∙ ap (λ b. cond b (entry_at hash_key hs (key x)) None) e)
+        | false ↦ λ e. refl
+      ]) refl)
+      ∙ sym (filter-and (λ x. is_none (entry_at hash_key hs (key x))) (λ x. ltb (key x) theta) xs)
+
+  -- no hashes take nothing away from entries below theta
+  pub kept_all : (xs : List X) (theta : ℕ) → AllByRecursion (λ x. key x < theta) xs → kept_of xs [] theta ≡ xs
+  kept_all xs theta all = lacking-nil key hash_key (below key xs theta) ∙ below_all key xs theta all
+
+  -- what is kept of listings is what is kept of the maps that they make
+  pub kept_map : (xs : List X) (hs : List ℕ) (theta : ℕ) → map_of key (kept_of xs hs theta) ≡ below key (lacking key hash_key (map_of key xs) (map_of hash_key hs)) theta
+  kept_map xs hs theta =
+      same_map key _ _ (ascending-map_of key (kept_of xs hs theta)) (ascending-filter key _ _ (ascending-filter key _ _ (ascending-map_of key xs)))
+      (λ q.
+      entry_at-map_of key (kept_of xs hs theta) q
+      ∙ entry_at-keyed (λ h. is_none (entry_at hash_key hs h)) (below key xs theta) q
+      ∙ ap (λ o. cond (is_none (entry_at hash_key hs q)) o None) (entry_at-below key xs theta q)
+      ∙ both_tests (is_none (entry_at hash_key hs q)) (ltb q theta) (entry_at key xs q)
+      ∙ ap (λ o. cond (ltb q theta) (cond (is_none o) (entry_at key xs q) None) None) (sym (entry_at-map_of hash_key hs q))
+      ∙ ap (λ o. cond (ltb q theta) (cond (is_none (entry_at hash_key (map_of hash_key hs) q)) o None) None) (sym (entry_at-map_of key xs q))
+      ∙ ap (λ o. cond (ltb q theta) o None) (sym (entry_at-keyed (λ h. is_none (entry_at hash_key (map_of hash_key hs) h)) (map_of key xs) q))
+      ∙ sym (entry_at-below key (lacking key hash_key (map_of key xs) (map_of hash_key hs)) theta q))
+
+  -- what is kept meets the laws of what is shown
+  pub shown_kept : (a : Shown) (listing : List X) (hs : List ℕ) (theta seed_hash : ℕ) → IsShown a → map key listing ≡ a.hashes → 0 < theta → theta ≤ a.theta → IsShown (shown_of key (listed key theta seed_hash (kept_of listing hs theta) a.ordered))
+  shown_kept a listing hs theta seed_hash shown hashes low high = record {
+    theta_low = low;
+    theta_high = omega (arith, high, shown.theta_high);
+    distinct = distinct-apart key (kept_of listing hs theta) (apart-filter _ _ (apart-filter _ listing (apart-distinct key listing (rw hashes shown.distinct))));
+    nonzero = each-hash key (λ h. 0 < h) (kept_of listing hs theta) (each-filter _ _ _ (each-filter _ _ listing (each-from_map key (λ h. 0 < h) listing (rw hashes shown.nonzero))));
+    below_theta = each-hash key (λ h. h < theta) (kept_of listing hs theta) (each-filter _ _ _ (each-passes (λ x. key x < theta) (λ x. ltb (key x) theta) (λ x e. grind (arith, nat_tests)) listing));
+    few =
+        let bound : length (map key listing) < 2 ^ 32 = rw hashes shown.few in
+        let there : length listing < 2 ^ 32 = rw (length-map listing key) at bound in
+        let once = fewer (λ x. ltb (key x) theta) listing in
+        let twice = fewer (λ x. is_none (entry_at hash_key hs (key x))) (below key listing theta) in
+        rw (length-map (kept_of listing hs theta) key) (omega (arith, there, once, twice));
+    ascending = λ e. ascending-map key (kept_of listing hs theta) (ascending-filter key _ _ (ascending-filter key _ listing (ascending-from_map key listing (rw hashes (shown.ascending e)))));
+    none = λ e. absurd (cc);
+    greatest = λ e. absurd (cc);
+  }
+
+  -- one entry more: kept, or passed over
+  kept_step : (x : X) (left : List X) (hs : List ℕ) (theta : ℕ) (b : Bool) → (ltb (key x) theta && is_none (entry_at hash_key hs (key x))) ≡ b → kept_of (x ∷ left) hs theta ≡ cond b (x ∷ kept_of left hs theta) (kept_of left hs theta)
+  kept_step x left hs theta b =
+      elim (ltb (key x) theta) as (λ t. (t && is_none (entry_at hash_key hs (key x))) ≡ b → lacking key hash_key (cond t (x ∷ below key left theta) (below key left theta)) hs ≡ cond b (x ∷ kept_of left hs theta) (kept_of left hs theta)) [
+        | true ↦ λ e. ap (λ c. cond c (x ∷ kept_of left hs theta) (kept_of left hs theta)) e
+        | false ↦ λ e. ap (λ c. cond c (x ∷ kept_of left hs theta) (kept_of left hs theta)) e
+      ]
+
+  pub kept_more : (done : List X) (x : X) (left : List X) (hs : List ℕ) (theta : ℕ) → (ltb (key x) theta && is_none (entry_at hash_key hs (key x))) ≡ true → (done ++ x ∷ []) ++ kept_of left hs theta ≡ done ++ kept_of (x ∷ left) hs theta
+  kept_more done x left hs theta e = append_assoc done (x ∷ []) (kept_of left hs theta) ∙ ap (λ zs. done ++ zs) (sym (kept_step x left hs theta true e))
+
+  pub kept_same : (done : List X) (x : X) (left : List X) (hs : List ℕ) (theta : ℕ) → (ltb (key x) theta && is_none (entry_at hash_key hs (key x))) ≡ false → done ++ kept_of left hs theta ≡ done ++ kept_of (x ∷ left) hs theta
+  kept_same done x left hs theta e = ap (λ zs. done ++ zs) (sym (kept_step x left hs theta false e))
+
+  pub kept_stops : (x : X) (left : List X) (hs : List ℕ) (theta : ℕ) → IsAscending key (x ∷ left) → theta ≤ key x → kept_of (x ∷ left) hs theta ≡ []
+  kept_stops x left hs theta up le = ap (λ ys. lacking key hash_key ys hs) (stops x left theta up le)
+
+-- hashes alone
+pub apart_hashes : (hs : List ℕ) → AllPairs (λ x y. x ≢ y) hs → IsApart hash_key hs
+apart_hashes hs distinct = apart-distinct hash_key hs (rw (map-id hs) distinct)
+
+pub below_apart : (hs : List ℕ) (theta : ℕ) → AllPairs (λ x y. x ≢ y) hs → IsApart hash_key (below hash_key hs theta)
+below_apart hs theta distinct = apart-filter hash_key _ hs (apart_hashes hs distinct)
+
+pub below_more : (done : List ℕ) (h : ℕ) (left : List ℕ) (theta : ℕ) → h < theta → (done ++ h ∷ []) ++ below hash_key left theta ≡ done ++ below hash_key (h ∷ left) theta
+below_more done h left theta lt =
+    let e : ltb h theta ≡ true = grind (arith, nat_tests) in
+    rw e (append_assoc done (h ∷ []) (below hash_key left theta))
+
+-- what a search in hashes that ascend tells
+pub search_tells : (hs : List ℕ) (h : ℕ) (r : Result ℕ ℕ) → IsAscending hash_key hs → IfOk r (IsAt hash_key hs h) → IfErr r (IsGapFor hash_key hs h) → is_err r ≡ is_none (entry_at hash_key hs h)
+search_tells hs h (Ok at) up found absent = ap is_none (sym (entry_at_place hash_key hs h at 0 up found))
+search_tells hs h (Err at) up found absent = ap is_none (sym (entry_at_gap hash_key hs h at absent))
+
+-- the hashes from a least one on
+pub from_low : (h : ℕ) (rest : List ℕ) (least : ℕ) → h < least → hashes_from (h ∷ rest) least ≡ hashes_from rest least
+from_low h rest least lt = let e : leb least h ≡ false = grind (arith, nat_tests) in rw e refl
+
+pub from_high : (h : ℕ) (rest : List ℕ) (least : ℕ) → IsAscending hash_key (h ∷ rest) → least ≤ h → hashes_from (h ∷ rest) least ≡ h ∷ rest
+from_high h rest least up le =
+    filter_each (λ q. leb least q) (h ∷ rest) (grind (arith, nat_tests), each-weaker (λ q. h < q) (λ q. leb least q ≡ true) (λ q lt. grind (arith, nat_tests)) rest (ascending-head hash_key h rest up))
+
+-- after a call for the next hash
+pub at_hand_is : {S : Type 0} (rest : S → List ℕ) (s t : S) (r : Option ℕ) → YieldsFirst rest s r t → at_hand_first r (rest t) ≡ rest s
+at_hand_is rest s t None steps = sym steps.0
+at_hand_is rest s t (Some h) steps = sym steps
+
+module _ {X : Type 0} (key : X → ℕ) where
+  -- entries and hashes that ascend are read side by side: of the hashes all are left that the entries that are left ask for
+  pub record IsScanning (listing left kept : List X) (hashes from : List ℕ) (theta : ℕ) : Type 0 where
+    pub rest : kept ++ kept_of key left hashes theta ≡ kept_of key listing hashes theta
+    pub agrees : AllByRecursion (λ x. entry_at hash_key from (key x) ≡ entry_at hash_key hashes (key x)) left
+    pub in_order : IsAscending key left
+    pub ascending : IsAscending hash_key from
+
+  each_agrees : (left : List X) (hashes : List ℕ) → AllByRecursion (λ x. entry_at hash_key hashes (key x) ≡ entry_at hash_key hashes (key x)) left
+  each_agrees [] hashes = tt
+  each_agrees (x ∷ left) hashes = (refl, each_agrees left hashes)
+
+  pub scanning_start : (listing : List X) (hashes : List ℕ) (theta : ℕ) → IsAscending key listing → IsAscending hash_key hashes → IsScanning listing listing [] hashes hashes theta
+  scanning_start listing hashes theta up hashes_up = record { rest = refl; agrees = each_agrees listing hashes; in_order = up; ascending = hashes_up }
+
+  entry_at-from : (from : List ℕ) (least q : ℕ) → least ≤ q → entry_at hash_key (hashes_from from least) q ≡ entry_at hash_key from q
+  entry_at-from from least q le = entry_at-filter_in hash_key (λ h. leb least h) from q (λ h same. grind (arith, nat_tests))
+
+  later_agree : (h : ℕ) (left : List X) (hashes from : List ℕ) → AllByRecursion (λ x. h < key x) left → AllByRecursion (λ x. entry_at hash_key from (key x) ≡ entry_at hash_key hashes (key x)) left → AllByRecursion (λ x. entry_at hash_key (hashes_from from h) (key x) ≡ entry_at hash_key hashes (key x)) left
+  later_agree h [] hashes from later agrees = tt
+  later_agree h (x ∷ left) hashes from later agrees = (entry_at-from from h (key x) (omega (arith, later.0)) ∙ agrees.0, later_agree h left hashes from later.1 agrees.1)
+
+  -- an entry more, where the hashes before its own were passed over
+  scanning_on : (listing : List X) (x : X) (left kept more : List X) (hashes from on : List ℕ) (theta : ℕ) → on ≡ hashes_from from (key x) → IsScanning listing (x ∷ left) kept hashes from theta → more ++ kept_of key left hashes theta ≡ kept ++ kept_of key (x ∷ left) hashes theta → IsScanning listing left more hashes on theta
+  scanning_on listing x left kept more hashes from on theta on_is so_far next = rw on_is (record {
+    rest = next ∙ so_far.rest;
+    agrees = later_agree (key x) left hashes from (ascending-head key x left so_far.in_order) so_far.agrees.1;
+    in_order = ascending-tail key x left so_far.in_order;
+    ascending = ascending-filter hash_key _ from so_far.ascending;
+  })
+
+  asked_for : (listing : List X) (x : X) (left kept : List X) (hashes from on : List ℕ) (theta : ℕ) → on ≡ hashes_from from (key x) → IsScanning listing (x ∷ left) kept hashes from theta → entry_at hash_key on (key x) ≡ entry_at hash_key hashes (key x)
+  asked_for listing x left kept hashes from on theta on_is so_far = rw on_is (entry_at-from from (key x) (key x) (omega arith)) ∙ so_far.agrees.0
+
+  none_at_hand : (rest : List ℕ) (h : ℕ) (at_hand : Option ℕ) (from : List ℕ) → IsAscending hash_key from → at_hand_first at_hand rest ≡ hashes_from from h → option_eq eqb at_hand (Some h) ≡ false → entry_at hash_key (at_hand_first at_hand rest) h ≡ None
+  none_at_hand rest h None from up is differs = refl
+  none_at_hand rest h (Some u) from up is differs =
+      let high : AllByRecursion (λ q. h ≤ q) (u ∷ rest) = subst (λ zs. AllByRecursion (λ q. h ≤ q) zs) (sym is) (each-passes (λ q. h ≤ q) (λ q. leb h q) (λ q e. grind (arith, nat_tests)) from) in
+      let ascends : IsAscending hash_key (u ∷ rest) = subst (λ zs. IsAscending hash_key zs) (sym is) (ascending-filter hash_key (λ q. leb h q) from up) in
+      past hash_key u rest h ascends (grind (arith, nat_tests, high.0, differs))
+
+  met_at_hand : (rest : List ℕ) (h : ℕ) (at_hand : Option ℕ) → option_eq eqb at_hand (Some h) ≡ true → is_none (entry_at hash_key (at_hand_first at_hand rest) h) ≡ false
+  met_at_hand rest h None met = absurd (cc)
+  met_at_hand rest h (Some u) met = let tie : u ≡ h = grind (arith, nat_tests, met) in ap is_none (entry_at_head hash_key u rest h tie)
+
+  -- an entry whose hash isn't the one at hand is kept, and one whose hash is isn't
+  pub scanning_kept : (listing : List X) (x : X) (left kept : List X) (hashes from rest : List ℕ) (at_hand : Option ℕ) (theta : ℕ) → at_hand_first at_hand rest ≡ hashes_from from (key x) → key x < theta → option_eq eqb at_hand (Some (key x)) ≡ false → IsScanning listing (x ∷ left) kept hashes from theta → IsScanning listing left (kept ++ x ∷ []) hashes (at_hand_first at_hand rest) theta
+  scanning_kept listing x left kept hashes from rest at_hand theta is low differs so_far =
+      let absent : entry_at hash_key hashes (key x) ≡ None = sym (asked_for listing x left kept hashes from (at_hand_first at_hand rest) theta is so_far) ∙ none_at_hand rest (key x) at_hand from so_far.ascending is differs in
+      let e : ltb (key x) theta ≡ true = grind (arith, nat_tests) in
+      scanning_on listing x left kept (kept ++ x ∷ []) hashes from (at_hand_first at_hand rest) theta is so_far (kept_more key kept x left hashes theta (rw (e, absent) refl))
+
+  pub scanning_met : (listing : List X) (x : X) (left kept : List X) (hashes from rest : List ℕ) (at_hand : Option ℕ) (theta : ℕ) → at_hand_first at_hand rest ≡ hashes_from from (key x) → key x < theta → option_eq eqb at_hand (Some (key x)) ≡ true → IsScanning listing (x ∷ left) kept hashes from theta → IsScanning listing left kept hashes (at_hand_first at_hand rest) theta
+  scanning_met listing x left kept hashes from rest at_hand theta is low met so_far =
+      let found : is_none (entry_at hash_key hashes (key x)) ≡ false = ap is_none (sym (asked_for listing x left kept hashes from (at_hand_first at_hand rest) theta is so_far)) ∙ met_at_hand rest (key x) at_hand met in
+      let e : ltb (key x) theta ≡ true = grind (arith, nat_tests) in
+      scanning_on listing x left kept kept hashes from (at_hand_first at_hand rest) theta is so_far (kept_same key kept x left hashes theta (rw (e, found) refl))
+
+  -- the difference of what two sketches show is what is kept
+  minus_value : (a b : Shown) (listing : List X) (hs : List ℕ) (theta : ℕ) → a.empty ≡ false → b.empty ≡ false → theta ≡ min a.theta b.theta →
+      minus key hash_key (shown_value key a listing) (shown_value hash_key b hs) ≡ unless_nothing (record { entries = map_of key (kept_of key listing hs theta); theta = theta })
+  minus_value a b listing hs theta first second theta_is =
+      let whole = lacking key hash_key (map_of key listing) (map_of hash_key hs) in
+      rw (first, second) (ap (λ (t : ℕ). unless_nothing (record { entries = below key whole t; theta = t })) (sym theta_is) ∙ ap (λ xs. unless_nothing (record { entries = xs; theta = theta })) (sym (kept_map key listing hs theta)))
+
+  pub answer_kept : (a b : Shown) (listing : List X) (hs : List ℕ) (theta seed_hash : ℕ) (asked : Bool) (s : Compact X) → a.empty ≡ false → b.empty ≡ false → theta ≡ min a.theta b.theta → IsApart key (kept_of key listing hs theta) →
+      (length (kept_of key listing hs theta) == 0 && theta == MAX_THETA) ≡ false → IsCompactOf key (record { entries = map_of key (kept_of key listing hs theta); theta = theta }) seed_hash asked s → IsAnswer key (minus key hash_key (shown_value key a listing) (shown_value hash_key b hs)) seed_hash asked s
+  answer_kept a b listing hs theta seed_hash asked s first second theta_is each some is =
+      rw (minus_value a b listing hs theta first second theta_is, count_sorted key theta seed_hash (kept_of key listing hs theta) each, some) is
+
+  pub answer_nothing : (a b : Shown) (listing : List X) (hs : List ℕ) (theta seed_hash : ℕ) (asked : Bool) → a.empty ≡ false → b.empty ≡ false → theta ≡ min a.theta b.theta → IsApart key (kept_of key listing hs theta) →
+      (length (kept_of key listing hs theta) == 0 && theta == MAX_THETA) ≡ true → IsAnswer key (minus key hash_key (shown_value key a listing) (shown_value hash_key b hs)) seed_hash asked (empty_compact seed_hash)
+  answer_nothing a b listing hs theta seed_hash asked first second theta_is each nothing =
+      rw (minus_value a b listing hs theta first second theta_is, count_sorted key theta seed_hash (kept_of key listing hs theta) each, nothing) refl
+
+  pub answer_all : (a b : Shown) (listing : List X) (hs : List ℕ) (seed_hash : ℕ) (asked : Bool) (s : Compact X) → a.empty ≡ false → b.empty ≡ true → IsShown a → map key listing ≡ a.hashes →
+      IsCompactOf key (record { entries = map_of key (kept_of key listing [] a.theta); theta = a.theta }) seed_hash asked s → IsAnswer key (minus key hash_key (shown_value key a listing) (shown_value hash_key b hs)) seed_hash asked s
+  answer_all a b listing hs seed_hash asked s first second shown hashes is =
+      rw (first, second) (rw (kept_all key listing a.theta (each-from_map key (λ h. h < a.theta) listing (rw hashes shown.below_theta))) at is)
+
+  pub shown_below : (a b : Shown) (listing : List X) (hs : List ℕ) (theta seed_hash : ℕ) → IsShown a → IsShown b → map key listing ≡ a.hashes → theta ≡ min a.theta b.theta → IsShown (shown_of key (listed key theta seed_hash (kept_of key listing hs theta) a.ordered))
+  shown_below a b listing hs theta seed_hash shown_a shown_b hashes theta_is =
+      shown_kept key a listing hs theta seed_hash shown_a hashes (omega (arith, theta_is, shown_a.theta_low, shown_b.theta_low)) (omega (arith, theta_is))
+
+pub lesser : (theta first second : ℕ) (a b : Shown) → theta ≡ min first second → a.theta ≡ first → b.theta ≡ second → theta ≡ min a.theta b.theta
+lesser theta first second a b is first_is second_is = rw (first_is, second_is) is

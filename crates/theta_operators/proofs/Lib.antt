@@ -1,0 +1,8 @@
+pub mod UnionValue
+pub mod MergedListing
+pub mod FilledTables
+pub mod SharedEntries
+pub mod Outcomes
+pub mod ToldMetadata
+pub mod OtherOrders
+pub mod LackingEntries

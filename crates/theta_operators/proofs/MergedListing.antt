@@ -1,0 +1,126 @@
+-- A listing that is merged into a table, entry by entry.
+use Rattle.std.proofs.Common.{◌≡◌, ℕ, zero, ◌*◌, ◌/◌, ◌≤◌, ◌≢◌, Bool, true, false, cond, leb, ltb, eqb, List, [], ◌∷◌, map, length, Option, Some, None, inr, refl, sym, ap, ◌∙◌, subst, arith}
+use Rattle.std.specs.Prelude.{◌&&◌}
+use Rattle.std.specs.List.{AllByRecursion}
+use Rattle.std.proofs.lemmas.Bool.Decides.{nat_tests}
+use Rattle.sketch_base.specs.declared.error.ErrorKind.{ErrorKind}
+use Rattle.theta_laws.specs.Maps.{IsAscending, below, entry_at, with_entry, IsApart}
+use Rattle.theta_laws.specs.Cuts.{Retained, cut}
+use Rattle.theta_table.specs.HashTable.{MapTable}
+use Rattle.theta_laws.specs.Insertion.{is_screened, rebuilt, after_upsert, upsert_refusal, after_upserts}
+use Rattle.theta_laws.specs.Step.{merge_step}
+use Rattle.theta_laws.specs.Folds.{Fold, Value, fold_key, fold_merges, unmarked, never}
+use Rattle.theta_operators.specs.Union.{IsMergeRefused}
+use Rattle.theta_laws.proofs.maps.Ascending.{each-weaker, ascending-head, ascending-tail}
+use Rattle.theta_laws.proofs.cuts.Cuts.{cut_is_below}
+use Rattle.theta_laws.proofs.maps.LookUps.{entry_at-below, entry_at-with_entry, entry_at_rest, entry_at_head}
+use Rattle.theta_laws.proofs.cuts.WithinWholeMaps.{found_key}
+use Rattle.theta_laws.proofs.insertions.Cases.{screened_case, existing_case, absent_case, is_screened_true}
+use Rattle.theta_laws.proofs.insertions.Unmarked.{unmarked-upsert, was_refused}
+use Rattle.sketch_base.specs.declared.error.ErrorKind.TheVariants.{Policy}
+use Rattle.theta_laws.specs.Entries.{KeepsKey}
+
+module _ {X : Type 0} where
+  none_some : {x : X} → None ≡ Some x → ⊥
+  none_some e = cc
+
+  cond_some : (b : Bool) (o : Option X) (w : X) → cond b o None ≡ Some w → o ≡ Some w
+  cond_some true o w e = e
+  cond_some false o w e = cc
+
+pub made_with_next : {X : Type 0} → (first was now : MapTable X) → (kept : Retained X) → was ≡ record first { kept = was.kept } → now ≡ record was { kept = kept } → now ≡ record first { kept = now.kept }
+made_with_next {X} first was now kept before step =
+    let at_first : Retained X → MapTable X = λ v. record first { kept = v } in
+    let again : MapTable X → MapTable X = λ t. record t { kept = kept } in
+    step ∙ ap again before ∙ ap at_first (sym (ap (λ t. t.kept) step))
+
+module _ {X : Type 0} (key : X → ℕ) where
+  below_keeps : (xs : List X) (t q : ℕ) (w : X) → entry_at key (below key xs t) q ≡ Some w → entry_at key xs q ≡ Some w
+  below_keeps xs t q w found = cond_some (ltb q t) (entry_at key xs q) w (sym (entry_at-below key xs t q) ∙ found)
+
+  -- what a rebuild keeps was there
+  rebuilt_keeps : (k : ℕ) (xs : List X) (theta q : ℕ) (w : X) → entry_at key (rebuilt key k xs theta).entries q ≡ Some w → entry_at key xs q ≡ Some w
+  unfolding rebuilt
+  rebuilt_keeps k xs theta q w =
+      elim (leb 8 k && ltb (15 * k / 8) (length xs)) as (λ b. entry_at key (cond b (cut key k xs theta) (record { entries = xs; theta = theta })).entries q ≡ Some w → entry_at key xs q ≡ Some w) [
+        | true ↦ λ found. below_keeps xs (cut key k xs theta).theta q w (ap (λ v. entry_at key v.entries q) (sym (cut_is_below key k xs theta)) ∙ found)
+        | false ↦ λ found. found
+      ]
+
+  -- what is left of a listing, and what the table has by then at its keys
+  pub record IsMerging (listing first left now : List X) (ordered : Bool) : Type 0 where
+    pub apart : IsApart key left
+    pub among : (q : ℕ) (x : X) → entry_at key left q ≡ Some x → entry_at key listing q ≡ Some x
+    pub untouched : (q : ℕ) (x w : X) → entry_at key left q ≡ Some x → entry_at key now q ≡ Some w → entry_at key first q ≡ Some w
+    pub in_order : ordered ≡ true → IsAscending key left
+
+  pub merging-start : (listing first : List X) (ordered : Bool) → IsApart key listing → (ordered ≡ true → IsAscending key listing) → IsMerging listing first listing first ordered
+  merging-start listing first ordered apart in_order = record { apart = apart; among = λ q x found. found; untouched = λ q x w found there. there; in_order = in_order }
+
+module _ {X : Type 0} (key : X → ℕ) (merges : X → X → X) (refuses : X → X → Bool) (keeps : KeepsKey key merges) where
+  -- an insertion leaves other keys as they were, or drops them
+  upsert_elsewhere : (k : ℕ) (x : X) (v : Retained X) (q : ℕ) (w : X) → key x ≢ q → entry_at key (after_upsert key k (key x) (merge_step merges refuses x) v).entries q ≡ Some w → entry_at key v.entries q ≡ Some w
+  upsert_elsewhere k x v q w differs =
+      (elim (is_screened (key x) v.theta) as (λ b. is_screened (key x) v.theta ≡ b → entry_at key (after_upsert key k (key x) (merge_step merges refuses x) v).entries q ≡ Some w → entry_at key v.entries q ≡ Some w) [
+        | true ↦ λ s. rw (screened_case key k (key x) (merge_step merges refuses x) v s).after_is (λ found. found)
+        | false ↦ λ s.
+            (elim (entry_at key v.entries (key x)) as (λ o. entry_at key v.entries (key x) ≡ o → entry_at key (after_upsert key k (key x) (merge_step merges refuses x) v).entries q ≡ Some w → entry_at key v.entries q ≡ Some w) [
+              | Some y ↦ λ e.
+                  let new_key : key (merges y x) ≡ key x = keeps y x (found_key key v.entries (key x) y e) in
+                  let other : eqb (key (merges y x)) q ≡ false = grind (arith, nat_tests) in
+                  rw (existing_case key k (key x) (merge_step merges refuses x) v y s e).after_is
+                  (λ found. ap (λ b. cond b (Some (merges y x)) (entry_at key v.entries q)) (sym other) ∙ sym (entry_at-with_entry key v.entries (merges y x) q) ∙ found)
+              | None ↦ λ e.
+                  let other : eqb (key x) q ≡ false = grind (arith, nat_tests) in
+                  rw (absent_case key k (key x) (merge_step merges refuses x) v s e).after_is
+                  (λ found. ap (λ b. cond b (Some x) (entry_at key v.entries q)) (sym other) ∙ sym (entry_at-with_entry key v.entries x q) ∙ rebuilt_keeps key k (with_entry key v.entries x) v.theta q w found)
+            ]) refl
+      ]) refl
+
+  -- the keys that are left are not the one that was
+  not_first : (x : X) (left : List X) (q : ℕ) (y : X) → entry_at key left (key x) ≡ None → entry_at key left q ≡ Some y → key x ≢ q
+  not_first x left q y none found tie = let there : entry_at key left q ≡ None = subst (λ (h : ℕ). entry_at key left h ≡ None) tie none in none_some (sym there ∙ found)
+
+  pub merging-next : (k : ℕ) (listing first left : List X) (x : X) (v : Retained X) (ordered : Bool) → IsMerging key listing first (x ∷ left) v.entries ordered → IsMerging key listing first left (after_upsert key k (key x) (merge_step merges refuses x) v).entries ordered
+  merging-next k listing first left x v ordered so_far = record {
+    apart = so_far.apart.1;
+    among = λ q y found. so_far.among q y (entry_at_rest key x left q (not_first x left q y so_far.apart.0 found) ∙ found);
+    untouched = λ q y w found there.
+        let differs = not_first x left q y so_far.apart.0 found in
+        so_far.untouched q y w (entry_at_rest key x left q differs ∙ found) (upsert_elsewhere k x v q w differs there);
+    in_order = λ e. ascending-tail key x left (so_far.in_order e);
+  }
+
+  pub merging-refused : (listing first left : List X) (x : X) (v : Retained X) (ordered : Bool) (kind : ErrorKind) → IsMerging key listing first (x ∷ left) v.entries ordered → upsert_refusal key (key x) (merge_step merges refuses x) v ≡ Some kind → (kind ≡ Policy) × IsMergeRefused key refuses first listing
+  merging-refused listing first left x v ordered kind so_far =
+      (elim (is_screened (key x) v.theta) as (λ b. is_screened (key x) v.theta ≡ b → upsert_refusal key (key x) (merge_step merges refuses x) v ≡ Some kind → (kind ≡ Policy) × IsMergeRefused key refuses first listing) [
+        | true ↦ λ s. rw (screened_case key zero (key x) (merge_step merges refuses x) v s).refusal_is (λ e. absurd (none_some e))
+        | false ↦ λ s.
+            (elim (entry_at key v.entries (key x)) as (λ o. entry_at key v.entries (key x) ≡ o → upsert_refusal key (key x) (merge_step merges refuses x) v ≡ Some kind → (kind ≡ Policy) × IsMergeRefused key refuses first listing) [
+              | Some w ↦ λ e. rw (existing_case key zero (key x) (merge_step merges refuses x) v w s e).refusal_is (λ refused. (
+                (was_refused (refuses w x) kind refused).1,
+                record {
+                  at = key x;
+                  held_entry = w;
+                  new_entry = x;
+                  is_held = so_far.untouched (key x) x w (entry_at_head key x left (key x) refl) e;
+                  comes = so_far.among (key x) x (entry_at_head key x left (key x) refl);
+                  refused = (was_refused (refuses w x) kind refused).0;
+                },
+              ))
+              | None ↦ λ e. rw (absent_case key zero (key x) (merge_step merges refuses x) v s e).refusal_is (λ e. absurd (none_some e))
+            ]) refl
+      ]) refl
+
+  -- what is not below theta changes nothing
+  screened_all : (k : ℕ) (xs : List X) (u : Retained (Fold X)) → AllByRecursion (λ x. u.theta ≤ key x) xs → after_upserts (fold_key key) k (merge_step (fold_merges key merges refuses) never) (map Value xs) u ≡ u
+  screened_all k [] u all = refl
+  screened_all k (x ∷ xs) u all =
+      ap (λ v. after_upserts (fold_key key) k (merge_step (fold_merges key merges refuses) never) (map Value xs) v) (screened_case (fold_key key) k (key x) (merge_step (fold_merges key merges refuses) never (Value x)) u (is_screened_true (key x) u.theta (inr all.0))).after_is ∙ screened_all k xs u all.1
+
+  pub folds_stop : (k : ℕ) (listing first left : List X) (x : X) (v : Retained X) → IsMerging key listing first (x ∷ left) v.entries true → v.theta ≤ key x → after_upserts (fold_key key) k (merge_step (fold_merges key merges refuses) never) (map Value (x ∷ left)) (unmarked v) ≡ unmarked v
+  folds_stop k listing first left x v so_far le = screened_all k (x ∷ left) (unmarked v) (le, each-weaker _ _ (λ y lt. omega (arith, le, lt)) left (ascending-head key x left (so_far.in_order refl)))
+
+  pub folds_next : (k : ℕ) (left : List X) (x : X) (v : Retained X) → upsert_refusal key (key x) (merge_step merges refuses x) v ≡ None →
+      after_upserts (fold_key key) k (merge_step (fold_merges key merges refuses) never) (map Value left) (unmarked (after_upsert key k (key x) (merge_step merges refuses x) v)) ≡ after_upserts (fold_key key) k (merge_step (fold_merges key merges refuses) never) (map Value (x ∷ left)) (unmarked v)
+  folds_next k left x v allowed = ap (λ u. after_upserts (fold_key key) k (merge_step (fold_merges key merges refuses) never) (map Value left) u) (unmarked-upsert key merges refuses k x v allowed)

@@ -1,0 +1,22 @@
+use Rattle.std.proofs.Common.{◌≡◌, ◌^◌, length, map}
+use Rattle.theta_laws.specs.Step.{merge_step}
+use Rattle.theta_laws.specs.Insertion.{after_upserts}
+use Rattle.theta_laws.specs.Folds.{Value, fold_key, fold_merges, unmarked, never}
+use Rattle.theta_operators.proofs.MergedListing.{IsMerging}
+use Rattle.theta_operators.proofs.merge.merge_entries.Given as goal
+
+-- what merging the entries that are left gives is what merging all gives; the table has at their keys nothing but what it had at first
+abbrev pub invariant-merge_each : goal.invariant-merge_each
+invariant-merge_each g l =
+    let key = g.S.Entry.SketchEntry.key in
+    let k = 2 ^ l.initial.table.map.lg_nom in
+    let step_of = merge_step (fold_merges key (g.P.UnionMergePolicy.merges l.policy) (g.P.UnionMergePolicy.refuses l.policy)) never in
+    record {
+      rest : after_upserts (fold_key key) k step_of (map Value l.entry-iterator.rest) (unmarked l.table.map.kept) ≡ after_upserts (fold_key key) k step_of (map Value (g.S.EntrySketch.listing l.fn.sketch)) (unmarked l.initial.table.map.kept);
+      made_with : l.table.map ≡ record l.initial.table.map { kept = l.table.map.kept };
+      merging : IsMerging key (g.S.EntrySketch.listing l.fn.sketch) l.initial.table.map.kept.entries l.entry-iterator.rest l.table.map.kept.entries l.ordered;
+    }
+
+-- the entries that are left
+abbrev pub decreases-merge_each : goal.decreases-merge_each
+decreases-merge_each g l = length l.entry-iterator.rest

@@ -1,0 +1,5 @@
+pub mod Iter
+pub mod View
+pub mod Union
+pub mod Intersection
+pub mod ANotB

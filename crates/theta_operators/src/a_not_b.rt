@@ -1,0 +1,292 @@
+//! Differences: what of one sketch another lacks.
+ghost use Rattle.std.specs.Prelude.{◌≡◌, ◌==◌, ◌&&◌, ◌||◌, true, false, None, is_none, nat_lt, map, IfOk};
+ghost use Rattle.theta_table.specs.CompactState.{IsAnswer, IsCompactOf, shown_of, is_answer_ordered};
+ghost use Rattle.theta_laws.specs.Maps.{IsAscending, IsApart, below, entry_at, map_of};
+ghost use Rattle.theta_operators.specs.ANotB.{difference_refusal, at_hand_first, hashes_from};
+ghost use Rattle.theta_laws.specs.Entries.{hash_key, ClonesEqual};
+ghost use Rattle.theta_laws.specs.Operators.{lacking, minus};
+ghost use Rattle.theta_laws.specs.Refusal.{Refuses};
+ghost use Rattle.theta_laws.specs.Shown.{IsShown, shown_value};
+
+use crate::merge::is_past;
+use crate::view::{EntrySketch, KeySketch, ThetaFamilySketchMetadata};
+use sketch_base::{Error, ErrorKind};
+use std::alloc::Allocator;
+use theta_laws::MAX_THETA;
+use theta_table::{CompactSketchState, SketchEntry, is_answer_ordered};
+
+/// The entries of `a` whose hashes `b` lacks, below the lesser theta, in memory of `alloc` or a clone of it.
+///
+/// An empty `a` gives an empty state with its own seed hash, and then no seed is checked. An empty `b` gives the value of
+/// `a`, and its own seed is not checked. Where neither is empty and no entry is left below the greatest theta, `MAX_THETA`,
+/// the state is empty. It is ordered where that is asked or `a` is ordered, and where it is empty or has one entry at the
+/// greatest theta.
+///
+/// Refused with `InvalidArgument` where `a` isn't empty and it, or a `b` that isn't empty, has another seed hash than
+/// `seed_hash`; with `OutOfMemory` where memory is. The inputs stay as they are.
+pub fn compute<'a, S: EntrySketch<'a>, T: KeySketch, A: Allocator + Clone>(
+    alloc: A,
+    seed_hash: u16,
+    a: S,
+    b: T,
+    ordered: bool,
+) -> Result<CompactSketchState<S::Entry, A>, Error>
+where
+    S::Entry: Clone,
+    requires clones_equal { ClonesEqual S.Entry.is_clone }
+    ensures ok { IfOk result (IsAnswer S.Entry.key (minus S.Entry.key hash_key (shown_value S.Entry.key (S.shown a) (S.listing a)) (shown_value hash_key (T.shown b) (T.shown b).hashes)) (S.shown a).seed_hash (ordered || (S.shown a).ordered)) }
+    ensures refused { Refuses result (difference_refusal seed_hash (S.shown a) (T.shown b)) true }
+{
+    match a.metadata() {
+        ThetaFamilySketchMetadata::Empty { seed_hash: own } => {
+            Ok(CompactSketchState::empty(alloc, own))
+        }
+        ThetaFamilySketchMetadata::NonEmpty {
+            seed_hash: own,
+            theta,
+            ordered: in_order,
+            ..
+        } => {
+            if own != seed_hash {
+                return Err(Error::new(ErrorKind::InvalidArgument));
+            }
+            difference(alloc, seed_hash, a, theta, in_order, b, ordered)
+        }
+    }
+}
+
+/// The difference of a sketch that isn't empty, of this seed hash and theta, and any other.
+fn difference<'a, S: EntrySketch<'a>, T: KeySketch, A: Allocator + Clone>(
+    alloc: A,
+    seed_hash: u16,
+    a: S,
+    a_theta: u64,
+    a_ordered: bool,
+    b: T,
+    asked: bool,
+) -> Result<CompactSketchState<S::Entry, A>, Error>
+where
+    S::Entry: Clone,
+    requires clones_equal { ClonesEqual S.Entry.is_clone }
+    requires sound { IsShown (S.shown a) }
+    requires nonempty { (S.shown a).empty ≡ false }
+    requires of_seed { (S.shown a).seed_hash ≡ seed_hash }
+    requires of_theta { (S.shown a).theta ≡ a_theta }
+    requires in_order { (S.shown a).ordered ≡ a_ordered }
+    ensures ok { IfOk result (IsAnswer S.Entry.key (minus S.Entry.key hash_key (shown_value S.Entry.key (S.shown a) (S.listing a)) (shown_value hash_key (T.shown b) (T.shown b).hashes)) (S.shown a).seed_hash (asked || (S.shown a).ordered)) }
+    ensures refused { Refuses result (difference_refusal seed_hash (S.shown a) (T.shown b)) true }
+{
+    match b.metadata() {
+        ThetaFamilySketchMetadata::Empty { .. } => {
+            let kept = lacking_by_search(alloc, a, &[], a_theta, a_ordered)?;
+            Ok(state_of(kept, a_theta, seed_hash, asked, a_ordered))
+        }
+        ThetaFamilySketchMetadata::NonEmpty {
+            seed_hash: other,
+            theta: b_theta,
+            ordered: b_ordered,
+            ..
+        } => {
+            if other != seed_hash {
+                return Err(Error::new(ErrorKind::InvalidArgument));
+            }
+            let theta = a_theta.min(b_theta);
+            let spare = alloc.clone()?;
+            let kept = kept_entries(alloc, a, a_ordered, b, b_ordered, theta)?;
+            if leaves_nothing(kept.len(), theta) {
+                return Ok(CompactSketchState::empty(spare, seed_hash));
+            }
+            Ok(state_of(kept, theta, seed_hash, asked, a_ordered))
+        }
+    }
+}
+
+/// Whether `count` entries below `theta` are those of an empty sketch: none, and nothing was cut away.
+fn leaves_nothing(count: usize, theta: u64) -> bool
+    ensures { result ≡ (count == 0 && theta == MAX_THETA) }
+{
+    count == 0 && theta == MAX_THETA
+}
+
+/// Clones of the entries below a theta whose hashes another sketch lacks, in their order.
+fn kept_entries<'a, S: EntrySketch<'a>, T: KeySketch, A: Allocator + Clone>(
+    alloc: A,
+    a: S,
+    a_ordered: bool,
+    b: T,
+    b_ordered: bool,
+    theta: u64,
+) -> Result<Vec<S::Entry, A>, Error>
+where
+    S::Entry: Clone,
+    requires clones_equal { ClonesEqual S.Entry.is_clone }
+    requires a_in_order { (S.shown a).ordered ≡ a_ordered }
+    requires b_in_order { (T.shown b).ordered ≡ b_ordered }
+    ensures listed { IfOk result (λ _. map S.Entry.key (S.listing a) ≡ (S.shown a).hashes) }
+    ensures ok { IfOk result (λ v. v.items ≡ lacking S.Entry.key hash_key (below S.Entry.key (S.listing a) theta) (T.shown b).hashes) }
+    ensures refused { Refuses result None true }
+{
+    if a_ordered && b_ordered {
+        return lacking_by_scan(alloc, a, b, theta);
+    }
+    let keys = keys_of(alloc.clone()?, b, theta, b_ordered)?;
+    lacking_by_search(alloc, a, &keys, theta, a_ordered)
+}
+
+/// One pass over two sketches whose hashes ascend.
+fn lacking_by_scan<'a, S: EntrySketch<'a>, T: KeySketch, A: Allocator>(
+    alloc: A,
+    a: S,
+    b: T,
+    theta: u64,
+) -> Result<Vec<S::Entry, A>, Error>
+where
+    S::Entry: Clone,
+    requires clones_equal { ClonesEqual S.Entry.is_clone }
+    requires a_in_order { (S.shown a).ordered ≡ true }
+    requires b_in_order { (T.shown b).ordered ≡ true }
+    ensures listed { map S.Entry.key (S.listing a) ≡ (S.shown a).hashes }
+    ensures ok { IfOk result (λ v. v.items ≡ lacking S.Entry.key hash_key (below S.Entry.key (S.listing a) theta) (T.shown b).hashes) }
+    ensures refused { Refuses result None true }
+{
+    let mut kept = Vec::new(alloc);
+    let mut hashes = b.hashes();
+    let mut at_hand = hashes.next();
+    'scan_both: for entry in a.entries() {
+        let hash = entry.hash();
+        if is_past(true, hash, theta) {
+            break;
+        }
+        at_hand = first_from::<T>(&mut hashes, at_hand, hash);
+        if at_hand != Some(hash) {
+            kept.push(entry.clone()?)?;
+        }
+    }
+    Ok(kept)
+}
+
+/// Of the hash at hand and those that come after it, the first from a least one on.
+fn first_from<T: KeySketch>(
+    hashes: &mut T::Hashes,
+    mut at_hand: Option<u64>,
+    least: u64,
+) -> Option<u64>
+    requires { IsAscending hash_key (at_hand_first at_hand (T.rest hashes.old)) }
+    ensures { at_hand_first result (T.rest hashes.new) ≡ hashes_from (at_hand_first at_hand (T.rest hashes.old)) least }
+{
+    'skip_smaller: while let Some(hash) = at_hand {
+        if hash >= least {
+            break;
+        }
+        at_hand = hashes.next();
+    }
+    at_hand
+}
+
+/// Each entry looked up in hashes that ascend. Where the entries ascend, it stops at the first that is not below theta.
+fn lacking_by_search<'a, S: EntrySketch<'a>, A: Allocator>(
+    alloc: A,
+    a: S,
+    keys: &[u64],
+    theta: u64,
+    ordered: bool,
+) -> Result<Vec<S::Entry, A>, Error>
+where
+    S::Entry: Clone,
+    requires clones_equal { ClonesEqual S.Entry.is_clone }
+    requires in_order { (S.shown a).ordered ≡ ordered }
+    requires ascending { IsAscending hash_key keys.now }
+    ensures listed { map S.Entry.key (S.listing a) ≡ (S.shown a).hashes }
+    ensures ok { IfOk result (λ v. v.items ≡ lacking S.Entry.key hash_key (below S.Entry.key (S.listing a) theta) keys.now) }
+    ensures refused { Refuses result None true }
+{
+    let mut kept = Vec::new(alloc);
+    'look_up_each: for entry in a.entries() {
+        let hash = entry.hash();
+        if is_past(ordered, hash, theta) {
+            break;
+        }
+        if is_kept(keys, hash, theta) {
+            kept.push(entry.clone()?)?;
+        }
+    }
+    Ok(kept)
+}
+
+/// Whether a hash is below theta and not among hashes that ascend.
+fn is_kept(keys: &[u64], hash: u64, theta: u64) -> bool
+    requires { IsAscending hash_key keys.now }
+    ensures { result ≡ (nat_lt hash theta && is_none (entry_at hash_key keys.now hash)) }
+{
+    hash < theta && keys.binary_search(&hash).is_err()
+}
+
+/// The hashes of a sketch below a theta, ascending.
+fn keys_of<T: KeySketch, A: Allocator>(
+    alloc: A,
+    sketch: T,
+    theta: u64,
+    ordered: bool,
+) -> Result<Vec<u64, A>, Error>
+    requires { (T.shown sketch).ordered ≡ ordered }
+    ensures ok { IfOk result (λ v. v.items ≡ map_of hash_key (below hash_key (T.shown sketch).hashes theta)) }
+    ensures refused { Refuses result None true }
+{
+    let mut keys = hashes_below(alloc, sketch, theta, ordered)?;
+    if !ordered {
+        keys.sort_unstable();
+    }
+    Ok(keys)
+}
+
+/// The hashes of a sketch below a theta, in their order. Where they ascend, it stops at the first that is not below theta.
+fn hashes_below<T: KeySketch, A: Allocator>(
+    alloc: A,
+    sketch: T,
+    theta: u64,
+    ascending: bool,
+) -> Result<Vec<u64, A>, Error>
+    requires { (T.shown sketch).ordered ≡ ascending }
+    ensures ok { IfOk result (λ v. v.items ≡ below hash_key (T.shown sketch).hashes theta) }
+    ensures sound { IsShown (T.shown sketch) }
+    ensures refused { Refuses result None true }
+{
+    let mut keys = Vec::new(alloc);
+    'collect_each: for hash in sketch.hashes() {
+        if is_past(ascending, hash, theta) {
+            break;
+        }
+        if hash >= theta {
+            continue;
+        }
+        keys.push(hash)?;
+    }
+    Ok(keys)
+}
+
+/// The state of entries that ascend or not, sorted where that is asked and they aren't known to ascend.
+fn state_of<E: SketchEntry + Drop, A: Allocator>(
+    entries: Vec<E, A>,
+    theta: u64,
+    seed_hash: u16,
+    asked: bool,
+    ascending: bool,
+) -> CompactSketchState<E, A>
+    requires { IsShown (shown_of E.key (record { empty = false; entries = entries.items; theta = theta; seed_hash = seed_hash; ordered = ascending })) }
+    ensures { IsCompactOf E.key (record { entries = map_of E.key entries.items; theta = theta }) seed_hash (asked || ascending) result }
+{
+    if asked && !ascending {
+        return CompactSketchState::non_empty(sorted(entries), theta, seed_hash, true);
+    }
+    let ordered = is_answer_ordered(ascending, entries.len(), theta);
+    CompactSketchState::non_empty(entries, theta, seed_hash, ordered)
+}
+
+/// Entries of different hashes, ascending.
+fn sorted<E: SketchEntry + Drop, A: Allocator>(mut entries: Vec<E, A>) -> Vec<E, A>
+    requires { IsApart E.key entries.items }
+    ensures { result.items ≡ map_of E.key entries.items }
+{
+    entries.sort_unstable_by_key(|entry| entry.hash());
+    entries
+}

@@ -1,0 +1,135 @@
+//! Iterators over the entries that views lend. Contracts see of each what it has left.
+ghost use Rattle.std.specs.Prelude.{◌≡◌, Some, true, false, length, map, IsSome, IfSome};
+ghost use Rattle.theta_laws.specs.Maps.{IsLent};
+ghost use Rattle.std.specs.Iterator.{YieldsFirst, YieldsFirstRef, UpTo, item_count};
+ghost use Rattle.std.specs.Iterator.SizeHint.{IsWithinCount};
+
+use std::alloc::Allocator;
+use std::marker::Model;
+use theta_table::{SketchEntry, SketchHashTable, SketchHashTableIter};
+
+#[derive(Drop)]
+enum Source<'a, E> {
+    Table(SketchHashTableIter<'a, E>),
+    Slice(&'a [E]),
+}
+
+/// The entries of a table or of a slice, lent one by one: a table's in an open order, a slice's in its own.
+#[derive(Drop)]
+pub struct EntryIter<'a, E> {
+    source: Source<'a, E>,
+}
+
+impl<'a, E> Model for EntryIter<'a, E> {
+    ghost use Rattle.theta_operators.specs.Iter.{Lending};
+
+    ghost Value = { Lending E };
+
+    ghost use Rattle.theta_operators.specs.Iter.{left_in};
+
+    ghost view = { λ s. left_in s.source };
+}
+
+impl<'a, E> EntryIter<'a, E> {
+    /// The entries of a slice, in its order.
+    pub fn of_slice(entries: &'a [E]) -> Self
+        ensures { result ≡ record { rest = entries.entry.now; counted = true } }
+    {
+        EntryIter {
+            source: Source::Slice(entries),
+        }
+    }
+}
+
+impl<'a, E: SketchEntry> EntryIter<'a, E> {
+    /// The entries of a table, each once, in an open order.
+    pub fn of_table<A: Allocator>(table: &'a SketchHashTable<E, A>) -> Self
+        ensures lent { result ≡ record { rest = table.entry.now.lends; counted = false } }
+        ensures each_once { IsLent E.key table.entry.now.map.kept.entries table.entry.now.lends }
+    {
+        EntryIter {
+            source: Source::Table(table.iter_entries()),
+        }
+    }
+}
+
+impl<'a, E> Iterator for EntryIter<'a, E> {
+    type Item = &'a E;
+
+    ghost next_gives = { λ old item new. YieldsFirstRef (λ s. s.rest) old item new × (new.counted ≡ old.counted) };
+
+    ghost remaining = { item_count (λ s. s.rest) };
+
+    fn next(&mut self) -> Option<&'a E> {
+        match &mut self.source {
+            Source::Table(entries) => entries.next(),
+            Source::Slice(entries) => {
+                let (first, others) = entries.split_first()?;
+                *entries = others;
+                Some(first)
+            }
+        }
+    }
+
+    /// Exact over a slice; else at least none, and at most a number that is no less than the entries left.
+    fn size_hint(&self) -> (usize, Option<usize>)
+        ensures lower { IsWithinCount result.0 (item_count (λ s. s.rest) self.now) }
+        ensures upper { IfSome result.1 (UpTo (item_count (λ s. s.rest) self.now)) }
+        ensures exact { self.now.counted ≡ true → result ≡ (length self.now.rest, Some (length self.now.rest)) }
+        ensures from_none { self.now.counted ≡ false → result.0 ≡ 0 }
+        ensures bounded { IsSome result.1 }
+    {
+        match &self.source {
+            Source::Table(entries) => entries.size_hint(),
+            Source::Slice(entries) => (entries.len(), Some(entries.len())),
+        }
+    }
+}
+
+/// The hashes of the entries of an `EntryIter`, in its order.
+#[derive(Drop)]
+pub struct HashIter<'a, E: SketchEntry> {
+    entries: EntryIter<'a, E>,
+}
+
+impl<'a, E: SketchEntry> Model for HashIter<'a, E> {
+    ghost use Rattle.std.specs.Prelude.{ℕ, map};
+    ghost use Rattle.theta_operators.specs.Iter.{Lending};
+
+    ghost Value = { Lending ℕ };
+
+    ghost view = { λ s. record { rest = map E.key s.entries.rest; counted = s.entries.counted } };
+}
+
+impl<'a, E: SketchEntry> HashIter<'a, E> {
+    /// The hashes of these entries.
+    pub fn new(entries: EntryIter<'a, E>) -> Self
+        ensures { result ≡ record { rest = map E.key entries.entry.rest; counted = entries.entry.counted } }
+    {
+        HashIter { entries }
+    }
+}
+
+impl<'a, E: SketchEntry> Iterator for HashIter<'a, E> {
+    type Item = u64;
+
+    ghost next_gives = { λ old item new. YieldsFirst (λ s. s.rest) old item new × (new.counted ≡ old.counted) };
+
+    ghost remaining = { item_count (λ s. s.rest) };
+
+    fn next(&mut self) -> Option<u64> {
+        let entry = self.entries.next()?;
+        Some(entry.hash())
+    }
+
+    /// That of the entries.
+    fn size_hint(&self) -> (usize, Option<usize>)
+        ensures lower { IsWithinCount result.0 (item_count (λ s. s.rest) self.now) }
+        ensures upper { IfSome result.1 (UpTo (item_count (λ s. s.rest) self.now)) }
+        ensures exact { self.now.counted ≡ true → result ≡ (length self.now.rest, Some (length self.now.rest)) }
+        ensures from_none { self.now.counted ≡ false → result.0 ≡ 0 }
+        ensures bounded { IsSome result.1 }
+    {
+        self.entries.size_hint()
+    }
+}

@@ -1,0 +1,19 @@
+//! Union, intersection and difference of sketches, over every entry type, policy and view that keeps the laws.
+//!
+//! An operator takes sketches as views, by what they show, and combines the entries of a shared hash by a policy. Its
+//! contract is an equation between the values of its inputs and its own.
+#![tactic(auto)]
+
+pub mod a_not_b;
+mod intersection;
+mod iter;
+pub mod laws;
+mod merge;
+mod share;
+mod union;
+mod view;
+
+pub use intersection::IntersectionState;
+pub use iter::{EntryIter, HashIter};
+pub use union::UnionState;
+pub use view::{EntrySketch, KeySketch, ThetaFamilySketchMetadata};

@@ -1,0 +1,87 @@
+//! Merging the entries of a sketch into a table.
+ghost use Rattle.std.specs.Prelude.{◌≡◌, ◌^◌, ◌⊎◌, Some, None, true, map, OnOk, IfErr, IsTrue, ◌↔◌, ◌≤◌};
+ghost use Rattle.sketch_base.specs.declared.error.ErrorKind.TheVariants.{OutOfMemory, Policy};
+ghost use Rattle.theta_laws.specs.Step.{merge_step};
+ghost use Rattle.theta_laws.specs.Insertion.{after_upserts};
+ghost use Rattle.theta_laws.specs.Refusal.{policy_refusal};
+ghost use Rattle.theta_laws.specs.Folds.{Value, fold_key, fold_merges, unmarked, never};
+ghost use Rattle.theta_operators.specs.Union.{IsMergeRefused};
+ghost use Rattle.theta_laws.specs.Entries.{ClonesEqual};
+
+use crate::view::EntrySketch;
+use sketch_base::Error;
+use std::alloc::{AllocError, Allocator};
+use theta_laws::MIN_LG_K;
+use theta_policies::UnionMergePolicy;
+use theta_table::{SketchEntry, SketchHashTable, UpsertStep};
+
+/// The step that merges an entry that comes in: combined with the one that is there, or cloned.
+pub(crate) struct MergeStep<'a, E: SketchEntry + Clone, P> {
+    policy: &'a P,
+    incoming: &'a E,
+    ghost clones_equal: { ClonesEqual E.is_clone },
+}
+
+impl<'a, E: SketchEntry + Clone, P> Clone for MergeStep<'a, E, P> {
+    fn clone(&self) -> Result<Self, AllocError> {
+        Ok(*self)
+    }
+}
+
+impl<'a, E: SketchEntry + Clone, P> Copy for MergeStep<'a, E, P> {}
+
+impl<'a, E: SketchEntry + Clone, P: UnionMergePolicy<E>> UpsertStep<E> for MergeStep<'a, E, P> {
+    ghost means = { λ step. merge_step (P.merges step.policy.now) (P.refuses step.policy.now) step.incoming.now };
+
+    fn existing(self, entry: &mut E) -> Result<(), Error> {
+        self.policy.merge(entry, self.incoming)
+    }
+
+    fn absent(self) -> Result<Option<E>, Error> {
+        Ok(Some(self.incoming.clone()?))
+    }
+}
+
+/// Whether merging stops at a hash: the hashes ascend, and this one is not below theta.
+pub(crate) fn is_past(ordered: bool, hash: u64, theta: u64) -> bool
+    ensures { IsTrue result ↔ ((ordered ≡ true) × (theta ≤ hash)) }
+{
+    ordered && hash >= theta
+}
+
+/// Merges the entries of a sketch into the table of a union, in their order. Where they ascend it stops at the first that the
+/// table screens.
+pub(crate) fn merge_entries<
+    'a,
+    S: EntrySketch<'a>,
+    P: UnionMergePolicy<S::Entry>,
+    A: Allocator + Clone,
+>(
+    table: &mut SketchHashTable<S::Entry, A>,
+    sketch: S,
+    policy: &P,
+    ordered: bool,
+) -> Result<(), Error>
+where
+    S::Entry: Clone,
+    requires clones_equal { ClonesEqual S.Entry.is_clone }
+    requires in_order { ordered ≡ (S.shown sketch).ordered }
+    requires of_sketch { MIN_LG_K ≤ table.old.map.lg_nom }
+    ensures listed { map S.Entry.key (S.listing sketch) ≡ (S.shown sketch).hashes }
+    ensures after { OnOk result (unmarked table.new.map.kept ≡ after_upserts (fold_key S.Entry.key) (2 ^ table.old.map.lg_nom) (merge_step (fold_merges S.Entry.key (P.merges policy.now) (P.refuses policy.now)) never) (map Value (S.listing sketch)) (unmarked table.old.map.kept)) }
+    ensures made_with { table.new.map ≡ record table.old.map { kept = table.new.map.kept } }
+    ensures refused { IfErr result (λ e. (e ≡ OutOfMemory) ⊎ ((e ≡ Policy) × IsMergeRefused S.Entry.key (P.refuses policy.now) table.old.map.kept.entries (S.listing sketch))) }
+{
+    'merge_each: for entry in sketch.entries() {
+        let hash = entry.hash();
+        if is_past(ordered, hash, table.retention_theta()) {
+            break;
+        }
+        let step = MergeStep {
+            policy,
+            incoming: entry,
+        };
+        table.upsert_entry(hash, step)?;
+    }
+    Ok(())
+}

@@ -1,0 +1,155 @@
+//! Unions.
+ghost use Rattle.std.specs.Prelude.{◌≡◌, ◌^◌, [], ◌∷◌, true, false, not, None, IfOk, IfErr, OnOk, MatchOption};
+ghost use Rattle.sketch_base.specs.Seed.{seed_hash};
+ghost use Rattle.theta_table.specs.CompactState.{IsAnswer};
+ghost use Rattle.theta_laws.specs.Operators.{unite};
+ghost use Rattle.theta_laws.specs.Refusal.{Refuses};
+ghost use Rattle.theta_laws.specs.Folds.{fold_key, fold_merges, unmarked_value};
+ghost use Rattle.theta_laws.specs.Cuts.{IsRetained};
+ghost use Rattle.theta_table.specs.HashTable.{table_refusal};
+ghost use Rattle.theta_operators.specs.Union.{Union, empty_union, union_value, update_refusal, failure, IsUnion, IsJoined, IsBroken};
+ghost use Rattle.theta_laws.specs.Shown.{shown_value};
+ghost use Rattle.theta_laws.specs.Entries.{ClonesEqual};
+
+use crate::merge::merge_entries;
+use crate::view::{EntrySketch, ThetaFamilySketchMetadata};
+use sketch_base::{Error, ErrorKind};
+use std::alloc::{Allocator, Global};
+use std::marker::Model;
+use theta_policies::UnionMergePolicy;
+use theta_table::{CompactSketchState, ResizeFactor, SketchEntry, SketchHashTable};
+
+/// A union of sketches that are handed over one by one.
+///
+/// Its value is the joined map of its inputs below their least theta and its own starting theta, cut to its nominal
+/// entries k; a key that inputs share is combined by the policy, in the order of the calls. Where a merge breaks off,
+/// the union has failed, and every update and answer is refused with `Failed` until it is reset.
+#[derive(Drop)]
+pub struct UnionState<E: SketchEntry, P, A: Allocator = Global> {
+    empty: bool,
+    failed: bool,
+    table: SketchHashTable<E, A>,
+    policy: P,
+}
+
+impl<E: SketchEntry, P, A: Allocator> Model for UnionState<E, P, A> {
+    ghost use Rattle.theta_operators.specs.Union.{Union, IsUnion};
+
+    ghost Value = { Union E P };
+
+    ghost view = { λ u. record { empty = u.empty; failed = u.failed; held = u.table.map.kept; lg_k = u.table.map.lg_nom; start = u.table.map.start; seed_hash = u.table.map.seed_hash; policy = u.policy } };
+
+    ghost invariant = { λ u. IsUnion (record { empty = u.empty; failed = u.failed; held = u.table.map.kept; lg_k = u.table.map.lg_nom; start = u.table.map.start; seed_hash = u.table.map.seed_hash; policy = u.policy }) };
+}
+
+impl<E: SketchEntry + Drop, P: Drop, A: Allocator + Drop> UnionState<E, P, A> {
+    /// A union of 2^`lg_k` nominal entries, with `lg_k` from 5 to 26, and a starting theta from 1 to `MAX_THETA`.
+    ///
+    /// Refused with `InvalidArgument` outside these ranges, and for a seed whose seed hash is 0; with `OutOfMemory` where
+    /// memory is.
+    pub fn new(
+        alloc: A,
+        lg_k: u8,
+        resize_factor: ResizeFactor,
+        starting_theta: u64,
+        seed: u64,
+        policy: P,
+    ) -> Result<Self, Error>
+        ensures made { IfOk result (λ u. u ≡ empty_union lg_k starting_theta (seed_hash seed) policy) }
+        ensures refused { Refuses result (table_refusal lg_k starting_theta seed) true }
+    {
+        let table = SketchHashTable::new(alloc, lg_k, resize_factor, starting_theta, seed)?;
+        Ok(UnionState {
+            empty: true,
+            failed: false,
+            table,
+            policy,
+        })
+    }
+
+    /// Makes it empty again, and ends a failure. It takes no memory.
+    pub fn reset(&mut self)
+        ensures { self.new ≡ empty_union self.old.lg_k self.old.start self.old.seed_hash self.old.policy }
+    {
+        self.table.reset();
+        self.empty = true;
+        self.failed = false;
+    }
+}
+
+impl<E: SketchEntry + Clone, P: UnionMergePolicy<E> + Drop, A: Allocator + Clone> UnionState<
+    E,
+    P,
+    A,
+> {
+    /// Joins a sketch. An empty one changes nothing, and its seed is not checked.
+    ///
+    /// Refused with `Failed` where the union has failed, whatever the input, and with `InvalidArgument` for a sketch of
+    /// another seed; then nothing has changed. Refused with `OutOfMemory`, or with `Policy` where the policy refuses at a
+    /// key below every theta so far; then the union has failed.
+    pub fn update<'a, S: EntrySketch<'a, Entry = E>>(&mut self, sketch: S) -> Result<(), Error>
+    where
+        E: 'a,
+        requires clones_equal { ClonesEqual E.is_clone }
+        ensures skipped { OnOk result ((S.shown sketch).empty ≡ true → self.new ≡ self.old) }
+        ensures joined { OnOk result ((S.shown sketch).empty ≡ false → IsJoined E.key (P.merges self.old.policy) (P.refuses self.old.policy) self.old self.new (S.shown sketch).theta (S.listing sketch)) }
+        ensures united { OnOk result ((S.shown sketch).empty ≡ false → unmarked_value (union_value E.key self.new) ≡ unite (fold_key E.key) (fold_merges E.key (P.merges self.old.policy) (P.refuses self.old.policy)) (2 ^ self.old.lg_k) self.old.start (unmarked_value (union_value E.key self.old) ∷ unmarked_value (shown_value E.key (S.shown sketch) (S.listing sketch)) ∷ [])) }
+        ensures accepted { OnOk result (update_refusal self.old (S.shown sketch) ≡ None) }
+        ensures refused { IfErr result (λ e. MatchOption (update_refusal self.old (S.shown sketch)) (IsBroken E.key (P.refuses self.old.policy) self.old self.new (S.shown sketch) (S.listing sketch) e) (λ kind. (e ≡ kind) × (self.new ≡ self.old))) }
+        ensures sound { IsUnion self.old }
+        ensures held { IsRetained E.key self.old.held }
+    {
+        let held_theta = self.table.retention_theta();
+        if self.failed {
+            return Err(Error::new(ErrorKind::Failed));
+        }
+        match sketch.metadata() {
+            ThetaFamilySketchMetadata::Empty { .. } => Ok(()),
+            ThetaFamilySketchMetadata::NonEmpty {
+                seed_hash,
+                theta,
+                ordered,
+                ..
+            } => {
+                if self.table.seed_hash() != seed_hash {
+                    return Err(Error::new(ErrorKind::InvalidArgument));
+                }
+                let least = held_theta.min(theta);
+                self.table.lower_theta(least);
+                if let Err(refused) = merge_entries(
+                    &mut self.table,
+                    sketch,
+                    &self.policy,
+                    ordered,
+                ) {
+                    self.failed = true;
+                    return Err(refused);
+                }
+                self.empty = false;
+                Ok(())
+            }
+        }
+    }
+
+    /// How many bytes the entries that it holds take.
+    pub fn estimated_size(&self) -> usize {
+        self.table.estimated_size()
+    }
+
+    /// Its value, ordered where that is asked, or it is empty or has one entry at the greatest theta. The union stays as it
+    /// is. Refused with `Failed` where the union has failed, and with `OutOfMemory`.
+    pub fn to_compact_sketch_state(&self, ordered: bool) -> Result<CompactSketchState<E, A>, Error>
+        requires clones_equal { ClonesEqual E.is_clone }
+        ensures ok { IfOk result (IsAnswer E.key (union_value E.key self.now) self.now.seed_hash ordered) }
+        ensures refused { Refuses result (failure self.now.failed) (not self.now.failed) }
+    {
+        if self.failed {
+            return Err(Error::new(ErrorKind::Failed));
+        }
+        if self.empty {
+            let alloc = self.table.allocator().clone()?;
+            return Ok(CompactSketchState::empty(alloc, self.table.seed_hash()));
+        }
+        self.table.to_cut_state(ordered)
+    }
+}

@@ -1,0 +1,44 @@
+-- Sums of whole numbers within the bounds of a type.
+use Rattle.std.specs.Prelude.{ℕ, ℤ, pos, ◌<◌, ◌≡◌, ◌+◌, ◌-◌, ◌^◌, ◌+ℤ◌, ◌&&◌, Bool, true, false, Option, Some, None, if◌then◌else◌, nat_lt, int_le, option_map}
+use Rattle.std.proofs.Common.{refl, arith, inl, inr}
+use Rattle.std.proofs.lemmas.Bool.{cases_lt}
+use Rattle.std.proofs.lemmas.Bool.Decides.{nat_tests}
+use Rattle.std.proofs.lemmas.Int.{ints}
+use Rattle.std.proofs.lemmas.Nat.{pow_pos}
+
+-- a whole number within bounds
+abbrev pub is_within : (least greatest z : ℤ) → Bool
+is_within least greatest z = int_le least z && int_le z greatest
+
+-- the sum of two whole numbers, where it is within bounds
+abbrev pub sum_within : (least greatest x y : ℤ) → Option ℤ
+sum_within least greatest x y = if is_within least greatest (x +ℤ y) then Some (x +ℤ y) else None
+
+-- the sum of two numbers, where it has so many bits
+abbrev pub unsigned_sum : (bits x y : ℕ) → Option ℕ
+unsigned_sum bits x y = if nat_lt (x + y) (2 ^ bits) then Some (x + y) else None
+
+-- the same number, and the same sum, told in whole numbers
+pub unsigned-distinct : (x y : ℕ) → pos x ≡ pos y → x ≡ y
+unsigned-distinct x y same = omega (arith, ints)
+
+pub unsigned-summed : (bits x y : ℕ) → option_map pos (unsigned_sum bits x y) ≡ sum_within (pos 0) (pos (2 ^ bits - 1)) (pos x) (pos y)
+unsigned-summed bits x y =
+    let some : 0 < 2 ^ bits = pow_pos bits in
+    elim (cases_lt (x + y) (2 ^ bits)) [
+      | inl fits ↦
+          let a : nat_lt (x + y) (2 ^ bits) ≡ true = grind (arith, nat_tests) in
+          let b : is_within (pos 0) (pos (2 ^ bits - 1)) (pos (x + y)) ≡ true = grind (arith, ints) in
+          rw (a, b) refl
+      | inr high ↦
+          let a : nat_lt (x + y) (2 ^ bits) ≡ false = grind (arith, nat_tests) in
+          let b : is_within (pos 0) (pos (2 ^ bits - 1)) (pos (x + y)) ≡ false = grind (arith, ints) in
+          rw (a, b) refl
+    ]
+
+same-option : {X : Type 0} (o : Option X) → option_map (λ x. x) o ≡ o
+same-option None = refl
+same-option (Some x) = refl
+
+pub signed-summed : (least greatest x y : ℤ) → option_map (λ z. z) (sum_within least greatest x y) ≡ sum_within least greatest x y
+signed-summed least greatest x y = same-option (sum_within least greatest x y)

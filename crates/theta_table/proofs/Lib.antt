@@ -1,0 +1,4 @@
+pub mod BinarySearch
+pub mod LawsOfShown
+pub mod Sizes
+pub mod Answered

@@ -1,0 +1,130 @@
+//! The entries that sketches retain.
+ghost use Rattle.std.specs.Prelude.{◌≡◌, ℕ, ◌<◌};
+ghost use Rattle.std.specs.Borrow.{sem};
+ghost use Rattle.theta_table.specs.LentSummary.{lends_summary};
+
+use std::marker::Model;
+use theta_laws::MAX_THETA;
+
+/// An entry of a sketch. In every entry that a table or a compact state holds, its hash is from 1 to `MAX_THETA` - 1.
+pub trait SketchEntry {
+    /// Its hash, by which a map orders its entries.
+    ghost key: { Self → ℕ };
+
+    /// Its hash, of 63 bits.
+    fn hash(&self) -> u64
+        ensures { result ≡ key self.now };
+}
+
+/// The entry of a theta sketch: a hash alone. Contracts see it as its hash.
+#[derive(Debug, Clone, Copy)]
+pub struct ThetaEntry {
+    pub(crate) hash: u64,
+}
+
+impl Model for ThetaEntry {
+    ghost use Rattle.std.specs.Prelude.{ℕ};
+
+    ghost Value = { ℕ };
+
+    ghost view = { λ e. e.hash };
+
+    ghost inverse = { λ h. record { hash = h } };
+}
+
+impl ThetaEntry {
+    /// The entry of a hash from 1 to `MAX_THETA` - 1.
+    pub fn new(hash: u64) -> ThetaEntry
+        requires nonzero { 0 < hash }
+        requires carried { hash < MAX_THETA }
+        ensures { result ≡ hash }
+    {
+        ThetaEntry { hash }
+    }
+
+    /// The entry of any 64 bits, for a caller that has yet to see whether they are a hash that may be retained: an
+    /// insertion screens them, and a reader of images checks them.
+    pub fn of_hash(bits: u64) -> ThetaEntry
+        ensures { result ≡ bits }
+    {
+        ThetaEntry { hash: bits }
+    }
+
+    /// Its hash, from 1 to `MAX_THETA` - 1 in every entry that a table or a compact state holds.
+    pub fn hash(&self) -> u64
+        ensures { result ≡ self.now }
+    {
+        self.hash
+    }
+}
+
+impl SketchEntry for ThetaEntry {
+    ghost use Rattle.theta_laws.specs.Entries.{hash_key};
+
+    ghost key = { hash_key };
+
+    fn hash(&self) -> u64 {
+        self.hash
+    }
+}
+
+/// The entry of a tuple sketch: a hash, and the summary of what came with it. Contracts see both.
+#[derive(Debug, Clone, Drop)]
+pub struct TupleEntry<S> {
+    pub(crate) hash: u64,
+    pub(crate) summary: S,
+}
+
+impl<S> TupleEntry<S> {
+    /// The entry of a hash from 1 to `MAX_THETA` - 1.
+    pub fn new(hash: u64, summary: S) -> TupleEntry<S>
+        requires nonzero { 0 < hash }
+        requires carried { hash < MAX_THETA }
+        ensures { result ≡ record { hash = hash; summary = summary } }
+    {
+        TupleEntry { hash, summary }
+    }
+
+    /// The entry of any 64 bits, for a caller that has yet to see whether they are a hash that may be retained: an
+    /// insertion screens them, and a reader of images checks them.
+    pub fn of_hash(bits: u64, summary: S) -> TupleEntry<S>
+        ensures { result ≡ record { hash = bits; summary = summary } }
+    {
+        TupleEntry {
+            hash: bits,
+            summary,
+        }
+    }
+
+    /// Its hash, from 1 to `MAX_THETA` - 1 in every entry that a table or a compact state holds.
+    pub fn hash(&self) -> u64
+        ensures { result ≡ self.now.hash }
+    {
+        self.hash
+    }
+
+    /// Its summary.
+    pub fn summary(&self) -> &S
+        ensures { result.now ≡ self.now.summary }
+    {
+        &self.summary
+    }
+
+    /// Its summary, to be written in place. The hash stays.
+    pub fn summary_mut(&mut self) -> &mut S
+        ensures* writes_back { sem 𝓛 (lends_summary S.row self.entry result) }
+        ensures value { result.now ≡ self.old.summary }
+    {
+        &mut self.summary
+    }
+}
+
+impl<S> SketchEntry for TupleEntry<S> {
+    ghost use Rattle.theta_table.specs.Entry.{tuple_key};
+
+    ghost key = { tuple_key };
+
+    fn hash(&self) -> u64 {
+        self.hash
+    }
+}

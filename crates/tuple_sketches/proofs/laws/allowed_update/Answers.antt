@@ -1,0 +1,7 @@
+use Rattle.theta_laws.proofs.insertions.FoldedSteps.{unmarked-step}
+use Rattle.theta_policies.specs.Summaries.{update_step}
+use Rattle.theta_table.specs.Entry.{tuple_key}
+use Rattle.tuple_sketches.proofs.laws.allowed_update.Goals as goal
+
+pub returns : goal.returns
+returns g c = λ creates updates k h value v allowed. unmarked-step tuple_key k h (update_step creates updates h value) v allowed

@@ -1,0 +1,133 @@
+//! Tuple sketches that no longer change.
+ghost use Rattle.std.specs.Prelude.{◌≡◌, ◌≤◌, ◌&&◌, true, not, nat_lt, None, length, IfOk};
+ghost use Rattle.theta_table.specs.CompactState.{IsCompact, shown_of, compact_value};
+ghost use Rattle.theta_laws.specs.Entries.{ClonesEqual};
+ghost use Rattle.theta_laws.specs.Refusal.{Refuses};
+ghost use Rattle.theta_laws.specs.Shown.{shown_value};
+ghost use Rattle.theta_family.specs.Fraction.{decimal_of, compact_fraction};
+ghost use Rattle.theta_family.specs.View.{shows, lends};
+ghost use Rattle.theta_family.specs.declared.fraction.TheConstants.{MAX_PLACES};
+ghost use Rattle.theta_table.specs.Entry.{tuple_key};
+
+use crate::view::{TupleSketchIter, TupleSketchView};
+use sketch_base::Error;
+use std::alloc::{Allocator, Global};
+use std::marker::Model;
+use theta_core::{CompactSketchState, EntryIter, MAX_THETA, TupleEntry};
+use theta_family::{Decimal, MAX_PLACES, compact_decimal, compact_fraction};
+
+/// A tuple sketch that no longer changes: its entries in a list, with its theta. Contracts see a record of these.
+#[derive(Drop)]
+pub struct CompactTupleSketch<S, A: Allocator = Global> {
+    state: CompactSketchState<TupleEntry<S>, A>,
+}
+
+impl<S, A: Allocator> Model for CompactTupleSketch<S, A> {
+    ghost use Rattle.theta_table.specs.CompactState.{Compact};
+    ghost use Rattle.theta_table.specs.declared.entry.TupleEntry.{TupleEntry};
+
+    ghost Value = { Compact (TupleEntry S) };
+
+    ghost view = { λ s. s.state };
+}
+
+impl<S, A: Allocator> CompactTupleSketch<S, A> {
+    pub(crate) fn of_state(state: CompactSketchState<TupleEntry<S>, A>) -> Self
+        ensures { result ≡ state }
+    {
+        CompactTupleSketch { state }
+    }
+
+    /// A view of the sketch, for operators.
+    pub fn as_view(&self) -> TupleSketchView<'_, S, A>
+        ensures shows { shows tuple_key result ≡ shown_of tuple_key self.now }
+        ensures lends { lends result ≡ self.now.entries }
+        ensures value { shown_value tuple_key (shows tuple_key result) (lends result) ≡ compact_value tuple_key self.now }
+    {
+        TupleSketchView::of_compact(&self.state)
+    }
+
+    /// Whether it is empty: no update was accepted, or an operator answered so.
+    pub fn is_empty(&self) -> bool
+        ensures { result ≡ self.now.empty }
+    {
+        self.state.is_empty()
+    }
+
+    /// Whether it is not empty and its theta is below the greatest.
+    pub fn is_estimation_mode(&self) -> bool
+        ensures { result ≡ (not self.now.empty && nat_lt self.now.theta MAX_THETA) }
+    {
+        self.state.is_estimation_mode()
+    }
+
+    /// Its theta, from 1 to `MAX_THETA`, which it is for an empty sketch.
+    pub fn theta64(&self) -> u64
+        ensures { result ≡ self.now.theta }
+    {
+        self.state.theta()
+    }
+
+    /// How many entries it retains, fewer than 2^32.
+    pub fn num_retained(&self) -> usize
+        ensures count { result ≡ length self.now.entries }
+        ensures sound { IsCompact tuple_key self.now }
+    {
+        self.state.retained_entries().len()
+    }
+
+    /// The fraction whose quotient estimates how many distinct keys were seen: the retained entries times `MAX_THETA`, over
+    /// theta, not reduced; 0 over 1 for an empty sketch.
+    pub fn estimate_fraction(&self) -> (u128, u128)
+        ensures { result ≡ compact_fraction self.now }
+    {
+        compact_fraction(&self.state)
+    }
+
+    /// The estimate as a decimal number with `places` decimals, from 0 to 19, rounded down; 0 for an empty sketch.
+    pub fn estimate_decimal(&self, places: u32) -> Decimal
+        requires few { places ≤ MAX_PLACES }
+        ensures { result ≡ decimal_of (compact_fraction self.now) places }
+    {
+        compact_decimal(&self.state, places)
+    }
+
+    /// Whether its hashes are known to ascend.
+    pub fn is_ordered(&self) -> bool
+        ensures { result ≡ self.now.ordered }
+    {
+        self.state.is_ordered()
+    }
+
+    /// The hash of its seed, of 16 bits.
+    pub fn seed_hash(&self) -> u16
+        ensures { result ≡ self.now.seed_hash }
+    {
+        self.state.seed_hash()
+    }
+
+    /// Its entries, in its order: ascending by hash where it is ordered.
+    pub fn iter(&self) -> TupleSketchIter<'_, S>
+        ensures { result ≡ record { rest = self.now.entries; counted = true } }
+    {
+        EntryIter::of_slice(self.state.retained_entries())
+    }
+
+    /// How many bytes its entries take, without what their summaries hold elsewhere.
+    pub fn estimated_size(&self) -> usize {
+        size_of_val(self.state.retained_entries())
+    }
+}
+
+impl<S: Clone, A: Allocator + Clone> CompactTupleSketch<S, A> {
+    /// The same sketch again, in memory of a clone of its allocator. Refused with `OutOfMemory` alone.
+    pub fn clone(&self) -> Result<Self, Error>
+        requires clones_equal { ClonesEqual S.is_clone }
+        ensures ok { IfOk result (λ s. s ≡ self.now) }
+        ensures refused { Refuses result None true }
+    {
+        Ok(CompactTupleSketch {
+            state: self.state.clone()?,
+        })
+    }
+}

@@ -1,0 +1,49 @@
+//! Laws of tuple leaves: those that hold of the leaves of every family, at the entries and steps of tuples.
+ghost use Rattle.std.specs.Prelude.{◌≡◌, ℕ, ◌≤◌, List, ◌++◌, ◌∷◌, [], None, Option, Some, map, true, false};
+ghost use Rattle.sketch_base.specs.declared.error.ErrorKind.{ErrorKind};
+ghost use Rattle.theta_laws.specs.Cuts.{Retained, cut};
+ghost use Rattle.theta_laws.specs.Folds.{Fold, Value, fold_key, folded_of, has_mark, unmarked};
+ghost use Rattle.theta_laws.specs.Insertion.{after_upsert, upsert_refusal, whole_upsert};
+ghost use Rattle.theta_laws.specs.Leaf.{KeepsHashes, is_updated, leaf, whole};
+ghost use Rattle.theta_laws.specs.declared.leaf.LeafStep.{LeafStep};
+ghost use Rattle.theta_laws.specs.declared.leaf.LeafStep.TheVariants.{Trim};
+ghost use Rattle.theta_laws.specs.Maps.{below};
+ghost use Rattle.theta_laws.specs.Samples.{IsLawfulValue, IsSample};
+ghost use Rattle.theta_laws.specs.Values.{NonEmpty};
+ghost use Rattle.theta_table.specs.declared.entry.TupleEntry.{TupleEntry};
+ghost use Rattle.theta_policies.specs.Summaries.{update_step};
+ghost use Rattle.theta_table.specs.Entry.{tuple_key};
+
+use theta_core::MAX_THETA;
+
+/// Updates of folds keep hashes, as updates of entries do.
+pub fn folded_updates_keep_hashes<S, U>()
+    ensures { (creates : Option S) (updates : S → U → Option S) → KeepsHashes (fold_key tuple_key) (folded_of tuple_key (update_step creates updates)) }
+{}
+
+/// An update that isn't refused is the update of folds.
+pub fn allowed_update<S, U>()
+    ensures { (creates : Option S) (updates : S → U → Option S) (k h : ℕ) (value : U) (v : Retained (TupleEntry S)) → upsert_refusal tuple_key h (update_step creates updates h value) v ≡ None → unmarked (after_upsert tuple_key k h (update_step creates updates h value) v) ≡ after_upsert (fold_key tuple_key) k h (folded_of tuple_key (update_step creates updates) h value) (unmarked v) }
+{}
+
+/// A trim of entries is a trim of folds. So each step of a leaf that isn't refused is one on folds; a reset leaves nothing to
+/// fold.
+pub fn trim_of_folds<S>()
+    ensures { (k : ℕ) (v : Retained (TupleEntry S)) → unmarked (cut tuple_key k v.entries v.theta) ≡ cut (fold_key tuple_key) k (unmarked v).entries v.theta }
+{}
+
+/// An update that is refused leaves a mark in the whole map that what is retained is a part of.
+pub fn refused_update_marks<S, U>()
+    ensures { (creates : Option S) (updates : S → U → Option S) (h : ℕ) (value : U) (v : Retained (TupleEntry S)) (whole : List (Fold (TupleEntry S))) (kind : ErrorKind) → map Value v.entries ≡ below (fold_key tuple_key) whole v.theta → upsert_refusal tuple_key h (update_step creates updates h value) v ≡ Some kind → has_mark (whole_upsert (fold_key tuple_key) h (folded_of tuple_key (update_step creates updates) h value) whole) ≡ true }
+{}
+
+/// A leaf's value, in folds, is a sample of the whole map of what was added, and its theta is lawful.
+pub fn tuple_leaf_is_sample<S, U>()
+    ensures sample { (creates : Option S) (updates : S → U → Option S) (k start : ℕ) (steps : List (LeafStep U)) → start ≤ MAX_THETA → IsSample (fold_key tuple_key) (leaf (fold_key tuple_key) (folded_of tuple_key (update_step creates updates)) k start steps) (whole (fold_key tuple_key) (folded_of tuple_key (update_step creates updates)) steps) }
+    ensures lawful { (creates : Option S) (updates : S → U → Option S) (k start : ℕ) (steps : List (LeafStep U)) → start ≤ MAX_THETA → IsLawfulValue (fold_key tuple_key) k start (leaf (fold_key tuple_key) (folded_of tuple_key (update_step creates updates)) k start steps) (whole (fold_key tuple_key) (folded_of tuple_key (update_step creates updates)) steps) }
+{}
+
+/// A leaf that isn't empty and whose last step is a trim retains the k folds of least hash of the whole map of what was added.
+pub fn trimmed_tuple_leaf<S, U>()
+    ensures { (creates : Option S) (updates : S → U → Option S) (k start : ℕ) (steps : List (LeafStep U)) → start ≤ MAX_THETA → is_updated steps false ≡ true → leaf (fold_key tuple_key) (folded_of tuple_key (update_step creates updates)) k start (steps ++ Trim ∷ []) ≡ NonEmpty (cut (fold_key tuple_key) k (whole (fold_key tuple_key) (folded_of tuple_key (update_step creates updates)) steps) start) }
+{}

@@ -1,0 +1,70 @@
+//! Tuple sketches: a summary beside each distinct key of a stream, as a sum, a count or a greatest value.
+//!
+//! A tuple sketch retains the entries of smallest hash below its theta, as a theta sketch retains hashes, and beside each
+//! hash a summary. Its policy says how a summary begins, how it takes in a value, and where it refuses. Contracts see a
+//! sketch's state (its emptiness, its table as a map with a theta, and what it lends) and its policy; `sketch_value` is the
+//! value of a state: Empty, or the retained entries as a map, ascending by hash, with the theta. Over whole streams a tuple sketch is a leaf, as a theta sketch is, whose values are what a key's summaries fold
+//! to (`laws`).
+//!
+//! The visits of each visitor in one compact sketch, and their sum, which is 8:
+//!
+//! ```
+//! fn visits(alloc: Global) -> Result<CompactTupleSketch<u64>, Error> {
+//!     let policy = DefaultUpdatePolicy::<u64>::default();
+//!     let mut sketch = TupleSketchBuilder::new(policy).lg_k(14).build(alloc)?;
+//!     sketch.update("ann", 3)?;
+//!     sketch.update("bob", 1)?;
+//!     sketch.update("ann", 4)?;
+//!     sketch.compact(true)
+//! }
+//!
+//! fn total(entries: TupleSketchIter<'_, u64>) -> u64 {
+//!     let sums = entries.map(|entry| *entry.summary());
+//!     sums.fold(0, |total: u64, sum| total.saturating_add(sum))
+//! }
+//!
+//! let visits = visits(alloc)?;
+//! let view: TupleSketchView<'_, u64> = visits.as_view();
+//! let total = total(view.iter());
+//! ```
+//!
+//! The visits of two days together, and of those who came on both days:
+//!
+//! ```
+//! let sums = DefaultUnionPolicy::<u64>::default();
+//! let mut union = TupleUnionBuilder::new(sums).lg_k(14).build(alloc)?;
+//! union.update(monday.as_view())?;
+//! union.update(tuesday.as_view())?;
+//! let together = union.to_sketch(true)?;
+//!
+//! let mut intersection = TupleIntersection::new(alloc, sums)?;
+//! intersection.update(monday.as_view())?;
+//! intersection.update(tuesday.as_view())?;
+//! let on_both_days = intersection.to_sketch(true)?;
+//! ```
+#![tactic(auto)]
+
+mod a_not_b;
+mod builder;
+mod compact_sketch;
+mod intersection;
+pub mod laws;
+mod sketch;
+mod union;
+mod union_builder;
+mod view;
+
+pub use a_not_b::TupleANotB;
+pub use builder::TupleSketchBuilder;
+pub use compact_sketch::CompactTupleSketch;
+pub use intersection::TupleIntersection;
+pub use sketch::TupleSketch;
+pub use sketch_base::{DEFAULT_UPDATE_SEED, Error, ErrorKind, MurmurHash3X64128};
+pub use theta_core::{
+    CheckedSum, DefaultUnionPolicy, DefaultUpdatePolicy, MAX_THETA, ResizeFactor,
+    SummaryCombinePolicy, SummaryPolicy, SummaryUpdatePolicy, TupleEntry,
+};
+pub use theta_family::{Decimal, MAX_PLACES, estimate_decimal};
+pub use union::TupleUnion;
+pub use union_builder::TupleUnionBuilder;
+pub use view::{TupleSketchIter, TupleSketchView};

@@ -1,0 +1,214 @@
+//! Tuple sketches that take updates.
+ghost use Rattle.std.specs.Prelude.{◌≡◌, ◌≤◌, ◌&&◌, ◌^◌, true, false, not, nat_lt, None, length, IfOk, OnOk, OnErr};
+ghost use Rattle.std.specs.List.{concat};
+ghost use Rattle.sketch_base.specs.Seed.{hash_of};
+ghost use Rattle.theta_table.specs.CompactState.{IsAnswer};
+ghost use Rattle.theta_laws.specs.Cuts.{cut};
+ghost use Rattle.theta_laws.specs.Entries.{ClonesEqual};
+ghost use Rattle.theta_laws.specs.Refusal.{Refuses};
+ghost use Rattle.theta_table.specs.HashTable.{empty_table, after_reset, table_refusal};
+ghost use Rattle.theta_laws.specs.Maps.{IsLent};
+ghost use Rattle.theta_laws.specs.Insertion.{after_upsert, upsert_refusal, upsert_allocates};
+ghost use Rattle.theta_family.specs.Updatable.{sketch_value, sketch_shows};
+ghost use Rattle.theta_family.specs.View.{shows, lends};
+ghost use Rattle.theta_laws.specs.Values.{theta_of, count_of, fraction_of};
+ghost use Rattle.theta_laws.specs.Shown.{IsShown, shown_value};
+ghost use Rattle.theta_family.specs.Fraction.{decimal_of};
+ghost use Rattle.theta_family.specs.declared.fraction.TheConstants.{MAX_PLACES};
+ghost use Rattle.theta_policies.specs.Summaries.{update_step};
+ghost use Rattle.theta_table.specs.Entry.{tuple_key};
+
+use crate::compact_sketch::CompactTupleSketch;
+use crate::view::{TupleSketchIter, TupleSketchView};
+use sketch_base::Error;
+use std::alloc::{Allocator, Global};
+use std::hash::Hash;
+use theta_core::{MAX_THETA, SummaryPolicy, SummaryUpdatePolicy, TupleEntry, UpdateStep};
+use theta_family::{Decimal, MAX_PLACES, Settings, UpdatableState};
+
+/// A tuple sketch that takes updates: beside each hash it keeps a summary of the values that came with it, as its policy
+/// makes and updates them. Its value is Empty until the first update is accepted.
+#[derive(Drop)]
+pub struct TupleSketch<P: SummaryPolicy, A: Allocator = Global> {
+    state: UpdatableState<TupleEntry<P::Summary>, A>,
+    policy: P,
+}
+
+impl<P: SummaryPolicy, A: Allocator> TupleSketch<P, A> {
+    pub(crate) fn new(alloc: A, settings: Settings, policy: P) -> Result<Self, Error>
+    where
+        A: Drop,
+        P: Drop,
+        ensures empty { IfOk result (λ s. s.state.empty ≡ true) }
+        ensures made { IfOk result (λ s. s.state.map ≡ empty_table settings.lg_k settings.starting_theta settings.seed) }
+        ensures policy { IfOk result (λ s. s.policy ≡ policy) }
+        ensures refused { Refuses result (table_refusal settings.lg_k settings.starting_theta settings.seed) true }
+    {
+        let state = UpdatableState::new(alloc, settings)?;
+        Ok(TupleSketch { state, policy })
+    }
+
+    /// A view of the sketch, for operators.
+    pub fn as_view(&self) -> TupleSketchView<'_, P::Summary, A>
+        ensures shows { shows tuple_key result ≡ sketch_shows tuple_key self.now.state }
+        ensures lends { lends result ≡ self.now.state.lends }
+        ensures value { shown_value tuple_key (shows tuple_key result) (lends result) ≡ sketch_value self.now.state }
+    {
+        TupleSketchView::of_state(&self.state)
+    }
+
+    /// Whether no update was accepted since it was built or last reset.
+    pub fn is_empty(&self) -> bool
+        ensures { result ≡ self.now.state.empty }
+    {
+        self.state.is_empty()
+    }
+
+    /// Whether it is not empty and its theta is below the greatest.
+    pub fn is_estimation_mode(&self) -> bool
+        ensures { result ≡ (not self.now.state.empty && nat_lt self.now.state.map.kept.theta MAX_THETA) }
+    {
+        self.state.is_estimation_mode()
+    }
+
+    /// The theta of its value: from 1 to `MAX_THETA`, and `MAX_THETA` for an empty sketch, whatever its starting theta.
+    pub fn theta64(&self) -> u64
+        ensures { result ≡ theta_of (sketch_value self.now.state) }
+    {
+        self.state.theta64()
+    }
+
+    /// How many entries it retains, fewer than 2^32.
+    pub fn num_retained(&self) -> usize
+        ensures count { result ≡ count_of (sketch_value self.now.state) }
+        ensures lent { result ≡ length self.now.state.lends }
+        ensures sound { IsShown (sketch_shows tuple_key self.now.state) }
+    {
+        self.state.num_retained()
+    }
+
+    /// The fraction whose quotient estimates how many distinct keys were seen: the retained entries times `MAX_THETA`, over
+    /// theta, not reduced; 0 over 1 for an empty sketch.
+    pub fn estimate_fraction(&self) -> (u128, u128)
+        ensures { result ≡ fraction_of (sketch_value self.now.state) }
+    {
+        self.state.estimate_fraction()
+    }
+
+    /// The estimate as a decimal number with `places` decimals, from 0 to 19, rounded down; 0 for an empty sketch.
+    pub fn estimate_decimal(&self, places: u32) -> Decimal
+        requires few { places ≤ MAX_PLACES }
+        ensures { result ≡ decimal_of (fraction_of (sketch_value self.now.state)) places }
+    {
+        self.state.estimate_decimal(places)
+    }
+
+    /// The binary logarithm of its nominal entries, from 5 to 26.
+    pub fn lg_k(&self) -> u8
+        ensures { result ≡ self.now.state.map.lg_nom }
+    {
+        self.state.lg_k()
+    }
+
+    /// The hash of its seed, from 1 to 65535.
+    pub fn seed_hash(&self) -> u16
+        ensures { result ≡ self.now.state.map.seed_hash }
+    {
+        self.state.seed_hash()
+    }
+
+    /// Its entries, each once, in an open order.
+    pub fn iter(&self) -> TupleSketchIter<'_, P::Summary>
+        ensures lent { result ≡ record { rest = self.now.state.lends; counted = false } }
+        ensures each_once { IsLent tuple_key self.now.state.map.kept.entries self.now.state.lends }
+    {
+        self.state.entries()
+    }
+
+    /// How many bytes its retained entries take, without what their summaries hold elsewhere.
+    pub fn estimated_size(&self) -> usize {
+        self.state.estimated_size()
+    }
+
+    /// Makes it empty again, with its starting theta. It takes no memory.
+    pub fn reset(&mut self)
+    where
+        P::Summary: Drop,
+        ensures empty { self.new.state.empty ≡ true }
+        ensures map { self.new.state.map ≡ after_reset self.old.state.map }
+        ensures same_policy { self.new.policy ≡ self.old.policy }
+    {
+        self.state.reset();
+    }
+}
+
+impl<P: SummaryPolicy, A: Allocator + Clone> TupleSketch<P, A> {
+    /// Takes in a value at a key, by the key's hash under the sketch's seed. Refused as `update_hash` is.
+    ///
+    /// A key is hashed as std's `Hash` hands over its bytes, and behind a text std writes one byte more, 255, where
+    /// libraries in other languages hash the bytes of the text alone. For the same hash as theirs, `write` the bytes to a
+    /// `MurmurHash3X64128` of the sketch's seed, and hand `finish128().0 >> 1` to `update_hash`.
+    pub fn update<K: Hash + Drop, U: Drop>(&mut self, key: K, value: U) -> Result<(), Error>
+    where
+        P: SummaryUpdatePolicy<U>,
+        P::Summary: Drop,
+        ensures nonempty { OnOk result (self.new.state.empty ≡ false) }
+        ensures after { let h = hash_of self.old.state.map.seed (concat (K.hash_input key)) in OnOk result (self.new.state.map ≡ record self.old.state.map { kept = after_upsert tuple_key (2 ^ self.old.state.map.lg_nom) h (update_step (P.creates self.old.policy) (P.updates self.old.policy) h value) self.old.state.map.kept }) }
+        ensures same_policy { self.new.policy ≡ self.old.policy }
+        ensures err_empty { OnErr result (self.new.state.empty ≡ self.old.state.empty) }
+        ensures err { OnErr result (self.new.state.map ≡ self.old.state.map) }
+        ensures refused { let h = hash_of self.old.state.map.seed (concat (K.hash_input key)) in let step = update_step (P.creates self.old.policy) (P.updates self.old.policy) h value in Refuses result (upsert_refusal tuple_key h step self.old.state.map.kept) (upsert_allocates tuple_key h step self.old.state.map.kept) }
+    {
+        let hash = self.state.hash(key);
+        self.update_hash(hash, value)
+    }
+
+    /// Takes in a value at a hash: the policy updates the summary that the sketch has there, or one that it creates for a new
+    /// hash. A hash that is 0 or at least theta is not retained, and no policy is called, but the sketch becomes nonempty all
+    /// the same.
+    ///
+    /// Refused with `Policy` where the policy refuses to create or to update, and with `OutOfMemory`; neither can come for a
+    /// hash that is 0 or at least theta. Then nothing has changed, emptiness and summaries included.
+    pub fn update_hash<U: Drop>(&mut self, hash: u64, value: U) -> Result<(), Error>
+    where
+        P: SummaryUpdatePolicy<U>,
+        P::Summary: Drop,
+        ensures nonempty { OnOk result (self.new.state.empty ≡ false) }
+        ensures after { OnOk result (self.new.state.map ≡ record self.old.state.map { kept = after_upsert tuple_key (2 ^ self.old.state.map.lg_nom) hash (update_step (P.creates self.old.policy) (P.updates self.old.policy) hash value) self.old.state.map.kept }) }
+        ensures same_policy { self.new.policy ≡ self.old.policy }
+        ensures err_empty { OnErr result (self.new.state.empty ≡ self.old.state.empty) }
+        ensures err { OnErr result (self.new.state.map ≡ self.old.state.map) }
+        ensures refused { let step = update_step (P.creates self.old.policy) (P.updates self.old.policy) hash value in Refuses result (upsert_refusal tuple_key hash step self.old.state.map.kept) (upsert_allocates tuple_key hash step self.old.state.map.kept) }
+    {
+        let step = UpdateStep::new(&self.policy, hash, value);
+        self.state.upsert(hash, step)
+    }
+
+    /// Where more than k entries are retained, lowers theta to the (k+1)th smallest hash and keeps the k below it.
+    ///
+    /// Refused with `OutOfMemory` alone, and only where more than k are retained; then nothing has changed.
+    pub fn trim(&mut self) -> Result<(), Error>
+    where
+        P::Summary: Drop,
+        ensures same_emptiness { self.new.state.empty ≡ self.old.state.empty }
+        ensures after { OnOk result (self.new.state.map ≡ record self.old.state.map { kept = cut tuple_key (2 ^ self.old.state.map.lg_nom) self.old.state.map.kept.entries self.old.state.map.kept.theta }) }
+        ensures same_policy { self.new.policy ≡ self.old.policy }
+        ensures err { OnErr result (self.new.state.map ≡ self.old.state.map) }
+        ensures refused { Refuses result None (nat_lt (2 ^ self.old.state.map.lg_nom) (length self.old.state.map.kept.entries)) }
+    {
+        self.state.trim()
+    }
+
+    /// Its compact form, of the same value, untrimmed. It is ordered where that is asked, or it is empty or has one entry at
+    /// the greatest theta. The sketch stays as it is. Refused with `OutOfMemory` alone.
+    pub fn compact(&self, ordered: bool) -> Result<CompactTupleSketch<P::Summary, A>, Error>
+    where
+        P::Summary: Clone,
+        requires clones_equal { ClonesEqual P.Summary.is_clone }
+        ensures ok { IfOk result (IsAnswer tuple_key (sketch_value self.now.state) self.now.state.map.seed_hash ordered) }
+        ensures refused { Refuses result None true }
+    {
+        let state = self.state.compact(ordered)?;
+        Ok(CompactTupleSketch::of_state(state))
+    }
+}

@@ -1,0 +1,107 @@
+//! Unions of tuple sketches.
+ghost use Rattle.std.specs.Prelude.{◌≡◌, ◌^◌, [], ◌∷◌, true, false, not, None, IfOk, IfErr, OnOk, MatchOption};
+ghost use Rattle.sketch_base.specs.Seed.{seed_hash};
+ghost use Rattle.theta_table.specs.CompactState.{IsAnswer};
+ghost use Rattle.theta_table.specs.Entry.{tuple_key};
+ghost use Rattle.theta_table.specs.HashTable.{table_refusal};
+ghost use Rattle.theta_laws.specs.Cuts.{IsRetained};
+ghost use Rattle.theta_laws.specs.Entries.{ClonesEqual};
+ghost use Rattle.theta_laws.specs.Folds.{fold_key, fold_merges, unmarked_value};
+ghost use Rattle.theta_laws.specs.Operators.{unite};
+ghost use Rattle.theta_laws.specs.Refusal.{Refuses};
+ghost use Rattle.theta_laws.specs.Shown.{shown_value};
+ghost use Rattle.theta_policies.specs.Summaries.{combined, combine_refused};
+ghost use Rattle.theta_operators.specs.Union.{empty_union, union_value, update_refusal, failure, IsUnion, IsJoined, IsBroken};
+ghost use Rattle.theta_family.specs.View.{shows, lends};
+
+use crate::compact_sketch::CompactTupleSketch;
+use crate::view::TupleSketchView;
+use sketch_base::Error;
+use std::alloc::{Allocator, Global};
+use theta_core::{SummaryCombinePolicy, SummaryPolicy, TupleEntry, UnionState};
+use theta_family::Settings;
+
+/// A union of tuple sketches that are handed over one by one.
+///
+/// Its value has the joined entries below the least theta of its inputs and its own start; where these are more than k, the
+/// k of least hash, below the (k+1)th. The summaries of a key that inputs share are combined by its policy, in the order of
+/// the inputs. Where memory or the policy refuses an update the union has failed, until it is reset.
+#[derive(Drop)]
+pub struct TupleUnion<P: SummaryPolicy, A: Allocator = Global> {
+    state: UnionState<TupleEntry<P::Summary>, P, A>,
+}
+
+impl<P: SummaryPolicy + Drop, A: Allocator + Drop> TupleUnion<P, A> {
+    pub(crate) fn new(alloc: A, settings: Settings, policy: P) -> Result<Self, Error>
+    where
+        P::Summary: Drop,
+        ensures made { IfOk result (λ u. u.state ≡ empty_union settings.lg_k settings.starting_theta (seed_hash settings.seed) policy) }
+        ensures refused { Refuses result (table_refusal settings.lg_k settings.starting_theta settings.seed) true }
+    {
+        let state = UnionState::new(
+            alloc,
+            settings.lg_k(),
+            settings.resize_factor(),
+            settings.starting_theta(),
+            settings.seed(),
+            policy,
+        )?;
+        Ok(TupleUnion { state })
+    }
+
+    /// Makes it empty again, and ends a failure. It takes no memory.
+    pub fn reset(&mut self)
+    where
+        P::Summary: Drop,
+        ensures { self.new.state ≡ empty_union self.old.state.lg_k self.old.state.start self.old.state.seed_hash self.old.state.policy }
+    {
+        self.state.reset();
+    }
+}
+
+impl<P: SummaryCombinePolicy + Drop, A: Allocator + Clone> TupleUnion<P, A> {
+    /// Joins a sketch. An empty one changes nothing, and its seed is not checked.
+    ///
+    /// Refused with `Failed` where the union has failed, whatever the input, and with `InvalidArgument` for a sketch of
+    /// another seed; then nothing has changed. Refused with `OutOfMemory`, or with `Policy` where the policy refuses the
+    /// summaries of a key below every theta so far; then the union has failed.
+    pub fn update<B: Allocator>(
+        &mut self,
+        sketch: TupleSketchView<'_, P::Summary, B>,
+    ) -> Result<(), Error>
+    where
+        P::Summary: Clone,
+        requires clones_equal { ClonesEqual P.Summary.is_clone }
+        ensures skipped { OnOk result ((shows tuple_key sketch.entry).empty ≡ true → self.new.state ≡ self.old.state) }
+        ensures united { OnOk result ((shows tuple_key sketch.entry).empty ≡ false → unmarked_value (union_value tuple_key self.new.state) ≡ unite (fold_key tuple_key) (fold_merges tuple_key (combined (P.combines self.old.state.policy)) (combine_refused (P.combines self.old.state.policy))) (2 ^ self.old.state.lg_k) self.old.state.start (unmarked_value (union_value tuple_key self.old.state) ∷ unmarked_value (shown_value tuple_key (shows tuple_key sketch.entry) (lends sketch.entry)) ∷ [])) }
+        ensures joined { OnOk result ((shows tuple_key sketch.entry).empty ≡ false → IsJoined tuple_key (combined (P.combines self.old.state.policy)) (combine_refused (P.combines self.old.state.policy)) self.old.state self.new.state (shows tuple_key sketch.entry).theta (lends sketch.entry)) }
+        ensures made_with { OnOk result (self.new.state ≡ record self.old.state { empty = self.new.state.empty; held = self.new.state.held }) }
+        ensures accepted { OnOk result (update_refusal self.old.state (shows tuple_key sketch.entry) ≡ None) }
+        ensures refused { IfErr result (λ e. MatchOption (update_refusal self.old.state (shows tuple_key sketch.entry)) (IsBroken tuple_key (combine_refused (P.combines self.old.state.policy)) self.old.state self.new.state (shows tuple_key sketch.entry) (lends sketch.entry) e) (λ kind. (e ≡ kind) × (self.new.state ≡ self.old.state))) }
+        ensures sound { IsUnion self.old.state }
+        ensures held { IsRetained tuple_key self.old.state.held }
+    {
+        self.state.update(sketch)
+    }
+
+    /// Its value, ordered where that is asked, or it is empty or has one entry at the greatest theta. The union stays as it
+    /// is. Refused with `Failed` where the union has failed, and with `OutOfMemory`.
+    pub fn to_sketch(&self, ordered: bool) -> Result<CompactTupleSketch<P::Summary, A>, Error>
+    where
+        P::Summary: Clone,
+        requires clones_equal { ClonesEqual P.Summary.is_clone }
+        ensures ok { IfOk result (IsAnswer tuple_key (union_value tuple_key self.now.state) self.now.state.seed_hash ordered) }
+        ensures refused { Refuses result (failure self.now.state.failed) (not self.now.state.failed) }
+    {
+        let state = self.state.to_compact_sketch_state(ordered)?;
+        Ok(CompactTupleSketch::of_state(state))
+    }
+
+    /// How many bytes the entries that it holds take, without what their summaries hold elsewhere.
+    pub fn estimated_size(&self) -> usize
+    where
+        P::Summary: Clone,
+    {
+        self.state.estimated_size()
+    }
+}

@@ -1,0 +1,77 @@
+//! Builders of tuple unions.
+ghost use Rattle.std.specs.Prelude.{◌≡◌, true, IfOk};
+ghost use Rattle.sketch_base.specs.Seed.{seed_hash};
+ghost use Rattle.theta_laws.specs.Refusal.{Refuses};
+ghost use Rattle.theta_family.specs.Settings.{default_settings};
+ghost use Rattle.theta_operators.specs.Union.{empty_union};
+ghost use Rattle.theta_table.specs.HashTable.{table_refusal};
+
+use crate::union::TupleUnion;
+use sketch_base::Error;
+use std::alloc::Allocator;
+use theta_core::{ResizeFactor, SummaryPolicy};
+use theta_family::Settings;
+
+/// Builds a tuple union, whose policy combines the summaries of a key that its inputs share. Nothing is checked before
+/// `build`.
+#[derive(Debug, Drop)]
+pub struct TupleUnionBuilder<P> {
+    settings: Settings,
+    policy: P,
+}
+
+impl<P> TupleUnionBuilder<P> {
+    /// Under this policy, with 4096 nominal entries, the greatest starting theta and the default seed.
+    pub fn new(policy: P) -> Self
+        ensures { result ≡ record { settings = default_settings; policy = policy } }
+    {
+        let settings = Settings::default();
+        TupleUnionBuilder { settings, policy }
+    }
+
+    /// With 2^`lg_k` nominal entries; `build` wants `lg_k` from 5 to 26.
+    pub fn lg_k(mut self, lg_k: u8) -> Self
+        ensures { result ≡ record self { settings = record self.settings { lg_k = lg_k } } }
+    {
+        self.settings = self.settings.with_lg_k(lg_k);
+        self
+    }
+
+    /// With this resize factor, which changes no answer.
+    pub fn resize_factor(mut self, resize_factor: ResizeFactor) -> Self
+        ensures { result ≡ record self { settings = record self.settings { resize_factor = resize_factor } } }
+    {
+        self.settings = self.settings.with_resize_factor(resize_factor);
+        self
+    }
+
+    /// With this starting theta; `build` wants it from 1 to `MAX_THETA`.
+    pub fn starting_theta(mut self, starting_theta: u64) -> Self
+        ensures { result ≡ record self { settings = record self.settings { starting_theta = starting_theta } } }
+    {
+        self.settings = self.settings.with_starting_theta(starting_theta);
+        self
+    }
+
+    /// With this seed; `build` refuses one whose seed hash is 0.
+    pub fn seed(mut self, seed: u64) -> Self
+        ensures { result ≡ record self { settings = record self.settings { seed = seed } } }
+    {
+        self.settings = self.settings.with_seed(seed);
+        self
+    }
+}
+
+impl<P: SummaryPolicy + Drop> TupleUnionBuilder<P> {
+    /// An empty union in memory of `alloc`. Refused with `InvalidArgument` for settings that no union may have, and with
+    /// `OutOfMemory`.
+    pub fn build<A: Allocator + Drop>(self, alloc: A) -> Result<TupleUnion<P, A>, Error>
+    where
+        P::Summary: Drop,
+        ensures made { IfOk result (λ u. u.state ≡ empty_union self.settings.lg_k self.settings.starting_theta (seed_hash self.settings.seed) self.policy) }
+        ensures refused { Refuses result (table_refusal self.settings.lg_k self.settings.starting_theta self.settings.seed) true }
+    {
+        let TupleUnionBuilder { settings, policy } = self;
+        TupleUnion::new(alloc, settings, policy)
+    }
+}

@@ -1,0 +1,38 @@
+//! Read-only views of tuple sketches, which operators take, and the entries that they lend.
+ghost use Rattle.std.specs.Prelude.{◌≡◌};
+ghost use Rattle.theta_table.specs.CompactState.{compact_value, shown_of};
+ghost use Rattle.theta_family.specs.Updatable.{sketch_shows, sketch_value};
+ghost use Rattle.theta_laws.specs.Shown.{shown_value};
+ghost use Rattle.theta_family.specs.View.{shows, lends};
+ghost use Rattle.theta_table.specs.Entry.{tuple_key};
+
+use crate::compact_sketch::CompactTupleSketch;
+use crate::sketch::TupleSketch;
+use std::alloc::{Allocator, Global};
+use theta_core::{EntryIter, SummaryPolicy, TupleEntry};
+use theta_family::SketchView;
+
+/// A view of a mutable or a compact tuple sketch, whatever its summaries. A mutable one is seen as not ordered.
+pub type TupleSketchView<'a, S, A = Global> = SketchView<'a, TupleEntry<S>, A>;
+
+/// The entries of a tuple sketch, lent one by one, each once: a mutable sketch's in an open order, a compact one's in its
+/// own. Its `size_hint` is exact over a compact sketch; else at least none, and at most a number that is no less than the
+/// entries left.
+pub type TupleSketchIter<'a, S> = EntryIter<'a, TupleEntry<S>>;
+
+impl<'a, P: SummaryPolicy, A: Allocator> From<&'a TupleSketch<P, A>>
+    for SketchView<'a, TupleEntry<P::Summary>, A> {
+    ghost from_gives = { λ sketch view. (shows tuple_key view ≡ sketch_shows tuple_key sketch.now.state) × (lends view ≡ sketch.now.state.lends) × (shown_value tuple_key (shows tuple_key view) (lends view) ≡ sketch_value sketch.now.state) };
+
+    fn from(sketch: &'a TupleSketch<P, A>) -> Self {
+        sketch.as_view()
+    }
+}
+
+impl<'a, S, A: Allocator> From<&'a CompactTupleSketch<S, A>> for SketchView<'a, TupleEntry<S>, A> {
+    ghost from_gives = { λ sketch view. (shows tuple_key view ≡ shown_of tuple_key sketch.now) × (lends view ≡ sketch.now.entries) × (shown_value tuple_key (shows tuple_key view) (lends view) ≡ compact_value tuple_key sketch.now) };
+
+    fn from(sketch: &'a CompactTupleSketch<S, A>) -> Self {
+        sketch.as_view()
+    }
+}

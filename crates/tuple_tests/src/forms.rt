@@ -1,0 +1,134 @@
+//! Keys, compact forms, views and what they lend.
+
+use crate::common::{Sums, ascending, sums_of, tenfold, total};
+use std::alloc::Global;
+use std::hash::Hash;
+use std::test::Fail;
+use tuple_sketches::{
+    CompactTupleSketch, DefaultUpdatePolicy, Error, MAX_THETA, MurmurHash3X64128,
+    TupleSketchBuilder, TupleSketchView,
+};
+
+/// The visits of each visitor, by the sketches' doc comment.
+fn visits(alloc: Global) -> Result<CompactTupleSketch<u64>, Error> {
+    let policy = DefaultUpdatePolicy::<u64>::default();
+    let mut sketch = TupleSketchBuilder::new(policy).lg_k(14).build(alloc)?;
+    sketch.update("ann", 3)?;
+    sketch.update("bob", 1)?;
+    sketch.update("ann", 4)?;
+    sketch.compact(true)
+}
+
+#[test]
+fn the_documented_example(rt: HostRuntime) -> Result<(), Fail> {
+    let visits = visits(rt.alloc())?;
+    let view: TupleSketchView<'_, u64> = visits.as_view();
+    assert_eq!(rt; (view.num_retained(), total(view.iter())), (2, 8));
+    Ok(())
+}
+
+/// The first half of a text's MurmurHash3 under a seed, shifted right by one.
+fn murmur(seed: u64, text: &str) -> u64 {
+    let mut hasher = MurmurHash3X64128::with_seed(seed);
+    text.hash(&mut hasher);
+    hasher.finish128().0 >> 1
+}
+
+/// What a sketch of sums has after a key with 1, twice.
+fn seen_twice(alloc: Global, seed: u64, key: &str) -> Result<Vec<(u64, u64)>, Error> {
+    let policy = DefaultUpdatePolicy::<u64>::default();
+    let mut sketch = TupleSketchBuilder::new(policy).seed(seed).build(alloc)?;
+    sketch.update(key, 1)?;
+    sketch.update(key, 1)?;
+    let pairs = ascending(alloc, sketch.iter())?;
+    Ok(pairs)
+}
+
+#[test]
+fn keys_are_hashed(rt: HostRuntime) -> Result<(), Fail> {
+    for seed in [9001, 123] {
+        let pairs = seen_twice(rt.alloc(), seed, "apple")?;
+        let wanted = [(murmur(seed, "apple"), 2)];
+        assert_eq!(rt; pairs.as_slice(), wanted.as_slice(), "under {seed}");
+    }
+    Ok(())
+}
+
+/// A compact sketch's emptiness, theta and sums, and its order.
+fn told(
+    alloc: Global,
+    sketch: &CompactTupleSketch<u64>,
+) -> Result<((bool, u64, Vec<(u64, u64)>), bool), Error> {
+    let pairs = ascending(alloc, sketch.iter())?;
+    let value = (sketch.is_empty(), sketch.theta64(), pairs);
+    Ok((value, sketch.is_ordered()))
+}
+
+#[test]
+fn compact_forms(rt: HostRuntime) -> Result<(), Fail> {
+    // The last hash, whether order is asked, and then order and theta.
+    let rows = [
+        (0, false, true, MAX_THETA),
+        (1, false, true, MAX_THETA),
+        (40, false, false, MAX_THETA),
+        (40, true, true, MAX_THETA),
+        (61, true, true, 33),
+    ];
+    for (last, asked, ordered, theta) in rows {
+        let compact = sums_of(rt.alloc(), last)?.compact(asked)?;
+        let kept = tenfold(rt.alloc(), last.min(theta - 1))?;
+        let wanted = ((last == 0, theta, kept), ordered);
+        assert_eq!(rt; told(rt.alloc(), &compact)?, wanted, "at {last}");
+        let copy = compact.clone()?;
+        assert_eq!(rt; told(rt.alloc(), &copy)?, wanted, "at {last}");
+    }
+    Ok(())
+}
+
+/// A sketch's emptiness, theta and count, as it tells them and as its view does.
+fn twice_told(sketch: &Sums) -> [(bool, u64, usize); 2] {
+    let view = TupleSketchView::from(sketch);
+    [
+        (sketch.is_empty(), sketch.theta64(), sketch.num_retained()),
+        (view.is_empty(), view.theta64(), view.num_retained()),
+    ]
+}
+
+#[test]
+fn sketches_are_trimmed_and_reset(rt: HostRuntime) -> Result<(), Fail> {
+    // The last hash, and then theta and how many are kept.
+    for (last, theta, kept) in [(32, MAX_THETA, 32), (33, 33, 32), (40, 33, 32)] {
+        let mut sketch = sums_of(rt.alloc(), last)?;
+        sketch.trim()?;
+        let wanted = (false, theta, kept);
+        assert_eq!(rt; twice_told(&sketch), [wanted, wanted], "at {last}");
+        sketch.reset();
+        let wanted = (true, MAX_THETA, 0);
+        assert_eq!(rt; twice_told(&sketch), [wanted, wanted], "at {last}");
+    }
+    Ok(())
+}
+
+/// How many entries a view and its copy tell, whatever its summaries are.
+fn counted_twice<S>(view: TupleSketchView<'_, S>) -> [usize; 2] {
+    let copy = view;
+    [view.num_retained(), copy.num_retained()]
+}
+
+#[test]
+fn entries_are_lent(rt: HostRuntime) -> Result<(), Fail> {
+    for last in [0, 1, 40] {
+        let sketch = sums_of(rt.alloc(), last)?;
+        let wanted = tenfold(rt.alloc(), last)?;
+        let lent = ascending(rt.alloc(), sketch.as_view().iter())?;
+        assert_eq!(rt; lent, wanted, "at {last}");
+        let compact = sketch.compact(false)?;
+        let view = compact.as_view();
+        let lent = ascending(rt.alloc(), view.iter())?;
+        assert_eq!(rt; lent, wanted, "at {last}");
+        assert_eq!(rt; counted_twice(view), [lent.len(); 2], "at {last}");
+        let hint = compact.iter().size_hint();
+        assert_eq!(rt; hint, (lent.len(), Some(lent.len())), "at {last}");
+    }
+    Ok(())
+}

@@ -1,0 +1,20 @@
+//! Tests over the public calls of the tuple sketches: values from outside, policies of the tests' own, and memory that is
+//! refused.
+#![tactic(auto)]
+
+#[cfg(test)]
+mod common;
+#[cfg(test)]
+mod forms;
+#[cfg(test)]
+mod operator_requests;
+#[cfg(test)]
+mod operators;
+#[cfg(test)]
+mod policies;
+#[cfg(test)]
+mod requests;
+#[cfg(test)]
+mod sums;
+#[cfg(test)]
+mod tables;

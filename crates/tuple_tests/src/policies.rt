@@ -1,0 +1,154 @@
+//! Policies of the tests' own.
+ghost use Rattle.std.specs.Prelude.{Some, None, max, nat_lt, if◌then◌else◌};
+
+use crate::common::kind_of;
+use std::alloc::Global;
+use std::test::Fail;
+use tuple_sketches::{
+    Error, ErrorKind, SummaryPolicy, SummaryUpdatePolicy, TupleSketch, TupleSketchBuilder,
+};
+
+/// Keeps the greatest value that a key was seen with.
+#[derive(Debug, Clone, Copy)]
+struct Greatest;
+
+impl SummaryPolicy for Greatest {
+    type Summary = u64;
+
+    ghost creates = { λ policy. Some 0 };
+
+    fn create(&self) -> Result<u64, Error> {
+        Ok(0)
+    }
+}
+
+impl SummaryUpdatePolicy<u64> for Greatest {
+    ghost updates = { λ policy greatest value. Some (max greatest value) };
+
+    fn update(&self, greatest: &mut u64, value: u64) -> Result<(), Error> {
+        *greatest = value.max(*greatest);
+        Ok(())
+    }
+}
+
+/// The slowest call of each page, of the README.
+fn slowest(alloc: Global, calls: &[(&str, u64)]) -> Result<TupleSketch<Greatest>, Error> {
+    let mut sketch = TupleSketchBuilder::new(Greatest).build(alloc)?;
+    for (page, millis) in calls {
+        sketch.update(*page, *millis)?;
+    }
+    Ok(sketch)
+}
+
+/// How many entries a sketch of greatest values has after some values at key 9, and the greatest of these.
+fn greatest_of(alloc: Global, values: &[u64]) -> Result<(usize, Option<u64>), Error> {
+    let mut sketch = TupleSketchBuilder::new(Greatest).build(alloc)?;
+    for value in values {
+        sketch.update_hash(9, *value)?;
+    }
+    let greatest = sketch.iter().next().map(|entry| *entry.summary());
+    Ok((sketch.num_retained(), greatest))
+}
+
+#[test]
+fn greatest_values_are_kept(rt: HostRuntime) -> Result<(), Fail> {
+    assert_eq!(rt; greatest_of(rt.alloc(), &[3, 7, 5])?, (1, Some(7)));
+    let calls = [("home", 20), ("search", 310), ("home", 45), ("search", 170)];
+    let slowest = slowest(rt.alloc(), &calls)?;
+    let mut millis: Vec<u64> = slowest
+        .iter()
+        .map(|entry| *entry.summary())
+        .collect(rt.alloc())?;
+    millis.sort_unstable();
+    assert_eq!(rt; millis.as_slice(), [45, 310].as_slice());
+    Ok(())
+}
+
+/// Counts down from its start by each value, and refuses to go below 0; it creates nothing where the start is 0.
+#[derive(Debug, Clone, Copy)]
+struct Countdown {
+    start: u64,
+}
+
+impl SummaryPolicy for Countdown {
+    type Summary = u64;
+
+    ghost creates = { λ policy. if nat_lt 0 policy.start then Some policy.start else None };
+
+    fn create(&self) -> Result<u64, Error> {
+        if 0 < self.start {
+            Ok(self.start)
+        } else {
+            Err(Error::new(ErrorKind::Policy))
+        }
+    }
+}
+
+impl SummaryUpdatePolicy<u64> for Countdown {
+    ghost use Rattle.std.specs.Prelude.{◌-◌};
+
+    ghost updates = { λ policy left value. if nat_lt left value then None else Some (left - value) };
+
+    fn update(&self, left: &mut u64, value: u64) -> Result<(), Error> {
+        if *left < value {
+            return Err(Error::new(ErrorKind::Policy));
+        }
+        *left -= value;
+        Ok(())
+    }
+}
+
+/// A sketch that counts down from a start below a theta of 1000.
+fn counting(alloc: Global, start: u64) -> Result<TupleSketch<Countdown>, Error> {
+    let builder = TupleSketchBuilder::new(Countdown { start });
+    builder.starting_theta(1000).build(alloc)
+}
+
+/// What stands after a value at a hash: why it was refused, whether the sketch is empty, and what is left at key 9.
+fn after_value(
+    sketch: &mut TupleSketch<Countdown>,
+    hash: u64,
+    value: u64,
+) -> (Option<ErrorKind>, bool, Option<u64>) {
+    let refused = kind_of(sketch.update_hash(hash, value));
+    let left = sketch.iter().next().map(|entry| *entry.summary());
+    (refused, sketch.is_empty(), left)
+}
+
+#[test]
+fn refusals_change_nothing(rt: HostRuntime) -> Result<(), Fail> {
+    let refused = Some(ErrorKind::Policy);
+    // The start, a hash and a value, and what stands then. A screened hash calls no policy.
+    let rows = [
+        (0, 9, 0, (refused, true, None)),
+        (5, 9, 6, (refused, true, None)),
+        (5, 9, 2, (None, false, Some(3))),
+        (0, 0, 6, (None, false, None)),
+        (0, 1000, 6, (None, false, None)),
+        (0, 999, 6, (refused, true, None)),
+    ];
+    for (start, hash, value, wanted) in rows {
+        let mut sketch = counting(rt.alloc(), start)?;
+        let told = after_value(&mut sketch, hash, value);
+        assert_eq!(rt; told, wanted, "{value} at {hash}, from {start}");
+    }
+    Ok(())
+}
+
+#[test]
+fn a_refused_value_leaves_the_summary(rt: HostRuntime) -> Result<(), Fail> {
+    let refused = Some(ErrorKind::Policy);
+    let mut sketch = counting(rt.alloc(), 5)?;
+    // A value at key 9, and what stands then.
+    let rows = [
+        (2, (None, false, Some(3))),
+        (4, (refused, false, Some(3))),
+        (3, (None, false, Some(0))),
+        (1, (refused, false, Some(0))),
+    ];
+    for (value, wanted) in rows {
+        let told = after_value(&mut sketch, 9, value);
+        assert_eq!(rt; told, wanted, "after {value}");
+    }
+    Ok(())
+}
