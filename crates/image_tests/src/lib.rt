@@ -1,7 +1,15 @@
-//! Tests of images of theta sketches, by their bytes, with values from outside. It has no code of its own.
+//! Tests of images of theta and tuple sketches, by their bytes, with values from outside. It has no code of its own.
 #![tactic(auto)]
 
 #[cfg(test)]
 mod images;
 #[cfg(test)]
+mod letters;
+#[cfg(test)]
 mod readings;
+#[cfg(test)]
+mod tuple_images;
+#[cfg(test)]
+mod tuple_readings;
+#[cfg(test)]
+mod tuple_requests;

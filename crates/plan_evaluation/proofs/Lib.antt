@@ -1,2 +1,2 @@
-pub mod plans
+pub mod families
 pub mod evaluation

@@ -1,6 +1,8 @@
+pub mod Results
 pub mod LeafSteps
 pub mod JoinedParts
 pub mod SharedParts
-pub mod WrittenAndRead
-pub mod RefusedPlans
 pub mod NodeAnswers
+pub mod PlanRefusals
+pub mod OrderedSketches
+pub mod MergedSketches

@@ -1,4 +1,3 @@
-pub mod Value
-pub mod WholeStreams
-pub mod MergePlan
-pub mod Evaluated
+pub mod Came
+pub mod Refused
+pub mod Answered

@@ -1,7 +1,17 @@
-//! What plans of sketches come to, through the public calls of the sketches alone: the value of each node, the whole streams
-//! below it, and the one sketch that a plan is evaluated to.
+//! What plans of sketches come to, through the public calls of the sketches alone: the one sketch that a plan is evaluated
+//! to, with the plan's value and all of the whole streams' map below its theta. One evaluation serves both families; what it
+//! needs of a family is the trait `SketchFamily`.
 #![tactic(auto)]
 
 mod evaluate;
+mod evaluated;
+mod family;
+mod plans;
+mod theta;
+mod tuple;
 
-pub use evaluate::evaluate_theta;
+pub use evaluated::Evaluated;
+pub use family::SketchFamily;
+pub use plans::{evaluate_sums, evaluate_theta, evaluate_tuple};
+pub use theta::ThetaFamily;
+pub use tuple::TupleFamily;

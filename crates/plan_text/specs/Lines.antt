@@ -29,13 +29,19 @@ said_one first =
     if bytes_eq first (codes "reset") then Some (Step Reset) else
     if bytes_eq first (codes "minus") then Some (Node Minus) else None
 
--- `theta` and what is asked, `via` and an order, `add` and a hash, or `meet` and a count that isn't 0
+-- `theta` or `tuple` and what is asked, `via` and an order, `add` and a hash, or `meet` and a count that isn't 0
 abbrev pub said_two : List ℕ → List ℕ → Option Line
 said_two first second =
     if bytes_eq first (codes "theta") then (form_of second >>= λ form. Some (Command family.Theta form)) else
+    if bytes_eq first (codes "tuple") then (form_of second >>= λ form. Some (Command family.Tuple form)) else
     if bytes_eq first (codes "via") then (order_of second >>= λ ordered. Some (Node (Via ordered))) else
-    if bytes_eq first (codes "add") then (number second >>= λ hash. Some (Step (Add hash))) else
+    if bytes_eq first (codes "add") then (number second >>= λ hash. Some (Step (Add hash None))) else
     if bytes_eq first (codes "meet") then (small 4294967295 second >>= λ count. if count == 0 then None else Some (Node (Meet count))) else None
+
+-- `add`, then a hash and a number
+abbrev pub said_three : List ℕ → List ℕ → List ℕ → Option Line
+said_three first second third =
+    if bytes_eq first (codes "add") then (number second >>= λ hash. number third >>= λ value. Some (Step (Add hash (Some value)))) else None
 
 -- `leaf` or `union`, then the logarithm of the nominal entries, the starting theta and a count
 abbrev pub said_four : List ℕ → List ℕ → List ℕ → List ℕ → Option Line
@@ -49,5 +55,6 @@ said_four first second third fourth = do
 abbrev pub said : List (List ℕ) → Option Line
 said (first ∷ []) = said_one first
 said (first ∷ second ∷ []) = said_two first second
+said (first ∷ second ∷ third ∷ []) = said_three first second third
 said (first ∷ second ∷ third ∷ fourth ∷ []) = said_four first second third fourth
 said _ = None

@@ -72,11 +72,25 @@ step_in (line.Command family form) = None
 step_in (line.Node node) = None
 step_in (line.Step step) = Some step
 
--- the step of a theta plan that a line says
-abbrev pub theta_step : StepLine → Option (Step (Unit {0}))
-theta_step (steps.Add hash) = Some (step.Add hash tt)
-theta_step steps.Trim = Some step.Trim
-theta_step steps.Reset = Some step.Reset
+-- what an update of a theta plan carries beside its hash: nothing, where no number stands behind it
+abbrev pub theta_value : Option ℕ → Option (Unit {0})
+theta_value None = Some tt
+theta_value (Some number) = None
+
+-- what an update of a tuple plan carries beside its hash: the number behind it
+abbrev pub tuple_value : Option ℕ → Option ℕ
+tuple_value number = number
+
+-- an update with this hash and this value, if there is one
+abbrev pub adds : {V : Type 0} → ℕ → Option V → Option (Step V)
+adds hash None = None
+adds hash (Some value) = Some (step.Add hash value)
+
+-- the step that a line says, where `as_value` takes what stands behind a hash for a value
+abbrev pub step_of : {V : Type 0} → (as_value : Option ℕ → Option V) → StepLine → Option (Step V)
+step_of as_value (steps.Add hash number) = adds hash (as_value number)
+step_of as_value steps.Trim = Some step.Trim
+step_of as_value steps.Reset = Some step.Reset
 
 -- what the first line said and the lines after it, or a fault at that line
 abbrev pub or_stop : {X : Type 0} → Option X → Said → Result (X × Said) Stop
@@ -89,11 +103,11 @@ first_as kind [] = Err (syntax 0)
 first_as kind (None ∷ rest) = Err (syntax (suc (length rest)))
 first_as kind (Some l ∷ rest) = or_stop (kind l) rest
 
--- a step, where `step_of` says which step a line is
-abbrev pub step_at : {V : Type 0} → (StepLine → Option (Step V)) → Said → Result (Step V × Said) Stop
-step_at step_of lines = do
+-- a step
+abbrev pub step_at : {V : Type 0} → (as_value : Option ℕ → Option V) → Said → Result (Step V × Said) Stop
+step_at as_value lines = do
   first ← first_as step_in lines
-  or_stop (step_of first.0) first.1
+  or_stop (step_of as_value first.0) first.1
 
 -- so many things, one after the other, each of which `one` reads
 unfoldable pub many : {P : Type 0} → (Said → Result (P × Said) Stop) → ℕ → Said → Result (List P × Said) Stop
@@ -104,32 +118,32 @@ many one (suc n) lines = do
   Ok (first.0 ∷ others.0, others.1)
 
 -- the plan that a node's line begins, each of whose parts `part` reads
-unfoldable pub node_at : {V Z : Type 0} → (StepLine → Option (Step V)) → (part : Said → Result (Plan V Z × Said) Stop) → NodeLine → Said → Result (Plan V Z × Said) Stop
-node_at step_of part (node.Leaf lg_k start count) rest = do
-  steps ← many (step_at step_of) count rest
+unfoldable pub node_at : {V Z : Type 0} → (as_value : Option ℕ → Option V) → (part : Said → Result (Plan V Z × Said) Stop) → NodeLine → Said → Result (Plan V Z × Said) Stop
+node_at as_value part (node.Leaf lg_k start count) rest = do
+  steps ← many (step_at as_value) count rest
   Ok (plan.Leaf lg_k start steps.0, steps.1)
-node_at step_of part (node.Union lg_k start count) rest = do
+node_at as_value part (node.Union lg_k start count) rest = do
   parts ← many part count rest
   Ok (plan.Union lg_k start parts.0, parts.1)
-node_at step_of part (node.Meet count) rest = do
+node_at as_value part (node.Meet count) rest = do
   parts ← many part count rest
   Ok (plan.Meet parts.0, parts.1)
-node_at step_of part node.Minus rest = do
+node_at as_value part node.Minus rest = do
   first ← part rest
   second ← part first.1
   Ok (plan.Minus first.0 second.0, second.1)
-node_at step_of part (node.Via ordered) rest = do
+node_at as_value part (node.Via ordered) rest = do
   one ← part rest
   Ok (plan.Via ordered one.0, one.1)
 
 -- a plan of at most so many levels
-unfoldable pub plan_at : {V Z : Type 0} → (StepLine → Option (Step V)) → (levels : ℕ) → Said → Result (Plan V Z × Said) Stop
-plan_at step_of zero lines = do
+unfoldable pub plan_at : {V Z : Type 0} → (as_value : Option ℕ → Option V) → (levels : ℕ) → Said → Result (Plan V Z × Said) Stop
+plan_at as_value zero lines = do
   first ← first_as node_in lines
   Err (limit (suc (length first.1)))
-plan_at step_of (suc levels) lines = do
+plan_at as_value (suc levels) lines = do
   first ← first_as node_in lines
-  node_at step_of (plan_at step_of levels) first.0 first.1
+  node_at as_value (plan_at as_value levels) first.0 first.1
 
 -- nothing may follow
 abbrev pub ended : {X : Type 0} → X → Said → Result X Stop
@@ -137,16 +151,19 @@ ended x [] = Ok x
 ended x (said ∷ rest) = Err (syntax (suc (length rest)))
 
 -- a plan of at most 64 levels, and nothing after it
-unfoldable pub whole_at : {V Z : Type 0} → (StepLine → Option (Step V)) → Said → Result (Plan V Z) Stop
-whole_at step_of lines = do
-  plan ← plan_at step_of 64 lines
+unfoldable pub whole_at : {V Z : Type 0} → (as_value : Option ℕ → Option V) → Said → Result (Plan V Z) Stop
+whole_at as_value lines = do
+  plan ← plan_at as_value 64 lines
   ended plan.0 plan.1
 
 -- the command of a family, whose plan is on these lines
 unfoldable pub asked_at : {Z : Type 0} → Family → Form → Said → Result (Command Z) Stop
 asked_at family.Theta form lines = do
-  plan ← whole_at theta_step lines
+  plan ← whole_at theta_value lines
   Ok (command.Theta form plan)
+asked_at family.Tuple form lines = do
+  plan ← whole_at tuple_value lines
+  Ok (command.Tuple form plan)
 
 -- a whole text
 unfoldable pub command_at : {Z : Type 0} → Said → Result (Command Z) Stop

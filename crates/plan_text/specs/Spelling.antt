@@ -1,5 +1,5 @@
 -- The lines of a command, in prefix order.
-use Rattle.std.specs.Prelude.{◌≡◌, ℕ, suc, ◌≤◌, max, List, [], ◌∷◌, ◌++◌, length, map, Option, Some}
+use Rattle.std.specs.Prelude.{◌≡◌, ℕ, suc, ◌≤◌, max, List, [], ◌∷◌, ◌++◌, length, map, Option, Some, None}
 use Rattle.plan_text.specs.declared.plan.Plan.{Plan}
 use Rattle.plan_text.specs.declared.plan.Plan.TheOpen.{Plan-F}
 use Rattle.plan_text.specs.declared.plan.Plan.TheFolds.{fold-Plan}
@@ -15,15 +15,23 @@ use Rattle.plan_text.specs.declared.command.Command.{Command}
 use Rattle.plan_text.specs.declared.command.Command.TheVariants as command
 use Rattle.plan_text.specs.Reading.{Said, says}
 
--- the line of a step of a theta plan
-abbrev pub theta_line : Step (Unit {0}) → StepLine
-theta_line (step.Add hash value) = steps.Add hash
-theta_line step.Trim = steps.Trim
-theta_line step.Reset = steps.Reset
+-- what stands behind the hash of an update of a theta plan: no number
+abbrev pub theta_number : Unit {0} → Option ℕ
+theta_number value = None
+
+-- what stands behind the hash of an update of a tuple plan: its value
+abbrev pub tuple_number : ℕ → Option ℕ
+tuple_number value = Some value
+
+-- the line of a step, where `as_number` says what stands behind the hash of an update
+abbrev pub step_line : {V : Type 0} → (as_number : V → Option ℕ) → Step V → StepLine
+step_line as_number (step.Add hash value) = steps.Add hash (as_number value)
+step_line as_number step.Trim = steps.Trim
+step_line as_number step.Reset = steps.Reset
 
 -- the lines of steps, one for each
-abbrev pub step_lines : {V : Type 0} → (Step V → StepLine) → List (Step V) → List Line
-step_lines step_line steps = map (λ s. line.Step (step_line s)) steps
+abbrev pub step_lines : {V : Type 0} → (as_number : V → Option ℕ) → List (Step V) → List Line
+step_lines as_number steps = map (λ s. line.Step (step_line as_number s)) steps
 
 -- lists, one after the other
 abbrev pub joined : {X : Type 0} → List (List X) → List X
@@ -31,15 +39,15 @@ joined [] = []
 joined (xs ∷ others) = xs ++ joined others
 
 -- a node's line, and then those of its steps, of its parts or of its operands
-abbrev pub node_lines : {V Z : Type 0} → (Step V → StepLine) → Plan-F V Z (List Line) → List Line
-node_lines step_line (Plan-F.Leaf lg_k start steps) = line.Node (node.Leaf lg_k start (length steps)) ∷ step_lines step_line steps
-node_lines step_line (Plan-F.Union lg_k start parts) = line.Node (node.Union lg_k start (length parts)) ∷ joined parts
-node_lines step_line (Plan-F.Meet parts) = line.Node (node.Meet (length parts)) ∷ joined parts
-node_lines step_line (Plan-F.Minus first second) = line.Node node.Minus ∷ first ++ second
-node_lines step_line (Plan-F.Via ordered part) = line.Node (node.Via ordered) ∷ part
+abbrev pub node_lines : {V Z : Type 0} → (as_number : V → Option ℕ) → Plan-F V Z (List Line) → List Line
+node_lines as_number (Plan-F.Leaf lg_k start steps) = line.Node (node.Leaf lg_k start (length steps)) ∷ step_lines as_number steps
+node_lines as_number (Plan-F.Union lg_k start parts) = line.Node (node.Union lg_k start (length parts)) ∷ joined parts
+node_lines as_number (Plan-F.Meet parts) = line.Node (node.Meet (length parts)) ∷ joined parts
+node_lines as_number (Plan-F.Minus first second) = line.Node node.Minus ∷ first ++ second
+node_lines as_number (Plan-F.Via ordered part) = line.Node (node.Via ordered) ∷ part
 
-abbrev pub plan_lines : {V Z : Type 0} → (Step V → StepLine) → Plan V Z → List Line
-plan_lines {V} {Z} step_line = fold-Plan V Z (List Line) (node_lines step_line)
+abbrev pub plan_lines : {V Z : Type 0} → (as_number : V → Option ℕ) → Plan V Z → List Line
+plan_lines {V} {Z} as_number = fold-Plan V Z (List Line) (node_lines as_number)
 
 abbrev pub greatest : List ℕ → ℕ
 greatest [] = 0
@@ -59,10 +67,12 @@ levels_of {V} {Z} = fold-Plan V Z ℕ node_levels
 
 -- the family and the form, and then the plan's lines
 abbrev pub command_lines : {Z : Type 0} → Command Z → List Line
-command_lines (command.Theta form plan) = line.Command family.Theta form ∷ plan_lines theta_line plan
+command_lines (command.Theta form plan) = line.Command family.Theta form ∷ plan_lines theta_number plan
+command_lines (command.Tuple form plan) = line.Command family.Tuple form ∷ plan_lines tuple_number plan
 
 abbrev pub command_levels : {Z : Type 0} → Command Z → ℕ
 command_levels (command.Theta form plan) = levels_of plan
+command_levels (command.Tuple form plan) = levels_of plan
 
 -- these lines, and no others, say a command's
 abbrev pub Say : {Z : Type 0} → Said → Command Z → Type 0

@@ -8,6 +8,8 @@ use std::alloc::{Allocator, Global};
 pub enum Family {
     /// Theta sketches, whose updates carry a hash and nothing else.
     Theta,
+    /// Tuple sketches, whose updates carry a hash and a value.
+    Tuple,
 }
 
 /// What is to be answered of the sketch that a plan comes to.
@@ -24,4 +26,6 @@ pub enum Form {
 pub enum Command<A: Allocator = Global> {
     /// A plan of theta sketches.
     Theta(Form, Plan<(), A>),
+    /// A plan of tuple sketches.
+    Tuple(Form, Plan<u64, A>),
 }

@@ -8,7 +8,7 @@ use crate::fault::ReadError;
 use crate::items::Items;
 use crate::line::{Line, NodeLine, StepLine, line_of};
 use crate::plan::{Plan, Step};
-use crate::step_value::StepValue;
+use crate::step_value::{StepValue, step_of};
 use crate::text::next_line;
 use std::alloc::{AllocError, Allocator};
 
@@ -62,10 +62,10 @@ fn step_line(text: &[u8]) -> Result<(StepLine, &[u8]), ReadError<'_>>
 
 /// One step, and the text after it.
 fn step<V: StepValue>(text: &[u8]) -> Result<(Step<V>, &[u8]), ReadError<'_>>
-    ensures { Gives (λ x. (x.0, says x.1.now)) result (step_at V.step_of (says text.now)) }
+    ensures { Gives (λ x. (x.0, says x.1.now)) result (step_at V.as_value (says text.now)) }
 {
     let (line, rest) = step_line(text)?;
-    match V::step(line) {
+    match step_of::<V>(line) {
         Some(step) => Ok((step, rest)),
         None => Err(ReadError::Syntax(text)),
     }
@@ -77,7 +77,7 @@ fn steps<'a, V: StepValue, A: Allocator + Clone>(
     count: u32,
     text: &'a [u8],
 ) -> Result<(Vec<Step<V>, A>, &'a [u8]), ReadError<'a>>
-    ensures { Gives (λ x. (x.0.items, says x.1.now)) result (many (step_at V.step_of) count (says text.now)) }
+    ensures { Gives (λ x. (x.0.items, says x.1.now)) result (many (step_at V.as_value) count (says text.now)) }
 {
     let mut steps = Vec::new(alloc.clone()?);
     let mut rest = text;
@@ -108,7 +108,7 @@ fn parts<'a, V: StepValue, A: Allocator + Clone>(
     count: u32,
     text: &'a [u8],
 ) -> Result<(Vec<Plan<V, A>, A>, &'a [u8]), ReadError<'a>>
-    ensures { Gives (λ x. (x.0.items, says x.1.now)) result (many (plan_at V.step_of levels) count (says text.now)) }
+    ensures { Gives (λ x. (x.0.items, says x.1.now)) result (many (plan_at V.as_value levels) count (says text.now)) }
 {
     let mut parts = Vec::new(alloc.clone()?);
     let mut rest = text;
@@ -127,7 +127,7 @@ pub fn plan<'a, V: StepValue, A: Allocator + Clone>(
     levels: u8,
     text: &'a [u8],
 ) -> Result<(Plan<V, A>, &'a [u8]), ReadError<'a>>
-    ensures { Gives (λ x. (x.0, says x.1.now)) result (plan_at V.step_of levels (says text.now)) }
+    ensures { Gives (λ x. (x.0, says x.1.now)) result (plan_at V.as_value levels (says text.now)) }
 {
     let (line, rest) = node_line(text)?;
     if levels == 0 {
@@ -144,7 +144,7 @@ fn node<'a, V: StepValue, A: Allocator + Clone>(
     line: NodeLine,
     text: &'a [u8],
 ) -> Result<(Plan<V, A>, &'a [u8]), ReadError<'a>>
-    ensures { Gives (λ x. (x.0, says x.1.now)) result (node_at V.step_of (plan_at V.step_of levels) line (says text.now)) }
+    ensures { Gives (λ x. (x.0, says x.1.now)) result (node_at V.as_value (plan_at V.as_value levels) line (says text.now)) }
 {
     match line {
         NodeLine::Leaf { lg_k, start, count } => {

@@ -1,7 +1,7 @@
 //! What one line says.
 ghost use Rattle.std.specs.Prelude.{◌≡◌, ◌∷◌, ◌≤◌};
 ghost use Rattle.plan_text.specs.Words.{words, more_words, number, small, start_of};
-ghost use Rattle.plan_text.specs.Lines.{form_of, order_of, said, said_one, said_two, said_four};
+ghost use Rattle.plan_text.specs.Lines.{form_of, order_of, said, said_one, said_two, said_three, said_four};
 
 use crate::command::{Family, Form};
 use crate::text::cut;
@@ -37,8 +37,8 @@ pub enum NodeLine {
 /// A line that is a step of a leaf.
 #[derive(Clone, Copy)]
 pub enum StepLine {
-    /// An update with this hash.
-    Add(u64),
+    /// An update with this hash, and with this number where one stands behind the hash.
+    Add(u64, Option<u64>),
     Trim,
     Reset,
 }
@@ -133,13 +133,17 @@ fn two_words(first: &[u8], second: &[u8]) -> Option<Line>
         let form = form_of(second)?;
         return Some(Line::Command(Family::Theta, form));
     }
+    if first == b"tuple".as_slice() {
+        let asked = form_of(second)?;
+        return Some(Line::Command(Family::Tuple, asked));
+    }
     if first == b"via".as_slice() {
         let ordered = order_of(second)?;
         return Some(Line::Node(NodeLine::Via { ordered }));
     }
     if first == b"add".as_slice() {
         let hash = number(second)?;
-        return Some(Line::Step(StepLine::Add(hash)));
+        return Some(Line::Step(StepLine::Add(hash, None)));
     }
     if first == b"meet".as_slice() {
         let count = u32::try_from(number(second)?).ok()?;
@@ -147,6 +151,18 @@ fn two_words(first: &[u8], second: &[u8]) -> Option<Line>
             return None;
         }
         return Some(Line::Node(NodeLine::Meet { count }));
+    }
+    None
+}
+
+/// What a line of three words says.
+fn three_words(first: &[u8], second: &[u8], third: &[u8]) -> Option<Line>
+    ensures { result ≡ said_three first.now second.now third.now }
+{
+    if first == b"add".as_slice() {
+        let hash = number(second)?;
+        let value = number(third)?;
+        return Some(Line::Step(StepLine::Add(hash, Some(value))));
     }
     None
 }
@@ -181,7 +197,7 @@ pub fn line_of(line: &[u8]) -> Option<Line>
     };
     let (third, rest) = word(rest);
     let Some(rest) = rest else {
-        return None;
+        return three_words(first, second, third);
     };
     let (fourth, rest) = word(rest);
     if rest.is_some() {

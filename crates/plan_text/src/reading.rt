@@ -22,7 +22,7 @@ fn whole_plan<'a, V: StepValue, A: Allocator + Clone>(
     alloc: &A,
     text: &'a [u8],
 ) -> Result<Plan<V, A>, ReadError<'a>>
-    ensures { Gives (λ x. x) result (whole_at V.step_of (says text.now)) }
+    ensures { Gives (λ x. x) result (whole_at V.as_value (says text.now)) }
 {
     let (plan, rest) = plan::<V, A>(alloc, LEVELS, text)?;
     if rest.is_empty() {
@@ -41,6 +41,10 @@ fn command<'a, A: Allocator + Clone>(alloc: &A, text: &'a [u8]) -> Result<Comman
         Family::Theta => {
             let plan = whole_plan::<(), A>(alloc, rest)?;
             Ok(Command::Theta(form, plan))
+        }
+        Family::Tuple => {
+            let plan = whole_plan::<u64, A>(alloc, rest)?;
+            Ok(Command::Tuple(form, plan))
         }
     }
 }

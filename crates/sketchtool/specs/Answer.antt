@@ -1,24 +1,30 @@
 -- What is written for an input.
-use Rattle.std.specs.Prelude.{◌≡◌, ◌≢◌, ℕ, List, [], ◌∷◌, ◌++◌, ◌+◌, ◌/◌, ◌%◌, length, codes, nat_lt, Bool, true, false, if◌then◌else◌, Option, Some, None, decimal}
+use Rattle.std.specs.Prelude.{◌≡◌, ℕ, List, [], ◌∷◌, ◌++◌, ◌+◌, ◌/◌, ◌%◌, length, codes, nat_lt, IsTrue, Bool, true, false, if◌then◌else◌, Option, Some, None, decimal}
+use Rattle.std.specs.Int.{w64, to_le_bytes}
 use Rattle.std.specs.List.{flat_map}
-use Rattle.std.specs.Io.KnownBytes.{Appends}
 use Rattle.sketch_base.specs.Seed.{seed_hash}
 use Rattle.sketch_base.specs.declared.seed.TheConstants.{DEFAULT_UPDATE_SEED}
 use Rattle.sketch_base.specs.declared.error.ErrorKind.{ErrorKind}
-use Rattle.sketch_base.specs.declared.error.ErrorKind.TheVariants.{InvalidArgument}
+use Rattle.sketch_base.specs.declared.error.ErrorKind.TheVariants.{InvalidArgument, Policy}
 use Rattle.theta_laws.specs.declared.TheConstants.{MAX_THETA}
-use Rattle.theta_table.specs.CompactState.{Compact}
+use Rattle.theta_laws.specs.Folds.{Fold, unmarked_value}
 use Rattle.theta_laws.specs.Values.{Sketch, Empty, NonEmpty}
+use Rattle.theta_table.specs.CompactState.{Compact}
+use Rattle.theta_table.specs.declared.entry.TupleEntry.{TupleEntry}
+use Rattle.theta_policies.specs.Sums.{unsigned_sum}
 use Rattle.plan_text.specs.declared.command.Command.{Command}
-use Rattle.plan_text.specs.declared.command.Command.TheVariants.{Theta}
+use Rattle.plan_text.specs.declared.command.Command.TheVariants.{Theta, Tuple}
 use Rattle.plan_text.specs.declared.command.Form.{Form}
 use Rattle.plan_text.specs.declared.command.Form.TheVariants.{Show, Image}
 use Rattle.plan_text.specs.declared.fault.Fault.TheVariants.{Syntax, Limit}
 use Rattle.plan_text.specs.Spelling.{Spells}
 use Rattle.plan_text.specs.Faults.{fault_of}
 use Rattle.theta_sketches.specs.Image.{written}
-use Rattle.plan_evaluation.specs.Evaluated.{ordered_sketch}
-use Rattle.plan_evaluation.specs.Value.{value_of, plan_refusal}
+use Rattle.tuple_sketches.specs.Image.{written as written_tuples}
+use Rattle.plan_values.specs.Family.{Family, tuple_folds}
+use Rattle.plan_values.specs.Refusals.{may_refuse}
+use Rattle.plan_values.specs.Value.{value_of, value_in, plan_refusal}
+use Rattle.plan_evaluation.specs.Answered.{ordered_sketch}
 
 -- a text and the LF that ends its line
 abbrev pub ended_line : List ℕ → List ℕ
@@ -28,21 +34,16 @@ ended_line text = text ++ 10 ∷ []
 abbrev pub number_line : ℕ → List ℕ
 number_line n = ended_line (decimal n)
 
--- whether a sketch is empty, its theta, and how many hashes it retains
+-- a hash and its summary on a line of their own
+abbrev pub tuple_line : TupleEntry ℕ → List ℕ
+tuple_line e = ended_line (decimal e.hash ++ 32 ∷ decimal e.summary)
+
+-- whether a sketch is empty, its theta, and how many entries it retains
 abbrev pub shown_head : Bool → ℕ → ℕ → List ℕ
 shown_head empty theta count =
     ended_line (codes "empty " ++ (if empty then codes "yes" else codes "no"))
     ++ codes "theta " ++ number_line theta
     ++ codes "count " ++ number_line count
-
--- the text of `show`: this, and then the hashes, one on a line
-abbrev pub shown_text : Bool → ℕ → List ℕ → List ℕ
-shown_text empty theta hashes = shown_head empty theta (length hashes) ++ flat_map number_line hashes
-
--- the text of `show` for a value: Empty has the greatest theta and no hashes
-abbrev pub shown : Sketch ℕ → List ℕ
-shown Empty = shown_text true MAX_THETA []
-shown (NonEmpty v) = shown_text false v.theta v.entries
 
 -- a byte as two digits of lower-case hexadecimal
 abbrev pub hex_digit : ℕ → ℕ
@@ -55,9 +56,41 @@ hex_byte byte = hex_digit (byte / 16) ∷ hex_digit (byte % 16) ∷ []
 abbrev pub hex_line : List ℕ → List ℕ
 hex_line bytes = ended_line (flat_map hex_byte bytes)
 
+-- the texts of the sketches of a family: the line of an entry, and the image that is written of a sketch
+pub record Texts (X : Type 0) : Type 0 where
+  pub line : X → List ℕ
+  pub image : Compact X → List ℕ
+
+-- those of theta sketches
+abbrev pub theta_texts : Texts ℕ
+theta_texts = record { line = number_line; image = written }
+
+-- those of tuple sketches, whose summaries are numbers of eight bytes in an image
+abbrev pub tuple_texts : Texts (TupleEntry ℕ)
+tuple_texts = record { line = tuple_line; image = written_tuples (λ summary. to_le_bytes w64 summary) }
+
+-- the text of `show`: this, and then the entries, one on a line
+abbrev pub shown_text : {X : Type 0} → Texts X → Bool → ℕ → List X → List ℕ
+shown_text texts empty theta entries = shown_head empty theta (length entries) ++ flat_map texts.line entries
+
+-- the text of `show` for a value: Empty has the greatest theta and no entries
+abbrev pub shown : {X : Type 0} → Texts X → Sketch X → List ℕ
+shown texts Empty = shown_text texts true MAX_THETA []
+shown texts (NonEmpty v) = shown_text texts false v.theta v.entries
+
 -- the text of `image` for a value: what is written of its ordered sketch
-abbrev pub imaged : Sketch ℕ → (seed_hash : ℕ) → List ℕ
-imaged v seed_hash = hex_line (written (ordered_sketch v seed_hash))
+abbrev pub imaged : {X : Type 0} → Texts X → Sketch X → (seed_hash : ℕ) → List ℕ
+imaged texts v seed_hash = hex_line (texts.image (ordered_sketch v seed_hash))
+
+-- the text of a sketch in a form
+abbrev pub sketch_text : {X : Type 0} → Texts X → Form → Compact X → List ℕ
+sketch_text texts Show s = shown_text texts s.empty s.theta s.entries
+sketch_text texts Image s = hex_line (texts.image s)
+
+-- the text of a value in a form, under the default seed
+abbrev pub value_text : {X : Type 0} → Texts X → Form → Sketch X → List ℕ
+value_text texts Show v = shown texts v
+value_text texts Image v = imaged texts v (seed_hash DEFAULT_UPDATE_SEED)
 
 -- `error`, a line's number and what it is at fault in
 abbrev pub fault_line : ℕ → List ℕ → List ℕ
@@ -66,32 +99,43 @@ fault_line line kind = ended_line (codes "error " ++ decimal line ++ 32 ∷ kind
 abbrev pub argument_line : List ℕ
 argument_line = ended_line (codes "error argument")
 
+abbrev pub policy_line : List ℕ
+policy_line = ended_line (codes "error policy")
+
 abbrev pub memory_line : List ℕ
 memory_line = ended_line (codes "error memory")
 
--- the text of a sketch in a form
-abbrev pub sketch_text : Form → Compact ℕ → List ℕ
-sketch_text Show s = shown_text s.empty s.theta s.entries
-sketch_text Image s = hex_line (written s)
+-- the line of a refused evaluation; of want of memory another tells
+abbrev pub refusal_line : ErrorKind → Option (List ℕ)
+refusal_line InvalidArgument = Some argument_line
+refusal_line Policy = Some policy_line
+refusal_line _ = None
 
--- the text of a value in a form, under the default seed
-abbrev pub value_text : Form → Sketch ℕ → List ℕ
-value_text Show v = shown v
-value_text Image v = imaged v (seed_hash DEFAULT_UPDATE_SEED)
+-- the program's tuple sketches: the values of a key add up from 0, in 64 bits, and so do the summaries that inputs share
+abbrev pub sums : Family (Fold (TupleEntry ℕ)) ℕ
+sums = tuple_folds (Some 0) (unsigned_sum 64) (unsigned_sum 64)
 
--- the text that answers a command
-abbrev pub command_text : {Z : Type 0} → Command Z → List ℕ
-command_text (Theta form plan) = value_text form (value_of plan)
+-- the text shows what a command asks of its plan's value, which has no mark where the plan is of tuple sketches
+abbrev pub Shows : {Z : Type 0} → Command Z → List ℕ → Type 0
+Shows (Theta form plan) text = text ≡ value_text theta_texts form (value_of plan)
+Shows (Tuple form plan) text = (v : Sketch (TupleEntry ℕ)) × (unmarked_value v ≡ value_in sums plan) × (text ≡ value_text tuple_texts form v)
 
--- what the evaluation of a command's plan is refused with
+-- what the evaluation of a command's plan is refused with, whatever its policies say
 abbrev pub command_refusal : {Z : Type 0} → Command Z → Option ErrorKind
 command_refusal (Theta form plan) = plan_refusal DEFAULT_UPDATE_SEED plan
+command_refusal (Tuple form plan) = plan_refusal DEFAULT_UPDATE_SEED plan
 
--- the status and the text that may answer an input: what answers its command, a refused evaluation,
--- the first fault of the input, or want of memory
+-- whether a policy may refuse the evaluation of a command's plan: theta sketches have none that does
+abbrev pub may_break : {Z : Type 0} → Command Z → Bool
+may_break (Theta form plan) = false
+may_break (Tuple form plan) = may_refuse sums plan
+
+-- the status and the text that may answer an input: what answers its command, an evaluation refused for an argument or by a
+-- policy, the first fault of the input, or want of memory
 pub data Answers (Z : Type 0) (input : List ℕ) : ℕ → List ℕ → Type 0 where
-  shows : (command : Command Z) → Spells input command → command_refusal command ≡ None → Answers Z input 0 (command_text command)
+  shows : (command : Command Z) (text : List ℕ) → Spells input command → command_refusal command ≡ None → Shows command text → Answers Z input 0 text
   argument : (command : Command Z) → Spells input command → command_refusal command ≡ Some InvalidArgument → Answers Z input 1 argument_line
+  policy : (command : Command Z) → Spells input command → IsTrue (may_break command) → Answers Z input 1 policy_line
   wrong : (line : ℕ) → fault_of input ≡ Some (Syntax line) → Answers Z input 1 (fault_line line (codes "syntax"))
   too_deep : (line : ℕ) → fault_of input ≡ Some (Limit line) → Answers Z input 1 (fault_line line (codes "limit"))
   no_memory : Answers Z input 1 memory_line

@@ -1,24 +1,33 @@
 //! The text that answers an input.
-ghost use Rattle.std.specs.Prelude.{◌≡◌, ◌++◌, OnOk, IfOk, string_bytes};
-ghost use Rattle.sketch_base.specs.declared.error.ErrorKind.TheVariants.{InvalidArgument};
-ghost use Rattle.plan_text.specs.declared.command.Command.TheVariants.{Theta};
-ghost use Rattle.sketchtool.specs.Answer.{Answers, AnswersCommand, number_line, shown_head, shown_text, hex_byte, hex_line, sketch_text, fault_line, argument_line};
-ghost use Rattle.theta_sketches.specs.Image.{written};
+ghost use Rattle.std.specs.Prelude.{◌≡◌, ◌++◌, Some, OnOk, IfOk, string_bytes};
+ghost use Rattle.plan_text.specs.declared.command.Command.TheVariants.{Theta, Tuple};
+ghost use Rattle.sketchtool.specs.Answer.{Answers, AnswersCommand, number_line, tuple_line, theta_texts, tuple_texts, shown_head, shown_text, hex_byte, hex_line, sketch_text, fault_line, refusal_line};
 
-use plan_evaluation::evaluate_theta;
+use plan_evaluation::{evaluate_sums, evaluate_theta};
 use plan_text::{Command, Fault, Form, Plan, read_plan};
 use sketch_base::{DEFAULT_UPDATE_SEED, Error, ErrorKind};
 use std::alloc::{AllocError, Allocator};
+use theta_core::TupleEntry;
 use theta_sketches::CompactThetaSketch;
+use tuple_sketches::CompactTupleSketch;
 
-/// Puts a number on a line of its own.
+/// Puts a hash on a line of its own.
 fn put_line<A: Allocator>(text: &mut String<A>, number: u64) -> Result<(), AllocError>
     ensures { OnOk result (string_bytes text.new ≡ string_bytes text.old ++ number_line number) }
 {
     writeln!(text, "{number}")
 }
 
-/// Puts what stands before the hashes.
+/// Puts a hash and its summary on a line of their own.
+fn put_tuple<A: Allocator>(text: &mut String<A>, entry: &TupleEntry<u64>) -> Result<(), AllocError>
+    ensures { OnOk result (string_bytes text.new ≡ string_bytes text.old ++ tuple_line entry.now) }
+{
+    let hash = entry.hash();
+    let summary = *entry.summary();
+    writeln!(text, "{hash} {summary}")
+}
+
+/// Puts what stands before the entries.
 fn put_head<A: Allocator>(
     text: &mut String<A>,
     empty: bool,
@@ -38,7 +47,7 @@ fn show_text<A: Allocator, B: Allocator>(
     alloc: A,
     sketch: &CompactThetaSketch<B>,
 ) -> Result<String<A>, AllocError>
-    ensures { IfOk result (λ text. string_bytes text ≡ shown_text sketch.now.empty sketch.now.theta sketch.now.entries) }
+    ensures { IfOk result (λ text. string_bytes text ≡ shown_text theta_texts sketch.now.empty sketch.now.theta sketch.now.entries) }
 {
     let mut text = String::new(alloc);
     put_head(
@@ -49,6 +58,26 @@ fn show_text<A: Allocator, B: Allocator>(
     )?;
     for entry in sketch.iter() {
         put_line(&mut text, entry.hash())?;
+    }
+    Ok(text)
+}
+
+/// The text of `show` for a tuple sketch: the same, and beside each hash its summary.
+fn show_tuples<A: Allocator, B: Allocator>(
+    alloc: A,
+    sketch: &CompactTupleSketch<u64, B>,
+) -> Result<String<A>, AllocError>
+    ensures { IfOk result (λ text. string_bytes text ≡ shown_text tuple_texts sketch.now.empty sketch.now.theta sketch.now.entries) }
+{
+    let mut text = String::new(alloc);
+    put_head(
+        &mut text,
+        sketch.is_empty(),
+        sketch.theta64(),
+        sketch.num_retained(),
+    )?;
+    for entry in sketch.iter() {
+        put_tuple(&mut text, entry)?;
     }
     Ok(text)
 }
@@ -67,15 +96,15 @@ fn refused_text<A: Allocator + Clone>(
     alloc: &A,
     refused: Error,
 ) -> Result<(u8, String<A>), AllocError>
-    ensures { IfOk result (λ x. (refused ≡ InvalidArgument) × (x.0 ≡ 1) × (string_bytes x.1 ≡ argument_line)) }
+    ensures { IfOk result (λ x. (x.0 ≡ 1) × (refusal_line refused ≡ Some (string_bytes x.1))) }
 {
-    match refused.kind() {
-        ErrorKind::InvalidArgument => {
-            let text = String::from_str(alloc.clone()?, "error argument\n")?;
-            Ok((1, text))
-        }
-        _ => Err(AllocError),
-    }
+    let line = match refused.kind() {
+        ErrorKind::InvalidArgument => "error argument\n",
+        ErrorKind::Policy => "error policy\n",
+        _ => return Err(AllocError),
+    };
+    let text = String::from_str(alloc.clone()?, line)?;
+    Ok((1, text))
 }
 
 /// Puts a byte as two digits of lower-case hexadecimal.
@@ -102,12 +131,25 @@ fn image_text<A: Allocator, B: Allocator + Clone>(
     alloc: A,
     sketch: &CompactThetaSketch<B>,
 ) -> Result<String<A>, AllocError>
-    ensures { IfOk result (λ text. string_bytes text ≡ hex_line (written sketch.now)) }
+    ensures { IfOk result (λ text. string_bytes text ≡ hex_line (theta_texts.image sketch.now)) }
 {
     let Ok(image) = sketch.serialize() else {
         return Err(AllocError);
     };
     hex_text(alloc, image.as_slice())
+}
+
+/// The text of `image` for a tuple sketch, of the same form.
+fn image_tuples<A: Allocator, B: Allocator + Clone>(
+    alloc: A,
+    sketch: &CompactTupleSketch<u64, B>,
+) -> Result<String<A>, AllocError>
+    ensures { IfOk result (λ text. string_bytes text ≡ hex_line (tuple_texts.image sketch.now)) }
+{
+    let Ok(bytes) = sketch.serialize() else {
+        return Err(AllocError);
+    };
+    hex_text(alloc, bytes.as_slice())
 }
 
 /// The text of a sketch in the form that is asked for.
@@ -116,11 +158,25 @@ fn sketch_text<A: Allocator, B: Allocator + Clone>(
     form: Form,
     sketch: &CompactThetaSketch<B>,
 ) -> Result<String<A>, AllocError>
-    ensures { IfOk result (λ text. string_bytes text ≡ sketch_text form sketch.now) }
+    ensures { IfOk result (λ text. string_bytes text ≡ sketch_text theta_texts form sketch.now) }
 {
     match form {
         Form::Show => show_text(alloc, sketch),
         Form::Image => image_text(alloc, sketch),
+    }
+}
+
+/// The text of a tuple sketch in the form that is asked for.
+fn tuple_text<A: Allocator, B: Allocator + Clone>(
+    alloc: A,
+    form: Form,
+    sketch: &CompactTupleSketch<u64, B>,
+) -> Result<String<A>, AllocError>
+    ensures { IfOk result (λ text. string_bytes text ≡ sketch_text tuple_texts form sketch.now) }
+{
+    match form {
+        Form::Show => show_tuples(alloc, sketch),
+        Form::Image => image_tuples(alloc, sketch),
     }
 }
 
@@ -141,6 +197,23 @@ fn theta_answer<A: Allocator + Clone>(
     }
 }
 
+/// The status and the text that answer a plan of tuple sketches in a form: the values of a key add up, and so do its summaries.
+fn tuple_answer<A: Allocator + Clone>(
+    alloc: &A,
+    form: Form,
+    plan: &Plan<u64, A>,
+) -> Result<(u8, String<A>), AllocError>
+    ensures { IfOk result (λ x. AnswersCommand (Tuple form plan.now) x.0 (string_bytes x.1)) }
+{
+    match evaluate_sums(alloc.clone()?, plan, DEFAULT_UPDATE_SEED) {
+        Ok(sketch) => {
+            let text = tuple_text(alloc.clone()?, form, &sketch)?;
+            Ok((0, text))
+        }
+        Err(refused) => refused_text(alloc, refused),
+    }
+}
+
 /// The status and the text that answer a command.
 fn command_answer<A: Allocator + Clone>(
     alloc: &A,
@@ -150,6 +223,7 @@ fn command_answer<A: Allocator + Clone>(
 {
     match command {
         Command::Theta(form, plan) => theta_answer(alloc, *form, plan),
+        Command::Tuple(form, plan) => tuple_answer(alloc, *form, plan),
     }
 }
 

@@ -1,5 +1,5 @@
 //! `sketchtool` reads one command from standard input: a line that says what is asked, and a plan
-//! of theta sketches in prefix order. It writes the answer, or the first fault of the text, to
+//! of theta or of tuple sketches in prefix order. It writes the answer, or the first fault of the text, to
 //! standard output, and nothing elsewhere. What it writes is a function of what it reads, and its
 //! status tells an answer (0) from a fault (1) and from a failed read or write (2).
 #![tactic(auto)]

@@ -3,6 +3,7 @@
 
 mod fakes;
 mod requests;
+mod tuples;
 
 use crate::run::{Ending, run};
 use fakes::{After, Pieces, Room};
@@ -12,7 +13,7 @@ use std::io::{ErrorKind, Read};
 use std::test::Fail;
 
 /// Faults, each the whole answer with status 1.
-const FAULTS: [(&str, &str); 53] = [
+const FAULTS: [(&str, &str); 61] = [
     ("", "error 1 syntax\n"),
     ("\n", "error 1 syntax\n"),
     ("theta show\r\n", "error 1 syntax\n"),
@@ -20,8 +21,19 @@ const FAULTS: [(&str, &str); 53] = [
     (" theta show\n", "error 1 syntax\n"),
     ("theta show \n", "error 1 syntax\n"),
     ("theta\n", "error 1 syntax\n"),
-    ("tuple show\nleaf 5 max 0\n", "error 1 syntax\n"),
-    ("tuple image\nleaf 5 max 0\n", "error 1 syntax\n"),
+    ("tuple\n", "error 1 syntax\n"),
+    ("tuple  show\n", "error 1 syntax\n"),
+    ("tuples show\nleaf 5 max 0\n", "error 1 syntax\n"),
+    ("tuple show\n", "error 2 syntax\n"),
+    ("tuple image\nmeet 0\n", "error 2 syntax\n"),
+    ("tuple show\nvia ordered\n", "error 3 syntax\n"),
+    ("tuple show\nleaf 5 max 1\nadd 5\n", "error 3 syntax\n"),
+    ("tuple show\nleaf 5 max 1\nadd 5 3 4\n", "error 3 syntax\n"),
+    ("tuple show\nleaf 5 max 1\nadd 5 max\n", "error 3 syntax\n"),
+    (
+        "tuple show\nleaf 5 max 1\nadd 5 18446744073709551616\n",
+        "error 3 syntax\n",
+    ),
     ("theta show", "error 2 syntax\n"),
     ("theta show\n", "error 2 syntax\n"),
     ("theta show\nmeet 0\n", "error 2 syntax\n"),
@@ -102,7 +114,7 @@ const FAULTS: [(&str, &str); 53] = [
 ];
 
 /// Texts that spell a command.
-const SPELLED: [&str; 10] = [
+const SPELLED: [&str; 13] = [
     "theta show\nleaf 5 max 2\nadd 7\nadd 3\n",
     "theta show\nleaf 5 max 0",
     "theta show\nleaf 0 0 0\n",
@@ -113,6 +125,9 @@ const SPELLED: [&str; 10] = [
     "theta show\nunion 5 max 0\n",
     "theta show\nunion 5 1000 2\nleaf 5 max 1\nadd 2000\nunion 6 max 1\nleaf 7 max 0\n",
     "theta image\nvia unordered\nmeet 1\nminus\nleaf 5 max 0\nvia ordered\nleaf 5 max 0\n",
+    "tuple show\nleaf 5 max 2\nadd 7 1\nadd 3 18446744073709551615\n",
+    "tuple show\nleaf 5 max 3\nadd 0 007\ntrim\nreset",
+    "tuple image\nvia unordered\nmeet 1\nminus\nunion 5 max 0\nvia ordered\nleaf 5 max 0\n",
 ];
 
 /// The status of a run, and what it wrote.
@@ -559,13 +574,13 @@ const MERGES: [(&[&str], [u64; 3]); 8] = [
     ),
 ];
 
-/// The hashes from 1 to 300 of one remainder modulo 3, in a leaf of a size of its own.
-fn put_leaf(text: &mut String, part: u64) -> Result<(), AllocError> {
+/// The hashes from 1 to 300 of one remainder modulo 3, in a leaf of a size of its own, each with the same behind it.
+fn put_leaf(text: &mut String, part: u64, behind: &str) -> Result<(), AllocError> {
     let lg_k = part.wrapping_add(4);
     writeln!(text, "leaf {lg_k} max 100")?;
     for step in 0..100u64 {
         let hash = part.wrapping_add(3 * step);
-        writeln!(text, "add {hash}")?;
+        writeln!(text, "add {hash}{behind}")?;
     }
     Ok(())
 }
@@ -582,7 +597,7 @@ fn answer_to_merge(
         if !node.is_empty() {
             writeln!(text, "{node}")?;
         } else if let Some(part) = next.next() {
-            put_leaf(&mut text, part)?;
+            put_leaf(&mut text, part, "")?;
         }
     }
     Ok(answer_to_text(alloc, text.as_str()))
@@ -606,6 +621,104 @@ fn merges_in_any_order(rt: HostRuntime) -> Result<(), Fail> {
         let said = (status, written.as_slice());
         assert_eq!(rt; said, (0, wanted.as_bytes()), "at {leaves:?}");
     }
+    Ok(())
+}
+
+/// Texts of plans of tuple sketches, and their answers.
+const TUPLES: [(&str, &str); 16] = [
+    (
+        "tuple show\nmeet 2\nleaf 5 max 2\nadd 5 3\nadd 6 1\nleaf 5 max 1\nadd 5 4\n",
+        "empty no\ntheta 9223372036854775807\ncount 1\n5 7\n",
+    ),
+    (
+        "tuple show\nminus\nleaf 5 max 2\nadd 5 3\nadd 6 1\nleaf 5 max 1\nadd 5 4\n",
+        "empty no\ntheta 9223372036854775807\ncount 1\n6 1\n",
+    ),
+    (
+        "tuple show\nunion 5 max 2\nleaf 5 max 2\nadd 5 3\nadd 6 1\nleaf 5 max 1\nadd 5 4\n",
+        "empty no\ntheta 9223372036854775807\ncount 2\n5 7\n6 1\n",
+    ),
+    (
+        "tuple show\nvia unordered\nunion 5 max 1\nleaf 5 max 3\nadd 6 1\nadd 5 3\nadd 6 2\n",
+        "empty no\ntheta 9223372036854775807\ncount 2\n5 3\n6 3\n",
+    ),
+    (
+        "tuple show\nleaf 5 max 2\nadd 9 18446744073709551615\nadd 9 0\n",
+        "empty no\ntheta 9223372036854775807\ncount 1\n9 18446744073709551615\n",
+    ),
+    (
+        "tuple show\nleaf 5 4 2\nadd 5 18446744073709551615\nadd 5 1\n",
+        "empty no\ntheta 4\ncount 0\n",
+    ),
+    (
+        "tuple show\nunion 5 max 3\nleaf 5 max 2\nadd 2 1\nadd 5 18446744073709551615\nleaf 5 4 1\nadd 2 1\nleaf 5 max 1\nadd 5 1\n",
+        "empty no\ntheta 4\ncount 1\n2 2\n",
+    ),
+    (
+        "tuple show\nleaf 5 max 2\nadd 9 18446744073709551615\nadd 9 1\n",
+        "error policy\n",
+    ),
+    (
+        "tuple show\nunion 5 max 2\nleaf 5 max 2\nadd 5 18446744073709551615\nadd 6 1\nleaf 5 max 1\nadd 5 1\n",
+        "error policy\n",
+    ),
+    (
+        "tuple show\nunion 5 max 3\nleaf 5 max 1\nadd 5 18446744073709551615\nleaf 5 max 1\nadd 5 1\nleaf 27 max 0\n",
+        "error policy\n",
+    ),
+    (
+        "tuple show\nmeet 2\nleaf 5 max 2\nadd 5 18446744073709551615\nadd 6 1\nleaf 5 max 2\nadd 5 1\nadd 6 1\n",
+        "error policy\n",
+    ),
+    ("tuple show\nleaf 4 max 0\n", "error argument\n"),
+    (
+        "tuple show\nunion 27 max 1\nleaf 5 max 2\nadd 9 18446744073709551615\nadd 9 1\n",
+        "error argument\n",
+    ),
+    (
+        "tuple image\nleaf 5 max 2\nadd 5 3\nadd 5 4\n",
+        "01030901001acc9305000000000000000700000000000000\n",
+    ),
+    ("tuple image\nleaf 5 max 0\n", "01030901001e0000\n"),
+    (
+        "tuple image\nvia unordered\nleaf 5 max 0\n",
+        "01030901001e0000\n",
+    ),
+];
+
+#[test]
+fn answers_tuples(rt: HostRuntime) {
+    for (text, answer) in TUPLES {
+        let wanted = u8::from(answer.starts_with("error"));
+        let (status, written) = answer_to_text(rt.alloc(), text);
+        let said = (status, written.as_slice());
+        assert_eq!(rt; said, (wanted, answer.as_bytes()), "at {text:?}");
+    }
+}
+
+/// The answer to the union of three leaves of tuples, each of value 1, that stand there twice.
+fn answer_to_doubled(alloc: Global) -> Result<(u8, Vec<u8>), AllocError> {
+    let mut text = String::from_str(alloc, "tuple show\nunion 5 max 6\n")?;
+    for part in [1, 2, 3, 1, 2, 3] {
+        put_leaf(&mut text, part, " 1")?;
+    }
+    Ok(answer_to_text(alloc, text.as_str()))
+}
+
+/// The hashes from 1 to 32 below 33, with 2 beside each.
+fn doubled(alloc: Global) -> Result<String, AllocError> {
+    let mut shown = String::from_str(alloc, "empty no\ntheta 33\ncount 32\n")?;
+    for hash in 1..=32u64 {
+        writeln!(shown, "{hash} 2")?;
+    }
+    Ok(shown)
+}
+
+#[test]
+fn adds_up_what_stands_twice(rt: HostRuntime) -> Result<(), Fail> {
+    let wanted = doubled(rt.alloc())?;
+    let (status, written) = answer_to_doubled(rt.alloc())?;
+    assert_eq!(rt; (status, written.as_slice()), (0, wanted.as_bytes()));
     Ok(())
 }
 

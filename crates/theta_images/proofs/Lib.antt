@@ -1,5 +1,6 @@
 pub mod AscendingTests
 pub mod SpelledEntries
 pub mod ReadEntries
+pub mod ReadSummaries
 pub mod Layouts
 pub mod ReadAgain

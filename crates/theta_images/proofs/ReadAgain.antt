@@ -1,17 +1,17 @@
 -- What is written is read again.
 use Rattle.std.proofs.Common.{◌≡◌, ℕ, ◌^◌, ◌<◌, ◌≤◌, Bool, true, false, cond, not, List, [], ◌∷◌, ◌++◌, length, map, refl, sym, ap, subst, inl, inr, arith, lt-ltb, le-ltb, eq-eqb, eqb, bit_and}
-use Rattle.std.specs.Int.{w16, w32, w64, to_le_bytes}
+use Rattle.std.specs.Int.{w16, w64, to_le_bytes}
 use Rattle.std.specs.List.{AllByRecursion, flat_map}
 use Rattle.std.proofs.lemmas.Bool.{cases_lt, cases_eq, ne_eqb}
 use Rattle.std.proofs.lemmas.List.{length-map}
-use Rattle.std.proofs.lemmas.Nat.{from_le_bytes-to_le_bytes_2, from_le_bytes-to_le_bytes_4}
+use Rattle.std.proofs.lemmas.Nat.{from_le_bytes-to_le_bytes_2}
 use Rattle.sketch_base.specs.Bytes.{number}
 use Rattle.theta_table.specs.CompactState.{Compact, IsCompact, empty_compact, shown_of}
 use Rattle.theta_images.specs.Read.{ReadsFlagged, ReadsCurrent, empty_image, single_image, exact_image, estimating_image}
 use Rattle.theta_images.specs.Preamble.{Begins, announced, count_at, theta_at, is_ordered}
 use Rattle.theta_images.specs.Write.{written_image, head, counted}
 use Rattle.theta_images.specs.Entry.{HasEntries, state_behind, SpellsEach}
-use Rattle.theta_images.specs.HashSpelling.{number-eight}
+use Rattle.theta_images.specs.HashSpelling.{number-four, number-eight}
 use Rattle.theta_laws.specs.Shown.{IsShown}
 use Rattle.theta_laws.specs.declared.TheConstants.{MAX_THETA}
 use Rattle.theta_images.specs.declared.preamble.Preamble.{Preamble}
@@ -19,9 +19,6 @@ use Rattle.theta_laws.proofs.maps.MapsOfLists.{each-from_map}
 
 number-two : (x : ℕ) → x < 2 ^ 16 → number (to_le_bytes w16 x) ≡ x
 number-two x h = let e = from_le_bytes-to_le_bytes_2 x h in omega arith
-
-number-four : (x : ℕ) → x < 2 ^ 32 → number (to_le_bytes w32 x) ≡ x
-number-four x h = let e = from_le_bytes-to_le_bytes_4 x h in omega arith
 
 flag_ordered : (b : Bool) → not (eqb (bit_and (cond b 0x1a 0x0a) 0x10) 0) ≡ b
 flag_ordered true = refl

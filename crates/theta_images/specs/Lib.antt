@@ -4,3 +4,5 @@ pub mod Check
 pub mod Read
 pub mod Write
 pub mod HashSpelling
+pub mod Summary
+pub mod SummarySpelling

@@ -7,8 +7,9 @@ use sketch_base::{Error, SketchBytes, SketchSlice};
 use std::alloc::Allocator;
 use theta_table::{SketchEntry, ThetaEntry};
 
-/// An entry that images spell: by the eight bytes of its hash, the lowest first, and perhaps more.
-pub trait ImageEntry: SketchEntry {
+/// An entry that images spell: by the eight bytes of its hash, the lowest first, and perhaps more. What it keeps elsewhere, it
+/// keeps in memory of `A`.
+pub trait ImageEntry<A: Allocator>: SketchEntry {
     /// Which bytes spell which entry.
     ghost spells: { List ℕ → Self → Type 0 };
     /// Which entries can be written.
@@ -17,13 +18,14 @@ pub trait ImageEntry: SketchEntry {
     ghost text: { Self → List ℕ };
 
     /// Appends the entry's bytes. It refuses with `OutOfMemory` alone, and the target is not used afterwards.
-    fn write<A: Allocator>(&self, bytes: &mut SketchBytes<A>) -> Result<(), Error>
+    fn write<B: Allocator>(&self, bytes: &mut SketchBytes<B>) -> Result<(), Error>
         ensures ok { OnOk result (bytes.new.bytes ≡ bytes.old.bytes ++ text self.now) }
+        ensures value { OnOk result (is_value self.now) }
         ensures refused { Refuses result None true };
 
     /// Reads the entry that a beginning of the bytes spells, and moves past that beginning. It refuses with `InvalidData`
     /// exactly where none does, or with `OutOfMemory`; nothing is said of the cursor afterwards.
-    fn read(slice: &mut SketchSlice<'_>) -> Result<Self, Error>
+    fn read(alloc: &A, slice: &mut SketchSlice<'_>) -> Result<Self, Error>
         ensures { Answers (λ x. λ rest. (first : List ℕ) × spells first x × (slice.old ≡ first ++ rest)) slice.new result };
 
     /// No spelling begins another, and each is of one entry.
@@ -36,7 +38,7 @@ pub trait ImageEntry: SketchEntry {
     ghost has_hash: { (a : List ℕ) (x : Self) → spells a x → 8 ≤ length a };
 }
 
-impl ImageEntry for ThetaEntry {
+impl<A: Allocator> ImageEntry<A> for ThetaEntry {
     ghost use Rattle.std.specs.Prelude.{⊤};
     ghost use Rattle.std.specs.Int.{w64, to_le_bytes};
     ghost use Rattle.theta_images.specs.Entry.{SpellsHash};
@@ -49,12 +51,12 @@ impl ImageEntry for ThetaEntry {
     ghost text = { λ h. to_le_bytes w64 h };
 
     #[inline(always)]
-    fn write<A: Allocator>(&self, bytes: &mut SketchBytes<A>) -> Result<(), Error> {
+    fn write<B: Allocator>(&self, bytes: &mut SketchBytes<B>) -> Result<(), Error> {
         bytes.write_u64_le(self.hash())
     }
 
     #[inline(always)]
-    fn read(slice: &mut SketchSlice<'_>) -> Result<Self, Error> {
+    fn read(_alloc: &A, slice: &mut SketchSlice<'_>) -> Result<Self, Error> {
         Ok(ThetaEntry::of_hash(slice.read_u64_le()?))
     }
 

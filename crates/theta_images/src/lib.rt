@@ -10,6 +10,7 @@ mod entry;
 pub mod laws;
 mod preamble;
 mod read;
+mod summary;
 mod write;
 
 pub use entry::ImageEntry;
@@ -17,4 +18,5 @@ pub use preamble::{
     Layout, Preamble, admitted, announced, count_at, flagged_layout, seed_hash_at, theta_at,
 };
 pub use read::read_behind;
-pub use write::write_image;
+pub use summary::TupleSummaryValue;
+pub use write::{write_image, write_image_with_capacity};

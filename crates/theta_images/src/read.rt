@@ -12,7 +12,7 @@ use std::alloc::Allocator;
 use theta_table::CompactSketchState;
 
 /// Reads `count` entries from the front of the bytes.
-fn read_entries<E: ImageEntry + Drop, A: Allocator + Drop>(
+fn read_entries<E: ImageEntry<A> + Drop, A: Allocator + Drop>(
     alloc: A,
     bytes: &[u8],
     count: u32,
@@ -28,7 +28,7 @@ fn read_entries<E: ImageEntry + Drop, A: Allocator + Drop>(
     let mut entries = Vec::with_capacity(alloc, count as usize)?;
     let mut slice = SketchSlice::new(bytes);
     'read_each: for _i in 0..count {
-        let entry = E::read(&mut slice)?;
+        let entry = E::read(entries.allocator(), &mut slice)?;
         entries.push(entry)?;
     }
     Ok(entries)
@@ -36,7 +36,7 @@ fn read_entries<E: ImageEntry + Drop, A: Allocator + Drop>(
 
 /// Reads the state that stands behind a layout, under the reader's seed hash. It refuses with `InvalidData` exactly where
 /// none does, or with `OutOfMemory`. It asks for no more memory than entries of eight bytes could fill the bytes with.
-pub fn read_behind<E: ImageEntry + Drop, A: Allocator + Clone + Drop>(
+pub fn read_behind<E: ImageEntry<A> + Drop, A: Allocator + Clone + Drop>(
     alloc: A,
     bytes: &[u8],
     layout: Option<Layout>,

@@ -1,6 +1,6 @@
 //! Writing images.
 ghost use Rattle.std.specs.Prelude.{◌≡◌, ◌<◌, ◌^◌, ◌++◌, None, true, length, IfOk, OnOk};
-ghost use Rattle.std.specs.List.{flat_map};
+ghost use Rattle.std.specs.List.{AllByRecursion, flat_map};
 ghost use Rattle.theta_images.specs.Write.{written_image, counted_bytes, longs_of};
 ghost use Rattle.theta_laws.specs.Refusal.{Refuses};
 
@@ -11,11 +11,12 @@ use theta_laws::MAX_THETA;
 use theta_table::{CompactSketchState, SketchEntry};
 
 /// Appends each entry's bytes.
-fn write_entries<E: ImageEntry, A: Allocator>(
+fn write_entries<E: ImageEntry<A>, A: Allocator>(
     entries: &[E],
     bytes: &mut SketchBytes<A>,
 ) -> Result<(), Error>
     ensures ok { OnOk result (bytes.new.bytes ≡ bytes.old.bytes ++ flat_map E.text entries.now) }
+    ensures values { OnOk result (AllByRecursion E.is_value entries.now) }
     ensures refused { Refuses result None true }
 {
     'write_each: for entry in entries {
@@ -35,19 +36,36 @@ fn write_count<A: Allocator>(count: usize, bytes: &mut SketchBytes<A>) -> Result
 }
 
 /// The image of a state, in the memory of `alloc`: as version 3 of a family, with the byte that a family may have for its
-/// kind. It refuses with `OutOfMemory` alone.
-pub fn write_image<E: ImageEntry, A: Allocator + Drop, B: Allocator>(
+/// kind. It refuses with `OutOfMemory` alone. Where it does not, every entry is a value, so that it is read again.
+pub fn write_image<E: ImageEntry<A>, A: Allocator + Drop, B: Allocator>(
     alloc: A,
     state: &CompactSketchState<E, B>,
     family: Family,
     kind: u8,
 ) -> Result<Vec<u8, A>, Error>
     ensures ok { IfOk result (λ v. v.items ≡ written_image E.text family.id kind state.now) }
+    ensures values { OnOk result (AllByRecursion E.is_value state.now.entries) }
+    ensures refused { Refuses result None true }
+{
+    let capacity = 24 + 8 * state.retained_entries().len();
+    write_image_with_capacity(alloc, state, family, kind, capacity)
+}
+
+/// The same, with memory for `capacity` bytes asked for at first: as many as the image will have, where a caller knows it.
+pub fn write_image_with_capacity<E: ImageEntry<A>, A: Allocator + Drop, B: Allocator>(
+    alloc: A,
+    state: &CompactSketchState<E, B>,
+    family: Family,
+    kind: u8,
+    capacity: usize,
+) -> Result<Vec<u8, A>, Error>
+    ensures ok { IfOk result (λ v. v.items ≡ written_image E.text family.id kind state.now) }
+    ensures values { OnOk result (AllByRecursion E.is_value state.now.entries) }
     ensures refused { Refuses result None true }
 {
     let entries = state.retained_entries();
     let count = entries.len();
-    let mut bytes = SketchBytes::with_capacity(alloc, 24 + 8 * count)?;
+    let mut bytes = SketchBytes::with_capacity(alloc, capacity)?;
     if state.is_empty() {
         bytes.write(&[1, 3, family.id, kind, 0, 0x1e, 0, 0])?;
         return Ok(bytes.into_bytes());

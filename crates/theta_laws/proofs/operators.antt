@@ -8,3 +8,5 @@ pub mod EmptyMeets
 pub mod KeysAlone
 pub mod FoldsOfHashes
 pub mod Samples
+pub mod SharedKeys
+pub mod SummariesAlike

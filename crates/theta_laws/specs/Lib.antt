@@ -12,3 +12,5 @@ pub mod Leaf
 pub mod Operators
 pub mod Samples
 pub mod Shown
+pub mod Commuting
+pub mod KeysOfValues

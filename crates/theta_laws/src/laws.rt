@@ -1,9 +1,11 @@
 //! Laws of the definitions: each is the contract of a function that does nothing, so that a caller has it at hand.
-ghost use Rattle.std.specs.Prelude.{◌≡◌, ◌≢◌, ℕ, ◌<◌, ◌≤◌, List, [], ◌∷◌, ◌++◌, Some, None, Option, option_map, min, false, true, map, Bool};
+ghost use Rattle.std.specs.Prelude.{◌≡◌, ◌≢◌, ℕ, ◌<◌, ◌≤◌, List, [], ◌∷◌, ◌++◌, Some, None, Option, option_map, min, false, true, map, Bool, IsPermutation};
 ghost use Rattle.std.specs.List.{AllByRecursion};
 ghost use Rattle.sketch_base.specs.declared.error.ErrorKind.{ErrorKind};
 ghost use Rattle.theta_laws.specs.Maps.{IsAscending, entry_at, below, map_of, IsApart};
 ghost use Rattle.theta_laws.specs.Cuts.{Retained, cut, IsRetained, none_below};
+ghost use Rattle.theta_laws.specs.Commuting.{Commutes, Associates, IsIdempotent};
+ghost use Rattle.theta_laws.specs.KeysOfValues.{keys_of, IsKeyOf, IsBelowTheta};
 ghost use Rattle.theta_laws.specs.Folds.{folded, folded_of, has_mark, Fold, Value, fold_key, fold_merges, unmarked, unmarked_value, never};
 ghost use Rattle.theta_laws.specs.Entries.{hash_key, first_hash, KeepsKey};
 ghost use Rattle.theta_laws.specs.Operators.{meet_next, unite, meet, minus, lacking, least, all_have, joined_all, nonempties, joined, common, ComesToNothing};
@@ -94,6 +96,29 @@ pub fn union_again<X>()
     ensures { (key : X → ℕ) (merges : X → X → X) → KeepsKey key merges → (k start : ℕ) (values : List (Sketch X)) → IsAscendingValue key (unite key merges k start values) → keys key (unite key merges k start (unite key merges k start values ∷ unite key merges k start values ∷ [])) ≡ keys key (unite key merges k start values) }
 {}
 
+/// Where merges of one key don't depend on their order, a union of two values doesn't, in its summaries too.
+pub fn union_commutes_as_merges<X>()
+    ensures { (key : X → ℕ) (merges : X → X → X) → KeepsKey key merges → Commutes key merges → (k start : ℕ) (a b : Sketch X) → IsAscendingValue key a → IsAscendingValue key b → unite key merges k start (a ∷ b ∷ []) ≡ unite key merges k start (b ∷ a ∷ []) }
+{}
+
+/// Where merges of one key don't depend on their grouping, a union of three values doesn't, in its summaries too.
+pub fn union_associates_as_merges<X>()
+    ensures { (key : X → ℕ) (merges : X → X → X) → KeepsKey key merges → Associates key merges → (k start : ℕ) (a b c : Sketch X) → IsAscendingValue key b → IsAscendingValue key c → unite key merges k start (unite key merges k start (a ∷ b ∷ []) ∷ c ∷ []) ≡ unite key merges k start (a ∷ unite key merges k start (b ∷ c ∷ []) ∷ []) }
+{}
+
+/// Where a merge of an entry with itself leaves it, a union's result united with itself is that result, in its summaries too.
+pub fn union_again_as_merges<X>()
+    ensures { (key : X → ℕ) (merges : X → X → X) → KeepsKey key merges → IsIdempotent merges → (k start : ℕ) (values : List (Sketch X)) → unite key merges k start (unite key merges k start values ∷ unite key merges k start values ∷ []) ≡ unite key merges k start values }
+{}
+
+/// Merges of folds commute where a refusal doesn't depend on the order and what isn't refused commutes; they associate where
+/// they do on values; and they leave a fold that is merged with itself where the merges refuse none with itself and leave it.
+pub fn folds_merge_alike<X>()
+    ensures commute { (key : X → ℕ) (merges : X → X → X) (refuses : X → X → Bool) → ((x y : X) → key x ≡ key y → refuses x y ≡ refuses y x) → ((x y : X) → key x ≡ key y → refuses x y ≡ false → merges x y ≡ merges y x) → Commutes (fold_key key) (fold_merges key merges refuses) }
+    ensures associate { (key : X → ℕ) (merges : X → X → X) (refuses : X → X → Bool) → KeepsKey key merges → ((x y z : X) → key x ≡ key y → key y ≡ key z → fold_merges key merges refuses (fold_merges key merges refuses (Value x) (Value y)) (Value z) ≡ fold_merges key merges refuses (Value x) (fold_merges key merges refuses (Value y) (Value z))) → Associates (fold_key key) (fold_merges key merges refuses) }
+    ensures idempotent { (key : X → ℕ) (merges : X → X → X) (refuses : X → X → Bool) → ((x : X) → refuses x x ≡ false) → IsIdempotent merges → IsIdempotent (fold_merges key merges refuses) }
+{}
+
 /// A step that isn't refused is its step on folds.
 pub fn allowed_step<X>()
     ensures { (key : X → ℕ) (k h : ℕ) (step : Step X) (v : Retained X) → upsert_refusal key h step v ≡ None → unmarked (after_upsert key k h step v) ≡ after_upsert (fold_key key) k h (folded key h step) (unmarked v) }
@@ -165,6 +190,14 @@ pub fn meet_with_empty<X>()
 pub fn meet_is_empty<X>()
     ensures only_if { (key : X → ℕ) (merges : X → X → X) → KeepsKey key merges → (u : Retained X) (vs : List (Retained X)) → AllByRecursion (IsRetained key) (u ∷ vs) → meet key merges (NonEmpty u ∷ map NonEmpty vs) ≡ Empty → ComesToNothing key (u ∷ vs) }
     ensures if_so { (key : X → ℕ) (merges : X → X → X) → KeepsKey key merges → (u : Retained X) (vs : List (Retained X)) → AllByRecursion (IsRetained key) (u ∷ vs) → ComesToNothing key (u ∷ vs) → meet key merges (NonEmpty u ∷ map NonEmpty vs) ≡ Empty }
+{}
+
+/// A hash is a key of a meet of some values exactly where it is a key of each; so its keys don't depend on the order of the
+/// values. Its theta and emptiness may.
+pub fn meet_keys<X>()
+    ensures only_if { (key : X → ℕ) (merges : X → X → X) → KeepsKey key merges → (values : List (Sketch X)) (q : ℕ) → IsKeyOf key q (meet key merges values) → (values ≢ []) × AllByRecursion (IsKeyOf key q) values }
+    ensures if_so { (key : X → ℕ) (merges : X → X → X) → KeepsKey key merges → (values : List (Sketch X)) (q : ℕ) → AllByRecursion (IsBelowTheta key) values → values ≢ [] → AllByRecursion (IsKeyOf key q) values → IsKeyOf key q (meet key merges values) }
+    ensures any_order { (key : X → ℕ) (merges : X → X → X) → KeepsKey key merges → (values others : List (Sketch X)) → AllByRecursion (IsAscendingValue key) values → AllByRecursion (IsBelowTheta key) values → IsPermutation values others → keys_of key (meet key merges values) ≡ keys_of key (meet key merges others) }
 {}
 
 /// The difference of samples is a sample of what the one's whole has and the other's lacks.

@@ -38,6 +38,12 @@ impl<S, A: Allocator> CompactTupleSketch<S, A> {
         CompactTupleSketch { state }
     }
 
+    pub(crate) fn state(&self) -> &CompactSketchState<TupleEntry<S>, A>
+        ensures { result.now ≡ self.now }
+    {
+        &self.state
+    }
+
     /// A view of the sketch, for operators.
     pub fn as_view(&self) -> TupleSketchView<'_, S, A>
         ensures shows { shows tuple_key result ≡ shown_of tuple_key self.now }

@@ -1,5 +1,6 @@
-//! Laws of tuple leaves: those that hold of the leaves of every family, at the entries and steps of tuples.
-ghost use Rattle.std.specs.Prelude.{◌≡◌, ℕ, ◌≤◌, List, ◌++◌, ◌∷◌, [], None, Option, Some, map, true, false};
+//! Laws of the definitions, which no sketch takes part in: those of leaves of every family at the entries and steps of tuples,
+//! and those of images.
+ghost use Rattle.std.specs.Prelude.{◌≡◌, ℕ, ◌<◌, ◌≤◌, ◌^◌, List, ◌++◌, ◌∷◌, [], None, Option, Some, map, true, false};
 ghost use Rattle.sketch_base.specs.declared.error.ErrorKind.{ErrorKind};
 ghost use Rattle.theta_laws.specs.Cuts.{Retained, cut};
 ghost use Rattle.theta_laws.specs.Folds.{Fold, Value, fold_key, folded_of, has_mark, unmarked};
@@ -12,9 +13,13 @@ ghost use Rattle.theta_laws.specs.Samples.{IsLawfulValue, IsSample};
 ghost use Rattle.theta_laws.specs.Values.{NonEmpty};
 ghost use Rattle.theta_table.specs.declared.entry.TupleEntry.{TupleEntry};
 ghost use Rattle.theta_policies.specs.Summaries.{update_step};
+ghost use Rattle.theta_table.specs.CompactState.{Compact, IsCompact, empty_compact};
 ghost use Rattle.theta_table.specs.Entry.{tuple_key};
+ghost use Rattle.tuple_sketches.specs.Image.{Reads, HasValues, written};
+ghost use Rattle.tuple_sketches.specs.declared.image.TheConstants.{EMPTY_SKETCH_BYTES};
 
-use theta_core::MAX_THETA;
+use std::alloc::Allocator;
+use theta_core::{MAX_THETA, TupleSummaryValue};
 
 /// Updates of folds keep hashes, as updates of entries do.
 pub fn folded_updates_keep_hashes<S, U>()
@@ -46,4 +51,20 @@ pub fn tuple_leaf_is_sample<S, U>()
 /// A leaf that isn't empty and whose last step is a trim retains the k folds of least hash of the whole map of what was added.
 pub fn trimmed_tuple_leaf<S, U>()
     ensures { (creates : Option S) (updates : S → U → Option S) (k start : ℕ) (steps : List (LeafStep U)) → start ≤ MAX_THETA → is_updated steps false ≡ true → leaf (fold_key tuple_key) (folded_of tuple_key (update_step creates updates)) k start (steps ++ Trim ∷ []) ≡ NonEmpty (cut (fold_key tuple_key) k (whole (fold_key tuple_key) (folded_of tuple_key (update_step creates updates)) steps) start) }
+{}
+
+/// Bytes are read as one sketch at most.
+pub fn one_reading<S: TupleSummaryValue<A>, A: Allocator>()
+    ensures { (bytes : List ℕ) (h : ℕ) (r s : Compact (TupleEntry S)) → Reads S.spells bytes h r → Reads S.spells bytes h s → r ≡ s }
+{}
+
+/// What is written of a sketch is read as that sketch again, whatever follows it: of every sketch that keeps the laws of
+/// compact sketches, whose summaries are values, and whose seed hash is from 1 to 65535.
+pub fn read_again<S: TupleSummaryValue<A>, A: Allocator>()
+    ensures { (s : Compact (TupleEntry S)) (rest : List ℕ) → IsCompact tuple_key s → HasValues S.is_value s → 0 < s.seed_hash → s.seed_hash < 2 ^ 16 → Reads S.spells (written S.text s ++ rest) s.seed_hash s }
+{}
+
+/// What is written of every empty sketch.
+pub fn written_of_empty<S>()
+    ensures { (text : S → List ℕ) (seed_hash : ℕ) → written text (empty_compact seed_hash) ≡ EMPTY_SKETCH_BYTES }
 {}

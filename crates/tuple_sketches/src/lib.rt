@@ -42,11 +42,19 @@
 //! intersection.update(tuesday.as_view())?;
 //! let on_both_days = intersection.to_sketch(true)?;
 //! ```
+//!
+//! To bytes and back, for summaries that spell themselves (`TupleSummaryValue`):
+//!
+//! ```
+//! let image = on_both_days.serialize()?;
+//! let read = CompactTupleSketch::<u64>::deserialize(alloc, &image)?;
+//! ```
 #![tactic(auto)]
 
 mod a_not_b;
 mod builder;
 mod compact_sketch;
+mod image;
 mod intersection;
 pub mod laws;
 mod sketch;
@@ -57,12 +65,15 @@ mod view;
 pub use a_not_b::TupleANotB;
 pub use builder::TupleSketchBuilder;
 pub use compact_sketch::CompactTupleSketch;
+pub use image::{
+    EMPTY_SKETCH_BYTES, SERIAL_VERSION, SERIAL_VERSION_LEGACY, SKETCH_TYPE, SKETCH_TYPE_LEGACY,
+};
 pub use intersection::TupleIntersection;
 pub use sketch::TupleSketch;
 pub use sketch_base::{DEFAULT_UPDATE_SEED, Error, ErrorKind, MurmurHash3X64128};
 pub use theta_core::{
     CheckedSum, DefaultUnionPolicy, DefaultUpdatePolicy, MAX_THETA, ResizeFactor,
-    SummaryCombinePolicy, SummaryPolicy, SummaryUpdatePolicy, TupleEntry,
+    SummaryCombinePolicy, SummaryPolicy, SummaryUpdatePolicy, TupleEntry, TupleSummaryValue,
 };
 pub use theta_family::{Decimal, MAX_PLACES, estimate_decimal};
 pub use union::TupleUnion;

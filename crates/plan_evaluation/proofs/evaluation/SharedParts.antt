@@ -1,36 +1,71 @@
 -- Parts of an intersection, one by one.
-use Rattle.std.proofs.Common.{◌≡◌, ℕ, ◌+◌, ◌<◌, List, [], ◌∷◌, ◌++◌, length, get_or, take, map, Option, Some, None, refl, sym, ap, ◌∙◌}
+use Rattle.std.proofs.Common.{◌≡◌, ℕ, ◌+◌, ◌<◌, true, List, [], ◌∷◌, ◌++◌, length, get_or, take, map, Option, Some, None, refl, sym, ap, subst, ◌∙◌}
+use Rattle.std.specs.Option.{option_map}
 use Rattle.std.proofs.lemmas.List.{map_more}
-use Rattle.theta_laws.specs.Entries.{hash_key, first_hash}
-use Rattle.theta_operators.specs.Intersection.{Intersection}
-use Rattle.theta_laws.specs.Operators.{meet_next, meet}
+use Rattle.theta_laws.specs.Folds.{Fold, has_mark, unmarked_value}
+use Rattle.theta_laws.specs.Operators.{meet_next, meet, common}
+use Rattle.theta_laws.specs.Samples.{IsAllBelow, IsSample, AreSamples, common_all}
 use Rattle.theta_laws.specs.Values.{Sketch}
 use Rattle.theta_laws.proofs.operators.Meets.{meet_of_meet}
+use Rattle.theta_laws.proofs.operators.Samples.{meet_samples}
+use Rattle.theta_operators.specs.Intersection.{Intersection}
 use Rattle.plan_text.specs.declared.plan.Plan.{Plan}
-use Rattle.plan_evaluation.specs.Evaluated.{come_to}
-use Rattle.plan_evaluation.specs.Value.{value_of}
+use Rattle.plan_values.specs.Family.{Family, IsFamily}
+use Rattle.plan_values.specs.Value.{value_in}
+use Rattle.plan_values.specs.WholeStreams.{whole_in, shared_of}
+use Rattle.plan_evaluation.specs.Came.{come_to}
+use Rattle.plan_evaluation.specs.Refused.{MarksMet}
 
--- what an intersection has come to after values
-abbrev pub met_of : List (Sketch ℕ) → Option (Sketch ℕ)
-met_of [] = None
-met_of (v ∷ vs) = Some (meet hash_key first_hash (v ∷ vs))
+-- maps that are met in turn, and one more
+common_all-more : {X : Type 0} (key : X → ℕ) (merges : X → X → X) (whole : List X) (maps : List (List X)) (last : List X) → common_all key merges whole (maps ++ last ∷ []) ≡ common key merges (common_all key merges whole maps) last
+common_all-more key merges whole [] last = refl
+common_all-more key merges whole (xs ∷ maps) last = common_all-more key merges (common key merges whole xs) maps last
 
-pub come_to-met : (vs : List (Sketch ℕ)) → come_to (met_of vs) ≡ meet hash_key first_hash vs
-come_to-met [] = refl
-come_to-met (v ∷ vs) = refl
+-- what an intersection has come to, in folds
+pub come_to-folds : {X : Type 0} (o : Option (Sketch X)) → unmarked_value (come_to o) ≡ come_to (option_map unmarked_value o)
+come_to-folds None = refl
+come_to-folds (Some v) = refl
 
--- and after one more
-met_more : (vs : List (Sketch ℕ)) (last : Sketch ℕ) → ◌≡◌ {A = Option (Sketch ℕ)} (Some (meet_next hash_key first_hash (met_of vs) last)) (met_of (vs ++ last ∷ []))
-met_more [] last = refl
-met_more (v ∷ vs) last = ap (λ (u : Sketch ℕ). Some u) (sym (meet_of_meet hash_key first_hash v vs last))
+-- what an intersection was made with stays
+pub made_met : {X P : Type 0} (first was now : Intersection X P) → was ≡ record first { result = was.result } → now ≡ record was { result = now.result } → now ≡ record first { result = now.result }
+made_met {X} {P} first was now before step = let again : Intersection X P → Intersection X P = λ u. record u { result = now.result } in step ∙ ap again before
 
-module _ {P : Type 0} {Z : Type 0} (first was now : Intersection ℕ P) (parts : List (Plan (Unit {0}) Z)) (i : ℕ) (d : Plan (Unit {0}) Z) (lt : i < length parts) where
-  pub met_next : (v : Sketch ℕ) → was.result ≡ met_of (map value_of (take i parts)) → now.result ≡ Some (meet_next hash_key first_hash was.result v) → v ≡ value_of (get_or parts i d) → now.result ≡ met_of (map value_of (take (i + 1) parts))
-  met_next v so_far met is =
-      met ∙ ap (λ o. Some (meet_next hash_key first_hash o v)) so_far
-      ∙ ap (λ (u : Sketch ℕ). Some (meet_next hash_key first_hash (met_of (map value_of (take i parts))) u)) is
-      ∙ met_more (map value_of (take i parts)) (value_of (get_or parts i d))
-      ∙ ap met_of (sym (map_more value_of parts i d lt))
+module _ {X V : Type 0} (f : Family (Fold X) V) where
+  -- what an intersection has come to after values
+  abbrev pub met_of : List (Sketch (Fold X)) → Option (Sketch (Fold X))
+  met_of [] = None
+  met_of (v ∷ vs) = Some (meet f.key f.merges (v ∷ vs))
 
-  pub made_met : was ≡ record first { result = was.result } → now ≡ record was { result = now.result } → now ≡ record first { result = now.result }
-  made_met before step = let again : Intersection ℕ P → Intersection ℕ P = λ u. record u { result = now.result } in step ∙ ap again before
+  pub come_to-met : (vs : List (Sketch (Fold X))) → come_to (met_of vs) ≡ meet f.key f.merges vs
+  come_to-met [] = refl
+  come_to-met (v ∷ vs) = refl
+
+module _ {X V : Type 0} (f : Family (Fold X) V) (lawful : IsFamily f) where
+  -- and after one more
+  met_more : (vs : List (Sketch (Fold X))) (last : Sketch (Fold X)) → ◌≡◌ {A = Option (Sketch (Fold X))} (Some (meet_next f.key f.merges (met_of f vs) last)) (met_of f (vs ++ last ∷ []))
+  met_more [] last = refl
+  met_more (v ∷ vs) last = ap (λ (u : Sketch (Fold X)). Some u) (sym (meet_of_meet f.key f.merges v vs last))
+
+  -- a value that a policy refuses leaves a mark in what the whole maps share
+  marks_more : (vs : List (Sketch (Fold X))) (wholes : List (List (Fold X))) (last : Sketch (Fold X)) (come : List (Fold X)) → AreSamples f.key vs wholes → IsAllBelow f.key last come → MarksMet f (met_of f vs) last → has_mark (shared_of f (wholes ++ come ∷ [])) ≡ true
+  marks_more [] wholes last come samples below marks = absurd marks
+  marks_more (v ∷ vs) [] last come samples below marks = absurd samples
+  marks_more (v ∷ vs) (whole ∷ wholes) last come samples below marks =
+      ap has_mark (common_all-more f.key f.merges whole wholes come)
+      ∙ marks (common_all f.key f.merges whole wholes) come (meet_samples f.key f.merges lawful.merged v vs whole wholes samples.0 samples.1).all_below below
+
+  module _ {Z : Type 0} (parts : List (Plan V Z)) (i : ℕ) (d : Plan V Z) (lt : i < length parts) where
+    pub met_next : (was now : Option (Sketch X)) (v : Sketch (Fold X)) → option_map unmarked_value was ≡ met_of f (map (value_in f) (take i parts)) → option_map unmarked_value now ≡ Some (meet_next f.key f.merges (option_map unmarked_value was) v) → v ≡ value_in f (get_or parts i d) →
+        option_map unmarked_value now ≡ met_of f (map (value_in f) (take (i + 1) parts))
+    met_next was now v so_far met is =
+        met ∙ ap (λ o. Some (meet_next f.key f.merges o v)) so_far
+        ∙ ap (λ (u : Sketch (Fold X)). Some (meet_next f.key f.merges (met_of f (map (value_in f) (take i parts))) u)) is
+        ∙ met_more (map (value_in f) (take i parts)) (value_in f (get_or parts i d))
+        ∙ ap (met_of f) (sym (map_more (value_in f) parts i d lt))
+
+    -- a part that a policy refuses leaves a mark
+    pub marked_met : (was : Option (Sketch X)) (v : Sketch (Fold X)) → option_map unmarked_value was ≡ met_of f (map (value_in f) (take i parts)) → v ≡ value_in f (get_or parts i d) → AreSamples f.key (map (value_in f) (take i parts)) (map (whole_in f) (take i parts)) → IsSample f.key (value_in f (get_or parts i d)) (whole_in f (get_or parts i d)) →
+        MarksMet f (option_map unmarked_value was) v → has_mark (shared_of f (map (whole_in f) (take (i + 1) parts))) ≡ true
+    marked_met was v so_far is samples sample marks =
+        ap (λ ws. has_mark (shared_of f ws)) (map_more (whole_in f) parts i d lt)
+        ∙ marks_more (map (value_in f) (take i parts)) (map (whole_in f) (take i parts)) v (whole_in f (get_or parts i d)) samples (rw is sample.all_below) (subst (λ o. MarksMet f o v) so_far marks)

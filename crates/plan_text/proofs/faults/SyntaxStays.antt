@@ -5,7 +5,7 @@ use Rattle.std.proofs.lemmas.Bool.{le-ltb, ltb-false}
 use Rattle.plan_text.specs.declared.line.Line.{Line}
 use Rattle.plan_text.specs.declared.line.Line.TheVariants as line
 use Rattle.plan_text.specs.Reading.{Said, Stop, syntax}
-use Rattle.plan_text.specs.Faults.{Next, wanted, wrong, too_deep, Want, a_command, a_step, a_node, led, next, fault_at}
+use Rattle.plan_text.specs.Faults.{Next, wanted, wrong, too_deep, Want, a_command, a_step, a_node, is_step, led, next, fault_at}
 
 abbrev some_stop : Stop → Option Stop
 some_stop f = Some f
@@ -34,22 +34,27 @@ node_steps : (b c : Bool) (wants : List Want) → (b ≡ false → c ≡ false) 
 node_steps true c wants h = tt
 node_steps false c wants h = rw (h refl) refl
 
+-- a line leads to the same where it is wanted as a step
+step_steps : (b : Bool) (wants : List Want) → Steps (cond b (wanted wants) wrong) (cond b (wanted wants) wrong)
+step_steps true wants = refl
+step_steps false wants = refl
+
 less : (m n level : ℕ) → m ≤ n → ltb m level ≡ false → ltb n level ≡ false
 less m n level le e = le-ltb n level (omega (arith, ltb-false m level e))
 
 pub steps : (m n : ℕ) → m ≤ n → (l : Line) (wants : List Want) → Steps (next m l wants) (next n l wants)
 steps m n le (line.Command f g) [] = refl
 steps m n le (line.Command f g) (a_command ∷ wants) = refl
-steps m n le (line.Command f g) (a_step ∷ wants) = refl
-steps m n le (line.Command f g) (a_node k ∷ wants) = refl
+steps m n le (line.Command f g) (a_step family ∷ wants) = refl
+steps m n le (line.Command f g) (a_node family k ∷ wants) = refl
 steps m n le (line.Step s) [] = refl
 steps m n le (line.Step s) (a_command ∷ wants) = refl
-steps m n le (line.Step s) (a_step ∷ wants) = refl
-steps m n le (line.Step s) (a_node k ∷ wants) = refl
+steps m n le (line.Step s) (a_step family ∷ wants) = step_steps (is_step family s) wants
+steps m n le (line.Step s) (a_node family k ∷ wants) = refl
 steps m n le (line.Node x) [] = refl
 steps m n le (line.Node x) (a_command ∷ wants) = refl
-steps m n le (line.Node x) (a_step ∷ wants) = refl
-steps m n le (line.Node x) (a_node k ∷ wants) = node_steps (ltb m k) (ltb n k) _ (less m n k le)
+steps m n le (line.Node x) (a_step family ∷ wants) = refl
+steps m n le (line.Node x) (a_node family k ∷ wants) = node_steps (ltb m k) (ltb n k) _ (less m n k le)
 
 here : (i j : ℕ) (rest more : List Want → Option Stop) (nx other : Next) → ((wants : List Want) → rest wants ≡ Some (syntax (suc i)) → ⊥) → Steps nx other → led i rest nx ≡ Some (syntax (suc i)) → led j more other ≡ Some (syntax (suc j))
 here i j rest more (wanted wants) other never s e = absurd (never wants e)

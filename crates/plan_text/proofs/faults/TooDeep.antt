@@ -1,11 +1,11 @@
 -- The lines up to a node of one level too many begin something spelled.
-use Rattle.std.proofs.Common.{◌≡◌, ℕ, suc, ◌≤◌, max, cond, ltb, List, [], ◌∷◌, ◌++◌, length, Option, Some, None, refl, sym, ap, ◌∙◌, arith}
+use Rattle.std.proofs.Common.{◌≡◌, ℕ, suc, ◌≤◌, max, Bool, true, false, cond, ltb, List, [], ◌∷◌, ◌++◌, length, Option, Some, None, refl, sym, ap, ◌∙◌, arith}
 use Rattle.std.specs.declared.alloc.Global.{Global}
 use Rattle.std.proofs.lemmas.Bool.{le-ltb}
 use Rattle.plan_text.specs.declared.line.Line.{Line}
 use Rattle.plan_text.specs.declared.line.Line.TheVariants as line
 use Rattle.plan_text.specs.Reading.{Said, Stop, syntax, limit}
-use Rattle.plan_text.specs.Faults.{Next, wanted, wrong, too_deep, Want, a_command, a_step, a_node, node_wants, led, next, fault_at}
+use Rattle.plan_text.specs.Faults.{Next, wanted, wrong, too_deep, Want, a_command, a_step, a_node, is_step, node_wants, led, next, fault_at}
 use Rattle.plan_text.specs.First.{IsSpelled, HasFault, left_at}
 use Rattle.plan_text.proofs.faults.BeforeFault.{some_is, reached, complete, depth, completed, is_whole}
 
@@ -28,19 +28,23 @@ Opens x wants = (inner : List Want) × ((n : ℕ) → depth wants ≤ n → next
 opens_node : (n level : ℕ) (inner : List Want) → level ≤ n → cond (ltb n level) too_deep (wanted inner) ≡ wanted inner
 opens_node n level inner le = rw (le-ltb n level le) refl
 
+not_deep : (b : Bool) (wants : List Want) → cond b (wanted wants) wrong ≡ too_deep → ⊥
+not_deep true wants e = cc
+not_deep false wants e = cc
+
 opens : (m : ℕ) (x : Line) (wants : List Want) → next m x wants ≡ too_deep → Opens x wants
 opens m (line.Command f g) [] e = absurd cc
 opens m (line.Command f g) (a_command ∷ wants) e = absurd cc
-opens m (line.Command f g) (a_step ∷ wants) e = absurd cc
-opens m (line.Command f g) (a_node k ∷ wants) e = absurd cc
+opens m (line.Command f g) (a_step family ∷ wants) e = absurd cc
+opens m (line.Command f g) (a_node family k ∷ wants) e = absurd cc
 opens m (line.Step s) [] e = absurd cc
 opens m (line.Step s) (a_command ∷ wants) e = absurd cc
-opens m (line.Step s) (a_step ∷ wants) e = absurd cc
-opens m (line.Step s) (a_node k ∷ wants) e = absurd cc
+opens m (line.Step s) (a_step family ∷ wants) e = absurd (not_deep (is_step family s) wants e)
+opens m (line.Step s) (a_node family k ∷ wants) e = absurd cc
 opens m (line.Node l) [] e = absurd cc
 opens m (line.Node l) (a_command ∷ wants) e = absurd cc
-opens m (line.Node l) (a_step ∷ wants) e = absurd cc
-opens m (line.Node l) (a_node k ∷ wants) e = (node_wants l k ++ wants, λ n le. opens_node n k (node_wants l k ++ wants) (omega (arith, le)))
+opens m (line.Node l) (a_step family ∷ wants) e = absurd cc
+opens m (line.Node l) (a_node family k ∷ wants) e = (node_wants family l k ++ wants, λ n le. opens_node n k (node_wants family l k ++ wants) (omega (arith, le)))
 
 deep_line : (m : ℕ) (x : Line) (rest : Said) (wants : List Want) (nx : Next) → next m x wants ≡ nx → led (length rest) (fault_at m rest) nx ≡ Some (limit (suc (length rest))) → Opens x wants
 deep_line m x rest wants (wanted inner) is e = let low = within_lines m rest inner (limit (suc (length rest))) e in absurd (omega (arith, low))

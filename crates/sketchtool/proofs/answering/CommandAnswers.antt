@@ -1,37 +1,86 @@
 -- The text that answers a command.
-use Rattle.std.proofs.Common.{◌≡◌, ℕ, List, Some, None, Result, Ok, Err, true, inl, inr, refl, sym, ap, ◌∙◌}
+use Rattle.std.proofs.Common.{◌≡◌, ℕ, List, Option, Some, None, Result, Ok, Err, Bool, true, false, cond, inl, inr, refl, ap, subst, ◌∙◌}
 use Rattle.std.specs.Prelude.{IfOk, IsTrue, ◌⊎◌}
 use Rattle.sketch_base.specs.Seed.{seed_hash}
 use Rattle.sketch_base.specs.declared.seed.TheConstants.{DEFAULT_UPDATE_SEED}
 use Rattle.sketch_base.specs.declared.error.ErrorKind.{ErrorKind}
-use Rattle.sketch_base.specs.declared.error.ErrorKind.TheVariants.{InvalidArgument, OutOfMemory}
-use Rattle.theta_table.specs.CompactState.{Compact}
+use Rattle.sketch_base.specs.declared.error.ErrorKind.TheVariants.{InvalidArgument, InvalidData, OutOfMemory, Policy, Failed}
+use Rattle.theta_table.specs.CompactState.{Compact, compact_value}
+use Rattle.theta_table.specs.Entry.{tuple_key}
+use Rattle.theta_table.specs.declared.entry.TupleEntry.{TupleEntry}
 use Rattle.theta_laws.specs.Values.{Sketch, Empty, NonEmpty}
 use Rattle.plan_text.specs.declared.plan.Plan.{Plan}
 use Rattle.plan_text.specs.declared.command.Command.{Command}
-use Rattle.plan_text.specs.declared.command.Command.TheVariants.{Theta}
+use Rattle.plan_text.specs.declared.command.Command.TheVariants.{Theta, Tuple}
 use Rattle.plan_text.specs.declared.command.Form.{Form}
 use Rattle.plan_text.specs.declared.command.Form.TheVariants.{Show, Image}
-use Rattle.plan_evaluation.specs.Value.{value_of, plan_refusal}
-use Rattle.sketchtool.specs.Answer.{AnswersCommand, shows, argument, sketch_text, value_text, argument_line, command_refusal}
-use Rattle.plan_evaluation.specs.Evaluated.{ordered_sketch}
+use Rattle.plan_values.specs.Value.{value_of, value_in, fits, plan_refusal}
+use Rattle.plan_evaluation.specs.Answered.{ordered_sketch, IsSketchOf}
+use Rattle.sketchtool.specs.Answer.{Texts, theta_texts, tuple_texts, sums, AnswersCommand, shows, argument, policy, sketch_text, value_text, argument_line, policy_line, refusal_line, command_refusal, may_break}
 
 -- the text of an ordered sketch is that of its value
-ordered_text : (form : Form) (v : Sketch ℕ) → sketch_text form (ordered_sketch v (seed_hash DEFAULT_UPDATE_SEED)) ≡ value_text form v
-ordered_text Show Empty = refl
-ordered_text Show (NonEmpty v) = refl
-ordered_text Image v = refl
+ordered_text : {X : Type 0} (texts : Texts X) (form : Form) (v : Sketch X) → sketch_text texts form (ordered_sketch v (seed_hash DEFAULT_UPDATE_SEED)) ≡ value_text texts form v
+ordered_text texts Show Empty = refl
+ordered_text texts Show (NonEmpty v) = refl
+ordered_text texts Image v = refl
 
--- the text of a plan's value answers its command
-pub answers_value : {Z : Type 0} (form : Form) (plan : Plan (Unit {0}) Z) (sketch : Compact ℕ) (text : List ℕ) → plan_refusal DEFAULT_UPDATE_SEED plan ≡ None → sketch ≡ ordered_sketch (value_of plan) (seed_hash DEFAULT_UPDATE_SEED) → text ≡ sketch_text form sketch → AnswersCommand (Theta form plan) 0 text
-answers_value form plan sketch text accepted value is = λ input s. rw (is ∙ ap (sketch_text form) value ∙ ordered_text form (value_of plan)) (shows (Theta form plan) s accepted)
+-- the text of a sketch of a plan's value answers the plan's command
+pub answers_value : {Z : Type 0} (form : Form) (plan : Plan (Unit {0}) Z) (sketch : Compact ℕ) (text : List ℕ) → plan_refusal DEFAULT_UPDATE_SEED plan ≡ None → sketch ≡ ordered_sketch (value_of plan) (seed_hash DEFAULT_UPDATE_SEED)
+    → text ≡ sketch_text theta_texts form sketch → AnswersCommand (Theta form plan) 0 text
+answers_value form plan sketch text accepted value is = λ input s. shows (Theta form plan) text s accepted (is ∙ ap (sketch_text theta_texts form) value ∙ ordered_text theta_texts form (value_of plan))
 
--- a plan whose evaluation was refused for an argument
-tells_argument : {Z : Type 0} (command : Command Z) (kind : ErrorKind) (status : ℕ) (text : List ℕ) → (command_refusal command ≡ Some kind) ⊎ ((kind ≡ OutOfMemory) × IsTrue true) → (kind ≡ InvalidArgument) × (status ≡ 1) × (text ≡ argument_line) → AnswersCommand command status text
-tells_argument command kind status text (inl refused) told = λ input s. rw (told.1, told.2) (argument command s (refused ∙ ap Some told.0))
-tells_argument command kind status text (inr memory) told = absurd (let other : OutOfMemory ≡ InvalidArgument = sym memory.0 ∙ told.0 in cc)
+pub answers_tuples : {Z : Type 0} (form : Form) (plan : Plan ℕ Z) (sketch : Compact (TupleEntry ℕ)) (text : List ℕ) → plan_refusal DEFAULT_UPDATE_SEED plan ≡ None → IsSketchOf tuple_key (value_in sums plan) (seed_hash DEFAULT_UPDATE_SEED) sketch
+    → text ≡ sketch_text tuple_texts form sketch → AnswersCommand (Tuple form plan) 0 text
+answers_tuples form plan sketch text accepted value is =
+    let v = compact_value tuple_key sketch in
+    λ input s. shows (Tuple form plan) text s accepted (v, value.0, is ∙ ap (sketch_text tuple_texts form) value.1 ∙ ordered_text tuple_texts form v)
 
-pub tells_refused : {Z T E : Type 0} (command : Command Z) (kind : ErrorKind) (status : T → ℕ) (text : T → List ℕ) (r : Result T E) → (command_refusal command ≡ Some kind) ⊎ ((kind ≡ OutOfMemory) × IsTrue true)
-    → IfOk r (λ x. (kind ≡ InvalidArgument) × (status x ≡ 1) × (text x ≡ argument_line)) → IfOk r (λ x. AnswersCommand command (status x) (text x))
-tells_refused command kind status text (Ok x) refused told = tells_argument command kind (status x) (text x) refused told
+-- why the evaluation of a command's plan may be refused
+abbrev pub MayRefuse : {Z : Type 0} → Command Z → ErrorKind → Type 0
+MayRefuse command kind = (command_refusal command ≡ Some kind) ⊎ ((kind ≡ OutOfMemory) ⊎ ((kind ≡ Policy) × IsTrue (may_break command)))
+
+-- a plan of theta sketches has no policy that refuses
+pub theta_refused : {Z : Type 0} (form : Form) (plan : Plan (Unit {0}) Z) (kind : ErrorKind) → (plan_refusal DEFAULT_UPDATE_SEED plan ≡ Some kind) ⊎ ((kind ≡ OutOfMemory) × IsTrue true) → MayRefuse (Theta form plan) kind
+theta_refused form plan kind (inl refused) = inl refused
+theta_refused form plan kind (inr memory) = inr (inl memory.0)
+
+abbrev some_line : List ℕ → Option (List ℕ)
+some_line text = Some text
+
+abbrev some_kind : ErrorKind → Option ErrorKind
+some_kind kind = Some kind
+
+same_line : (a b : List ℕ) → some_line a ≡ some_line b → a ≡ b
+same_line a b e = cc
+
+-- whatever its policies say, a plan is refused for an argument alone
+for_argument : (fits : Bool) (kind : ErrorKind) → cond fits None (Some InvalidArgument) ≡ some_kind kind → kind ≡ InvalidArgument
+for_argument true kind e = absurd cc
+for_argument false kind e = cc
+
+only_argument : {Z : Type 0} (command : Command Z) (kind : ErrorKind) → command_refusal command ≡ Some kind → kind ≡ InvalidArgument
+only_argument (Theta form plan) kind e = for_argument (fits DEFAULT_UPDATE_SEED plan) kind e
+only_argument (Tuple form plan) kind e = for_argument (fits DEFAULT_UPDATE_SEED plan) kind e
+
+tells_argument : {Z : Type 0} (command : Command Z) → MayRefuse command InvalidArgument → AnswersCommand command 1 argument_line
+tells_argument command (inl refused) = λ input s. argument command s refused
+tells_argument command (inr (inl memory)) = absurd cc
+tells_argument command (inr (inr broken)) = absurd (let other : InvalidArgument ≡ Policy = broken.0 in cc)
+
+tells_policy : {Z : Type 0} (command : Command Z) → MayRefuse command Policy → AnswersCommand command 1 policy_line
+tells_policy command (inl refused) = absurd (let other : Policy ≡ InvalidArgument = only_argument command Policy refused in cc)
+tells_policy command (inr (inl memory)) = absurd cc
+tells_policy command (inr (inr broken)) = λ input s. policy command s broken.1
+
+-- the line of a refusal answers a command whose evaluation may be refused so
+tells_line : {Z : Type 0} (command : Command Z) (kind : ErrorKind) (text : List ℕ) → MayRefuse command kind → refusal_line kind ≡ Some text → AnswersCommand command 1 text
+tells_line command InvalidArgument text refused told = subst (AnswersCommand command 1) (same_line argument_line text told) (tells_argument command refused)
+tells_line command Policy text refused told = subst (AnswersCommand command 1) (same_line policy_line text told) (tells_policy command refused)
+tells_line command InvalidData text refused told = absurd cc
+tells_line command OutOfMemory text refused told = absurd cc
+tells_line command Failed text refused told = absurd cc
+
+pub tells_refused : {Z T E : Type 0} (command : Command Z) (kind : ErrorKind) (status : T → ℕ) (text : T → List ℕ) (r : Result T E) → MayRefuse command kind
+    → IfOk r (λ x. (status x ≡ 1) × (refusal_line kind ≡ Some (text x))) → IfOk r (λ x. AnswersCommand command (status x) (text x))
+tells_refused command kind status text (Ok x) refused told = λ input s. rw told.0 (tells_line command kind (text x) refused told.1 input s)
 tells_refused command kind status text (Err e) refused told = tt

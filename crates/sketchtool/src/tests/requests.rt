@@ -37,6 +37,7 @@ fn union_text(alloc: Global) -> Result<String, AllocError> {
 fn plan_of(alloc: Global, text: &str) -> Option<Plan<()>> {
     match read_plan(alloc, text.as_bytes()) {
         Ok(Command::Theta(_, plan)) => Some(plan),
+        Ok(Command::Tuple(_, _)) => None,
         Err(_) => None,
     }
 }
@@ -100,13 +101,13 @@ fn asks_for_memory_as_by_hand(rt: HostRuntime) -> Result<(), Fail> {
     let (short, short_kept) = handmade(rt.alloc(), false)?;
     assert_eq!(rt; (kept, whole_kept, short_kept), (32, 32, 32));
     assert!(rt; short > 0);
-    assert!(rt; asked >= whole, "{asked} to {whole}");
+    assert_eq!(rt; asked, whole);
     assert!(rt; asked > short, "{asked} to {short}");
     Ok(())
 }
 
 /// Commands with their answers.
-const ANSWERED: [(&str, &str); 2] = [
+const ANSWERED: [(&str, &str); 4] = [
     (
         "theta show\nunion 5 max 2\nvia unordered\nleaf 5 max 2\nadd 9\nadd 7\nleaf 5 max 1\nadd 8\n",
         "empty no\ntheta 9223372036854775807\ncount 3\n7\n8\n9\n",
@@ -114,6 +115,15 @@ const ANSWERED: [(&str, &str); 2] = [
     (
         "theta image\nvia ordered\nunion 5 max 1\nleaf 5 max 2\nadd 9\nadd 7\n",
         "02030300001acc93020000000000000007000000000000000900000000000000\n",
+    ),
+    (
+        "tuple show\nunion 5 max 2\nvia unordered\nleaf 5 max 2\nadd 9 1\nadd 7 2\nleaf 5 max 1\nadd 9 3\n",
+        "empty no\ntheta 9223372036854775807\ncount 2\n7 2\n9 4\n",
+    ),
+    // The difference of an intersection, of the image of a union and a leaf, and a leaf.
+    (
+        "tuple show\nminus\nmeet 2\nvia unordered\nunion 5 max 2\nleaf 5 max 2\nadd 9 1\nadd 7 2\nleaf 5 max 1\nadd 9 3\nleaf 5 max 2\nadd 9 5\nadd 7 1\nleaf 5 max 1\nadd 7 1\n",
+        "empty no\ntheta 9223372036854775807\ncount 1\n9 9\n",
     ),
 ];
 

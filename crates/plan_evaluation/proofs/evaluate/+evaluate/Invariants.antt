@@ -1,24 +1,32 @@
 use Rattle.std.proofs.Common.{◌≡◌, ◌^◌, true, take, map}
 use Rattle.std.specs.List.{list_all}
-use Rattle.theta_laws.specs.Entries.{hash_key, first_hash}
+use Rattle.std.specs.Option.{option_map}
+use Rattle.theta_laws.specs.Folds.{unmarked_value}
+use Rattle.theta_laws.specs.Maps.{IsAscending}
 use Rattle.theta_laws.specs.Operators.{unite}
 use Rattle.theta_operators.specs.Union.{union_value}
-use Rattle.plan_evaluation.specs.Value.{value_of, fits}
+use Rattle.plan_values.specs.Family.{folds_of}
+use Rattle.plan_values.specs.Value.{value_in, fits}
+use Rattle.plan_values.specs.WholeStreams.{whole_in, joined_of}
 use Rattle.plan_evaluation.proofs.evaluation.SharedParts.{met_of}
 use Rattle.plan_evaluation.proofs.evaluate.+evaluate.Given as goal
 
--- the union has the value of the parts so far, which all fit, and is what it was made
-abbrev pub invariant-loop-part : goal.invariant-loop-part
-invariant-loop-part g l = record {
-  value : union_value hash_key l.union ≡ unite hash_key first_hash (2 ^ l.union.lg_k) l.union.start (map value_of (take l.part-index l.part-items));
-  made : l.union ≡ record l.initial.union { empty = l.union.empty; held = l.union.held };
-  fit : list_all (λ f. f) (map (fits l.seed) (take l.part-index l.part-items)) ≡ true;
-}
+-- the union has the value of the parts so far, which all fit, holds all of their joined map, and is what it was made
+abbrev pub invariant-parts : goal.invariant-parts
+invariant-parts g l = (let f = folds_of (g.F.SketchFamily.rules l.family) (g.F.SketchFamily.refuses l.family) in let u = g.F.SketchFamily.united l.union in record {
+  own : g.F.SketchFamily.made_union l.family l.union;
+  value : unmarked_value (union_value (g.F.SketchFamily.rules l.family).key u) ≡ unite f.key f.merges (2 ^ u.lg_k) u.start (map (value_in f) (take l.part-index l.part-items));
+  made : u ≡ record (g.F.SketchFamily.united l.initial.union) { empty = u.empty; held = u.held };
+  fit : list_all (λ fit. fit) (map (fits l.seed) (take l.part-index l.part-items)) ≡ true;
+  holds : g.F.SketchFamily.holds l.family l.union (joined_of f (map (whole_in f) (take l.part-index l.part-items)));
+  ascending : IsAscending f.key (joined_of f (map (whole_in f) (take l.part-index l.part-items)));
+})
 
 -- the intersection has come to the parts so far, which all fit, and is what it was made
-abbrev pub invariant-loop-part-2 : goal.invariant-loop-part-2
-invariant-loop-part-2 g l = record {
-  value : l.intersection.result ≡ met_of (map value_of (take l.part-index l.part-items));
-  made : l.intersection ≡ record l.initial.intersection { result = l.intersection.result };
-  fit : list_all (λ f. f) (map (fits l.seed) (take l.part-index l.part-items)) ≡ true;
-}
+abbrev pub invariant-met : goal.invariant-met
+invariant-met g l = (let f = folds_of (g.F.SketchFamily.rules l.family) (g.F.SketchFamily.refuses l.family) in let i = g.F.SketchFamily.met l.intersection in record {
+  own : g.F.SketchFamily.made_intersection l.family l.intersection;
+  value : option_map unmarked_value i.result ≡ met_of f (map (value_in f) (take l.part-index l.part-items));
+  made : i ≡ record (g.F.SketchFamily.met l.initial.intersection) { result = i.result };
+  fit : list_all (λ fit. fit) (map (fits l.seed) (take l.part-index l.part-items)) ≡ true;
+})

@@ -1,18 +1,42 @@
-use Rattle.std.proofs.Common.{◌≡◌, take, ap}
-use Rattle.std.proofs.lemmas.List.{take_all}
-use Rattle.plan_evaluation.proofs.evaluation.LeafSteps.{map_stepped, empty_stepped, stepped_value}
+use Rattle.std.proofs.Common.{◌+◌, inr}
+use Rattle.std.proofs.lemmas.Result.{err_from_is_err_and}
+use Rattle.theta_laws.specs.Folds.{has_mark}
+use Rattle.theta_laws.specs.Leaf.{whole}
+use Rattle.plan_values.specs.Family.{folds_of}
+use Rattle.plan_values.proofs.AcceptedSettings.{start_fits}
+use Rattle.plan_values.proofs.KnownFamilies.{folds_keep}
+use Rattle.plan_values.proofs.Marks.{begins}
+use Rattle.plan_evaluation.proofs.evaluation.LeafSteps.{made_stepped, kept_stepped, empty_stepped, refused_marks}
+use Rattle.plan_evaluation.proofs.evaluation.Results.{for_other}
 use Rattle.plan_evaluation.proofs.evaluate.updated.Goals as goal
 
-pub loop-step-preserved : goal.loop-step-preserved
-loop-step-preserved g c = record {
-  map = map_stepped c.args.lg_k c.args.start c.args.seed c.args.steps.now c.loop-step.step-index _ c.loop-step-test.true c.loop-step.sketch.map c.apply.new.sketch.map c.loop-step.invariant.map c.in_ok-apply.ensures.map;
-  empty = empty_stepped c.args.lg_k c.args.start c.args.seed c.args.steps.now c.loop-step.step-index _ c.loop-step-test.true c.loop-step.sketch.empty c.apply.new.sketch.empty c.loop-step.invariant.empty c.in_ok-apply.ensures.empty;
-}
+pub returns-in_err-apply-clause-refused : goal.returns-in_err-apply-clause-refused
+returns-in_err-apply-clause-refused g c =
+    let p = err_from_is_err_and c.from_residual-in_err-apply.result c.from_residual-in_err-apply.ensures.1 in
+    let rules = g.F.SketchFamily.rules c.args.family.now in
+    let refuses = g.F.SketchFamily.refuses c.args.family.now in
+    let f = folds_of rules refuses in
+    let lawful = folds_keep rules refuses (g.met.F.SketchFamily.keeps c.args.family.now) in
+    let i = c.steps.step-index in
+    rw (p.1, p.2) (inr (for_other _ g.F.SketchFamily.strict
+    (λ marks. begins (λ begun. has_mark (whole f.key f.step_of begun)) c.args.steps.now (i + 1)
+    (refused_marks f lawful c.args.lg_k c.args.start c.args.seed c.args.steps.now i c.step-item.result c.steps-test.true (g.F.SketchFamily.state c.steps.sketch).map.kept
+    (start_fits c.args.lg_k c.args.start c.args.seed c.in_ok-sketch.ensures.refused) c.steps.invariant.kept (rw c.step-item.is at marks)))
+    c.in_err-apply.ensures.refused))
 
-pub returns-clause-value : goal.returns-clause-value
-returns-clause-value g c =
-    let all : take c.loop-step.step-index c.args.steps.now ≡ c.args.steps.now = take_all c.loop-step.step-index c.args.steps.now c.loop-step-test.false in
-    stepped_value c.args.lg_k c.args.start c.args.seed c.args.steps.now c.loop-step.sketch (rw all at c.loop-step.invariant.map) (rw all at c.loop-step.invariant.empty)
-
-pub returns-clause-seed : goal.returns-clause-seed
-returns-clause-seed g c = ap (λ t. t.seed_hash) c.loop-step.invariant.map
+pub steps-preserved : goal.steps-preserved
+steps-preserved g c =
+    let rules = g.F.SketchFamily.rules c.args.family.now in
+    let refuses = g.F.SketchFamily.refuses c.args.family.now in
+    let f = folds_of rules refuses in
+    let lawful = folds_keep rules refuses (g.met.F.SketchFamily.keeps c.args.family.now) in
+    let was = g.F.SketchFamily.state c.steps.sketch in
+    let now = g.F.SketchFamily.state c.apply.new.sketch in
+    let i = c.steps.step-index in
+    let d = c.step-item.result in
+    record {
+      own = c.in_ok-apply.ensures.still;
+      kept = kept_stepped f lawful c.args.lg_k c.args.start c.args.seed c.args.steps.now i d c.steps-test.true was.map now.map c.steps.invariant.kept c.steps.invariant.made (rw c.step-item.is at c.in_ok-apply.ensures.map);
+      made = made_stepped c.args.lg_k c.args.start c.args.seed was.map now.map c.steps.invariant.made c.in_ok-apply.ensures.made_with;
+      empty = empty_stepped f lawful c.args.lg_k c.args.start c.args.seed c.args.steps.now i d c.steps-test.true was.empty now.empty c.steps.invariant.empty (rw c.step-item.is at c.in_ok-apply.ensures.empty);
+    }

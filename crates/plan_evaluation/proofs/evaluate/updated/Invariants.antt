@@ -1,14 +1,17 @@
 use Rattle.std.proofs.Common.{◌≡◌, ◌^◌, false, take}
 use Rattle.std.specs.Prelude.{not}
-use Rattle.theta_laws.specs.Entries.{hash_key}
-use Rattle.theta_laws.specs.Leaf.{leaf_from, is_updated, hash_step_of}
 use Rattle.theta_laws.specs.Cuts.{none_below}
+use Rattle.theta_laws.specs.Folds.{unmarked}
+use Rattle.theta_laws.specs.Leaf.{leaf_from, is_updated}
 use Rattle.theta_table.specs.HashTable.{empty_table}
+use Rattle.plan_values.specs.Family.{folds_of}
 use Rattle.plan_evaluation.proofs.evaluate.updated.Given as goal
 
--- the sketch is what the steps so far make of a new one
-abbrev pub invariant-loop-step : goal.invariant-loop-step
-invariant-loop-step g l = record {
-  map : l.sketch.map ≡ record (empty_table l.lg_k l.start l.seed) { kept = leaf_from hash_key hash_step_of (2 ^ l.lg_k) l.start (take l.step-index l.steps) (none_below l.start) };
-  empty : l.sketch.empty ≡ not (is_updated (take l.step-index l.steps) false);
-}
+-- the sketch retains, as folds, what the steps so far make of a new one
+abbrev pub invariant-steps : goal.invariant-steps
+invariant-steps g l = (let f = folds_of (g.F.SketchFamily.rules l.family) (g.F.SketchFamily.refuses l.family) in let s = g.F.SketchFamily.state l.sketch in record {
+  own : g.F.SketchFamily.made_sketch l.family l.sketch;
+  kept : unmarked s.map.kept ≡ leaf_from f.key f.step_of (2 ^ l.lg_k) l.start (take l.step-index l.steps) (none_below l.start);
+  made : s.map ≡ record (empty_table l.lg_k l.start l.seed) { kept = s.map.kept };
+  empty : s.empty ≡ not (is_updated (take l.step-index l.steps) false);
+})

@@ -14,4 +14,4 @@ decreases-node g l = 3 * l.levels + 2
 
 -- the parts so far and those that follow are all the parts
 abbrev pub invariant-parts-loop : goal.invariant-parts-loop
-invariant-parts-loop g l = with_front l.parts.items (many (plan_at g.V.StepValue.step_of l.levels) (l.count - l.counter) (says l.rest)) ≡ many (plan_at g.V.StepValue.step_of l.levels) l.count (says l.text)
+invariant-parts-loop g l = with_front l.parts.items (many (plan_at g.V.StepValue.as_value l.levels) (l.count - l.counter) (says l.rest)) ≡ many (plan_at g.V.StepValue.as_value l.levels) l.count (says l.text)

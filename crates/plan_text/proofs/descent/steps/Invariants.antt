@@ -4,4 +4,4 @@ use Rattle.plan_text.proofs.grammar.ReadMany.{with_front}
 use Rattle.plan_text.proofs.descent.steps.Given as goal
 
 abbrev pub invariant-loop : goal.invariant-loop
-invariant-loop g l = with_front l.steps.items (many (step_at g.V.StepValue.step_of) (l.count - l.counter) (says l.rest)) ≡ many (step_at g.V.StepValue.step_of) l.count (says l.text)
+invariant-loop g l = with_front l.steps.items (many (step_at g.V.StepValue.as_value) (l.count - l.counter) (says l.rest)) ≡ many (step_at g.V.StepValue.as_value) l.count (says l.text)

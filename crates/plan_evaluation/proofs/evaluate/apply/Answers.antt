@@ -1,0 +1,27 @@
+use Rattle.std.proofs.Common.{◌^◌, ◌∙◌, ap, sym, refl}
+use Rattle.theta_laws.specs.Folds.{Value, fold_key, unmarked}
+use Rattle.theta_laws.proofs.insertions.FoldedSteps.{unmarked-step}
+use Rattle.theta_laws.proofs.maps.MappedEntries.{cut-map}
+use Rattle.plan_evaluation.proofs.evaluation.LeafSteps.{addition_marks}
+use Rattle.plan_evaluation.proofs.evaluation.Results.{on_both, on_ok, if_refused, for_other}
+use Rattle.plan_evaluation.proofs.evaluate.apply.Goals as goal
+
+pub returns-in-Add-clause-map : goal.returns-in-Add-clause-map
+returns-in-Add-clause-map g c =
+    let rules = g.F.SketchFamily.rules c.args.family.now in
+    let old = (g.F.SketchFamily.state c.args.sketch.now).map in
+    rw c.in-Add.is (on_both c.add.result c.add.ensures.after c.add.ensures.accepted
+    (λ after accepted. ap (λ t. unmarked t.kept) after ∙ unmarked-step rules.key (2 ^ old.lg_nom) c.in-Add.hash (rules.step_of c.in-Add.hash c.in-Add.value) old.kept accepted))
+
+pub returns-in-Add-clause-refused : goal.returns-in-Add-clause-refused
+returns-in-Add-clause-refused g c =
+    let rules = g.F.SketchFamily.rules c.args.family.now in
+    rw c.in-Add.is (if_refused c.add.result c.add.ensures.strict
+    (λ e. for_other e g.F.SketchFamily.strict (addition_marks rules (g.F.SketchFamily.refuses c.args.family.now) c.in-Add.hash c.in-Add.value (g.F.SketchFamily.state c.args.sketch.now).map.kept e)))
+
+pub returns-in-Trim-clause-map : goal.returns-in-Trim-clause-map
+returns-in-Trim-clause-map g c =
+    let key = (g.F.SketchFamily.rules c.args.family.now).key in
+    let old = (g.F.SketchFamily.state c.args.sketch.now).map in
+    rw c.in-Trim.is (on_ok c.trim.result c.trim.ensures.after
+    (λ after. ap (λ t. unmarked t.kept) after ∙ sym (cut-map Value key (fold_key key) (λ y. refl) (2 ^ old.lg_nom) old.kept.entries old.kept.theta)))

@@ -1,0 +1,25 @@
+-- A union that takes in what a view shows takes in its value, in folds.
+use Rattle.std.proofs.Common.{◌≡◌, Bool, true, false, cond, List, refl, ap, subst}
+use Rattle.theta_laws.specs.Entries.{KeepsKey}
+use Rattle.theta_laws.specs.Folds.{Fold, unmarked_value}
+use Rattle.theta_laws.specs.Maps.{IsAscending, IsApart, map_of}
+use Rattle.theta_laws.specs.Shown.{Shown, shown_value}
+use Rattle.theta_laws.specs.Values.{Sketch, Empty, NonEmpty}
+use Rattle.theta_operators.specs.Union.{Union, IsUnion, IsJoined}
+use Rattle.theta_operators.proofs.UnionValue.{united}
+use Rattle.plan_values.specs.Family.{Family, folds_of}
+use Rattle.plan_evaluation.specs.Came.{Joins}
+
+-- a union but for its policy
+abbrev pub plain : {X P : Type 0} → Union X P → Union X (Unit {0})
+plain u = record { empty = u.empty; failed = u.failed; held = u.held; lg_k = u.lg_k; start = u.start; seed_hash = u.seed_hash; policy = tt }
+
+module _ {X P V : Type 0} (f : Family X V) (refuses : X → X → Bool) (keeps : KeepsKey f.key f.merges) (old new : Union X P) where
+  pub joins_plain : (s : Shown) (listing : List X) → IsUnion old → old.failed ≡ false → IsAscending f.key old.held.entries → IsApart f.key listing → (s.empty ≡ true → new ≡ old) → (s.empty ≡ false → IsJoined f.key f.merges refuses old new s.theta listing) →
+      (v : Sketch (Fold X)) → unmarked_value (shown_value f.key s listing) ≡ v → Joins f.key (folds_of f refuses) (plain old) (plain new) v
+  joins_plain s listing sound at_work up apart skipped joins v is =
+      subst (λ w. Joins f.key (folds_of f refuses) (plain old) (plain new) w) is
+      ((elim s.empty as (λ b. s.empty ≡ b → Joins f.key (folds_of f refuses) (plain old) (plain new) (unmarked_value (cond b Empty (NonEmpty (record { entries = map_of f.key listing; theta = s.theta }))))) [
+        | true ↦ λ e. ap (λ u. plain u) (skipped e)
+        | false ↦ λ e. united f.key f.merges refuses keeps old new s.theta listing sound at_work up apart (joins e)
+      ]) refl)

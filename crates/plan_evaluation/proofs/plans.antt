@@ -1,5 +1,0 @@
-pub mod NodeEquations
-pub mod EveryPlan
-pub mod PlanOutcome
-pub mod TrimmedLeaf
-pub mod WholeStreams

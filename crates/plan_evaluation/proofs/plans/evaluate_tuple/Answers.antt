@@ -1,0 +1,55 @@
+use Rattle.std.proofs.Common.{◌^◌}
+use Rattle.sketch_base.specs.Seed.{seed_hash}
+use Rattle.theta_table.specs.Entry.{tuple_key}
+use Rattle.plan_values.specs.Family.{tuple_folds}
+use Rattle.plan_values.specs.Value.{value_in}
+use Rattle.plan_values.specs.WholeStreams.{whole_in}
+use Rattle.plan_values.proofs.KnownFamilies.{tuple_folds_keep}
+use Rattle.plan_values.proofs.MergePlans.{merge_plan}
+use Rattle.plan_values.proofs.Samples.{sampled}
+use Rattle.plan_values.proofs.TrimmedLeaf.{trimmed_plan}
+use Rattle.plan_evaluation.proofs.evaluation.MergedSketches.{merged_keys}
+use Rattle.plan_evaluation.proofs.evaluation.OrderedSketches.{refused_policy}
+use Rattle.plan_evaluation.proofs.evaluation.Results.{on_ok}
+use Rattle.plan_evaluation.proofs.plans.evaluate_tuple.Goals as goal
+
+pub returns-clause-value : goal.returns-clause-value
+returns-clause-value g c = rw (c.new-family.ensures.updates, c.new-family.ensures.combines) at c.ordered.ensures.value
+
+pub returns-clause-whole : goal.returns-clause-whole
+returns-clause-whole g c =
+    let creates = g.P.SummaryPolicy.creates c.args.update_policy in
+    let updates = g.P.SummaryUpdatePolicy.updates c.args.update_policy in
+    let combines = g.Q.SummaryCombinePolicy.combines c.args.combine_policy in
+    on_ok c.ordered.result c.ordered.ensures.accepted (λ accepted. (sampled _ (tuple_folds creates updates combines) (tuple_folds_keep creates updates combines) c.args.seed c.args.plan.now accepted).all_below)
+
+pub returns-clause-merged : goal.returns-clause-merged
+returns-clause-merged g c = λ lg_k start merge.
+    let creates = g.P.SummaryPolicy.creates c.args.update_policy in
+    let updates = g.P.SummaryUpdatePolicy.updates c.args.update_policy in
+    let combines = g.Q.SummaryCombinePolicy.combines c.args.combine_policy in
+    on_ok c.ordered.result c.ordered.ensures.accepted (λ accepted. merge_plan (tuple_folds creates updates combines) (tuple_folds_keep creates updates combines) c.args.seed c.args.plan.now accepted lg_k start merge)
+
+pub returns-clause-kmin : goal.returns-clause-kmin
+returns-clause-kmin g c = λ lg_k start merge.
+    let creates = g.P.SummaryPolicy.creates c.args.update_policy in
+    let updates = g.P.SummaryUpdatePolicy.updates c.args.update_policy in
+    let combines = g.Q.SummaryCombinePolicy.combines c.args.combine_policy in
+    let f = tuple_folds creates updates combines in
+    merged_keys tuple_key (2 ^ lg_k) start (whole_in f c.args.plan.now) (value_in f c.args.plan.now) (seed_hash c.args.seed) c.ordered.result
+    (on_ok c.ordered.result c.ordered.ensures.accepted (λ accepted. merge_plan f (tuple_folds_keep creates updates combines) c.args.seed c.args.plan.now accepted lg_k start merge))
+    (rw (c.new-family.ensures.updates, c.new-family.ensures.combines) at c.ordered.ensures.value)
+
+pub returns-clause-trimmed : goal.returns-clause-trimmed
+returns-clause-trimmed g c = λ lg_k start steps is updated.
+    let creates = g.P.SummaryPolicy.creates c.args.update_policy in
+    let updates = g.P.SummaryUpdatePolicy.updates c.args.update_policy in
+    let combines = g.Q.SummaryCombinePolicy.combines c.args.combine_policy in
+    on_ok c.ordered.result c.ordered.ensures.accepted (trimmed_plan (tuple_folds creates updates combines) (tuple_folds_keep creates updates combines) c.args.seed lg_k start steps c.args.plan.now is updated)
+
+pub returns-clause-refused : goal.returns-clause-refused
+returns-clause-refused g c =
+    let creates = g.P.SummaryPolicy.creates c.args.update_policy in
+    let updates = g.P.SummaryUpdatePolicy.updates c.args.update_policy in
+    let combines = g.Q.SummaryCombinePolicy.combines c.args.combine_policy in
+    refused_policy (tuple_folds creates updates combines) c.args.seed c.args.plan.now c.ordered.result (rw (c.new-family.ensures.updates, c.new-family.ensures.combines) at c.ordered.ensures.refused)

@@ -1,0 +1,19 @@
+use Rattle.std.proofs.Common.{ap, ◌∙◌}
+use Rattle.std.specs.Prelude.{◌||◌}
+use Rattle.theta_family.specs.View.{shows, lends}
+use Rattle.theta_laws.specs.Entries.{hash_key}
+use Rattle.theta_laws.specs.Operators.{minus}
+use Rattle.theta_laws.specs.Shown.{shown_value}
+use Rattle.theta_table.specs.Entry.{tuple_key}
+use Rattle.plan_evaluation.proofs.families.Lacking.{fold_answer, minus_of_keys}
+use Rattle.plan_evaluation.proofs.families.Shown.{hashes_lent}
+use Rattle.plan_evaluation.proofs.tuple.TupleFamilySketchFamily.lacking.Goals as goal
+
+pub returns-clause-ok : goal.returns-clause-ok
+returns-clause-ok g c =
+    let a = c.view-a.result in
+    let b = c.view-b.result in
+    let first = shown_value tuple_key (shows tuple_key a) (lends a) in
+    fold_answer tuple_key first (shown_value tuple_key (shows tuple_key b) (lends b)) _ _ c.view-a.ensures.value c.view-b.ensures.value
+    _ (ap (λ hs. minus tuple_key hash_key first (shown_value hash_key (shows tuple_key b) hs)) (hashes_lent tuple_key b.sketch) ∙ minus_of_keys tuple_key (shows tuple_key b).empty (shows tuple_key b).theta first (lends b))
+    _ _ c.view-a.ensures.seed _ _ (ap (λ o. c.args.ordered || o) c.view-a.ensures.ordered) c.compute.result c.compute.ensures.ok

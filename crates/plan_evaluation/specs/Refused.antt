@@ -1,0 +1,42 @@
+-- Where a family's policies refuse: the whole maps have a mark.
+use Rattle.std.specs.Prelude.{ℕ, ◌≡◌, ◌≤◌, ◌⊎◌, Bool, true, IsTrue, List, Option, Some, None}
+use Rattle.sketch_base.specs.declared.error.ErrorKind.{ErrorKind}
+use Rattle.sketch_base.specs.declared.error.ErrorKind.TheVariants.{OutOfMemory, Policy}
+use Rattle.theta_laws.specs.Folds.{Fold, has_mark}
+use Rattle.theta_laws.specs.declared.TheConstants.{MAX_THETA}
+use Rattle.theta_laws.specs.Cuts.{Retained}
+use Rattle.theta_laws.specs.Leaf.{whole_step}
+use Rattle.theta_laws.specs.declared.leaf.LeafStep.{LeafStep}
+use Rattle.theta_laws.specs.Maps.{IsAscending, below}
+use Rattle.theta_laws.specs.Operators.{joined, common}
+use Rattle.theta_laws.specs.Samples.{IsAllBelow}
+use Rattle.theta_laws.specs.Values.{Sketch}
+use Rattle.plan_text.specs.declared.plan.Plan.{Plan}
+use Rattle.plan_values.specs.Family.{Family}
+use Rattle.plan_values.specs.Refusals.{may_refuse}
+use Rattle.plan_values.specs.Value.{plan_refusal}
+
+-- memory ran out, or a policy refused: one of a family whose policies may, for this reason
+abbrev pub RefusedFor : ErrorKind → (strict : Bool) → (why : Type 0) → Type 0
+RefusedFor e strict why = (e ≡ OutOfMemory) ⊎ ((e ≡ Policy) × IsTrue strict × why)
+
+-- whatever whole map a union holds and whatever one a part samples: joined they have what the union holds after the part
+abbrev pub HoldsMore : {X V : Type 0} → (f : Family (Fold X) V) → (old new : List (Fold X) → Type 0) → Sketch (Fold X) → Type 0
+HoldsMore {X} f old new v = (whole come : List (Fold X)) → IsAscending f.key whole → IsAscending f.key come → old whole → IsAllBelow f.key v come → new (joined f.key f.merges whole come)
+
+-- and where its policy refuses the part they have a mark
+abbrev pub MarksJoined : {X V : Type 0} → (f : Family (Fold X) V) → (holds : List (Fold X) → Type 0) → Sketch (Fold X) → Type 0
+MarksJoined {X} f holds v = (whole come : List (Fold X)) → IsAscending f.key whole → IsAscending f.key come → holds whole → IsAllBelow f.key v come → has_mark (joined f.key f.merges whole come) ≡ true
+
+-- whatever whole maps an intersection and a part sample: what they share has a mark
+abbrev pub MarksMet : {X V : Type 0} → (f : Family (Fold X) V) → (so_far : Option (Sketch (Fold X))) → Sketch (Fold X) → Type 0
+MarksMet f None v = ⊥
+MarksMet {X} f (Some u) v = (whole come : List (Fold X)) → IsAllBelow f.key u whole → IsAllBelow f.key v come → has_mark (common f.key f.merges whole come) ≡ true
+
+-- whatever whole map a sketch has all of below its theta: after the step it has a mark
+abbrev pub MarksStepped : {X V : Type 0} → (f : Family (Fold X) V) → Retained (Fold X) → LeafStep V → Type 0
+MarksStepped {X} f kept step = (whole : List (Fold X)) → kept.theta ≤ MAX_THETA → kept.entries ≡ below f.key whole kept.theta → has_mark (whole_step f.key f.step_of step whole) ≡ true
+
+-- what the evaluation of a plan is refused with: its settings, want of memory, or a policy that a mark in some whole map speaks of
+abbrev pub IsPlanRefused : {X V Z : Type 0} → (f : Family (Fold X) V) → (strict : Bool) → (seed : ℕ) → Plan V Z → ErrorKind → Type 0
+IsPlanRefused f strict seed p e = (plan_refusal seed p ≡ Some e) ⊎ RefusedFor e strict (IsTrue (may_refuse f p))

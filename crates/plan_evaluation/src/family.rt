@@ -1,0 +1,203 @@
+//! What plans need of a family of sketches.
+ghost use Rattle.std.specs.Prelude.{◌≡◌, ◌<◌, ◌||◌, ◌^◌, true, false, not, None, Some, [], IfOk, IfErr, OnOk, option_map};
+ghost use Rattle.sketch_base.specs.Seed.{seed_hash};
+ghost use Rattle.theta_table.specs.CompactState.{IsAnswer};
+ghost use Rattle.theta_table.specs.HashTable.{empty_table, after_reset, table_refusal};
+ghost use Rattle.theta_laws.specs.Cuts.{cut};
+ghost use Rattle.theta_laws.specs.Folds.{unmarked_value};
+ghost use Rattle.theta_laws.specs.Insertion.{after_upsert, upsert_refusal};
+ghost use Rattle.theta_laws.specs.Operators.{meet_next, minus};
+ghost use Rattle.theta_laws.specs.Refusal.{Refuses};
+ghost use Rattle.theta_family.specs.Updatable.{sketch_value};
+ghost use Rattle.theta_operators.specs.Intersection.{new_intersection, seed_refusal, IsAnswerIfAny};
+ghost use Rattle.theta_operators.specs.Union.{empty_union, union_value};
+ghost use Rattle.plan_values.specs.Family.{IsFamily, folds_of};
+ghost use Rattle.plan_evaluation.specs.Came.{came, IsFoldAnswer, Joins};
+ghost use Rattle.plan_evaluation.specs.Refused.{RefusedFor, HoldsMore, MarksJoined, MarksMet};
+
+use crate::evaluated::Evaluated;
+use sketch_base::Error;
+use std::alloc::Allocator;
+use theta_core::SketchEntry;
+
+/// A family of sketches and its operators, by their public calls. Its contracts are those of the calls, told of any family:
+/// values are told in folds, of which nothing here is a mark.
+pub trait SketchFamily<A: Allocator> {
+    /// What its sketches retain.
+    type Entry: SketchEntry;
+    /// What comes with an update's hash.
+    type Value: Copy;
+    /// A sketch that takes updates.
+    type Sketch: Drop;
+    /// A sketch that no longer changes.
+    type Compact: Drop;
+    /// A union of its sketches.
+    type Union: Drop;
+    /// An intersection of its sketches.
+    type Intersection: Drop;
+    /// A difference of its sketches.
+    type Difference: Drop;
+
+    ghost use Rattle.std.specs.Prelude.{ℕ, Bool, List};
+    ghost use Rattle.theta_laws.specs.Folds.{Fold};
+    ghost use Rattle.theta_table.specs.CompactState.{Compact as State};
+    ghost use Rattle.theta_family.specs.Updatable.{Updatable};
+    ghost use Rattle.theta_operators.specs.Union.{Union as Unions};
+    ghost use Rattle.theta_operators.specs.Intersection.{Intersection as Intersections};
+    ghost use Rattle.plan_values.specs.Family.{Family as Families};
+
+    /// Its keys, merges and steps, and the merges that it refuses.
+    ghost rules: { Self → Families Self.Entry Self.Value };
+
+    ghost refuses: { Self → Self.Entry → Self.Entry → Bool };
+
+    /// Whether a policy of it may refuse at all.
+    ghost strict: { Bool };
+
+    /// What is seen of its sketches, and of its operators but for their policies.
+    ghost state: { Self.Sketch → Updatable Self.Entry };
+
+    ghost listed: { Self.Compact → State Self.Entry };
+
+    ghost united: { Self.Union → Unions Self.Entry (Unit {0}) };
+
+    ghost met: { Self.Intersection → Intersections Self.Entry (Unit {0}) };
+
+    ghost difference_seed: { Self.Difference → ℕ };
+
+    /// Whether a union holds all of a whole map below its theta.
+    ghost holds: { Self → Self.Union → List (Fold Self.Entry) → Type 0 };
+
+    /// Whether it made a sketch, a union, an intersection: whether these have its policies.
+    ghost made_sketch: { Self → Self.Sketch → Type 0 };
+
+    ghost made_union: { Self → Self.Union → Type 0 };
+
+    ghost made_intersection: { Self → Self.Intersection → Type 0 };
+
+    /// A new sketch.
+    fn new_sketch(&self, alloc: A, lg_k: u8, start: u64, seed: u64) -> Result<Self::Sketch, Error>
+        ensures own { IfOk result (made_sketch self.now) }
+        ensures empty { IfOk result (λ s. (state s).empty ≡ true) }
+        ensures made { IfOk result (λ s. (state s).map ≡ empty_table lg_k start seed) }
+        ensures refused { Refuses result (table_refusal lg_k start seed) true };
+
+    /// Adds a value at a hash.
+    fn add(&self, sketch: &mut Self::Sketch, hash: u64, value: Self::Value) -> Result<(), Error>
+        requires own { made_sketch self.now sketch.old }
+        ensures still { made_sketch self.now sketch.new }
+        ensures nonempty { OnOk result ((state sketch.new).empty ≡ false) }
+        ensures after { OnOk result ((state sketch.new).map ≡ record (state sketch.old).map { kept = after_upsert (rules self.now).key (2 ^ (state sketch.old).map.lg_nom) hash ((rules self.now).step_of hash value) (state sketch.old).map.kept }) }
+        ensures strict { IfErr result (λ e. RefusedFor e strict (upsert_refusal (rules self.now).key hash ((rules self.now).step_of hash value) (state sketch.old).map.kept ≡ Some e)) }
+        ensures accepted { OnOk result (upsert_refusal (rules self.now).key hash ((rules self.now).step_of hash value) (state sketch.old).map.kept ≡ None) };
+
+    /// Trims a sketch.
+    fn trim(&self, sketch: &mut Self::Sketch) -> Result<(), Error>
+        requires own { made_sketch self.now sketch.old }
+        ensures still { made_sketch self.now sketch.new }
+        ensures same_emptiness { (state sketch.new).empty ≡ (state sketch.old).empty }
+        ensures after { OnOk result ((state sketch.new).map ≡ record (state sketch.old).map { kept = cut (rules self.now).key (2 ^ (state sketch.old).map.lg_nom) (state sketch.old).map.kept.entries (state sketch.old).map.kept.theta }) }
+        ensures refused { Refuses result None true };
+
+    /// Makes a sketch empty again.
+    fn reset(&self, sketch: &mut Self::Sketch)
+        requires own { made_sketch self.now sketch.old }
+        ensures still { made_sketch self.now sketch.new }
+        ensures empty { (state sketch.new).empty ≡ true }
+        ensures map { (state sketch.new).map ≡ after_reset (state sketch.old).map };
+
+    /// The compact form of a sketch.
+    fn compact(&self, sketch: &Self::Sketch, ordered: bool) -> Result<Self::Compact, Error>
+        ensures ok { IfOk result (λ c. IsAnswer (rules self.now).key (sketch_value (state sketch.now)) (state sketch.now).map.seed_hash ordered (listed c)) }
+        ensures refused { Refuses result None true };
+
+    /// A new union.
+    fn new_union(&self, alloc: A, lg_k: u8, start: u64, seed: u64) -> Result<Self::Union, Error>
+        ensures own { IfOk result (made_union self.now) }
+        ensures made { IfOk result (λ u. united u ≡ empty_union lg_k start (seed_hash seed) tt) }
+        ensures holds { IfOk result (λ u. holds self.now u []) }
+        ensures refused { Refuses result (table_refusal lg_k start seed) true };
+
+    /// Hands a part of the union's seed over to a union that has not failed.
+    fn join(
+        &self,
+        union: &mut Self::Union,
+        part: &Evaluated<Self::Sketch, Self::Compact>,
+    ) -> Result<(), Error>
+        requires own { made_union self.now union.old }
+        requires same_seed { (united union.old).seed_hash ≡ (came (rules self.now).key state listed part.now).seed_hash }
+        requires at_work { (united union.old).failed ≡ false }
+        ensures still { made_union self.now union.new }
+        ensures joins { OnOk result (Joins (rules self.now).key (folds_of (rules self.now) (refuses self.now)) (united union.old) (united union.new) (came (rules self.now).key state listed part.now).value) }
+        ensures made_with { OnOk result (united union.new ≡ record (united union.old) { empty = (united union.new).empty; held = (united union.new).held }) }
+        ensures holds { OnOk result (HoldsMore (folds_of (rules self.now) (refuses self.now)) (holds self.now union.old) (holds self.now union.new) (came (rules self.now).key state listed part.now).value) }
+        ensures refused { IfErr result (λ e. RefusedFor e strict (MarksJoined (folds_of (rules self.now) (refuses self.now)) (holds self.now union.old) (came (rules self.now).key state listed part.now).value)) };
+
+    /// The value of a union that has not failed.
+    fn joined(&self, union: &Self::Union, ordered: bool) -> Result<Self::Compact, Error>
+        requires at_work { (united union.now).failed ≡ false }
+        ensures ok { IfOk result (λ c. IsAnswer (rules self.now).key (union_value (rules self.now).key (united union.now)) (united union.now).seed_hash ordered (listed c)) }
+        ensures refused { Refuses result None true };
+
+    /// A new intersection.
+    fn new_intersection(&self, alloc: A, seed: u64) -> Result<Self::Intersection, Error>
+        ensures own { IfOk result (made_intersection self.now) }
+        ensures made { IfOk result (λ i. met i ≡ new_intersection (seed_hash seed) tt) }
+        ensures refused { Refuses result (seed_refusal seed) true };
+
+    /// Hands a part of the intersection's seed over to it.
+    fn meet(
+        &self,
+        intersection: &mut Self::Intersection,
+        part: &Evaluated<Self::Sketch, Self::Compact>,
+    ) -> Result<(), Error>
+        requires own { made_intersection self.now intersection.old }
+        requires same_seed { (met intersection.old).seed_hash ≡ (came (rules self.now).key state listed part.now).seed_hash }
+        ensures still { made_intersection self.now intersection.new }
+        ensures meets { OnOk result (let f = folds_of (rules self.now) (refuses self.now) in option_map unmarked_value (met intersection.new).result ≡ Some (meet_next f.key f.merges (option_map unmarked_value (met intersection.old).result) (came (rules self.now).key state listed part.now).value)) }
+        ensures made_with { OnOk result (met intersection.new ≡ record (met intersection.old) { result = (met intersection.new).result }) }
+        ensures refused { IfErr result (λ e. RefusedFor e strict (MarksMet (folds_of (rules self.now) (refuses self.now)) (option_map unmarked_value (met intersection.old).result) (came (rules self.now).key state listed part.now).value)) };
+
+    /// The value of an intersection, or `None` before its first part.
+    fn shared(
+        &self,
+        intersection: &Self::Intersection,
+        ordered: bool,
+    ) -> Result<Option<Self::Compact>, Error>
+        ensures ok { IfOk result (λ c. IsAnswerIfAny (rules self.now).key (met intersection.now).result (met intersection.now).seed_hash ordered (option_map listed c)) }
+        ensures refused { Refuses result None true };
+
+    /// A difference.
+    fn new_difference(&self, seed: u64) -> Result<Self::Difference, Error>
+        ensures ok { IfOk result (λ d. difference_seed d ≡ seed_hash seed) }
+        ensures refused { Refuses result (seed_refusal seed) true };
+
+    /// What the first part of a difference's seed has and the second lacks.
+    fn lacking(
+        &self,
+        difference: &Self::Difference,
+        alloc: A,
+        first: &Evaluated<Self::Sketch, Self::Compact>,
+        second: &Evaluated<Self::Sketch, Self::Compact>,
+        ordered: bool,
+    ) -> Result<Self::Compact, Error>
+        requires first_seed { difference_seed difference.now ≡ (came (rules self.now).key state listed first.now).seed_hash }
+        requires second_seed { difference_seed difference.now ≡ (came (rules self.now).key state listed second.now).seed_hash }
+        ensures ok { let f = folds_of (rules self.now) (refuses self.now) in let a = came (rules self.now).key state listed first.now in let b = came (rules self.now).key state listed second.now in IfOk result (λ c. IsFoldAnswer (rules self.now).key (minus f.key f.key a.value b.value) a.seed_hash (ordered || a.ordered) (listed c)) }
+        ensures refused { Refuses result None true };
+
+    /// A sketch of this seed, written and read back. It is gone before its image is read.
+    fn through_image(
+        &self,
+        alloc: A,
+        sketch: Self::Compact,
+        seed: u64,
+    ) -> Result<Self::Compact, Error>
+        requires same_seed { (listed sketch).seed_hash ≡ seed_hash seed }
+        requires seeded { 0 < seed_hash seed }
+        ensures same { IfOk result (λ s. listed s ≡ listed sketch) }
+        ensures refused { Refuses result None true };
+
+    /// Steps and merges keep hashes.
+    ghost keeps: { (f : Self) → IsFamily (rules f) };
+}

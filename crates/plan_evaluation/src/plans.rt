@@ -1,0 +1,142 @@
+//! The one sketch that a plan is evaluated to, in each family.
+ghost use Rattle.std.specs.Prelude.{◌≡◌, ◌^◌, ◌++◌, ◌∷◌, ◌⊎◌, [], ℕ, List, map, true, false, Some, None, IfOk, IfErr, OnOk};
+ghost use Rattle.sketch_base.specs.Seed.{seed_hash};
+ghost use Rattle.sketch_base.specs.declared.error.ErrorKind.TheVariants.{OutOfMemory, Policy};
+ghost use Rattle.theta_laws.specs.Cuts.{cut};
+ghost use Rattle.theta_laws.specs.Entries.{ClonesEqual, hash_key};
+ghost use Rattle.theta_laws.specs.Leaf.{is_updated, added, kmin, whole};
+ghost use Rattle.theta_laws.specs.Maps.{entry_at};
+ghost use Rattle.theta_laws.specs.Refusal.{Refuses};
+ghost use Rattle.theta_laws.specs.Samples.{IsAllBelow};
+ghost use Rattle.theta_laws.specs.Values.{NonEmpty};
+ghost use Rattle.theta_laws.specs.declared.leaf.LeafStep.{LeafStep};
+ghost use Rattle.theta_laws.specs.declared.leaf.LeafStep.TheVariants.{Trim};
+ghost use Rattle.theta_table.specs.Entry.{tuple_key};
+ghost use Rattle.theta_table.specs.declared.entry.TupleEntry.{TupleEntry};
+ghost use Rattle.plan_text.specs.declared.plan.Plan.TheVariants as plans;
+ghost use Rattle.plan_values.specs.AddedValues.{added_values, total};
+ghost use Rattle.plan_values.specs.Family.{folds_of, tuple_folds};
+ghost use Rattle.plan_values.specs.MergePlan.{only_unites, IsMergePlan};
+ghost use Rattle.plan_values.specs.Refusals.{may_refuse};
+ghost use Rattle.plan_values.specs.Value.{value_in, value_of, plan_refusal};
+ghost use Rattle.plan_values.specs.WholeStreams.{whole_in, whole_of};
+ghost use Rattle.plan_evaluation.specs.Answered.{ordered_sketch, HasKeys, IsSketchOf};
+ghost use Rattle.plan_evaluation.specs.Refused.{IsPlanRefused};
+
+use crate::evaluate::{compacted, evaluate};
+use crate::family::SketchFamily;
+use crate::theta::ThetaFamily;
+use crate::tuple::TupleFamily;
+use plan_text::Plan;
+use sketch_base::Error;
+use std::alloc::Allocator;
+use theta_sketches::CompactThetaSketch;
+use tuple_sketches::{
+    CheckedSum, CompactTupleSketch, DefaultUnionPolicy, DefaultUpdatePolicy, SummaryCombinePolicy,
+    SummaryUpdatePolicy, TupleSummaryValue,
+};
+
+/// The sketch of a plan under a seed, ordered. Its value is the plan's: it retains all of the whole streams' map below its
+/// theta, and where it is empty that map has no keys.
+///
+/// Where the plan merges leaves of one start, of nominal entries no fewer than those of the union at its root, with no union
+/// that starts below them, and some leaf is updated, the value is the k-minimum of the hashes from 1 on that were added after
+/// the leaves' last resets, whatever the order and grouping and whether parts go through images. Where the plan is a leaf
+/// that isn't empty and whose last step is a trim, it is the k-minimum of those that were added to it.
+///
+/// Refused with `InvalidArgument` where the seed hash is 0 or some node's `lg_k` is outside 5 to 26 or its start outside
+/// 1 to `MAX_THETA`, and with `OutOfMemory`.
+pub fn evaluate_theta<A: Allocator + Clone, B: Allocator>(
+    alloc: A,
+    plan: &Plan<(), B>,
+    seed: u64,
+) -> Result<CompactThetaSketch<A>, Error>
+    ensures value { IfOk result (λ s. s ≡ ordered_sketch (value_of plan.now) (seed_hash seed)) }
+    ensures whole { OnOk result (IsAllBelow hash_key (value_of plan.now) (whole_of plan.now)) }
+    ensures merged { (lg_k start : ℕ) → IsMergePlan lg_k start plan.now → OnOk result (value_of plan.now ≡ NonEmpty (kmin (2 ^ lg_k) (whole_of plan.now) start)) }
+    ensures trimmed { (lg_k start : ℕ) (steps : List (LeafStep (Unit {0}))) → plan.now ≡ plans.Leaf lg_k start (steps ++ Trim ∷ []) → is_updated steps false ≡ true → OnOk result (value_of plan.now ≡ NonEmpty (kmin (2 ^ lg_k) (added steps) start)) }
+    ensures refused { Refuses result (plan_refusal seed plan.now) true }
+{
+    ordered(&ThetaFamily, &alloc, plan, seed)
+}
+
+/// The sketch of a plan of tuples under a seed and two policies, ordered: `update_policy` makes and updates the summaries of
+/// leaves, `combine_policy` combines those of a key that parts of a union or an intersection share, in the order of the
+/// parts. Its value is the plan's, in folds, none of which is a refusal: it retains all of the whole streams' map below its
+/// theta, and where it is empty that map has no keys.
+///
+/// Where the plan merges leaves as `evaluate_theta` says, the value has the k keys of least hash of that map below the start,
+/// each with its fold over the whole streams, whatever theta leaves and inner unions came to. Where the plan is a leaf that
+/// isn't empty and whose last step is a trim, it has the k of least hash of what was added.
+///
+/// Refused with `InvalidArgument` where the seed hash is 0 or some node's `lg_k` is outside 5 to 26 or its start outside
+/// 1 to `MAX_THETA`; with `OutOfMemory`; and with `Policy` only where a beginning of some leaf's steps, or of the parts of
+/// some union or intersection, folds to a refusal at some key. The first refusal ends the evaluation.
+pub fn evaluate_tuple<
+    S: Clone + TupleSummaryValue<A>,
+    U: Copy + Drop,
+    P: SummaryUpdatePolicy<U, Summary = S> + Copy + Drop,
+    Q: SummaryCombinePolicy<Summary = S> + Copy + Drop,
+    A: Allocator + Clone,
+    B: Allocator,
+>(
+    alloc: A,
+    plan: &Plan<U, B>,
+    seed: u64,
+    update_policy: P,
+    combine_policy: Q,
+) -> Result<CompactTupleSketch<S, A>, Error>
+    requires clones_equal { ClonesEqual S.is_clone }
+    ensures value { let f = tuple_folds (P.creates update_policy) (P.updates update_policy) (Q.combines combine_policy) in IfOk result (IsSketchOf tuple_key (value_in f plan.now) (seed_hash seed)) }
+    ensures whole { let f = tuple_folds (P.creates update_policy) (P.updates update_policy) (Q.combines combine_policy) in OnOk result (IsAllBelow f.key (value_in f plan.now) (whole_in f plan.now)) }
+    ensures merged { (lg_k start : ℕ) → IsMergePlan lg_k start plan.now → let f = tuple_folds (P.creates update_policy) (P.updates update_policy) (Q.combines combine_policy) in OnOk result (value_in f plan.now ≡ NonEmpty (cut f.key (2 ^ lg_k) (whole_in f plan.now) start)) }
+    ensures kmin { (lg_k start : ℕ) → IsMergePlan lg_k start plan.now → let f = tuple_folds (P.creates update_policy) (P.updates update_policy) (Q.combines combine_policy) in IfOk result (HasKeys tuple_key (kmin (2 ^ lg_k) (map f.key (whole_in f plan.now)) start)) }
+    ensures trimmed { (lg_k start : ℕ) (steps : List (LeafStep U)) → plan.now ≡ plans.Leaf lg_k start (steps ++ Trim ∷ []) → is_updated steps false ≡ true → let f = tuple_folds (P.creates update_policy) (P.updates update_policy) (Q.combines combine_policy) in OnOk result (value_in f plan.now ≡ NonEmpty (cut f.key (2 ^ lg_k) (whole f.key f.step_of steps) start)) }
+    ensures accepted { OnOk result (plan_refusal seed plan.now ≡ None) }
+    ensures refused { let f = tuple_folds (P.creates update_policy) (P.updates update_policy) (Q.combines combine_policy) in IfErr result (λ e. (plan_refusal seed plan.now ≡ Some e) ⊎ ((e ≡ OutOfMemory) ⊎ ((e ≡ Policy) × (may_refuse f plan.now ≡ true)))) }
+{
+    let family = TupleFamily::new(update_policy, combine_policy);
+    ordered(&family, &alloc, plan, seed)
+}
+
+/// The sketch of a plan of tuples whose summaries are sums: a leaf adds each value of a key to its summary, from 0 on, and
+/// operators add the summaries of a key that their parts share.
+///
+/// Where the plan has only leaves, unions and images, each summary is the whole-number sum of all values that were added at
+/// its key after the leaves' last resets, in any order and grouping. For the rest it is as `evaluate_tuple` says: where the
+/// plan merges leaves, the keys and theta are the k-minimum of all keys that were added.
+///
+/// Refused as `evaluate_tuple` is: with `Policy` only where a beginning of some leaf's steps, or of the parts of some union or
+/// intersection, sums up to a number out of the bounds of its type.
+pub fn evaluate_sums<
+    S: CheckedSum + TupleSummaryValue<A> + Drop,
+    A: Allocator + Clone,
+    B: Allocator,
+>(alloc: A, plan: &Plan<S, B>, seed: u64) -> Result<CompactTupleSketch<S, A>, Error>
+    requires clones_equal { ClonesEqual S.is_clone }
+    ensures value { IfOk result (IsSketchOf tuple_key (value_in (tuple_folds (Some S.ZERO) S.sums S.sums) plan.now) (seed_hash seed)) }
+    ensures whole { let f = tuple_folds (Some S.ZERO) S.sums S.sums in OnOk result (IsAllBelow f.key (value_in f plan.now) (whole_in f plan.now)) }
+    ensures kmin { (lg_k start : ℕ) → IsMergePlan lg_k start plan.now → let f = tuple_folds (Some S.ZERO) S.sums S.sums in IfOk result (HasKeys tuple_key (kmin (2 ^ lg_k) (map f.key (whole_in f plan.now)) start)) }
+    ensures sums { only_unites plan.now ≡ true → IfOk result (λ s. (h : ℕ) (e : TupleEntry S) → entry_at tuple_key s.entries h ≡ Some e → S.whole e.summary ≡ total (map S.whole (added_values h plan.now))) }
+    ensures accepted { OnOk result (plan_refusal seed plan.now ≡ None) }
+    ensures refused { IfErr result (λ e. (plan_refusal seed plan.now ≡ Some e) ⊎ ((e ≡ OutOfMemory) ⊎ ((e ≡ Policy) × (may_refuse (tuple_folds (Some S.ZERO) S.sums S.sums) plan.now ≡ true)))) }
+{
+    let updates = DefaultUpdatePolicy::<S>::default();
+    let unions = DefaultUnionPolicy::<S>::default();
+    evaluate_tuple(alloc, plan, seed, updates, unions)
+}
+
+/// The sketch of a plan in a family, ordered.
+fn ordered<F: SketchFamily<A>, A: Allocator + Clone, B: Allocator>(
+    family: &F,
+    alloc: &A,
+    plan: &Plan<F::Value, B>,
+    seed: u64,
+) -> Result<F::Compact, Error>
+    ensures value { let f = folds_of (F.rules family.now) (F.refuses family.now) in IfOk result (λ c. IsSketchOf (F.rules family.now).key (value_in f plan.now) (seed_hash seed) (F.listed c)) }
+    ensures accepted { OnOk result (plan_refusal seed plan.now ≡ None) }
+    ensures refused { IfErr result (IsPlanRefused (folds_of (F.rules family.now) (F.refuses family.now)) F.strict seed plan.now) }
+{
+    let sketch = evaluate(family, alloc, plan, seed, true)?;
+    compacted(family, sketch, true)
+}

@@ -1,0 +1,5 @@
+use Rattle.plan_values.proofs.Marks.{leaf_marks}
+use Rattle.plan_values.proofs.laws.leaf_may_refuse.Goals as goal
+
+pub returns : goal.returns
+returns g c = λ f lg_k start steps n marked. leaf_marks _ f lg_k start steps n marked

@@ -1,0 +1,12 @@
+use Rattle.plan_values.proofs.NeverRefused.{theta_whole, theta_never_refuses}
+use Rattle.plan_values.proofs.PlansWithoutMarks.{theta_unmarked}
+use Rattle.plan_values.proofs.laws.theta_in_folds.Goals as goal
+
+pub returns-clause-value : goal.returns-clause-value
+returns-clause-value g c = theta_unmarked
+
+pub returns-clause-whole_map : goal.returns-clause-whole_map
+returns-clause-whole_map g c = theta_whole
+
+pub returns-clause-no_policy : goal.returns-clause-no_policy
+returns-clause-no_policy g c = theta_never_refuses

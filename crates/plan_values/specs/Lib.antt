@@ -1,0 +1,9 @@
+pub mod Family
+pub mod Value
+pub mod WholeStreams
+pub mod Refusals
+pub mod Outcome
+pub mod MergePlan
+pub mod AddedValues
+pub mod Worked
+pub mod WorkedSums

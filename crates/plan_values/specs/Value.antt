@@ -1,0 +1,53 @@
+-- What a plan is worth.
+use Rattle.std.specs.Prelude.{ℕ, ◌^◌, ◌&&◌, Bool, is_none, if◌then◌else◌, Option, Some, None}
+use Rattle.std.specs.List.{list_all}
+use Rattle.sketch_base.specs.declared.error.ErrorKind.{ErrorKind}
+use Rattle.sketch_base.specs.declared.error.ErrorKind.TheVariants.{InvalidArgument}
+use Rattle.theta_operators.specs.Intersection.{seed_refusal}
+use Rattle.theta_laws.specs.Leaf.{leaf}
+use Rattle.theta_laws.specs.Operators.{unite, meet, minus}
+use Rattle.theta_laws.specs.Values.{Sketch}
+use Rattle.theta_table.specs.HashTable.{table_refusal}
+use Rattle.plan_text.specs.declared.plan.Plan.{Plan}
+use Rattle.plan_text.specs.declared.plan.Plan.TheOpen.{Plan-F}
+use Rattle.plan_text.specs.declared.plan.Plan.TheFolds.{fold-Plan}
+use Rattle.plan_values.specs.Family.{Family, hashes}
+
+-- the value of a node: of a leaf by its steps, of an operator by the values of its parts, and of what is written and read its own
+abbrev pub node_value : {X V Z : Type 0} → Family X V → Plan-F V Z (Sketch X) → Sketch X
+node_value f (Plan-F.Leaf lg_k start steps) = leaf f.key f.step_of (2 ^ lg_k) start steps
+node_value f (Plan-F.Union lg_k start parts) = unite f.key f.merges (2 ^ lg_k) start parts
+node_value f (Plan-F.Meet parts) = meet f.key f.merges parts
+node_value f (Plan-F.Minus first second) = minus f.key f.key first second
+node_value f (Plan-F.Via ordered part) = part
+
+-- the value of a plan in a family
+abbrev pub value_in : {X V Z : Type 0} → Family X V → Plan V Z → Sketch X
+value_in {X} {V} {Z} f = fold-Plan V Z (Sketch X) (node_value f)
+
+-- the value of a theta plan
+abbrev pub value_of : {Z : Type 0} → Plan (Unit {0}) Z → Sketch ℕ
+value_of = value_in hashes
+
+-- whether a sketch or a union may be built with these settings
+abbrev pub may_be_built : (lg_k start seed : ℕ) → Bool
+may_be_built lg_k start seed = is_none (table_refusal lg_k start seed)
+
+-- whether an operator of no settings may be built
+abbrev pub may_have_seed : (seed : ℕ) → Bool
+may_have_seed seed = is_none (seed_refusal seed)
+
+-- whether every node of a plan may be built with its settings under a seed
+abbrev pub node_fits : {V Z : Type 0} → (seed : ℕ) → Plan-F V Z Bool → Bool
+node_fits seed (Plan-F.Leaf lg_k start steps) = may_be_built lg_k start seed
+node_fits seed (Plan-F.Union lg_k start parts) = may_be_built lg_k start seed && list_all (λ fits. fits) parts
+node_fits seed (Plan-F.Meet parts) = may_have_seed seed && list_all (λ fits. fits) parts
+node_fits seed (Plan-F.Minus first second) = may_have_seed seed && (first && second)
+node_fits seed (Plan-F.Via ordered part) = part
+
+abbrev pub fits : {V Z : Type 0} → (seed : ℕ) → Plan V Z → Bool
+fits {V} {Z} seed = fold-Plan V Z Bool (node_fits seed)
+
+-- what the evaluation of a plan is refused with: a node that no sketch may have, or a seed
+abbrev pub plan_refusal : {V Z : Type 0} → (seed : ℕ) → Plan V Z → Option ErrorKind
+plan_refusal seed plan = if fits seed plan then None else Some InvalidArgument

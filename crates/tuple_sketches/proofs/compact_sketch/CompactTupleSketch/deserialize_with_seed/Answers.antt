@@ -1,0 +1,23 @@
+use Rattle.std.proofs.Common.{◌<◌, arith}
+use Rattle.std.proofs.lemmas.Result.{err_from_is_err_and}
+use Rattle.sketch_base.specs.Seed.{seed_hash}
+use Rattle.theta_images.proofs.ReadEntries.{refused_weaker}
+use Rattle.tuple_sketches.proofs.Layouts.{tuple_from, tuple_to, tuple_whole}
+use Rattle.tuple_sketches.proofs.compact_sketch.CompactTupleSketch.deserialize_with_seed.Goals as goal
+
+pub read_behind-requires : goal.read_behind-requires
+read_behind-requires g c = rw c.tuple_layout.ensures (tuple_whole c.args.bytes.now c.in_ok-seed_hash.seed_hash)
+
+pub returns-in_err-state-clause-refused : goal.returns-in_err-state-clause-refused
+returns-in_err-state-clause-refused g c =
+    let p = err_from_is_err_and c.from_residual-in_err-state.result c.from_residual-in_err-state.ensures.1 in
+    let seed = c.in_ok-seed_hash.ensures.ok in
+    let found = rw (c.tuple_layout.ensures, seed) at c.in_err-state.ensures in
+    rw (p.1, p.2) (refused_weaker c.in_err-state.field-0.0 (λ read. (read.0, tuple_from g.S.TupleSummaryValue.spells c.args.bytes.now (seed_hash c.args.seed) read.0 read.1.spelled)) found)
+
+pub returns-clause-ok : goal.returns-clause-ok
+returns-clause-ok g c =
+    let seed = c.in_ok-seed_hash.ensures in
+    let nonzero : 0 < seed_hash c.args.seed = omega (arith, seed.nonzero) in
+    let found = rw (c.tuple_layout.ensures, seed.ok) at c.in_ok-state.ensures in
+    rw c.of_state.ensures (record { seeded = nonzero; spelled = tuple_to g.S.TupleSummaryValue.spells c.args.bytes.now (seed_hash c.args.seed) c.in_ok-state.state found })

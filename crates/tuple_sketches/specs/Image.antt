@@ -1,0 +1,44 @@
+-- Images of tuple sketches: which bytes are read as which sketch, and which are written. How summaries are spelled is a parameter.
+use Rattle.std.specs.Prelude.{ℕ, ◌≡◌, ◌<◌, ◌⊎◌, List, slice_index}
+use Rattle.std.specs.List.{AllByRecursion}
+use Rattle.theta_table.specs.CompactState.{Compact}
+use Rattle.theta_table.specs.Entry.{tuple_key}
+use Rattle.theta_table.specs.declared.entry.TupleEntry.{TupleEntry}
+use Rattle.theta_images.specs.Preamble.{Begins}
+use Rattle.theta_images.specs.Read.{ReadsFlagged}
+use Rattle.theta_images.specs.Summary.{SpellsTuple, is_tuple_value, tuple_text}
+use Rattle.theta_images.specs.Write.{written_image}
+
+-- the versions that are read
+abbrev pub IsVersion : ℕ → Type 0
+IsVersion version = (version ≡ 3) ⊎ (version ≡ 1)
+
+-- the sketch types that are read, under either version
+abbrev pub IsSketchType : ℕ → Type 0
+IsSketchType kind = (kind ≡ 1) ⊎ (kind ≡ 5)
+
+-- a beginning of the bytes spells the sketch, under the reader's seed hash h
+pub record SpellsSketch {S : Type 0} (Spells : List ℕ → S → Type 0) (bytes : List ℕ) (h : ℕ) (s : Compact (TupleEntry S)) : Type 0 where
+  pub longs : ℕ
+  pub version : ℕ
+  pub begins : Begins bytes longs version 9
+  pub version_read : IsVersion version
+  pub type_read : IsSketchType (slice_index bytes 3)
+  pub filled : ReadsFlagged tuple_key (SpellsTuple Spells) bytes longs h s
+
+-- the bytes are read as the sketch, under the reader's seed hash h, which is not 0
+pub record Reads {S : Type 0} (Spells : List ℕ → S → Type 0) (bytes : List ℕ) (h : ℕ) (s : Compact (TupleEntry S)) : Type 0 where
+  pub seeded : 0 < h
+  pub spelled : SpellsSketch Spells bytes h s
+
+-- the bytes are read as some sketch
+abbrev pub IsReadable : {S : Type 0} → (List ℕ → S → Type 0) → List ℕ → (h : ℕ) → Type 0
+IsReadable {S} Spells bytes h = (s : Compact (TupleEntry S)) × Reads Spells bytes h s
+
+-- each summary of the sketch is a value
+abbrev pub HasValues : {S : Type 0} → (S → Type 0) → Compact (TupleEntry S) → Type 0
+HasValues IsValue s = AllByRecursion (is_tuple_value IsValue) s.entries
+
+-- the image that is written of a sketch, with each summary's text
+abbrev pub written : {S : Type 0} → (S → List ℕ) → Compact (TupleEntry S) → List ℕ
+written text = written_image (tuple_text text) 9 1

@@ -1,0 +1,117 @@
+//! Images of tuple sketches, in the DataSketches format of family 9. All numbers are little endian.
+//!
+//! Each hash is followed by its summary's bytes. Serial version 3 with sketch type 1 is written; both are read, and so are
+//! the older version 1 and sketch type 5, in any combination.
+ghost use Rattle.std.specs.Prelude.{◌≡◌, ◌≤◌, ◌+◌, ◌-◌, ◌^◌, min, None, true, length, IfOk, IfErr, OnOk};
+ghost use Rattle.std.specs.List.{flat_map};
+ghost use Rattle.sketch_base.specs.Seed.{seed_hash};
+ghost use Rattle.sketch_base.specs.declared.seed.TheConstants.{DEFAULT_UPDATE_SEED};
+ghost use Rattle.theta_images.specs.Read.{IsRefused};
+ghost use Rattle.theta_images.specs.Summary.{tuple_text};
+ghost use Rattle.theta_laws.specs.Refusal.{Refuses};
+ghost use Rattle.tuple_sketches.specs.Image.{Reads, IsReadable, HasValues, written};
+ghost use Rattle.tuple_sketches.specs.ImageLayout.{is_version, is_sketch_type, tuple_layout};
+
+use crate::compact_sketch::CompactTupleSketch;
+use sketch_base::{DEFAULT_UPDATE_SEED, Error, ErrorKind, Family, compute_seed_hash};
+use std::alloc::Allocator;
+use theta_core::image::{Layout, flagged_layout, read_behind, write_image_with_capacity};
+use theta_core::{TupleEntry, TupleSummaryValue};
+
+/// The version of images as they are written, byte 1 of an image.
+pub const SERIAL_VERSION: u8 = 3;
+
+/// The older version that is read too.
+pub const SERIAL_VERSION_LEGACY: u8 = 1;
+
+/// The sketch type of images as they are written, byte 3 of an image.
+pub const SKETCH_TYPE: u8 = 1;
+
+/// The older sketch type that is read too.
+pub const SKETCH_TYPE_LEGACY: u8 = 5;
+
+/// The image of an empty sketch, whatever its seed.
+pub const EMPTY_SKETCH_BYTES: [u8; 8] = [1, 3, 9, 1, 0, 0x1e, 0, 0];
+
+/// Whether images of this version are read.
+fn is_version(version: u8) -> bool
+    ensures { result ≡ is_version version }
+{
+    version == SERIAL_VERSION || version == SERIAL_VERSION_LEGACY
+}
+
+/// Whether images of this sketch type are read.
+fn is_sketch_type(kind: u8) -> bool
+    ensures { result ≡ is_sketch_type kind }
+{
+    kind == SKETCH_TYPE || kind == SKETCH_TYPE_LEGACY
+}
+
+/// What stands in an image by its preamble, or `None` where there is no tuple sketch of 1 to 3 preamble longs, and of a version
+/// and sketch type that are read.
+#[tactic(auto, unfolding(crate::specs::ImageLayout::tuple_layout))]
+fn tuple_layout(bytes: &[u8], seed_hash: u16) -> Option<Layout>
+    ensures { result ≡ tuple_layout bytes.now seed_hash }
+{
+    if bytes.len() < 8 || !(1 <= bytes[0] && bytes[0] <= 3) || bytes[2] != 9 {
+        return None;
+    }
+    if is_version(bytes[1]) && is_sketch_type(bytes[3]) {
+        flagged_layout(bytes, bytes[0], seed_hash)
+    } else {
+        None
+    }
+}
+
+/// How many bytes an image of these entries takes behind a preamble of three longs, or the greatest number where it is more.
+fn greatest_size<S: TupleSummaryValue<A>, A: Allocator>(entries: &[TupleEntry<S>]) -> usize
+    ensures { result ≡ min (24 + length (flat_map (tuple_text S.text) entries.now)) (2 ^ 64 - 1) }
+{
+    let mut size = 24usize;
+    'add_each: for entry in entries {
+        size = size
+            .saturating_add(8)
+            .saturating_add(entry.summary().serialize_size());
+    }
+    size
+}
+
+impl<S: TupleSummaryValue<A> + Drop, A: Allocator + Clone + Drop> CompactTupleSketch<S, A> {
+    /// The sketch's image, in memory of a clone of its allocator. Refused with `OutOfMemory` alone, also where a summary
+    /// refuses to be written. Where it is not refused, every summary is a value, so that the image is read as this sketch.
+    pub fn serialize(&self) -> Result<Vec<u8, A>, Error>
+        ensures ok { IfOk result (λ v. v.items ≡ written S.text self.now) }
+        ensures values { OnOk result (HasValues S.is_value self.now) }
+        ensures refused { Refuses result None true }
+    {
+        let alloc = self.state().allocator().clone()?;
+        let capacity = greatest_size::<S, A>(self.state().retained_entries());
+        write_image_with_capacity(alloc, self.state(), Family::TUPLE, SKETCH_TYPE, capacity)
+    }
+
+    /// The sketch that a beginning of the bytes spells, under the seed of sketches for which no other is asked.
+    ///
+    /// Refused as `deserialize_with_seed` is.
+    pub fn deserialize(alloc: A, bytes: &[u8]) -> Result<Self, Error>
+        ensures ok { IfOk result (λ s. Reads S.spells bytes.now (seed_hash DEFAULT_UPDATE_SEED) s) }
+        ensures refused { IfErr result (λ e. IsRefused e (IsReadable S.spells bytes.now (seed_hash DEFAULT_UPDATE_SEED))) }
+    {
+        CompactTupleSketch::deserialize_with_seed(alloc, bytes, DEFAULT_UPDATE_SEED)
+    }
+
+    /// The sketch that a beginning of the bytes spells, under this seed. Bytes after the image are ignored.
+    ///
+    /// Refused with `InvalidData` exactly where the seed hash is 0 or the bytes spell no sketch: they end too early, are of
+    /// another family, version or sketch type, tell another seed hash, tell hashes that repeat, do not ascend where they are
+    /// said to, or are not from 1 to below theta, or go on behind a hash with what spells no summary. An empty sketch's seed
+    /// hash is not asked. Refused with `OutOfMemory` where memory is: it asks for no more entries than the bytes could fill
+    /// with their hashes, for eight bytes an entry to compare hashes that do not ascend, and for what a summary asks for.
+    pub fn deserialize_with_seed(alloc: A, bytes: &[u8], seed: u64) -> Result<Self, Error>
+        ensures ok { IfOk result (λ s. Reads S.spells bytes.now (seed_hash seed) s) }
+        ensures refused { IfErr result (λ e. IsRefused e (IsReadable S.spells bytes.now (seed_hash seed))) }
+    {
+        let seed_hash = compute_seed_hash(seed, ErrorKind::InvalidData)?;
+        let state = read_behind(alloc, bytes, tuple_layout(bytes, seed_hash), seed_hash)?;
+        Ok(CompactTupleSketch::of_state(state))
+    }
+}
