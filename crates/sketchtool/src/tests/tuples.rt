@@ -197,7 +197,7 @@ struct Marks;
 impl SummaryPolicy for Marks {
     type Summary = Unwritable;
 
-    ghost creates = { λ policy. Some tt };
+    ghost creates = { λ policy. Some (record {}) };
 
     fn create(&self) -> Result<Unwritable, Error> {
         Ok(Unwritable)
