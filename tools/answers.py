@@ -1,7 +1,8 @@
 #!/usr/bin/env python3
 """What a plan comes to, read from docs/SPECIFICATION.md alone: tools/answers.py < PLAN prints the answer.
 
-It shares no code with the program, and holds a leaf's whole list of steps. It tells no fault but `error argument`.
+It shares no code with the program, and holds a leaf's whole list of steps. It tells no fault but `error argument`, and
+knows theta plans alone.
 """
 import struct
 import sys
@@ -102,6 +103,8 @@ def image(held):
 
 def main():
     command, *lines = sys.stdin.read().split("\n")
+    if not command.startswith("theta "):
+        sys.exit("answers: only theta plans")
     held = value(lines)
     if command == "theta image":
         print(image(held).hex())

@@ -75,14 +75,14 @@ pub trait SketchFamily<A: Allocator> {
 
     ghost made_intersection: { Self → Self.Intersection → Type 0 };
 
-    /// A new sketch.
+    /// A new sketch. Refused with `InvalidArgument` for settings that no sketch may have, and with `OutOfMemory`.
     fn new_sketch(&self, alloc: A, lg_k: u8, start: u64, seed: u64) -> Result<Self::Sketch, Error>
         ensures own { IfOk result (made_sketch self.now) }
         ensures empty { IfOk result (λ s. (state s).empty ≡ true) }
         ensures made { IfOk result (λ s. (state s).map ≡ empty_table lg_k start seed) }
         ensures refused { Refuses result (table_refusal lg_k start seed) true };
 
-    /// Adds a value at a hash.
+    /// Adds a value at a hash. Refused with `OutOfMemory`, or with `Policy` where the family's rules refuse the value there.
     fn add(&self, sketch: &mut Self::Sketch, hash: u64, value: Self::Value) -> Result<(), Error>
         requires own { made_sketch self.now sketch.old }
         ensures still { made_sketch self.now sketch.new }
@@ -91,7 +91,7 @@ pub trait SketchFamily<A: Allocator> {
         ensures strict { IfErr result (λ e. RefusedFor e strict (upsert_refusal (rules self.now).key hash ((rules self.now).step_of hash value) (state sketch.old).map.kept ≡ Some e)) }
         ensures accepted { OnOk result (upsert_refusal (rules self.now).key hash ((rules self.now).step_of hash value) (state sketch.old).map.kept ≡ None) };
 
-    /// Trims a sketch.
+    /// Trims a sketch. Refused with `OutOfMemory` alone.
     fn trim(&self, sketch: &mut Self::Sketch) -> Result<(), Error>
         requires own { made_sketch self.now sketch.old }
         ensures still { made_sketch self.now sketch.new }
@@ -106,19 +106,20 @@ pub trait SketchFamily<A: Allocator> {
         ensures empty { (state sketch.new).empty ≡ true }
         ensures map { (state sketch.new).map ≡ after_reset (state sketch.old).map };
 
-    /// The compact form of a sketch.
+    /// The compact form of a sketch. Refused with `OutOfMemory` alone.
     fn compact(&self, sketch: &Self::Sketch, ordered: bool) -> Result<Self::Compact, Error>
         ensures ok { IfOk result (λ c. IsAnswer (rules self.now).key (sketch_value (state sketch.now)) (state sketch.now).map.seed_hash ordered (listed c)) }
         ensures refused { Refuses result None true };
 
-    /// A new union.
+    /// A new union. Refused with `InvalidArgument` for settings that no union may have, and with `OutOfMemory`.
     fn new_union(&self, alloc: A, lg_k: u8, start: u64, seed: u64) -> Result<Self::Union, Error>
         ensures own { IfOk result (made_union self.now) }
         ensures made { IfOk result (λ u. united u ≡ empty_union lg_k start (seed_hash seed) tt) }
         ensures holds { IfOk result (λ u. holds self.now u []) }
         ensures refused { Refuses result (table_refusal lg_k start seed) true };
 
-    /// Hands a part of the union's seed over to a union that has not failed.
+    /// Hands a part of the union's seed over to a union that has not failed. Refused with `OutOfMemory`, or with `Policy` where
+    /// the whole maps of the union and the part, joined, have a mark.
     fn join(
         &self,
         union: &mut Self::Union,
@@ -133,19 +134,20 @@ pub trait SketchFamily<A: Allocator> {
         ensures holds { OnOk result (HoldsMore (folds_of (rules self.now) (refuses self.now)) (holds self.now union.old) (holds self.now union.new) (came (rules self.now).key state listed part.now).value) }
         ensures refused { IfErr result (λ e. RefusedFor e strict (MarksJoined (folds_of (rules self.now) (refuses self.now)) (holds self.now union.old) (came (rules self.now).key state listed part.now).value)) };
 
-    /// The value of a union that has not failed.
+    /// The value of a union that has not failed. Refused with `OutOfMemory` alone.
     fn joined(&self, union: &Self::Union, ordered: bool) -> Result<Self::Compact, Error>
         requires at_work { (united union.now).failed ≡ false }
         ensures ok { IfOk result (λ c. IsAnswer (rules self.now).key (union_value (rules self.now).key (united union.now)) (united union.now).seed_hash ordered (listed c)) }
         ensures refused { Refuses result None true };
 
-    /// A new intersection.
+    /// A new intersection. Refused with `InvalidArgument` for a seed whose seed hash is 0, and with `OutOfMemory`.
     fn new_intersection(&self, alloc: A, seed: u64) -> Result<Self::Intersection, Error>
         ensures own { IfOk result (made_intersection self.now) }
         ensures made { IfOk result (λ i. met i ≡ new_intersection (seed_hash seed) tt) }
         ensures refused { Refuses result (seed_refusal seed) true };
 
-    /// Hands a part of the intersection's seed over to it.
+    /// Hands a part of the intersection's seed over to it. Refused with `OutOfMemory`, or with `Policy` where what the whole maps
+    /// share has a mark.
     fn meet(
         &self,
         intersection: &mut Self::Intersection,
@@ -158,7 +160,7 @@ pub trait SketchFamily<A: Allocator> {
         ensures made_with { OnOk result (met intersection.new ≡ record (met intersection.old) { result = (met intersection.new).result }) }
         ensures refused { IfErr result (λ e. RefusedFor e strict (MarksMet (folds_of (rules self.now) (refuses self.now)) (option_map unmarked_value (met intersection.old).result) (came (rules self.now).key state listed part.now).value)) };
 
-    /// The value of an intersection, or `None` before its first part.
+    /// The value of an intersection, or `None` before its first part. Refused with `OutOfMemory` alone.
     fn shared(
         &self,
         intersection: &Self::Intersection,
@@ -167,12 +169,12 @@ pub trait SketchFamily<A: Allocator> {
         ensures ok { IfOk result (λ c. IsAnswerIfAny (rules self.now).key (met intersection.now).result (met intersection.now).seed_hash ordered (option_map listed c)) }
         ensures refused { Refuses result None true };
 
-    /// A difference.
+    /// A difference. Refused with `InvalidArgument` for a seed whose seed hash is 0, and with `OutOfMemory`.
     fn new_difference(&self, seed: u64) -> Result<Self::Difference, Error>
         ensures ok { IfOk result (λ d. difference_seed d ≡ seed_hash seed) }
         ensures refused { Refuses result (seed_refusal seed) true };
 
-    /// What the first part of a difference's seed has and the second lacks.
+    /// What the first part of a difference's seed has and the second lacks. Refused with `OutOfMemory` alone.
     fn lacking(
         &self,
         difference: &Self::Difference,
@@ -186,7 +188,8 @@ pub trait SketchFamily<A: Allocator> {
         ensures ok { let f = folds_of (rules self.now) (refuses self.now) in let a = came (rules self.now).key state listed first.now in let b = came (rules self.now).key state listed second.now in IfOk result (λ c. IsFoldAnswer (rules self.now).key (minus f.key f.key a.value b.value) a.seed_hash (ordered || a.ordered) (listed c)) }
         ensures refused { Refuses result None true };
 
-    /// A sketch of this seed, written and read back. It is gone before its image is read.
+    /// A sketch of this seed, written and read back. It is gone before its image is read. Refused with `OutOfMemory` alone, also
+    /// where a summary refuses to be written.
     fn through_image(
         &self,
         alloc: A,

@@ -69,9 +69,10 @@ pub fn evaluate_theta<A: Allocator + Clone, B: Allocator>(
 /// each with its fold over the whole streams, whatever theta leaves and inner unions came to. Where the plan is a leaf that
 /// isn't empty and whose last step is a trim, it has the k of least hash of what was added.
 ///
-/// Refused with `InvalidArgument` where the seed hash is 0 or some node's `lg_k` is outside 5 to 26 or its start outside
-/// 1 to `MAX_THETA`; with `OutOfMemory`; and with `Policy` only where a beginning of some leaf's steps, or of the parts of
-/// some union or intersection, folds to a refusal at some key. The first refusal ends the evaluation.
+/// Refused with `InvalidArgument` where the seed hash is 0 or some node's `lg_k` is outside 5 to 26 or its start outside 1
+/// to `MAX_THETA`; with `OutOfMemory`, also where a summary refuses to be written to an image; and with `Policy` only where
+/// a beginning of some leaf's steps, or of the parts of some union or intersection, folds to a refusal at some key. The
+/// first refusal ends the evaluation. A caller knows that clones of summaries equal their originals.
 pub fn evaluate_tuple<
     S: Clone + TupleSummaryValue<A>,
     U: Copy + Drop,

@@ -115,6 +115,7 @@ impl<A: Allocator + Clone + Drop> SketchFamily<A> for ThetaFamily {
         part: &Evaluated<ThetaSketch<A>, CompactThetaSketch<A>>,
     ) -> Result<(), Error> {
         let shown = view(part);
+        // Tells that the part's hashes are distinct.
         let _ = shown.num_retained();
         union.update(shown)?;
         Ok(())
@@ -196,6 +197,7 @@ fn image_of<A: Allocator + Clone + Drop>(sketch: CompactThetaSketch<A>) -> Resul
     ensures image { IfOk result (λ image. image.items ≡ written sketch) }
     ensures refused { Refuses result None true }
 {
+    // Tells that the sketch keeps the laws of what it shows.
     let _ = sketch.num_retained();
     sketch.serialize()
 }

@@ -156,6 +156,7 @@ impl<
         part: &Evaluated<TupleSketch<P, A>, CompactTupleSketch<S, A>>,
     ) -> Result<(), Error> {
         let shown = view(part);
+        // Tells that the part's hashes are distinct.
         let _ = shown.num_retained();
         union.update(shown)?;
         Ok(())
@@ -244,6 +245,7 @@ fn image_of<S: TupleSummaryValue<A> + Drop, A: Allocator + Clone + Drop>(
     ensures image { IfOk result (λ image. image.items ≡ written S.text sketch) }
     ensures refused { Refuses result None true }
 {
+    // Tells that the sketch keeps the laws of what it shows.
     let _ = sketch.num_retained();
     sketch.serialize()
 }

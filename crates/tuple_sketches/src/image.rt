@@ -63,7 +63,7 @@ fn tuple_layout(bytes: &[u8], seed_hash: u16) -> Option<Layout>
     }
 }
 
-/// How many bytes an image of these entries takes behind a preamble of three longs, or the greatest number where it is more.
+/// How many bytes an image of these entries takes with a preamble of three longs, or the greatest number where it is more.
 fn greatest_size<S: TupleSummaryValue<A>, A: Allocator>(entries: &[TupleEntry<S>]) -> usize
     ensures { result ≡ min (24 + length (flat_map (tuple_text S.text) entries.now)) (2 ^ 64 - 1) }
 {

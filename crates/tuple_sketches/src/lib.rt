@@ -3,8 +3,8 @@
 //! A tuple sketch retains the entries of smallest hash below its theta, as a theta sketch retains hashes, and beside each
 //! hash a summary. Its policy says how a summary begins, how it takes in a value, and where it refuses. Contracts see a
 //! sketch's state (its emptiness, its table as a map with a theta, and what it lends) and its policy; `sketch_value` is the
-//! value of a state: Empty, or the retained entries as a map, ascending by hash, with the theta. Over whole streams a tuple sketch is a leaf, as a theta sketch is, whose values are what a key's summaries fold
-//! to (`laws`).
+//! value of a state: Empty, or the retained entries as a map, ascending by hash, with the theta. Over whole streams a
+//! tuple sketch is a leaf, as a theta sketch is, whose values are what a key's summaries fold to (`laws`).
 //!
 //! The visits of each visitor in one compact sketch, and their sum, which is 8:
 //!
