@@ -136,8 +136,7 @@ pub fn merged_hashes<Z>()
     ensures uncarried { (h : ℕ) (p : Plans (Unit {0}) Z) → is_carried h ≡ false → only_unites p ≡ true → entry_at hash_key (whole_of p) h ≡ None }
 {}
 
-/// Where sums are checked, and different values stand for different numbers, merges of tuples commute in folds; so a union of
-/// two tuple sketches doesn't depend on their order, in its sums and its marks too.
+/// Where sums are checked, merges of tuples commute in folds: whatever is added to what, the sum is the same or refused.
 pub fn sums_commute<S, U>()
     ensures { (whole_number : S → ℤ) (least greatest : ℤ) (sums : S → S → Option S) → ((x y : S) → whole_number x ≡ whole_number y → x ≡ y) → ((x y : S) → option_map whole_number (sums x y) ≡ sum_within least greatest (whole_number x) (whole_number y)) → (creates : Option S) (updates : S → U → Option S) → Commutes (fold_key tuple_key) (tuple_folds creates updates sums).merges }
 {}
