@@ -9,6 +9,8 @@ mod reading_requests;
 #[cfg(test)]
 mod requests;
 #[cfg(test)]
+mod table_requests;
+#[cfg(test)]
 mod unasked_operators;
 #[cfg(test)]
 mod unasked_sketches;

@@ -7,7 +7,7 @@ use std::alloc::{AllocError, Global};
 use std::process::Abort;
 use std::test::Fail;
 use theta_sketches::{
-    CompactThetaSketch, ThetaSketch, ThetaSketchBuilder, ThetaSketchView, ThetaUnion,
+    CompactThetaSketch, ResizeFactor, ThetaSketch, ThetaSketchBuilder, ThetaSketchView, ThetaUnion,
     ThetaUnionBuilder,
 };
 
@@ -182,12 +182,15 @@ fn refused_calls_change_nothing(rt: HostRuntime) -> Result<(), Fail> {
     Ok(())
 }
 
-/// A union that was given a sketch.
+/// A union that was given a sketch. Its slots grow at the 17th hash.
 fn union_with<'a>(
     heap: &'a Heap,
     view: ThetaSketchView<'_>,
 ) -> Result<ThetaUnion<&'a Heap>, Error> {
-    let mut union = ThetaUnionBuilder::default().lg_k(5).build(heap)?;
+    let builder = ThetaUnionBuilder::default()
+        .lg_k(5)
+        .resize_factor(ResizeFactor::X2);
+    let mut union = builder.build(heap)?;
     union.update(view)?;
     Ok(union)
 }
@@ -239,9 +242,9 @@ fn update_twice(
     Ok((kind, Some((kinds, told))))
 }
 
-/// A union of the hashes 31 to 33 is updated with the hashes 1 to 45.
+/// A union of the hashes 46 to 90 is updated with the hashes 1 to 45, so that it is rebuilt.
 fn updated(alloc: Global, heap: &Heap, refused: u64) -> Result<Updated, Error> {
-    let first = sketch_of(alloc, 9001, 31, 33)?;
+    let first = sketch_of(alloc, 9001, 46, 90)?;
     let second = sketch_of(alloc, 9001, 1, 45)?;
     update_twice(heap, first.as_view(), second.as_view(), refused)
 }

@@ -8,8 +8,8 @@ use std::alloc::Global;
 use std::process::Abort;
 use std::test::Fail;
 use theta_sketches::{
-    CompactThetaSketch, ThetaANotB, ThetaIntersection, ThetaSketch, ThetaSketchView, ThetaUnion,
-    ThetaUnionBuilder,
+    CompactThetaSketch, ResizeFactor, ThetaANotB, ThetaIntersection, ThetaSketch, ThetaSketchView,
+    ThetaUnion, ThetaUnionBuilder,
 };
 
 /// What an operator is handed.
@@ -17,6 +17,8 @@ use theta_sketches::{
 enum Input {
     /// The hashes 1 to 40, of the default seed.
     Filled,
+    /// The hashes 41 to 80, of the default seed: with `Filled` too many for the slots of a union.
+    More,
     Empty,
     /// An empty compact sketch.
     Compact,
@@ -30,6 +32,7 @@ enum Input {
 #[derive(Drop)]
 struct Own {
     filled: ThetaSketch,
+    more: ThetaSketch,
     empty: ThetaSketch,
     compact: CompactThetaSketch,
 }
@@ -40,6 +43,7 @@ impl Own {
         let empty = sketch_of(alloc, 9001, 1, 0)?;
         Ok(Own {
             filled: sketch_of(alloc, 9001, 1, 40)?,
+            more: sketch_of(alloc, 9001, 41, 80)?,
             empty,
             compact,
         })
@@ -82,6 +86,7 @@ impl Inputs {
     fn view(&self, input: Input) -> ThetaSketchView<'_> {
         match input {
             Input::Filled => self.own.filled.as_view(),
+            Input::More => self.own.more.as_view(),
             Input::Empty => self.own.empty.as_view(),
             Input::Compact => self.own.compact.as_view(),
             Input::Other => self.others.filled.as_view(),
@@ -106,7 +111,7 @@ enum Before {
     Filled,
     /// An empty sketch, behind another one.
     Empty,
-    /// A sketch at which memory was refused.
+    /// A sketch at which memory for more slots was refused.
     Failure,
 }
 
@@ -126,6 +131,7 @@ fn prepare_union<'a>(
         Before::Filled => union.update(inputs.view(Input::Filled)),
         Before::Empty => union.update(inputs.view(Input::Empty)),
         Before::Failure => {
+            union.update(inputs.view(Input::More))?;
             heap.restart(Refusal::From(0));
             let _refused = union.update(inputs.view(Input::Filled));
             Ok(())
@@ -160,7 +166,10 @@ fn asked_of_union(
     call: Call,
 ) -> Result<(Option<ErrorKind>, u64), Error> {
     heap.restart(Refusal::Never);
-    let mut union = ThetaUnionBuilder::default().lg_k(5).build(heap)?;
+    let builder = ThetaUnionBuilder::default()
+        .lg_k(5)
+        .resize_factor(ResizeFactor::X2);
+    let mut union = builder.build(heap)?;
     prepare_union(heap, &mut union, inputs, before)?;
     heap.restart(Refusal::From(0));
     let kind = call_union(&mut union, inputs, call);

@@ -1,6 +1,6 @@
 -- What a plan is evaluated to: one ordered sketch.
 use Rattle.std.specs.Prelude.{ℕ, ◌≡◌, true, false, map}
-use Rattle.theta_table.specs.CompactState.{Compact, empty_compact, compact_value}
+use Rattle.theta_compact.specs.CompactState.{Compact, empty_compact, compact_value}
 use Rattle.theta_laws.specs.Cuts.{Retained}
 use Rattle.theta_laws.specs.Folds.{Fold, unmarked_value}
 use Rattle.theta_laws.specs.Values.{Sketch, Empty, NonEmpty}

@@ -1,6 +1,6 @@
 -- What a node of a plan comes to, in any family: a leaf that an operator sees as it is, or a compact sketch.
 use Rattle.std.specs.Prelude.{ℕ, ◌≡◌, ◌||◌, ◌^◌, Bool, true, false, [], ◌∷◌, Option, Some, None}
-use Rattle.theta_table.specs.CompactState.{Compact as State, IsAnswer, compact_value}
+use Rattle.theta_compact.specs.CompactState.{Compact as State, IsAnswer, compact_value}
 use Rattle.theta_laws.specs.Folds.{Fold, unmarked_value}
 use Rattle.theta_laws.specs.Operators.{unite}
 use Rattle.theta_laws.specs.Values.{Sketch, Empty, NonEmpty}

@@ -1,7 +1,7 @@
 //! One evaluation for every family of sketches.
 ghost use Rattle.std.specs.Prelude.{◌≡◌, ◌<◌, ◌^◌, ◌||◌, ◌⊎◌, ℕ, Bool, IsTrue, true, false, not, None, Some, IfOk, IfErr, OnOk};
 ghost use Rattle.sketch_base.specs.Seed.{seed_hash};
-ghost use Rattle.theta_table.specs.CompactState.{IsAnswer};
+ghost use Rattle.theta_compact.specs.CompactState.{IsAnswer};
 ghost use Rattle.theta_table.specs.HashTable.{table_refusal};
 ghost use Rattle.theta_laws.specs.Folds.{Fold, unmarked, unmarked_value};
 ghost use Rattle.theta_laws.specs.Leaf.{leaf, leaf_step, updated_step};

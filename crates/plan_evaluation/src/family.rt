@@ -1,7 +1,7 @@
 //! What plans need of a family of sketches.
 ghost use Rattle.std.specs.Prelude.{◌≡◌, ◌<◌, ◌||◌, ◌^◌, true, false, not, None, Some, [], IfOk, IfErr, OnOk, option_map};
 ghost use Rattle.sketch_base.specs.Seed.{seed_hash};
-ghost use Rattle.theta_table.specs.CompactState.{IsAnswer};
+ghost use Rattle.theta_compact.specs.CompactState.{IsAnswer};
 ghost use Rattle.theta_table.specs.HashTable.{empty_table, after_reset, table_refusal};
 ghost use Rattle.theta_laws.specs.Cuts.{cut};
 ghost use Rattle.theta_laws.specs.Folds.{unmarked_value};
@@ -40,7 +40,7 @@ pub trait SketchFamily<A: Allocator> {
 
     ghost use Rattle.std.specs.Prelude.{ℕ, Bool, List};
     ghost use Rattle.theta_laws.specs.Folds.{Fold};
-    ghost use Rattle.theta_table.specs.CompactState.{Compact as State};
+    ghost use Rattle.theta_compact.specs.CompactState.{Compact as State};
     ghost use Rattle.theta_family.specs.Updatable.{Updatable};
     ghost use Rattle.theta_operators.specs.Union.{Union as Unions};
     ghost use Rattle.theta_operators.specs.Intersection.{Intersection as Intersections};

@@ -19,7 +19,7 @@ ghost use Rattle.plan_values.specs.Family.{folds_of, tuple_folds};
 ghost use Rattle.plan_values.specs.MergePlan.{only_unites, IsMergePlan};
 ghost use Rattle.plan_values.specs.Refusals.{may_refuse};
 ghost use Rattle.plan_values.specs.Value.{value_in, value_of, plan_refusal};
-ghost use Rattle.plan_values.specs.WholeStreams.{whole_in, whole_of};
+ghost use Rattle.plan_values.specs.WholeStreams.{whole_in, whole_of, whole_hashes};
 ghost use Rattle.plan_evaluation.specs.Answered.{ordered_sketch, HasKeys, IsSketchOf};
 ghost use Rattle.plan_evaluation.specs.Refused.{IsPlanRefused};
 
@@ -65,9 +65,10 @@ pub fn evaluate_theta<A: Allocator + Clone, B: Allocator>(
 /// parts. Its value is the plan's, in folds, none of which is a refusal: it retains all of the whole streams' map below its
 /// theta, and where it is empty that map has no keys.
 ///
-/// Where the plan merges leaves as `evaluate_theta` says, the value has the k keys of least hash of that map below the start,
-/// each with its fold over the whole streams, whatever theta leaves and inner unions came to. Where the plan is a leaf that
-/// isn't empty and whose last step is a trim, it has the k of least hash of what was added.
+/// Where the plan merges leaves as `evaluate_theta` says, its keys and theta are the k-minimum of the hashes that were added,
+/// whatever the policies and whatever theta leaves and inner unions came to, each key with its fold over the whole streams.
+/// Where the plan is a leaf that isn't empty and whose last step is a trim, they are the k-minimum of those that were added
+/// to it.
 ///
 /// Refused with `InvalidArgument` where the seed hash is 0 or some node's `lg_k` is outside 5 to 26 or its start outside 1
 /// to `MAX_THETA`; with `OutOfMemory`, also where a summary refuses to be written to an image; and with `Policy` only where
@@ -91,8 +92,9 @@ pub fn evaluate_tuple<
     ensures value { let f = tuple_folds (P.creates update_policy) (P.updates update_policy) (Q.combines combine_policy) in IfOk result (IsSketchOf tuple_key (value_in f plan.now) (seed_hash seed)) }
     ensures whole { let f = tuple_folds (P.creates update_policy) (P.updates update_policy) (Q.combines combine_policy) in OnOk result (IsAllBelow f.key (value_in f plan.now) (whole_in f plan.now)) }
     ensures merged { (lg_k start : ℕ) → IsMergePlan lg_k start plan.now → let f = tuple_folds (P.creates update_policy) (P.updates update_policy) (Q.combines combine_policy) in OnOk result (value_in f plan.now ≡ NonEmpty (cut f.key (2 ^ lg_k) (whole_in f plan.now) start)) }
-    ensures kmin { (lg_k start : ℕ) → IsMergePlan lg_k start plan.now → let f = tuple_folds (P.creates update_policy) (P.updates update_policy) (Q.combines combine_policy) in IfOk result (HasKeys tuple_key (kmin (2 ^ lg_k) (map f.key (whole_in f plan.now)) start)) }
+    ensures kmin { (lg_k start : ℕ) → IsMergePlan lg_k start plan.now → IfOk result (HasKeys tuple_key (kmin (2 ^ lg_k) (whole_hashes plan.now) start)) }
     ensures trimmed { (lg_k start : ℕ) (steps : List (LeafStep U)) → plan.now ≡ plans.Leaf lg_k start (steps ++ Trim ∷ []) → is_updated steps false ≡ true → let f = tuple_folds (P.creates update_policy) (P.updates update_policy) (Q.combines combine_policy) in OnOk result (value_in f plan.now ≡ NonEmpty (cut f.key (2 ^ lg_k) (whole f.key f.step_of steps) start)) }
+    ensures trimmed_kmin { (lg_k start : ℕ) (steps : List (LeafStep U)) → plan.now ≡ plans.Leaf lg_k start (steps ++ Trim ∷ []) → is_updated steps false ≡ true → IfOk result (HasKeys tuple_key (kmin (2 ^ lg_k) (added steps) start)) }
     ensures accepted { OnOk result (plan_refusal seed plan.now ≡ None) }
     ensures refused { let f = tuple_folds (P.creates update_policy) (P.updates update_policy) (Q.combines combine_policy) in IfErr result (λ e. (plan_refusal seed plan.now ≡ Some e) ⊎ ((e ≡ OutOfMemory) ⊎ ((e ≡ Policy) × (may_refuse f plan.now ≡ true)))) }
 {
@@ -105,7 +107,7 @@ pub fn evaluate_tuple<
 ///
 /// Where the plan has only leaves, unions and images, each summary is the whole-number sum of all values that were added at
 /// its key after the leaves' last resets, in any order and grouping. For the rest it is as `evaluate_tuple` says: where the
-/// plan merges leaves, the keys and theta are the k-minimum of all keys that were added.
+/// plan merges leaves, or is a leaf that ends by a trim, the keys and theta are the k-minimum of the hashes that were added.
 ///
 /// Refused as `evaluate_tuple` is: with `Policy` only where a beginning of some leaf's steps, or of the parts of some union or
 /// intersection, sums up to a number out of the bounds of its type.
@@ -117,7 +119,10 @@ pub fn evaluate_sums<
     requires clones_equal { ClonesEqual S.is_clone }
     ensures value { IfOk result (IsSketchOf tuple_key (value_in (tuple_folds (Some S.ZERO) S.sums S.sums) plan.now) (seed_hash seed)) }
     ensures whole { let f = tuple_folds (Some S.ZERO) S.sums S.sums in OnOk result (IsAllBelow f.key (value_in f plan.now) (whole_in f plan.now)) }
-    ensures kmin { (lg_k start : ℕ) → IsMergePlan lg_k start plan.now → let f = tuple_folds (Some S.ZERO) S.sums S.sums in IfOk result (HasKeys tuple_key (kmin (2 ^ lg_k) (map f.key (whole_in f plan.now)) start)) }
+    ensures merged { (lg_k start : ℕ) → IsMergePlan lg_k start plan.now → let f = tuple_folds (Some S.ZERO) S.sums S.sums in OnOk result (value_in f plan.now ≡ NonEmpty (cut f.key (2 ^ lg_k) (whole_in f plan.now) start)) }
+    ensures kmin { (lg_k start : ℕ) → IsMergePlan lg_k start plan.now → IfOk result (HasKeys tuple_key (kmin (2 ^ lg_k) (whole_hashes plan.now) start)) }
+    ensures trimmed { (lg_k start : ℕ) (steps : List (LeafStep S)) → plan.now ≡ plans.Leaf lg_k start (steps ++ Trim ∷ []) → is_updated steps false ≡ true → let f = tuple_folds (Some S.ZERO) S.sums S.sums in OnOk result (value_in f plan.now ≡ NonEmpty (cut f.key (2 ^ lg_k) (whole f.key f.step_of steps) start)) }
+    ensures trimmed_kmin { (lg_k start : ℕ) (steps : List (LeafStep S)) → plan.now ≡ plans.Leaf lg_k start (steps ++ Trim ∷ []) → is_updated steps false ≡ true → IfOk result (HasKeys tuple_key (kmin (2 ^ lg_k) (added steps) start)) }
     ensures sums { only_unites plan.now ≡ true → IfOk result (λ s. (h : ℕ) (e : TupleEntry S) → entry_at tuple_key s.entries h ≡ Some e → S.whole e.summary ≡ total (map S.whole (added_values h plan.now))) }
     ensures accepted { OnOk result (plan_refusal seed plan.now ≡ None) }
     ensures refused { IfErr result (λ e. (plan_refusal seed plan.now ≡ Some e) ⊎ ((e ≡ OutOfMemory) ⊎ ((e ≡ Policy) × (may_refuse (tuple_folds (Some S.ZERO) S.sums S.sums) plan.now ≡ true)))) }

@@ -1,7 +1,7 @@
 //! The family of theta sketches.
 ghost use Rattle.std.specs.Prelude.{◌≡◌, ◌<◌, ℕ, None, true, IfOk};
 ghost use Rattle.sketch_base.specs.Seed.{seed_hash};
-ghost use Rattle.theta_table.specs.CompactState.{Compact, IsCompact};
+ghost use Rattle.theta_compact.specs.CompactState.{Compact, IsCompact};
 ghost use Rattle.theta_laws.specs.Entries.{hash_key};
 ghost use Rattle.theta_laws.specs.Folds.{unmarked_value};
 ghost use Rattle.theta_laws.specs.Refusal.{Refuses};

@@ -1,7 +1,7 @@
 //! The families of tuple sketches.
 ghost use Rattle.std.specs.Prelude.{◌≡◌, ◌<◌, None, true, IfOk, OnOk};
 ghost use Rattle.sketch_base.specs.Seed.{seed_hash};
-ghost use Rattle.theta_table.specs.CompactState.{Compact, IsCompact};
+ghost use Rattle.theta_compact.specs.CompactState.{Compact, IsCompact};
 ghost use Rattle.theta_table.specs.Entry.{tuple_key};
 ghost use Rattle.theta_table.specs.declared.entry.TupleEntry.{TupleEntry};
 ghost use Rattle.theta_laws.specs.Entries.{ClonesEqual};
@@ -158,8 +158,7 @@ impl<
         let shown = view(part);
         // Tells that the part's hashes are distinct.
         let _ = shown.num_retained();
-        union.update(shown)?;
-        Ok(())
+        union.update(shown)
     }
 
     fn joined(
@@ -223,7 +222,7 @@ impl<
 }
 
 /// What an operator sees of a part.
-fn view<S, P: SummaryPolicy<Summary = S>, A: Allocator>(
+fn view<S: Drop, P: SummaryPolicy<Summary = S>, A: Allocator>(
     part: &Evaluated<TupleSketch<P, A>, CompactTupleSketch<S, A>>,
 ) -> TupleSketchView<'_, S, A>
     ensures value { unmarked_value (shown_value tuple_key (shows tuple_key result) (lends result)) ≡ (came tuple_key (λ s. s.state) (λ s. s) part.now).value }

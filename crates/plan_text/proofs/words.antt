@@ -1,2 +1,3 @@
-pub mod Separators
 pub mod Digits
+pub mod PlainAdds
+pub mod Separators

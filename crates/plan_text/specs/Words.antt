@@ -1,6 +1,6 @@
 -- The words of a line, and the numbers among them.
 use Rattle.theta_laws.specs.declared.TheConstants.{MAX_THETA}
-use Rattle.std.specs.Prelude.{ℕ, ◌^◌, List, [], ◌==◌, ◌&&◌, nat_lt, nat_le, length, codes, Option, Some, None, if◌then◌else◌}
+use Rattle.std.specs.Prelude.{◌≡◌, IsTrue, ℕ, ◌^◌, List, [], ◌++◌, ◌==◌, ◌&&◌, nat_lt, nat_le, length, codes, Option, Some, None, if◌then◌else◌}
 use Rattle.std.specs.List.{slice_split}
 use Rattle.std.specs.Str.{bytes_eq, all_ascii_digits}
 use Rattle.std.specs.Str.Parse.{digits_value}
@@ -33,3 +33,10 @@ small limit word = at_most limit (number word)
 -- a starting theta: a number, or the greatest theta by name
 abbrev pub start_of : List ℕ → Option ℕ
 start_of word = if bytes_eq word (codes "max") then Some MAX_THETA else number word
+
+-- a text begins with a word of digits alone that spells this number, and this is what comes behind it
+pub record BeginsWithNumber (text : List ℕ) (value : ℕ) (rest : List ℕ) : Type 0 where
+  pub word : List ℕ
+  pub parts : text ≡ word ++ rest
+  pub digits : IsTrue (all_ascii_digits word)
+  pub spells : number word ≡ Some value

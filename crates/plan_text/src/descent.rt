@@ -6,7 +6,7 @@ use crate::boxed::Boxed;
 use crate::command::{Family, Form};
 use crate::fault::ReadError;
 use crate::items::Items;
-use crate::line::{Line, NodeLine, StepLine, line_of};
+use crate::line::{Line, NodeLine, StepLine, line_of, plain_add};
 use crate::plan::{Plan, Step};
 use crate::step_value::{StepValue, step_of};
 use crate::text::next_line;
@@ -48,7 +48,19 @@ fn node_line(text: &[u8]) -> Result<(NodeLine, &[u8]), ReadError<'_>>
 }
 
 /// The step that the first line says, of whatever family, and the text after it.
+#[inline(always)]
 fn step_line(text: &[u8]) -> Result<(StepLine, &[u8]), ReadError<'_>>
+    ensures { Gives (λ x. (x.0, says x.1.now)) result (first_as step_in (says text.now)) }
+{
+    match plain_add(text) {
+        Some((update, after)) => Ok((update, after)),
+        None => any_step_line(text),
+    }
+}
+
+/// The same, by the line's words.
+#[inline(never)]
+fn any_step_line(text: &[u8]) -> Result<(StepLine, &[u8]), ReadError<'_>>
     ensures { Gives (λ x. (x.0, says x.1.now)) result (first_as step_in (says text.now)) }
 {
     let Some((line, rest)) = next(text) else {
@@ -61,6 +73,7 @@ fn step_line(text: &[u8]) -> Result<(StepLine, &[u8]), ReadError<'_>>
 }
 
 /// One step, and the text after it.
+#[inline(always)]
 fn step<V: StepValue>(text: &[u8]) -> Result<(Step<V>, &[u8]), ReadError<'_>>
     ensures { Gives (λ x. (x.0, says x.1.now)) result (step_at V.as_value (says text.now)) }
 {

@@ -1,6 +1,8 @@
 //! What one line says.
-ghost use Rattle.std.specs.Prelude.{◌≡◌, ◌∷◌, ◌≤◌};
-ghost use Rattle.plan_text.specs.Words.{words, more_words, number, small, start_of};
+ghost use Rattle.std.specs.Prelude.{◌≡◌, ◌∷◌, ◌≤◌, Some, IfSome};
+ghost use Rattle.plan_text.specs.Words.{words, more_words, number, small, start_of, BeginsWithNumber};
+ghost use Rattle.plan_text.specs.Reading.{says};
+ghost use Rattle.plan_text.specs.declared.line.Line.TheVariants as line;
 ghost use Rattle.plan_text.specs.Lines.{form_of, order_of, said, said_one, said_two, said_three, said_four};
 
 use crate::command::{Family, Form};
@@ -46,6 +48,9 @@ pub enum StepLine {
 /// How many digits a number has at most.
 const MAX_DIGITS: usize = 20;
 
+/// So many digits spell a number below 2^64, whatever they are.
+const SMALL_DIGITS: usize = 19;
+
 /// The first word, and what comes after the space behind it.
 fn word(line: &[u8]) -> (&[u8], Option<&[u8]>)
     ensures { words line.now ≡ result.0.now ∷ more_words result.1 }
@@ -71,6 +76,52 @@ fn number(word: &[u8]) -> Option<u64>
         value = value.checked_mul(10)?.checked_add(u64::from(*byte - b'0'))?;
     }
     Some(value)
+}
+
+/// The number that the digits at the front of a text spell, and the text from the first byte that is no digit.
+/// `None` says nothing of the text: it has no such byte, or no digit or more than 19 of them before it.
+#[inline(always)]
+fn number_before(text: &[u8]) -> Option<(u64, &[u8])>
+    ensures { IfSome result (λ x. BeginsWithNumber text.now x.0 x.1.now) }
+{
+    let mut value = 0u64;
+    for (i, byte) in text.iter().enumerate() {
+        if !byte.is_ascii_digit() {
+            if i == 0 {
+                return None;
+            }
+            let (_, rest) = text.split_at(i);
+            return Some((value, rest));
+        }
+        if i >= SMALL_DIGITS {
+            return None;
+        }
+        value = value * 10 + (*byte - b'0') as u64;
+    }
+    None
+}
+
+/// An update that the first line says in so few digits that no test of its numbers is needed, and the text
+/// after that line. `None` says nothing of the text.
+#[inline(always)]
+pub fn plain_add(text: &[u8]) -> Option<(StepLine, &[u8])>
+    ensures { IfSome result (λ x. says text.now ≡ Some (line.Step x.0) ∷ says x.1.now) }
+{
+    let [b'a', b'd', b'd', b' ', numbers @ ..] = text else {
+        return None;
+    };
+    let (hash, behind) = number_before(numbers)?;
+    match behind {
+        [b'\n', rest @ ..] => Some((StepLine::Add(hash, None), rest)),
+        [b' ', second @ ..] => {
+            let (value, end) = number_before(second)?;
+            match end {
+                [b'\n', rest @ ..] => Some((StepLine::Add(hash, Some(value)), rest)),
+                _ => None,
+            }
+        }
+        _ => None,
+    }
 }
 
 /// The starting theta that a word spells, if it spells one.

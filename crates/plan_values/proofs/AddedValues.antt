@@ -52,7 +52,7 @@ module _ {V : Type 0} (Z : Type 0) (h : ℕ) where
 -- ---- whether a plan unites alone, one equation for each kind of node
 
 module _ {V : Type 0} (Z : Type 0) where
-  unites_leaf : (a b : ℕ) (steps : List (LeafStep V)) → only_unites {V = V} {Z = Z} (plan.Leaf a b steps) ≡ true
+  pub unites_leaf : (a b : ℕ) (steps : List (LeafStep V)) → only_unites {V = V} {Z = Z} (plan.Leaf a b steps) ≡ true
   unites_leaf a b steps = ap (only_unites {V = V} {Z = Z}) (sym (rolls-Leaf a b steps)) ∙ fold-roll-Plan V Z Bool node_unites (Plan-F.Leaf a b steps)
 
   unites_union : (a b : ℕ) (parts : List (Plan V Z)) → only_unites {V = V} {Z = Z} (plan.Union a b parts) ≡ list_all (λ unites. unites) (map only_unites parts)
@@ -203,6 +203,10 @@ module _ {X V : Type 0} (f : Family X V) (lawful : IsFamily f) where
     of_both = λ o p us vs a b. none_either f.merges o p a b;
     of_leaf = λ steps. absent-from steps h [] uncarried refl;
   }
+
+  -- the whole map of a merge ascends
+  pub merge_ascends : {Z : Type 0} (p : Plan V Z) → only_unites p ≡ true → IsAscending f.key (whole_in f p)
+  merge_ascends {Z} p unites = (merge_tells Z f lawful 0 (λ o us. o ≡ None) (absence 0 refl) p unites).0
 
   -- no whole map of a merge has a hash that is not carried
   pub merge_lacks : {Z : Type 0} (h : ℕ) (p : Plan V Z) → is_carried h ≡ false → only_unites p ≡ true → entry_at f.key (whole_in f p) h ≡ None

@@ -16,5 +16,6 @@ pub mod PlansWithoutMarks
 pub mod NeverRefused
 pub mod AddedValues
 pub mod MergedSums
+pub mod AddedKeys
 pub mod MeetKeys
 pub mod CommutingSums

@@ -42,7 +42,7 @@ module _ {V : Type 0} where
   there_any (u ∷ us) there = refl
 
 module _ {S U : Type 0} (creates : Option S) (updates : S → U → Option S) (combines : S → S → Option S) where
-  makes_fold : (h : ℕ) (u : U) → is_some ((tuple_folds creates updates combines).step_of h u).makes ≡ true
+  pub makes_fold : (h : ℕ) (u : U) → is_some ((tuple_folds creates updates combines).step_of h u).makes ≡ true
   makes_fold h u =
       elim (first_summary creates updates u) as (λ r. is_some (cond (is_some (policy_refusal (is_none r))) (Some (Refused h)) (option_map Value (option_map (tuple_of h) r))) ≡ true) [
         | Some s ↦ refl

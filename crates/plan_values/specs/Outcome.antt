@@ -1,7 +1,7 @@
 -- What a plan comes to where no order is asked, before any sketch is seen.
 use Rattle.std.specs.Prelude.{◌||◌, Bool, true, false, if◌then◌else◌, length, map}
 use Rattle.theta_laws.specs.Values.{Sketch, Empty, NonEmpty}
-use Rattle.theta_table.specs.CompactState.{is_answer_ordered}
+use Rattle.theta_compact.specs.CompactState.{is_answer_ordered}
 use Rattle.plan_text.specs.declared.plan.Plan.{Plan}
 use Rattle.plan_text.specs.declared.plan.Plan.TheOpen.{Plan-F}
 use Rattle.plan_text.specs.declared.plan.Plan.TheFolds.{fold-Plan}

@@ -32,3 +32,7 @@ whole_in {X} {V} {Z} f = fold-Plan V Z (List X) (node_whole f)
 -- the whole map of a theta plan
 abbrev pub whole_of : {Z : Type 0} → Plan (Unit {0}) Z → List ℕ
 whole_of = whole_in hashes
+
+-- the hashes of a plan's whole map, whatever values come with them
+abbrev pub whole_hashes : {V Z : Type 0} → Plan V Z → List ℕ
+whole_hashes = whole_in hashes

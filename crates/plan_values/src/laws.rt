@@ -19,7 +19,7 @@ ghost use Rattle.theta_table.specs.declared.entry.TupleEntry.{TupleEntry};
 ghost use Rattle.plan_values.specs.AddedValues.{added_values, total};
 ghost use Rattle.plan_values.specs.Family.{Family, IsFamily, hashes, folds_of, tuples, tuple_folds};
 ghost use Rattle.plan_values.specs.Value.{value_in, value_of, plan_refusal};
-ghost use Rattle.plan_values.specs.WholeStreams.{joined_of, shared_of, whole_in, whole_of};
+ghost use Rattle.plan_values.specs.WholeStreams.{joined_of, shared_of, whole_in, whole_of, whole_hashes};
 ghost use Rattle.plan_values.specs.Refusals.{traced, may_refuse};
 ghost use Rattle.plan_values.specs.Outcome.{outcome_in};
 ghost use Rattle.plan_values.specs.MergePlan.{only_unites, IsMergePlan};
@@ -126,6 +126,13 @@ pub fn merged_keys<S, U, Z>()
     ensures only_if { (creates : Option S) (updates : S → U → Option S) (combines : S → S → Option S) (h : ℕ) (p : Plans U Z) → is_carried h ≡ true → only_unites p ≡ true → IsSome (entry_at (fold_key tuple_key) (whole_in (tuple_folds creates updates combines) p) h) → added_values h p ≢ [] }
     ensures if_so { (creates : Option S) (updates : S → U → Option S) (combines : S → S → Option S) (h : ℕ) (p : Plans U Z) → is_carried h ≡ true → only_unites p ≡ true → added_values h p ≢ [] → IsSome (entry_at (fold_key tuple_key) (whole_in (tuple_folds creates updates combines) p) h) }
     ensures uncarried { (creates : Option S) (updates : S → U → Option S) (combines : S → S → Option S) (h : ℕ) (p : Plans U Z) → is_carried h ≡ false → only_unites p ≡ true → entry_at (fold_key tuple_key) (whole_in (tuple_folds creates updates combines) p) h ≡ None }
+{}
+
+/// The keys of the whole map of a merge of tuple sketches are the hashes that were added, whatever the policies; and so are
+/// those of a leaf.
+pub fn keys_are_hashes<S, U, Z>()
+    ensures merge { (creates : Option S) (updates : S → U → Option S) (combines : S → S → Option S) (p : Plans U Z) → only_unites p ≡ true → map (fold_key tuple_key) (whole_in (tuple_folds creates updates combines) p) ≡ whole_hashes p }
+    ensures leaf { (creates : Option S) (updates : S → U → Option S) (combines : S → S → Option S) (steps : List (LeafStep U)) → let f = tuple_folds creates updates combines in map f.key (whole f.key f.step_of steps) ≡ added steps }
 {}
 
 /// The whole map of a merge of theta sketches has exactly the carried hashes that were added, over all leaves, since the last

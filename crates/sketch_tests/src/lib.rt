@@ -15,7 +15,11 @@ mod intersections;
 #[cfg(test)]
 mod mapped;
 #[cfg(test)]
+mod plain;
+#[cfg(test)]
 mod sketches;
+#[cfg(test)]
+mod slots;
 #[cfg(test)]
 mod steps;
 #[cfg(test)]

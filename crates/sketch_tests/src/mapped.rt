@@ -5,35 +5,17 @@ use sketch_base::{Error, ErrorKind};
 use std::alloc::{Allocator, Global};
 use std::test::Fail;
 use theta_core::{
-    CompactSketchState, MAX_THETA, ResizeFactor, SketchEntry, ThetaEntry, ThetaHashTable,
+    CompactSketchState, MAX_THETA, ResizeFactor, ThetaEntry, ThetaHashTable, TupleEntry,
 };
 
-/// A hash with a mark.
-#[derive(Drop)]
-struct Marked {
-    hash: u64,
-    mark: u64,
-}
-
-impl SketchEntry for Marked {
-    ghost key = { λ m. m.hash };
-
-    fn hash(&self) -> u64 {
-        self.hash
-    }
-}
-
-/// Each hash with a mark, which the closure captures: its contract tells that every entry has it.
+/// Each hash with a mark for its summary, which the closure captures: its contract tells that every entry has it.
 fn mark_all<A: Allocator + Clone + Drop>(
     state: CompactSketchState<ThetaEntry, A>,
     mark: u64,
-) -> Result<CompactSketchState<Marked, A>, Error>
-    ensures { IfOk result (λ s. s.entries ≡ map (λ h. record { hash = h; mark = mark }) state.entries) }
+) -> Result<CompactSketchState<TupleEntry<u64>, A>, Error>
+    ensures { IfOk result (λ s. s.entries ≡ map (λ h. record { hash = h; summary = mark }) state.entries) }
 {
-    state.map_retained_entries(move |entry| Marked {
-        hash: entry.hash(),
-        mark,
-    })
+    state.map_retained_entries(move |entry| TupleEntry::of_hash(entry.hash(), mark))
 }
 
 /// A table of the hashes from 1 to 9.
@@ -48,7 +30,7 @@ fn nine(alloc: Global) -> Result<ThetaHashTable, Error> {
 }
 
 /// Its ordered compact state, each hash with the mark 7.
-fn nine_marked(alloc: Global) -> Result<CompactSketchState<Marked>, Error> {
+fn nine_marked(alloc: Global) -> Result<CompactSketchState<TupleEntry<u64>>, Error> {
     let table = nine(alloc)?;
     if table.num_retained() < 4294967296 {
         return mark_all(table.to_non_empty_compact_state(true)?, 7);
@@ -62,7 +44,7 @@ fn hashes_are_mapped_with_a_captured_value(rt: HostRuntime) -> Result<(), Fail> 
     let mut count = 0u64;
     for entry in marked.retained_entries() {
         count = count.wrapping_add(1);
-        assert_eq!(rt; (entry.hash, entry.mark), (count, 7));
+        assert_eq!(rt; (entry.hash(), *entry.summary()), (count, 7));
     }
     assert_eq!(rt; count, 9);
     Ok(())

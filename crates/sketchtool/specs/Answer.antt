@@ -9,7 +9,7 @@ use Rattle.sketch_base.specs.declared.error.ErrorKind.TheVariants.{InvalidArgume
 use Rattle.theta_laws.specs.declared.TheConstants.{MAX_THETA}
 use Rattle.theta_laws.specs.Folds.{Fold, unmarked_value}
 use Rattle.theta_laws.specs.Values.{Sketch, Empty, NonEmpty}
-use Rattle.theta_table.specs.CompactState.{Compact}
+use Rattle.theta_compact.specs.CompactState.{Compact}
 use Rattle.theta_table.specs.declared.entry.TupleEntry.{TupleEntry}
 use Rattle.theta_policies.specs.Sums.{unsigned_sum}
 use Rattle.plan_text.specs.declared.command.Command.{Command}

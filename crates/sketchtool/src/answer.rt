@@ -1,30 +1,45 @@
 //! The text that answers an input.
 ghost use Rattle.std.specs.Prelude.{◌≡◌, ◌++◌, Some, OnOk, IfOk, string_bytes};
 ghost use Rattle.plan_text.specs.declared.command.Command.TheVariants.{Theta, Tuple};
-ghost use Rattle.sketchtool.specs.Answer.{Answers, AnswersCommand, number_line, tuple_line, theta_texts, tuple_texts, shown_head, shown_text, hex_byte, hex_line, sketch_text, fault_line, refusal_line};
+ghost use Rattle.theta_family.specs.View.{shows, lends};
+ghost use Rattle.sketchtool.specs.Answer.{Texts, Answers, AnswersCommand, theta_texts, tuple_texts, shown_head, shown_text, hex_byte, hex_line, sketch_text, fault_line, refusal_line};
 
 use plan_evaluation::{evaluate_sums, evaluate_theta};
 use plan_text::{Command, Fault, Form, Plan, read_plan};
 use sketch_base::{DEFAULT_UPDATE_SEED, Error, ErrorKind};
 use std::alloc::{AllocError, Allocator};
-use theta_core::TupleEntry;
+use theta_core::{EntrySketch, SketchView, SlotEntry, ThetaEntry, TupleEntry};
 use theta_sketches::CompactThetaSketch;
 use tuple_sketches::CompactTupleSketch;
 
-/// Puts a hash on a line of its own.
-fn put_line<A: Allocator>(text: &mut String<A>, number: u64) -> Result<(), AllocError>
-    ensures { OnOk result (string_bytes text.new ≡ string_bytes text.old ++ number_line number) }
-{
-    writeln!(text, "{number}")
+/// An entry that `show` writes, on a line of its own.
+trait ShownEntry: SlotEntry {
+    ghost texts: { Texts Self };
+
+    /// Puts the line.
+    fn put_line<A: Allocator>(&self, text: &mut String<A>) -> Result<(), AllocError>
+        ensures { OnOk result (string_bytes text.new ≡ string_bytes text.old ++ texts.line self.now) };
 }
 
-/// Puts a hash and its summary on a line of their own.
-fn put_tuple<A: Allocator>(text: &mut String<A>, entry: &TupleEntry<u64>) -> Result<(), AllocError>
-    ensures { OnOk result (string_bytes text.new ≡ string_bytes text.old ++ tuple_line entry.now) }
-{
-    let hash = entry.hash();
-    let summary = *entry.summary();
-    writeln!(text, "{hash} {summary}")
+/// A hash.
+impl ShownEntry for ThetaEntry {
+    ghost texts = { theta_texts };
+
+    fn put_line<A: Allocator>(&self, text: &mut String<A>) -> Result<(), AllocError> {
+        let number = self.hash();
+        writeln!(text, "{number}")
+    }
+}
+
+/// A hash and its summary.
+impl ShownEntry for TupleEntry<u64> {
+    ghost texts = { tuple_texts };
+
+    fn put_line<A: Allocator>(&self, text: &mut String<A>) -> Result<(), AllocError> {
+        let hash = self.hash();
+        let summary = *self.summary();
+        writeln!(text, "{hash} {summary}")
+    }
 }
 
 /// Puts what stands before the entries.
@@ -42,12 +57,12 @@ fn put_head<A: Allocator>(
     writeln!(text, "count {count}")
 }
 
-/// The text of `show` for a sketch: whether it is empty, its theta, how many hashes it retains, and these in its order.
-fn show_text<A: Allocator, B: Allocator>(
+/// The text of `show` for a sketch: whether it is empty, its theta, how many entries it retains, and these in its order.
+fn show_text<'a, A: Allocator, E: ShownEntry + 'a, B: Allocator>(
     alloc: A,
-    sketch: &CompactThetaSketch<B>,
+    sketch: SketchView<'a, E, B>,
 ) -> Result<String<A>, AllocError>
-    ensures { IfOk result (λ text. string_bytes text ≡ shown_text theta_texts sketch.now.empty sketch.now.theta sketch.now.entries) }
+    ensures { IfOk result (λ text. string_bytes text ≡ let shown = shows E.key sketch.entry in shown_text E.texts shown.empty shown.theta (lends sketch.entry)) }
 {
     let mut text = String::new(alloc);
     put_head(
@@ -56,28 +71,8 @@ fn show_text<A: Allocator, B: Allocator>(
         sketch.theta64(),
         sketch.num_retained(),
     )?;
-    for entry in sketch.iter() {
-        put_line(&mut text, entry.hash())?;
-    }
-    Ok(text)
-}
-
-/// The text of `show` for a tuple sketch: the same, and beside each hash its summary.
-fn show_tuples<A: Allocator, B: Allocator>(
-    alloc: A,
-    sketch: &CompactTupleSketch<u64, B>,
-) -> Result<String<A>, AllocError>
-    ensures { IfOk result (λ text. string_bytes text ≡ shown_text tuple_texts sketch.now.empty sketch.now.theta sketch.now.entries) }
-{
-    let mut text = String::new(alloc);
-    put_head(
-        &mut text,
-        sketch.is_empty(),
-        sketch.theta64(),
-        sketch.num_retained(),
-    )?;
-    for entry in sketch.iter() {
-        put_tuple(&mut text, entry)?;
+    for entry in sketch.entries() {
+        entry.put_line(&mut text)?;
     }
     Ok(text)
 }
@@ -126,32 +121,6 @@ fn hex_text<A: Allocator>(alloc: A, bytes: &[u8]) -> Result<String<A>, AllocErro
     Ok(text)
 }
 
-/// The text of `image` for a sketch: what is written of it, in hexadecimal.
-fn image_text<A: Allocator, B: Allocator + Clone>(
-    alloc: A,
-    sketch: &CompactThetaSketch<B>,
-) -> Result<String<A>, AllocError>
-    ensures { IfOk result (λ text. string_bytes text ≡ hex_line (theta_texts.image sketch.now)) }
-{
-    let Ok(image) = sketch.serialize() else {
-        return Err(AllocError);
-    };
-    hex_text(alloc, image.as_slice())
-}
-
-/// The text of `image` for a tuple sketch, of the same form.
-fn image_tuples<A: Allocator, B: Allocator + Clone>(
-    alloc: A,
-    sketch: &CompactTupleSketch<u64, B>,
-) -> Result<String<A>, AllocError>
-    ensures { IfOk result (λ text. string_bytes text ≡ hex_line (tuple_texts.image sketch.now)) }
-{
-    let Ok(bytes) = sketch.serialize() else {
-        return Err(AllocError);
-    };
-    hex_text(alloc, bytes.as_slice())
-}
-
 /// The text of a sketch in the form that is asked for.
 fn sketch_text<A: Allocator, B: Allocator + Clone>(
     alloc: A,
@@ -161,8 +130,13 @@ fn sketch_text<A: Allocator, B: Allocator + Clone>(
     ensures { IfOk result (λ text. string_bytes text ≡ sketch_text theta_texts form sketch.now) }
 {
     match form {
-        Form::Show => show_text(alloc, sketch),
-        Form::Image => image_text(alloc, sketch),
+        Form::Show => show_text(alloc, sketch.as_view()),
+        Form::Image => {
+            let Ok(image) = sketch.serialize() else {
+                return Err(AllocError);
+            };
+            hex_text(alloc, image.as_slice())
+        }
     }
 }
 
@@ -175,8 +149,13 @@ fn tuple_text<A: Allocator, B: Allocator + Clone>(
     ensures { IfOk result (λ text. string_bytes text ≡ sketch_text tuple_texts form sketch.now) }
 {
     match form {
-        Form::Show => show_tuples(alloc, sketch),
-        Form::Image => image_tuples(alloc, sketch),
+        Form::Show => show_text(alloc, sketch.as_view()),
+        Form::Image => {
+            let Ok(bytes) = sketch.serialize() else {
+                return Err(AllocError);
+            };
+            hex_text(alloc, bytes.as_slice())
+        }
     }
 }
 

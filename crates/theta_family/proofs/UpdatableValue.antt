@@ -11,7 +11,7 @@ use Rattle.theta_family.specs.Updatable.{Updatable, IsUpdatable, sketch_shows, s
 use Rattle.theta_laws.specs.Shown.{IsShown, shown_value}
 use Rattle.theta_laws.proofs.maps.Ascending.{ascending-nil}
 use Rattle.theta_laws.proofs.cuts.Cuts.{cut_few}
-use Rattle.theta_table.proofs.LawsOfShown.{IsShown-none, shown-lent}
+use Rattle.theta_compact.proofs.LawsOfShown.{IsShown-none, shown-lent}
 use Rattle.theta_laws.proofs.maps.MapsOfLists.{nothing}
 
 module _ {X : Type 0} (key : X → ℕ) where

@@ -1,6 +1,6 @@
 -- What a sketch estimates: a fraction, and that fraction as a decimal number.
 use Rattle.std.specs.Prelude.{ℕ, ◌*◌, ◌/◌, ◌%◌, ◌^◌, if◌then◌else◌}
-use Rattle.theta_table.specs.CompactState.{Compact}
+use Rattle.theta_compact.specs.CompactState.{Compact}
 use Rattle.theta_laws.specs.Values.{Empty, NonEmpty, fraction_of}
 use Rattle.theta_family.specs.declared.fraction.Decimal.{Decimal}
 

@@ -6,8 +6,8 @@ ghost use Rattle.theta_family.specs.declared.fraction.TheConstants.{MAX_PLACES};
 
 use std::alloc::Allocator;
 use std::fmt;
-use theta_laws::MAX_THETA;
-use theta_table::{CompactSketchState, SketchEntry};
+use theta_compact::CompactSketchState;
+use theta_laws::{MAX_THETA, SketchEntry};
 
 /// The fraction of so many entries at a theta: the entries times `MAX_THETA`, over theta, not reduced; 0 over 1 for an empty
 /// sketch.

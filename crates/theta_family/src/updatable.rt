@@ -3,7 +3,7 @@ ghost use Rattle.std.specs.Prelude.{◌≡◌, ◌≤◌, ◌&&◌, ◌^◌, tru
 ghost use Rattle.std.specs.List.{concat};
 ghost use Rattle.std.specs.Option.{ForSome};
 ghost use Rattle.sketch_base.specs.Seed.{hash_of};
-ghost use Rattle.theta_table.specs.CompactState.{IsAnswer};
+ghost use Rattle.theta_compact.specs.CompactState.{IsAnswer};
 ghost use Rattle.theta_laws.specs.Cuts.{cut};
 ghost use Rattle.theta_laws.specs.Entries.{hash_key, hash_step, ClonesEqual};
 ghost use Rattle.theta_laws.specs.Refusal.{Refuses};
@@ -22,18 +22,19 @@ use sketch_base::Error;
 use std::alloc::{Allocator, Global};
 use std::hash::Hash;
 use std::marker::Model;
+use theta_compact::CompactSketchState;
 use theta_laws::MAX_THETA;
 use theta_operators::EntryIter;
-use theta_table::{CompactSketchState, SketchEntry, SketchHashTable, ThetaEntry, UpsertStep};
+use theta_table::{SketchHashTable, SlotEntry, ThetaEntry, UpsertStep};
 
 /// A table of entries, and whether no update was accepted yet. Its value is Empty until one is.
 #[derive(Drop)]
-pub struct UpdatableState<E: SketchEntry, A: Allocator = Global> {
+pub struct UpdatableState<E: SlotEntry, A: Allocator = Global> {
     table: SketchHashTable<E, A>,
     empty: bool,
 }
 
-impl<E: SketchEntry, A: Allocator> Model for UpdatableState<E, A> {
+impl<E: SlotEntry, A: Allocator> Model for UpdatableState<E, A> {
     ghost use Rattle.theta_family.specs.Updatable.{Updatable, IsUpdatable};
 
     ghost Value = { Updatable E };
@@ -43,7 +44,7 @@ impl<E: SketchEntry, A: Allocator> Model for UpdatableState<E, A> {
     ghost invariant = { λ s. IsUpdatable (record { empty = s.empty; map = s.table.map; lends = s.table.lends }) };
 }
 
-impl<E: SketchEntry, A: Allocator> UpdatableState<E, A> {
+impl<E: SlotEntry, A: Allocator> UpdatableState<E, A> {
     /// An empty state of these settings, in memory of `alloc`. Refused with `InvalidArgument` for settings that no sketch may
     /// have, and with `OutOfMemory`.
     pub fn new(alloc: A, settings: Settings) -> Result<Self, Error>
@@ -154,7 +155,7 @@ impl<E: SketchEntry, A: Allocator> UpdatableState<E, A> {
     }
 }
 
-impl<E: SketchEntry + Drop, A: Allocator> UpdatableState<E, A> {
+impl<E: SlotEntry + Drop, A: Allocator> UpdatableState<E, A> {
     /// Makes it empty again, with its starting theta. It takes no memory.
     pub fn reset(&mut self)
         ensures empty { self.new.empty ≡ true }
@@ -165,11 +166,12 @@ impl<E: SketchEntry + Drop, A: Allocator> UpdatableState<E, A> {
     }
 }
 
-impl<E: SketchEntry + Drop, A: Allocator + Clone> UpdatableState<E, A> {
+impl<E: SlotEntry + Drop, A: Allocator + Clone> UpdatableState<E, A> {
     /// Takes in a hash, by a step on the entry that has it. One that is 0 or at least theta is not retained, but makes the
     /// state nonempty all the same.
     ///
     /// Refused with what the step refuses, or with `OutOfMemory`; then nothing has changed, emptiness included.
+    #[inline(always)]
     pub fn upsert<S: UpsertStep<E> + Drop>(&mut self, hash: u64, step: S) -> Result<(), Error>
         requires keeps_hash { (x : E) → E.key x ≡ hash → E.key ((S.means step).writes x) ≡ hash }
         requires makes_hash { ForSome (S.means step).makes (λ x. E.key x ≡ hash) }
@@ -198,7 +200,7 @@ impl<E: SketchEntry + Drop, A: Allocator + Clone> UpdatableState<E, A> {
     }
 }
 
-impl<E: SketchEntry + Clone, A: Allocator + Clone> UpdatableState<E, A> {
+impl<E: SlotEntry + Clone, A: Allocator + Clone> UpdatableState<E, A> {
     /// Its compact form, of the same value, untrimmed. It is ordered where that is asked, or it is empty or has one entry at
     /// the greatest theta. Refused with `OutOfMemory` alone.
     pub fn compact(&self, ordered: bool) -> Result<CompactSketchState<E, A>, Error>
@@ -221,6 +223,7 @@ impl<A: Allocator + Clone> UpdatableState<ThetaEntry, A> {
     /// all the same.
     ///
     /// Refused with `OutOfMemory` alone, and only for a new hash below theta; then nothing has changed, emptiness included.
+    #[inline(always)]
     pub fn insert_hash(&mut self, hash: u64) -> Result<(), Error>
         ensures nonempty { OnOk result (self.new.empty ≡ false) }
         ensures after { OnOk result (self.new.map ≡ record self.old.map { kept = after_upsert hash_key (2 ^ self.old.map.lg_nom) hash (hash_step hash) self.old.map.kept }) }

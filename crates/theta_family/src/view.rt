@@ -1,24 +1,26 @@
 //! Read-only views of sketches, of either family.
 ghost use Rattle.std.specs.Prelude.{◌≡◌, ⊤, length};
-ghost use Rattle.theta_table.specs.CompactState.{shown_of};
+ghost use Rattle.theta_compact.specs.CompactState.{shown_of};
 ghost use Rattle.theta_table.specs.Entry.{tuple_key};
 ghost use Rattle.theta_laws.specs.Entries.{hash_key};
 ghost use Rattle.theta_family.specs.Updatable.{sketch_shows, sketch_value};
 ghost use Rattle.theta_laws.specs.Shown.{IsShown, shown_value};
 ghost use Rattle.theta_family.specs.View.{shows, lends, lending};
+ghost use Rattle.theta_operators.specs.View.{metadata_of};
 
 use crate::iter::ThetaSketchIter;
 use crate::updatable::UpdatableState;
 use std::alloc::{AllocError, Allocator, Global};
+use theta_compact::CompactSketchState;
 use theta_operators::{EntryIter, EntrySketch, HashIter, KeySketch, ThetaFamilySketchMetadata};
-use theta_table::{CompactSketchState, SketchEntry, ThetaEntry, TupleEntry};
+use theta_table::{SlotEntry, ThetaEntry, TupleEntry};
 
-enum Viewed<'a, E: SketchEntry, A: Allocator> {
+enum Viewed<'a, E: SlotEntry, A: Allocator> {
     Mutable(&'a UpdatableState<E, A>),
     Compact(&'a CompactSketchState<E, A>),
 }
 
-impl<'a, E: SketchEntry, A: Allocator> Clone for Viewed<'a, E, A> {
+impl<'a, E: SlotEntry, A: Allocator> Clone for Viewed<'a, E, A> {
     ghost is_clone = { λ view copy. copy ≡ view };
 
     ghost is_infallible = { λ _. ⊤ };
@@ -28,14 +30,14 @@ impl<'a, E: SketchEntry, A: Allocator> Clone for Viewed<'a, E, A> {
     }
 }
 
-impl<'a, E: SketchEntry, A: Allocator> Copy for Viewed<'a, E, A> {}
+impl<'a, E: SlotEntry, A: Allocator> Copy for Viewed<'a, E, A> {}
 
 /// A view of a mutable or a compact sketch. A mutable one is seen as not ordered.
-pub struct SketchView<'a, E: SketchEntry, A: Allocator = Global> {
+pub struct SketchView<'a, E: SlotEntry, A: Allocator = Global> {
     sketch: Viewed<'a, E, A>,
 }
 
-impl<'a, E: SketchEntry, A: Allocator> Clone for SketchView<'a, E, A> {
+impl<'a, E: SlotEntry, A: Allocator> Clone for SketchView<'a, E, A> {
     ghost is_clone = { λ view copy. copy ≡ view };
 
     ghost is_infallible = { λ _. ⊤ };
@@ -45,9 +47,9 @@ impl<'a, E: SketchEntry, A: Allocator> Clone for SketchView<'a, E, A> {
     }
 }
 
-impl<'a, E: SketchEntry, A: Allocator> Copy for SketchView<'a, E, A> {}
+impl<'a, E: SlotEntry, A: Allocator> Copy for SketchView<'a, E, A> {}
 
-impl<'a, E: SketchEntry, A: Allocator> SketchView<'a, E, A> {
+impl<'a, E: SlotEntry, A: Allocator> SketchView<'a, E, A> {
     /// A view of a mutable sketch.
     pub fn of_state(state: &'a UpdatableState<E, A>) -> Self
         ensures shows { shows E.key result ≡ sketch_shows E.key state.entry.now }
@@ -133,7 +135,7 @@ impl<'a, A: Allocator> SketchView<'a, ThetaEntry, A> {
     }
 }
 
-impl<'a, S, A: Allocator> SketchView<'a, TupleEntry<S>, A> {
+impl<'a, S: Drop, A: Allocator> SketchView<'a, TupleEntry<S>, A> {
     /// The sketch's entries, each once, lent: a mutable sketch's in an open order, a compact one's in its own.
     pub fn iter(&self) -> EntryIter<'a, TupleEntry<S>>
         ensures lent { result ≡ lending self.now }
@@ -144,7 +146,7 @@ impl<'a, S, A: Allocator> SketchView<'a, TupleEntry<S>, A> {
     }
 }
 
-fn lent<'a, E: SketchEntry, A: Allocator>(view: SketchView<'a, E, A>) -> EntryIter<'a, E>
+fn lent<'a, E: SlotEntry, A: Allocator>(view: SketchView<'a, E, A>) -> EntryIter<'a, E>
     ensures { result ≡ lending view.entry }
 {
     match view.sketch {
@@ -153,7 +155,38 @@ fn lent<'a, E: SketchEntry, A: Allocator>(view: SketchView<'a, E, A>) -> EntryIt
     }
 }
 
-impl<'a, E: SketchEntry, A: Allocator> KeySketch for SketchView<'a, E, A> {
+/// What a view tells of its sketch.
+fn told<'a, E: SlotEntry, A: Allocator>(view: SketchView<'a, E, A>) -> ThetaFamilySketchMetadata
+    ensures told { result ≡ metadata_of (shows E.key view.entry) }
+    ensures sound { IsShown (shows E.key view.entry) }
+{
+    let seed_hash = view.seed_hash();
+    let num_retained = view.num_retained();
+    if view.is_empty() {
+        ThetaFamilySketchMetadata::Empty { seed_hash }
+    } else {
+        ThetaFamilySketchMetadata::NonEmpty {
+            seed_hash,
+            theta: view.theta64(),
+            ordered: view.is_ordered(),
+            num_retained,
+        }
+    }
+}
+
+/// The hashes of a view's entries, in the order in which these are lent.
+fn hashes_of<'a, E: SlotEntry, A: Allocator>(view: SketchView<'a, E, A>) -> HashIter<'a, E>
+    ensures all { result.rest ≡ (shows E.key view.entry).hashes }
+    ensures sound { IsShown (shows E.key view.entry) }
+{
+    let _ = view.num_retained();
+    HashIter::new(lent(view))
+}
+
+impl<'a, E: SlotEntry, A: Allocator> KeySketch for SketchView<'a, E, A>
+where
+    E::Slot: 'a,
+{
     type Hashes = HashIter<'a, E>;
 
     ghost shown = { shows E.key };
@@ -161,23 +194,14 @@ impl<'a, E: SketchEntry, A: Allocator> KeySketch for SketchView<'a, E, A> {
     ghost rest = { λ s. s.rest };
 
     fn metadata(self) -> ThetaFamilySketchMetadata {
-        let seed_hash = self.seed_hash();
-        let num_retained = self.num_retained();
-        if self.is_empty() {
-            ThetaFamilySketchMetadata::Empty { seed_hash }
-        } else {
-            ThetaFamilySketchMetadata::NonEmpty {
-                seed_hash,
-                theta: self.theta64(),
-                ordered: self.is_ordered(),
-                num_retained,
-            }
-        }
+        told(self)
     }
 
-    fn hashes(self) -> HashIter<'a, E> {
-        let _ = self.num_retained();
-        HashIter::new(lent(self))
+    fn hashes(self) -> HashIter<'a, E>
+        ensures all { result.rest ≡ (shows E.key self.entry).hashes }
+        ensures sound { IsShown (shows E.key self.entry) }
+    {
+        hashes_of(self)
     }
 
     ghost yields = { λ s r t gives. gives.0 };
@@ -187,13 +211,16 @@ impl<'a, E: SketchEntry, A: Allocator> KeySketch for SketchView<'a, E, A> {
     ghost ends = { λ s. tt };
 }
 
-impl<'a, E: SketchEntry + 'a, A: Allocator> EntrySketch<'a> for SketchView<'a, E, A> {
+impl<'a, E: SlotEntry, A: Allocator> EntrySketch for SketchView<'a, E, A>
+where
+    E::Slot: 'a,
+{
     type Entry = E;
 
     ghost listing = { lends };
 
-    fn entries(self) -> EntryIter<'a, E> {
+    fn entries(&self) -> EntryIter<'_, E> {
         let _ = self.num_retained();
-        lent(self)
+        lent(*self)
     }
 }

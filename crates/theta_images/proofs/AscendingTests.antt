@@ -1,7 +1,8 @@
 -- Tests on hashes, and what they tell.
-use Rattle.std.proofs.Common.{◌≡◌, ℕ, ◌<◌, ◌≤◌, ◌≢◌, ◌^◌, Bool, true, false, ◌&&◌, List, [], ◌∷◌, length, get_or, map, refl, sym, subst, ◌+◌, zero, suc, arith, eqb, ltb, Less}
+use Rattle.std.proofs.Common.{◌≡◌, ℕ, ◌<◌, ◌≤◌, ◌≢◌, ◌^◌, Bool, true, false, ◌&&◌, List, [], ◌∷◌, length, get_or, map, refl, sym, ap, subst, ◌∙◌, Some, ◌+◌, ◌-◌, zero, suc, arith, eqb, ltb, Less}
 use Rattle.std.specs.Bool.{Decides}
-use Rattle.std.specs.List.{AllByRecursion, AllPairs, IsAllAdjacentAnswer}
+use Rattle.std.specs.List.{AllByRecursion, AllPairs, IsAllAdjacentAnswer, slice_get}
+use Rattle.std.specs.Option.{unwrap_or}
 use Rattle.std.specs.List.Sorted.{IsPermutation, IsSorted, IsStrictlySortedBy, IsNonDecreasing}
 use Rattle.std.specs.Ordering.{nat_cmp}
 use Rattle.std.proofs.lemmas.Bool.{ltb-true, lt-ltb}
@@ -9,7 +10,7 @@ use Rattle.std.proofs.lemmas.Bool.Decides.{nat_tests}
 use Rattle.std.proofs.lemmas.List.{length-map}
 use Rattle.std.proofs.lemmas.List.Sorted.{IsNonDecreasingBy-from_sort, IsPermutation-sym}
 use Rattle.std.proofs.lemmas.Map.Keys.{IsDistinct-IsPermutation, IsStrictlyIncreasing-from_distinct, sorted_from_strictly_increasing, sorted_head, sorted_tail}
-use Rattle.theta_table.specs.CompactState.{shown_of}
+use Rattle.theta_compact.specs.CompactState.{shown_of}
 use Rattle.theta_laws.specs.Maps.{IsAscending}
 use Rattle.theta_images.specs.Entry.{state_behind}
 use Rattle.theta_images.specs.Check.{ascends_from, is_ascending, is_within, AreHashes}
@@ -142,3 +143,55 @@ module _ {X : Type 0} (key : X → ℕ) (p : Preamble) (h : ℕ) (xs : List X) w
 
   pub hashes_from : IsShown (shown_of key (state_behind p h xs)) → AreHashes p.theta p.ordered (map key xs)
   hashes_from shown = record { distinct = shown.distinct; nonzero = shown.nonzero; below_theta = shown.below_theta; ascending = shown.ascending }
+
+-- hashes that ascend from 0, and those that do not
+
+from_zero : (xs : List ℕ) → ascends_from 0 xs ≡ true → is_ascending xs ≡ true
+from_zero [] e = refl
+from_zero (x ∷ xs) e = (both (ltb 0 x) (ascends_from x xs) e).1
+
+pub up_from_zero : (theta : ℕ) (ordered : Bool) (xs : List ℕ) (b : Bool) → ascends_from 0 xs ≡ true → b ≡ is_within theta xs → Decides b (AreHashes theta ordered xs)
+up_from_zero theta ordered xs true e w = in_order theta ordered xs (sym w) (from_zero xs e)
+up_from_zero theta ordered xs false e w = outside theta ordered xs (sym w)
+
+pub not_from_zero : (theta : ℕ) (xs : List ℕ) → ascends_from 0 xs ≡ false → Decides false (AreHashes theta true xs)
+not_from_zero theta xs e = (λ f. absurd (cc), λ good. let r = up_ascends 0 xs good.nonzero (good.ascending refl) in cc)
+
+and_true : (b : Bool) → (b && true) ≡ b
+and_true true = refl
+and_true false = refl
+
+and_false : (b : Bool) → (b && false) ≡ false
+and_false true = refl
+and_false false = refl
+
+some_same : {X : Type 0} (x y : X) → Some x ≡ Some y → x ≡ y
+some_same x y e = ap (λ o. unwrap_or o x) e
+
+-- where keys ascend from 0, all are below theta just where the last is
+module _ {X : Type 0} (key : X → ℕ) (theta : ℕ) where
+  with_first : (x y : ℕ) (ys : List ℕ) → 0 < x → x < y → (w : Bool) → is_within theta (y ∷ ys) ≡ w → w ≡ is_within theta (x ∷ y ∷ ys)
+  with_first x y ys low less true e =
+      let parts = both (ltb 0 y && ltb y theta) (is_within theta ys) e in
+      let under = ltb-true y theta (both (ltb 0 y) (ltb y theta) parts.0).1 in
+      let lower : x < theta = omega (arith, less, under) in
+      sym (rw (lt-ltb 0 x low, lt-ltb x theta lower) e)
+  with_first x y ys low less false e = sym (rw e (and_false (ltb 0 x && ltb x theta)))
+
+  of_last : (x : X) (xs : List X) (e : X) (n : ℕ) → n ≡ length xs → Some e ≡ slice_get (x ∷ xs) n → 0 < key x → ascends_from (key x) (map key xs) ≡ true → ltb (key e) theta ≡ is_within theta (map key (x ∷ xs))
+  of_last x [] e zero n found low up =
+      let same = some_same e x found in
+      sym (rw (lt-ltb 0 (key x) low, and_true (ltb (key x) theta)) (ap (λ z. ltb (key z) theta) (sym same)))
+  of_last x [] e (suc m) n found low up = absurd (omega (arith, n))
+  of_last x (y ∷ xs) e zero n found low up = absurd (omega (arith, n))
+  of_last x (y ∷ xs) e (suc m) n found low up =
+      let parts = both (ltb (key x) (key y)) (ascends_from (key y) (map key xs)) up in
+      let less = ltb-true (key x) (key y) parts.0 in
+      let rest = of_last y xs e m (omega (arith, n)) found (omega (arith, low, less)) parts.1 in
+      rest ∙ with_first (key x) (key y) (map key xs) low less (is_within theta (map key (y ∷ xs))) refl
+
+  pub last_decides : (xs : List X) (e : X) → Some e ≡ slice_get xs (length xs - 1) → ascends_from 0 (map key xs) ≡ true → ltb (key e) theta ≡ is_within theta (map key xs)
+  last_decides [] e found up = absurd (cc)
+  last_decides (x ∷ xs) e found up =
+      let parts = both (ltb 0 (key x)) (ascends_from (key x) (map key xs)) up in
+      of_last x xs e (length (x ∷ xs) - 1) (omega arith) found (ltb-true 0 (key x) parts.0) parts.1

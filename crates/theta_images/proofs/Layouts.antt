@@ -1,7 +1,7 @@
 -- What the bytes before the entries come to: the cases of the relation, read in one way.
 use Rattle.std.proofs.Common.{◌≡◌, ℕ, ◌*◌, ◌<◌, ◌≤◌, ◌⊎◌, Bool, true, false, cond, not, List, ◌++◌, length, Option, Some, None, refl, sym, ap, ◌∙◌, inl, inr, arith, eqb-true, ltb, leb, eqb, ◌&&◌, ◌||◌}
 use Rattle.std.proofs.lemmas.Bool.Decides.{nat_tests}
-use Rattle.theta_table.specs.CompactState.{Compact}
+use Rattle.theta_compact.specs.CompactState.{Compact}
 use Rattle.theta_images.specs.Read.{ReadsFlagged, empty_image, single_image, exact_image, estimating_image, LeavesOpen}
 use Rattle.theta_images.specs.Preamble.{announced, seed_hash_at, count_at, theta_at, is_empty, is_ordered, flagged_layout, admitted, IsWholeLayout}
 use Rattle.theta_images.specs.Entry.{state_behind}

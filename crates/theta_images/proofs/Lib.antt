@@ -4,3 +4,4 @@ pub mod ReadEntries
 pub mod ReadSummaries
 pub mod Layouts
 pub mod ReadAgain
+mod HashWords

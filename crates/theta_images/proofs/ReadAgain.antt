@@ -6,7 +6,7 @@ use Rattle.std.proofs.lemmas.Bool.{cases_lt, cases_eq, ne_eqb}
 use Rattle.std.proofs.lemmas.List.{length-map}
 use Rattle.std.proofs.lemmas.Nat.{from_le_bytes-to_le_bytes_2}
 use Rattle.sketch_base.specs.Bytes.{number}
-use Rattle.theta_table.specs.CompactState.{Compact, IsCompact, empty_compact, shown_of}
+use Rattle.theta_compact.specs.CompactState.{Compact, IsCompact, empty_compact, shown_of}
 use Rattle.theta_images.specs.Read.{ReadsFlagged, ReadsCurrent, empty_image, single_image, exact_image, estimating_image}
 use Rattle.theta_images.specs.Preamble.{Begins, announced, count_at, theta_at, is_ordered}
 use Rattle.theta_images.specs.Write.{written_image, head, counted}

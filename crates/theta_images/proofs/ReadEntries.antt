@@ -1,7 +1,7 @@
 -- What a reader has found, and what it has not.
 use Rattle.std.proofs.Common.{◌≡◌, ℕ, ◌+◌, ◌*◌, ◌/◌, ◌<◌, ◌≤◌, ◌^◌, List, [], ◌∷◌, ◌++◌, length, drop, map, Some, Result, Ok, Err, refl, sym, ap, ◌∙◌, subst, inl, inr, arith, append_assoc, length-append}
 use Rattle.sketch_base.specs.declared.error.ErrorKind.{ErrorKind}
-use Rattle.theta_table.specs.CompactState.{Compact, shown_of}
+use Rattle.theta_compact.specs.CompactState.{Compact, shown_of}
 use Rattle.theta_images.specs.Read.{IsRefused, Finds, LeavesOpen}
 use Rattle.theta_images.specs.Entry.{SpellsEach, Holds, state_behind}
 use Rattle.theta_images.specs.Preamble.{IsWholeLayout}

@@ -1,7 +1,7 @@
 -- How images spell entries: a parameter, so that images of every family share this. A hash is spelled by its eight bytes.
 use Rattle.std.specs.Prelude.{ℕ, ◌≡◌, List, length, ◌≤◌, ◌++◌, [], ◌∷◌, drop, false}
 use Rattle.sketch_base.specs.Bytes.{number}
-use Rattle.theta_table.specs.CompactState.{Compact, shown_of}
+use Rattle.theta_compact.specs.CompactState.{Compact, shown_of}
 use Rattle.theta_laws.specs.Shown.{IsShown}
 use Rattle.theta_images.specs.declared.preamble.Preamble.{Preamble}
 

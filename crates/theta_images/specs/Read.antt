@@ -2,7 +2,7 @@
 use Rattle.std.specs.Prelude.{◌≡◌, ◌⊎◌, List, ℕ, Result, Ok, Err, true, false, slice_index, Option, Some, None}
 use Rattle.sketch_base.specs.declared.error.ErrorKind.{ErrorKind}
 use Rattle.sketch_base.specs.declared.error.ErrorKind.TheVariants.{OutOfMemory, InvalidData}
-use Rattle.theta_table.specs.CompactState.{Compact, empty_compact}
+use Rattle.theta_compact.specs.CompactState.{Compact, empty_compact}
 use Rattle.theta_images.specs.Entry.{HasEntries, state_behind}
 use Rattle.theta_laws.specs.declared.TheConstants.{MAX_THETA}
 use Rattle.theta_images.specs.Preamble.{Begins, is_empty, is_ordered, seed_hash_at, count_at, theta_at, announced}

@@ -2,7 +2,7 @@
 use Rattle.std.specs.Prelude.{ℕ, ◌++◌, ◌==◌, List, [], ◌∷◌, length, nat_lt, if◌then◌else◌}
 use Rattle.std.specs.Int.{w16, w32, w64, to_le_bytes}
 use Rattle.std.specs.List.{flat_map}
-use Rattle.theta_table.specs.CompactState.{Compact}
+use Rattle.theta_compact.specs.CompactState.{Compact}
 use Rattle.theta_laws.specs.declared.TheConstants.{MAX_THETA}
 
 -- how many preamble longs are written

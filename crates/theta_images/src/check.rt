@@ -1,18 +1,36 @@
 //! Whether entries that are read keep the rules.
 ghost use Rattle.std.specs.Prelude.{◌≡◌, ◌≢◌, None, true, IfOk, AllPairs, map};
 ghost use Rattle.std.specs.Bool.{Decides};
-ghost use Rattle.theta_images.specs.Check.{AreHashes, is_ascending, is_within};
+ghost use Rattle.theta_images.specs.Check.{AreHashes, ascends_from, is_within};
 ghost use Rattle.theta_laws.specs.Refusal.{Refuses};
 
 use sketch_base::Error;
 use std::alloc::Allocator;
-use theta_table::SketchEntry;
+use theta_laws::SketchEntry;
 
-/// Whether each hash is above the one before it.
-fn is_ascending<E: SketchEntry>(entries: &[E]) -> bool
-    ensures { result ≡ is_ascending (map E.key entries.now) }
+/// Whether each hash is above the one before it, and the first above 0. It goes through all, so that it can become vector code.
+fn ascends_from_zero<E: SketchEntry>(entries: &[E]) -> bool
+    ensures { result ≡ ascends_from 0 (map E.key entries.now) }
 {
-    entries.is_sorted_by(|entry, next| entry.hash() < next.hash())
+    let mut last = 0;
+    let mut ascends = true;
+    'compare_each: for entry in entries {
+        let hash = entry.hash();
+        ascends = ascends & (last < hash);
+        last = hash;
+    }
+    ascends
+}
+
+/// Of entries that ascend from 0, whether each hash is below theta: where the last is.
+fn is_last_below<E: SketchEntry>(entries: &[E], theta: u64) -> bool
+    requires { ascends_from 0 (map E.key entries.now) ≡ true }
+    ensures { result ≡ is_within theta (map E.key entries.now) }
+{
+    match entries.last() {
+        None => true,
+        Some(entry) => entry.hash() < theta,
+    }
 }
 
 /// Whether each hash is from 1 to below theta.
@@ -60,13 +78,13 @@ pub(crate) fn are_entries<E: SketchEntry, A: Allocator + Drop>(
     ensures ok { IfOk result (λ b. Decides b (AreHashes theta ordered (map E.key entries.now))) }
     ensures refused { Refuses result None true }
 {
-    if !is_within(entries, theta) {
-        return Ok(false);
-    }
-    if is_ascending(entries) {
-        return Ok(true);
+    if ascends_from_zero(entries) {
+        return Ok(is_last_below(entries, theta));
     }
     if ordered {
+        return Ok(false);
+    }
+    if !is_within(entries, theta) {
         return Ok(false);
     }
     are_distinct(alloc, entries)

@@ -1,11 +1,15 @@
 //! Entries, and how images spell them.
-ghost use Rattle.std.specs.Prelude.{◌≡◌, ℕ, ◌<◌, ◌≤◌, ◌^◌, ◌++◌, List, length, None, true, OnOk};
-ghost use Rattle.theta_images.specs.Read.{Answers};
+ghost use Rattle.std.specs.Prelude.{◌≡◌, ℕ, ◌<◌, ◌≤◌, ◌^◌, ◌++◌, List, length, None, true, IfOk, IfErr, OnOk};
+ghost use Rattle.std.specs.List.{AllByRecursion, flat_map};
+ghost use Rattle.theta_images.specs.Entry.{Holds};
+ghost use Rattle.theta_images.specs.Read.{Answers, IsRefused};
 ghost use Rattle.theta_laws.specs.Refusal.{Refuses};
 
+use crate::hashes::{read_hashes, write_hashes};
 use sketch_base::{Error, SketchBytes, SketchSlice};
 use std::alloc::Allocator;
-use theta_table::{SketchEntry, ThetaEntry};
+use theta_laws::SketchEntry;
+use theta_table::ThetaEntry;
 
 /// An entry that images spell: by the eight bytes of its hash, the lowest first, and perhaps more. What it keeps elsewhere, it
 /// keeps in memory of `A`.
@@ -27,6 +31,22 @@ pub trait ImageEntry<A: Allocator>: SketchEntry {
     /// exactly where none does, or with `OutOfMemory`; nothing is said of the cursor afterwards.
     fn read(alloc: &A, slice: &mut SketchSlice<'_>) -> Result<Self, Error>
         ensures { Answers (λ x. λ rest. (first : List ℕ) × spells first x × (slice.old ≡ first ++ rest)) slice.new result };
+
+    /// Appends the bytes of each entry, in their order. It refuses with `OutOfMemory` alone, and the target is not used
+    /// afterwards.
+    fn write_each<B: Allocator>(entries: &[Self], bytes: &mut SketchBytes<B>) -> Result<(), Error>
+        ensures ok { OnOk result (bytes.new.bytes ≡ bytes.old.bytes ++ flat_map text entries.now) }
+        ensures values { OnOk result (AllByRecursion is_value entries.now) }
+        ensures refused { Refuses result None true };
+
+    /// Reads `count` entries from the front of the bytes, in memory of the allocator. It refuses with `InvalidData` exactly
+    /// where the bytes hold no so many, or with `OutOfMemory`. It asks for room for no more entries than an eighth of the bytes.
+    fn read_each(alloc: A, bytes: &[u8], count: u32) -> Result<Vec<Self, A>, Error>
+    where
+        Self: Drop,
+        A: Drop,
+        ensures ok { IfOk result (λ v. Holds spells bytes.now count v.items) }
+        ensures refused { IfErr result (λ e. IsRefused e ((xs : List Self) × Holds spells bytes.now count xs)) };
 
     /// No spelling begins another, and each is of one entry.
     ghost one_spelling: { (a b u v : List ℕ) (x y : Self) → spells a x → spells b y → a ++ u ≡ b ++ v → (a ≡ b) × (x ≡ y) };
@@ -58,6 +78,22 @@ impl<A: Allocator> ImageEntry<A> for ThetaEntry {
     #[inline(always)]
     fn read(_alloc: &A, slice: &mut SketchSlice<'_>) -> Result<Self, Error> {
         Ok(ThetaEntry::of_hash(slice.read_u64_le()?))
+    }
+
+    #[inline(always)]
+    fn write_each<B: Allocator>(
+        entries: &[ThetaEntry],
+        bytes: &mut SketchBytes<B>,
+    ) -> Result<(), Error> {
+        write_hashes(entries, bytes)
+    }
+
+    #[inline(always)]
+    fn read_each(alloc: A, bytes: &[u8], count: u32) -> Result<Vec<ThetaEntry, A>, Error>
+    where
+        A: Drop,
+    {
+        read_hashes(alloc, bytes, count)
     }
 
     ghost one_spelling = { one_hash };

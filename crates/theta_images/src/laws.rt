@@ -1,7 +1,7 @@
 //! Laws of images, over the definitions alone.
 ghost use Rattle.std.specs.Prelude.{◌≡◌, ℕ, List, ◌<◌, ◌^◌, ◌++◌};
 ghost use Rattle.std.specs.List.{AllByRecursion};
-ghost use Rattle.theta_table.specs.CompactState.{Compact, IsCompact};
+ghost use Rattle.theta_compact.specs.CompactState.{Compact, IsCompact};
 ghost use Rattle.theta_images.specs.Read.{ReadsFlagged, ReadsCurrent};
 ghost use Rattle.theta_images.specs.Write.{written_image};
 

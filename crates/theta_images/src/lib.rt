@@ -7,6 +7,7 @@
 
 mod check;
 mod entry;
+mod hashes;
 pub mod laws;
 mod preamble;
 mod read;

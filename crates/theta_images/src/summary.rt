@@ -4,7 +4,7 @@ ghost use Rattle.theta_images.specs.Read.{Answers};
 ghost use Rattle.theta_laws.specs.Refusal.{Refuses};
 
 use crate::entry::ImageEntry;
-use sketch_base::{Error, SketchBytes, SketchSlice};
+use sketch_base::{Error, ErrorKind, SketchBytes, SketchSlice};
 use std::alloc::Allocator;
 use theta_table::TupleEntry;
 
@@ -66,6 +66,33 @@ impl<S: TupleSummaryValue<A> + Drop, A: Allocator> ImageEntry<A> for TupleEntry<
         let hash = slice.read_u64_le()?;
         let summary = S::deserialize_value(alloc, slice)?;
         Ok(TupleEntry::of_hash(hash, summary))
+    }
+
+    fn write_each<B: Allocator>(
+        entries: &[TupleEntry<S>],
+        bytes: &mut SketchBytes<B>,
+    ) -> Result<(), Error> {
+        'write_each: for entry in entries {
+            <TupleEntry<S> as ImageEntry<A>>::write(entry, bytes)?;
+        }
+        Ok(())
+    }
+
+    fn read_each(alloc: A, bytes: &[u8], count: u32) -> Result<Vec<TupleEntry<S>, A>, Error>
+    where
+        A: Drop,
+    {
+        // Each entry takes eight bytes at least, so no memory is asked for that the bytes could not fill.
+        if bytes.len() / 8 < count as usize {
+            return Err(Error::new(ErrorKind::InvalidData));
+        }
+        let mut entries = Vec::with_capacity(alloc, count as usize)?;
+        let mut slice = SketchSlice::new(bytes);
+        'read_each: for _i in 0..count {
+            let entry = <TupleEntry<S> as ImageEntry<A>>::read(entries.allocator(), &mut slice)?;
+            entries.push(entry)?;
+        }
+        Ok(entries)
     }
 
     ghost one_spelling = { one_tuple S.spells S.one_spelling };

@@ -1,29 +1,14 @@
 //! Writing images.
 ghost use Rattle.std.specs.Prelude.{◌≡◌, ◌<◌, ◌^◌, ◌++◌, None, true, length, IfOk, OnOk};
-ghost use Rattle.std.specs.List.{AllByRecursion, flat_map};
+ghost use Rattle.std.specs.List.{AllByRecursion};
 ghost use Rattle.theta_images.specs.Write.{written_image, counted_bytes, longs_of};
 ghost use Rattle.theta_laws.specs.Refusal.{Refuses};
 
 use crate::entry::ImageEntry;
 use sketch_base::{Error, Family, SketchBytes};
 use std::alloc::Allocator;
-use theta_laws::MAX_THETA;
-use theta_table::{CompactSketchState, SketchEntry};
-
-/// Appends each entry's bytes.
-fn write_entries<E: ImageEntry<A>, A: Allocator>(
-    entries: &[E],
-    bytes: &mut SketchBytes<A>,
-) -> Result<(), Error>
-    ensures ok { OnOk result (bytes.new.bytes ≡ bytes.old.bytes ++ flat_map E.text entries.now) }
-    ensures values { OnOk result (AllByRecursion E.is_value entries.now) }
-    ensures refused { Refuses result None true }
-{
-    'write_each: for entry in entries {
-        entry.write(bytes)?;
-    }
-    Ok(())
-}
+use theta_compact::CompactSketchState;
+use theta_laws::{MAX_THETA, SketchEntry};
 
 /// Appends a count of entries and four bytes of nothing.
 fn write_count<A: Allocator>(count: usize, bytes: &mut SketchBytes<A>) -> Result<(), Error>
@@ -87,6 +72,6 @@ pub fn write_image_with_capacity<E: ImageEntry<A>, A: Allocator + Drop, B: Alloc
     if estimating {
         bytes.write_u64_le(state.theta())?;
     }
-    write_entries(entries, &mut bytes)?;
+    E::write_each(entries, &mut bytes)?;
     Ok(bytes.into_bytes())
 }

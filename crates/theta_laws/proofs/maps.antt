@@ -3,3 +3,4 @@ pub mod LookUps
 pub mod Insertions
 pub mod MapsOfLists
 pub mod MappedEntries
+pub mod BinarySearch

@@ -3,12 +3,15 @@
 //!
 //! A sketch summarises a stream by its smallest hashes. Its value is a map, the list of its entries ascending by hash, and
 //! a theta, below which all of them are. There is no code here but laws: functions that do nothing, and whose contract is
-//! the law, so that a caller has it at hand. One type stands here, since definitions and programs both speak of it.
+//! the law, so that a caller has it at hand. A trait and a type stand here, since definitions and programs both speak of
+//! them: an entry, which has a hash, and a leaf's step.
 #![tactic(auto)]
 
+mod entry;
 pub mod laws;
 mod leaf;
 
+pub use entry::SketchEntry;
 pub use leaf::LeafStep;
 
 /// The greatest theta, 2^63 - 1. A hash has 63 bits, and a retained one is from 1 to below theta.

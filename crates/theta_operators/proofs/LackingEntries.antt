@@ -5,7 +5,7 @@ use Rattle.std.specs.List.{filter, AllByRecursion, AllPairs}
 use Rattle.std.proofs.lemmas.Bool.Decides.{nat_tests}
 use Rattle.std.proofs.lemmas.List.{length-map, map-id, append_assoc}
 use Rattle.std.proofs.lemmas.List.Sorted.{length_permutation}
-use Rattle.theta_table.specs.CompactState.{Compact, IsCompactOf, IsAnswer, shown_of, empty_compact, is_answer_ordered}
+use Rattle.theta_compact.specs.CompactState.{Compact, IsCompactOf, IsAnswer, shown_of, empty_compact, is_answer_ordered}
 use Rattle.theta_laws.specs.Maps.{IsAscending, IsApart, below, entry_at, map_of}
 use Rattle.std.specs.Iterator.{YieldsFirst}
 use Rattle.std.specs.Option.{option_eq}
@@ -21,8 +21,8 @@ use Rattle.theta_laws.proofs.operators.CommonMaps.{filter-and, filter-agree, lac
 use Rattle.theta_laws.proofs.cuts.Cuts.{below_all}
 use Rattle.theta_laws.proofs.maps.MapsOfLists.{distinct-apart, each-hash, apart-distinct, ascending-from_map, each-from_map, ascending-map, entry_at-map_of, ascending-map_of}
 use Rattle.theta_laws.proofs.maps.LookUps.{entry_at-filter_in, entry_at-filter_out, entry_at-below, entry_at_head, past, same_map}
-use Rattle.theta_operators.proofs.OtherOrders.{map_of-ascending, map_of-moved, each-map_of}
-use Rattle.theta_table.proofs.LawsOfShown.{IsShown-retained}
+use Rattle.theta_table.proofs.OtherOrders.{map_of-ascending, map_of-moved, each-map_of}
+use Rattle.theta_compact.proofs.LawsOfShown.{IsShown-retained}
 
 -- what is shown of a state of entries, in their own order and sorted
 
@@ -209,6 +209,9 @@ apart_hashes hs distinct = apart-distinct hash_key hs (rw (map-id hs) distinct)
 
 pub below_apart : (hs : List ℕ) (theta : ℕ) → AllPairs (λ x y. x ≢ y) hs → IsApart hash_key (below hash_key hs theta)
 below_apart hs theta distinct = apart-filter hash_key _ hs (apart_hashes hs distinct)
+
+pub below_few : (hs : List ℕ) (theta n : ℕ) → length hs < n → length (below hash_key hs theta) < n
+below_few hs theta n few = omega (arith, fewer (λ h. ltb h theta) hs, few)
 
 pub below_more : (done : List ℕ) (h : ℕ) (left : List ℕ) (theta : ℕ) → h < theta → (done ++ h ∷ []) ++ below hash_key left theta ≡ done ++ below hash_key (h ∷ left) theta
 below_more done h left theta lt =

@@ -4,5 +4,5 @@ pub mod FilledTables
 pub mod SharedEntries
 pub mod Outcomes
 pub mod ToldMetadata
-pub mod OtherOrders
 pub mod LackingEntries
+pub mod LookUpSeed

@@ -7,7 +7,7 @@ use Rattle.sketch_base.specs.declared.error.ErrorKind.TheVariants.{InvalidArgume
 use Rattle.theta_laws.specs.declared.TheConstants.{MAX_THETA}
 use Rattle.theta_operators.specs.declared.intersection.Outcome.{Outcome}
 use Rattle.theta_operators.specs.declared.intersection.Outcome.TheVariants.{Unbegun, Nothing, Held}
-use Rattle.theta_table.specs.CompactState.{Compact, IsAnswer}
+use Rattle.theta_compact.specs.CompactState.{Compact, IsAnswer}
 use Rattle.theta_laws.specs.Cuts.{Retained, none_below}
 use Rattle.theta_laws.specs.Maps.{below}
 use Rattle.theta_laws.specs.Values.{Sketch, Empty, NonEmpty, count_of}

@@ -1,5 +1,6 @@
 -- What iterators over entries and hashes have left, and where they take their entries from.
-use Rattle.std.specs.Prelude.{Bool, List, true, false}
+use Rattle.std.specs.Prelude.{ℕ, Bool, List, true, false, if◌then◌else◌}
+use Rattle.theta_table.specs.Gathering.{from_below}
 use Rattle.theta_operators.specs.declared.iter.Source.{Source}
 use Rattle.theta_operators.specs.declared.iter.Source.TheVariants.{Table, Slice}
 
@@ -9,6 +10,10 @@ pub record Lending (X : Type 0) : Type 0 where
   pub counted : Bool
 
 -- the entries left of a table or of a slice
-abbrev pub left_in : {X : Type 0} → Source X → Lending X
+abbrev pub left_in : {X S : Type 0} → Source X S → Lending X
 left_in (Table entries) = record { rest = entries; counted = false }
 left_in (Slice entries) = record { rest = entries.now; counted = true }
+
+-- the entries that a merge goes on with: of entries in no known order those from the first on that is below a theta
+abbrev pub still_asked : {X : Type 0} → (X → ℕ) → (ordered : Bool) → (theta : ℕ) → List X → List X
+still_asked key ordered theta xs = if ordered then xs else from_below key theta xs

@@ -1,5 +1,5 @@
 -- Unions.
-use Rattle.std.specs.Prelude.{ℕ, ◌≡◌, ◌==◌, ◌≤◌, ◌^◌, ◌⊎◌, Bool, true, false, if◌then◌else◌, Option, Some, None, List, map, min}
+use Rattle.std.specs.Prelude.{ℕ, ◌≡◌, ◌==◌, ◌<◌, ◌≤◌, ◌^◌, ◌⊎◌, Bool, true, false, if◌then◌else◌, Option, Some, None, List, map, min}
 use Rattle.sketch_base.specs.declared.error.ErrorKind.{ErrorKind}
 use Rattle.sketch_base.specs.declared.error.ErrorKind.TheVariants.{InvalidArgument, Failed, OutOfMemory, Policy}
 use Rattle.theta_laws.specs.declared.TheConstants.{MIN_LG_K, MAX_LG_K}
@@ -35,6 +35,12 @@ pub record IsUnion {X P : Type 0} (u : Union X P) : Type 0 where
   pub lg_k_high : u.lg_k ≤ MAX_LG_K
   pub theta_high : u.failed ≡ false → u.held.theta ≤ u.start
   pub none_held : u.failed ≡ false → u.empty ≡ true → u.held ≡ none_below u.start
+
+-- a union that holds what a table with some theta retains below a theta of its own
+pub record IsUnionBelow {X P : Type 0} (table_theta : ℕ) (u : Union X P) : Type 0 where
+  pub union : IsUnion u
+  pub theta_low : 0 < u.held.theta
+  pub theta_within : u.held.theta ≤ table_theta
 
 -- what an update is refused with before anything is merged: a failed union refuses all, an empty input is taken unchecked, another seed is refused
 abbrev pub update_refusal : {X P : Type 0} → Union X P → Shown → Option ErrorKind

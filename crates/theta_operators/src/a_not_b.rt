@@ -1,6 +1,6 @@
 //! Differences: what of one sketch another lacks.
-ghost use Rattle.std.specs.Prelude.{◌≡◌, ◌==◌, ◌&&◌, ◌||◌, true, false, None, is_none, nat_lt, map, IfOk};
-ghost use Rattle.theta_table.specs.CompactState.{IsAnswer, IsCompactOf, shown_of, is_answer_ordered};
+ghost use Rattle.std.specs.Prelude.{◌≡◌, ◌<◌, ◌≤◌, ◌==◌, ◌&&◌, ◌||◌, true, false, None, is_none, nat_lt, map, IfOk};
+ghost use Rattle.theta_compact.specs.CompactState.{IsAnswer, IsCompactOf, shown_of, is_answer_ordered};
 ghost use Rattle.theta_laws.specs.Maps.{IsAscending, IsApart, below, entry_at, map_of};
 ghost use Rattle.theta_operators.specs.ANotB.{difference_refusal, at_hand_first, hashes_from};
 ghost use Rattle.theta_laws.specs.Entries.{hash_key, ClonesEqual};
@@ -9,11 +9,13 @@ ghost use Rattle.theta_laws.specs.Refusal.{Refuses};
 ghost use Rattle.theta_laws.specs.Shown.{IsShown, shown_value};
 
 use crate::merge::is_past;
+use crate::share::{cloned_entries, table_of};
 use crate::view::{EntrySketch, KeySketch, ThetaFamilySketchMetadata};
 use sketch_base::{Error, ErrorKind};
 use std::alloc::Allocator;
-use theta_laws::MAX_THETA;
-use theta_table::{CompactSketchState, SketchEntry, is_answer_ordered};
+use theta_compact::{CompactSketchState, is_answer_ordered};
+use theta_laws::{MAX_THETA, SketchEntry};
+use theta_table::{SketchHashTable, ThetaEntry};
 
 /// The entries of `a` whose hashes `b` lacks, below the lesser theta, in memory of `alloc` or a clone of it.
 ///
@@ -24,7 +26,7 @@ use theta_table::{CompactSketchState, SketchEntry, is_answer_ordered};
 ///
 /// Refused with `InvalidArgument` where `a` isn't empty and it, or a `b` that isn't empty, has another seed hash than
 /// `seed_hash`; with `OutOfMemory` where memory is. The inputs stay as they are.
-pub fn compute<'a, S: EntrySketch<'a>, T: KeySketch, A: Allocator + Clone>(
+pub fn compute<S: EntrySketch, T: KeySketch, A: Allocator + Clone>(
     alloc: A,
     seed_hash: u16,
     a: S,
@@ -56,7 +58,7 @@ where
 }
 
 /// The difference of a sketch that isn't empty, of this seed hash and theta, and any other.
-fn difference<'a, S: EntrySketch<'a>, T: KeySketch, A: Allocator + Clone>(
+fn difference<S: EntrySketch, T: KeySketch, A: Allocator + Clone>(
     alloc: A,
     seed_hash: u16,
     a: S,
@@ -78,21 +80,21 @@ where
 {
     match b.metadata() {
         ThetaFamilySketchMetadata::Empty { .. } => {
-            let kept = lacking_by_search(alloc, a, &[], a_theta, a_ordered)?;
+            let kept = cloned_entries(alloc, a)?;
             Ok(state_of(kept, a_theta, seed_hash, asked, a_ordered))
         }
         ThetaFamilySketchMetadata::NonEmpty {
             seed_hash: other,
             theta: b_theta,
             ordered: b_ordered,
-            ..
+            num_retained: b_count,
         } => {
             if other != seed_hash {
                 return Err(Error::new(ErrorKind::InvalidArgument));
             }
             let theta = a_theta.min(b_theta);
             let spare = alloc.clone()?;
-            let kept = kept_entries(alloc, a, a_ordered, b, b_ordered, theta)?;
+            let kept = kept_entries(alloc, a, a_ordered, b, b_ordered, b_count, theta)?;
             if leaves_nothing(kept.len(), theta) {
                 return Ok(CompactSketchState::empty(spare, seed_hash));
             }
@@ -108,13 +110,14 @@ fn leaves_nothing(count: usize, theta: u64) -> bool
     count == 0 && theta == MAX_THETA
 }
 
-/// Clones of the entries below a theta whose hashes another sketch lacks, in their order.
-fn kept_entries<'a, S: EntrySketch<'a>, T: KeySketch, A: Allocator + Clone>(
+/// Clones of the entries below a theta whose hashes another sketch, of `b_count` hashes, lacks, in their order.
+fn kept_entries<S: EntrySketch, T: KeySketch, A: Allocator + Clone>(
     alloc: A,
     a: S,
     a_ordered: bool,
     b: T,
     b_ordered: bool,
+    b_count: usize,
     theta: u64,
 ) -> Result<Vec<S::Entry, A>, Error>
 where
@@ -122,6 +125,8 @@ where
     requires clones_equal { ClonesEqual S.Entry.is_clone }
     requires a_in_order { (S.shown a).ordered ≡ a_ordered }
     requires b_in_order { (T.shown b).ordered ≡ b_ordered }
+    requires theta_low { 0 < theta }
+    requires theta_high { theta ≤ MAX_THETA }
     ensures listed { IfOk result (λ _. map S.Entry.key (S.listing a) ≡ (S.shown a).hashes) }
     ensures ok { IfOk result (λ v. v.items ≡ lacking S.Entry.key hash_key (below S.Entry.key (S.listing a) theta) (T.shown b).hashes) }
     ensures refused { Refuses result None true }
@@ -129,12 +134,12 @@ where
     if a_ordered && b_ordered {
         return lacking_by_scan(alloc, a, b, theta);
     }
-    let keys = keys_of(alloc.clone()?, b, theta, b_ordered)?;
+    let keys = keys_of(alloc.clone()?, b, theta, b_ordered, b_count)?;
     lacking_by_search(alloc, a, &keys, theta, a_ordered)
 }
 
 /// One pass over two sketches whose hashes ascend.
-fn lacking_by_scan<'a, S: EntrySketch<'a>, T: KeySketch, A: Allocator>(
+fn lacking_by_scan<S: EntrySketch, T: KeySketch, A: Allocator>(
     alloc: A,
     a: S,
     b: T,
@@ -183,11 +188,11 @@ fn first_from<T: KeySketch>(
     at_hand
 }
 
-/// Each entry looked up in hashes that ascend. Where the entries ascend, it stops at the first that is not below theta.
-fn lacking_by_search<'a, S: EntrySketch<'a>, A: Allocator>(
+/// Each entry looked up in a table of hashes. Where the entries ascend, it stops at the first that is not below theta.
+fn lacking_by_search<S: EntrySketch, A: Allocator>(
     alloc: A,
     a: S,
-    keys: &[u64],
+    keys: &SketchHashTable<ThetaEntry, A>,
     theta: u64,
     ordered: bool,
 ) -> Result<Vec<S::Entry, A>, Error>
@@ -195,9 +200,8 @@ where
     S::Entry: Clone,
     requires clones_equal { ClonesEqual S.Entry.is_clone }
     requires in_order { (S.shown a).ordered ≡ ordered }
-    requires ascending { IsAscending hash_key keys.now }
     ensures listed { map S.Entry.key (S.listing a) ≡ (S.shown a).hashes }
-    ensures ok { IfOk result (λ v. v.items ≡ lacking S.Entry.key hash_key (below S.Entry.key (S.listing a) theta) keys.now) }
+    ensures ok { IfOk result (λ v. v.items ≡ lacking S.Entry.key hash_key (below S.Entry.key (S.listing a) theta) keys.now.map.kept.entries) }
     ensures refused { Refuses result None true }
 {
     let mut kept = Vec::new(alloc);
@@ -213,53 +217,61 @@ where
     Ok(kept)
 }
 
-/// Whether a hash is below theta and not among hashes that ascend.
-fn is_kept(keys: &[u64], hash: u64, theta: u64) -> bool
-    requires { IsAscending hash_key keys.now }
-    ensures { result ≡ (nat_lt hash theta && is_none (entry_at hash_key keys.now hash)) }
+/// Whether a hash is below theta and not in a table.
+#[inline(always)]
+fn is_kept<A: Allocator>(keys: &SketchHashTable<ThetaEntry, A>, hash: u64, theta: u64) -> bool
+    ensures { result ≡ (nat_lt hash theta && is_none (entry_at hash_key keys.now.map.kept.entries hash)) }
 {
-    hash < theta && keys.binary_search(&hash).is_err()
+    hash < theta && keys.entry(hash).is_none()
 }
 
-/// The hashes of a sketch below a theta, ascending.
-fn keys_of<T: KeySketch, A: Allocator>(
+/// The seed of tables in which hashes are only looked up, and its seed hash.
+const LOOK_UP_SEED: u64 = 9001;
+
+const LOOK_UP_SEED_HASH: u16 = 0x93cc;
+
+/// A table of the hashes of a sketch below a theta, of which there are `count` at most.
+fn keys_of<T: KeySketch, A: Allocator + Clone>(
     alloc: A,
     sketch: T,
     theta: u64,
     ordered: bool,
-) -> Result<Vec<u64, A>, Error>
-    requires { (T.shown sketch).ordered ≡ ordered }
-    ensures ok { IfOk result (λ v. v.items ≡ map_of hash_key (below hash_key (T.shown sketch).hashes theta)) }
+    count: usize,
+) -> Result<SketchHashTable<ThetaEntry, A>, Error>
+    requires in_order { (T.shown sketch).ordered ≡ ordered }
+    requires theta_low { 0 < theta }
+    requires theta_high { theta ≤ MAX_THETA }
+    ensures ok { IfOk result (λ t. t.map.kept.entries ≡ map_of hash_key (below hash_key (T.shown sketch).hashes theta)) }
     ensures refused { Refuses result None true }
 {
-    let mut keys = hashes_below(alloc, sketch, theta, ordered)?;
-    if !ordered {
-        keys.sort_unstable();
-    }
-    Ok(keys)
+    let keys = hashes_below(alloc, sketch, theta, ordered, count)?;
+    table_of(keys, theta, LOOK_UP_SEED, LOOK_UP_SEED_HASH)
 }
 
-/// The hashes of a sketch below a theta, in their order. Where they ascend, it stops at the first that is not below theta.
+/// The hashes of a sketch below a theta, in their order, with room for `room` from the start. Where they ascend, it stops at
+/// the first that is not below theta.
 fn hashes_below<T: KeySketch, A: Allocator>(
     alloc: A,
     sketch: T,
     theta: u64,
     ascending: bool,
-) -> Result<Vec<u64, A>, Error>
+    room: usize,
+) -> Result<Vec<ThetaEntry, A>, Error>
     requires { (T.shown sketch).ordered ≡ ascending }
     ensures ok { IfOk result (λ v. v.items ≡ below hash_key (T.shown sketch).hashes theta) }
     ensures sound { IsShown (T.shown sketch) }
     ensures refused { Refuses result None true }
 {
-    let mut keys = Vec::new(alloc);
-    'collect_each: for hash in sketch.hashes() {
+    let hashes = sketch.hashes();
+    let mut keys = Vec::with_capacity(alloc, room)?;
+    'collect_each: for hash in hashes {
         if is_past(ascending, hash, theta) {
             break;
         }
         if hash >= theta {
             continue;
         }
-        keys.push(hash)?;
+        keys.push(ThetaEntry::of_hash(hash))?;
     }
     Ok(keys)
 }

@@ -20,9 +20,10 @@ use crate::view::{EntrySketch, ThetaFamilySketchMetadata};
 use sketch_base::{Error, ErrorKind, compute_seed_hash};
 use std::alloc::{Allocator, Global};
 use std::marker::Model;
+use theta_compact::CompactSketchState;
 use theta_laws::MAX_THETA;
 use theta_policies::IntersectionMergePolicy;
-use theta_table::{CompactSketchState, SketchEntry, SketchHashTable};
+use theta_table::{SketchHashTable, SlotEntry};
 
 /// What the inputs of an intersection have come to.
 #[derive(Clone, Copy)]
@@ -41,13 +42,13 @@ enum Outcome {
 /// entries of a hash are combined by the policy, in the order of the calls. It is Empty once an input is, or once inputs
 /// with hashes and at the greatest theta share none. A refused update leaves it as it was.
 #[derive(Drop)]
-pub struct IntersectionState<E: SketchEntry, P, A: Allocator = Global> {
+pub struct IntersectionState<E: SlotEntry, P, A: Allocator = Global> {
     outcome: Outcome,
     table: SketchHashTable<E, A>,
     policy: P,
 }
 
-impl<E: SketchEntry, P, A: Allocator> Model for IntersectionState<E, P, A> {
+impl<E: SlotEntry, P, A: Allocator> Model for IntersectionState<E, P, A> {
     ghost use Rattle.theta_operators.specs.Intersection.{Intersection, IsIntersection, outcome_value};
 
     ghost Value = { Intersection E P };
@@ -57,7 +58,7 @@ impl<E: SketchEntry, P, A: Allocator> Model for IntersectionState<E, P, A> {
     ghost invariant = { λ i. IsIntersection (record { result = outcome_value i.outcome i.table.map.kept; seed_hash = i.table.map.seed_hash; policy = i.policy }) };
 }
 
-impl<E: SketchEntry + Drop, P: Drop, A: Allocator + Drop> IntersectionState<E, P, A> {
+impl<E: SlotEntry + Drop, P: Drop, A: Allocator + Drop> IntersectionState<E, P, A> {
     /// An intersection of sketches of this seed, which has seen none. It takes no memory.
     ///
     /// Refused with `InvalidArgument` for a seed whose seed hash is 0.
@@ -75,7 +76,7 @@ impl<E: SketchEntry + Drop, P: Drop, A: Allocator + Drop> IntersectionState<E, P
     }
 }
 
-impl<E: SketchEntry, P, A: Allocator> IntersectionState<E, P, A> {
+impl<E: SlotEntry, P, A: Allocator> IntersectionState<E, P, A> {
     /// Whether there was an input, and so there is a value.
     pub fn has_result(&self) -> bool
         ensures { result ≡ is_some self.now.result }
@@ -90,7 +91,7 @@ impl<E: SketchEntry, P, A: Allocator> IntersectionState<E, P, A> {
 }
 
 impl<
-    E: SketchEntry + Clone,
+    E: SlotEntry + Clone,
     P: IntersectionMergePolicy<E> + Drop,
     A: Allocator + Clone,
 > IntersectionState<E, P, A> {
@@ -101,9 +102,7 @@ impl<
     ///
     /// Refused with `InvalidArgument` for a sketch of another seed, with `OutOfMemory`, or with `Policy` where the policy
     /// refuses at a shared hash below the lesser theta; then nothing has changed.
-    pub fn update<'a, S: EntrySketch<'a, Entry = E>>(&mut self, sketch: S) -> Result<(), Error>
-    where
-        E: 'a,
+    pub fn update<S: EntrySketch<Entry = E>>(&mut self, sketch: S) -> Result<(), Error>
         requires clones_equal { ClonesEqual E.is_clone }
         ensures met { OnOk result (IsMet E.key (P.merges self.old.policy) (P.refuses self.old.policy) self.old self.new (S.shown sketch) (S.listing sketch)) }
         ensures made_with { self.new ≡ record self.old { result = self.new.result } }
@@ -171,7 +170,7 @@ impl<
 ///
 /// Refused with `OutOfMemory`, or with `Policy` where the policy refuses at a shared hash below the lesser theta; then the
 /// table is as it was.
-fn meet_held<'a, S: EntrySketch<'a>, P: IntersectionMergePolicy<S::Entry>, A: Allocator + Clone>(
+fn meet_held<S: EntrySketch, P: IntersectionMergePolicy<S::Entry>, A: Allocator + Clone>(
     table: &mut SketchHashTable<S::Entry, A>,
     sketch: S,
     policy: &P,

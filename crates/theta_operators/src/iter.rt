@@ -1,26 +1,27 @@
 //! Iterators over the entries that views lend. Contracts see of each what it has left.
 ghost use Rattle.std.specs.Prelude.{◌≡◌, Some, true, false, length, map, IsSome, IfSome};
 ghost use Rattle.theta_laws.specs.Maps.{IsLent};
+ghost use Rattle.theta_table.specs.Gathering.{from_below};
 ghost use Rattle.std.specs.Iterator.{YieldsFirst, YieldsFirstRef, UpTo, item_count};
 ghost use Rattle.std.specs.Iterator.SizeHint.{IsWithinCount};
 
 use std::alloc::Allocator;
 use std::marker::Model;
-use theta_table::{SketchEntry, SketchHashTable, SketchHashTableIter};
+use theta_table::{SketchHashTable, SketchHashTableIter, SlotEntry};
 
 #[derive(Drop)]
-enum Source<'a, E> {
+enum Source<'a, E: SlotEntry> {
     Table(SketchHashTableIter<'a, E>),
     Slice(&'a [E]),
 }
 
 /// The entries of a table or of a slice, lent one by one: a table's in an open order, a slice's in its own.
 #[derive(Drop)]
-pub struct EntryIter<'a, E> {
+pub struct EntryIter<'a, E: SlotEntry> {
     source: Source<'a, E>,
 }
 
-impl<'a, E> Model for EntryIter<'a, E> {
+impl<'a, E: SlotEntry> Model for EntryIter<'a, E> {
     ghost use Rattle.theta_operators.specs.Iter.{Lending};
 
     ghost Value = { Lending E };
@@ -30,7 +31,7 @@ impl<'a, E> Model for EntryIter<'a, E> {
     ghost view = { λ s. left_in s.source };
 }
 
-impl<'a, E> EntryIter<'a, E> {
+impl<'a, E: SlotEntry> EntryIter<'a, E> {
     /// The entries of a slice, in its order.
     pub fn of_slice(entries: &'a [E]) -> Self
         ensures { result ≡ record { rest = entries.entry.now; counted = true } }
@@ -41,7 +42,7 @@ impl<'a, E> EntryIter<'a, E> {
     }
 }
 
-impl<'a, E: SketchEntry> EntryIter<'a, E> {
+impl<'a, E: SlotEntry> EntryIter<'a, E> {
     /// The entries of a table, each once, in an open order.
     pub fn of_table<A: Allocator>(table: &'a SketchHashTable<E, A>) -> Self
         ensures lent { result ≡ record { rest = table.entry.now.lends; counted = false } }
@@ -53,7 +54,35 @@ impl<'a, E: SketchEntry> EntryIter<'a, E> {
     }
 }
 
-impl<'a, E> Iterator for EntryIter<'a, E> {
+/// The entries from the first on that is below a theta.
+#[inline(always)]
+fn entries_from_below<'a, E: SlotEntry>(entries: &'a [E], theta: u64) -> &'a [E]
+    ensures { result.now ≡ from_below E.key theta entries.entry.now }
+{
+    let mut left = entries;
+    'pass_each: while let Some((first, others)) = left.split_first() {
+        if first.hash() < theta {
+            break;
+        }
+        left = others;
+    }
+    left
+}
+
+impl<'a, E: SlotEntry> EntryIter<'a, E> {
+    /// Passes over the entries in front whose hashes are not below theta.
+    #[inline(always)]
+    pub fn pass_to_below(&mut self, theta: u64)
+        ensures { self.new ≡ record { rest = from_below E.key theta self.old.rest; counted = self.old.counted } }
+    {
+        match &mut self.source {
+            Source::Table(entries) => entries.pass_to_below(theta),
+            Source::Slice(entries) => *entries = entries_from_below(entries, theta),
+        }
+    }
+}
+
+impl<'a, E: SlotEntry> Iterator for EntryIter<'a, E> {
     type Item = &'a E;
 
     ghost next_gives = { λ old item new. YieldsFirstRef (λ s. s.rest) old item new × (new.counted ≡ old.counted) };
@@ -88,11 +117,11 @@ impl<'a, E> Iterator for EntryIter<'a, E> {
 
 /// The hashes of the entries of an `EntryIter`, in its order.
 #[derive(Drop)]
-pub struct HashIter<'a, E: SketchEntry> {
+pub struct HashIter<'a, E: SlotEntry> {
     entries: EntryIter<'a, E>,
 }
 
-impl<'a, E: SketchEntry> Model for HashIter<'a, E> {
+impl<'a, E: SlotEntry> Model for HashIter<'a, E> {
     ghost use Rattle.std.specs.Prelude.{ℕ, map};
     ghost use Rattle.theta_operators.specs.Iter.{Lending};
 
@@ -101,7 +130,7 @@ impl<'a, E: SketchEntry> Model for HashIter<'a, E> {
     ghost view = { λ s. record { rest = map E.key s.entries.rest; counted = s.entries.counted } };
 }
 
-impl<'a, E: SketchEntry> HashIter<'a, E> {
+impl<'a, E: SlotEntry> HashIter<'a, E> {
     /// The hashes of these entries.
     pub fn new(entries: EntryIter<'a, E>) -> Self
         ensures { result ≡ record { rest = map E.key entries.entry.rest; counted = entries.entry.counted } }
@@ -110,7 +139,7 @@ impl<'a, E: SketchEntry> HashIter<'a, E> {
     }
 }
 
-impl<'a, E: SketchEntry> Iterator for HashIter<'a, E> {
+impl<'a, E: SlotEntry> Iterator for HashIter<'a, E> {
     type Item = u64;
 
     ghost next_gives = { λ old item new. YieldsFirst (λ s. s.rest) old item new × (new.counted ≡ old.counted) };

@@ -1,19 +1,22 @@
 //! Merging the entries of a sketch into a table.
-ghost use Rattle.std.specs.Prelude.{◌≡◌, ◌^◌, ◌⊎◌, Some, None, true, map, OnOk, IfErr, IsTrue, ◌↔◌, ◌≤◌};
+ghost use Rattle.std.specs.Prelude.{◌≡◌, ◌^◌, ◌⊎◌, Some, None, [], ◌∷◌, true, map, MatchOption, OnOk, IfErr, IsTrue, ◌↔◌, ◌≤◌};
 ghost use Rattle.sketch_base.specs.declared.error.ErrorKind.TheVariants.{OutOfMemory, Policy};
 ghost use Rattle.theta_laws.specs.Step.{merge_step};
 ghost use Rattle.theta_laws.specs.Insertion.{after_upserts};
+ghost use Rattle.theta_laws.specs.Maps.{below};
 ghost use Rattle.theta_laws.specs.Refusal.{policy_refusal};
 ghost use Rattle.theta_laws.specs.Folds.{Value, fold_key, fold_merges, unmarked, never};
+ghost use Rattle.theta_operators.specs.Iter.{still_asked};
 ghost use Rattle.theta_operators.specs.Union.{IsMergeRefused};
 ghost use Rattle.theta_laws.specs.Entries.{ClonesEqual};
 
+use crate::iter::EntryIter;
 use crate::view::EntrySketch;
 use sketch_base::Error;
 use std::alloc::{AllocError, Allocator};
-use theta_laws::MIN_LG_K;
+use theta_laws::{MIN_LG_K, SketchEntry};
 use theta_policies::UnionMergePolicy;
-use theta_table::{SketchEntry, SketchHashTable, UpsertStep};
+use theta_table::{SketchHashTable, SlotEntry, UpsertStep};
 
 /// The step that merges an entry that comes in: combined with the one that is there, or cloned.
 pub(crate) struct MergeStep<'a, E: SketchEntry + Clone, P> {
@@ -49,18 +52,29 @@ pub(crate) fn is_past(ordered: bool, hash: u64, theta: u64) -> bool
     ordered && hash >= theta
 }
 
-/// Merges the entries of a sketch into the table of a union, in their order. Where they ascend it stops at the first that the
-/// table screens.
-pub(crate) fn merge_entries<
-    'a,
-    S: EntrySketch<'a>,
-    P: UnionMergePolicy<S::Entry>,
-    A: Allocator + Clone,
->(
+/// The next entry to be merged; of entries in no known order the next below a theta.
+#[inline(always)]
+fn next_entry<'a, E: SlotEntry>(
+    entries: &mut EntryIter<'a, E>,
+    ordered: bool,
+    theta: u64,
+) -> Option<&'a E>
+    ensures { MatchOption result (still_asked E.key ordered theta entries.old.rest ≡ []) (λ x. still_asked E.key ordered theta entries.old.rest ≡ x.now ∷ entries.new.rest) }
+{
+    if !ordered {
+        entries.pass_to_below(theta);
+    }
+    entries.next()
+}
+
+/// Merges the entries of a sketch below a theta into the table of a union, in their order; no policy sees the others. Where they
+/// ascend it stops at the first that is not below that theta or that the table screens.
+pub(crate) fn merge_entries<S: EntrySketch, P: UnionMergePolicy<S::Entry>, A: Allocator + Clone>(
     table: &mut SketchHashTable<S::Entry, A>,
     sketch: S,
     policy: &P,
     ordered: bool,
+    theta: u64,
 ) -> Result<(), Error>
 where
     S::Entry: Clone,
@@ -68,20 +82,26 @@ where
     requires in_order { ordered ≡ (S.shown sketch).ordered }
     requires of_sketch { MIN_LG_K ≤ table.old.map.lg_nom }
     ensures listed { map S.Entry.key (S.listing sketch) ≡ (S.shown sketch).hashes }
-    ensures after { OnOk result (unmarked table.new.map.kept ≡ after_upserts (fold_key S.Entry.key) (2 ^ table.old.map.lg_nom) (merge_step (fold_merges S.Entry.key (P.merges policy.now) (P.refuses policy.now)) never) (map Value (S.listing sketch)) (unmarked table.old.map.kept)) }
+    ensures after { OnOk result (unmarked table.new.map.kept ≡ after_upserts (fold_key S.Entry.key) (2 ^ table.old.map.lg_nom) (merge_step (fold_merges S.Entry.key (P.merges policy.now) (P.refuses policy.now)) never) (map Value (below S.Entry.key (S.listing sketch) theta)) (unmarked table.old.map.kept)) }
     ensures made_with { table.new.map ≡ record table.old.map { kept = table.new.map.kept } }
-    ensures refused { IfErr result (λ e. (e ≡ OutOfMemory) ⊎ ((e ≡ Policy) × IsMergeRefused S.Entry.key (P.refuses policy.now) table.old.map.kept.entries (S.listing sketch))) }
+    ensures refused { IfErr result (λ e. (e ≡ OutOfMemory) ⊎ ((e ≡ Policy) × IsMergeRefused S.Entry.key (P.refuses policy.now) (below S.Entry.key table.old.map.kept.entries theta) (S.listing sketch))) }
 {
-    'merge_each: for entry in sketch.entries() {
+    let mut entries = sketch.entries();
+    let mut lesser = theta.min(table.retention_theta());
+    'merge_each: while let Some(entry) = next_entry(&mut entries, ordered, lesser) {
         let hash = entry.hash();
-        if is_past(ordered, hash, table.retention_theta()) {
+        if is_past(ordered, hash, lesser) {
             break;
+        }
+        if hash >= theta {
+            continue;
         }
         let step = MergeStep {
             policy,
             incoming: entry,
         };
         table.upsert_entry(hash, step)?;
+        lesser = theta.min(table.retention_theta());
     }
     Ok(())
 }

@@ -16,9 +16,9 @@ use crate::merge::is_past;
 use crate::view::EntrySketch;
 use sketch_base::Error;
 use std::alloc::{AllocError, Allocator};
-use theta_laws::MAX_THETA;
+use theta_laws::{MAX_THETA, SketchEntry};
 use theta_policies::IntersectionMergePolicy;
-use theta_table::{PutStep, SketchEntry, SketchHashTable, ThetaEntry};
+use theta_table::{PutStep, SketchHashTable, SlotEntry, ThetaEntry};
 
 /// The binary logarithm of the slots of a table for `count` entries, and 0, for no slots, where `count` is 0.
 fn lg_slots_for(count: usize) -> u8
@@ -31,7 +31,7 @@ fn lg_slots_for(count: usize) -> u8
 }
 
 /// A table of entries of distinct hashes, with just the slots that these need. Refused with `OutOfMemory` alone.
-fn table_of<E: SketchEntry + Drop, A: Allocator + Clone>(
+pub(crate) fn table_of<E: SlotEntry + Drop, A: Allocator + Clone>(
     entries: Vec<E, A>,
     theta: u64,
     seed: u64,
@@ -63,7 +63,7 @@ fn table_of<E: SketchEntry + Drop, A: Allocator + Clone>(
 }
 
 /// The entries of a sketch, in its order. Refused with `OutOfMemory` alone.
-fn cloned_entries<'a, S: EntrySketch<'a>, A: Allocator>(
+pub(crate) fn cloned_entries<S: EntrySketch, A: Allocator>(
     alloc: A,
     sketch: S,
 ) -> Result<Vec<S::Entry, A>, Error>
@@ -82,7 +82,7 @@ where
 }
 
 /// A table like another, of all entries of a sketch, below its theta. Refused with `OutOfMemory` alone.
-pub(crate) fn copied_table<'a, S: EntrySketch<'a>, A: Allocator + Clone>(
+pub(crate) fn copied_table<S: EntrySketch, A: Allocator + Clone>(
     like: &SketchHashTable<S::Entry, A>,
     sketch: S,
     theta: u64,
@@ -104,7 +104,7 @@ where
 }
 
 /// What a policy makes of an entry that comes in and the one that a table has of its hash, if that is below theta.
-fn shared_entry<E: SketchEntry + Clone, P: IntersectionMergePolicy<E>, A: Allocator>(
+fn shared_entry<E: SlotEntry + Clone, P: IntersectionMergePolicy<E>, A: Allocator>(
     held: &SketchHashTable<E, A>,
     incoming: &E,
     policy: &P,
@@ -146,12 +146,7 @@ fn push_found<E: Drop, A: Allocator>(
 
 /// The entries of a sketch whose hashes a table has too, below theta, combined by the policy, in the sketch's order. Where
 /// that ascends it stops at the first that is not below theta.
-fn shared_entries<
-    'a,
-    S: EntrySketch<'a>,
-    P: IntersectionMergePolicy<S::Entry>,
-    A: Allocator + Clone,
->(
+fn shared_entries<S: EntrySketch, P: IntersectionMergePolicy<S::Entry>, A: Allocator + Clone>(
     held: &SketchHashTable<S::Entry, A>,
     sketch: S,
     policy: &P,
@@ -183,8 +178,7 @@ where
 /// A table of what a table and a sketch of some theta share, below the lesser theta. The policy combines each entry of the
 /// table with that of the sketch. Refused with `OutOfMemory`, or as the policy refuses.
 pub(crate) fn shared_table<
-    'a,
-    S: EntrySketch<'a>,
+    S: EntrySketch,
     P: IntersectionMergePolicy<S::Entry>,
     A: Allocator + Clone,
 >(

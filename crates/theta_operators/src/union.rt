@@ -1,7 +1,7 @@
 //! Unions.
 ghost use Rattle.std.specs.Prelude.{◌≡◌, ◌^◌, [], ◌∷◌, true, false, not, None, IfOk, IfErr, OnOk, MatchOption};
 ghost use Rattle.sketch_base.specs.Seed.{seed_hash};
-ghost use Rattle.theta_table.specs.CompactState.{IsAnswer};
+ghost use Rattle.theta_compact.specs.CompactState.{IsAnswer};
 ghost use Rattle.theta_laws.specs.Operators.{unite};
 ghost use Rattle.theta_laws.specs.Refusal.{Refuses};
 ghost use Rattle.theta_laws.specs.Folds.{fold_key, fold_merges, unmarked_value};
@@ -16,33 +16,38 @@ use crate::view::{EntrySketch, ThetaFamilySketchMetadata};
 use sketch_base::{Error, ErrorKind};
 use std::alloc::{Allocator, Global};
 use std::marker::Model;
+use theta_compact::CompactSketchState;
 use theta_policies::UnionMergePolicy;
-use theta_table::{CompactSketchState, ResizeFactor, SketchEntry, SketchHashTable};
+use theta_table::{ResizeFactor, SketchHashTable, SlotEntry};
 
 /// A union of sketches that are handed over one by one.
 ///
 /// Its value is the joined map of its inputs below their least theta and its own starting theta, cut to its nominal
 /// entries k; a key that inputs share is combined by the policy, in the order of the calls. Where a merge breaks off,
 /// the union has failed, and every update and answer is refused with `Failed` until it is reset.
+///
+/// Its theta is at most its table's. What the table retains from that theta on is no part of the union any more.
 #[derive(Drop)]
-pub struct UnionState<E: SketchEntry, P, A: Allocator = Global> {
+pub struct UnionState<E: SlotEntry, P, A: Allocator = Global> {
     empty: bool,
     failed: bool,
+    theta: u64,
     table: SketchHashTable<E, A>,
     policy: P,
 }
 
-impl<E: SketchEntry, P, A: Allocator> Model for UnionState<E, P, A> {
-    ghost use Rattle.theta_operators.specs.Union.{Union, IsUnion};
+impl<E: SlotEntry, P, A: Allocator> Model for UnionState<E, P, A> {
+    ghost use Rattle.theta_laws.specs.Cuts.{retained};
+    ghost use Rattle.theta_operators.specs.Union.{Union, IsUnionBelow};
 
     ghost Value = { Union E P };
 
-    ghost view = { λ u. record { empty = u.empty; failed = u.failed; held = u.table.map.kept; lg_k = u.table.map.lg_nom; start = u.table.map.start; seed_hash = u.table.map.seed_hash; policy = u.policy } };
+    ghost view = { λ u. record { empty = u.empty; failed = u.failed; held = retained E.key u.table.map.kept.entries u.theta; lg_k = u.table.map.lg_nom; start = u.table.map.start; seed_hash = u.table.map.seed_hash; policy = u.policy } };
 
-    ghost invariant = { λ u. IsUnion (record { empty = u.empty; failed = u.failed; held = u.table.map.kept; lg_k = u.table.map.lg_nom; start = u.table.map.start; seed_hash = u.table.map.seed_hash; policy = u.policy }) };
+    ghost invariant = { λ u. IsUnionBelow u.table.map.kept.theta (record { empty = u.empty; failed = u.failed; held = retained E.key u.table.map.kept.entries u.theta; lg_k = u.table.map.lg_nom; start = u.table.map.start; seed_hash = u.table.map.seed_hash; policy = u.policy }) };
 }
 
-impl<E: SketchEntry + Drop, P: Drop, A: Allocator + Drop> UnionState<E, P, A> {
+impl<E: SlotEntry + Drop, P: Drop, A: Allocator + Drop> UnionState<E, P, A> {
     /// A union of 2^`lg_k` nominal entries, with `lg_k` from 5 to 26, and a starting theta from 1 to `MAX_THETA`.
     ///
     /// Refused with `InvalidArgument` outside these ranges, and for a seed whose seed hash is 0; with `OutOfMemory` where
@@ -62,6 +67,7 @@ impl<E: SketchEntry + Drop, P: Drop, A: Allocator + Drop> UnionState<E, P, A> {
         Ok(UnionState {
             empty: true,
             failed: false,
+            theta: table.retention_theta(),
             table,
             policy,
         })
@@ -72,12 +78,13 @@ impl<E: SketchEntry + Drop, P: Drop, A: Allocator + Drop> UnionState<E, P, A> {
         ensures { self.new ≡ empty_union self.old.lg_k self.old.start self.old.seed_hash self.old.policy }
     {
         self.table.reset();
+        self.theta = self.table.retention_theta();
         self.empty = true;
         self.failed = false;
     }
 }
 
-impl<E: SketchEntry + Clone, P: UnionMergePolicy<E> + Drop, A: Allocator + Clone> UnionState<
+impl<E: SlotEntry + Clone, P: UnionMergePolicy<E> + Drop, A: Allocator + Clone> UnionState<
     E,
     P,
     A,
@@ -87,9 +94,7 @@ impl<E: SketchEntry + Clone, P: UnionMergePolicy<E> + Drop, A: Allocator + Clone
     /// Refused with `Failed` where the union has failed, whatever the input, and with `InvalidArgument` for a sketch of
     /// another seed; then nothing has changed. Refused with `OutOfMemory`, or with `Policy` where the policy refuses at a
     /// key below every theta so far; then the union has failed.
-    pub fn update<'a, S: EntrySketch<'a, Entry = E>>(&mut self, sketch: S) -> Result<(), Error>
-    where
-        E: 'a,
+    pub fn update<S: EntrySketch<Entry = E>>(&mut self, sketch: S) -> Result<(), Error>
         requires clones_equal { ClonesEqual E.is_clone }
         ensures skipped { OnOk result ((S.shown sketch).empty ≡ true → self.new ≡ self.old) }
         ensures joined { OnOk result ((S.shown sketch).empty ≡ false → IsJoined E.key (P.merges self.old.policy) (P.refuses self.old.policy) self.old self.new (S.shown sketch).theta (S.listing sketch)) }
@@ -99,7 +104,8 @@ impl<E: SketchEntry + Clone, P: UnionMergePolicy<E> + Drop, A: Allocator + Clone
         ensures sound { IsUnion self.old }
         ensures held { IsRetained E.key self.old.held }
     {
-        let held_theta = self.table.retention_theta();
+        // Asked for what its contract tells of the table: every entry that is held keeps the laws of a sketch value.
+        let _ = self.table.retention_theta();
         if self.failed {
             return Err(Error::new(ErrorKind::Failed));
         }
@@ -114,14 +120,10 @@ impl<E: SketchEntry + Clone, P: UnionMergePolicy<E> + Drop, A: Allocator + Clone
                 if self.table.seed_hash() != seed_hash {
                     return Err(Error::new(ErrorKind::InvalidArgument));
                 }
-                let least = held_theta.min(theta);
-                self.table.lower_theta(least);
-                if let Err(refused) = merge_entries(
-                    &mut self.table,
-                    sketch,
-                    &self.policy,
-                    ordered,
-                ) {
+                let least = self.theta.min(theta);
+                let merged = merge_entries(&mut self.table, sketch, &self.policy, ordered, least);
+                self.theta = least.min(self.table.retention_theta());
+                if let Err(refused) = merged {
                     self.failed = true;
                     return Err(refused);
                 }
@@ -150,6 +152,8 @@ impl<E: SketchEntry + Clone, P: UnionMergePolicy<E> + Drop, A: Allocator + Clone
             let alloc = self.table.allocator().clone()?;
             return Ok(CompactSketchState::empty(alloc, self.table.seed_hash()));
         }
-        self.table.to_cut_state(ordered)
+        // Asked for what its contract tells of the table: its entries ascend.
+        let _ = self.table.retention_theta();
+        self.table.to_cut_state(self.theta, ordered)
     }
 }

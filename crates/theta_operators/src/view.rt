@@ -5,7 +5,7 @@ ghost use Rattle.theta_operators.specs.View.{metadata_of};
 ghost use Rattle.theta_laws.specs.Shown.{Shown, IsShown};
 
 use crate::iter::EntryIter;
-use theta_table::SketchEntry;
+use theta_table::SlotEntry;
 
 /// What a sketch tells of itself.
 #[derive(Debug, Clone, Copy)]
@@ -59,15 +59,15 @@ pub trait KeySketch: Copy {
 }
 
 /// A sketch that lends its entries, which have its hashes in the same order.
-pub trait EntrySketch<'a>: KeySketch {
-    type Entry: SketchEntry + 'a;
+pub trait EntrySketch: KeySketch {
+    type Entry: SlotEntry;
 
     /// Its entries, in the order of its hashes.
     ghost listing: { Self → List Self.Entry };
 
     /// Its entries, each once.
-    fn entries(self) -> EntryIter<'a, Self::Entry>
-        ensures all { result.rest ≡ listing self }
-        ensures hashes { map Self.Entry.key (listing self) ≡ (Self.shown self).hashes }
-        ensures sound { IsShown (Self.shown self) };
+    fn entries(&self) -> EntryIter<'_, Self::Entry>
+        ensures all { result.rest ≡ listing self.now }
+        ensures hashes { map Self.Entry.key (listing self.now) ≡ (Self.shown self.now).hashes }
+        ensures sound { IsShown (Self.shown self.now) };
 }

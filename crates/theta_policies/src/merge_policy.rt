@@ -4,7 +4,7 @@ ghost use Rattle.theta_laws.specs.Refusal.{Refuses, policy_refusal};
 ghost use Rattle.theta_laws.specs.Entries.{KeepsKey};
 
 use sketch_base::Error;
-use theta_table::SketchEntry;
+use theta_laws::SketchEntry;
 
 /// How a union combines two entries of one hash.
 pub trait UnionMergePolicy<E: SketchEntry> {

@@ -29,18 +29,17 @@ impl<'a, P, U> UpdateStep<'a, P, U> {
 }
 
 impl<'a, U: Drop, P: SummaryUpdatePolicy<U>> UpsertStep<TupleEntry<P::Summary>>
-    for UpdateStep<'a, P, U>
-where
-    P::Summary: Drop,
-{
+    for UpdateStep<'a, P, U> {
     ghost use Rattle.theta_policies.specs.Summaries.{update_step};
 
     ghost means = { λ step. update_step (P.creates step.policy.now) (P.updates step.policy.now) step.hash step.value };
 
+    #[inline(always)]
     fn existing(self, entry: &mut TupleEntry<P::Summary>) -> Result<(), Error> {
         self.policy.update(entry.summary_mut(), self.value)
     }
 
+    #[inline(always)]
     fn absent(self) -> Result<Option<TupleEntry<P::Summary>>, Error> {
         let mut summary = self.policy.create()?;
         self.policy.update(&mut summary, self.value)?;

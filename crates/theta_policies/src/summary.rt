@@ -9,7 +9,7 @@ use theta_table::TupleEntry;
 /// How the summary of a new key begins.
 pub trait SummaryPolicy {
     /// What stands beside each key.
-    type Summary;
+    type Summary: Drop;
 
     /// The summary that it creates; none where it refuses.
     ghost creates: { Self → Option Self.Summary };

@@ -2,7 +2,7 @@
 use Rattle.std.proofs.Common.{◌≡◌, ℕ, ◌*◌, ◌<◌, ◌≤◌, ◌⊎◌, Bool, true, false, cond, not, List, length, slice_index, Option, Some, None, refl, ◌∙◌, inl, inr, arith, le-ltb, eqb-true, subst, ltb, leb, eqb, ◌&&◌, ◌||◌}
 use Rattle.std.proofs.lemmas.Bool.Decides.{nat_tests}
 use Rattle.std.proofs.lemmas.Bool.{cases_eq}
-use Rattle.theta_table.specs.CompactState.{Compact}
+use Rattle.theta_compact.specs.CompactState.{Compact}
 use Rattle.theta_laws.specs.Entries.{hash_key}
 use Rattle.theta_images.specs.Preamble.{Begins, announced, seed_hash_at, count_at, theta_at, admitted, flagged_layout, IsWholeLayout}
 use Rattle.theta_images.specs.Entry.{SpellsHash}

@@ -1,7 +1,7 @@
 -- Images of theta sketches: which bytes are read as which sketch, and which are written.
 use Rattle.std.specs.Prelude.{ℕ, ◌≡◌, ◌≤◌, ◌<◌, ◌==◌, ◌&&◌, Bool, true, false, List, length}
 use Rattle.std.specs.Int.{w64, to_le_bytes}
-use Rattle.theta_table.specs.CompactState.{Compact, empty_compact}
+use Rattle.theta_compact.specs.CompactState.{Compact, empty_compact}
 use Rattle.theta_laws.specs.Entries.{hash_key}
 use Rattle.theta_images.specs.Preamble.{Begins, announced, seed_hash_at, count_at, theta_at}
 use Rattle.theta_images.specs.Read.{ReadsFlagged}

@@ -7,12 +7,12 @@ use Rattle.theta_family.specs.declared.view.SketchView.{SketchView}
 use Rattle.theta_family.specs.View.{shows, lending, lends}
 
 -- what the sketch behind a view shows
-abbrev pub view_shows : {Z : Type 0} → SketchView ℕ Z → Shown
+abbrev pub view_shows : {Z S : Type 0} → SketchView ℕ Z S → Shown
 view_shows view = shows hash_key view
 
 -- what an iterator over its entries has at first: whether it knows how many these are tells a compact sketch
-abbrev pub view_lending : {Z : Type 0} → SketchView ℕ Z → Lending ℕ
+abbrev pub view_lending : {Z S : Type 0} → SketchView ℕ Z S → Lending ℕ
 view_lending view = lending view
 
-abbrev pub view_lends : {Z : Type 0} → SketchView ℕ Z → List ℕ
+abbrev pub view_lends : {Z S : Type 0} → SketchView ℕ Z S → List ℕ
 view_lends view = lends view

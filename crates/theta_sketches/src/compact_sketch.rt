@@ -1,6 +1,6 @@
 //! Theta sketches that no longer change.
 ghost use Rattle.std.specs.Prelude.{◌≡◌, ◌≤◌, ◌&&◌, true, not, nat_lt, None, length, IfOk};
-ghost use Rattle.theta_table.specs.CompactState.{IsCompact, shown_of, compact_value};
+ghost use Rattle.theta_compact.specs.CompactState.{IsCompact, shown_of, compact_value};
 ghost use Rattle.theta_laws.specs.Entries.{hash_key};
 ghost use Rattle.theta_laws.specs.Refusal.{Refuses};
 ghost use Rattle.theta_laws.specs.Shown.{shown_value};
@@ -23,7 +23,7 @@ pub struct CompactThetaSketch<A: Allocator = Global> {
 
 impl<A: Allocator> Model for CompactThetaSketch<A> {
     ghost use Rattle.std.specs.Prelude.{ℕ};
-    ghost use Rattle.theta_table.specs.CompactState.{Compact};
+    ghost use Rattle.theta_compact.specs.CompactState.{Compact};
 
     ghost Value = { Compact ℕ };
 

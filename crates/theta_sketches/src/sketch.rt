@@ -2,7 +2,7 @@
 ghost use Rattle.std.specs.Prelude.{◌≡◌, ◌≤◌, ◌==◌, ◌&&◌, ◌^◌, true, false, not, nat_lt, None, length, IfOk, OnOk, OnErr, is_some};
 ghost use Rattle.std.specs.List.{concat};
 ghost use Rattle.sketch_base.specs.Seed.{hash_of};
-ghost use Rattle.theta_table.specs.CompactState.{IsAnswer};
+ghost use Rattle.theta_compact.specs.CompactState.{IsAnswer};
 ghost use Rattle.theta_laws.specs.Cuts.{cut};
 ghost use Rattle.theta_laws.specs.Entries.{hash_key, hash_step};
 ghost use Rattle.theta_laws.specs.Refusal.{Refuses};
@@ -150,6 +150,7 @@ impl<A: Allocator + Clone> ThetaSketch<A> {
     /// `update("ann")` gives another hash than libraries in other languages, which hash the bytes of the text alone. For
     /// theirs, hash the bytes yourself and hand half of the first half to `update_hash`: `write` the bytes to a
     /// `MurmurHash3X64128` of the sketch's seed, and take `finish128().0 >> 1`.
+    #[inline(always)]
     pub fn update<T: Hash + Drop>(&mut self, value: T) -> Result<(), Error>
         ensures nonempty { OnOk result (self.new.empty ≡ false) }
         ensures after { let h = hash_of self.old.map.seed (concat (T.hash_input value)) in OnOk result (self.new.map ≡ record self.old.map { kept = after_upsert hash_key (2 ^ self.old.map.lg_nom) h (hash_step h) self.old.map.kept }) }
@@ -164,6 +165,7 @@ impl<A: Allocator + Clone> ThetaSketch<A> {
     /// Takes in a hash. One that is 0 or at least theta is not retained, but makes the sketch nonempty all the same.
     ///
     /// Refused with `OutOfMemory` alone, and only for a new hash below theta; then nothing has changed, emptiness included.
+    #[inline(always)]
     pub fn update_hash(&mut self, hash: u64) -> Result<(), Error>
         ensures nonempty { OnOk result (self.new.empty ≡ false) }
         ensures after { OnOk result (self.new.map ≡ record self.old.map { kept = after_upsert hash_key (2 ^ self.old.map.lg_nom) hash (hash_step hash) self.old.map.kept }) }

@@ -1,6 +1,6 @@
 //! Read-only views of theta sketches, which operators take.
 ghost use Rattle.std.specs.Prelude.{◌≡◌};
-ghost use Rattle.theta_table.specs.CompactState.{compact_value, shown_of};
+ghost use Rattle.theta_compact.specs.CompactState.{compact_value, shown_of};
 ghost use Rattle.theta_laws.specs.Entries.{hash_key};
 ghost use Rattle.theta_family.specs.Updatable.{sketch_shows, sketch_value};
 ghost use Rattle.theta_laws.specs.Shown.{shown_value};

@@ -1,4 +1,7 @@
-pub mod BinarySearch
-pub mod LawsOfShown
 pub mod Sizes
-pub mod Answered
+pub mod Tables
+pub mod Slotted
+pub mod OtherOrders
+pub mod ListedBelow
+pub mod Counting
+pub mod Gathered

@@ -1,5 +1,5 @@
 -- Entries of tuple sketches, and steps on their summaries.
-use Rattle.std.specs.Prelude.{ℕ, Option, option_map}
+use Rattle.std.specs.Prelude.{ℕ, option_map}
 use Rattle.theta_laws.specs.Step.{Step}
 use Rattle.theta_table.specs.declared.entry.TupleEntry.{TupleEntry}
 

@@ -1,5 +1,5 @@
 -- The value of a hash table, its laws and its sizes.
-use Rattle.std.specs.Prelude.{ℕ, ◌<◌, ◌≤◌, ◌≡◌, ◌==◌, ◌+◌, ◌-◌, ◌*◌, ◌/◌, ◌^◌, ◌&&◌, ◌||◌, ◌⊎◌, not, true, false, List, nat_lt, nat_le, Bool, if◌then◌else◌, Option, Some, None, length, is_some}
+use Rattle.std.specs.Prelude.{ℕ, ◌<◌, ◌≤◌, ◌≡◌, ◌==◌, ◌+◌, ◌-◌, ◌*◌, ◌/◌, ◌%◌, ◌^◌, ◌&&◌, ◌||◌, ◌⊎◌, not, true, false, List, [], nat_lt, nat_le, min, Bool, if◌then◌else◌, Option, Some, None, length, is_some}
 use Rattle.std.specs.Int.Count.{count_leading_zeros}
 use Rattle.sketch_base.specs.Seed.{seed_hash}
 use Rattle.sketch_base.specs.declared.error.ErrorKind.{ErrorKind}
@@ -8,6 +8,8 @@ use Rattle.theta_laws.specs.declared.TheConstants.{MAX_THETA, MIN_LG_K, MAX_LG_K
 use Rattle.theta_laws.specs.Cuts.{Retained, none_below, IsRetained}
 use Rattle.theta_laws.specs.Maps.{entry_at}
 use Rattle.theta_laws.specs.Insertion.{is_screened}
+use Rattle.theta_table.specs.declared.insertion.Counts.{Counts}
+use Rattle.theta_slots.specs.Layout.{filled, IsLaidOut}
 
 -- what a table retains, and what it was made with: its nominal logarithm, whether it has slots at all, its starting theta, its seed and that seed's hash
 pub record MapTable (X : Type 0) : Type 0 where
@@ -18,10 +20,18 @@ pub record MapTable (X : Type 0) : Type 0 where
   pub seed : ℕ
   pub seed_hash : ℕ
 
--- what clauses see of a table: its map, and its entries in the order in which it lends them, which is open
+-- the slots of a table, their binary logarithm, and by how much that grows at once
+pub record Layout (X : Type 0) : Type 0 where
+  pub lg_cur : ℕ
+  pub grow : ℕ
+  pub slots : List (Option X)
+
+-- what clauses see of a table: its map, its entries in the order in which it lends them, which is open, its slots, and what was done
 pub record Table (X : Type 0) : Type 0 where
   pub map : MapTable X
   pub lends : List X
+  pub layout : Layout X
+  pub counts : Counts
 
 -- a table with no entries and its starting theta
 abbrev pub empty_table : {X : Type 0} → (lg_nom start seed : ℕ) → MapTable X
@@ -80,3 +90,70 @@ has_room t = nat_le 3 t.lg_nom || (t.has_slots && nat_lt (length t.kept.entries 
 -- whether a hash may be inserted: it is passed over, or retained, or there is room
 abbrev pub may_insert : {X : Type 0} → (X → ℕ) → ℕ → MapTable X → Bool
 may_insert key h t = is_screened h t.kept.theta || (is_some (entry_at key t.kept.entries h) || has_room t)
+
+-- how many entries the slots may have before there are more of them or a rebuild
+abbrev pub threshold : (lg_cur lg_nom : ℕ) → ℕ
+threshold lg_cur lg_nom = if nat_le lg_cur lg_nom then 2 ^ lg_cur / 2 else 2 ^ lg_cur - 2 ^ lg_cur / 16
+
+-- the binary logarithm of the slots that a table begins with: at least low, and so that growth by so much comes to the target
+abbrev pub sub_multiple : (target low grow : ℕ) → ℕ
+sub_multiple target low grow = if nat_le target low then low else if grow == 0 then target else ((target - low) % grow + low)
+
+-- how many slots the table of an operator has: none where their logarithm is 0
+abbrev pub slots_of_operator : ℕ → ℕ
+slots_of_operator lg = if lg == 0 then 0 else 2 ^ lg
+
+-- nothing was done
+abbrev pub nothing_done : Counts
+nothing_done = record { inserted = 0; placed = 0; rebuilds = 0; fresh = 0; looks = 0; trims = 0 }
+
+-- so many slots for so many entries, where the logarithm grows by so much
+pub record HasSize (lg_cur lg_nom grow count : ℕ) : Type 0 where
+  pub few : count ≤ threshold lg_cur lg_nom
+  pub room : count < 2 ^ lg_cur
+  pub within : lg_cur ≤ lg_nom + 1
+  pub nom_high : lg_nom ≤ 32
+  pub grow_high : grow ≤ 3
+  pub grows : lg_cur ≤ lg_nom → (5 ≤ lg_cur) × (1 ≤ grow)
+  pub starts : MIN_LG_K ≤ lg_nom → sub_multiple (lg_nom + 1) MIN_LG_K grow ≤ lg_cur
+
+-- what holds of every table in slots
+pub record IsSlotted {X : Type 0} (key : X → ℕ) (t : MapTable X) (lg_cur grow count : ℕ) (slots : List (Option X)) : Type 0 where
+  pub table : IsTable key t
+  pub laid_out : t.has_slots ≡ true → IsLaidOut key lg_cur slots
+  pub without : t.has_slots ≡ false → slots ≡ []
+  pub counted : count ≡ length (filled slots)
+  pub sized : t.has_slots ≡ true → HasSize lg_cur t.lg_nom grow count
+
+-- few entries were placed: before the first rebuild less than the slots and twice the entries, and from the first rebuild on at most three times those that were created before the fresh ones
+abbrev pub ArePlaced : (lg_cur lg_nom count : ℕ) → Counts → Type 0
+ArePlaced lg_cur lg_nom count done =
+    ((done.fresh ≡ done.inserted) × ((count ≤ done.inserted) × ((2 * done.placed ≤ 2 ^ lg_cur + 2 * lg_cur) × (done.placed ≤ 3 * done.inserted)))) ⊎ ((lg_nom < lg_cur) × (done.placed + 3 * done.fresh ≤ 3 * done.inserted))
+
+-- what was done against the entries that there are: all beyond the nominal ones are fresh, rebuilds are rare, and few entries were placed where none was cut but by insertions
+pub record IsCounted (lg_cur lg_nom count : ℕ) (done : Counts) : Type 0 where
+  pub fresh : count ≤ 2 ^ lg_nom + done.fresh
+  pub rare : 7 * 2 ^ lg_nom * done.rebuilds + 8 * done.fresh ≤ 8 * done.inserted
+  pub few_placed : done.trims ≡ 0 → ArePlaced lg_cur lg_nom count done
+
+-- the binary logarithm of the slots after an insertion that creates an entry: more, where they then have more entries than they may and can still grow
+abbrev pub size_after : (lg_cur lg_nom grow count : ℕ) → ℕ
+size_after lg_cur lg_nom grow count = if nat_le (count + 1) (threshold lg_cur lg_nom) then lg_cur else if nat_le lg_cur lg_nom then min (lg_cur + grow) (lg_nom + 1) else lg_cur
+
+-- how many entries there are after an insertion that creates one: the nominal ones, where the slots then have more than they may and cannot grow
+abbrev pub count_after : (lg_cur lg_nom count : ℕ) → ℕ
+count_after lg_cur lg_nom count = if nat_le (count + 1) (threshold lg_cur lg_nom) then count + 1 else if nat_le lg_cur lg_nom then count + 1 else 2 ^ lg_nom
+
+-- what is counted of an insertion that creates an entry, all but its looks, where the slots have room for it, can grow, or neither: into more slots all entries are placed, and in a rebuild the nominal ones
+abbrev pub ticked_if : (fits grows : Bool) → (nominal count : ℕ) → Counts → Counts
+ticked_if true grows nominal count done = record done { inserted = done.inserted + 1; fresh = done.fresh + 1 }
+ticked_if false true nominal count done = record done { inserted = done.inserted + 1; fresh = done.fresh + 1; placed = done.placed + (count + 1) }
+ticked_if false false nominal count done = record done { inserted = done.inserted + 1; fresh = 0; placed = done.placed + nominal; rebuilds = done.rebuilds + 1 }
+
+abbrev pub ticked : (lg_cur lg_nom count : ℕ) → Counts → Counts
+ticked lg_cur lg_nom count done = ticked_if (nat_le (count + 1) (threshold lg_cur lg_nom)) (nat_le lg_cur lg_nom) (2 ^ lg_nom) count done
+
+-- what holds of every table, and of what was done to it
+pub record IsProbing {X : Type 0} (key : X → ℕ) (t : MapTable X) (lg_cur grow count : ℕ) (slots : List (Option X)) (done : Counts) : Type 0 where
+  pub slotted : IsSlotted key t lg_cur grow count slots
+  pub counted : IsCounted lg_cur t.lg_nom count done

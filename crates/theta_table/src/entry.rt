@@ -1,20 +1,12 @@
 //! The entries that sketches retain.
-ghost use Rattle.std.specs.Prelude.{◌≡◌, ℕ, ◌<◌};
+ghost use Rattle.std.specs.Prelude.{◌≡◌, ◌<◌};
 ghost use Rattle.std.specs.Borrow.{sem};
 ghost use Rattle.theta_table.specs.LentSummary.{lends_summary};
 
+use std::alloc::{AllocError, Allocator};
 use std::marker::Model;
-use theta_laws::MAX_THETA;
-
-/// An entry of a sketch. In every entry that a table or a compact state holds, its hash is from 1 to `MAX_THETA` - 1.
-pub trait SketchEntry {
-    /// Its hash, by which a map orders its entries.
-    ghost key: { Self → ℕ };
-
-    /// Its hash, of 63 bits.
-    fn hash(&self) -> u64
-        ensures { result ≡ key self.now };
-}
+use theta_laws::{MAX_THETA, SketchEntry};
+use theta_slots::SlotEntry;
 
 /// The entry of a theta sketch: a hash alone. Contracts see it as its hash.
 #[derive(Debug, Clone, Copy)]
@@ -63,8 +55,47 @@ impl SketchEntry for ThetaEntry {
 
     ghost key = { hash_key };
 
+    #[inline(always)]
     fn hash(&self) -> u64 {
         self.hash
+    }
+}
+
+impl SlotEntry for ThetaEntry {
+    ghost use Rattle.theta_slots.specs.HashSlots.{hash_held};
+
+    /// Its hash, and 0 in a free slot.
+    type Slot = ThetaEntry;
+
+    ghost held = { hash_held };
+
+    #[inline(always)]
+    fn free_slot() -> ThetaEntry {
+        ThetaEntry { hash: 0 }
+    }
+
+    fn free_slots<A: Allocator + Drop>(
+        alloc: A,
+        count: usize,
+    ) -> Result<Vec<ThetaEntry, A>, AllocError> {
+        let mut slots = Vec::with_capacity(alloc, count)?;
+        slots.resize(count, ThetaEntry { hash: 0 })?;
+        Ok(slots)
+    }
+
+    #[inline(always)]
+    fn into_slot(self) -> ThetaEntry {
+        self
+    }
+
+    #[inline(always)]
+    fn from_slot(slot: ThetaEntry) -> Option<ThetaEntry> {
+        if slot.hash == 0 { None } else { Some(slot) }
+    }
+
+    #[inline(always)]
+    fn in_slot(slot: &ThetaEntry) -> Option<&ThetaEntry> {
+        if slot.hash == 0 { None } else { Some(slot) }
     }
 }
 
@@ -124,7 +155,45 @@ impl<S> SketchEntry for TupleEntry<S> {
 
     ghost key = { tuple_key };
 
+    #[inline(always)]
     fn hash(&self) -> u64 {
         self.hash
+    }
+}
+
+impl<S: Drop> SlotEntry for TupleEntry<S> {
+    type Slot = Option<TupleEntry<S>>;
+
+    ghost held = { λ slot. slot };
+
+    #[inline(always)]
+    fn free_slot() -> Option<TupleEntry<S>> {
+        None
+    }
+
+    fn free_slots<A: Allocator + Drop>(
+        alloc: A,
+        count: usize,
+    ) -> Result<Vec<Option<TupleEntry<S>>, A>, AllocError> {
+        let mut slots = Vec::with_capacity(alloc, count)?;
+        for _slot in 0..count {
+            slots.push(None)?;
+        }
+        Ok(slots)
+    }
+
+    #[inline(always)]
+    fn into_slot(self) -> Option<TupleEntry<S>> {
+        Some(self)
+    }
+
+    #[inline(always)]
+    fn from_slot(slot: Option<TupleEntry<S>>) -> Option<TupleEntry<S>> {
+        slot
+    }
+
+    #[inline(always)]
+    fn in_slot(slot: &Option<TupleEntry<S>>) -> Option<&TupleEntry<S>> {
+        slot.as_ref()
     }
 }

@@ -1,65 +1,83 @@
 //! The table of retained entries.
-ghost use Rattle.std.specs.Prelude.{◌≡◌, ◌==◌, ℕ, ◌<◌, ◌≤◌, ◌^◌, not, true, false, None, nat_lt, length, IfOk, IfErr, OnOk, OnErr, MatchResult, IsTrue};
+ghost use Rattle.std.specs.Prelude.{◌≡◌, ◌==◌, ◌⊎◌, ◌&&◌, if◌then◌else◌, ℕ, ◌+◌, ◌-◌, ◌*◌, ◌<◌, ◌≤◌, ◌^◌, not, true, false, None, nat_lt, length, IfOk, OnOk, OnErr, IsTrue};
 ghost use Rattle.std.specs.List.{AllByRecursion, concat};
 ghost use Rattle.std.specs.Option.{ForSome, option_copied};
 ghost use Rattle.sketch_base.specs.Seed.{hash_of};
-ghost use Rattle.theta_table.specs.CompactState.{IsCompactOf};
-ghost use Rattle.theta_laws.specs.Maps.{IsAscending, entry_at, with_entry, IsLent};
-ghost use Rattle.theta_laws.specs.Cuts.{Retained, retained, cut, IsRetained, none_below};
+ghost use Rattle.theta_compact.specs.CompactState.{IsCompactOf};
+ghost use Rattle.theta_laws.specs.Maps.{entry_at, IsLent};
+ghost use Rattle.theta_laws.specs.Cuts.{cut, none_below};
 ghost use Rattle.theta_laws.specs.Entries.{hash_key, hash_step, ClonesEqual};
-ghost use Rattle.theta_laws.specs.Places.{IsAt, IsGapFor};
 ghost use Rattle.theta_laws.specs.Refusal.{Refuses};
-ghost use Rattle.theta_table.specs.HashTable.{MapTable, Table, IsTable, IsSized, IsSeedHash, empty_table, set_table, after_reset, table_refusal, lg_size_for, whole_log, has_room, may_insert};
+ghost use Rattle.theta_table.specs.HashTable.{MapTable, Table, IsTable, IsSized, IsSeedHash, empty_table, set_table, after_reset, table_refusal, lg_size_for, whole_log, has_room, may_insert, threshold, sub_multiple, slots_of_operator, nothing_done, ticked, size_after};
+ghost use Rattle.theta_table.specs.ResizeFactor.{lg_of};
+ghost use Rattle.theta_slots.specs.Layout.{IsLaidOut};
 ghost use Rattle.theta_table.specs.Entry.{tuple_key, entry_step};
-ghost use Rattle.theta_laws.specs.Insertion.{rebuilt, after_upsert, creates, upsert_refusal, upsert_allocates};
+ghost use Rattle.theta_laws.specs.Insertion.{is_screened, after_upsert, creates, upsert_refusal, upsert_allocates};
 
-use crate::compact_state::{CompactSketchState, is_answer_ordered};
-use crate::entry::{SketchEntry, ThetaEntry, TupleEntry};
+use crate::answering::{cut_theta, state_below};
+use crate::clearing::{clear_slots, operator_slots};
+use crate::entry::{ThetaEntry, TupleEntry};
+use crate::insertion::{
+    Counts, Sizes, cut_slots, nominal_size, nothing, put_entry, starting_size, threshold_of,
+    write_at,
+};
 use crate::iter::SketchHashTableIter;
 use crate::resize_factor::ResizeFactor;
 use crate::step::{EntryStep, PutStep, UpsertStep};
 use sketch_base::{Error, ErrorKind, MurmurHash3X64128, compute_seed_hash};
-use std::alloc::{AllocError, Allocator, Global};
+use std::alloc::{Allocator, Global};
 use std::hash::{Hash, Hasher};
-use std::marker::Model;
+use std::marker::{Model, PhantomData};
+use theta_compact::CompactSketchState;
 use theta_laws::{MAX_LG_K, MAX_THETA, MIN_LG_K};
+use theta_slots::{Count, SlotEntry, free_slots, seek};
 
 /// The entries of a sketch below its theta. Contracts see them as a map, ascending by hash, and the theta.
 ///
 /// With k the nominal entries, 2 to the power of its nominal logarithm and at least 8, an insertion that makes the
 /// entries more than 15k/8 lowers theta to the (k+1)th smallest hash, and exactly the k below it stay.
+///
+/// It keeps its entries in slots by open addressing, at most 2k of them. What it counts of its work, only contracts see.
 #[derive(Drop)]
-pub struct SketchHashTable<E: SketchEntry, A: Allocator = Global> {
+pub struct SketchHashTable<E: SlotEntry, A: Allocator = Global> {
+    lg_cur_size: u8,
     lg_nom_size: u8,
+    resize_factor: ResizeFactor,
     has_slots: bool,
     starting_theta: u64,
     seed: u64,
     seed_hash: u16,
     theta: u64,
-    entries: Vec<E, A>,
+    count: usize,
+    slots: Vec<E::Slot, A>,
+    counts: Counts,
+    // No bytes: it names the entries, whose lifetimes the type of a slot doesn't tell.
+    of: PhantomData<E>,
 }
 
-impl<E: SketchEntry, A: Allocator> Model for SketchHashTable<E, A> {
-    ghost use Rattle.std.specs.Prelude.{true};
-    ghost use Rattle.theta_table.specs.HashTable.{Table, IsTable};
+impl<E: SlotEntry, A: Allocator> Model for SketchHashTable<E, A> {
+    ghost use Rattle.std.specs.Prelude.{true, map};
+    ghost use Rattle.theta_laws.specs.Maps.{map_of};
+    ghost use Rattle.theta_slots.specs.Layout.{filled};
+    ghost use Rattle.theta_table.specs.ResizeFactor.{lg_of};
+    ghost use Rattle.theta_table.specs.HashTable.{Table, IsProbing};
 
     ghost Value = { Table E };
 
-    ghost view = { λ t. record { map = record { kept = record { entries = t.entries.items; theta = t.theta }; lg_nom = t.lg_nom_size; has_slots = t.has_slots; start = t.starting_theta; seed = t.seed; seed_hash = t.seed_hash }; lends = t.entries.items } };
+    ghost view = { λ t. record { map = record { kept = record { entries = map_of E.key (filled (map E.held t.slots.items)); theta = t.theta }; lg_nom = t.lg_nom_size; has_slots = t.has_slots; start = t.starting_theta; seed = t.seed; seed_hash = t.seed_hash }; lends = filled (map E.held t.slots.items); layout = record { lg_cur = t.lg_cur_size; grow = lg_of t.resize_factor; slots = map E.held t.slots.items }; counts = t.counts } };
 
-    ghost invariant = { λ t. IsTable E.key (record { kept = record { entries = t.entries.items; theta = t.theta }; lg_nom = t.lg_nom_size; has_slots = t.has_slots; start = t.starting_theta; seed = t.seed; seed_hash = t.seed_hash }) };
+    ghost invariant = { λ t. IsProbing E.key (record { kept = record { entries = map_of E.key (filled (map E.held t.slots.items)); theta = t.theta }; lg_nom = t.lg_nom_size; has_slots = t.has_slots; start = t.starting_theta; seed = t.seed; seed_hash = t.seed_hash }) t.lg_cur_size (lg_of t.resize_factor) t.count (map E.held t.slots.items) t.counts };
 }
 
-impl<E: SketchEntry, A: Allocator> SketchHashTable<E, A> {
+impl<E: SlotEntry, A: Allocator> SketchHashTable<E, A> {
     /// An empty table of 2^`lg_nom_size` nominal entries, with `lg_nom_size` from 5 to 26, and a starting theta from 1 to `MAX_THETA`.
     ///
     /// Refused with `InvalidArgument` outside these ranges, and for a seed whose seed hash is 0; with `OutOfMemory` where
-    /// memory is. The resize factor has no effect on what the table answers: it is by how much the slots of a table grow, so
-    /// it will be seen in the memory that a table takes once a table keeps its entries in slots.
+    /// memory is. The resize factor, by which the slots grow, has no effect on what the table answers.
     pub fn new(
         alloc: A,
         lg_nom_size: u8,
-        _resize_factor: ResizeFactor,
+        resize_factor: ResizeFactor,
         starting_theta: u64,
         seed: u64,
     ) -> Result<Self, Error>
@@ -67,20 +85,30 @@ impl<E: SketchEntry, A: Allocator> SketchHashTable<E, A> {
         A: Drop,
         ensures made { IfOk result (λ t. t.map ≡ empty_table lg_nom_size starting_theta seed) }
         ensures refused { Refuses result (table_refusal lg_nom_size starting_theta seed) true }
+        ensures sized { IfOk result (λ t. t.layout.lg_cur ≡ sub_multiple (lg_nom_size + 1) MIN_LG_K (lg_of resize_factor)) }
+        ensures grows { IfOk result (λ t. t.layout.grow ≡ lg_of resize_factor) }
+        ensures nothing_done { IfOk result (λ t. t.counts ≡ nothing_done) }
     {
         let size_fits = MIN_LG_K <= lg_nom_size && lg_nom_size <= MAX_LG_K;
         if !size_fits || starting_theta == 0 || starting_theta > MAX_THETA {
             return Err(Error::new(ErrorKind::InvalidArgument));
         }
         let seed_hash = compute_seed_hash(seed, ErrorKind::InvalidArgument)?;
+        let lg_cur_size = starting_size(lg_nom_size, resize_factor.lg_value());
+        let slots = free_slots::<E, A>(alloc, lg_cur_size)?;
         Ok(SketchHashTable {
+            lg_cur_size,
             lg_nom_size,
+            resize_factor,
             has_slots: true,
             starting_theta,
             seed,
             seed_hash,
             theta: starting_theta,
-            entries: Vec::new(alloc),
+            count: 0,
+            slots,
+            counts: nothing(),
+            of: PhantomData,
         })
     }
 
@@ -98,6 +126,8 @@ impl<E: SketchEntry, A: Allocator> SketchHashTable<E, A> {
         seed: u64,
         seed_hash: u16,
     ) -> Result<Self, Error>
+    where
+        A: Drop,
         requires sized { IsSized lg_cur_size lg_nom_size }
         requires size_high { lg_cur_size ≤ 33 }
         requires theta_low { 0 < retention_theta }
@@ -105,15 +135,23 @@ impl<E: SketchEntry, A: Allocator> SketchHashTable<E, A> {
         requires of_seed { IsSeedHash seed seed_hash }
         ensures made { IfOk result (λ t. t.map ≡ set_table lg_nom_size (not (lg_cur_size == 0)) retention_theta seed seed_hash) }
         ensures refused { Refuses result None (not (lg_cur_size == 0)) }
+        ensures slots { IfOk result (λ t. length t.layout.slots ≡ slots_of_operator lg_cur_size) }
+        ensures nothing_done { IfOk result (λ t. t.counts ≡ nothing_done) }
     {
+        let slots = operator_slots::<E, A>(alloc, lg_cur_size)?;
         Ok(SketchHashTable {
+            lg_cur_size,
             lg_nom_size,
+            resize_factor: ResizeFactor::X1,
             has_slots: lg_cur_size != 0,
             starting_theta: MAX_THETA,
             seed,
             seed_hash,
             theta: retention_theta,
-            entries: Vec::new(alloc),
+            count: 0,
+            slots,
+            counts: nothing(),
+            of: PhantomData,
         })
     }
 
@@ -131,11 +169,29 @@ impl<E: SketchEntry, A: Allocator> SketchHashTable<E, A> {
         }
     }
 
+    /// How many entries its slots may have before there are more slots or a rebuild: half of the slots while they can grow,
+    /// then fifteen sixteenths, 15k/8 in a table of `new`; 0 without slots.
+    pub fn capacity_threshold(&self) -> usize
+        ensures threshold { self.now.map.has_slots ≡ true → result ≡ threshold self.now.layout.lg_cur self.now.map.lg_nom }
+        ensures none { self.now.map.has_slots ≡ false → result ≡ 0 }
+        ensures laid_out { self.now.map.has_slots ≡ true → IsLaidOut E.key self.now.layout.lg_cur self.now.layout.slots }
+        ensures few { self.now.map.has_slots ≡ true → length self.now.map.kept.entries ≤ threshold self.now.layout.lg_cur self.now.map.lg_nom }
+        ensures slots { self.now.map.has_slots ≡ true → self.now.layout.lg_cur ≤ self.now.map.lg_nom + 1 }
+        ensures rebuilds { 7 * 2 ^ self.now.map.lg_nom * self.now.counts.rebuilds ≤ 8 * self.now.counts.inserted }
+        ensures placed { self.now.counts.trims ≡ 0 → self.now.counts.placed ≤ 3 * self.now.counts.inserted }
+    {
+        let has_slots = self.has_slots;
+        if !has_slots {
+            return 0;
+        }
+        threshold_of(self.lg_cur_size, self.lg_nom_size)
+    }
+
     /// How many entries it retains.
     pub fn num_retained(&self) -> usize
         ensures { result ≡ length self.now.map.kept.entries }
     {
-        self.entries.len()
+        self.count
     }
 
     /// The theta that all retained hashes are below, from 1 to `MAX_THETA`.
@@ -148,13 +204,15 @@ impl<E: SketchEntry, A: Allocator> SketchHashTable<E, A> {
 
     /// Whether there is room for an entry more: always in a table of 16 slots or more, which is rebuilt before it is full; in
     /// one of fewer, while two of its slots are free; never without slots.
+    #[inline(always)]
     pub fn has_room(&self) -> bool
         ensures { result ≡ has_room self.now.map }
     {
         if self.lg_nom_size >= ALWAYS_ROOM_LG_NOM {
             return true;
         }
-        self.has_slots && self.entries.len() < 2 * nominal_size(self.lg_nom_size) - 1
+        let count = self.num_retained();
+        self.has_slots && count < 2 * nominal_size(self.lg_nom_size) - 1
     }
 
     /// Sets the theta that hashes to be retained are below, from 1 to `MAX_THETA`. It is above every retained hash.
@@ -192,10 +250,13 @@ impl<E: SketchEntry, A: Allocator> SketchHashTable<E, A> {
     pub fn entry(&self, hash: u64) -> Option<&E>
         ensures { option_copied result ≡ entry_at E.key self.now.map.kept.entries hash }
     {
-        match place_of(&self.entries, hash) {
-            Ok(at) => Some(&self.entries[at]),
-            Err(_) => None,
+        let has_slots = self.has_slots;
+        if !has_slots {
+            return None;
         }
+        let mut looks = Count::new();
+        let place = seek::<E>(&self.slots, self.lg_cur_size, hash, &mut looks);
+        E::in_slot(&self.slots[place.at])
     }
 
     /// The hash of a value under the table's seed: the first half of MurmurHash3 x64 128 over the bytes that the value
@@ -210,63 +271,66 @@ impl<E: SketchEntry, A: Allocator> SketchHashTable<E, A> {
 
     /// The allocator that it keeps.
     pub fn allocator(&self) -> &A {
-        self.entries.allocator()
+        self.slots.allocator()
     }
 
-    /// How many bytes the retained entries take.
+    /// How many bytes its slots take.
     pub fn estimated_size(&self) -> usize {
-        size_of_val(self.entries.as_slice())
+        size_of_val(self.slots.as_slice())
     }
 
     /// Each retained entry once, in an open order.
     pub fn iter_entries(&self) -> SketchHashTableIter<'_, E>
         ensures lent { result ≡ self.now.lends }
         ensures each_once { IsLent E.key self.now.map.kept.entries self.now.lends }
+        ensures fits { length self.now.lends < 2 ^ 64 }
         ensures sound { IsTable E.key self.now.map }
     {
-        SketchHashTableIter::over(&self.entries)
+        let _count = self.count;
+        SketchHashTableIter::over(&self.slots)
     }
 }
 
-impl<E: SketchEntry + Drop, A: Allocator> SketchHashTable<E, A> {
-    /// Removes all entries, and takes the starting theta back. It takes no memory. The table is one of a sketch, whose
-    /// nominal logarithm is at least 5.
+impl<E: SlotEntry, A: Allocator> SketchHashTable<E, A> {
+    /// Removes all entries, and takes the starting theta and the starting size back. It takes no memory. The table is one of
+    /// a sketch, whose nominal logarithm is at least 5.
     pub fn reset(&mut self)
         requires of_sketch { MIN_LG_K ≤ self.old.map.lg_nom }
-        ensures { self.new.map ≡ after_reset self.old.map }
+        ensures after { self.new.map ≡ after_reset self.old.map }
+        ensures size { self.new.layout.lg_cur ≡ sub_multiple (self.old.map.lg_nom + 1) MIN_LG_K self.old.layout.grow }
+        ensures grows { self.new.layout.grow ≡ self.old.layout.grow }
+        ensures nothing_done { self.new.counts ≡ nothing_done }
     {
-        self.entries.clear();
+        let lg_cur_size = starting_size(self.lg_nom_size, self.resize_factor.lg_value());
+        clear_slots::<E, A>(&mut self.slots, nominal_size(lg_cur_size));
+        self.lg_cur_size = lg_cur_size;
         self.theta = self.starting_theta;
+        self.count = 0;
+        self.counts = nothing();
     }
 
-    /// Removes all entries, and keeps its theta. It takes no memory.
+    /// Removes all entries, and keeps its theta and its size. It takes no memory.
     pub fn clear(&mut self)
-        ensures { self.new.map ≡ record self.old.map { kept = none_below self.old.map.kept.theta } }
+        ensures after { self.new.map ≡ record self.old.map { kept = none_below self.old.map.kept.theta } }
+        ensures size { length self.new.layout.slots ≡ length self.old.layout.slots }
+        ensures layout { (self.new.layout.lg_cur ≡ self.old.layout.lg_cur) × (self.new.layout.grow ≡ self.old.layout.grow) }
+        ensures counts { self.new.counts ≡ self.old.counts }
     {
-        self.entries.clear();
-    }
-
-    /// Keeps what is below a theta, which is at most its own.
-    pub fn lower_theta(&mut self, theta: u64)
-        requires low { 0 < theta }
-        requires high { theta ≤ self.old.map.kept.theta }
-        ensures { self.new.map ≡ record self.old.map { kept = retained E.key self.old.map.kept.entries theta } }
-    {
-        let at = match place_of(&self.entries, theta) {
-            Ok(at) => at,
-            Err(at) => at,
-        };
-        self.entries.truncate(at);
-        self.theta = theta;
+        let size = self.slots.len();
+        clear_slots::<E, A>(&mut self.slots, size);
+        self.count = 0;
     }
 }
 
-impl<E: SketchEntry + Drop, A: Allocator + Clone> SketchHashTable<E, A> {
+impl<E: SlotEntry + Drop, A: Allocator + Clone> SketchHashTable<E, A> {
     /// Inserts a hash: the step writes the entry that has it, or else makes one. Answers whether an entry was made.
     ///
     /// A hash that is 0 or at least theta is screened: no step is called, nothing changes and the answer is false.
     /// Any other hash is retained already, or there is room for an entry more. Refused with what the step refuses, or with
     /// `OutOfMemory`; then nothing has changed.
+    ///
+    /// Below `capacity_threshold` an insertion takes no memory but what its step takes.
+    #[inline(always)]
     pub fn upsert_entry<S: UpsertStep<E> + Drop>(
         &mut self,
         hash: u64,
@@ -279,23 +343,44 @@ impl<E: SketchEntry + Drop, A: Allocator + Clone> SketchHashTable<E, A> {
         ensures after { OnOk result (self.new.map ≡ record self.old.map { kept = after_upsert E.key (2 ^ self.old.map.lg_nom) hash (S.means step) self.old.map.kept }) }
         ensures err { OnErr result (self.new.map ≡ self.old.map) }
         ensures refused { Refuses result (upsert_refusal E.key hash (S.means step) self.old.map.kept) (upsert_allocates E.key hash (S.means step) self.old.map.kept) }
+        ensures looks { 2 * self.new.counts.looks ≤ 2 * (self.old.counts.looks + length self.old.map.kept.entries + 1) + (self.new.counts.placed - self.old.counts.placed) * (self.new.counts.placed - self.old.counts.placed + 1) }
+        ensures memory { length self.old.map.kept.entries < threshold self.old.layout.lg_cur self.old.map.lg_nom → Refuses result (upsert_refusal E.key hash (S.means step) self.old.map.kept) (not (is_screened hash self.old.map.kept.theta) && (S.means step).allocates) }
+        ensures ticked { IfOk result (λ created. self.new.counts ≡ record (if created then ticked self.old.layout.lg_cur self.old.map.lg_nom (length self.old.map.kept.entries) self.old.counts else self.old.counts) { looks = self.new.counts.looks }) }
+        ensures unticked { OnErr result (self.new.counts ≡ record self.old.counts { looks = self.new.counts.looks }) }
+        ensures sized { IfOk result (λ created. self.new.layout.lg_cur ≡ if created then size_after self.old.layout.lg_cur self.old.map.lg_nom self.old.layout.grow (length self.old.map.kept.entries) else self.old.layout.lg_cur) }
+        ensures grows { self.new.layout.grow ≡ self.old.layout.grow }
+        ensures seldom { (self.new.counts.rebuilds ≡ self.old.counts.rebuilds) ⊎ (7 * 2 ^ self.old.map.lg_nom < 8 * (self.old.counts.fresh + 1)) }
+        ensures looked { is_screened hash self.old.map.kept.theta ≡ false → self.old.counts.looks < self.new.counts.looks }
     {
         if hash == 0 || hash >= self.theta {
             return Ok(false);
         }
-        match place_of(&self.entries, hash) {
-            Ok(at) => {
-                step.existing(&mut self.entries[at])?;
-                Ok(false)
+        let place = seek::<E>(&self.slots, self.lg_cur_size, hash, &mut self.counts.looks);
+        if !place.is_free {
+            write_at::<E, S>(&mut self.slots, place.at, step)?;
+            return Ok(false);
+        }
+        match step.absent()? {
+            None => Ok(false),
+            Some(entry) => {
+                let settled = put_entry::<E, A>(
+                    &mut self.slots,
+                    Sizes {
+                        lg_cur: self.lg_cur_size,
+                        lg_nom: self.lg_nom_size,
+                        grow: self.resize_factor.lg_value(),
+                        count: self.count,
+                        theta: self.theta,
+                    },
+                    place.at,
+                    entry,
+                    &mut self.counts,
+                )?;
+                self.lg_cur_size = settled.lg_cur;
+                self.theta = settled.theta;
+                self.count = settled.count;
+                Ok(true)
             }
-            Err(at) => match step.absent()? {
-                None => Ok(false),
-                Some(entry) => {
-                    let nominal = nominal_size(self.lg_nom_size);
-                    self.theta = put_entry(&mut self.entries, self.theta, nominal, at, entry)?;
-                    Ok(true)
-                }
-            },
         }
     }
 
@@ -306,14 +391,30 @@ impl<E: SketchEntry + Drop, A: Allocator + Clone> SketchHashTable<E, A> {
         ensures after { OnOk result (self.new.map ≡ record self.old.map { kept = cut E.key (2 ^ self.old.map.lg_nom) self.old.map.kept.entries self.old.map.kept.theta }) }
         ensures err { OnErr result (self.new.map ≡ self.old.map) }
         ensures refused { Refuses result None (nat_lt (2 ^ self.old.map.lg_nom) (length self.old.map.kept.entries)) }
+        ensures ticked { OnOk result (self.new.counts ≡ if nat_lt (2 ^ self.old.map.lg_nom) (length self.old.map.kept.entries) then record self.old.counts { placed = self.old.counts.placed + 2 ^ self.old.map.lg_nom; trims = self.old.counts.trims + 1 } else self.old.counts) }
+        ensures sized { self.new.layout.lg_cur ≡ self.old.layout.lg_cur }
+        ensures grows { self.new.layout.grow ≡ self.old.layout.grow }
     {
         let nominal = nominal_size(self.lg_nom_size);
-        self.theta = cut_entries(&mut self.entries, self.theta, nominal);
+        let has_slots = self.has_slots;
+        if !has_slots || self.count <= nominal {
+            return Ok(());
+        }
+        let theta = cut_slots::<E, A>(
+            &mut self.slots,
+            self.lg_cur_size,
+            self.count,
+            nominal,
+            &mut self.counts.placed,
+        )?;
+        self.theta = theta;
+        self.count = nominal;
+        self.counts.trims.tick();
         Ok(())
     }
 }
 
-impl<E: SketchEntry + Clone, A: Allocator + Clone> SketchHashTable<E, A> {
+impl<E: SlotEntry + Clone, A: Allocator + Clone> SketchHashTable<E, A> {
     /// What it retains, as the state of a sketch that is not empty, ordered where that is asked or it has one entry at the
     /// greatest theta. Its memory is from a clone of the table's allocator. Refused with `OutOfMemory` alone.
     pub fn to_non_empty_compact_state(
@@ -325,25 +426,42 @@ impl<E: SketchEntry + Clone, A: Allocator + Clone> SketchHashTable<E, A> {
         ensures ok { IfOk result (IsCompactOf E.key self.now.map.kept self.now.map.seed_hash ordered) }
         ensures refused { Refuses result None true }
     {
-        let alloc = self.entries.allocator().clone()?;
-        let entries = Vec::from_clones(alloc, &self.entries)?;
-        let ordered = is_answer_ordered(ordered, entries.len(), self.theta);
-        Ok(CompactSketchState::non_empty(entries, self.theta, self.seed_hash, ordered))
+        let seed_hash = self.seed_hash;
+        let alloc = self.slots.allocator().clone()?;
+        let state = state_below::<E, A>(
+            alloc,
+            &self.slots,
+            self.theta,
+            self.count,
+            seed_hash,
+            ordered,
+        )?;
+        Ok(state)
     }
 
-    /// What it retains, cut to k, as the state of a sketch that is not empty. The table stays as it is.
-    pub fn to_cut_state(&self, ordered: bool) -> Result<CompactSketchState<E, A>, Error>
+    /// What it retains below a theta, which is at most its own, cut to k, as the state of a sketch that is not empty. The table stays as it is.
+    pub fn to_cut_state(&self, theta: u64, ordered: bool) -> Result<CompactSketchState<E, A>, Error>
         requires clones_equal { ClonesEqual E.is_clone }
         requires small { self.now.map.lg_nom ≤ MAX_LG_K }
-        ensures ok { IfOk result (IsCompactOf E.key (cut E.key (2 ^ self.now.map.lg_nom) self.now.map.kept.entries self.now.map.kept.theta) self.now.map.seed_hash ordered) }
+        requires low { 0 < theta }
+        requires high { theta ≤ self.now.map.kept.theta }
+        ensures ok { IfOk result (IsCompactOf E.key (cut E.key (2 ^ self.now.map.lg_nom) self.now.map.kept.entries theta) self.now.map.seed_hash ordered) }
         ensures refused { Refuses result None true }
     {
         let nominal = nominal_size(self.lg_nom_size);
-        let alloc = self.entries.allocator().clone()?;
-        let mut entries = Vec::from_clones(alloc, &self.entries)?;
-        let theta = cut_entries(&mut entries, self.theta, nominal);
-        let ordered = is_answer_ordered(ordered, entries.len(), theta);
-        Ok(CompactSketchState::non_empty(entries, theta, self.seed_hash, ordered))
+        let spare = self.slots.allocator().clone()?;
+        let lesser = cut_theta::<E, A>(spare, &self.slots, self.count, nominal, theta)?;
+        let seed_hash = self.seed_hash;
+        let alloc = self.slots.allocator().clone()?;
+        let state = state_below::<E, A>(
+            alloc,
+            &self.slots,
+            lesser,
+            self.count.min(nominal),
+            seed_hash,
+            ordered,
+        )?;
+        Ok(state)
     }
 }
 
@@ -353,6 +471,7 @@ pub type ThetaHashTable<A = Global> = SketchHashTable<ThetaEntry, A>;
 impl<A: Allocator + Clone> SketchHashTable<ThetaEntry, A> {
     /// Inserts the hash of a value, and answers whether it is new and below theta. For such a hash the caller has to know that
     /// there is room (`has_room`), as there always is in a table of `new`. Refused as `try_insert_hash` is.
+    #[inline(always)]
     pub fn try_insert<T: Hash + Drop>(&mut self, value: T) -> Result<bool, Error>
         requires room { let h = hash_of self.old.map.seed (concat (T.hash_input value)) in IsTrue (may_insert hash_key h self.old.map) }
         ensures ok { let h = hash_of self.old.map.seed (concat (T.hash_input value)) in IfOk result (λ created. created ≡ creates hash_key h (hash_step h) self.old.map.kept) }
@@ -368,6 +487,7 @@ impl<A: Allocator + Clone> SketchHashTable<ThetaEntry, A> {
     /// room (`has_room`), as there always is in a table of `new`.
     ///
     /// Refused with `OutOfMemory` alone, and only where the hash is new and below theta; then nothing has changed.
+    #[inline(always)]
     pub fn try_insert_hash(&mut self, hash: u64) -> Result<bool, Error>
         requires room { IsTrue (may_insert hash_key hash self.old.map) }
         ensures ok { IfOk result (λ created. created ≡ creates hash_key hash (hash_step hash) self.old.map.kept) }
@@ -382,11 +502,12 @@ impl<A: Allocator + Clone> SketchHashTable<ThetaEntry, A> {
 /// The table of a tuple sketch, whose entries are hashes with their summaries.
 pub type TupleHashTable<S, A = Global> = SketchHashTable<TupleEntry<S>, A>;
 
-impl<S, A: Allocator> SketchHashTable<TupleEntry<S>, A> {
+impl<S: Drop, A: Allocator> SketchHashTable<TupleEntry<S>, A> {
     /// Each retained entry once, in an open order: what `iter_entries` answers.
     pub fn iter(&self) -> SketchHashTableIter<'_, TupleEntry<S>>
         ensures lent { result ≡ self.now.lends }
         ensures each_once { IsLent tuple_key self.now.map.kept.entries self.now.lends }
+        ensures fits { length self.now.lends < 2 ^ 64 }
         ensures sound { IsTable tuple_key self.now.map }
     {
         self.iter_entries()
@@ -397,6 +518,7 @@ impl<S: Drop, A: Allocator + Clone> SketchHashTable<TupleEntry<S>, A> {
     /// Inserts the hash of a key: the step writes the summary that is there, or else makes one. Answers whether an entry was
     /// made. For a hash that isn't screened the caller has to know that it is retained, or that there is room (`has_room`), as
     /// there always is in a table of `new`. Refused as `try_insert_hash` is.
+    #[inline(always)]
     pub fn try_insert<T: Hash + Drop, U: UpsertStep<S> + Drop>(
         &mut self,
         key: T,
@@ -417,6 +539,7 @@ impl<S: Drop, A: Allocator + Clone> SketchHashTable<TupleEntry<S>, A> {
     /// A hash that is 0 or at least theta is screened: no step is called, nothing changes and the answer is false. For any
     /// other hash the caller has to know that it is retained, or that there is room (`has_room`), as there always is in a
     /// table of `new`. Refused with what the step refuses, or with `OutOfMemory`; then nothing has changed.
+    #[inline(always)]
     pub fn try_insert_hash<U: UpsertStep<S> + Drop>(
         &mut self,
         hash: u64,
@@ -444,64 +567,4 @@ fn whole_log(n: usize) -> u8
     ensures small { result ≤ 63 }
 {
     if n == 0 { 0 } else { n.ilog2() as u8 }
-}
-
-/// Where a hash stands, or would go, in entries that ascend.
-fn place_of<E: SketchEntry>(entries: &[E], hash: u64) -> Result<usize, usize>
-    requires { IsAscending E.key entries.now }
-    ensures found { IfOk result (IsAt E.key entries.now hash) }
-    ensures absent { IfErr result (IsGapFor E.key entries.now hash) }
-{
-    entries.binary_search_by_key(&hash, |entry| entry.hash())
-}
-
-/// Keeps the k entries of least hash, where there are more, and answers the theta above them.
-fn cut_entries<E: SketchEntry + Drop, A: Allocator>(
-    entries: &mut Vec<E, A>,
-    theta: u64,
-    nominal: usize,
-) -> u64
-    requires ascending { IsAscending E.key entries.old.items }
-    requires below_theta { AllByRecursion (λ x. E.key x < theta) entries.old.items }
-    ensures { record { entries = entries.new.items; theta = result } ≡ cut E.key nominal entries.old.items theta }
-{
-    if entries.len() <= nominal {
-        return theta;
-    }
-    let cut_theta = entries[nominal].hash();
-    entries.truncate(nominal);
-    cut_theta
-}
-
-/// Puts an entry at its place, and cuts where the entries are then more than fifteen eighths of k. Answers the new theta.
-fn put_entry<E: SketchEntry + Drop, A: Allocator>(
-    entries: &mut Vec<E, A>,
-    theta: u64,
-    nominal: usize,
-    at: usize,
-    entry: E,
-) -> Result<u64, AllocError>
-    requires retained { IsRetained E.key (record { entries = entries.old.items; theta = theta }) }
-    requires gap { IsGapFor E.key entries.old.items (E.key entry) at }
-    requires nonzero { 0 < E.key entry }
-    requires small { E.key entry < theta }
-    requires nominal_high { nominal ≤ 2 ^ 32 }
-    ensures ok { IfOk result (λ new_theta. record { entries = entries.new.items; theta = new_theta } ≡ rebuilt E.key nominal (with_entry E.key entries.old.items entry) theta) }
-    ensures err { OnErr result (entries.new.items ≡ entries.old.items) }
-{
-    entries.insert(at, entry)?;
-    if nominal >= 8 && entries.len() > 15 * nominal / 8 {
-        Ok(cut_entries(entries, theta, nominal))
-    } else {
-        Ok(theta)
-    }
-}
-
-/// The nominal entries k, for their binary logarithm.
-fn nominal_size(lg_nom_size: u8) -> usize
-    requires { lg_nom_size ≤ 32 }
-    ensures power { result ≡ 2 ^ lg_nom_size }
-    ensures small { result ≤ 2 ^ 32 }
-{
-    1usize << lg_nom_size
 }

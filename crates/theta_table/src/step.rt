@@ -45,10 +45,12 @@ impl<X: Drop> UpsertStep<X> for PutStep<X> {
 
     ghost means = { λ step. put_step step.entry };
 
+    #[inline(always)]
     fn existing(self, _entry: &mut X) -> Result<(), Error> {
         Ok(())
     }
 
+    #[inline(always)]
     fn absent(self) -> Result<Option<X>, Error> {
         Ok(Some(self.entry))
     }
@@ -77,10 +79,12 @@ impl<S, T: UpsertStep<S>> UpsertStep<TupleEntry<S>> for EntryStep<T> {
 
     ghost means = { λ step. entry_step step.hash (T.means step.step) };
 
+    #[inline(always)]
     fn existing(self, entry: &mut TupleEntry<S>) -> Result<(), Error> {
         self.step.existing(&mut entry.summary)
     }
 
+    #[inline(always)]
     fn absent(self) -> Result<Option<TupleEntry<S>>, Error> {
         match self.step.absent()? {
             Some(summary) => Ok(Some(TupleEntry::of_hash(self.hash, summary))),

@@ -2,7 +2,7 @@
 use Rattle.std.proofs.Common.{◌≡◌, ℕ, ◌≤◌, ◌⊎◌, Bool, true, false, cond, not, List, length, slice_index, Option, None, refl, inl, inr, arith, ltb, leb, eqb, ◌&&◌, ◌||◌}
 use Rattle.std.proofs.lemmas.Bool.Decides.{nat_tests}
 use Rattle.std.proofs.lemmas.Bool.{cases_eq}
-use Rattle.theta_table.specs.CompactState.{Compact}
+use Rattle.theta_compact.specs.CompactState.{Compact}
 use Rattle.theta_table.specs.Entry.{tuple_key}
 use Rattle.theta_table.specs.declared.entry.TupleEntry.{TupleEntry}
 use Rattle.theta_images.specs.Preamble.{flagged_layout, IsWholeLayout}

@@ -1,7 +1,7 @@
 -- Images of tuple sketches: which bytes are read as which sketch, and which are written. How summaries are spelled is a parameter.
 use Rattle.std.specs.Prelude.{ℕ, ◌≡◌, ◌<◌, ◌⊎◌, List, slice_index}
 use Rattle.std.specs.List.{AllByRecursion}
-use Rattle.theta_table.specs.CompactState.{Compact}
+use Rattle.theta_compact.specs.CompactState.{Compact}
 use Rattle.theta_table.specs.Entry.{tuple_key}
 use Rattle.theta_table.specs.declared.entry.TupleEntry.{TupleEntry}
 use Rattle.theta_images.specs.Preamble.{Begins}

@@ -2,7 +2,7 @@
 ghost use Rattle.std.specs.Prelude.{◌≡◌, ◌||◌, true, false, IfOk};
 ghost use Rattle.sketch_base.specs.Seed.{seed_hash};
 ghost use Rattle.sketch_base.specs.declared.seed.TheConstants.{DEFAULT_UPDATE_SEED};
-ghost use Rattle.theta_table.specs.CompactState.{IsAnswer};
+ghost use Rattle.theta_compact.specs.CompactState.{IsAnswer};
 ghost use Rattle.theta_table.specs.Entry.{tuple_key};
 ghost use Rattle.theta_laws.specs.Entries.{ClonesEqual, hash_key};
 ghost use Rattle.theta_laws.specs.Operators.{minus};
@@ -13,11 +13,11 @@ ghost use Rattle.theta_operators.specs.Intersection.{seed_refusal};
 ghost use Rattle.theta_family.specs.View.{shows, lends};
 
 use crate::compact_sketch::CompactTupleSketch;
+use crate::operands::difference_of;
 use crate::view::TupleSketchView;
 use sketch_base::{DEFAULT_UPDATE_SEED, Error, ErrorKind, compute_seed_hash};
 use std::alloc::Allocator;
 use std::marker::Model;
-use theta_core::a_not_b;
 
 /// The difference of tuple sketches of one seed: the entries of the one whose keys the other lacks. Contracts see the seed's
 /// hash.
@@ -75,7 +75,7 @@ impl TupleANotB {
     ///
     /// Refused with `InvalidArgument` where `a` isn't empty and it, or a `b` that isn't empty, is of another seed; with
     /// `OutOfMemory` where memory is. The inputs stay as they are.
-    pub fn compute<S: Clone, T, A: Allocator + Clone, B: Allocator, C: Allocator>(
+    pub fn compute<S: Clone, T: Drop, A: Allocator + Clone, B: Allocator, C: Allocator>(
         &self,
         alloc: A,
         a: TupleSketchView<'_, S, B>,
@@ -86,7 +86,7 @@ impl TupleANotB {
         ensures ok { IfOk result (IsAnswer tuple_key (minus tuple_key hash_key (shown_value tuple_key (shows tuple_key a.entry) (lends a.entry)) (shown_value hash_key (shows tuple_key b.entry) (shows tuple_key b.entry).hashes)) (shows tuple_key a.entry).seed_hash (ordered || (shows tuple_key a.entry).ordered)) }
         ensures refused { Refuses result (difference_refusal self.now (shows tuple_key a.entry) (shows tuple_key b.entry)) true }
     {
-        let state = a_not_b::compute(alloc, self.seed_hash, a, b, ordered)?;
+        let state = difference_of(alloc, self.seed_hash, a, b, ordered)?;
         Ok(CompactTupleSketch::of_state(state))
     }
 }

@@ -1,6 +1,6 @@
 //! Tuple sketches that no longer change.
 ghost use Rattle.std.specs.Prelude.{◌≡◌, ◌≤◌, ◌&&◌, true, not, nat_lt, None, length, IfOk};
-ghost use Rattle.theta_table.specs.CompactState.{IsCompact, shown_of, compact_value};
+ghost use Rattle.theta_compact.specs.CompactState.{IsCompact, shown_of, compact_value};
 ghost use Rattle.theta_laws.specs.Entries.{ClonesEqual};
 ghost use Rattle.theta_laws.specs.Refusal.{Refuses};
 ghost use Rattle.theta_laws.specs.Shown.{shown_value};
@@ -18,12 +18,12 @@ use theta_family::{Decimal, MAX_PLACES, compact_decimal, compact_fraction};
 
 /// A tuple sketch that no longer changes: its entries in a list, with its theta. Contracts see a record of these.
 #[derive(Drop)]
-pub struct CompactTupleSketch<S, A: Allocator = Global> {
+pub struct CompactTupleSketch<S: Drop, A: Allocator = Global> {
     state: CompactSketchState<TupleEntry<S>, A>,
 }
 
-impl<S, A: Allocator> Model for CompactTupleSketch<S, A> {
-    ghost use Rattle.theta_table.specs.CompactState.{Compact};
+impl<S: Drop, A: Allocator> Model for CompactTupleSketch<S, A> {
+    ghost use Rattle.theta_compact.specs.CompactState.{Compact};
     ghost use Rattle.theta_table.specs.declared.entry.TupleEntry.{TupleEntry};
 
     ghost Value = { Compact (TupleEntry S) };
@@ -31,7 +31,7 @@ impl<S, A: Allocator> Model for CompactTupleSketch<S, A> {
     ghost view = { λ s. s.state };
 }
 
-impl<S, A: Allocator> CompactTupleSketch<S, A> {
+impl<S: Drop, A: Allocator> CompactTupleSketch<S, A> {
     pub(crate) fn of_state(state: CompactSketchState<TupleEntry<S>, A>) -> Self
         ensures { result ≡ state }
     {

@@ -11,6 +11,7 @@ ghost use Rattle.theta_operators.specs.Intersection.{new_intersection, seed_refu
 ghost use Rattle.theta_family.specs.View.{shows, lends};
 
 use crate::compact_sketch::CompactTupleSketch;
+use crate::operands::meet_view;
 use crate::view::TupleSketchView;
 use sketch_base::{DEFAULT_UPDATE_SEED, Error};
 use std::alloc::{Allocator, Global};
@@ -31,8 +32,6 @@ impl<P: SummaryPolicy + Drop, A: Allocator + Drop> TupleIntersection<P, A> {
     ///
     /// Refused as `with_seed` is.
     pub fn new(alloc: A, policy: P) -> Result<Self, Error>
-    where
-        P::Summary: Drop,
         ensures made { IfOk result (λ i. i.state ≡ new_intersection (seed_hash DEFAULT_UPDATE_SEED) policy) }
         ensures refused { Refuses result (seed_refusal DEFAULT_UPDATE_SEED) false }
     {
@@ -43,8 +42,6 @@ impl<P: SummaryPolicy + Drop, A: Allocator + Drop> TupleIntersection<P, A> {
     ///
     /// Refused with `InvalidArgument` for a seed whose seed hash is 0.
     pub fn with_seed(alloc: A, policy: P, seed: u64) -> Result<Self, Error>
-    where
-        P::Summary: Drop,
         ensures made { IfOk result (λ i. i.state ≡ new_intersection (seed_hash seed) policy) }
         ensures refused { Refuses result (seed_refusal seed) false }
     {
@@ -89,7 +86,7 @@ impl<P: SummaryCombinePolicy + Drop, A: Allocator + Clone> TupleIntersection<P, 
         ensures sound { IsIntersection self.old.state }
         ensures held { IsRetained tuple_key (held_of self.old.state.result) }
     {
-        self.state.update(sketch)
+        meet_view(&mut self.state, sketch)
     }
 
     /// Its value, or `None` before its first sketch. Ordered where that is asked, or it is empty or has one entry at the

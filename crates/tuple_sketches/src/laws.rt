@@ -13,7 +13,7 @@ ghost use Rattle.theta_laws.specs.Samples.{IsLawfulValue, IsSample};
 ghost use Rattle.theta_laws.specs.Values.{NonEmpty};
 ghost use Rattle.theta_table.specs.declared.entry.TupleEntry.{TupleEntry};
 ghost use Rattle.theta_policies.specs.Summaries.{update_step};
-ghost use Rattle.theta_table.specs.CompactState.{Compact, IsCompact, empty_compact};
+ghost use Rattle.theta_compact.specs.CompactState.{Compact, IsCompact, empty_compact};
 ghost use Rattle.theta_table.specs.Entry.{tuple_key};
 ghost use Rattle.tuple_sketches.specs.Image.{Reads, HasValues, written};
 ghost use Rattle.tuple_sketches.specs.declared.image.TheConstants.{EMPTY_SKETCH_BYTES};

@@ -57,6 +57,7 @@ mod compact_sketch;
 mod image;
 mod intersection;
 pub mod laws;
+mod operands;
 mod sketch;
 mod union;
 mod union_builder;

@@ -2,7 +2,7 @@
 ghost use Rattle.std.specs.Prelude.{◌≡◌, ◌≤◌, ◌&&◌, ◌^◌, true, false, not, nat_lt, None, length, IfOk, OnOk, OnErr};
 ghost use Rattle.std.specs.List.{concat};
 ghost use Rattle.sketch_base.specs.Seed.{hash_of};
-ghost use Rattle.theta_table.specs.CompactState.{IsAnswer};
+ghost use Rattle.theta_compact.specs.CompactState.{IsAnswer};
 ghost use Rattle.theta_laws.specs.Cuts.{cut};
 ghost use Rattle.theta_laws.specs.Entries.{ClonesEqual};
 ghost use Rattle.theta_laws.specs.Refusal.{Refuses};
@@ -132,8 +132,6 @@ impl<P: SummaryPolicy, A: Allocator> TupleSketch<P, A> {
 
     /// Makes it empty again, with its starting theta. It takes no memory.
     pub fn reset(&mut self)
-    where
-        P::Summary: Drop,
         ensures empty { self.new.state.empty ≡ true }
         ensures map { self.new.state.map ≡ after_reset self.old.state.map }
         ensures same_policy { self.new.policy ≡ self.old.policy }
@@ -148,10 +146,10 @@ impl<P: SummaryPolicy, A: Allocator + Clone> TupleSketch<P, A> {
     /// A key is hashed as std's `Hash` hands over its bytes, and behind a text std writes one byte more, 255, where
     /// libraries in other languages hash the bytes of the text alone. For the same hash as theirs, `write` the bytes to a
     /// `MurmurHash3X64128` of the sketch's seed, and hand `finish128().0 >> 1` to `update_hash`.
+    #[inline(always)]
     pub fn update<K: Hash + Drop, U: Drop>(&mut self, key: K, value: U) -> Result<(), Error>
     where
         P: SummaryUpdatePolicy<U>,
-        P::Summary: Drop,
         ensures nonempty { OnOk result (self.new.state.empty ≡ false) }
         ensures after { let h = hash_of self.old.state.map.seed (concat (K.hash_input key)) in OnOk result (self.new.state.map ≡ record self.old.state.map { kept = after_upsert tuple_key (2 ^ self.old.state.map.lg_nom) h (update_step (P.creates self.old.policy) (P.updates self.old.policy) h value) self.old.state.map.kept }) }
         ensures same_policy { self.new.policy ≡ self.old.policy }
@@ -169,10 +167,10 @@ impl<P: SummaryPolicy, A: Allocator + Clone> TupleSketch<P, A> {
     ///
     /// Refused with `Policy` where the policy refuses to create or to update, and with `OutOfMemory`; neither can come for a
     /// hash that is 0 or at least theta. Then nothing has changed, emptiness and summaries included.
+    #[inline(always)]
     pub fn update_hash<U: Drop>(&mut self, hash: u64, value: U) -> Result<(), Error>
     where
         P: SummaryUpdatePolicy<U>,
-        P::Summary: Drop,
         ensures nonempty { OnOk result (self.new.state.empty ≡ false) }
         ensures after { OnOk result (self.new.state.map ≡ record self.old.state.map { kept = after_upsert tuple_key (2 ^ self.old.state.map.lg_nom) hash (update_step (P.creates self.old.policy) (P.updates self.old.policy) hash value) self.old.state.map.kept }) }
         ensures same_policy { self.new.policy ≡ self.old.policy }
@@ -188,8 +186,6 @@ impl<P: SummaryPolicy, A: Allocator + Clone> TupleSketch<P, A> {
     ///
     /// Refused with `OutOfMemory` alone, and only where more than k are retained; then nothing has changed.
     pub fn trim(&mut self) -> Result<(), Error>
-    where
-        P::Summary: Drop,
         ensures same_emptiness { self.new.state.empty ≡ self.old.state.empty }
         ensures after { OnOk result (self.new.state.map ≡ record self.old.state.map { kept = cut tuple_key (2 ^ self.old.state.map.lg_nom) self.old.state.map.kept.entries self.old.state.map.kept.theta }) }
         ensures same_policy { self.new.policy ≡ self.old.policy }

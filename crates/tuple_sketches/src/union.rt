@@ -1,7 +1,7 @@
 //! Unions of tuple sketches.
 ghost use Rattle.std.specs.Prelude.{◌≡◌, ◌^◌, [], ◌∷◌, true, false, not, None, IfOk, IfErr, OnOk, MatchOption};
 ghost use Rattle.sketch_base.specs.Seed.{seed_hash};
-ghost use Rattle.theta_table.specs.CompactState.{IsAnswer};
+ghost use Rattle.theta_compact.specs.CompactState.{IsAnswer};
 ghost use Rattle.theta_table.specs.Entry.{tuple_key};
 ghost use Rattle.theta_table.specs.HashTable.{table_refusal};
 ghost use Rattle.theta_laws.specs.Cuts.{IsRetained};
@@ -15,6 +15,7 @@ ghost use Rattle.theta_operators.specs.Union.{empty_union, union_value, update_r
 ghost use Rattle.theta_family.specs.View.{shows, lends};
 
 use crate::compact_sketch::CompactTupleSketch;
+use crate::operands::join_view;
 use crate::view::TupleSketchView;
 use sketch_base::Error;
 use std::alloc::{Allocator, Global};
@@ -33,8 +34,6 @@ pub struct TupleUnion<P: SummaryPolicy, A: Allocator = Global> {
 
 impl<P: SummaryPolicy + Drop, A: Allocator + Drop> TupleUnion<P, A> {
     pub(crate) fn new(alloc: A, settings: Settings, policy: P) -> Result<Self, Error>
-    where
-        P::Summary: Drop,
         ensures made { IfOk result (λ u. u.state ≡ empty_union settings.lg_k settings.starting_theta (seed_hash settings.seed) policy) }
         ensures refused { Refuses result (table_refusal settings.lg_k settings.starting_theta settings.seed) true }
     {
@@ -51,8 +50,6 @@ impl<P: SummaryPolicy + Drop, A: Allocator + Drop> TupleUnion<P, A> {
 
     /// Makes it empty again, and ends a failure. It takes no memory.
     pub fn reset(&mut self)
-    where
-        P::Summary: Drop,
         ensures { self.new.state ≡ empty_union self.old.state.lg_k self.old.state.start self.old.state.seed_hash self.old.state.policy }
     {
         self.state.reset();
@@ -81,7 +78,7 @@ impl<P: SummaryCombinePolicy + Drop, A: Allocator + Clone> TupleUnion<P, A> {
         ensures sound { IsUnion self.old.state }
         ensures held { IsRetained tuple_key self.old.state.held }
     {
-        self.state.update(sketch)
+        join_view(&mut self.state, sketch)
     }
 
     /// Its value, ordered where that is asked, or it is empty or has one entry at the greatest theta. The union stays as it

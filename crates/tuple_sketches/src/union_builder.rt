@@ -66,8 +66,6 @@ impl<P: SummaryPolicy + Drop> TupleUnionBuilder<P> {
     /// An empty union in memory of `alloc`. Refused with `InvalidArgument` for settings that no union may have, and with
     /// `OutOfMemory`.
     pub fn build<A: Allocator + Drop>(self, alloc: A) -> Result<TupleUnion<P, A>, Error>
-    where
-        P::Summary: Drop,
         ensures made { IfOk result (λ u. u.state ≡ empty_union self.settings.lg_k self.settings.starting_theta (seed_hash self.settings.seed) self.policy) }
         ensures refused { Refuses result (table_refusal self.settings.lg_k self.settings.starting_theta self.settings.seed) true }
     {

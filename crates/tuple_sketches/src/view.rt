@@ -1,6 +1,6 @@
 //! Read-only views of tuple sketches, which operators take, and the entries that they lend.
 ghost use Rattle.std.specs.Prelude.{◌≡◌};
-ghost use Rattle.theta_table.specs.CompactState.{compact_value, shown_of};
+ghost use Rattle.theta_compact.specs.CompactState.{compact_value, shown_of};
 ghost use Rattle.theta_family.specs.Updatable.{sketch_shows, sketch_value};
 ghost use Rattle.theta_laws.specs.Shown.{shown_value};
 ghost use Rattle.theta_family.specs.View.{shows, lends};
@@ -29,7 +29,8 @@ impl<'a, P: SummaryPolicy, A: Allocator> From<&'a TupleSketch<P, A>>
     }
 }
 
-impl<'a, S, A: Allocator> From<&'a CompactTupleSketch<S, A>> for SketchView<'a, TupleEntry<S>, A> {
+impl<'a, S: Drop, A: Allocator> From<&'a CompactTupleSketch<S, A>>
+    for SketchView<'a, TupleEntry<S>, A> {
     ghost from_gives = { λ sketch view. (shows tuple_key view ≡ shown_of tuple_key sketch.now) × (lends view ≡ sketch.now.entries) × (shown_value tuple_key (shows tuple_key view) (lends view) ≡ compact_value tuple_key sketch.now) };
 
     fn from(sketch: &'a CompactTupleSketch<S, A>) -> Self {

@@ -110,7 +110,7 @@ fn sketches_are_trimmed_and_reset(rt: HostRuntime) -> Result<(), Fail> {
 }
 
 /// How many entries a view and its copy tell, whatever its summaries are.
-fn counted_twice<S>(view: TupleSketchView<'_, S>) -> [usize; 2] {
+fn counted_twice<S: Drop>(view: TupleSketchView<'_, S>) -> [usize; 2] {
     let copy = view;
     [view.num_retained(), copy.num_retained()]
 }

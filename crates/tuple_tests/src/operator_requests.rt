@@ -5,8 +5,8 @@ use refuse::{Refusal, Refusing};
 use std::alloc::Global;
 use std::test::Fail;
 use tuple_sketches::{
-    CompactTupleSketch, DefaultUnionPolicy, Error, ErrorKind, TupleANotB, TupleIntersection,
-    TupleSketchView, TupleUnionBuilder,
+    CompactTupleSketch, DefaultUnionPolicy, Error, ErrorKind, ResizeFactor, TupleANotB,
+    TupleIntersection, TupleSketchView, TupleUnionBuilder,
 };
 
 /// An operator.
@@ -36,14 +36,16 @@ fn sum_if_any<'a>(answer: Result<Option<CompactTupleSketch<u64, &'a Heap>>, Erro
     }
 }
 
-/// Unites two views, the latter first, with one request of the second update and the answer refused.
+/// Unites two views, the latter first, with one request of the second update and the answer refused. Slots for 33 keys have
+/// to grow.
 fn unite(
     heap: &Heap,
     a: TupleSketchView<'_, u64>,
     b: TupleSketchView<'_, u64>,
     refused: u64,
 ) -> Result<(Told, u64), Error> {
-    let mut union = TupleUnionBuilder::new(DefaultUnionPolicy::<u64>::default()).build(heap)?;
+    let builder = TupleUnionBuilder::new(DefaultUnionPolicy::<u64>::default());
+    let mut union = builder.resize_factor(ResizeFactor::X2).build(heap)?;
     union.update(b)?;
     heap.restart(Refusal::Only(refused));
     let updated = kind_of(union.update(a));

@@ -218,6 +218,44 @@ fn a_refused_sum_ends_a_union_and_leaves_an_intersection(rt: HostRuntime) -> Res
     Ok(())
 }
 
+/// A union that holds a greatest sum at 5, and then took in a sketch below a theta that has no keys.
+fn lowered(alloc: Global, theta: u64) -> Result<TupleUnion<DefaultUnionPolicy<u64>>, Error> {
+    let mut union = TupleUnionBuilder::new(DefaultUnionPolicy::<u64>::default()).build(alloc)?;
+    joined(alloc, &mut union, MOST)?;
+    lower(alloc, &mut union, theta)?;
+    Ok(union)
+}
+
+/// Joins a sketch below a theta that has no keys.
+fn lower(
+    alloc: Global,
+    union: &mut TupleUnion<DefaultUnionPolicy<u64>>,
+    theta: u64,
+) -> Result<(), Error> {
+    let builder = TupleSketchBuilder::new(DefaultUpdatePolicy::<u64>::default());
+    let mut sketch = builder.starting_theta(theta).build(alloc)?;
+    sketch.update_hash(theta, 0u64)?;
+    union.update(sketch.as_view())
+}
+
+/// What a lowered union comes to that is to add to the sum at 5.
+fn added_below(alloc: Global, theta: u64) -> Result<Outcome, Error> {
+    let mut union = lowered(alloc, theta)?;
+    let refused = joined(alloc, &mut union, ONE)?;
+    Ok((refused, of_union(alloc, &union)?))
+}
+
+#[test]
+fn a_hash_from_a_lowered_theta_on_is_not_combined(rt: HostRuntime) -> Result<(), Fail> {
+    let nothing = listed(rt.alloc(), &[])?;
+    assert_eq!(rt; added_below(rt.alloc(), 5)?, (None, nothing));
+    assert_eq!(rt;
+        added_below(rt.alloc(), 6)?,
+        (Some(ErrorKind::Policy), None)
+    );
+    Ok(())
+}
+
 /// A sketch of words, each with a value.
 fn words(alloc: Global, words: &[(&str, u64)]) -> Result<CompactTupleSketch<u64>, Error> {
     let mut sketch = TupleSketchBuilder::new(DefaultUpdatePolicy::<u64>::default()).build(alloc)?;

@@ -2,11 +2,14 @@
 ghost use Rattle.std.specs.Prelude.{◌+◌, ◌^◌, Some, None, false, not, ◌||◌, nat_lt, if◌then◌else◌};
 ghost use Rattle.theta_laws.specs.Refusal.{policy_refusal};
 
-use crate::common::tenfold;
+use crate::common::{Sums, tenfold};
 use std::alloc::{AllocError, Global};
 use std::test::Fail;
 use theta_core::{MAX_THETA, ResizeFactor, TupleHashTable, UpsertStep};
-use tuple_sketches::{Error, ErrorKind};
+use tuple_sketches::{
+    DefaultUnionPolicy, DefaultUpdatePolicy, Error, ErrorKind, TupleEntry, TupleSketchBuilder,
+    TupleUnionBuilder,
+};
 
 /// Adds a value to the sum that is there, or makes a sum of it where it is to; or refuses either.
 #[derive(Debug, Clone, Copy)]
@@ -101,6 +104,11 @@ fn held(alloc: Global, table: &Table) -> Result<Vec<(u64, u64)>, AllocError> {
     Ok(pairs)
 }
 
+/// How many entries a table lends.
+fn count_of(table: &Table) -> usize {
+    table.iter().count()
+}
+
 #[test]
 fn steps_write_and_make_sums(rt: HostRuntime) -> Result<(), Fail> {
     let no = (Some(false), None);
@@ -127,7 +135,7 @@ fn steps_write_and_make_sums(rt: HostRuntime) -> Result<(), Fail> {
         let made = insert(&mut table, hash, step);
         assert_eq!(rt; made, wanted, "{step:?} at {hash}");
         let pairs = held(rt.alloc(), &table)?;
-        let after = (pairs.len(), pairs.last().copied());
+        let after = (count_of(&table), pairs.last().copied());
         assert_eq!(rt; after, (count, last), "{step:?} at {hash}");
     }
     Ok(())
@@ -172,6 +180,55 @@ fn each_entry_is_lent_once(rt: HostRuntime) -> Result<(), Fail> {
     for (last, kept) in [(0, 0), (1, 1), (32, 32), (60, 60), (61, 32)] {
         let wanted = tenfold(rt.alloc(), kept)?;
         assert_eq!(rt; lent(rt.alloc(), last)?, wanted, "at {last}");
+    }
+    Ok(())
+}
+
+/// How many bytes a slot of a sum takes.
+const SLOT: usize = size_of::<Option<TupleEntry<u64>>>();
+
+/// A sketch of 4096 nominal entries that was built with a resize factor and given the hashes from 1 to the last.
+fn sums_with(alloc: Global, factor: ResizeFactor, last: u64) -> Result<Sums, Error> {
+    let builder = TupleSketchBuilder::new(DefaultUpdatePolicy::<u64>::default());
+    let builder = builder.lg_k(12);
+    let mut sketch = builder.resize_factor(factor).build(alloc)?;
+    for hash in 1..=last {
+        sketch.update_hash(hash, 1u64)?;
+    }
+    Ok(sketch)
+}
+
+/// How many slots a union of 4096 nominal entries has that was built with a resize factor and given the hashes from 1 to the
+/// last by a sketch.
+fn slots_of_union(alloc: Global, factor: ResizeFactor, last: u64) -> Result<usize, Error> {
+    let builder = TupleUnionBuilder::new(DefaultUnionPolicy::<u64>::default());
+    let builder = builder.lg_k(12);
+    let mut union = builder.resize_factor(factor).build(alloc)?;
+    let sketch = sums_with(alloc, ResizeFactor::X1, last)?;
+    union.update(sketch.as_view())?;
+    Ok(union.estimated_size() / SLOT)
+}
+
+#[test]
+fn builders_hand_on_the_resize_factor(rt: HostRuntime) -> Result<(), Fail> {
+    // The resize factor, how many hashes, and how many slots there are then.
+    let rows = [
+        (ResizeFactor::X1, 0, 8192),
+        (ResizeFactor::X1, 65, 8192),
+        (ResizeFactor::X2, 0, 32),
+        (ResizeFactor::X2, 17, 64),
+        (ResizeFactor::X2, 65, 256),
+        (ResizeFactor::X4, 0, 32),
+        (ResizeFactor::X4, 17, 128),
+        (ResizeFactor::X4, 65, 512),
+        (ResizeFactor::X8, 0, 128),
+        (ResizeFactor::X8, 17, 128),
+        (ResizeFactor::X8, 65, 1024),
+    ];
+    for (factor, last, wanted) in rows {
+        let sketch = sums_with(rt.alloc(), factor, last)?.estimated_size() / SLOT;
+        let union = slots_of_union(rt.alloc(), factor, last)?;
+        assert_eq!(rt; (sketch, union), (wanted, wanted), "of {factor:?}, {last}");
     }
     Ok(())
 }

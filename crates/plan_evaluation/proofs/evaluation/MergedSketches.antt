@@ -1,5 +1,5 @@
 -- What the one sketch of a merge has: its keys and theta, and sums.
-use Rattle.std.proofs.Common.{◌≡◌, ℕ, true, List, [], ◌∷◌, Result, Ok, Err, Option, Some, None, map, refl, sym, ap, ◌∙◌}
+use Rattle.std.proofs.Common.{◌≡◌, ℕ, true, List, [], ◌∷◌, Result, Ok, Err, Option, Some, None, map, refl, sym, ap, subst, ◌∙◌}
 use Rattle.std.specs.Prelude.{ℤ, pos, IfOk, OnOk}
 use Rattle.std.specs.Option.{option_map}
 use Rattle.sketch_base.specs.declared.error.ErrorKind.{ErrorKind}
@@ -11,7 +11,7 @@ use Rattle.theta_laws.specs.Maps.{entry_at}
 use Rattle.theta_laws.specs.Values.{Sketch, Empty, NonEmpty}
 use Rattle.theta_laws.proofs.maps.MappedEntries.{cut-map}
 use Rattle.theta_policies.specs.Sums.{sum_within}
-use Rattle.theta_table.specs.CompactState.{Compact as State, compact_value}
+use Rattle.theta_compact.specs.CompactState.{Compact as State, compact_value}
 use Rattle.theta_table.specs.Entry.{tuple_key}
 use Rattle.theta_table.specs.declared.entry.TupleEntry.{TupleEntry}
 use Rattle.plan_text.specs.declared.plan.Plan.{Plan}
@@ -46,9 +46,10 @@ module _ {X : Type 0} (key : X → ℕ) (k start : ℕ) (whole : List (Fold X)) 
         ordered = ap (λ t. t.ordered) is;
       }
 
-  pub merged_keys : (v : Sketch (Fold X)) (h : ℕ) (r : Result (State X) ErrorKind) → OnOk r (v ≡ NonEmpty (cut (fold_key key) k whole start)) → IfOk r (λ s. IsSketchOf key v h s) → IfOk r (HasKeys key (kmin k (map (fold_key key) whole) start))
-  merged_keys v h (Ok s) merged is = has_keys (compact_value key s) h s is.1 (is.0 ∙ merged)
-  merged_keys v h (Err e) merged is = tt
+  -- the k-minimum of these hashes, where they are the keys of the whole map
+  pub merged_keys : (hashes : List ℕ) (v : Sketch (Fold X)) (h : ℕ) (r : Result (State X) ErrorKind) → map (fold_key key) whole ≡ hashes → OnOk r (v ≡ NonEmpty (cut (fold_key key) k whole start)) → IfOk r (λ s. IsSketchOf key v h s) → IfOk r (HasKeys key (kmin k hashes start))
+  merged_keys hashes v h (Ok s) keys merged is = subst (λ hs. HasKeys key (kmin k hs start) s) keys (has_keys (compact_value key s) h s is.1 (is.0 ∙ merged))
+  merged_keys hashes v h (Err e) keys merged is = tt
 
 module _ {S Z : Type 0} (whole_number : S → ℤ) (least greatest : ℤ) (zero : S) (sums : S → S → Option S) (zero_is : whole_number zero ≡ pos 0) (summed : (x y : S) → option_map whole_number (sums x y) ≡ sum_within least greatest (whole_number x) (whole_number y)) (seed : ℕ) (p : Plan S Z) where
   abbrev IsSum : State (TupleEntry S) → Type 0

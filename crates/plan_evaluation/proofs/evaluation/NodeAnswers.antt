@@ -8,8 +8,8 @@ use Rattle.theta_laws.specs.Folds.{Fold, Value, unmarked_value}
 use Rattle.theta_laws.specs.Leaf.{leaf}
 use Rattle.theta_laws.specs.declared.leaf.LeafStep.{LeafStep}
 use Rattle.theta_laws.specs.Values.{Sketch, Empty, NonEmpty}
-use Rattle.theta_table.specs.CompactState.{Compact as State, IsAnswer, compact_value}
-use Rattle.theta_table.proofs.Answered.{answer-value, answer-seed}
+use Rattle.theta_compact.specs.CompactState.{Compact as State, IsAnswer, compact_value}
+use Rattle.theta_compact.proofs.Answered.{answer-value, answer-seed}
 use Rattle.theta_family.specs.Updatable.{Updatable, sketch_value}
 use Rattle.plan_text.specs.declared.plan.Plan.{Plan}
 use Rattle.plan_text.specs.declared.plan.Plan.TheVariants as plan

@@ -7,7 +7,7 @@ use Rattle.theta_laws.specs.Entries.{hash_key}
 use Rattle.theta_laws.specs.Folds.{Fold, never}
 use Rattle.theta_laws.specs.Refusal.{Refuses}
 use Rattle.theta_laws.specs.Values.{Sketch, Empty, NonEmpty}
-use Rattle.theta_table.specs.CompactState.{Compact as State, IsAnswer, compact_value}
+use Rattle.theta_compact.specs.CompactState.{Compact as State, IsAnswer, compact_value}
 use Rattle.plan_text.specs.declared.plan.Plan.{Plan}
 use Rattle.plan_values.specs.Family.{Family, hashes, folds_of}
 use Rattle.plan_values.specs.Refusals.{may_refuse}

@@ -3,8 +3,8 @@ use Rattle.std.proofs.Common.{◌≡◌, ℕ, Bool, true, false, cond, is_none, 
 use Rattle.std.specs.Prelude.{IfOk}
 use Rattle.std.specs.Option.{option_map}
 use Rattle.sketch_base.specs.declared.error.ErrorKind.{ErrorKind}
-use Rattle.theta_table.specs.CompactState.{Compact, IsAnswer, compact_value}
-use Rattle.theta_table.proofs.Answered.{answer-value}
+use Rattle.theta_compact.specs.CompactState.{Compact, IsAnswer, compact_value}
+use Rattle.theta_compact.proofs.Answered.{answer-value}
 use Rattle.theta_laws.specs.Cuts.{retained}
 use Rattle.theta_laws.specs.Entries.{hash_key}
 use Rattle.theta_laws.specs.Folds.{Fold, fold_key, unmarked_value}

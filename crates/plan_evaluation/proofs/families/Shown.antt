@@ -7,13 +7,13 @@ use Rattle.theta_family.specs.View.{viewed_shows, viewed_lending}
 use Rattle.theta_family.specs.declared.view.Viewed.{Viewed}
 use Rattle.theta_family.specs.declared.view.Viewed.TheVariants.{Mutable, Compact}
 
-module _ {X Z : Type 0} (key : X → ℕ) where
+module _ {X Z S : Type 0} (key : X → ℕ) where
   -- the hashes that are shown are those of the entries that are lent
-  pub hashes_lent : (v : Viewed X Z) → (viewed_shows key v).hashes ≡ map key (viewed_lending v).rest
+  pub hashes_lent : (v : Viewed X Z S) → (viewed_shows key v).hashes ≡ map key (viewed_lending v).rest
   hashes_lent (Mutable sketch) = refl
   hashes_lent (Compact sketch) = refl
 
   -- each entry is lent once
-  pub apart_lent : (v : Viewed X Z) → IsShown (viewed_shows key v) → IsApart key (viewed_lending v).rest
+  pub apart_lent : (v : Viewed X Z S) → IsShown (viewed_shows key v) → IsApart key (viewed_lending v).rest
   apart_lent (Mutable sketch) sound = apart-distinct key sketch.now.lends sound.distinct
   apart_lent (Compact sketch) sound = apart-distinct key sketch.now.entries sound.distinct

@@ -4,7 +4,7 @@ use Rattle.std.proofs.lemmas.List.{append-nil}
 use Rattle.std.specs.Prelude.{IfOk, IfErr}
 use Rattle.sketch_base.specs.Seed.{seed_hash}
 use Rattle.sketch_base.specs.declared.error.ErrorKind.{ErrorKind}
-use Rattle.theta_table.specs.CompactState.{Compact}
+use Rattle.theta_compact.specs.CompactState.{Compact}
 use Rattle.theta_images.specs.Read.{IsRefused}
 use Rattle.theta_laws.specs.Refusal.{Refuses}
 

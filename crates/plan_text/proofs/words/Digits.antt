@@ -1,11 +1,14 @@
 -- Reading digits from the left.
-use Rattle.std.proofs.Common.{◌≡◌, ℕ, ◌+◌, ◌-◌, ◌*◌, ◌^◌, ◌<◌, ◌≤◌, Bool, true, false, cond, ltb, leb, List, [], ◌∷◌, length, get_or, drop, Option, Some, None, refl, sym, ◌∙◌, arith, drop-cons}
+use Rattle.std.proofs.Common.{◌≡◌, ℕ, zero, suc, ap, ◌++◌, ◌+◌, ◌-◌, ◌*◌, ◌^◌, ◌<◌, ◌≤◌, Bool, true, false, cond, ltb, leb, List, [], ◌∷◌, length, get_or, drop, Option, Some, None, refl, sym, ◌∙◌, arith, drop-cons}
 use Rattle.std.specs.Prelude.{◌&&◌}
 use Rattle.std.specs.Char.{is_ascii_digit, digit_value}
 use Rattle.std.specs.Str.{all_ascii_digits}
 use Rattle.std.specs.Str.Parse.{digits_value, digits_value_after}
 use Rattle.std.proofs.lemmas.Bool.{lt-ltb, le-ltb, ltb-false, ltb-true, le-leb}
 use Rattle.std.proofs.lemmas.Bool.Decides.{nat_tests}
+use Rattle.std.proofs.lemmas.Nat.{pow-add}
+use Rattle.std.proofs.Math.Nat.{pow-le-pow_right}
+use Rattle.plan_text.proofs.words.Separators.{Lacks}
 use Rattle.plan_text.specs.Words.{number}
 
 abbrev pub digits_from : ℕ → List ℕ → Option ℕ
@@ -59,3 +62,54 @@ too_big true m le = le-ltb m (2 ^ 64) le
 -- the value of a digit
 pub digit_is : (b : ℕ) → is_ascii_digit b ≡ true → digit_value b ≡ b - 48
 digit_is b e = grind (arith, nat_tests)
+
+push_step : (t : Bool) (v : ℕ) (a b c : Option ℕ) → cond t a None ≡ Some v → (a ≡ Some v → b ≡ c) → cond t b None ≡ c
+push_step true v a b c e h = h e
+push_step false v a b c e h = absurd cc
+
+-- one digit more behind a word
+pub digits_push : (n v d : ℕ) (w : List ℕ) → digits_from n w ≡ Some v → is_ascii_digit d ≡ true → v * 10 + digit_value d < 2 ^ 64 → digits_from n (w ++ d ∷ []) ≡ Some (v * 10 + digit_value d)
+digits_push n v d [] e is fits =
+    let same : n ≡ v = cc in
+    let small : ltb (v * 10 + digit_value d) (2 ^ 64) ≡ true = lt-ltb (v * 10 + digit_value d) (2 ^ 64) fits in
+    rw (same, is, small) refl
+digits_push n v d (x ∷ w) e is fits =
+    push_step (is_ascii_digit x && ltb (n * 10 + digit_value x) (2 ^ 64)) v (digits_from (n * 10 + digit_value x) w) (digits_from (n * 10 + digit_value x) (w ++ d ∷ [])) (Some (v * 10 + digit_value d)) e
+    (λ f. digits_push (n * 10 + digit_value x) v d w f is fits)
+
+all_step : (one two all : Bool) (v : ℕ) (a : Option ℕ) → cond (one && two) a None ≡ Some v → (a ≡ Some v → all ≡ true) → (one && all) ≡ true
+all_step true true all v a e h = h e
+all_step true false all v a e h = absurd cc
+all_step false two all v a e h = absurd cc
+
+pub all_digits : (n v : ℕ) (w : List ℕ) → digits_from n w ≡ Some v → all_ascii_digits w ≡ true
+all_digits n v [] e = refl
+all_digits n v (x ∷ w) e =
+    all_step (is_ascii_digit x) (ltb (n * 10 + digit_value x) (2 ^ 64)) (all_ascii_digits w) v (digits_from (n * 10 + digit_value x) w) e
+    (λ f. all_digits (n * 10 + digit_value x) v w f)
+
+pub digit_small : (b : ℕ) → is_ascii_digit b ≡ true → digit_value b < 10
+digit_small b e = grind (arith, nat_tests)
+
+pub more_digits : (v d i : ℕ) → v < 10 ^ i → d < 10 → v * 10 + d < 10 ^ (i + 1)
+more_digits v d i lt small = rw pow-add (omega arith)
+
+pub below_19 : (v i : ℕ) → v < 10 ^ i → i < 19 → v < 10 ^ 18
+below_19 v i lt few = let some : 0 < 10 = omega arith in let most : i ≤ 18 = omega arith in let le : 10 ^ i ≤ 10 ^ 18 = pow-le-pow_right some most in omega arith
+
+first_digit : (b c : ℕ) → is_ascii_digit c ≡ false → is_ascii_digit b ≡ true → b ≡ c → ⊥
+first_digit b c other digit e = let both : true ≡ false = sym digit ∙ ap is_ascii_digit e ∙ other in absurd cc
+
+and_first : (a b : Bool) → (a && b) ≡ true → a ≡ true
+and_first true b e = refl
+and_first false b e = absurd cc
+
+and_second : (a b : Bool) → (a && b) ≡ true → b ≡ true
+and_second true b e = e
+and_second false b e = absurd cc
+
+-- digits have no byte that is no digit
+pub digits_lack : (c : ℕ) (w : List ℕ) → is_ascii_digit c ≡ false → all_ascii_digits w ≡ true → Lacks c w
+digits_lack c [] other all k lt = absurd (omega arith)
+digits_lack c (b ∷ w) other all zero lt = first_digit b c other (and_first (is_ascii_digit b) (all_ascii_digits w) all)
+digits_lack c (b ∷ w) other all (suc k) lt = digits_lack c w other (and_second (is_ascii_digit b) (all_ascii_digits w) all) k (omega arith)

@@ -5,7 +5,7 @@ use Rattle.sketch_base.specs.Seed.{seed_hash}
 use Rattle.sketch_base.specs.declared.seed.TheConstants.{DEFAULT_UPDATE_SEED}
 use Rattle.sketch_base.specs.declared.error.ErrorKind.{ErrorKind}
 use Rattle.sketch_base.specs.declared.error.ErrorKind.TheVariants.{InvalidArgument, InvalidData, OutOfMemory, Policy, Failed}
-use Rattle.theta_table.specs.CompactState.{Compact, compact_value}
+use Rattle.theta_compact.specs.CompactState.{Compact, compact_value}
 use Rattle.theta_table.specs.Entry.{tuple_key}
 use Rattle.theta_table.specs.declared.entry.TupleEntry.{TupleEntry}
 use Rattle.theta_laws.specs.Values.{Sketch, Empty, NonEmpty}

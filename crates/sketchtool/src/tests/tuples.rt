@@ -1,98 +1,13 @@
-//! Plans of tuples: how often memory is asked for, the order in which summaries are combined, and summaries that can't be
-//! written.
+//! Plans of tuples: the order in which summaries are combined, and summaries that can't be written.
 ghost use Rattle.std.specs.Prelude.{◌+◌, ◌*◌, ◌^◌, Some, None, nat_lt, if◌then◌else◌};
 
+use super::{answer_to_text, tuple_plan};
 use plan_evaluation::evaluate_tuple;
-use plan_text::{Command, Plan, read_plan};
-use refuse::Refusing;
 use sketch_base::{DEFAULT_UPDATE_SEED, Error, ErrorKind, SketchBytes, SketchSlice};
 use std::alloc::{Allocator, Global};
 use std::test::Fail;
-use theta_core::{DefaultUnionPolicy, DefaultUpdatePolicy};
-use tuple_sketches::{
-    CompactTupleSketch, SummaryCombinePolicy, SummaryPolicy, SummaryUpdatePolicy, TupleSketch,
-    TupleSketchBuilder, TupleSummaryValue, TupleUnionBuilder,
-};
-
-type Heap = Refusing<Global>;
-
-type Sums<'a> = TupleSketch<DefaultUpdatePolicy<u64>, &'a Heap>;
-
-/// The union of a leaf that is written and read back, and another leaf.
-const UNION: &str =
-    "tuple show\nunion 5 max 2\nvia unordered\nleaf 5 max 2\nadd 9 1\nadd 7 2\nleaf 5 max 1\nadd 9 3\n";
-
-/// The plan that a text asks to show.
-fn plan_of(alloc: Global, text: &str) -> Option<Plan<u64>> {
-    match read_plan(alloc, text.as_bytes()) {
-        Ok(Command::Tuple(_, plan)) => Some(plan),
-        Ok(Command::Theta(_, _)) => None,
-        Err(_) => None,
-    }
-}
-
-/// A sketch of these keys with their values.
-fn leaf<'a>(heap: &'a Heap, pairs: &[(u64, u64)]) -> Result<Sums<'a>, Error> {
-    let policy = DefaultUpdatePolicy::<u64>::default();
-    let mut sketch = TupleSketchBuilder::new(policy).lg_k(5).build(heap)?;
-    for (hash, value) in pairs {
-        sketch.update_hash(*hash, *value)?;
-    }
-    Ok(sketch)
-}
-
-/// A leaf, written and read back where that is asked.
-fn passed<'a>(
-    heap: &'a Heap,
-    is_written: bool,
-) -> Result<CompactTupleSketch<u64, &'a Heap>, Error> {
-    let sketch = leaf(heap, &[(9, 1), (7, 2)])?.compact(false)?;
-    if is_written {
-        let image = sketch.serialize()?;
-        CompactTupleSketch::deserialize_with_seed(heap, image.as_slice(), DEFAULT_UPDATE_SEED)
-    } else {
-        Ok(sketch)
-    }
-}
-
-/// What the plan comes to, by the public calls of the sketches.
-fn by_hand<'a>(
-    heap: &'a Heap,
-    is_written: bool,
-) -> Result<CompactTupleSketch<u64, &'a Heap>, Error> {
-    let policy = DefaultUnionPolicy::<u64>::default();
-    let mut union = TupleUnionBuilder::new(policy).lg_k(5).build(heap)?;
-    let first = passed(heap, is_written)?;
-    union.update(first.as_view())?;
-    let second = leaf(heap, &[(9, 3)])?;
-    union.update(second.as_view())?;
-    union.to_sketch(true)
-}
-
-/// How many requests an evaluation makes, and how many entries it comes to.
-fn evaluated(alloc: Global, plan: &Plan<u64>) -> Result<(u64, usize), Error> {
-    let heap = Refusing::new(alloc);
-    let updates = DefaultUpdatePolicy::<u64>::default();
-    let unions = DefaultUnionPolicy::<u64>::default();
-    let sketch = evaluate_tuple(&heap, plan, DEFAULT_UPDATE_SEED, updates, unions)?;
-    Ok((heap.seen(), sketch.num_retained()))
-}
-
-/// The same of the calls by hand.
-fn handmade(alloc: Global, is_written: bool) -> Result<(u64, usize), Error> {
-    let heap = Refusing::new(alloc);
-    let sketch = by_hand(&heap, is_written)?;
-    Ok((heap.seen(), sketch.num_retained()))
-}
-
-#[test]
-fn asks_for_memory_of_tuples_as_by_hand(rt: HostRuntime) -> Result<(), Fail> {
-    let plan = plan_of(rt.alloc(), UNION).ok_or("no plan")?;
-    let told = evaluated(rt.alloc(), &plan)?;
-    assert_eq!(rt; told, handmade(rt.alloc(), true)?);
-    assert!(rt; told != handmade(rt.alloc(), false)?);
-    Ok(())
-}
+use theta_core::DefaultUpdatePolicy;
+use tuple_sketches::{SummaryCombinePolicy, SummaryPolicy, SummaryUpdatePolicy, TupleSummaryValue};
 
 /// Writes the digit of a summary behind those that are there.
 #[derive(Debug, Clone, Copy)]
@@ -125,7 +40,7 @@ impl SummaryCombinePolicy for Digits {
 
 /// The first summary of what a plan comes to whose parts' summaries are combined as digits, if there is one.
 fn digits_of(alloc: Global, text: &str) -> Result<Option<u64>, Error> {
-    let Some(plan) = plan_of(alloc, text) else {
+    let Some(plan) = tuple_plan(alloc, text) else {
         return Ok(None);
     };
     let updates = DefaultUpdatePolicy::<u64>::default();
@@ -222,7 +137,7 @@ impl SummaryCombinePolicy for Marks {
 
 /// How many entries a plan of summaries that can't be written comes to, or why it is refused.
 fn marked(alloc: Global, text: &str) -> Option<Result<usize, ErrorKind>> {
-    let plan = plan_of(alloc, text)?;
+    let plan = tuple_plan(alloc, text)?;
     let sketch = evaluate_tuple(alloc, &plan, DEFAULT_UPDATE_SEED, Marks, Marks);
     Some(sketch.map(|s| s.num_retained()).map_err(|e| e.kind()))
 }

@@ -1,5 +1,5 @@
 -- What is retained, against a whole map that knows no theta.
-use Rattle.std.proofs.Common.{◌≡◌, ℕ, suc, ◌+◌, ◌*◌, ◌/◌, ◌<◌, ◌≤◌, Bool, true, false, cond, leb, ltb, eqb, IsSome, List, [], ◌∷◌, ◌++◌, length, get_or, take, Some, None, inl, inr, refl, sym, ap, ◌∙◌, subst, arith, length-append, append-nil}
+use Rattle.std.proofs.Common.{◌≡◌, ℕ, suc, ◌+◌, ◌*◌, ◌/◌, ◌<◌, ◌≤◌, min, Bool, true, false, cond, leb, ltb, eqb, IsSome, List, [], ◌∷◌, ◌++◌, length, get_or, take, Some, None, inl, inr, refl, sym, ap, ◌∙◌, subst, arith, length-append, append-nil}
 use Rattle.std.specs.Prelude.{◌&&◌, is_some}
 use Rattle.std.specs.List.{filter}
 use Rattle.std.proofs.lemmas.Bool.{cases_lt}
@@ -8,7 +8,7 @@ use Rattle.std.proofs.lemmas.List.{take-take, get_or-take, get_or_default}
 use Rattle.std.proofs.lemmas.List.Elements.{filter-append}
 use Rattle.theta_laws.specs.Step.{Step}
 use Rattle.theta_laws.specs.Maps.{IsAscending, below, above, rank, entry_at, with_entry}
-use Rattle.theta_laws.specs.Cuts.{Retained, cut}
+use Rattle.theta_laws.specs.Cuts.{Retained, retained, cut}
 use Rattle.theta_laws.specs.Insertion.{is_screened, rebuilt, after_upsert, whole_upsert}
 use Rattle.theta_laws.specs.Lawful.{IsLawful, IsWithin}
 use Rattle.theta_laws.proofs.maps.Ascending.{each-weaker, filter_each, ascending-head, ascending-tail, ascending-filter, ascending-with_entry}
@@ -221,6 +221,24 @@ module _ {X : Type 0} (key : X → ℕ) where
   entry_at-within k start v whole h within lt =
       let e : ltb h v.theta ≡ true = grind (arith, nat_tests) in
       ap (λ ys. entry_at key ys h) within.entries_are ∙ entry_at-below key whole v.theta h ∙ ap (λ b. cond b (entry_at key whole h) None) e
+
+  -- below a lesser start it stands within what the whole map has there
+  pub within-below : (k start m : ℕ) (v : Retained X) (whole : List X) → m ≤ start → IsWithin key k start v whole → IsWithin key k m (retained key v.entries (min m v.theta)) (below key whole m)
+  within-below k start m v whole le within = record {
+    ascending = ascending-filter key (λ x. ltb (key x) m) whole within.ascending;
+    entries_are = ap (λ ys. below key ys (min m v.theta)) within.entries_are ∙ below-below key whole (min m v.theta) v.theta (omega arith) ∙ sym (below-below key whole (min m v.theta) m (omega arith));
+    lawful = elim (cases_lt v.theta m) [
+      | inl lt ↦
+          let same : min m v.theta ≡ v.theta = omega (arith, lt) in
+          let e : ltb v.theta m ≡ true = grind (arith, nat_tests) in
+          let rank_is : rank key (below key whole m) v.theta ≡ rank key whole v.theta = sym (length-below key (below key whole m) v.theta) ∙ ap length (below-below key whole v.theta m (omega (arith, lt))) ∙ length-below key whole v.theta in
+          rw same (elim within.lawful [
+            | inl start_is ↦ absurd (omega (arith, start_is, lt, le))
+            | inr low ↦ inr (record { below_start = lt; is_key = rw (entry_at-below key whole m v.theta, e) low.is_key; ranked = rw rank_is low.ranked })
+          ])
+      | inr ge ↦ inl (omega (arith, ge))
+    ];
+  }
 
   pub within-upsert : (k start h : ℕ) (step : Step X) (v : Retained X) (whole : List X) → 0 < h → ((x : X) → key x ≡ h → key (step.writes x) ≡ h) → ((x : X) → step.makes ≡ Some x → key x ≡ h) → IsWithin key k start v whole → IsWithin key k start (after_upsert key k h step v) (whole_upsert key h step whole)
   within-upsert k start h step v whole nonzero keeps makes within =

@@ -8,7 +8,7 @@ use Rattle.theta_laws.specs.Maps.{IsAscending, below, above, entry_at, with_entr
 use Rattle.theta_laws.proofs.maps.Ascending.{each-weaker, ascending-head, ascending-tail}
 
 module _ {X : Type 0} (key : X → ℕ) where
-  entry_at-append : (xs ys : List X) (q : ℕ) → entry_at key (xs ++ ys) q ≡ option_map_or Some (entry_at key xs q) (entry_at key ys q)
+  pub entry_at-append : (xs ys : List X) (q : ℕ) → entry_at key (xs ++ ys) q ≡ option_map_or Some (entry_at key xs q) (entry_at key ys q)
   entry_at-append [] ys q = refl
   entry_at-append (x ∷ xs) ys q =
       elim (eqb (key x) q) as (λ b. cond b (Some x) (entry_at key (xs ++ ys) q) ≡ option_map_or Some (cond b (Some x) (entry_at key xs q)) (entry_at key ys q)) [ true ↦ refl | false ↦ entry_at-append xs ys q ]

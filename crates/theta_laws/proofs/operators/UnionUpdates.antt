@@ -1,15 +1,15 @@
 -- What an update makes of a union's value.
-use Rattle.std.proofs.Common.{◌≡◌, ℕ, ◌<◌, ◌≤◌, min, Bool, List, [], ◌∷◌, map, refl, sym, ap, ◌∙◌, subst}
+use Rattle.std.proofs.Common.{◌≡◌, ℕ, ◌<◌, ◌≤◌, min, Bool, ltb, List, [], ◌∷◌, map, refl, sym, ap, ◌∙◌, subst, arith}
 use Rattle.std.specs.List.{AllByRecursion}
 use Rattle.theta_laws.specs.Maps.{IsAscending, below, entry_at, map_of, IsApart}
-use Rattle.theta_laws.specs.Cuts.{Retained, retained, cut}
+use Rattle.theta_laws.specs.Cuts.{Retained, retained, cut, IsRetained}
 use Rattle.theta_laws.specs.Step.{merge_step}
 use Rattle.theta_laws.specs.Insertion.{after_upserts}
 use Rattle.theta_laws.specs.Lawful.{IsWithin}
 use Rattle.theta_laws.specs.Operators.{joined, unite}
 use Rattle.theta_laws.specs.Values.{Empty, NonEmpty}
 use Rattle.theta_laws.specs.Folds.{Fold, Value, fold_key, fold_merges, unmarked, never}
-use Rattle.theta_laws.proofs.maps.Ascending.{ascending-nil}
+use Rattle.theta_laws.proofs.maps.Ascending.{ascending-nil, each-filter}
 use Rattle.theta_laws.proofs.maps.MappedEntries.{below-map}
 use Rattle.theta_laws.proofs.insertions.Merges.{within-joined, within-lowered}
 use Rattle.theta_laws.proofs.insertions.Unmarked.{fold_keeps, each-marked, ascending-marked}
@@ -18,7 +18,8 @@ use Rattle.theta_laws.proofs.maps.LookUps.{same_map}
 use Rattle.theta_laws.proofs.operators.JoinedMaps.{either, entry_at-joined, ascending-joined, below-joined}
 use Rattle.theta_laws.proofs.maps.MapsOfLists.{ascending-apart, entry_at-map_of, ascending-map_of}
 use Rattle.theta_laws.proofs.operators.Unions.{cut-joined}
-use Rattle.theta_laws.proofs.cuts.WithinWholeMaps.{lawful-le, cut_below}
+use Rattle.theta_laws.proofs.cuts.Cuts.{below_all}
+use Rattle.theta_laws.proofs.cuts.WithinWholeMaps.{below-below, lawful-le, cut_below, within-below}
 use Rattle.theta_laws.specs.Entries.{KeepsKey}
 
 module _ {X : Type 0} (key : X → ℕ) (merges : X → X → X) (refuses : X → X → Bool) (keeps : KeepsKey key merges) where
@@ -34,6 +35,30 @@ module _ {X : Type 0} (key : X → ℕ) (merges : X → X → X) (refuses : X �
   -- and theta is not raised
   pub union-lowers : (k m : ℕ) (v : Retained X) (whole : List (Fold X)) → IsWithin (fold_key key) k m (unmarked v) whole → v.theta ≤ m
   union-lowers k m v whole within = lawful-le (fold_key key) whole k m v.theta within.lawful
+
+  -- where what is held is what a table retains below a theta, and what comes in is merged into that table below a theta that is no greater
+  pub union-below : (k m theta : ℕ) (kept now : Retained X) (listing : List X) → IsRetained key kept → m ≤ theta → theta ≤ kept.theta → AllByRecursion (λ x. 0 < key x) listing →
+      unmarked now ≡ after_upserts (fold_key key) k (merge_step (fold_merges key merges refuses) never) (map Value (below key listing m)) (unmarked kept) →
+      IsWithin (fold_key key) k m (unmarked (retained key now.entries (min m now.theta))) (joined (fold_key key) (fold_merges key merges refuses) (map Value (below key (below key kept.entries theta) m)) (map Value (below key listing m)))
+  union-below k m theta kept now listing good le high nonzero merged =
+      let fkey = fold_key key in
+      let fmerges = fold_merges key merges refuses in
+      let whole : List (Fold X) = joined fkey fmerges (map Value (below key kept.entries kept.theta)) (map Value (below key (below key listing m) kept.theta)) in
+      let all : retained key kept.entries kept.theta ≡ kept = ap (λ ys. record { entries = ys; theta = kept.theta }) (below_all key kept.entries kept.theta good.below_theta) in
+      let within : IsWithin fkey k kept.theta (unmarked now) whole =
+      union-joined k kept.theta kept.entries (below key listing m) now good.ascending (each-filter (λ x. 0 < key x) (λ x. ltb (key x) m) listing nonzero)
+      (merged ∙ ap (λ v. after_upserts fkey k (merge_step fmerges never) (map Value (below key listing m)) (unmarked v)) (sym all)) in
+      let held_is : below fkey (map Value (below key kept.entries kept.theta)) m ≡ map Value (below key (below key kept.entries theta) m) =
+      below-map Value key fkey (λ y. refl) (below key kept.entries kept.theta) m ∙ ap (λ ys. map Value ys) (below-below key kept.entries m kept.theta (omega (arith, le, high)) ∙ sym (below-below key kept.entries m theta le)) in
+      let come_is : below fkey (map Value (below key (below key listing m) kept.theta)) m ≡ map Value (below key listing m) =
+      below-map Value key fkey (λ y. refl) (below key (below key listing m) kept.theta) m ∙ ap (λ ys. map Value ys) (below-below key (below key listing m) m kept.theta (omega (arith, le, high)) ∙ below-below key listing m m (omega arith)) in
+      let whole_is : below fkey whole m ≡ joined fkey fmerges (map Value (below key (below key kept.entries theta) m)) (map Value (below key listing m)) =
+      below-joined fkey fmerges (fold_keeps key merges refuses keeps) (map Value (below key (below key listing m) kept.theta)) (map Value (below key kept.entries kept.theta)) m
+      ∙ ap (λ ys. joined fkey fmerges ys (below fkey (map Value (below key (below key listing m) kept.theta)) m)) held_is
+      ∙ ap (λ ys. joined fkey fmerges (map Value (below key (below key kept.entries theta) m)) ys) come_is in
+      let low : IsWithin fkey k m (record { entries = below fkey (map Value now.entries) (min m now.theta); theta = min m now.theta }) (below fkey whole m) = within-below fkey k kept.theta m (unmarked now) whole (omega (arith, le, high)) within in
+      subst (λ ys. IsWithin fkey k m (record { entries = ys; theta = min m now.theta }) (joined fkey fmerges (map Value (below key (below key kept.entries theta) m)) (map Value (below key listing m)))) (below-map Value key fkey (λ y. refl) now.entries (min m now.theta))
+      (subst (λ ys. IsWithin fkey k m (record { entries = below fkey (map Value now.entries) (min m now.theta); theta = min m now.theta }) ys) whole_is low)
 
 module _ {X : Type 0} (key : X → ℕ) (merges : X → X → X) (keeps : KeepsKey key merges) where
   -- entries join in any order

@@ -1,9 +1,12 @@
 use Rattle.std.proofs.Common.{◌^◌}
 use Rattle.sketch_base.specs.Seed.{seed_hash}
+use Rattle.theta_laws.specs.Leaf.{added, whole}
 use Rattle.theta_table.specs.Entry.{tuple_key}
 use Rattle.plan_values.specs.Family.{tuple_folds}
 use Rattle.plan_values.specs.Value.{value_in}
-use Rattle.plan_values.specs.WholeStreams.{whole_in}
+use Rattle.plan_values.specs.WholeStreams.{whole_in, whole_hashes}
+use Rattle.plan_values.proofs.AddedKeys.{tuple_keys, tuple_leaf_keys}
+use Rattle.plan_values.proofs.AddedValues.{merges_unite}
 use Rattle.plan_values.proofs.KnownFamilies.{tuple_folds_keep}
 use Rattle.plan_values.proofs.MergePlans.{merge_plan}
 use Rattle.plan_values.proofs.Samples.{sampled}
@@ -36,7 +39,8 @@ returns-clause-kmin g c = λ lg_k start merge.
     let updates = g.P.SummaryUpdatePolicy.updates c.args.update_policy in
     let combines = g.Q.SummaryCombinePolicy.combines c.args.combine_policy in
     let f = tuple_folds creates updates combines in
-    merged_keys tuple_key (2 ^ lg_k) start (whole_in f c.args.plan.now) (value_in f c.args.plan.now) (seed_hash c.args.seed) c.ordered.result
+    merged_keys tuple_key (2 ^ lg_k) start (whole_in f c.args.plan.now) (whole_hashes c.args.plan.now) (value_in f c.args.plan.now) (seed_hash c.args.seed) c.ordered.result
+    (tuple_keys creates updates combines c.args.plan.now (merges_unite _ lg_k start c.args.plan.now merge.below_it))
     (on_ok c.ordered.result c.ordered.ensures.accepted (λ accepted. merge_plan f (tuple_folds_keep creates updates combines) c.args.seed c.args.plan.now accepted lg_k start merge))
     (rw (c.new-family.ensures.updates, c.new-family.ensures.combines) at c.ordered.ensures.value)
 
@@ -46,6 +50,17 @@ returns-clause-trimmed g c = λ lg_k start steps is updated.
     let updates = g.P.SummaryUpdatePolicy.updates c.args.update_policy in
     let combines = g.Q.SummaryCombinePolicy.combines c.args.combine_policy in
     on_ok c.ordered.result c.ordered.ensures.accepted (trimmed_plan (tuple_folds creates updates combines) (tuple_folds_keep creates updates combines) c.args.seed lg_k start steps c.args.plan.now is updated)
+
+pub returns-clause-trimmed_kmin : goal.returns-clause-trimmed_kmin
+returns-clause-trimmed_kmin g c = λ lg_k start steps is updated.
+    let creates = g.P.SummaryPolicy.creates c.args.update_policy in
+    let updates = g.P.SummaryUpdatePolicy.updates c.args.update_policy in
+    let combines = g.Q.SummaryCombinePolicy.combines c.args.combine_policy in
+    let f = tuple_folds creates updates combines in
+    merged_keys tuple_key (2 ^ lg_k) start (whole f.key f.step_of steps) (added steps) (value_in f c.args.plan.now) (seed_hash c.args.seed) c.ordered.result
+    (tuple_leaf_keys creates updates combines g.row.B.Denot steps)
+    (on_ok c.ordered.result c.ordered.ensures.accepted (trimmed_plan f (tuple_folds_keep creates updates combines) c.args.seed lg_k start steps c.args.plan.now is updated))
+    (rw (c.new-family.ensures.updates, c.new-family.ensures.combines) at c.ordered.ensures.value)
 
 pub returns-clause-refused : goal.returns-clause-refused
 returns-clause-refused g c =

@@ -1,5 +1,5 @@
 use Rattle.std.proofs.Common.{◌∙◌}
-use Rattle.theta_table.specs.CompactState.{IsCompact}
+use Rattle.theta_compact.specs.CompactState.{IsCompact}
 use Rattle.theta_table.specs.Entry.{tuple_key}
 use Rattle.tuple_sketches.specs.Image.{Reads, HasValues, written}
 use Rattle.plan_evaluation.proofs.families.WrittenAndRead.{same_read, memory_alone}

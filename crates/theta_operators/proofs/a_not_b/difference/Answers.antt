@@ -1,21 +1,24 @@
-use Rattle.std.proofs.Common.{◌≡◌, true, false, ◌||◌, [], length, refl, sym, ◌∙◌, arith, rules}
+use Rattle.std.proofs.Common.{◌≡◌, ◌<◌, true, false, ◌||◌, [], length, sym, ◌∙◌, arith, rules}
 use Rattle.std.specs.Prelude.{◌&&◌, ◌==◌}
-use Rattle.theta_laws.specs.Entries.{hash_key}
 use Rattle.theta_laws.specs.declared.TheConstants.{MAX_THETA}
-use Rattle.theta_laws.proofs.maps.Ascending.{ascending-nil}
-use Rattle.theta_operators.proofs.LackingEntries.{kept_of, shown_kept, shown_below, lesser, apart_shown, answer_kept, answer_nothing, answer_all}
+use Rattle.theta_laws.proofs.maps.MapsOfLists.{each-from_map}
+use Rattle.theta_operators.proofs.LackingEntries.{kept_of, kept_all, shown_kept, shown_below, lesser, apart_shown, answer_kept, answer_nothing, answer_all}
 use Rattle.theta_operators.proofs.ToldMetadata.{told_empty, told_nonempty}
 use Rattle.theta_operators.proofs.a_not_b.difference.Goals as goal
 
-pub lacking_by_search-requires : goal.lacking_by_search-requires
-lacking_by_search-requires g c κs = ((refl, tt), (c.requires.clones_equal, (c.requires.in_order, ascending-nil hash_key)))
+pub kept_entries-requires-clause-theta_low : goal.kept_entries-requires-clause-theta_low
+kept_entries-requires-clause-theta_low g c =
+    let b = g.T.KeySketch.shown c.args.b in
+    let told = told_nonempty b _ c.in-NonEmpty.b_theta _ _ c.in-NonEmpty.ensures.told in
+    omega (arith, c.min-theta.ensures, c.requires.sound.theta_low, c.requires.of_theta, told.theta_is, c.metadata.ensures.is_sound.theta_low)
 
 pub state_of-requires : goal.state_of-requires
 state_of-requires g c =
     let key = g.S.Entry.SketchEntry.key in
     let a = g.S.KeySketch.shown c.args.a in
     let kept = c.in_ok-kept-in-Empty.ensures in
-    rw (kept.ok, ← c.requires.in_order) (shown_kept key a (g.S.EntrySketch.listing c.args.a) [] c.args.a_theta c.args.seed_hash c.requires.sound kept.listed (omega (arith, c.requires.of_theta, c.requires.sound.theta_low)) (omega (arith, c.requires.of_theta)))
+    let all = kept.all ∙ sym (kept_all key (g.S.EntrySketch.listing c.args.a) c.args.a_theta (each-from_map key (λ h. h < c.args.a_theta) _ (rw (kept.listed, ← c.requires.of_theta) c.requires.sound.below_theta))) in
+    rw (all, ← c.requires.in_order) (shown_kept key a (g.S.EntrySketch.listing c.args.a) [] c.args.a_theta c.args.seed_hash c.requires.sound kept.listed (omega (arith, c.requires.of_theta, c.requires.sound.theta_low)) (omega (arith, c.requires.of_theta)))
 
 pub returns-in_ok-kept-in-Empty-clause-ok : goal.returns-in_ok-kept-in-Empty-clause-ok
 returns-in_ok-kept-in-Empty-clause-ok g c =
@@ -23,8 +26,9 @@ returns-in_ok-kept-in-Empty-clause-ok g c =
     let a = g.S.KeySketch.shown c.args.a in
     let b = g.T.KeySketch.shown c.args.b in
     let kept = c.in_ok-kept-in-Empty.ensures in
+    let all = kept.all ∙ sym (kept_all key (g.S.EntrySketch.listing c.args.a) c.args.a_theta (each-from_map key (λ h. h < c.args.a_theta) _ (rw (kept.listed, ← c.requires.of_theta) c.requires.sound.below_theta))) in
     let empty : b.empty ≡ true = told_empty b _ c.in-Empty.ensures.told in
-    rw (c.requires.of_seed, c.requires.in_order) (answer_all key a b (g.S.EntrySketch.listing c.args.a) b.hashes c.args.seed_hash (c.args.asked || c.args.a_ordered) c.state_of.result c.requires.nonempty empty c.requires.sound kept.listed (rw (c.requires.of_theta, ← kept.ok) c.state_of.ensures))
+    rw (c.requires.of_seed, c.requires.in_order) (answer_all key a b (g.S.EntrySketch.listing c.args.a) b.hashes c.args.seed_hash (c.args.asked || c.args.a_ordered) c.state_of.result c.requires.nonempty empty c.requires.sound kept.listed (rw (c.requires.of_theta, ← all) c.state_of.ensures))
 
 pub state_of-requires-in-NonEmpty : goal.state_of-requires-in-NonEmpty
 state_of-requires-in-NonEmpty g c =

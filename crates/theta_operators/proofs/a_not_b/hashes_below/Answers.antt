@@ -15,7 +15,7 @@ collect_each-preserved g c =
     record {
       may_go_on = g.met.T.KeySketch.may_go_on c.next.new.self;
       ends = g.met.T.KeySketch.ends c.next.new.self;
-      rest = rw c.in_ok-push.ensures.items (below_more c.collect_each.keys.items c.in-Some.hash left c.args.theta (grind (arith, nat_tests, c.if-hash-theta.false))) ∙ rw shape at was.rest;
+      rest = rw (c.in_ok-push.ensures.items, c.of_hash.ensures) (below_more c.collect_each.keys.items c.in-Some.hash left c.args.theta (grind (arith, nat_tests, c.if-hash-theta.false))) ∙ rw shape at was.rest;
       in_order = λ e. ascending-tail hash_key c.in-Some.hash left (rw shape at (was.in_order e));
     }
 

@@ -1,21 +1,21 @@
-use Rattle.std.proofs.Common.{sym, ◌∙◌}
-use Rattle.std.proofs.lemmas.List.Sorted.{IsNonDecreasingBy-from_sort}
-use Rattle.theta_laws.specs.Entries.{hash_key}
-use Rattle.theta_laws.proofs.maps.Ascending.{ascending-filter}
-use Rattle.theta_operators.proofs.LackingEntries.{below_apart}
-use Rattle.theta_operators.proofs.OtherOrders.{sorted_map, map_of-ascending}
+use Rattle.std.proofs.Common.{ℕ, ◌<◌, ◌^◌, ltb}
+use Rattle.std.proofs.lemmas.Bool.{ltb-true}
+use Rattle.theta_laws.proofs.maps.Ascending.{each-filter, each-passes}
+use Rattle.theta_operators.proofs.LookUpSeed.{look_up_seed}
+use Rattle.theta_operators.proofs.LackingEntries.{below_apart, below_few}
 use Rattle.theta_operators.proofs.a_not_b.keys_of.Goals as goal
-use Rattle.theta_operators.proofs.a_not_b.keys_of.Goals.{then-not-ordered, else-not-ordered}
 
-pub returns-clause-ok : goal.returns-clause-ok
-returns-clause-ok g c =
-    let hashes = (g.T.KeySketch.shown c.args.sketch).hashes in
-    let sound = c.in_ok-keys.ensures.sound in
-    let all = c.in_ok-keys.ensures.ok in
-    elim c.if-not-ordered.branch [
-      | then-not-ordered w ↦
-          let moved = rw all at w.sort_unstable.ensures.permutation in
-          rw w.keys-is (sorted_map hash_key _ _ moved (IsNonDecreasingBy-from_sort hash_key _ w.sort_unstable.ensures.sorted) (below_apart hashes c.args.theta sound.distinct))
-      | else-not-ordered w ↦
-          rw w.keys-is (all ∙ sym (map_of-ascending hash_key _ (ascending-filter hash_key _ hashes (sound.ascending (c.requires ∙ w.if-not-ordered.false)))))
-    ]
+pub table_of-requires-clause-apart : goal.table_of-requires-clause-apart
+table_of-requires-clause-apart g c = rw c.in_ok-keys.ensures.ok (below_apart (g.T.KeySketch.shown c.args.sketch).hashes c.args.theta c.in_ok-keys.ensures.sound.distinct)
+
+pub table_of-requires-clause-nonzero : goal.table_of-requires-clause-nonzero
+table_of-requires-clause-nonzero g c = rw c.in_ok-keys.ensures.ok (each-filter (λ h. 0 < h) (λ h. ltb h c.args.theta) (g.T.KeySketch.shown c.args.sketch).hashes c.in_ok-keys.ensures.sound.nonzero)
+
+pub table_of-requires-clause-below_theta : goal.table_of-requires-clause-below_theta
+table_of-requires-clause-below_theta g c = rw c.in_ok-keys.ensures.ok (each-passes (λ (h : ℕ). h < c.args.theta) (λ h. ltb h c.args.theta) (λ h e. ltb-true h c.args.theta e) (g.T.KeySketch.shown c.args.sketch).hashes)
+
+pub table_of-requires-clause-few : goal.table_of-requires-clause-few
+table_of-requires-clause-few g c = rw c.in_ok-keys.ensures.ok (below_few (g.T.KeySketch.shown c.args.sketch).hashes c.args.theta (2 ^ 32) c.in_ok-keys.ensures.sound.few)
+
+pub table_of-requires-clause-of_seed : goal.table_of-requires-clause-of_seed
+table_of-requires-clause-of_seed g c = look_up_seed

@@ -29,9 +29,9 @@ look_up_each-preserved-in_ok-push g c =
     let shape : c.look_up_each.entry-iterator.rest ≡ x ∷ left = c.in-Some.ensures.steps.0 in
     let hash_is : c.hash-hash.result ≡ key x = c.hash-hash.ensures in
     let same : c.in_ok-clone.field-0 ≡ x = c.requires.clones_equal x c.in_ok-clone.field-0 c.in_ok-clone.ensures.cases in
-    let test : (ltb (key x) c.args.theta && is_none (entry_at hash_key c.args.keys.now (key x))) ≡ true = rw (← hash_is) (sym c.is_kept.ensures ∙ c.if-is_kept.true) in
+    let test : (ltb (key x) c.args.theta && is_none (entry_at hash_key c.args.keys.now.map.kept.entries (key x))) ≡ true = rw (← hash_is) (sym c.is_kept.ensures ∙ c.if-is_kept.true) in
     record {
-      rest = rw (c.in_ok-push.ensures.items, same) (kept_more key c.look_up_each.kept.items x left c.args.keys.now c.args.theta test) ∙ rw shape at was.rest;
+      rest = rw (c.in_ok-push.ensures.items, same) (kept_more key c.look_up_each.kept.items x left c.args.keys.now.map.kept.entries c.args.theta test) ∙ rw shape at was.rest;
       in_order = λ e. ascending-tail key x left (rw shape at (was.in_order e));
     }
 
@@ -43,9 +43,9 @@ look_up_each-preserved g c =
     let left = c.next.new.self.rest in
     let shape : c.look_up_each.entry-iterator.rest ≡ x ∷ left = c.in-Some.ensures.steps.0 in
     let hash_is : c.hash-hash.result ≡ key x = c.hash-hash.ensures in
-    let test : (ltb (key x) c.args.theta && is_none (entry_at hash_key c.args.keys.now (key x))) ≡ false = rw (← hash_is) (sym c.is_kept.ensures ∙ c.if-is_kept.false) in
+    let test : (ltb (key x) c.args.theta && is_none (entry_at hash_key c.args.keys.now.map.kept.entries (key x))) ≡ false = rw (← hash_is) (sym c.is_kept.ensures ∙ c.if-is_kept.false) in
     record {
-      rest = kept_same key c.look_up_each.kept.items x left c.args.keys.now c.args.theta test ∙ rw shape at was.rest;
+      rest = kept_same key c.look_up_each.kept.items x left c.args.keys.now.map.kept.entries c.args.theta test ∙ rw shape at was.rest;
       in_order = λ e. ascending-tail key x left (rw shape at (was.in_order e));
     }
 
@@ -63,5 +63,5 @@ returns-clause-ok g c =
           let shape : c.look_up_each.entry-iterator.rest ≡ x ∷ left = w.in-Some.ensures.steps.0 in
           let past = w.is_past.ensures.0 w.if-is_past.true in
           let hash_is : w.hash-hash.result ≡ key x = w.hash-hash.ensures in
-          ap (λ zs. done ++ zs) (sym (kept_stops key x left c.args.keys.now c.args.theta (rw shape at (was.in_order past.0)) (rw (← hash_is) past.1))) ∙ rw shape at was.rest
+          ap (λ zs. done ++ zs) (sym (kept_stops key x left c.args.keys.now.map.kept.entries c.args.theta (rw shape at (was.in_order past.0)) (rw (← hash_is) past.1))) ∙ rw shape at was.rest
     ]

@@ -8,7 +8,7 @@ abbrev pub invariant-look_up_each : goal.invariant-look_up_each
 invariant-look_up_each g l =
     let key = g.S.Entry.SketchEntry.key in
     record {
-      rest : l.kept.items ++ kept_of key l.entry-iterator.rest l.keys l.theta ≡ kept_of key (g.S.EntrySketch.listing l.fn.a) l.keys l.theta;
+      rest : l.kept.items ++ kept_of key l.entry-iterator.rest l.keys.map.kept.entries l.theta ≡ kept_of key (g.S.EntrySketch.listing l.fn.a) l.keys.map.kept.entries l.theta;
       in_order : l.ordered ≡ true → IsAscending key l.entry-iterator.rest;
     }
 

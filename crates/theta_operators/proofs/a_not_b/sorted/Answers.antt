@@ -1,6 +1,6 @@
 use Rattle.std.proofs.Common.{rules}
 use Rattle.std.proofs.lemmas.List.Sorted.{IsNonDecreasingBy-from_sort_by_key}
-use Rattle.theta_operators.proofs.OtherOrders.{sorted_map}
+use Rattle.theta_table.proofs.OtherOrders.{sorted_map}
 use Rattle.theta_operators.proofs.a_not_b.sorted.Goals as goal
 
 pub returns : goal.returns

@@ -1,28 +1,27 @@
 use Rattle.std.proofs.Common.{◌≡◌, false, sym, subst, ◌∙◌}
-use Rattle.std.proofs.lemmas.Result.{err_from_is_err_and}
 use Rattle.std.specs.Prelude.{MatchOption}
 use Rattle.theta_family.specs.View.{shows, lends}
 use Rattle.theta_operators.specs.Union.{IsBroken, IsJoined, update_refusal}
 use Rattle.theta_policies.specs.Summaries.{combined, combine_refused, combined-keeps}
 use Rattle.theta_table.specs.Entry.{tuple_key}
 use Rattle.plan_values.specs.Family.{tuples}
+use Rattle.plan_evaluation.proofs.evaluation.Results.{on_both, if_refused}
 use Rattle.plan_evaluation.proofs.families.Held.{holds_more}
 use Rattle.plan_evaluation.proofs.families.Joining.{joins_plain}
 use Rattle.plan_evaluation.proofs.families.Refusals.{refused_join}
 use Rattle.plan_evaluation.proofs.families.Shown.{apart_lent}
 use Rattle.plan_evaluation.proofs.tuple.TupleFamilySketchFamily.join.Goals as goal
 
-pub returns-in_err-update-clause-refused : goal.returns-in_err-update-clause-refused
-returns-in_err-update-clause-refused g c =
-    let p = err_from_is_err_and c.from_residual.result c.from_residual.ensures.1 in
+pub returns-clause-refused : goal.returns-clause-refused
+returns-clause-refused g c =
     let f = c.args.self.now in
     let combines = g.Q.SummaryCombinePolicy.combines f.combines in
     let view = c.view-shown.result in
     let old = c.args.union.now.state in
     let new = c.update.new.self.state in
-    let e = c.in_err-update.field-0.0 in
-    let refused = subst (λ q. MatchOption (update_refusal old (shows tuple_key view)) (IsBroken tuple_key (combine_refused (g.Q.SummaryCombinePolicy.combines q)) old new (shows tuple_key view) (lends view) e) (λ kind. (e ≡ kind) × (new ≡ old))) c.requires.own c.in_err-update.ensures.refused in
-    rw (p.1, p.2) (refused_join (tuples (g.P.SummaryPolicy.creates f.updates) (g.P.SummaryUpdatePolicy.updates f.updates) combines) (combine_refused combines) (combined-keeps combines) old new (shows tuple_key view) (lends view)
+    if_refused c.update.result c.update.ensures.refused (λ e told.
+    let refused = subst (λ q. MatchOption (update_refusal old (shows tuple_key view)) (IsBroken tuple_key (combine_refused (g.Q.SummaryCombinePolicy.combines q)) old new (shows tuple_key view) (lends view) e) (λ kind. (e ≡ kind) × (new ≡ old))) c.requires.own told in
+    refused_join (tuples (g.P.SummaryPolicy.creates f.updates) (g.P.SummaryUpdatePolicy.updates f.updates) combines) (combine_refused combines) (combined-keeps combines) old new (shows tuple_key view) (lends view)
     c.requires.at_work (c.requires.same_seed ∙ sym c.view-shown.ensures.seed) _ c.view-shown.ensures.value e refused)
 
 pub returns-clause-joins : goal.returns-clause-joins
@@ -32,9 +31,10 @@ returns-clause-joins g c =
     let view = c.view-shown.result in
     let old = c.args.union.now.state in
     let new = c.update.new.self.state in
-    let joined = subst (λ q. (shows tuple_key view).empty ≡ false → IsJoined tuple_key (combined (g.Q.SummaryCombinePolicy.combines q)) (combine_refused (g.Q.SummaryCombinePolicy.combines q)) old new (shows tuple_key view).theta (lends view)) c.requires.own c.in_ok-update.ensures.joined in
+    on_both c.update.result c.update.ensures.skipped c.update.ensures.joined (λ skipped told.
+    let joined = subst (λ q. (shows tuple_key view).empty ≡ false → IsJoined tuple_key (combined (g.Q.SummaryCombinePolicy.combines q)) (combine_refused (g.Q.SummaryCombinePolicy.combines q)) old new (shows tuple_key view).theta (lends view)) c.requires.own told in
     joins_plain (tuples (g.P.SummaryPolicy.creates f.updates) (g.P.SummaryUpdatePolicy.updates f.updates) combines) (combine_refused combines) (combined-keeps combines) old new (shows tuple_key view) (lends view)
-    c.update.ensures.sound c.requires.at_work c.update.ensures.held.ascending (apart_lent tuple_key view.sketch c.num_retained.ensures.sound) c.in_ok-update.ensures.skipped joined _ c.view-shown.ensures.value
+    c.update.ensures.sound c.requires.at_work c.update.ensures.held.ascending (apart_lent tuple_key view.sketch c.num_retained.ensures.sound) skipped joined _ c.view-shown.ensures.value)
 
 pub returns-clause-holds : goal.returns-clause-holds
 returns-clause-holds g c =
@@ -43,6 +43,7 @@ returns-clause-holds g c =
     let view = c.view-shown.result in
     let old = c.args.union.now.state in
     let new = c.update.new.self.state in
-    let joined = subst (λ q. (shows tuple_key view).empty ≡ false → IsJoined tuple_key (combined (g.Q.SummaryCombinePolicy.combines q)) (combine_refused (g.Q.SummaryCombinePolicy.combines q)) old new (shows tuple_key view).theta (lends view)) c.requires.own c.in_ok-update.ensures.joined in
+    on_both c.update.result c.update.ensures.skipped c.update.ensures.joined (λ skipped told.
+    let joined = subst (λ q. (shows tuple_key view).empty ≡ false → IsJoined tuple_key (combined (g.Q.SummaryCombinePolicy.combines q)) (combine_refused (g.Q.SummaryCombinePolicy.combines q)) old new (shows tuple_key view).theta (lends view)) c.requires.own told in
     holds_more (tuples (g.P.SummaryPolicy.creates f.updates) (g.P.SummaryUpdatePolicy.updates f.updates) combines) (combine_refused combines) (combined-keeps combines) old new (shows tuple_key view) (lends view)
-    (apart_lent tuple_key view.sketch c.num_retained.ensures.sound) c.in_ok-update.ensures.skipped joined _ c.view-shown.ensures.value
+    (apart_lent tuple_key view.sketch c.num_retained.ensures.sound) skipped joined _ c.view-shown.ensures.value)

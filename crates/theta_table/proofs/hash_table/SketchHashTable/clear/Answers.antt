@@ -1,11 +1,16 @@
-use Rattle.std.proofs.Common.{arith}
-use Rattle.theta_laws.proofs.maps.Ascending.{ascending-nil}
+use Rattle.std.proofs.Common.{◌≡◌, map, length, sym, ◌∙◌, rules, arith}
+use Rattle.theta_slots.proofs.Held.{length-held}
+use Rattle.theta_table.proofs.Counting.{counted_fewer}
+use Rattle.theta_table.proofs.Slotted.{slotted_cleared}
 use Rattle.theta_table.proofs.hash_table.SketchHashTable.clear.Goals as goal
 
 pub invariant_of-self : goal.invariant_of-self
-invariant_of-self g c = rw c.clear.ensures.items (record {
-  kept = record { ascending = ascending-nil _; nonzero = tt; below_theta = tt; theta_low = c.self.invariant.kept.theta_low; theta_high = c.self.invariant.kept.theta_high };
-  few = λ _. omega arith;
-  made = c.self.invariant.made;
-  without_slots = c.self.invariant.without_slots;
-})
+invariant_of-self g c =
+    let held = g.E.SlotEntry.held in
+    let slots = c.self.inside.slots.items in
+    let after = c.clear_slots.new.slots.items in
+    let same : length after ≡ length slots = search rules in
+    record {
+      slotted = slotted_cleared g.E.SketchEntry.key _ c.self.inside.lg_cur_size _ c.self.inside.count (map held slots) (map held after) c.self.invariant.slotted c.clear_slots.ensures.free (length-held held after ∙ same ∙ sym (length-held held slots));
+      counted = counted_fewer c.self.inside.lg_cur_size c.self.inside.lg_nom_size c.self.inside.count _ c.self.invariant.counted 0 (omega arith);
+    }

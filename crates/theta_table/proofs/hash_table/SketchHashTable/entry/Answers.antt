@@ -1,11 +1,21 @@
-use Rattle.std.proofs.Common.{sym, ap, ◌∙◌, Some}
-use Rattle.theta_laws.proofs.maps.Insertions.{entry_at_gap, entry_at_place}
+use Rattle.std.proofs.Common.{map, sym, ap, ◌∙◌}
+use Rattle.theta_laws.specs.Maps.{entry_at, map_of}
+use Rattle.theta_slots.specs.Layout.{filled}
+use Rattle.theta_slots.proofs.Held.{slot-map, length-held}
+use Rattle.theta_slots.proofs.Layouts.{search_finds}
 use Rattle.theta_table.proofs.hash_table.SketchHashTable.entry.Goals as goal
 
-pub returns-in-Err : goal.returns-in-Err
-returns-in-Err g c = rw (← c.self.view_is) (sym (entry_at_gap _ _ _ _ (rw c.deref.ensures.value at c.in-Err.ensures.absent)))
+pub returns-then-not-has_slots : goal.returns-then-not-has_slots
+returns-then-not-has_slots g c = rw (← c.self.view_is) (sym (ap (λ s. entry_at g.E.SketchEntry.key (map_of g.E.SketchEntry.key (filled s)) c.args.hash) (c.self.invariant.slotted.without c.if-not-has_slots.true)))
 
-pub returns-in-Ok : goal.returns-in-Ok
-returns-in-Ok g c =
-    let found = rw c.deref.ensures.value at c.in-Ok.ensures.found in
-    rw (← c.self.view_is) (ap Some c.index.ensures ∙ sym (entry_at_place _ _ _ _ c.index.result.now c.self.invariant.kept.ascending found))
+pub seek-place-requires-clause-size : goal.seek-place-requires-clause-size
+seek-place-requires-clause-size g c = rw c.deref.ensures.value (sym (length-held g.E.SlotEntry.held c.self.inside.slots.items) ∙ (c.self.invariant.slotted.laid_out c.if-not-has_slots.false).size)
+
+pub returns : goal.returns
+returns g c =
+    let held = g.E.SlotEntry.held in
+    let found = rw c.deref.ensures.value at c.seek-place.ensures in
+    let slots = map held c.self.inside.slots.items in
+    rw (← c.self.view_is)
+    (c.in_slot.ensures ∙ ap held c.index.ensures ∙ sym (slot-map held c.self.inside.slots.items c.seek-place.result.at c.index.result.now found.inside)
+    ∙ sym (search_finds g.E.SketchEntry.key c.self.inside.lg_cur_size c.args.hash c.seek-place.result.at slots (c.self.invariant.slotted.laid_out c.if-not-has_slots.false) found.on_path found.ends))

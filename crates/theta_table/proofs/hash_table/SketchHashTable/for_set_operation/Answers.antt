@@ -1,18 +1,15 @@
-use Rattle.std.proofs.Common.{arith, inl, inr}
-use Rattle.std.proofs.lemmas.Bool.Decides.{nat_tests}
-use Rattle.theta_laws.proofs.maps.Ascending.{ascending-nil}
+use Rattle.std.proofs.Common.{map, ◌∙◌}
+use Rattle.theta_slots.proofs.Held.{length-held}
+use Rattle.theta_table.proofs.Counting.{counted_nothing}
+use Rattle.theta_table.proofs.Slotted.{slotted_operator}
 use Rattle.theta_table.proofs.hash_table.SketchHashTable.for_set_operation.Goals as goal
 
 pub invariant_of-result : goal.invariant_of-result
-invariant_of-result g c = rw c.new.ensures.items (record {
-  kept = record { ascending = ascending-nil _; nonzero = tt; below_theta = tt; theta_low = c.requires.theta_low; theta_high = c.requires.theta_high };
-  few = λ _. omega arith;
-  made = record {
-    lg_nom_high = elim c.requires.sized [ inl cur ↦ omega (arith, cur, c.requires.size_high) | inr none ↦ omega (arith, none.1) ];
-    start_low = omega arith;
-    start_high = omega arith;
-    of_seed = c.requires.of_seed.0;
-    hash_low = c.requires.of_seed.1;
-  };
-  without_slots = λ without. elim c.requires.sized [ inl cur ↦ absurd (grind (arith, nat_tests, cur, without)) | inr none ↦ none.1 ];
-})
+invariant_of-result g c =
+    let held = g.E.SlotEntry.held in
+    let slots = c.in_ok-slots.slots.items in
+    record {
+      slotted = slotted_operator g.E.SketchEntry.key c.args.lg_cur_size c.args.lg_nom_size c.args.retention_theta c.args.seed c.args.seed_hash (map held slots) c.requires.sized c.requires.size_high c.requires.theta_low c.requires.theta_high c.requires.of_seed
+          (length-held held slots ∙ c.in_ok-slots.ensures.size) c.in_ok-slots.ensures.free;
+      counted = rw c.nothing.ensures (counted_nothing c.args.lg_cur_size c.args.lg_nom_size);
+    }

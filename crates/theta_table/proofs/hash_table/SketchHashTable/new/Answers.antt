@@ -1,17 +1,21 @@
-use Rattle.std.proofs.Common.{arith}
-use Rattle.theta_laws.proofs.maps.Ascending.{ascending-nil}
+use Rattle.std.proofs.Common.{map, ◌∙◌, arith}
+use Rattle.theta_table.proofs.Counting.{counted_nothing}
+use Rattle.theta_slots.proofs.Held.{length-held}
+use Rattle.theta_table.proofs.Slotted.{slotted_new}
 use Rattle.theta_table.proofs.hash_table.SketchHashTable.new.Goals as goal
 
 pub invariant_of-result : goal.invariant_of-result
-invariant_of-result g c = rw c.new-2.ensures.items (record {
-  kept = record { ascending = ascending-nil _; nonzero = tt; below_theta = tt; theta_low = omega arith; theta_high = omega arith };
-  few = λ _. omega arith;
-  made = record {
-    lg_nom_high = omega arith;
-    start_low = omega arith;
-    start_high = omega arith;
-    of_seed = c.in_ok-seed_hash.ensures.ok;
-    hash_low = rw c.in_ok-seed_hash.ensures.ok (omega (arith, c.in_ok-seed_hash.ensures.nonzero));
-  };
-  without_slots = λ without. absurd (cc);
-})
+invariant_of-result g c =
+    let held = g.E.SlotEntry.held in
+    record {
+      slotted = slotted_new g.E.SketchEntry.key c.args.lg_nom_size c.args.starting_theta c.args.seed c.in_ok-seed_hash.seed_hash c.args.starting_theta c.starting_size-lg_cur_size.result _ (map held c.in_ok-slots.slots.items)
+          c.in_ok-slots.ensures.free (length-held held c.in_ok-slots.slots.items ∙ c.in_ok-slots.ensures.size) (rw c.lg_value.ensures at c.starting_size-lg_cur_size.ensures.sized) (omega arith) (omega arith)
+          (record {
+            lg_nom_high = omega arith;
+            start_low = omega arith;
+            start_high = omega arith;
+            of_seed = c.in_ok-seed_hash.ensures.ok;
+            hash_low = rw c.in_ok-seed_hash.ensures.ok (omega (arith, c.in_ok-seed_hash.ensures.nonzero));
+          });
+      counted = rw c.nothing.ensures (counted_nothing c.starting_size-lg_cur_size.result c.args.lg_nom_size);
+    }

@@ -1,38 +1,40 @@
-use Rattle.std.proofs.Common.{◌≡◌, ℕ, ◌<◌, ◌≤◌, ◌^◌, arith, ap, ◌∙◌, length, refl, rules}
-use Rattle.theta_laws.proofs.maps.MapsOfLists.{lent-ascending}
+use Rattle.std.proofs.Common.{◌≡◌, ◌≤◌, ◌^◌, ℕ, map, length, ap, arith}
 use Rattle.std.proofs.Math.Pow.{pow_mono}
-use Rattle.theta_laws.specs.Cuts.{cut, IsRetained}
-use Rattle.theta_laws.proofs.insertions.Cases.{IsRetained-cut, length-cut}
-use Rattle.theta_table.proofs.LawsOfShown.{IsShown-retained}
+use Rattle.theta_laws.specs.Maps.{map_of}
+use Rattle.theta_laws.specs.Cuts.{cut, retained}
+use Rattle.theta_slots.specs.Layout.{filled}
+use Rattle.theta_table.proofs.Slotted.{slotted_lends}
+use Rattle.theta_laws.proofs.insertions.Cases.{IsRetained-below, length-cut}
 use Rattle.theta_table.proofs.hash_table.SketchHashTable.to_cut_state.Goals as goal
 
-pub non_empty-requires : goal.non_empty-requires
-non_empty-requires g c =
+pub cut_theta-requires-clause-apart : goal.cut_theta-requires-clause-apart
+cut_theta-requires-clause-apart g c = rw c.deref.ensures.value (slotted_lends g.E.SketchEntry.key _ _ _ _ _ c.self.invariant.slotted).apart
+
+pub cut_theta-requires-clause-nonzero : goal.cut_theta-requires-clause-nonzero
+cut_theta-requires-clause-nonzero g c = rw c.deref.ensures.value c.self.invariant.slotted.table.kept.nonzero
+
+pub state_below-requires-clause-apart : goal.state_below-requires-clause-apart
+state_below-requires-clause-apart g c = rw c.deref-2.ensures.value (slotted_lends g.E.SketchEntry.key _ _ _ _ _ c.self.invariant.slotted).apart
+
+pub state_below-requires-clause-sound : goal.state_below-requires-clause-sound
+state_below-requires-clause-sound g c =
+    let kept = c.self.invariant.slotted.table.kept in
+    let m = map_of g.E.SketchEntry.key (filled (map g.E.SlotEntry.held c.self.inside.slots.items)) in
+    rw c.deref-2.ensures.value (IsRetained-below g.E.SketchEntry.key m c.self.inside.theta c.in_ok-lesser.lesser kept c.in_ok-lesser.ensures.low (omega (arith, c.in_ok-lesser.ensures.high, rw (← c.self.view_is) at c.requires.high)))
+
+pub state_below-requires-clause-few : goal.state_below-requires-clause-few
+state_below-requires-clause-few g c =
     let key = g.E.SketchEntry.key in
-    let same : c.in_ok-entries.entries.items ≡ c.self.inside.entries.items = c.in_ok-entries.ensures.items_if_clones_equal c.requires.clones_equal ∙ c.deref.ensures.value in
-    let is_cut = c.cut_entries-theta.ensures in
-    let good : IsRetained key (record { entries = c.cut_entries-theta.new.entries.items; theta = c.cut_entries-theta.result }) =
-    rw (is_cut, same) (IsRetained-cut key _ c.self.inside.entries.items c.self.inside.theta c.self.invariant.kept) in
-    let few : length c.cut_entries-theta.new.entries.items < 2 ^ 32 =
-    let low : length (cut key c.nominal_size-nominal.result c.in_ok-entries.entries.items c.self.inside.theta).entries ≤ c.nominal_size-nominal.result = length-cut key _ c.in_ok-entries.entries.items c.self.inside.theta (rw same c.self.invariant.kept.ascending) in
+    let m = map_of key (filled (map g.E.SlotEntry.held c.self.inside.slots.items)) in
+    let k : ℕ = c.nominal_size-nominal.result in
+    let is_cut : cut key k m c.args.theta ≡ retained key m c.in_ok-lesser.lesser = rw c.deref.ensures.value at c.in_ok-lesser.ensures.cut in
+    let few = length-cut key k m c.args.theta c.self.invariant.slotted.table.kept.ascending in
     let power : 2 ^ c.self.inside.lg_nom_size ≤ 2 ^ 26 = pow_mono (rw (← c.self.view_is) at c.requires.small) in
-    omega (arith, low, ap (λ v. length v.entries) is_cut, power, c.nominal_size-nominal.ensures.power) in
-    IsShown-retained key (record { entries = c.cut_entries-theta.new.entries.items; theta = c.cut_entries-theta.result }) _ _ good few
+    rw c.deref-2.ensures.value (omega (arith, few, ap (λ v. length v.entries) is_cut, power, c.nominal_size-nominal.ensures.power))
 
 pub returns-clause-ok : goal.returns-clause-ok
 returns-clause-ok g c =
     let key = g.E.SketchEntry.key in
-    let same : c.in_ok-entries.entries.items ≡ c.self.inside.entries.items = c.in_ok-entries.ensures.items_if_clones_equal c.requires.clones_equal ∙ c.deref.ensures.value in
-    let k = 2 ^ c.self.inside.lg_nom_size in
-    let kept = c.self.inside.entries.items in
-    let is : record { entries = c.cut_entries-theta.new.entries.items; theta = c.cut_entries-theta.result } ≡ cut key k kept c.self.inside.theta =
-    c.cut_entries-theta.ensures ∙ ap (λ xs. cut key c.nominal_size-nominal.result xs c.self.inside.theta) same ∙ ap (λ (n : ℕ). cut key n kept c.self.inside.theta) c.nominal_size-nominal.ensures.power in
-    let good : IsRetained key (record { entries = c.cut_entries-theta.new.entries.items; theta = c.cut_entries-theta.result }) = rw is (IsRetained-cut key k kept c.self.inside.theta c.self.invariant.kept) in
-    rw (← c.self.view_is, ← is) (record {
-      nonempty = search rules;
-      same_theta = search rules;
-      same_seed = search rules;
-      ordered_if = search rules;
-      lists_all = rw c.non_empty.ensures (lent-ascending key c.cut_entries-theta.new.entries.items good.ascending);
-      in_order = λ _. rw c.non_empty.ensures refl;
-    })
+    let m = map_of key (filled (map g.E.SlotEntry.held c.self.inside.slots.items)) in
+    let is_cut : cut key c.nominal_size-nominal.result m c.args.theta ≡ retained key m c.in_ok-lesser.lesser = rw c.deref.ensures.value at c.in_ok-lesser.ensures.cut in
+    rw (← c.self.view_is, ← c.nominal_size-nominal.ensures.power, is_cut) (rw c.deref-2.ensures.value at c.in_ok-state.ensures.ok)

@@ -1,22 +1,26 @@
-use Rattle.std.proofs.Common.{◌≡◌, ◌∙◌, refl, rules}
-use Rattle.theta_laws.proofs.maps.MapsOfLists.{lent-ascending}
-use Rattle.theta_table.proofs.LawsOfShown.{IsShown-retained}
+use Rattle.std.proofs.Common.{map, arith}
+use Rattle.theta_laws.specs.Maps.{map_of}
+use Rattle.theta_slots.specs.Layout.{filled}
+use Rattle.theta_laws.proofs.cuts.Cuts.{below_all}
+use Rattle.theta_table.proofs.Slotted.{slotted_lends}
+use Rattle.theta_laws.proofs.insertions.Cases.{IsRetained-below}
 use Rattle.theta_table.proofs.hash_table.SketchHashTable.to_non_empty_compact_state.Goals as goal
 
-pub non_empty-requires : goal.non_empty-requires
-non_empty-requires g c =
-    let same : c.in_ok-entries.entries.items ≡ c.self.inside.entries.items = c.in_ok-entries.ensures.items_if_clones_equal c.requires.clones_equal ∙ c.deref.ensures.value in
-    rw same (IsShown-retained g.E.SketchEntry.key (record { entries = c.self.inside.entries.items; theta = c.self.inside.theta }) _ _ c.self.invariant.kept (rw (← c.self.view_is) at c.requires.count_fits))
+pub state_below-requires-clause-apart : goal.state_below-requires-clause-apart
+state_below-requires-clause-apart g c = rw c.deref.ensures.value (slotted_lends g.E.SketchEntry.key _ _ _ _ _ c.self.invariant.slotted).apart
+
+pub state_below-requires-clause-sound : goal.state_below-requires-clause-sound
+state_below-requires-clause-sound g c =
+    let kept = c.self.invariant.slotted.table.kept in
+    let m = map_of g.E.SketchEntry.key (filled (map g.E.SlotEntry.held c.self.inside.slots.items)) in
+    rw c.deref.ensures.value (IsRetained-below g.E.SketchEntry.key m c.self.inside.theta c.self.inside.theta kept kept.theta_low (omega arith))
+
+pub state_below-requires-clause-few : goal.state_below-requires-clause-few
+state_below-requires-clause-few g c =
+    let m = map_of g.E.SketchEntry.key (filled (map g.E.SlotEntry.held c.self.inside.slots.items)) in
+    rw (c.deref.ensures.value, below_all g.E.SketchEntry.key m c.self.inside.theta c.self.invariant.slotted.table.kept.below_theta) (rw (← c.self.view_is) at c.requires.count_fits)
 
 pub returns-clause-ok : goal.returns-clause-ok
 returns-clause-ok g c =
-    let key = g.E.SketchEntry.key in
-    let same : c.in_ok-entries.entries.items ≡ c.self.inside.entries.items = c.in_ok-entries.ensures.items_if_clones_equal c.requires.clones_equal ∙ c.deref.ensures.value in
-    rw (← c.self.view_is) (record {
-      nonempty = search rules;
-      same_theta = search rules;
-      same_seed = search rules;
-      ordered_if = search rules;
-      lists_all = rw (c.non_empty.ensures, same) (lent-ascending key c.self.inside.entries.items c.self.invariant.kept.ascending);
-      in_order = λ _. rw (c.non_empty.ensures, same) refl;
-    })
+    let m = map_of g.E.SketchEntry.key (filled (map g.E.SlotEntry.held c.self.inside.slots.items)) in
+    rw (← c.self.view_is) (rw (c.deref.ensures.value, below_all g.E.SketchEntry.key m c.self.inside.theta c.self.invariant.slotted.table.kept.below_theta) at c.in_ok-state.ensures.ok)

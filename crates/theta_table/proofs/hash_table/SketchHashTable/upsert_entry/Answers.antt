@@ -1,13 +1,16 @@
-use Rattle.std.proofs.Common.{◌≡◌, ℕ, ◌^◌, true, Some, length, sym, ap, ◌∙◌, refl, inl, inr, arith}
+use Rattle.std.proofs.Common.{◌≡◌, ℕ, ◌+◌, ◌^◌, ◌<◌, ◌++◌, true, Some, None, length, map, set, take, drop, sym, ap, ◌∙◌, refl, inl, inr, rules, arith}
 use Rattle.std.specs.Prelude.{is_some}
+use Rattle.std.proofs.lemmas.List.{places}
 use Rattle.std.proofs.lemmas.Result.{err_from_is_err_and}
-use Rattle.theta_laws.specs.Maps.{with_entry}
-use Rattle.theta_laws.specs.Cuts.{IsRetained}
-use Rattle.theta_laws.specs.Insertion.{is_screened, rebuilt}
-use Rattle.theta_laws.proofs.maps.Insertions.{entry_at_place, entry_at_gap, with_entry_at}
-use Rattle.std.proofs.Math.ListN.{length-set}
-use Rattle.theta_laws.proofs.maps.Ascending.{ascending-with_entry}
-use Rattle.theta_laws.proofs.insertions.Cases.{or_left, or_right, few-rebuilt, IsRetained-with_entry, IsRetained-rebuilt, screened_case, existing_case, absent_case, is_screened_true, is_screened_false}
+use Rattle.theta_laws.specs.Maps.{map_of}
+use Rattle.theta_slots.specs.Layout.{filled, slot}
+use Rattle.theta_laws.specs.Insertion.{is_screened}
+use Rattle.theta_table.specs.HashTable.{threshold}
+use Rattle.theta_table.proofs.Counting.{counted_looks, counted_ticked, ticked_seldom, ticked_looks}
+use Rattle.theta_slots.proofs.Held.{length-held}
+use Rattle.theta_slots.proofs.Layouts.{search_finds}
+use Rattle.theta_table.proofs.Slotted.{taken_is, free_is, must_have, must_fit, slotted_next, slotted_count, filled_over, written_joins, written_laid_out, key_found}
+use Rattle.theta_laws.proofs.insertions.Cases.{or_left, or_right, IsRetained-with_entry, IsRetained-rebuilt, screened_case, existing_case, absent_case, is_screened_true, is_screened_false}
 use Rattle.theta_table.proofs.hash_table.SketchHashTable.upsert_entry.Goals as goal
 use Rattle.theta_table.proofs.hash_table.SketchHashTable.upsert_entry.Goals.{then-hash-eq0-via-then-hash-eq0, then-hash-eq0-via-else-hash-eq0+then-hash-self}
 
@@ -15,169 +18,529 @@ pub returns-then-hash-eq0-clause-ok : goal.returns-then-hash-eq0-clause-ok
 returns-then-hash-eq0-clause-ok g c =
     let s : is_screened c.args.hash c.self.inside.theta ≡ true =
     is_screened_true _ _ (elim c.then-hash-eq0.branch [ then-hash-eq0-via-then-hash-eq0 w ↦ inl w.if-hash-eq0.true | then-hash-eq0-via-else-hash-eq0+then-hash-self w ↦ inr w.if-hash-self.true ]) in
-    rw (← c.self.view_is) (sym (screened_case g.E.SketchEntry.key (2 ^ c.self.inside.lg_nom_size) c.args.hash (g.S.UpsertStep.means c.args.step) (record { entries = c.self.inside.entries.items; theta = c.self.inside.theta }) s).creates_is)
+    let case = screened_case g.E.SketchEntry.key (2 ^ c.self.inside.lg_nom_size) c.args.hash (g.S.UpsertStep.means c.args.step) (record { entries = map_of g.E.SketchEntry.key (filled (map g.E.SlotEntry.held c.self.inside.slots.items)); theta = c.self.inside.theta }) s in
+    rw (← c.self.view_is) (sym case.creates_is)
 
 pub returns-then-hash-eq0-clause-after : goal.returns-then-hash-eq0-clause-after
 returns-then-hash-eq0-clause-after g c =
     let s : is_screened c.args.hash c.self.inside.theta ≡ true =
     is_screened_true _ _ (elim c.then-hash-eq0.branch [ then-hash-eq0-via-then-hash-eq0 w ↦ inl w.if-hash-eq0.true | then-hash-eq0-via-else-hash-eq0+then-hash-self w ↦ inr w.if-hash-self.true ]) in
-    rw (← c.self.view_is) (rw (screened_case g.E.SketchEntry.key (2 ^ c.self.inside.lg_nom_size) c.args.hash (g.S.UpsertStep.means c.args.step) (record { entries = c.self.inside.entries.items; theta = c.self.inside.theta }) s).after_is refl)
+    let case = screened_case g.E.SketchEntry.key (2 ^ c.self.inside.lg_nom_size) c.args.hash (g.S.UpsertStep.means c.args.step) (record { entries = map_of g.E.SketchEntry.key (filled (map g.E.SlotEntry.held c.self.inside.slots.items)); theta = c.self.inside.theta }) s in
+    rw (← c.self.view_is) (rw case.after_is refl)
 
 pub returns-then-hash-eq0-clause-refused : goal.returns-then-hash-eq0-clause-refused
 returns-then-hash-eq0-clause-refused g c =
     let s : is_screened c.args.hash c.self.inside.theta ≡ true =
     is_screened_true _ _ (elim c.then-hash-eq0.branch [ then-hash-eq0-via-then-hash-eq0 w ↦ inl w.if-hash-eq0.true | then-hash-eq0-via-else-hash-eq0+then-hash-self w ↦ inr w.if-hash-self.true ]) in
-    rw (← c.self.view_is) (screened_case g.E.SketchEntry.key (2 ^ c.self.inside.lg_nom_size) c.args.hash (g.S.UpsertStep.means c.args.step) (record { entries = c.self.inside.entries.items; theta = c.self.inside.theta }) s).refusal_is
+    let case = screened_case g.E.SketchEntry.key (2 ^ c.self.inside.lg_nom_size) c.args.hash (g.S.UpsertStep.means c.args.step) (record { entries = map_of g.E.SketchEntry.key (filled (map g.E.SlotEntry.held c.self.inside.slots.items)); theta = c.self.inside.theta }) s in
+    rw (← c.self.view_is) case.refusal_is
 
-pub returns-in_err-existing-in-Ok-clause-refused : goal.returns-in_err-existing-in-Ok-clause-refused
-returns-in_err-existing-in-Ok-clause-refused g c =
+pub returns-in_err-write_at-clause-refused : goal.returns-in_err-write_at-clause-refused
+returns-in_err-write_at-clause-refused g c =
     let key = g.E.SketchEntry.key in
-    let found = rw c.deref.ensures.value at c.in-Ok.ensures.found in
-    let case = existing_case key (2 ^ c.self.inside.lg_nom_size) c.args.hash (g.S.UpsertStep.means c.args.step) (record { entries = c.self.inside.entries.items; theta = c.self.inside.theta }) c.index_mut.result.now
-    (is_screened_false _ _ c.if-hash-eq0.false c.if-hash-self.false)
-    (entry_at_place key c.self.inside.entries.items c.args.hash c.in-Ok.at c.index_mut.result.now c.self.invariant.kept.ascending found ∙ ap Some (sym c.index_mut.ensures.value)) in
+    let i = c.self.inside in
+    let slots = map g.E.SlotEntry.held c.self.inside.slots.items in
+    let at : ℕ = c.seek-place.result.at in
+    let passes = is_screened_false c.args.hash c.self.inside.theta c.if-hash-eq0.false c.if-hash-self.false in
+    let found = rw c.deref.ensures.value at c.seek-place.ensures in
+    let has : c.self.inside.has_slots ≡ true = must_have key _ c.self.inside.lg_cur_size _ c.self.inside.count c.args.hash slots c.self.invariant.slotted refl passes (rw (← c.self.view_is) at c.requires.room) in
+    let laid = c.self.invariant.slotted.laid_out has in
+    let there = search_finds key c.self.inside.lg_cur_size c.args.hash at slots laid found.on_path found.ends in
+    let step = g.S.UpsertStep.means c.args.step in
+    let one = taken_is (slot slots at) _ found.told c.if-not-place.true in
+    let case = existing_case key (2 ^ c.self.inside.lg_nom_size) c.args.hash step (record { entries = map_of key (filled slots); theta = c.self.inside.theta }) one.0 passes (there ∙ one.1) in
     let p = err_from_is_err_and c.from_residual.result c.from_residual.ensures.1 in
-    rw (p.1, p.2, ← c.self.view_is, case.refusal_is, case.allocates_is) c.in_err-existing-in-Ok.ensures.refused
+    rw (p.1, p.2, ← c.self.view_is, case.refusal_is, case.allocates_is) ((rw c.deref_mut.ensures.value at c.in_err-write_at.ensures.refused) one.0 one.1)
 
-pub invariant_of-self-in-Ok : goal.invariant_of-self-in-Ok
-invariant_of-self-in-Ok g c =
+pub invariant_of-self-then-not-place : goal.invariant_of-self-then-not-place
+invariant_of-self-then-not-place g c =
     let key = g.E.SketchEntry.key in
-    let found = rw c.deref.ensures.value at c.in-Ok.ensures.found in
-    let case = existing_case key (2 ^ c.self.inside.lg_nom_size) c.args.hash (g.S.UpsertStep.means c.args.step) (record { entries = c.self.inside.entries.items; theta = c.self.inside.theta }) c.index_mut.result.now
-    (is_screened_false _ _ c.if-hash-eq0.false c.if-hash-self.false)
-    (entry_at_place key c.self.inside.entries.items c.args.hash c.in-Ok.at c.index_mut.result.now c.self.invariant.kept.ascending found ∙ ap Some (sym c.index_mut.ensures.value)) in
-    let written : c.existing.new.entry ≡ (g.S.UpsertStep.means c.args.step).writes c.index_mut.result.now = c.in_ok-existing-in-Ok.ensures.written in
-    let has_key : key c.existing.new.entry ≡ c.args.hash = ap key written ∙ c.requires.keeps_hash c.index_mut.result.now (ap key c.index_mut.ensures.value ∙ found.has_key c.index_mut.result.now) in
-    let put = with_entry_at key c.self.inside.entries.items c.args.hash c.in-Ok.at c.self.invariant.kept.ascending found c.existing.new.entry has_key in
-    record {
-      kept = rw (← put) (IsRetained-with_entry key _ _ _ c.self.invariant.kept (omega (arith, has_key, c.if-hash-eq0.false)) (omega (arith, has_key, c.if-hash-self.false)));
-      few = λ large. rw (length-set) (c.self.invariant.few large);
-      made = c.self.invariant.made;
-      without_slots = c.self.invariant.without_slots;
-    }
+    let i = c.self.inside in
+    let slots = map g.E.SlotEntry.held c.self.inside.slots.items in
+    let at : ℕ = c.seek-place.result.at in
+    let passes = is_screened_false c.args.hash c.self.inside.theta c.if-hash-eq0.false c.if-hash-self.false in
+    let found = rw c.deref.ensures.value at c.seek-place.ensures in
+    let has : c.self.inside.has_slots ≡ true = must_have key _ c.self.inside.lg_cur_size _ c.self.inside.count c.args.hash slots c.self.invariant.slotted refl passes (rw (← c.self.view_is) at c.requires.room) in
+    let laid = c.self.invariant.slotted.laid_out has in
+    let there = search_finds key c.self.inside.lg_cur_size c.args.hash at slots laid found.on_path found.ends in
+    let step = g.S.UpsertStep.means c.args.step in
+    let one = taken_is (slot slots at) _ found.told c.if-not-place.true in
+    let case = existing_case key (2 ^ c.self.inside.lg_nom_size) c.args.hash step (record { entries = map_of key (filled slots); theta = c.self.inside.theta }) one.0 passes (there ∙ one.1) in
+    let whole : take c.self.inside.slots.len (c.write_at.new.slots ++ drop (length c.write_at.new.slots) c.self.inside.slots.items) ≡ c.write_at.new.slots = search (rules, places) in
+    let new = map g.E.SlotEntry.held c.write_at.new.slots in
+    let wrote : new ≡ set slots at (Some (step.writes one.0)) = (rw c.deref_mut.ensures.value at c.in_ok-write_at.ensures.ok) one.0 one.1 in
+    let inside : at < length slots = omega (arith, found.inside, length-held g.E.SlotEntry.held c.self.inside.slots.items) in
+    let keeps = c.requires.keeps_hash one.0 (key_found key c.self.inside.lg_cur_size c.args.hash at one.0 slots one.1 found.ends) in
+    let joins = written_joins key c.self.inside.lg_cur_size c.args.hash at one.0 (step.writes one.0) slots laid inside found.on_path found.ends keeps in
+    let retained = IsRetained-with_entry key (map_of key (filled slots)) c.self.inside.theta (step.writes one.0) c.self.invariant.slotted.table.kept (omega (arith, keeps, c.if-hash-eq0.false)) (omega (arith, keeps, c.if-hash-self.false)) in
+    rw (whole, wrote)
+    (record {
+      slotted = slotted_next key _ c.self.inside.lg_cur_size _ c.self.inside.count c.self.inside.lg_cur_size c.self.inside.count c.self.inside.theta slots (set slots at (Some (step.writes one.0))) c.self.invariant.slotted has (rw joins retained)
+          (written_laid_out key c.self.inside.lg_cur_size c.args.hash at one.0 (step.writes one.0) slots laid inside found.on_path found.ends keeps)
+          (c.self.invariant.slotted.counted ∙ sym (filled_over key slots at (step.writes one.0) one.0 one.1)) (c.self.invariant.slotted.sized has);
+      counted = counted_looks _ _ _ _ c.self.invariant.counted c.seek-place.new.looks;
+    })
 
-pub returns-in_err-absent-in-Err-clause-refused : goal.returns-in_err-absent-in-Err-clause-refused
-returns-in_err-absent-in-Err-clause-refused g c =
+pub returns-then-not-place-clause-ok : goal.returns-then-not-place-clause-ok
+returns-then-not-place-clause-ok g c =
     let key = g.E.SketchEntry.key in
-    let gap = rw c.deref.ensures.value at c.in-Err.ensures.absent in
-    let case = absent_case key (2 ^ c.self.inside.lg_nom_size) c.args.hash (g.S.UpsertStep.means c.args.step) (record { entries = c.self.inside.entries.items; theta = c.self.inside.theta })
-    (is_screened_false _ _ c.if-hash-eq0.false c.if-hash-self.false)
-    (entry_at_gap key c.self.inside.entries.items c.args.hash c.in-Err.at gap) in
-    let p = err_from_is_err_and c.from_residual-in_err-absent-in-Err.result c.from_residual-in_err-absent-in-Err.ensures.1 in
-    rw (p.1, p.2, ← c.self.view_is, case.refusal_is, case.allocates_is) (elim c.in_err-absent-in-Err.ensures.refused [ inl a ↦ inl a | inr b ↦ inr (b.0, or_left _ _ b.1) ])
+    let i = c.self.inside in
+    let slots = map g.E.SlotEntry.held c.self.inside.slots.items in
+    let at : ℕ = c.seek-place.result.at in
+    let passes = is_screened_false c.args.hash c.self.inside.theta c.if-hash-eq0.false c.if-hash-self.false in
+    let found = rw c.deref.ensures.value at c.seek-place.ensures in
+    let has : c.self.inside.has_slots ≡ true = must_have key _ c.self.inside.lg_cur_size _ c.self.inside.count c.args.hash slots c.self.invariant.slotted refl passes (rw (← c.self.view_is) at c.requires.room) in
+    let laid = c.self.invariant.slotted.laid_out has in
+    let there = search_finds key c.self.inside.lg_cur_size c.args.hash at slots laid found.on_path found.ends in
+    let step = g.S.UpsertStep.means c.args.step in
+    let one = taken_is (slot slots at) _ found.told c.if-not-place.true in
+    let case = existing_case key (2 ^ c.self.inside.lg_nom_size) c.args.hash step (record { entries = map_of key (filled slots); theta = c.self.inside.theta }) one.0 passes (there ∙ one.1) in
+    rw (← c.self.view_is) (sym case.creates_is)
 
-pub returns-in_err-self-inside-in-Some-clause-refused : goal.returns-in_err-self-inside-in-Some-clause-refused
-returns-in_err-self-inside-in-Some-clause-refused g c =
+pub returns-then-not-place-clause-after : goal.returns-then-not-place-clause-after
+returns-then-not-place-clause-after g c =
     let key = g.E.SketchEntry.key in
-    let gap = rw c.deref.ensures.value at c.in-Err.ensures.absent in
-    let case = absent_case key (2 ^ c.self.inside.lg_nom_size) c.args.hash (g.S.UpsertStep.means c.args.step) (record { entries = c.self.inside.entries.items; theta = c.self.inside.theta })
-    (is_screened_false _ _ c.if-hash-eq0.false c.if-hash-self.false)
-    (entry_at_gap key c.self.inside.entries.items c.args.hash c.in-Err.at gap) in
-    let p = err_from_is_err_and c.from_residual-in_err-self-inside-in-Some.result c.from_residual-in_err-self-inside-in-Some.ensures.1 in
-    let made = sym c.in_ok-absent-in-Err.ensures.made ∙ c.in-Some.is in
+    let i = c.self.inside in
+    let slots = map g.E.SlotEntry.held c.self.inside.slots.items in
+    let at : ℕ = c.seek-place.result.at in
+    let passes = is_screened_false c.args.hash c.self.inside.theta c.if-hash-eq0.false c.if-hash-self.false in
+    let found = rw c.deref.ensures.value at c.seek-place.ensures in
+    let has : c.self.inside.has_slots ≡ true = must_have key _ c.self.inside.lg_cur_size _ c.self.inside.count c.args.hash slots c.self.invariant.slotted refl passes (rw (← c.self.view_is) at c.requires.room) in
+    let laid = c.self.invariant.slotted.laid_out has in
+    let there = search_finds key c.self.inside.lg_cur_size c.args.hash at slots laid found.on_path found.ends in
+    let step = g.S.UpsertStep.means c.args.step in
+    let one = taken_is (slot slots at) _ found.told c.if-not-place.true in
+    let case = existing_case key (2 ^ c.self.inside.lg_nom_size) c.args.hash step (record { entries = map_of key (filled slots); theta = c.self.inside.theta }) one.0 passes (there ∙ one.1) in
+    let whole : take c.self.inside.slots.len (c.write_at.new.slots ++ drop (length c.write_at.new.slots) c.self.inside.slots.items) ≡ c.write_at.new.slots = search (rules, places) in
+    let new = map g.E.SlotEntry.held c.write_at.new.slots in
+    let wrote : new ≡ set slots at (Some (step.writes one.0)) = (rw c.deref_mut.ensures.value at c.in_ok-write_at.ensures.ok) one.0 one.1 in
+    let inside : at < length slots = omega (arith, found.inside, length-held g.E.SlotEntry.held c.self.inside.slots.items) in
+    let keeps = c.requires.keeps_hash one.0 (key_found key c.self.inside.lg_cur_size c.args.hash at one.0 slots one.1 found.ends) in
+    let joins = written_joins key c.self.inside.lg_cur_size c.args.hash at one.0 (step.writes one.0) slots laid inside found.on_path found.ends keeps in
+    rw (← c.self.view_is, case.after_is, whole, wrote, joins) refl
+
+pub returns-then-not-place-clause-refused : goal.returns-then-not-place-clause-refused
+returns-then-not-place-clause-refused g c =
+    let key = g.E.SketchEntry.key in
+    let i = c.self.inside in
+    let slots = map g.E.SlotEntry.held c.self.inside.slots.items in
+    let at : ℕ = c.seek-place.result.at in
+    let passes = is_screened_false c.args.hash c.self.inside.theta c.if-hash-eq0.false c.if-hash-self.false in
+    let found = rw c.deref.ensures.value at c.seek-place.ensures in
+    let has : c.self.inside.has_slots ≡ true = must_have key _ c.self.inside.lg_cur_size _ c.self.inside.count c.args.hash slots c.self.invariant.slotted refl passes (rw (← c.self.view_is) at c.requires.room) in
+    let laid = c.self.invariant.slotted.laid_out has in
+    let there = search_finds key c.self.inside.lg_cur_size c.args.hash at slots laid found.on_path found.ends in
+    let step = g.S.UpsertStep.means c.args.step in
+    let one = taken_is (slot slots at) _ found.told c.if-not-place.true in
+    let case = existing_case key (2 ^ c.self.inside.lg_nom_size) c.args.hash step (record { entries = map_of key (filled slots); theta = c.self.inside.theta }) one.0 passes (there ∙ one.1) in
+    rw (← c.self.view_is) (case.refusal_is ∙ (rw c.deref_mut.ensures.value at c.in_ok-write_at.ensures.refused) one.0 one.1)
+
+pub returns-in_err-absent-clause-refused : goal.returns-in_err-absent-clause-refused
+returns-in_err-absent-clause-refused g c =
+    let key = g.E.SketchEntry.key in
+    let i = c.self.inside in
+    let slots = map g.E.SlotEntry.held c.self.inside.slots.items in
+    let at : ℕ = c.seek-place.result.at in
+    let passes = is_screened_false c.args.hash c.self.inside.theta c.if-hash-eq0.false c.if-hash-self.false in
+    let found = rw c.deref.ensures.value at c.seek-place.ensures in
+    let has : c.self.inside.has_slots ≡ true = must_have key _ c.self.inside.lg_cur_size _ c.self.inside.count c.args.hash slots c.self.invariant.slotted refl passes (rw (← c.self.view_is) at c.requires.room) in
+    let laid = c.self.invariant.slotted.laid_out has in
+    let there = search_finds key c.self.inside.lg_cur_size c.args.hash at slots laid found.on_path found.ends in
+    let step = g.S.UpsertStep.means c.args.step in
+    let free : slot slots at ≡ None = free_is (slot slots at) _ found.told c.if-not-place.false in
+    let case = absent_case key (2 ^ c.self.inside.lg_nom_size) c.args.hash step (record { entries = map_of key (filled slots); theta = c.self.inside.theta }) passes (there ∙ free) in
+    let p = err_from_is_err_and c.from_residual-in_err-absent.result c.from_residual-in_err-absent.ensures.1 in
+    rw (p.1, p.2, ← c.self.view_is, case.refusal_is, case.allocates_is) (elim c.in_err-absent.ensures.refused [ inl a ↦ inl a | inr b ↦ inr (b.0, or_left _ _ b.1) ])
+
+pub put_entry-requires-clause-room : goal.put_entry-requires-clause-room
+put_entry-requires-clause-room g c =
+    let key = g.E.SketchEntry.key in
+    let i = c.self.inside in
+    let slots = map g.E.SlotEntry.held c.self.inside.slots.items in
+    let at : ℕ = c.seek-place.result.at in
+    let passes = is_screened_false c.args.hash c.self.inside.theta c.if-hash-eq0.false c.if-hash-self.false in
+    let found = rw c.deref.ensures.value at c.seek-place.ensures in
+    let has : c.self.inside.has_slots ≡ true = must_have key _ c.self.inside.lg_cur_size _ c.self.inside.count c.args.hash slots c.self.invariant.slotted refl passes (rw (← c.self.view_is) at c.requires.room) in
+    let laid = c.self.invariant.slotted.laid_out has in
+    let there = search_finds key c.self.inside.lg_cur_size c.args.hash at slots laid found.on_path found.ends in
+    let step = g.S.UpsertStep.means c.args.step in
+    let free : slot slots at ≡ None = free_is (slot slots at) _ found.told c.if-not-place.false in
+    let case = absent_case key (2 ^ c.self.inside.lg_nom_size) c.args.hash step (record { entries = map_of key (filled slots); theta = c.self.inside.theta }) passes (there ∙ free) in
+    must_fit key _ c.self.inside.lg_cur_size _ c.self.inside.count c.args.hash slots c.self.invariant.slotted refl has passes (there ∙ free) (rw (← c.self.view_is) at c.requires.room)
+
+pub returns-in_err-settled-in-Some-clause-refused : goal.returns-in_err-settled-in-Some-clause-refused
+returns-in_err-settled-in-Some-clause-refused g c =
+    let key = g.E.SketchEntry.key in
+    let i = c.self.inside in
+    let slots = map g.E.SlotEntry.held c.self.inside.slots.items in
+    let at : ℕ = c.seek-place.result.at in
+    let passes = is_screened_false c.args.hash c.self.inside.theta c.if-hash-eq0.false c.if-hash-self.false in
+    let found = rw c.deref.ensures.value at c.seek-place.ensures in
+    let has : c.self.inside.has_slots ≡ true = must_have key _ c.self.inside.lg_cur_size _ c.self.inside.count c.args.hash slots c.self.invariant.slotted refl passes (rw (← c.self.view_is) at c.requires.room) in
+    let laid = c.self.invariant.slotted.laid_out has in
+    let there = search_finds key c.self.inside.lg_cur_size c.args.hash at slots laid found.on_path found.ends in
+    let step = g.S.UpsertStep.means c.args.step in
+    let free : slot slots at ≡ None = free_is (slot slots at) _ found.told c.if-not-place.false in
+    let case = absent_case key (2 ^ c.self.inside.lg_nom_size) c.args.hash step (record { entries = map_of key (filled slots); theta = c.self.inside.theta }) passes (there ∙ free) in
+    let p = err_from_is_err_and c.from_residual-in_err-settled-in-Some.result c.from_residual-in_err-settled-in-Some.ensures.1 in
+    let made = sym c.in_ok-absent.ensures.made ∙ c.in-Some.is in
     rw (p.1, p.2, ← c.self.view_is, case.refusal_is, case.allocates_is) (inr (refl, or_right _ _ (ap is_some made)))
 
 pub invariant_of-self-in-Some : goal.invariant_of-self-in-Some
 invariant_of-self-in-Some g c =
     let key = g.E.SketchEntry.key in
-    let made = sym c.in_ok-absent-in-Err.ensures.made ∙ c.in-Some.is in
+    let i = c.self.inside in
+    let slots = map g.E.SlotEntry.held c.self.inside.slots.items in
+    let at : ℕ = c.seek-place.result.at in
+    let passes = is_screened_false c.args.hash c.self.inside.theta c.if-hash-eq0.false c.if-hash-self.false in
+    let found = rw c.deref.ensures.value at c.seek-place.ensures in
+    let has : c.self.inside.has_slots ≡ true = must_have key _ c.self.inside.lg_cur_size _ c.self.inside.count c.args.hash slots c.self.invariant.slotted refl passes (rw (← c.self.view_is) at c.requires.room) in
+    let laid = c.self.invariant.slotted.laid_out has in
+    let there = search_finds key c.self.inside.lg_cur_size c.args.hash at slots laid found.on_path found.ends in
+    let step = g.S.UpsertStep.means c.args.step in
+    let free : slot slots at ≡ None = free_is (slot slots at) _ found.told c.if-not-place.false in
+    let case = absent_case key (2 ^ c.self.inside.lg_nom_size) c.args.hash step (record { entries = map_of key (filled slots); theta = c.self.inside.theta }) passes (there ∙ free) in
+    let made = sym c.in_ok-absent.ensures.made ∙ c.in-Some.is in
     let has_key : key c.in-Some.entry ≡ c.args.hash = c.requires.makes_hash c.in-Some.entry made in
-    let put : IsRetained key _ = IsRetained-rebuilt key _ _ _ (IsRetained-with_entry key _ _ c.in-Some.entry c.self.invariant.kept (omega (arith, has_key, c.if-hash-eq0.false)) (omega (arith, has_key, c.if-hash-self.false))) in
+    let put = c.in_ok-settled-in-Some.ensures in
+    let retained = IsRetained-rebuilt key (2 ^ c.self.inside.lg_nom_size) _ _ (IsRetained-with_entry key (map_of key (filled slots)) c.self.inside.theta c.in-Some.entry c.self.invariant.slotted.table.kept (omega (arith, has_key, c.if-hash-eq0.false)) (omega (arith, has_key, c.if-hash-self.false))) in
+    let grow = c.lg_value.result in
+    let lg = c.self.inside.lg_cur_size in
+    let nom = c.self.inside.lg_nom_size in
+    let count = c.self.inside.count in
+    let fits : nom < 3 → count + 1 < 2 ^ lg = must_fit key _ lg _ count c.args.hash slots c.self.invariant.slotted refl has passes (there ∙ free) (rw (← c.self.view_is) at c.requires.room) in
+    let sized = rw (← c.lg_value.ensures) at (c.self.invariant.slotted.sized has) in
+    let was = counted_looks lg nom count c.self.inside.counts c.self.invariant.counted c.seek-place.new.looks in
+    let is = counted_ticked lg nom grow count (record c.self.inside.counts { looks = c.seek-place.new.looks }) sized fits was in
     record {
-      kept = rw c.in_ok-self-inside-in-Some.ensures.ok put;
-      few = λ large.
-          let k : ℕ = c.nominal_size-nominal.result in
-          let joined = with_entry key c.self.inside.entries.items c.in-Some.entry in
-          let same : length c.put_entry.new.entries.items ≡ length (rebuilt key k joined c.self.inside.theta).entries = ap (λ v. length v.entries) c.in_ok-self-inside-in-Some.ensures.ok in
-          omega (arith, same, few-rebuilt key k joined c.self.inside.theta (ascending-with_entry key c.self.inside.entries.items c.in-Some.entry c.self.invariant.kept.ascending) (omega (arith, large, c.nominal_size-nominal.ensures.power)), c.nominal_size-nominal.ensures.power);
-      made = c.self.invariant.made;
-      without_slots = c.self.invariant.without_slots;
+      slotted = slotted_next key _ c.self.inside.lg_cur_size _ c.self.inside.count c.in_ok-settled-in-Some.settled.lg_cur c.in_ok-settled-in-Some.settled.count c.in_ok-settled-in-Some.settled.theta slots (map g.E.SlotEntry.held c.put_entry.new.slots.items) c.self.invariant.slotted has (rw put.after retained)
+          put.laid_out put.counted (rw c.lg_value.ensures at put.sized);
+      counted = rw (put.size, put.count, put.ticked) (counted_looks _ _ _ _ is c.put_entry.new.counts.looks);
     }
-
-pub returns-in_ok-existing-in-Ok-clause-ok : goal.returns-in_ok-existing-in-Ok-clause-ok
-returns-in_ok-existing-in-Ok-clause-ok g c =
-    let key = g.E.SketchEntry.key in
-    let found = rw c.deref.ensures.value at c.in-Ok.ensures.found in
-    let case = existing_case key (2 ^ c.self.inside.lg_nom_size) c.args.hash (g.S.UpsertStep.means c.args.step) (record { entries = c.self.inside.entries.items; theta = c.self.inside.theta }) c.index_mut.result.now
-    (is_screened_false _ _ c.if-hash-eq0.false c.if-hash-self.false)
-    (entry_at_place key c.self.inside.entries.items c.args.hash c.in-Ok.at c.index_mut.result.now c.self.invariant.kept.ascending found ∙ ap Some (sym c.index_mut.ensures.value)) in
-    rw (← c.self.view_is) (sym case.creates_is)
-
-pub returns-in_ok-existing-in-Ok-clause-after : goal.returns-in_ok-existing-in-Ok-clause-after
-returns-in_ok-existing-in-Ok-clause-after g c =
-    let key = g.E.SketchEntry.key in
-    let found = rw c.deref.ensures.value at c.in-Ok.ensures.found in
-    let case = existing_case key (2 ^ c.self.inside.lg_nom_size) c.args.hash (g.S.UpsertStep.means c.args.step) (record { entries = c.self.inside.entries.items; theta = c.self.inside.theta }) c.index_mut.result.now
-    (is_screened_false _ _ c.if-hash-eq0.false c.if-hash-self.false)
-    (entry_at_place key c.self.inside.entries.items c.args.hash c.in-Ok.at c.index_mut.result.now c.self.invariant.kept.ascending found ∙ ap Some (sym c.index_mut.ensures.value)) in
-    let written : c.existing.new.entry ≡ (g.S.UpsertStep.means c.args.step).writes c.index_mut.result.now = c.in_ok-existing-in-Ok.ensures.written in
-    let has_key : key c.existing.new.entry ≡ c.args.hash = ap key written ∙ c.requires.keeps_hash c.index_mut.result.now (ap key c.index_mut.ensures.value ∙ found.has_key c.index_mut.result.now) in
-    let put = with_entry_at key c.self.inside.entries.items c.args.hash c.in-Ok.at c.self.invariant.kept.ascending found c.existing.new.entry has_key in
-    rw (← c.self.view_is, case.after_is, ← written, put) refl
-
-pub returns-in_ok-existing-in-Ok-clause-refused : goal.returns-in_ok-existing-in-Ok-clause-refused
-returns-in_ok-existing-in-Ok-clause-refused g c =
-    let key = g.E.SketchEntry.key in
-    let found = rw c.deref.ensures.value at c.in-Ok.ensures.found in
-    let case = existing_case key (2 ^ c.self.inside.lg_nom_size) c.args.hash (g.S.UpsertStep.means c.args.step) (record { entries = c.self.inside.entries.items; theta = c.self.inside.theta }) c.index_mut.result.now
-    (is_screened_false _ _ c.if-hash-eq0.false c.if-hash-self.false)
-    (entry_at_place key c.self.inside.entries.items c.args.hash c.in-Ok.at c.index_mut.result.now c.self.invariant.kept.ascending found ∙ ap Some (sym c.index_mut.ensures.value)) in
-    rw (← c.self.view_is) (case.refusal_is ∙ c.in_ok-existing-in-Ok.ensures.refused)
 
 pub returns-in-None-clause-ok : goal.returns-in-None-clause-ok
 returns-in-None-clause-ok g c =
     let key = g.E.SketchEntry.key in
-    let gap = rw c.deref.ensures.value at c.in-Err.ensures.absent in
-    let case = absent_case key (2 ^ c.self.inside.lg_nom_size) c.args.hash (g.S.UpsertStep.means c.args.step) (record { entries = c.self.inside.entries.items; theta = c.self.inside.theta })
-    (is_screened_false _ _ c.if-hash-eq0.false c.if-hash-self.false)
-    (entry_at_gap key c.self.inside.entries.items c.args.hash c.in-Err.at gap) in
-    let declined = sym c.in_ok-absent-in-Err.ensures.made ∙ c.in-None.is in
-    rw (← c.self.view_is) (sym (case.creates_is ∙ ap is_some declined))
+    let i = c.self.inside in
+    let slots = map g.E.SlotEntry.held c.self.inside.slots.items in
+    let at : ℕ = c.seek-place.result.at in
+    let passes = is_screened_false c.args.hash c.self.inside.theta c.if-hash-eq0.false c.if-hash-self.false in
+    let found = rw c.deref.ensures.value at c.seek-place.ensures in
+    let has : c.self.inside.has_slots ≡ true = must_have key _ c.self.inside.lg_cur_size _ c.self.inside.count c.args.hash slots c.self.invariant.slotted refl passes (rw (← c.self.view_is) at c.requires.room) in
+    let laid = c.self.invariant.slotted.laid_out has in
+    let there = search_finds key c.self.inside.lg_cur_size c.args.hash at slots laid found.on_path found.ends in
+    let step = g.S.UpsertStep.means c.args.step in
+    let free : slot slots at ≡ None = free_is (slot slots at) _ found.told c.if-not-place.false in
+    let case = absent_case key (2 ^ c.self.inside.lg_nom_size) c.args.hash step (record { entries = map_of key (filled slots); theta = c.self.inside.theta }) passes (there ∙ free) in
+    let made = sym c.in_ok-absent.ensures.made ∙ c.in-None.is in
+    rw (← c.self.view_is) (sym (case.creates_is ∙ ap is_some made))
 
 pub returns-in-None-clause-after : goal.returns-in-None-clause-after
 returns-in-None-clause-after g c =
     let key = g.E.SketchEntry.key in
-    let gap = rw c.deref.ensures.value at c.in-Err.ensures.absent in
-    let case = absent_case key (2 ^ c.self.inside.lg_nom_size) c.args.hash (g.S.UpsertStep.means c.args.step) (record { entries = c.self.inside.entries.items; theta = c.self.inside.theta })
-    (is_screened_false _ _ c.if-hash-eq0.false c.if-hash-self.false)
-    (entry_at_gap key c.self.inside.entries.items c.args.hash c.in-Err.at gap) in
-    let declined = sym c.in_ok-absent-in-Err.ensures.made ∙ c.in-None.is in
-    rw (← c.self.view_is, case.after_is, declined) refl
+    let i = c.self.inside in
+    let slots = map g.E.SlotEntry.held c.self.inside.slots.items in
+    let at : ℕ = c.seek-place.result.at in
+    let passes = is_screened_false c.args.hash c.self.inside.theta c.if-hash-eq0.false c.if-hash-self.false in
+    let found = rw c.deref.ensures.value at c.seek-place.ensures in
+    let has : c.self.inside.has_slots ≡ true = must_have key _ c.self.inside.lg_cur_size _ c.self.inside.count c.args.hash slots c.self.invariant.slotted refl passes (rw (← c.self.view_is) at c.requires.room) in
+    let laid = c.self.invariant.slotted.laid_out has in
+    let there = search_finds key c.self.inside.lg_cur_size c.args.hash at slots laid found.on_path found.ends in
+    let step = g.S.UpsertStep.means c.args.step in
+    let free : slot slots at ≡ None = free_is (slot slots at) _ found.told c.if-not-place.false in
+    let case = absent_case key (2 ^ c.self.inside.lg_nom_size) c.args.hash step (record { entries = map_of key (filled slots); theta = c.self.inside.theta }) passes (there ∙ free) in
+    let made = sym c.in_ok-absent.ensures.made ∙ c.in-None.is in
+    rw (← c.self.view_is, case.after_is, made) refl
 
 pub returns-in-None-clause-refused : goal.returns-in-None-clause-refused
 returns-in-None-clause-refused g c =
     let key = g.E.SketchEntry.key in
-    let gap = rw c.deref.ensures.value at c.in-Err.ensures.absent in
-    let case = absent_case key (2 ^ c.self.inside.lg_nom_size) c.args.hash (g.S.UpsertStep.means c.args.step) (record { entries = c.self.inside.entries.items; theta = c.self.inside.theta })
-    (is_screened_false _ _ c.if-hash-eq0.false c.if-hash-self.false)
-    (entry_at_gap key c.self.inside.entries.items c.args.hash c.in-Err.at gap) in
-    rw (← c.self.view_is) (case.refusal_is ∙ c.in_ok-absent-in-Err.ensures.refused)
+    let i = c.self.inside in
+    let slots = map g.E.SlotEntry.held c.self.inside.slots.items in
+    let at : ℕ = c.seek-place.result.at in
+    let passes = is_screened_false c.args.hash c.self.inside.theta c.if-hash-eq0.false c.if-hash-self.false in
+    let found = rw c.deref.ensures.value at c.seek-place.ensures in
+    let has : c.self.inside.has_slots ≡ true = must_have key _ c.self.inside.lg_cur_size _ c.self.inside.count c.args.hash slots c.self.invariant.slotted refl passes (rw (← c.self.view_is) at c.requires.room) in
+    let laid = c.self.invariant.slotted.laid_out has in
+    let there = search_finds key c.self.inside.lg_cur_size c.args.hash at slots laid found.on_path found.ends in
+    let step = g.S.UpsertStep.means c.args.step in
+    let free : slot slots at ≡ None = free_is (slot slots at) _ found.told c.if-not-place.false in
+    let case = absent_case key (2 ^ c.self.inside.lg_nom_size) c.args.hash step (record { entries = map_of key (filled slots); theta = c.self.inside.theta }) passes (there ∙ free) in
+    rw (← c.self.view_is) (case.refusal_is ∙ c.in_ok-absent.ensures.refused)
 
-pub returns-in_ok-self-inside-in-Some-clause-ok : goal.returns-in_ok-self-inside-in-Some-clause-ok
-returns-in_ok-self-inside-in-Some-clause-ok g c =
+pub returns-in_ok-settled-in-Some-clause-ok : goal.returns-in_ok-settled-in-Some-clause-ok
+returns-in_ok-settled-in-Some-clause-ok g c =
     let key = g.E.SketchEntry.key in
-    let gap = rw c.deref.ensures.value at c.in-Err.ensures.absent in
-    let case = absent_case key (2 ^ c.self.inside.lg_nom_size) c.args.hash (g.S.UpsertStep.means c.args.step) (record { entries = c.self.inside.entries.items; theta = c.self.inside.theta })
-    (is_screened_false _ _ c.if-hash-eq0.false c.if-hash-self.false)
-    (entry_at_gap key c.self.inside.entries.items c.args.hash c.in-Err.at gap) in
-    let made = sym c.in_ok-absent-in-Err.ensures.made ∙ c.in-Some.is in
+    let i = c.self.inside in
+    let slots = map g.E.SlotEntry.held c.self.inside.slots.items in
+    let at : ℕ = c.seek-place.result.at in
+    let passes = is_screened_false c.args.hash c.self.inside.theta c.if-hash-eq0.false c.if-hash-self.false in
+    let found = rw c.deref.ensures.value at c.seek-place.ensures in
+    let has : c.self.inside.has_slots ≡ true = must_have key _ c.self.inside.lg_cur_size _ c.self.inside.count c.args.hash slots c.self.invariant.slotted refl passes (rw (← c.self.view_is) at c.requires.room) in
+    let laid = c.self.invariant.slotted.laid_out has in
+    let there = search_finds key c.self.inside.lg_cur_size c.args.hash at slots laid found.on_path found.ends in
+    let step = g.S.UpsertStep.means c.args.step in
+    let free : slot slots at ≡ None = free_is (slot slots at) _ found.told c.if-not-place.false in
+    let case = absent_case key (2 ^ c.self.inside.lg_nom_size) c.args.hash step (record { entries = map_of key (filled slots); theta = c.self.inside.theta }) passes (there ∙ free) in
+    let made = sym c.in_ok-absent.ensures.made ∙ c.in-Some.is in
     rw (← c.self.view_is) (sym (case.creates_is ∙ ap is_some made))
 
-pub returns-in_ok-self-inside-in-Some-clause-after : goal.returns-in_ok-self-inside-in-Some-clause-after
-returns-in_ok-self-inside-in-Some-clause-after g c =
+pub returns-in_ok-settled-in-Some-clause-after : goal.returns-in_ok-settled-in-Some-clause-after
+returns-in_ok-settled-in-Some-clause-after g c =
     let key = g.E.SketchEntry.key in
-    let gap = rw c.deref.ensures.value at c.in-Err.ensures.absent in
-    let case = absent_case key (2 ^ c.self.inside.lg_nom_size) c.args.hash (g.S.UpsertStep.means c.args.step) (record { entries = c.self.inside.entries.items; theta = c.self.inside.theta })
-    (is_screened_false _ _ c.if-hash-eq0.false c.if-hash-self.false)
-    (entry_at_gap key c.self.inside.entries.items c.args.hash c.in-Err.at gap) in
-    let made = sym c.in_ok-absent-in-Err.ensures.made ∙ c.in-Some.is in
-    rw (← c.self.view_is, case.after_is, made, ← c.nominal_size-nominal.ensures.power, ← c.in_ok-self-inside-in-Some.ensures.ok) refl
+    let i = c.self.inside in
+    let slots = map g.E.SlotEntry.held c.self.inside.slots.items in
+    let at : ℕ = c.seek-place.result.at in
+    let passes = is_screened_false c.args.hash c.self.inside.theta c.if-hash-eq0.false c.if-hash-self.false in
+    let found = rw c.deref.ensures.value at c.seek-place.ensures in
+    let has : c.self.inside.has_slots ≡ true = must_have key _ c.self.inside.lg_cur_size _ c.self.inside.count c.args.hash slots c.self.invariant.slotted refl passes (rw (← c.self.view_is) at c.requires.room) in
+    let laid = c.self.invariant.slotted.laid_out has in
+    let there = search_finds key c.self.inside.lg_cur_size c.args.hash at slots laid found.on_path found.ends in
+    let step = g.S.UpsertStep.means c.args.step in
+    let free : slot slots at ≡ None = free_is (slot slots at) _ found.told c.if-not-place.false in
+    let case = absent_case key (2 ^ c.self.inside.lg_nom_size) c.args.hash step (record { entries = map_of key (filled slots); theta = c.self.inside.theta }) passes (there ∙ free) in
+    let made = sym c.in_ok-absent.ensures.made ∙ c.in-Some.is in
+    rw (← c.self.view_is, case.after_is, made, ← c.in_ok-settled-in-Some.ensures.after) refl
 
-pub returns-in_ok-self-inside-in-Some-clause-refused : goal.returns-in_ok-self-inside-in-Some-clause-refused
-returns-in_ok-self-inside-in-Some-clause-refused g c =
+pub returns-in_ok-settled-in-Some-clause-refused : goal.returns-in_ok-settled-in-Some-clause-refused
+returns-in_ok-settled-in-Some-clause-refused g c =
     let key = g.E.SketchEntry.key in
-    let gap = rw c.deref.ensures.value at c.in-Err.ensures.absent in
-    let case = absent_case key (2 ^ c.self.inside.lg_nom_size) c.args.hash (g.S.UpsertStep.means c.args.step) (record { entries = c.self.inside.entries.items; theta = c.self.inside.theta })
-    (is_screened_false _ _ c.if-hash-eq0.false c.if-hash-self.false)
-    (entry_at_gap key c.self.inside.entries.items c.args.hash c.in-Err.at gap) in
-    rw (← c.self.view_is) (case.refusal_is ∙ c.in_ok-absent-in-Err.ensures.refused)
+    let i = c.self.inside in
+    let slots = map g.E.SlotEntry.held c.self.inside.slots.items in
+    let at : ℕ = c.seek-place.result.at in
+    let passes = is_screened_false c.args.hash c.self.inside.theta c.if-hash-eq0.false c.if-hash-self.false in
+    let found = rw c.deref.ensures.value at c.seek-place.ensures in
+    let has : c.self.inside.has_slots ≡ true = must_have key _ c.self.inside.lg_cur_size _ c.self.inside.count c.args.hash slots c.self.invariant.slotted refl passes (rw (← c.self.view_is) at c.requires.room) in
+    let laid = c.self.invariant.slotted.laid_out has in
+    let there = search_finds key c.self.inside.lg_cur_size c.args.hash at slots laid found.on_path found.ends in
+    let step = g.S.UpsertStep.means c.args.step in
+    let free : slot slots at ≡ None = free_is (slot slots at) _ found.told c.if-not-place.false in
+    let case = absent_case key (2 ^ c.self.inside.lg_nom_size) c.args.hash step (record { entries = map_of key (filled slots); theta = c.self.inside.theta }) passes (there ∙ free) in
+    rw (← c.self.view_is) (case.refusal_is ∙ c.in_ok-absent.ensures.refused)
+
+pub returns-in_err-write_at-clause-looks : goal.returns-in_err-write_at-clause-looks
+returns-in_err-write_at-clause-looks g c =
+    let i = c.self.inside in
+    let slots = map g.E.SlotEntry.held c.self.inside.slots.items in
+    let found = rw c.deref.ensures.value at c.seek-place.ensures in
+    let many = slotted_count g.E.SketchEntry.key _ c.self.inside.lg_cur_size _ c.self.inside.count slots c.self.invariant.slotted in
+    rw (← c.self.view_is) (omega (arith, found.looks, many, c.self.invariant.slotted.counted))
+
+pub returns-then-not-place-clause-looks : goal.returns-then-not-place-clause-looks
+returns-then-not-place-clause-looks g c =
+    let i = c.self.inside in
+    let slots = map g.E.SlotEntry.held c.self.inside.slots.items in
+    let found = rw c.deref.ensures.value at c.seek-place.ensures in
+    let many = slotted_count g.E.SketchEntry.key _ c.self.inside.lg_cur_size _ c.self.inside.count slots c.self.invariant.slotted in
+    rw (← c.self.view_is) (omega (arith, found.looks, many, c.self.invariant.slotted.counted))
+
+pub returns-in_err-absent-clause-looks : goal.returns-in_err-absent-clause-looks
+returns-in_err-absent-clause-looks g c =
+    let i = c.self.inside in
+    let slots = map g.E.SlotEntry.held c.self.inside.slots.items in
+    let found = rw c.deref.ensures.value at c.seek-place.ensures in
+    let many = slotted_count g.E.SketchEntry.key _ c.self.inside.lg_cur_size _ c.self.inside.count slots c.self.invariant.slotted in
+    rw (← c.self.view_is) (omega (arith, found.looks, many, c.self.invariant.slotted.counted))
+
+pub returns-in-None-clause-looks : goal.returns-in-None-clause-looks
+returns-in-None-clause-looks g c =
+    let i = c.self.inside in
+    let slots = map g.E.SlotEntry.held c.self.inside.slots.items in
+    let found = rw c.deref.ensures.value at c.seek-place.ensures in
+    let many = slotted_count g.E.SketchEntry.key _ c.self.inside.lg_cur_size _ c.self.inside.count slots c.self.invariant.slotted in
+    rw (← c.self.view_is) (omega (arith, found.looks, many, c.self.invariant.slotted.counted))
+
+pub returns-in_err-settled-in-Some-clause-looks : goal.returns-in_err-settled-in-Some-clause-looks
+returns-in_err-settled-in-Some-clause-looks g c =
+    let i = c.self.inside in
+    let slots = map g.E.SlotEntry.held c.self.inside.slots.items in
+    let found = rw c.deref.ensures.value at c.seek-place.ensures in
+    let many = slotted_count g.E.SketchEntry.key _ c.self.inside.lg_cur_size _ c.self.inside.count slots c.self.invariant.slotted in
+    rw (← c.self.view_is) (omega (arith, found.looks, many, c.self.invariant.slotted.counted, c.put_entry.ensures.looks))
+
+pub returns-in_ok-settled-in-Some-clause-looks : goal.returns-in_ok-settled-in-Some-clause-looks
+returns-in_ok-settled-in-Some-clause-looks g c =
+    let i = c.self.inside in
+    let slots = map g.E.SlotEntry.held c.self.inside.slots.items in
+    let found = rw c.deref.ensures.value at c.seek-place.ensures in
+    let many = slotted_count g.E.SketchEntry.key _ c.self.inside.lg_cur_size _ c.self.inside.count slots c.self.invariant.slotted in
+    rw (← c.self.view_is) (omega (arith, found.looks, many, c.self.invariant.slotted.counted, c.put_entry.ensures.looks))
+
+pub returns-then-hash-eq0-clause-memory : goal.returns-then-hash-eq0-clause-memory
+returns-then-hash-eq0-clause-memory g c =
+    let s : is_screened c.args.hash c.self.inside.theta ≡ true =
+    is_screened_true _ _ (elim c.then-hash-eq0.branch [ then-hash-eq0-via-then-hash-eq0 w ↦ inl w.if-hash-eq0.true | then-hash-eq0-via-else-hash-eq0+then-hash-self w ↦ inr w.if-hash-self.true ]) in
+    let case = screened_case g.E.SketchEntry.key (2 ^ c.self.inside.lg_nom_size) c.args.hash (g.S.UpsertStep.means c.args.step) (record { entries = map_of g.E.SketchEntry.key (filled (map g.E.SlotEntry.held c.self.inside.slots.items)); theta = c.self.inside.theta }) s in
+    rw (← c.self.view_is) (λ low. case.refusal_is)
+
+pub returns-in_err-write_at-clause-memory : goal.returns-in_err-write_at-clause-memory
+returns-in_err-write_at-clause-memory g c =
+    let key = g.E.SketchEntry.key in
+    let i = c.self.inside in
+    let slots = map g.E.SlotEntry.held c.self.inside.slots.items in
+    let at : ℕ = c.seek-place.result.at in
+    let passes = is_screened_false c.args.hash c.self.inside.theta c.if-hash-eq0.false c.if-hash-self.false in
+    let found = rw c.deref.ensures.value at c.seek-place.ensures in
+    let has : c.self.inside.has_slots ≡ true = must_have key _ c.self.inside.lg_cur_size _ c.self.inside.count c.args.hash slots c.self.invariant.slotted refl passes (rw (← c.self.view_is) at c.requires.room) in
+    let laid = c.self.invariant.slotted.laid_out has in
+    let there = search_finds key c.self.inside.lg_cur_size c.args.hash at slots laid found.on_path found.ends in
+    let step = g.S.UpsertStep.means c.args.step in
+    let one = taken_is (slot slots at) _ found.told c.if-not-place.true in
+    let case = existing_case key (2 ^ c.self.inside.lg_nom_size) c.args.hash step (record { entries = map_of key (filled slots); theta = c.self.inside.theta }) one.0 passes (there ∙ one.1) in
+    let p = err_from_is_err_and c.from_residual.result c.from_residual.ensures.1 in
+    rw (p.1, p.2, ← c.self.view_is, case.refusal_is, passes) (λ low. ((rw c.deref_mut.ensures.value at c.in_err-write_at.ensures.refused) one.0 one.1))
+
+pub returns-then-not-place-clause-memory : goal.returns-then-not-place-clause-memory
+returns-then-not-place-clause-memory g c =
+    let key = g.E.SketchEntry.key in
+    let i = c.self.inside in
+    let slots = map g.E.SlotEntry.held c.self.inside.slots.items in
+    let at : ℕ = c.seek-place.result.at in
+    let passes = is_screened_false c.args.hash c.self.inside.theta c.if-hash-eq0.false c.if-hash-self.false in
+    let found = rw c.deref.ensures.value at c.seek-place.ensures in
+    let has : c.self.inside.has_slots ≡ true = must_have key _ c.self.inside.lg_cur_size _ c.self.inside.count c.args.hash slots c.self.invariant.slotted refl passes (rw (← c.self.view_is) at c.requires.room) in
+    let laid = c.self.invariant.slotted.laid_out has in
+    let there = search_finds key c.self.inside.lg_cur_size c.args.hash at slots laid found.on_path found.ends in
+    let step = g.S.UpsertStep.means c.args.step in
+    let one = taken_is (slot slots at) _ found.told c.if-not-place.true in
+    let case = existing_case key (2 ^ c.self.inside.lg_nom_size) c.args.hash step (record { entries = map_of key (filled slots); theta = c.self.inside.theta }) one.0 passes (there ∙ one.1) in
+    rw (← c.self.view_is) (λ low. (case.refusal_is ∙ (rw c.deref_mut.ensures.value at c.in_ok-write_at.ensures.refused) one.0 one.1))
+
+pub returns-in_err-absent-clause-memory : goal.returns-in_err-absent-clause-memory
+returns-in_err-absent-clause-memory g c =
+    let key = g.E.SketchEntry.key in
+    let i = c.self.inside in
+    let slots = map g.E.SlotEntry.held c.self.inside.slots.items in
+    let at : ℕ = c.seek-place.result.at in
+    let passes = is_screened_false c.args.hash c.self.inside.theta c.if-hash-eq0.false c.if-hash-self.false in
+    let found = rw c.deref.ensures.value at c.seek-place.ensures in
+    let has : c.self.inside.has_slots ≡ true = must_have key _ c.self.inside.lg_cur_size _ c.self.inside.count c.args.hash slots c.self.invariant.slotted refl passes (rw (← c.self.view_is) at c.requires.room) in
+    let laid = c.self.invariant.slotted.laid_out has in
+    let there = search_finds key c.self.inside.lg_cur_size c.args.hash at slots laid found.on_path found.ends in
+    let step = g.S.UpsertStep.means c.args.step in
+    let free : slot slots at ≡ None = free_is (slot slots at) _ found.told c.if-not-place.false in
+    let case = absent_case key (2 ^ c.self.inside.lg_nom_size) c.args.hash step (record { entries = map_of key (filled slots); theta = c.self.inside.theta }) passes (there ∙ free) in
+    let p = err_from_is_err_and c.from_residual-in_err-absent.result c.from_residual-in_err-absent.ensures.1 in
+    rw (p.1, p.2, ← c.self.view_is, case.refusal_is, passes) (λ low. c.in_err-absent.ensures.refused)
+
+pub returns-in_err-settled-in-Some-clause-memory : goal.returns-in_err-settled-in-Some-clause-memory
+returns-in_err-settled-in-Some-clause-memory g c =
+    let key = g.E.SketchEntry.key in
+    let i = c.self.inside in
+    let slots = map g.E.SlotEntry.held c.self.inside.slots.items in
+    let at : ℕ = c.seek-place.result.at in
+    let passes = is_screened_false c.args.hash c.self.inside.theta c.if-hash-eq0.false c.if-hash-self.false in
+    let found = rw c.deref.ensures.value at c.seek-place.ensures in
+    let has : c.self.inside.has_slots ≡ true = must_have key _ c.self.inside.lg_cur_size _ c.self.inside.count c.args.hash slots c.self.invariant.slotted refl passes (rw (← c.self.view_is) at c.requires.room) in
+    let laid = c.self.invariant.slotted.laid_out has in
+    let there = search_finds key c.self.inside.lg_cur_size c.args.hash at slots laid found.on_path found.ends in
+    let step = g.S.UpsertStep.means c.args.step in
+    let free : slot slots at ≡ None = free_is (slot slots at) _ found.told c.if-not-place.false in
+    let case = absent_case key (2 ^ c.self.inside.lg_nom_size) c.args.hash step (record { entries = map_of key (filled slots); theta = c.self.inside.theta }) passes (there ∙ free) in
+    let p = err_from_is_err_and c.from_residual-in_err-settled-in-Some.result c.from_residual-in_err-settled-in-Some.ensures.1 in
+    let made = sym c.in_ok-absent.ensures.made ∙ c.in-Some.is in
+    rw (p.1, p.2, ← c.self.view_is) (λ low.
+    let many = slotted_count key _ c.self.inside.lg_cur_size _ c.self.inside.count slots c.self.invariant.slotted in
+    let few : c.self.inside.count < threshold c.self.inside.lg_cur_size c.self.inside.lg_nom_size = omega (arith, many, low) in
+    let ok = c.in_err-settled-in-Some.ensures.room few in absurd (cc))
+
+pub returns-in-None-clause-memory : goal.returns-in-None-clause-memory
+returns-in-None-clause-memory g c =
+    let key = g.E.SketchEntry.key in
+    let i = c.self.inside in
+    let slots = map g.E.SlotEntry.held c.self.inside.slots.items in
+    let at : ℕ = c.seek-place.result.at in
+    let passes = is_screened_false c.args.hash c.self.inside.theta c.if-hash-eq0.false c.if-hash-self.false in
+    let found = rw c.deref.ensures.value at c.seek-place.ensures in
+    let has : c.self.inside.has_slots ≡ true = must_have key _ c.self.inside.lg_cur_size _ c.self.inside.count c.args.hash slots c.self.invariant.slotted refl passes (rw (← c.self.view_is) at c.requires.room) in
+    let laid = c.self.invariant.slotted.laid_out has in
+    let there = search_finds key c.self.inside.lg_cur_size c.args.hash at slots laid found.on_path found.ends in
+    let step = g.S.UpsertStep.means c.args.step in
+    let free : slot slots at ≡ None = free_is (slot slots at) _ found.told c.if-not-place.false in
+    let case = absent_case key (2 ^ c.self.inside.lg_nom_size) c.args.hash step (record { entries = map_of key (filled slots); theta = c.self.inside.theta }) passes (there ∙ free) in
+    rw (← c.self.view_is) (λ low. (case.refusal_is ∙ c.in_ok-absent.ensures.refused))
+
+pub returns-in_ok-settled-in-Some-clause-memory : goal.returns-in_ok-settled-in-Some-clause-memory
+returns-in_ok-settled-in-Some-clause-memory g c =
+    let key = g.E.SketchEntry.key in
+    let i = c.self.inside in
+    let slots = map g.E.SlotEntry.held c.self.inside.slots.items in
+    let at : ℕ = c.seek-place.result.at in
+    let passes = is_screened_false c.args.hash c.self.inside.theta c.if-hash-eq0.false c.if-hash-self.false in
+    let found = rw c.deref.ensures.value at c.seek-place.ensures in
+    let has : c.self.inside.has_slots ≡ true = must_have key _ c.self.inside.lg_cur_size _ c.self.inside.count c.args.hash slots c.self.invariant.slotted refl passes (rw (← c.self.view_is) at c.requires.room) in
+    let laid = c.self.invariant.slotted.laid_out has in
+    let there = search_finds key c.self.inside.lg_cur_size c.args.hash at slots laid found.on_path found.ends in
+    let step = g.S.UpsertStep.means c.args.step in
+    let free : slot slots at ≡ None = free_is (slot slots at) _ found.told c.if-not-place.false in
+    let case = absent_case key (2 ^ c.self.inside.lg_nom_size) c.args.hash step (record { entries = map_of key (filled slots); theta = c.self.inside.theta }) passes (there ∙ free) in
+    rw (← c.self.view_is) (λ low. (case.refusal_is ∙ c.in_ok-absent.ensures.refused))
+
+pub returns-in_ok-settled-in-Some-clause-ticked : goal.returns-in_ok-settled-in-Some-clause-ticked
+returns-in_ok-settled-in-Some-clause-ticked g c =
+    let slots = map g.E.SlotEntry.held c.self.inside.slots.items in
+    let many = slotted_count g.E.SketchEntry.key _ c.self.inside.lg_cur_size _ c.self.inside.count slots c.self.invariant.slotted in
+    rw (← c.self.view_is, ← many) (c.in_ok-settled-in-Some.ensures.ticked ∙ ticked_looks c.self.inside.lg_cur_size c.self.inside.lg_nom_size c.lg_value.result c.self.inside.count c.self.inside.counts c.seek-place.new.looks c.put_entry.new.counts.looks)
+
+pub returns-in_ok-settled-in-Some-clause-sized : goal.returns-in_ok-settled-in-Some-clause-sized
+returns-in_ok-settled-in-Some-clause-sized g c =
+    let slots = map g.E.SlotEntry.held c.self.inside.slots.items in
+    let many = slotted_count g.E.SketchEntry.key _ c.self.inside.lg_cur_size _ c.self.inside.count slots c.self.invariant.slotted in
+    rw (← c.self.view_is, ← many) (rw c.lg_value.ensures at c.in_ok-settled-in-Some.ensures.size)
+
+pub returns-in_ok-settled-in-Some-clause-seldom : goal.returns-in_ok-settled-in-Some-clause-seldom
+returns-in_ok-settled-in-Some-clause-seldom g c =
+    let key = g.E.SketchEntry.key in
+    let i = c.self.inside in
+    let slots = map g.E.SlotEntry.held c.self.inside.slots.items in
+    let at : ℕ = c.seek-place.result.at in
+    let passes = is_screened_false c.args.hash c.self.inside.theta c.if-hash-eq0.false c.if-hash-self.false in
+    let found = rw c.deref.ensures.value at c.seek-place.ensures in
+    let has : c.self.inside.has_slots ≡ true = must_have key _ c.self.inside.lg_cur_size _ c.self.inside.count c.args.hash slots c.self.invariant.slotted refl passes (rw (← c.self.view_is) at c.requires.room) in
+    let laid = c.self.invariant.slotted.laid_out has in
+    let there = search_finds key c.self.inside.lg_cur_size c.args.hash at slots laid found.on_path found.ends in
+    let free : slot slots at ≡ None = free_is (slot slots at) _ found.told c.if-not-place.false in
+    let lg = c.self.inside.lg_cur_size in
+    let nom = c.self.inside.lg_nom_size in
+    let count = c.self.inside.count in
+    let fits : nom < 3 → count + 1 < 2 ^ lg = must_fit key _ lg _ count c.args.hash slots c.self.invariant.slotted refl has passes (there ∙ free) (rw (← c.self.view_is) at c.requires.room) in
+    let sized = rw (← c.lg_value.ensures) at (c.self.invariant.slotted.sized has) in
+    let was = counted_looks lg nom count c.self.inside.counts c.self.invariant.counted c.seek-place.new.looks in
+    let is = ticked_seldom lg nom c.lg_value.result count (record c.self.inside.counts { looks = c.seek-place.new.looks }) sized fits was in
+    rw (← c.self.view_is) (rw (← ap (λ d. d.rebuilds) c.in_ok-settled-in-Some.ensures.ticked) at is)
+
+pub returns-then-hash-eq0-clause-looked : goal.returns-then-hash-eq0-clause-looked
+returns-then-hash-eq0-clause-looked g c =
+    let s : is_screened c.args.hash c.self.inside.theta ≡ true =
+    is_screened_true _ _ (elim c.then-hash-eq0.branch [ then-hash-eq0-via-then-hash-eq0 w ↦ inl w.if-hash-eq0.true | then-hash-eq0-via-else-hash-eq0+then-hash-self w ↦ inr w.if-hash-self.true ]) in
+    rw (← c.self.view_is) (λ passes. absurd (cc))
+
+pub returns-in_err-write_at-clause-looked : goal.returns-in_err-write_at-clause-looked
+returns-in_err-write_at-clause-looked g c =
+    let found = rw c.deref.ensures.value at c.seek-place.ensures in
+    rw (← c.self.view_is) (λ _. found.looked)
+
+pub returns-then-not-place-clause-looked : goal.returns-then-not-place-clause-looked
+returns-then-not-place-clause-looked g c =
+    let found = rw c.deref.ensures.value at c.seek-place.ensures in
+    rw (← c.self.view_is) (λ _. found.looked)
+
+pub returns-in_err-absent-clause-looked : goal.returns-in_err-absent-clause-looked
+returns-in_err-absent-clause-looked g c =
+    let found = rw c.deref.ensures.value at c.seek-place.ensures in
+    rw (← c.self.view_is) (λ _. found.looked)
+
+pub returns-in-None-clause-looked : goal.returns-in-None-clause-looked
+returns-in-None-clause-looked g c =
+    let found = rw c.deref.ensures.value at c.seek-place.ensures in
+    rw (← c.self.view_is) (λ _. found.looked)
+
+pub returns-in_err-settled-in-Some-clause-looked : goal.returns-in_err-settled-in-Some-clause-looked
+returns-in_err-settled-in-Some-clause-looked g c =
+    let found = rw c.deref.ensures.value at c.seek-place.ensures in
+    rw (← c.self.view_is) (λ _. omega (arith, found.looked, c.put_entry.ensures.looked))
+
+pub returns-in_ok-settled-in-Some-clause-looked : goal.returns-in_ok-settled-in-Some-clause-looked
+returns-in_ok-settled-in-Some-clause-looked g c =
+    let found = rw c.deref.ensures.value at c.seek-place.ensures in
+    rw (← c.self.view_is) (λ _. omega (arith, found.looked, c.put_entry.ensures.looked))

@@ -1,0 +1,103 @@
+//! Why the program answers nothing.
+
+use sketch_base::Error;
+use std::alloc::{AllocError, AllocFailed};
+use std::{fmt, io};
+
+/// Why the program answers nothing. A file has the name that it was given by.
+#[derive(Debug, Drop)]
+pub enum Failure {
+    /// An argument is not text in UTF-8.
+    NotText,
+    /// No word says what is asked for.
+    NoCommand,
+    /// The first word is none that says what is asked for.
+    UnknownCommand(String),
+    /// An option is none of the command's.
+    UnknownOption(String),
+    /// An option that takes a value stands last.
+    NoValue(String),
+    /// `--lg-k` is not followed by a number from 5 to 26.
+    WrongSize,
+    /// `--field` is not followed by a number from 1 on.
+    WrongField,
+    /// `--separator` is not followed by one byte.
+    WrongSeparator,
+    /// The command asks for images.
+    NoFiles,
+    /// `minus` asks for two images.
+    NotTwo,
+    /// Memory was refused.
+    Memory,
+    /// A file can't be read.
+    Unreadable(String, io::Error),
+    /// A file is no image, or its line of this number, from 1; 0 where lines are not told apart.
+    NoSketch(String, u64),
+    /// An output failed: standard output, or the file of this name.
+    NotWritten(String, io::Error),
+}
+
+impl Failure {
+    /// The exit status: 2 where the arguments are wrong, else 1.
+    pub fn status(&self) -> u8 {
+        match self {
+            Failure::Memory => 1,
+            Failure::Unreadable(_, _) => 1,
+            Failure::NoSketch(_, _) => 1,
+            Failure::NotWritten(_, _) => 1,
+            _ => 2,
+        }
+    }
+}
+
+impl fmt::Display for Failure {
+    fn fmt<W: fmt::Write>(&self, f: &mut fmt::Formatter<W>) -> fmt::Result {
+        match self {
+            Failure::NotText => write!(f, "an argument is not UTF-8 text"),
+            Failure::NoCommand => write!(
+                f,
+                "say what is wanted: count, sketch, union, meet, minus or show (try --help)"
+            ),
+            Failure::UnknownCommand(word) => write!(
+                f,
+                "{word}: not one of count, sketch, union, meet, minus and show (try --help)"
+            ),
+            Failure::UnknownOption(option) => write!(f, "{option}: no such option (try --help)"),
+            Failure::NoValue(option) => write!(f, "{option}: a value has to follow"),
+            Failure::WrongSize => write!(f, "--lg-k takes a number from 5 to 26"),
+            Failure::WrongField => write!(f, "--field takes a number from 1 on"),
+            Failure::WrongSeparator => write!(f, "--separator takes one byte"),
+            Failure::NoFiles => write!(f, "which images? (try --help)"),
+            Failure::NotTwo => write!(f, "minus takes two images (try --help)"),
+            Failure::Memory => write!(f, "out of memory"),
+            Failure::Unreadable(name, error) => write!(f, "{name}: {error}"),
+            Failure::NoSketch(name, 0) => write!(
+                f,
+                "{name}: not an image of a theta sketch, or cut short, or of another seed"
+            ),
+            Failure::NoSketch(name, line) => write!(
+                f,
+                "{name}: line {line} is not an image in hexadecimal, or cut short, or of another seed"
+            ),
+            Failure::NotWritten(name, error) => write!(f, "{name}: {error}"),
+        }
+    }
+}
+
+impl From<AllocError> for Failure {
+    fn from(_e: AllocError) -> Failure {
+        Failure::Memory
+    }
+}
+
+impl From<Error> for Failure {
+    fn from(_e: Error) -> Failure {
+        Failure::Memory
+    }
+}
+
+impl<T: Drop> From<AllocFailed<T>> for Failure {
+    fn from(_e: AllocFailed<T>) -> Failure {
+        Failure::Memory
+    }
+}

@@ -1,0 +1,119 @@
+//! The images that files have: a file is one, or each of its lines is one in hexadecimal.
+ghost use Rattle.std.specs.Prelude.{None};
+
+use crate::failure::Failure;
+use crate::inputs::{Input, Inputs};
+use line_sketches::{Sources, read_hex};
+use std::io;
+use std::io::{BufRead, BufReader, Cursor, ErrorKind, Read};
+
+/// The images of files, one after another.
+#[derive(Drop)]
+pub struct Images<'a> {
+    rt: &'a HostRuntime,
+    inputs: Inputs<'a>,
+    hex: bool,
+    open: Option<BufReader<Input>>,
+    line: u64,
+}
+
+impl<'a> Images<'a> {
+    pub fn new(rt: &'a HostRuntime, names: &'a [String], hex: bool) -> Images<'a> {
+        Images {
+            rt,
+            inputs: Inputs::named(rt, names),
+            hex,
+            open: None,
+            line: 0,
+        }
+    }
+
+    /// The name of the file that was opened last, as messages call it.
+    pub fn name(&self) -> &'a str {
+        self.inputs.name()
+    }
+
+    /// Why there is no image: the file can't be read.
+    pub fn unreadable(&self, error: io::Error) -> Failure {
+        if error.kind() == ErrorKind::InvalidData {
+            return self.no_sketch();
+        }
+        self.inputs.unreadable(error)
+    }
+
+    /// Why there is no image: it was read, and is none.
+    pub fn no_sketch(&self) -> Failure {
+        match String::from_str(self.rt.alloc(), self.name()) {
+            Ok(name) => Failure::NoSketch(name, self.line),
+            Err(_) => Failure::Memory,
+        }
+    }
+
+    /// The next image, or `None` at the end.
+    pub fn next_image(&mut self) -> io::Result<Option<Vec<u8>>> {
+        if self.hex {
+            self.next_line()
+        } else {
+            self.next_whole()
+        }
+    }
+
+    /// All that the next file has.
+    fn next_whole(&mut self) -> io::Result<Option<Vec<u8>>> {
+        let Some(mut input) = self.inputs.next_source()? else {
+            return Ok(None);
+        };
+        let mut image = Vec::new(self.rt.alloc());
+        input.read_to_end(&mut image)?;
+        Ok(Some(image))
+    }
+
+    /// The bytes of the next line of the files.
+    fn next_line(&mut self) -> io::Result<Option<Vec<u8>>> {
+        for _ in 0..u64::MAX {
+            if let Some(image) = self.line_of_open()? {
+                return Ok(Some(image));
+            }
+            let Some(input) = self.inputs.next_source()? else {
+                return Ok(None);
+            };
+            self.open = Some(BufReader::new(self.rt.alloc(), input)?);
+            self.line = 0;
+        }
+        Ok(None)
+    }
+
+    /// The bytes of the next line of the file that is open.
+    fn line_of_open(&mut self) -> io::Result<Option<Vec<u8>>> {
+        let Some(reader) = &mut self.open else {
+            return Ok(None);
+        };
+        let mut line = Vec::new(self.rt.alloc());
+        let count = reader.read_until(b'\n', &mut line)?;
+        if count == 0 {
+            return Ok(None);
+        }
+        self.line = self.line.saturating_add(1);
+        let digits = match line.as_slice() {
+            [digits @ .., b'\n'] => digits,
+            digits => digits,
+        };
+        match read_hex(self.rt.alloc(), digits)? {
+            Some(image) => Ok(Some(image)),
+            None => Err(io::Error::from(ErrorKind::InvalidData)),
+        }
+    }
+}
+
+impl<'a> Sources for Images<'a> {
+    type Source = Cursor<Vec<u8>>;
+
+    ghost texts = { λ _. None };
+
+    fn next_source(&mut self) -> io::Result<Option<Cursor<Vec<u8>>>> {
+        match self.next_image()? {
+            Some(image) => Ok(Some(Cursor::new(image))),
+            None => Ok(None),
+        }
+    }
+}

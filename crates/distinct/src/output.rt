@@ -1,0 +1,72 @@
+//! Where answers go.
+
+use crate::failure::Failure;
+use line_sketches::hex_line;
+use std::io::Write;
+use std::{fs, io};
+
+/// Writes to standard output.
+pub fn print(rt: &HostRuntime, bytes: &[u8]) -> Result<(), Failure> {
+    match rt.stdout().write_all(bytes) {
+        Ok(()) => Ok(()),
+        Err(error) => Err(not_written(rt, "standard output", error)),
+    }
+}
+
+/// Writes an image, as it is or in hexadecimal, to standard output or to a file.
+pub fn put_image(
+    rt: &HostRuntime,
+    hex: bool,
+    output: Option<&str>,
+    image: &[u8],
+) -> Result<(), Failure> {
+    if hex {
+        let line = hex_line(rt.alloc(), image)?;
+        put(rt, output, line.as_slice())
+    } else {
+        put(rt, output, image)
+    }
+}
+
+fn put(rt: &HostRuntime, output: Option<&str>, bytes: &[u8]) -> Result<(), Failure> {
+    match output {
+        None => print(rt, bytes),
+        Some(name) => match put_file(rt, name, bytes) {
+            Ok(()) => Ok(()),
+            Err(error) => Err(not_written(rt, name, error)),
+        },
+    }
+}
+
+/// Whether something of this name stands that is no file, such as a device or a pipe.
+fn is_special(rt: &HostRuntime, name: &str) -> bool {
+    match fs::metadata(rt, name) {
+        Ok(metadata) => !metadata.is_file() && !metadata.is_dir(),
+        Err(_) => false,
+    }
+}
+
+/// Writes a file, all or nothing: first beside it, and then under its name.
+fn put_file(rt: &HostRuntime, name: &str, bytes: &[u8]) -> io::Result<()> {
+    if is_special(rt, name) {
+        return fs::write(rt, name, bytes);
+    }
+    let beside = format!(in rt.alloc(); "{name}.part")?;
+    let put = put_beside(rt, beside.as_str(), name, bytes);
+    if put.is_err() {
+        let _ = fs::remove_file(rt, beside.as_str());
+    }
+    put
+}
+
+fn put_beside(rt: &HostRuntime, beside: &str, name: &str, bytes: &[u8]) -> io::Result<()> {
+    fs::write(rt, beside, bytes)?;
+    fs::rename(rt, beside, name)
+}
+
+fn not_written(rt: &HostRuntime, name: &str, error: io::Error) -> Failure {
+    match String::from_str(rt.alloc(), name) {
+        Ok(name) => Failure::NotWritten(name, error),
+        Err(_) => Failure::Memory,
+    }
+}

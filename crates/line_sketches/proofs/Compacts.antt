@@ -1,0 +1,95 @@
+-- Ordered sketches of lines keep the laws of compact sketches, and their images are read as them.
+use Rattle.std.proofs.Common.{◌≡◌, ℕ, ◌^◌, ◌<◌, ◌≤◌, Bool, true, false, cond, List, [], ◌∷◌, ◌++◌, length, take, Option, Some, None, refl, sym, ap, subst, ◌∙◌, arith, append-nil, length-take-le, inl, inr}
+use Rattle.std.specs.List.{AllByRecursion, concat}
+use Rattle.std.specs.Option.{option_map_or}
+use Rattle.std.proofs.lemmas.Bool.Decides.{nat_tests}
+use Rattle.std.proofs.Math.Pow.{pow_mono}
+use Rattle.sketch_base.specs.Seed.{seed_hash}
+use Rattle.sketch_base.specs.declared.seed.TheConstants.{DEFAULT_UPDATE_SEED}
+use Rattle.theta_laws.specs.Cuts.{Retained, IsRetained, cut}
+use Rattle.theta_laws.specs.Entries.{hash_key, first_hash, hash_step, is_carried}
+use Rattle.theta_laws.specs.Insertion.{whole_upsert}
+use Rattle.theta_laws.specs.Leaf.{whole_from, hash_step_of}
+use Rattle.theta_laws.specs.Maps.{IsAscending, entry_at, with_entry, rank}
+use Rattle.theta_laws.specs.declared.TheConstants.{MAX_THETA}
+use Rattle.theta_laws.proofs.insertions.Cases.{IsRetained-cut, length-cut}
+use Rattle.theta_laws.proofs.maps.Ascending.{each-with_entry}
+use Rattle.theta_laws.proofs.cuts.WithinWholeMaps.{found_key}
+use Rattle.theta_compact.specs.CompactState.{Compact, IsCompact}
+use Rattle.theta_compact.proofs.LawsOfShown.{IsShown-retained, IsShown-none}
+use Rattle.theta_sketches.specs.Image.{Reads, written}
+use Rattle.lines.specs.Keys.{line_hash}
+use Rattle.lines.specs.Lines.{lines_of, AreWhole}
+use Rattle.lines.specs.declared.key.Key.{Key}
+use Rattle.line_sketches.specs.Keys.{adds, key_set, value_of_lines, ordered_sketch, image_of_text}
+use Rattle.line_sketches.specs.Shards.{united, values_of_sketches, AreRead, sketches_of_texts, images_of_texts}
+use Rattle.line_sketches.specs.Unions.{IsUnitedImage}
+use Rattle.line_sketches.proofs.Shards.{sample, united_texts}
+use Rattle.line_sketches.proofs.Rereads.{ReadsOne, ReadsAgain, reads_it, values_read}
+
+module _ (key : Key) where
+  nonzero-upsert : (h : ℕ) (w : List ℕ) → 0 < h → AllByRecursion (λ (e : ℕ). 0 < e) w → AllByRecursion (λ (e : ℕ). 0 < e) (whole_upsert hash_key h (hash_step h) w)
+  nonzero-upsert h w low all =
+      (elim (entry_at hash_key w h) as (λ o. entry_at hash_key w h ≡ o → AllByRecursion (λ (e : ℕ). 0 < e) (option_map_or (λ x. with_entry hash_key w x) o (with_entry hash_key w h))) [
+        | Some e ↦ λ found. let same : e ≡ h = found_key hash_key w h e found in each-with_entry hash_key (λ (z : ℕ). 0 < z) w e all (omega arith)
+        | None ↦ λ found. each-with_entry hash_key (λ (z : ℕ). 0 < z) w h all low
+      ]) refl
+
+  nonzero-from : (lines : List (List ℕ)) (w : List ℕ) → AllByRecursion (λ (e : ℕ). 0 < e) w → AllByRecursion (λ (e : ℕ). 0 < e) (whole_from hash_key hash_step_of (adds key lines) w)
+  nonzero-from [] w all = all
+  nonzero-from (line ∷ lines) w all = nonzero-from lines _
+      ((elim (is_carried (line_hash key line)) as (λ b. is_carried (line_hash key line) ≡ b → AllByRecursion (λ (e : ℕ). 0 < e) (cond b (whole_upsert hash_key (line_hash key line) (hash_step (line_hash key line)) w) w)) [
+        | true ↦ λ e. nonzero-upsert (line_hash key line) w (let h : ℕ = line_hash key line in grind (arith, nat_tests)) all
+        | false ↦ λ e. all
+      ]) refl)
+
+  set_retained : (lg_k : ℕ) (lines : List (List ℕ)) → IsRetained hash_key (record { entries = key_set key lines; theta = MAX_THETA })
+  set_retained lg_k lines = let s = sample key lg_k lines in record {
+    ascending = s.ascending;
+    nonzero = nonzero-from lines [] tt;
+    below_theta = s.carried;
+    theta_low = omega arith;
+    theta_high = omega arith;
+  }
+
+  pub compact : (lg_k : ℕ) (lines : List (List ℕ)) → lg_k ≤ 26 → IsCompact hash_key (ordered_sketch (value_of_lines key lg_k lines))
+  compact lg_k [] small = record { shown = IsShown-none MAX_THETA (seed_hash DEFAULT_UPDATE_SEED) true true (omega arith) (omega arith) (λ _. refl); empty_ordered = λ _. refl }
+  compact lg_k (line ∷ lines) small =
+      let all = set_retained lg_k (line ∷ lines) in
+      let few : length (cut hash_key (2 ^ lg_k) (key_set key (line ∷ lines)) MAX_THETA).entries ≤ 2 ^ lg_k = length-cut hash_key (2 ^ lg_k) (key_set key (line ∷ lines)) MAX_THETA all.ascending in record {
+        shown = IsShown-retained hash_key (cut hash_key (2 ^ lg_k) (key_set key (line ∷ lines)) MAX_THETA) (seed_hash DEFAULT_UPDATE_SEED) true (IsRetained-cut hash_key (2 ^ lg_k) (key_set key (line ∷ lines)) MAX_THETA all) (omega (arith, pow_mono {i = lg_k} {j = 26} small));
+        empty_ordered = λ e. absurd (cc);
+      }
+
+  -- the image of a text is read as its sketch
+  module _ (again : ReadsAgain) (seeded : 0 < seed_hash DEFAULT_UPDATE_SEED) (lg_k : ℕ) (small : lg_k ≤ 26) where
+    seed_of : (lines : List (List ℕ)) → (ordered_sketch (value_of_lines key lg_k lines)).seed_hash ≡ seed_hash DEFAULT_UPDATE_SEED
+    seed_of [] = refl
+    seed_of (line ∷ lines) = refl
+
+    pub images_read : (texts : List (List ℕ)) → AreRead (images_of_texts key lg_k texts) (sketches_of_texts key lg_k texts)
+    images_read [] = tt
+    images_read (text ∷ texts) = (
+      reads_it again (ordered_sketch (value_of_lines key lg_k (lines_of text))) DEFAULT_UPDATE_SEED (image_of_text key lg_k text) (compact lg_k (lines_of text) small) (seed_of (lines_of text)) seeded refl,
+      images_read texts,
+    )
+
+-- an image that is read tells that the seed has a hash
+seeded_by : (image : List ℕ) (images : List (List ℕ)) (sketches : List (Compact ℕ)) → AreRead (image ∷ images) sketches → 0 < seed_hash DEFAULT_UPDATE_SEED
+seeded_by image images [] read = absurd read
+seeded_by image images (s ∷ sketches) read = read.0.seeded
+
+module _ (one : ReadsOne) (again : ReadsAgain) (key : Key) (lg_k : ℕ) (small : lg_k ≤ 26) where
+  are_written : (texts : List (List ℕ)) (sketches : List (Compact ℕ)) → AreRead (images_of_texts key lg_k texts) sketches → AreRead (images_of_texts key lg_k texts) (sketches_of_texts key lg_k texts)
+  are_written [] sketches read = tt
+  are_written (text ∷ texts) sketches read = images_read key again (seeded_by (image_of_text key lg_k text) (images_of_texts key lg_k texts) sketches read) lg_k small (text ∷ texts)
+
+  texts_united : (texts : List (List ℕ)) (sketches : List (Compact ℕ)) (bytes : List ℕ) → AreWhole texts → AreRead (images_of_texts key lg_k texts) sketches → bytes ≡ written (ordered_sketch (united lg_k (values_of_sketches sketches))) →
+      bytes ≡ image_of_text key lg_k (concat texts)
+  texts_united texts sketches bytes whole read is =
+      is ∙ ap (λ v. written (ordered_sketch v)) (ap (united lg_k) (values_read key one lg_k (images_of_texts key lg_k texts) sketches texts (are_written texts sketches read) read) ∙ united_texts key lg_k texts whole)
+
+  -- the union of the images of texts is the image of the texts one behind the other
+  pub united_whole : (texts images : List (List ℕ)) (bytes : List ℕ) → AreWhole texts → images ≡ images_of_texts key lg_k texts → IsUnitedImage lg_k images bytes → bytes ≡ image_of_text key lg_k (concat texts)
+  united_whole texts images bytes whole are image =
+      texts_united texts image.0 bytes whole (subst (λ (is : List (List ℕ)). AreRead is image.0) are image.1) image.2

@@ -1,0 +1,54 @@
+-- Sketches that are handed to an intersection one by one.
+use Rattle.std.proofs.Common.{◌≡◌, ℕ, ◌+◌, ◌<◌, true, List, [], ◌∷◌, ◌++◌, length, get_or, take, Option, Some, None, Result, Ok, Err, refl, sym, ap, subst, ◌∙◌}
+use Rattle.std.specs.Prelude.{IfOk}
+use Rattle.std.proofs.lemmas.List.{map_more}
+use Rattle.sketch_base.specs.Seed.{seed_hash}
+use Rattle.sketch_base.specs.declared.seed.TheConstants.{DEFAULT_UPDATE_SEED}
+use Rattle.sketch_base.specs.declared.error.ErrorKind.{ErrorKind}
+use Rattle.theta_laws.specs.Entries.{hash_key, first_hash}
+use Rattle.theta_laws.specs.Operators.{meet, meet_next}
+use Rattle.theta_laws.specs.Values.{Sketch, Empty}
+use Rattle.theta_laws.proofs.operators.Meets.{meet_of_meet}
+use Rattle.theta_operators.specs.Intersection.{IsAnswerIfAny}
+use Rattle.theta_compact.specs.CompactState.{Compact, compact_value}
+use Rattle.line_sketches.specs.Keys.{ordered_sketch}
+use Rattle.line_sketches.specs.Meeting.{come_to, met_of}
+use Rattle.line_sketches.specs.Shards.{values_of_sketches}
+use Rattle.line_sketches.proofs.Worth.{ordered_answer}
+
+met_more : (vs : List (Sketch ℕ)) (last : Sketch ℕ) → ◌≡◌ {A = Option (Sketch ℕ)} (Some (meet_next hash_key first_hash (met_of vs) last)) (met_of (vs ++ last ∷ []))
+met_more [] last = refl
+met_more (v ∷ vs) last = ap (λ (u : Sketch ℕ). Some u) (sym (meet_of_meet hash_key first_hash v vs last))
+
+pub met_next : (was now : Option (Sketch ℕ)) (sketches : List (Compact ℕ)) (i : ℕ) (d : Compact ℕ) (v : Sketch ℕ) → i < length sketches → was ≡ met_of (values_of_sketches (take i sketches)) → now ≡ Some (meet_next hash_key first_hash was v) →
+    v ≡ compact_value hash_key (get_or sketches i d) → now ≡ met_of (values_of_sketches (take (i + 1) sketches))
+met_next was now sketches i d v lt so_far met is =
+    met ∙ ap (λ (o : Option (Sketch ℕ)). Some (meet_next hash_key first_hash o v)) so_far ∙ met_more (values_of_sketches (take i sketches)) v
+    ∙ ap (λ (u : Sketch ℕ). met_of (values_of_sketches (take i sketches) ++ u ∷ [])) is
+    ∙ ap met_of (sym (map_more (λ s. compact_value hash_key s) sketches i d lt))
+
+pub come_to-met : (vs : List (Sketch ℕ)) → come_to (met_of vs) ≡ meet hash_key first_hash vs
+come_to-met [] = refl
+come_to-met (v ∷ vs) = refl
+
+-- what an intersection answers, if it answers
+some_of : (o : Option (Sketch ℕ)) (h : ℕ) (s : Compact ℕ) → h ≡ seed_hash DEFAULT_UPDATE_SEED → IsAnswerIfAny hash_key o h true (Some s) → s ≡ ordered_sketch (come_to o)
+some_of None h s seed is = absurd is
+some_of (Some v) h s seed is = ordered_answer v h s seed is
+
+pub some_answer : (o : Option (Sketch ℕ)) (h : ℕ) (r : Option (Compact ℕ)) (s : Compact ℕ) → r ≡ Some s → h ≡ seed_hash DEFAULT_UPDATE_SEED → IsAnswerIfAny hash_key o h true r → s ≡ ordered_sketch (come_to o)
+some_answer o h r s is seed answer = some_of o h s seed (subst (IsAnswerIfAny hash_key o h true) is answer)
+
+none_of : (o : Option (Sketch ℕ)) (h : ℕ) → IsAnswerIfAny hash_key o h true None → Empty ≡ come_to o
+none_of None h is = refl
+none_of (Some v) h is = absurd is
+
+pub no_answer : (o : Option (Sketch ℕ)) (h : ℕ) (r : Option (Compact ℕ)) → r ≡ None → IsAnswerIfAny hash_key o h true r → Empty ≡ come_to o
+no_answer o h r is answer = none_of o h (subst (IsAnswerIfAny hash_key o h true) is answer)
+
+pub same_result : (r : Result (Compact ℕ) ErrorKind) (v w : Sketch ℕ) → w ≡ v → IfOk r (λ s. s ≡ ordered_sketch w) → IfOk r (λ s. s ≡ ordered_sketch v)
+same_result (Ok s) v w same is = is ∙ ap ordered_sketch same
+same_result (Err e) v w same is = tt
+
+pub same_item : (sketches : List (Compact ℕ)) (i : ℕ) (d : Compact ℕ) → d ≡ get_or sketches i d → compact_value hash_key d ≡ compact_value hash_key (get_or sketches i d)
+same_item sketches i d is = ap (λ s. compact_value hash_key s) is

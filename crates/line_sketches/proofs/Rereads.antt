@@ -1,0 +1,69 @@
+-- Sketches of texts, read from images.
+use Rattle.std.proofs.Common.{◌≡◌, ℕ, zero, suc, List, [], ◌∷◌, ◌++◌, ◌<◌, ◌^◌, Result, Ok, Err, arith, refl, sym, ap, subst, ◌∙◌}
+use Rattle.std.specs.Prelude.{IfOk}
+use Rattle.std.proofs.lemmas.List.{append-nil}
+use Rattle.sketch_base.specs.Seed.{seed_hash}
+use Rattle.sketch_base.specs.declared.seed.TheConstants.{DEFAULT_UPDATE_SEED}
+use Rattle.sketch_base.specs.declared.error.ErrorKind.{ErrorKind}
+use Rattle.theta_compact.specs.CompactState.{Compact, IsCompact, compact_value}
+use Rattle.theta_laws.specs.Maps.{IsAscending}
+use Rattle.theta_laws.specs.Cuts.{Retained}
+use Rattle.theta_laws.specs.Entries.{hash_key}
+use Rattle.theta_laws.specs.Samples.{IsSample}
+use Rattle.theta_laws.specs.Values.{NonEmpty}
+use Rattle.theta_laws.proofs.maps.Ascending.{ascending-filter}
+use Rattle.theta_table.proofs.OtherOrders.{map_of-ascending}
+use Rattle.theta_sketches.specs.Image.{Reads, written}
+use Rattle.lines.specs.Lines.{lines_of}
+use Rattle.line_sketches.specs.Keys.{key_set, value_of_lines, ordered_sketch}
+use Rattle.line_sketches.specs.Shards.{AreRead, sketches_of_texts, values_of_sketches, values_of_texts}
+use Rattle.line_sketches.proofs.Shards.{sample}
+use Rattle.lines.specs.declared.key.Key.{Key}
+
+-- bytes are read as one sketch at most
+abbrev pub ReadsOne : Type 0
+ReadsOne = (bytes : List ℕ) (h : ℕ) (r s : Compact ℕ) → Reads bytes h r → Reads bytes h s → r ≡ s
+
+module _ (key : Key) where
+  again : (v : Retained ℕ) (whole : List ℕ) → IsSample hash_key (NonEmpty v) whole → compact_value hash_key (ordered_sketch (NonEmpty v)) ≡ NonEmpty v
+  again v whole s =
+      let up : IsAscending hash_key v.entries = subst (IsAscending hash_key) (sym s.all_below) (ascending-filter hash_key _ whole s.ascending) in
+      ap (λ xs. NonEmpty (record { entries = xs; theta = v.theta })) (map_of-ascending hash_key v.entries up)
+
+  value_again : (lg_k : ℕ) (lines : List (List ℕ)) → compact_value hash_key (ordered_sketch (value_of_lines key lg_k lines)) ≡ value_of_lines key lg_k lines
+  value_again lg_k [] = refl
+  value_again lg_k (line ∷ lines) = again _ (key_set key (line ∷ lines)) (sample key lg_k (line ∷ lines))
+
+  module _ (one : ReadsOne) (lg_k : ℕ) where
+    pub values_read : (images : List (List ℕ)) (sketches : List (Compact ℕ)) (texts : List (List ℕ)) → AreRead images (sketches_of_texts key lg_k texts) → AreRead images sketches → values_of_sketches sketches ≡ values_of_texts key lg_k texts
+    values_read [] [] [] written read = refl
+    values_read [] [] (t ∷ ts) written read = absurd written
+    values_read [] (s ∷ ss) ts written read = absurd read
+    values_read (b ∷ bs) [] ts written read = absurd read
+    values_read (b ∷ bs) (s ∷ ss) [] written read = absurd written
+    values_read (b ∷ bs) (s ∷ ss) (t ∷ ts) written read =
+        ap (λ v. v ∷ values_of_sketches ss) (ap (λ r. compact_value hash_key r) (one b (seed_hash DEFAULT_UPDATE_SEED) s (ordered_sketch (value_of_lines key lg_k (lines_of t))) read.0 written.0) ∙ value_again lg_k (lines_of t))
+        ∙ ap (λ vs. value_of_lines key lg_k (lines_of t) ∷ vs) (values_read bs ss ts written.1 read.1)
+
+-- what is written is read
+seed_hash-small : (seed : ℕ) → seed_hash seed < 2 ^ 16
+unfolding seed_hash
+seed_hash-small seed = omega arith
+
+abbrev pub ReadsAgain : Type 0
+ReadsAgain = (s : Compact ℕ) (rest : List ℕ) → IsCompact hash_key s → 0 < s.seed_hash → s.seed_hash < 2 ^ 16 → Reads (written s ++ rest) s.seed_hash s
+
+pub reads_it : ReadsAgain → (s : Compact ℕ) (seed : ℕ) (bytes : List ℕ) → IsCompact hash_key s → s.seed_hash ≡ seed_hash seed → 0 < seed_hash seed → bytes ≡ written s → Reads bytes (seed_hash seed) s
+reads_it anew s seed bytes compact same seeded image =
+    let low : 0 < s.seed_hash = omega (arith, same, seeded) in
+    let small : s.seed_hash < 2 ^ 16 = omega (arith, same, seed_hash-small seed) in
+    let all : written s ++ [] ≡ bytes = append-nil (written s) ∙ sym image in
+    subst (λ (h : ℕ). Reads bytes h s) same (subst (λ (bs : List ℕ). Reads bs s.seed_hash s) all (anew s [] compact low small))
+
+pub on_ok : {T : Type 0} (r : Result T ErrorKind) (P Q : T → Type 0) → ((x : T) → P x → Q x) → IfOk r P → IfOk r Q
+on_ok (Ok x) P Q step holds = step x holds
+on_ok (Err e) P Q step holds = tt
+
+pub positive : (n : ℕ) → (n ≡ 0 → ⊥) → 0 < n
+positive zero some = absurd (some refl)
+positive (suc n) some = omega arith

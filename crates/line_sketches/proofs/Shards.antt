@@ -1,0 +1,179 @@
+-- Texts that are sketched apart, and united.
+use Rattle.std.proofs.Common.{◌≡◌, ℕ, ◌^◌, Bool, true, false, cond, eqb, List, [], ◌∷◌, ◌++◌, map, filter, Option, Some, None, refl, sym, ap, ◌∙◌, arith, append_assoc, append-nil}
+use Rattle.std.specs.List.{onto_first, concat}
+use Rattle.std.specs.Option.{option_map_or}
+use Rattle.theta_laws.specs.Maps.{IsAscending, entry_at, with_entry}
+use Rattle.theta_laws.specs.Entries.{hash_key, hash_step, first_hash, is_carried}
+use Rattle.theta_laws.specs.Insertion.{whole_upsert}
+use Rattle.theta_laws.specs.declared.leaf.LeafStep.{LeafStep}
+use Rattle.theta_laws.specs.declared.leaf.LeafStep.TheVariants.{Add, Trim}
+use Rattle.theta_laws.specs.Leaf.{whole_from, whole_step, hash_step_of, kmin}
+use Rattle.theta_laws.specs.Operators.{join, joined, joined_all, nonempties, unite_nonempty}
+use Rattle.theta_laws.specs.Samples.{IsSample, AreSamples, IsLawfulValue, AreLawful}
+use Rattle.theta_laws.specs.Values.{Sketch, NonEmpty}
+use Rattle.theta_laws.specs.declared.TheConstants.{MAX_THETA}
+use Rattle.theta_laws.proofs.maps.Ascending.{ascending-nil}
+use Rattle.theta_laws.proofs.insertions.Leaves.{leaf-sample, leaf-lawful, hash_keeps}
+use Rattle.theta_laws.proofs.operators.JoinedMaps.{either, entry_at-join, ascending-joined}
+use Rattle.theta_laws.proofs.maps.LookUps.{same_map}
+use Rattle.theta_laws.proofs.operators.Samples.{union_lawful}
+use Rattle.lines.specs.Lines.{lines_of, IsWhole, nothing, ended, AreWhole}
+use Rattle.lines.specs.Keys.{line_hash}
+use Rattle.line_sketches.specs.Keys.{adds, key_set, value_of_lines}
+use Rattle.line_sketches.specs.Shards.{united, values_of_texts}
+use Rattle.line_sketches.proofs.Worth.{value_is_leaf}
+use Rattle.lines.specs.declared.key.Key.{Key}
+
+module _ (key : Key) where
+  -- ---- lines of texts that follow one another
+
+  onto_first-append : (b : ℕ) (ls ms : List (List ℕ)) → (ls ≡ [] → ⊥) → onto_first b (ls ++ ms) ≡ onto_first b ls ++ ms
+  onto_first-append b [] ms some = absurd (some refl)
+  onto_first-append b (l ∷ ls) ms some = refl
+
+  not_nil_step : (t : Bool) (b : ℕ) (ls : List (List ℕ)) → cond t ([] ∷ ls) (onto_first b ls) ≡ [] → ⊥
+  not_nil_step true b ls e = cc
+  not_nil_step false b [] e = cc
+  not_nil_step false b (l ∷ ls) e = cc
+
+  some_line : (text : List ℕ) → lines_of (text ++ 10 ∷ []) ≡ [] → ⊥
+  some_line [] e = cc
+  some_line (b ∷ text) e = not_nil_step (eqb b 10) b (lines_of (text ++ 10 ∷ [])) e
+
+  ended-append : (text more : List ℕ) → lines_of (text ++ 10 ∷ more) ≡ lines_of (text ++ 10 ∷ []) ++ lines_of more
+  ended-append [] more = refl
+  ended-append (b ∷ text) more =
+      elim (eqb b 10) as (λ t. cond t ([] ∷ lines_of (text ++ 10 ∷ more)) (onto_first b (lines_of (text ++ 10 ∷ more))) ≡ cond t ([] ∷ lines_of (text ++ 10 ∷ [])) (onto_first b (lines_of (text ++ 10 ∷ []))) ++ lines_of more) [
+        | true ↦ ap (λ ls. [] ∷ ls) (ended-append text more)
+        | false ↦ ap (onto_first b) (ended-append text more) ∙ onto_first-append b (lines_of (text ++ 10 ∷ [])) (lines_of more) (some_line text)
+      ]
+
+  whole-append : (text more : List ℕ) → IsWhole text → lines_of (text ++ more) ≡ lines_of text ++ lines_of more
+  whole-append _ more nothing = refl
+  whole-append _ more (ended text) = ap lines_of (append_assoc text (10 ∷ []) more) ∙ ended-append text more
+
+  -- the lines of all parts
+  abbrev all_lines : List (List (List ℕ)) → List (List ℕ)
+  all_lines [] = []
+  all_lines (part ∷ parts) = part ++ all_lines parts
+
+  pub lines_concat : (texts : List (List ℕ)) → AreWhole texts → lines_of (concat texts) ≡ all_lines (map lines_of texts)
+  lines_concat [] whole = refl
+  lines_concat (text ∷ []) whole = ap lines_of (append-nil text) ∙ sym (append-nil (lines_of text))
+  lines_concat (text ∷ next ∷ texts) whole = whole-append text (concat (next ∷ texts)) whole.0 ∙ ap (λ ls. lines_of text ++ ls) (lines_concat (next ∷ texts) whole.1)
+
+  -- ---- sets of hashes
+
+  abbrev hashes : List (List ℕ) → List ℕ
+  hashes lines = filter is_carried (map (line_hash key) lines)
+
+  same_key : (x y : ℕ) → hash_key x ≡ hash_key y → hash_key (first_hash x y) ≡ hash_key y
+  same_key x y same = same
+
+  upsert_join : (h : ℕ) (w : List ℕ) → whole_upsert hash_key h (hash_step h) w ≡ join hash_key first_hash w h
+  upsert_join h w = elim (entry_at hash_key w h) as (λ o. option_map_or (λ x. with_entry hash_key w x) o (with_entry hash_key w h) ≡ with_entry hash_key w (option_map_or (λ x. first_hash x h) o h)) [ Some x ↦ refl | None ↦ refl ]
+
+  whole-joined : (lines : List (List ℕ)) (w : List ℕ) → whole_from hash_key hash_step_of (adds key lines) w ≡ joined hash_key first_hash w (hashes lines)
+  whole-joined [] w = refl
+  whole-joined (line ∷ lines) w =
+      elim (is_carried (line_hash key line)) as (λ b. whole_from hash_key hash_step_of (adds key lines) (cond b (whole_upsert hash_key (line_hash key line) (hash_step (line_hash key line)) w) w) ≡ joined hash_key first_hash w (cond b (line_hash key line ∷ hashes lines) (hashes lines))) [
+        | true ↦ ap (whole_from hash_key hash_step_of (adds key lines)) (upsert_join (line_hash key line) w) ∙ whole-joined lines (join hash_key first_hash w (line_hash key line))
+        | false ↦ whole-joined lines w
+      ]
+
+  either_again : (o p : Option ℕ) (x : ℕ) → either first_hash (either first_hash o (Some x)) p ≡ either first_hash o (Some x)
+  either_again (Some w) (Some y) x = refl
+  either_again (Some w) None x = refl
+  either_again None (Some y) x = refl
+  either_again None None x = refl
+
+  look : (xs w : List ℕ) (q : ℕ) → entry_at hash_key (joined hash_key first_hash w xs) q ≡ either first_hash (entry_at hash_key w q) (entry_at hash_key xs q)
+  look [] w q = refl
+  look (x ∷ xs) w q =
+      look xs (join hash_key first_hash w x) q
+      ∙ ap (λ o. either first_hash o (entry_at hash_key xs q)) (entry_at-join hash_key first_hash same_key w x q)
+      ∙ (elim (eqb x q) as (λ b. either first_hash (cond b (either first_hash (entry_at hash_key w q) (Some x)) (entry_at hash_key w q)) (entry_at hash_key xs q) ≡ either first_hash (entry_at hash_key w q) (cond b (Some x) (entry_at hash_key xs q))) [
+        | true ↦ either_again (entry_at hash_key w q) (entry_at hash_key xs q) x
+        | false ↦ refl
+      ])
+
+  either_none : (o : Option ℕ) → either first_hash None o ≡ o
+  either_none None = refl
+  either_none (Some x) = refl
+
+  up : (xs w : List ℕ) → IsAscending hash_key w → IsAscending hash_key (joined hash_key first_hash w xs)
+  up xs w = ascending-joined hash_key first_hash same_key xs w
+
+  joined-again : (xs w : List ℕ) → IsAscending hash_key w → joined hash_key first_hash w (joined hash_key first_hash [] xs) ≡ joined hash_key first_hash w xs
+  joined-again xs w w_up =
+      same_map hash_key (joined hash_key first_hash w (joined hash_key first_hash [] xs)) (joined hash_key first_hash w xs) (up (joined hash_key first_hash [] xs) w w_up) (up xs w w_up)
+      (λ q. look (joined hash_key first_hash [] xs) w q ∙ ap (either first_hash (entry_at hash_key w q)) (look xs [] q ∙ either_none (entry_at hash_key xs q)) ∙ sym (look xs w q))
+
+  -- a set of hashes joins as its lines do
+  set-joined : (lines : List (List ℕ)) (w : List ℕ) → IsAscending hash_key w → joined hash_key first_hash w (key_set key lines) ≡ whole_from hash_key hash_step_of (adds key lines) w
+  set-joined lines w w_up = ap (joined hash_key first_hash w) (whole-joined lines []) ∙ joined-again (hashes lines) w w_up ∙ sym (whole-joined lines w)
+
+  from-append : (xs ys : List (List ℕ)) (w : List ℕ) → whole_from hash_key hash_step_of (adds key (xs ++ ys)) w ≡ whole_from hash_key hash_step_of (adds key ys) (whole_from hash_key hash_step_of (adds key xs) w)
+  from-append [] ys w = refl
+  from-append (x ∷ xs) ys w = from-append xs ys (whole_step hash_key hash_step_of (Add (line_hash key x) (tt {0})) w)
+
+  sets-joined : (parts : List (List (List ℕ))) (w : List ℕ) → IsAscending hash_key w → joined_all hash_key first_hash w (map (key_set key) parts) ≡ whole_from hash_key hash_step_of (adds key (all_lines parts)) w
+  sets-joined [] w w_up = refl
+  sets-joined (part ∷ parts) w w_up =
+      sets-joined parts (joined hash_key first_hash w (key_set key part)) (up (key_set key part) w w_up)
+      ∙ ap (whole_from hash_key hash_step_of (adds key (all_lines parts))) (set-joined part w w_up)
+      ∙ sym (from-append part (all_lines parts) w)
+
+  -- ---- values of lines
+
+  module _ (lg_k : ℕ) where
+    abbrev value : List (List ℕ) → Sketch ℕ
+    value lines = value_of_lines key lg_k lines
+
+    trim-whole : (steps : List (LeafStep (Unit {0}))) (w : List ℕ) → whole_from hash_key hash_step_of (steps ++ Trim ∷ []) w ≡ whole_from hash_key hash_step_of steps w
+    trim-whole [] w = refl
+    trim-whole (step ∷ steps) w = trim-whole steps (whole_step hash_key hash_step_of step w)
+
+    pub sample : (lines : List (List ℕ)) → IsSample hash_key (value lines) (key_set key lines)
+    sample lines = rw (value_is_leaf key lg_k lines, ← trim-whole (adds key lines) []) (leaf-sample hash_key hash_step_of hash_keeps (2 ^ lg_k) MAX_THETA (adds key lines ++ Trim ∷ []) (omega arith))
+
+    lawful : (lines : List (List ℕ)) → IsLawfulValue hash_key (2 ^ lg_k) MAX_THETA (value lines) (key_set key lines)
+    lawful lines = rw (value_is_leaf key lg_k lines, ← trim-whole (adds key lines) []) (leaf-lawful hash_key hash_step_of hash_keeps (2 ^ lg_k) MAX_THETA (adds key lines ++ Trim ∷ []) (omega arith))
+
+    samples : (parts : List (List (List ℕ))) → AreSamples hash_key (map value parts) (map (key_set key) parts)
+    samples [] = tt
+    samples (part ∷ parts) = (sample part, samples parts)
+
+    lawfuls : (parts : List (List (List ℕ))) → AreLawful hash_key (2 ^ lg_k) MAX_THETA (map value parts) (map (key_set key) parts)
+    lawfuls [] = tt
+    lawfuls (part ∷ parts) = (lawful part, lawfuls parts)
+
+    none_none : (parts : List (List (List ℕ))) → nonempties (map value parts) ≡ [] → all_lines parts ≡ []
+    none_none [] e = refl
+    none_none ([] ∷ parts) e = none_none parts e
+    none_none ((line ∷ lines) ∷ parts) e = absurd (cc)
+
+    all_none : (parts : List (List (List ℕ))) → all_lines parts ≡ [] → nonempties (map value parts) ≡ []
+    all_none [] e = refl
+    all_none ([] ∷ parts) e = all_none parts e
+    all_none ((line ∷ lines) ∷ parts) e = absurd (cc)
+
+    some_none : (line : List ℕ) (lines : List (List ℕ)) (all : List (List ℕ)) → all ≡ line ∷ lines → all ≡ [] → ⊥
+    some_none line lines all one other = cc
+
+    -- the union of the values of parts is the value of all their lines
+    pub united_lines : (parts : List (List (List ℕ))) → united lg_k (map value parts) ≡ value (all_lines parts)
+    united_lines parts = (elim (all_lines parts) as (λ all. all_lines parts ≡ all → united lg_k (map value parts) ≡ value all) [
+      | [] ↦ λ e. ap (unite_nonempty hash_key first_hash (2 ^ lg_k) MAX_THETA) (all_none parts e)
+      | line ∷ lines ↦ λ e.
+          union_lawful hash_key first_hash same_key (2 ^ lg_k) MAX_THETA MAX_THETA (map value parts) (map (key_set key) parts) (omega arith) (samples parts) (lawfuls parts) (λ none. some_none line lines (all_lines parts) e (none_none parts none))
+          ∙ ap (λ keys. NonEmpty (kmin (2 ^ lg_k) keys MAX_THETA)) (sets-joined parts [] (ascending-nil hash_key) ∙ ap (key_set key) e)
+    ]) refl
+
+  values_map : (lg_k : ℕ) (texts : List (List ℕ)) → values_of_texts key lg_k texts ≡ map (value_of_lines key lg_k) (map lines_of texts)
+  values_map lg_k [] = refl
+  values_map lg_k (text ∷ texts) = ap (λ vs. value_of_lines key lg_k (lines_of text) ∷ vs) (values_map lg_k texts)
+
+  pub united_texts : (lg_k : ℕ) (texts : List (List ℕ)) → AreWhole texts → united lg_k (values_of_texts key lg_k texts) ≡ value_of_lines key lg_k (lines_of (concat texts))
+  united_texts lg_k texts whole =
+      ap (united lg_k) (values_map lg_k texts) ∙ united_lines lg_k (map lines_of texts) ∙ ap (value_of_lines key lg_k) (sym (lines_concat texts whole))

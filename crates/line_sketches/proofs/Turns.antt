@@ -1,0 +1,73 @@
+-- Texts that are taken in one after another.
+use Rattle.std.proofs.Common.{◌≡◌, ℕ, List, [], ◌∷◌, ◌++◌, Option, Some, None, refl, sym, ap, subst, ◌∙◌, append_assoc, append-nil}
+use Rattle.std.specs.Prelude.{IfSome}
+use Rattle.lines.specs.Lines.{lines_of, lines_of_all}
+use Rattle.lines.specs.declared.key.Key.{Key}
+use Rattle.line_sketches.specs.Keys.{Held, with_line, with_lines}
+use Rattle.line_sketches.specs.Sources.{IsFirst, GivesNext, LeadsTo, Continues}
+
+pub if_some : {T : Type 0} (o : Option T) (P Q : T → Type 0) → ((x : T) → P x → Q x) → IfSome o P → IfSome o Q
+if_some None P Q step holds = tt
+if_some (Some x) P Q step holds = step x holds
+
+module _ (key : Key) where
+  with_lines-append : (s : Held) (xs ys : List (List ℕ)) → with_lines key s (xs ++ ys) ≡ with_lines key (with_lines key s xs) ys
+  with_lines-append s [] ys = refl
+  with_lines-append s (x ∷ xs) ys = with_lines-append (with_line key s x) xs ys
+
+  pub leads_itself : (texts : Option (List (List ℕ))) (s : Held) → LeadsTo key texts s texts s
+  leads_itself None s = tt
+  leads_itself (Some texts) s = refl
+
+  module _ {S : Type 0} (remaining : S → Option (List ℕ)) where
+    one_more : (texts : List (List ℕ)) (left : List (List ℕ)) (s t u : Held) (source : S) (new : Option (List (List ℕ))) → with_lines key s (lines_of_all texts) ≡ with_lines key t (lines_of_all left) →
+        IsFirst remaining left source new → IfSome (remaining source) (λ text. u ≡ with_lines key t (lines_of text)) → LeadsTo key (Some texts) s new u
+    one_more texts left s t u source new so_far first taken =
+        let is : u ≡ with_lines key t (lines_of first.text) = subst (λ (o : Option (List ℕ)). IfSome o (λ text. u ≡ with_lines key t (lines_of text))) first.has taken in
+        subst (λ (o : Option (List (List ℕ))). LeadsTo key (Some texts) s o u) (sym first.leaves)
+        (so_far ∙ ap (λ ts. with_lines key t (lines_of_all ts)) first.parted ∙ with_lines-append t (lines_of first.text) (lines_of_all first.texts_left) ∙ ap (λ v. with_lines key v (lines_of_all first.texts_left)) (sym is))
+
+    -- a source more
+    pub leads_next : (old now new : Option (List (List ℕ))) (s t u : Held) (o : Option S) (source : S) → LeadsTo key old s now t → GivesNext remaining now new o → o ≡ Some source →
+        IfSome (remaining source) (λ text. u ≡ with_lines key t (lines_of text)) → LeadsTo key old s new u
+    leads_next None now new s t u o source so_far gives is taken = tt
+    leads_next (Some texts) None new s t u o source so_far gives is taken = absurd so_far
+    leads_next (Some texts) (Some left) new s t u o source so_far gives is taken = one_more texts left s t u source new so_far (subst (GivesNext remaining (Some left) new) is gives) taken
+
+    -- at the end
+    pub leads_end : (old now new : Option (List (List ℕ))) (s t : Held) (o : Option S) (P : List (List ℕ) → Type 0) → LeadsTo key old s now t → GivesNext remaining now new o → o ≡ None →
+        ((texts : List (List ℕ)) → t ≡ with_lines key s (lines_of_all texts) → P texts) → IfSome old P
+    leads_end None now new s t o P so_far gives is then = tt
+    leads_end (Some texts) None new s t o P so_far gives is then = absurd so_far
+    leads_end (Some texts) (Some left) new s t o P so_far gives is then = then texts (sym (so_far ∙ ap (λ ts. with_lines key t (lines_of_all ts)) (subst (GivesNext remaining (Some left) new) is gives)))
+
+-- ---- what holds of all that was taken
+
+pub continues_itself : (texts : Option (List (List ℕ))) (P : List (List ℕ) → Type 0) → P [] → Continues texts texts P
+continues_itself None P holds = tt
+continues_itself (Some texts) P holds = ([], refl, holds)
+
+module _ {S : Type 0} (remaining : S → Option (List ℕ)) (P Q : List (List ℕ) → Type 0) where
+  one_taken : (texts taken left : List (List ℕ)) (source : S) (new : Option (List (List ℕ))) → texts ≡ taken ++ left → P taken → IsFirst remaining left source new →
+      ((done : List (List ℕ)) → P done → IfSome (remaining source) (λ text. Q (done ++ text ∷ []))) → Continues (Some texts) new Q
+  one_taken texts taken left source new parted holds first step =
+      let then : Q (taken ++ first.text ∷ []) = subst (λ (o : Option (List ℕ)). IfSome o (λ text. Q (taken ++ text ∷ []))) first.has (step taken holds) in
+      subst (λ (o : Option (List (List ℕ))). Continues (Some texts) o Q) (sym first.leaves) (
+        taken ++ first.text ∷ [],
+        parted ∙ ap (λ ts. taken ++ ts) first.parted ∙ sym (append_assoc taken (first.text ∷ []) first.texts_left),
+        then,
+      )
+
+  pub continues_next : (old now new : Option (List (List ℕ))) (o : Option S) (source : S) → Continues old now P → GivesNext remaining now new o → o ≡ Some source →
+      ((done : List (List ℕ)) → P done → IfSome (remaining source) (λ text. Q (done ++ text ∷ []))) → Continues old new Q
+  continues_next None now new o source so_far gives is step = tt
+  continues_next (Some texts) None new o source so_far gives is step = absurd so_far
+  continues_next (Some texts) (Some left) new o source so_far gives is step =
+      one_taken texts so_far.0 left source new so_far.1 so_far.2 (subst (GivesNext remaining (Some left) new) is gives) step
+
+  pub continues_end : (old now new : Option (List (List ℕ))) (o : Option S) → Continues old now P → GivesNext remaining now new o → o ≡ None → IfSome old P
+  continues_end None now new o so_far gives is = tt
+  continues_end (Some texts) None new o so_far gives is = absurd so_far
+  continues_end (Some texts) (Some left) new o so_far gives is =
+      let none : left ≡ [] = subst (GivesNext remaining (Some left) new) is gives in
+      subst P (sym (so_far.1 ∙ ap (λ ts. so_far.0 ++ ts) none ∙ append-nil so_far.0)) so_far.2

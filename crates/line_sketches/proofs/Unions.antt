@@ -1,0 +1,92 @@
+-- Sketches that are handed to a union one by one.
+use Rattle.std.proofs.Common.{◌≡◌, ℕ, ◌^◌, ◌<◌, ◌≤◌, ◌+◌, true, false, cond, List, [], ◌∷◌, ◌++◌, length, get_or, take, Option, None, arith, refl, sym, ap, ◌∙◌}
+use Rattle.std.proofs.lemmas.List.{map_more}
+use Rattle.theta_compact.specs.CompactState.{Compact, compact_value}
+use Rattle.theta_laws.specs.Maps.{map_of}
+use Rattle.theta_laws.specs.Entries.{hash_key, first_hash}
+use Rattle.theta_laws.specs.Operators.{unite, unite_nonempty}
+use Rattle.theta_laws.specs.Values.{Sketch, Empty, NonEmpty}
+use Rattle.theta_operators.specs.Union.{Union, union_value, empty_union}
+use Rattle.theta_laws.specs.Shown.{Shown, shown_value}
+use Rattle.theta_laws.proofs.operators.Unions.{nonempties-more, union_of_union}
+use Rattle.std.proofs.lemmas.Bool.Decides.{nat_tests}
+use Rattle.sketch_base.specs.Seed.{seed_hash}
+use Rattle.sketch_base.specs.declared.seed.TheConstants.{DEFAULT_UPDATE_SEED}
+use Rattle.theta_laws.specs.declared.TheConstants.{MAX_THETA}
+use Rattle.theta_sketches.specs.Image.{Reads}
+use Rattle.theta_table.specs.HashTable.{table_refusal}
+use Rattle.line_sketches.specs.Shards.{values_of_sketches, AreRead}
+use Rattle.line_sketches.specs.Unions.{HasUnited}
+
+-- a union takes in a value
+abbrev pub Joins : {P : Type 0} → (old new : Union ℕ P) → Sketch ℕ → Type 0
+Joins old new Empty = new ≡ old
+Joins old new (NonEmpty v) = union_value hash_key new ≡ unite hash_key first_hash (2 ^ old.lg_k) old.start (union_value hash_key old ∷ NonEmpty v ∷ [])
+
+pub joins_shown : {P : Type 0} (old new : Union ℕ P) (s : Shown) (listing : List ℕ) → (s.empty ≡ true → new ≡ old) →
+    (s.empty ≡ false → union_value hash_key new ≡ unite hash_key first_hash (2 ^ old.lg_k) old.start (union_value hash_key old ∷ shown_value hash_key s listing ∷ [])) → Joins old new (shown_value hash_key s listing)
+joins_shown old new s listing skipped united =
+    (elim s.empty as (λ b. s.empty ≡ b → Joins old new (cond b Empty (NonEmpty (record { entries = map_of hash_key listing; theta = s.theta })))) [
+      | true ↦ λ e. skipped e
+      | false ↦ λ e. united e ∙ ap (λ b. unite hash_key first_hash (2 ^ old.lg_k) old.start (union_value hash_key old ∷ cond b Empty (NonEmpty (record { entries = map_of hash_key listing; theta = s.theta })) ∷ [])) e
+    ]) refl
+
+pub joined_next : {P : Type 0} (old new : Union ℕ P) (values : List (Sketch ℕ)) (v : Sketch ℕ) → union_value hash_key old ≡ unite hash_key first_hash (2 ^ old.lg_k) old.start values → Joins old new v →
+    union_value hash_key new ≡ unite hash_key first_hash (2 ^ old.lg_k) old.start (values ++ v ∷ [])
+joined_next old new values Empty so_far join =
+    ap (union_value hash_key) join ∙ so_far ∙ sym (ap (unite_nonempty hash_key first_hash (2 ^ old.lg_k) old.start) (nonempties-more values))
+joined_next old new values (NonEmpty v) so_far join =
+    join ∙ ap (λ u. unite hash_key first_hash (2 ^ old.lg_k) old.start (u ∷ NonEmpty v ∷ [])) so_far
+    ∙ sym (union_of_union hash_key first_hash (λ x y same. same) (2 ^ old.lg_k) old.start values (NonEmpty v))
+
+-- what a union was made with stays
+made_same : {P : Type 0} (lg_k : ℕ) (old new : Union ℕ P) → old ≡ record (empty_union lg_k MAX_THETA (seed_hash DEFAULT_UPDATE_SEED) old.policy) { empty = old.empty; held = old.held } → new ≡ record old { empty = new.empty; held = new.held } →
+    new ≡ record (empty_union lg_k MAX_THETA (seed_hash DEFAULT_UPDATE_SEED) new.policy) { empty = new.empty; held = new.held }
+made_same {P} lg_k old new was made =
+    let again : Union ℕ P → Union ℕ P = λ u. record u { empty = new.empty; held = new.held } in
+    let policy : P → Union ℕ P = λ p. record (empty_union lg_k MAX_THETA (seed_hash DEFAULT_UPDATE_SEED) p) { empty = new.empty; held = new.held } in
+    made ∙ ap again was ∙ ap policy (sym (ap (λ u. u.policy) made))
+
+-- an image more
+are_read-more : (images : List (List ℕ)) (sketches : List (Compact ℕ)) (image : List ℕ) (s : Compact ℕ) → AreRead images sketches → Reads image (seed_hash DEFAULT_UPDATE_SEED) s → AreRead (images ++ image ∷ []) (sketches ++ s ∷ [])
+are_read-more [] [] image s all one = (one, tt)
+are_read-more [] (t ∷ ts) image s all one = absurd all
+are_read-more (b ∷ bs) [] image s all one = absurd all
+are_read-more (b ∷ bs) (t ∷ ts) image s all one = (all.0, are_read-more bs ts image s all.1 one)
+
+values-more : (sketches : List (Compact ℕ)) (s : Compact ℕ) → values_of_sketches (sketches ++ s ∷ []) ≡ values_of_sketches sketches ++ compact_value hash_key s ∷ []
+values-more [] s = refl
+values-more (t ∷ ts) s = ap (λ vs. compact_value hash_key t ∷ vs) (values-more ts s)
+
+pub image_more : {P : Type 0} (lg_k : ℕ) (images : List (List ℕ)) (image : List ℕ) (s : Compact ℕ) (old new : Union ℕ P) (shows : Shown) (listing : List ℕ) → HasUnited lg_k images old → Reads image (seed_hash DEFAULT_UPDATE_SEED) s →
+    (shows.empty ≡ true → new ≡ old) → (shows.empty ≡ false → union_value hash_key new ≡ unite hash_key first_hash (2 ^ old.lg_k) old.start (union_value hash_key old ∷ shown_value hash_key shows listing ∷ [])) →
+    shown_value hash_key shows listing ≡ compact_value hash_key s → new ≡ record old { empty = new.empty; held = new.held } → HasUnited lg_k (images ++ image ∷ []) new
+image_more lg_k images image s old new shows listing has reads skipped joins is made =
+    let lg : old.lg_k ≡ lg_k = ap (λ u. u.lg_k) has.made in
+    let start : old.start ≡ MAX_THETA = ap (λ u. u.start) has.made in
+    let by : ℕ → ℕ → List (Sketch ℕ) → Sketch ℕ = λ l t vs. unite hash_key first_hash (2 ^ l) t vs in
+    let so_far : union_value hash_key old ≡ by old.lg_k old.start (values_of_sketches has.sketches) = has.value ∙ ap (λ l. by l MAX_THETA (values_of_sketches has.sketches)) (sym lg) ∙ ap (λ t. by old.lg_k t (values_of_sketches has.sketches)) (sym start) in record {
+      sketches = has.sketches ++ s ∷ [];
+      are_read = are_read-more images has.sketches image s has.are_read reads;
+      value =
+          joined_next old new (values_of_sketches has.sketches) (shown_value hash_key shows listing) so_far (joins_shown old new shows listing skipped joins)
+          ∙ ap (λ l. by l old.start (values_of_sketches has.sketches ++ shown_value hash_key shows listing ∷ [])) lg
+          ∙ ap (λ t. by lg_k t (values_of_sketches has.sketches ++ shown_value hash_key shows listing ∷ [])) start
+          ∙ ap (λ v. by lg_k MAX_THETA (values_of_sketches has.sketches ++ v ∷ [])) is
+          ∙ ap (by lg_k MAX_THETA) (sym (values-more has.sketches s));
+      made = made_same lg_k old new has.made made;
+    }
+
+-- a new union has united nothing
+pub nothing_united : {P : Type 0} (lg_k : ℕ) (u : Union ℕ P) → u ≡ empty_union lg_k MAX_THETA (seed_hash DEFAULT_UPDATE_SEED) u.policy → HasUnited lg_k [] u
+nothing_united {P} lg_k u is =
+    let with_policy : P → Union ℕ P = λ p. empty_union lg_k MAX_THETA (seed_hash DEFAULT_UPDATE_SEED) p in record {
+      sketches = [];
+      are_read = tt;
+      value = ap (union_value hash_key) is;
+      made = is ∙ (λ i. record (with_policy u.policy) { empty = sym (ap (λ v. v.empty) is) i; held = sym (ap (λ v. v.held) is) i });
+    }
+
+-- what a union may be made with
+pub size_small : (lg_k : ℕ) → table_refusal lg_k MAX_THETA DEFAULT_UPDATE_SEED ≡ None → lg_k ≤ 26
+size_small lg_k is = grind (arith, nat_tests)

@@ -1,0 +1,8 @@
+use Rattle.std.proofs.Common.{ℕ, List, ◌++◌}
+use Rattle.line_sketches.specs.Sources.{Continues}
+use Rattle.line_sketches.specs.Unions.{HasUnited}
+use Rattle.line_sketches.proofs.uniting.add_images.Given as goal
+
+-- the images that were taken so far are united behind those that were before
+abbrev pub invariant-loop : goal.invariant-loop
+invariant-loop g l = (lg_k : ℕ) (images : List (List ℕ)) → HasUnited lg_k images l.fn.union → Continues (g.S.Sources.texts l.fn.sources) (g.S.Sources.texts l.sources) (λ taken. HasUnited lg_k (images ++ taken) l.union)

@@ -1,0 +1,37 @@
+-- Bytes as text: two hexadecimal digits each.
+use Rattle.std.specs.Prelude.{ℕ, ◌+◌, ◌-◌, ◌*◌, ◌/◌, ◌%◌, ◌&&◌, nat_lt, nat_le, List, [], ◌∷◌, Option, Some, None, if◌then◌else◌}
+
+-- a digit from 0 to 15 as a letter
+abbrev pub hex_digit : ℕ → ℕ
+hex_digit n = if nat_lt n 10 then 48 + n else 87 + n
+
+-- bytes as letters, the high digit first
+abbrev pub hex_of : List ℕ → List ℕ
+hex_of [] = []
+hex_of (byte ∷ bytes) = hex_digit (byte / 16) ∷ hex_digit (byte % 16) ∷ hex_of bytes
+
+-- the digit of a letter, of either case
+abbrev pub digit_of : ℕ → Option ℕ
+digit_of c =
+    if nat_le 48 c && nat_le c 57 then Some (c - 48)
+    else if nat_le 97 c && nat_le c 102 then Some (c - 87)
+    else if nat_le 65 c && nat_le c 70 then Some (c - 55)
+    else None
+
+-- the byte of two digits
+abbrev pub pair_of : (high low : Option ℕ) → Option ℕ
+pair_of (Some high) (Some low) = Some (16 * high + low)
+pair_of (Some high) None = None
+pair_of None low = None
+
+-- a byte before others
+abbrev pub before : Option ℕ → Option (List ℕ) → Option (List ℕ)
+before (Some byte) (Some bytes) = Some (byte ∷ bytes)
+before (Some byte) None = None
+before None bytes = None
+
+-- the bytes that letters spell, if they do
+abbrev pub bytes_of_hex : List ℕ → Option (List ℕ)
+bytes_of_hex [] = Some []
+bytes_of_hex (high ∷ []) = None
+bytes_of_hex (high ∷ low ∷ text) = before (pair_of (digit_of high) (digit_of low)) (bytes_of_hex text)

@@ -1,0 +1,60 @@
+-- The hashes of lines, and the sketch of them.
+use Rattle.std.specs.Prelude.{ℕ, ◌^◌, Bool, true, false, List, [], ◌∷◌, map}
+use Rattle.sketch_base.specs.Seed.{seed_hash}
+use Rattle.sketch_base.specs.declared.seed.TheConstants.{DEFAULT_UPDATE_SEED}
+use Rattle.theta_compact.specs.CompactState.{Compact, empty_compact}
+use Rattle.theta_laws.specs.Entries.{hash_step, hash_key}
+use Rattle.theta_laws.specs.declared.leaf.LeafStep.{LeafStep}
+use Rattle.theta_laws.specs.declared.leaf.LeafStep.TheVariants.{Add}
+use Rattle.theta_laws.specs.Leaf.{added, kmin}
+use Rattle.theta_laws.specs.Values.{Sketch, Empty, NonEmpty}
+use Rattle.theta_table.specs.HashTable.{MapTable, empty_table}
+use Rattle.theta_laws.specs.Insertion.{after_upsert}
+use Rattle.theta_family.specs.Updatable.{Updatable}
+use Rattle.theta_laws.specs.declared.TheConstants.{MAX_THETA}
+use Rattle.theta_sketches.specs.Image.{written}
+use Rattle.lines.specs.Keys.{line_hash}
+use Rattle.lines.specs.Lines.{lines_of}
+use Rattle.lines.specs.declared.key.Key.{Key}
+
+-- lines, as the steps of a leaf
+abbrev pub adds : Key → List (List ℕ) → List (LeafStep (Unit {0}))
+adds key lines = map (λ line. Add (line_hash key line) tt) lines
+
+-- the set of the hashes of lines
+abbrev pub key_set : Key → List (List ℕ) → List ℕ
+key_set key lines = added (adds key lines)
+
+-- what lines are worth: the k least of the set of their hashes; no lines are worth Empty
+abbrev pub value_of_lines : Key → (lg_k : ℕ) → List (List ℕ) → Sketch ℕ
+value_of_lines key lg_k [] = Empty
+value_of_lines key lg_k (line ∷ lines) = NonEmpty (kmin (2 ^ lg_k) (key_set key (line ∷ lines)) MAX_THETA)
+
+-- the ordered sketch of a value
+abbrev pub ordered_sketch : Sketch ℕ → Compact ℕ
+ordered_sketch Empty = empty_compact (seed_hash DEFAULT_UPDATE_SEED)
+ordered_sketch (NonEmpty v) = record { empty = false; entries = v.entries; theta = v.theta; seed_hash = seed_hash DEFAULT_UPDATE_SEED; ordered = true }
+
+-- the image of a text's lines
+abbrev pub image_of_text : Key → (lg_k : ℕ) → List ℕ → List ℕ
+image_of_text key lg_k text = written (ordered_sketch (value_of_lines key lg_k (lines_of text)))
+
+-- what a sketch holds, apart from the order in which it lends
+pub record Held : Type 0 where
+  pub map : MapTable ℕ
+  pub empty : Bool
+
+abbrev pub held : Updatable ℕ → Held
+held s = record { map = s.map; empty = s.empty }
+
+-- what a new sketch holds
+abbrev pub new_held : (lg_k : ℕ) → Held
+new_held lg_k = record { map = empty_table lg_k MAX_THETA DEFAULT_UPDATE_SEED; empty = true }
+
+-- what it holds after a line, and after lines
+abbrev pub with_line : Key → Held → List ℕ → Held
+with_line key s line = record { map = record s.map { kept = after_upsert hash_key (2 ^ s.map.lg_nom) (line_hash key line) (hash_step (line_hash key line)) s.map.kept }; empty = false }
+
+abbrev pub with_lines : Key → Held → List (List ℕ) → Held
+with_lines key s [] = s
+with_lines key s (line ∷ lines) = with_lines key (with_line key s line) lines

@@ -1,0 +1,13 @@
+-- What is taken in of a text that comes in pieces.
+use Rattle.std.specs.Prelude.{ℕ, ◌≡◌, List, [], ◌++◌}
+use Rattle.lines.specs.Lines.{lines_after}
+use Rattle.lines.specs.declared.key.Key.{Key}
+use Rattle.line_sketches.specs.Keys.{Held, with_lines}
+
+-- From what was held and an open line, a piece leads to what is held and another open line: whatever comes behind the piece comes to the same.
+abbrev pub Takes : Key → (old : Held) (front piece : List ℕ) (new : Held) (left : List ℕ) → Type 0
+Takes key old front piece new left = (more : List ℕ) → with_lines key old (lines_after front (piece ++ more)) ≡ with_lines key new (lines_after left more)
+
+-- The same, where what is left of the piece is not taken in yet.
+abbrev pub Leaves : Key → (old : Held) (piece : List ℕ) (new : Held) (left : List ℕ) → Type 0
+Leaves key old piece new left = (more : List ℕ) → with_lines key old (lines_after [] (piece ++ more)) ≡ with_lines key new (lines_after [] (left ++ more))

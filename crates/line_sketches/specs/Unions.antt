@@ -1,0 +1,22 @@
+-- Images that a union has taken in.
+use Rattle.std.specs.Prelude.{ℕ, ◌≡◌, List}
+use Rattle.sketch_base.specs.Seed.{seed_hash}
+use Rattle.sketch_base.specs.declared.seed.TheConstants.{DEFAULT_UPDATE_SEED}
+use Rattle.theta_laws.specs.Entries.{hash_key}
+use Rattle.theta_laws.specs.declared.TheConstants.{MAX_THETA}
+use Rattle.theta_operators.specs.Union.{Union, empty_union, union_value}
+use Rattle.theta_compact.specs.CompactState.{Compact}
+use Rattle.theta_sketches.specs.Image.{written}
+use Rattle.line_sketches.specs.Keys.{ordered_sketch}
+use Rattle.line_sketches.specs.Shards.{united, values_of_sketches, AreRead}
+
+-- a union of 2^lg_k nominal entries has the value of the sketches that these images are read as
+pub record HasUnited {P : Type 0} (lg_k : ℕ) (images : List (List ℕ)) (u : Union ℕ P) : Type 0 where
+  pub sketches : List (Compact ℕ)
+  pub are_read : AreRead images sketches
+  pub value : union_value hash_key u ≡ united lg_k (values_of_sketches sketches)
+  pub made : u ≡ record (empty_union lg_k MAX_THETA (seed_hash DEFAULT_UPDATE_SEED) u.policy) { empty = u.empty; held = u.held }
+
+-- the image of the union of the sketches that images are read as
+abbrev pub IsUnitedImage : (lg_k : ℕ) → (images : List (List ℕ)) → List ℕ → Type 0
+IsUnitedImage lg_k images bytes = (sketches : List (Compact ℕ)) × AreRead images sketches × (bytes ≡ written (ordered_sketch (united lg_k (values_of_sketches sketches))))

@@ -1,0 +1,82 @@
+//! Images as text: two hexadecimal digits a byte.
+ghost use Rattle.std.specs.Prelude.{◌≡◌, ◌++◌, ◌∷◌, ◌<◌, ℕ, List, [], Option, Some, None, IfOk, IfSome, OnOk, MatchOption};
+ghost use Rattle.line_sketches.specs.Hex.{hex_digit, hex_of, digit_of, pair_of, bytes_of_hex};
+
+use std::alloc::{AllocError, Allocator};
+
+/// The letter of a digit.
+fn hex_digit(digit: u8) -> u8
+    requires { digit < 16 }
+    ensures { result ≡ hex_digit digit }
+{
+    if digit < 10 { 48 + digit } else { 87 + digit }
+}
+
+/// Puts the two digits of a byte.
+fn put_byte<A: Allocator>(line: &mut Vec<u8, A>, byte: u8) -> Result<(), AllocError>
+    ensures { OnOk result (line.new.items ≡ line.old.items ++ hex_of (byte ∷ [])) }
+{
+    line.push(hex_digit(byte / 16))?;
+    line.push(hex_digit(byte % 16))?;
+    Ok(())
+}
+
+/// Bytes as a line of hexadecimal digits, in small letters, with the LF that ends it.
+pub fn hex_line<A: Allocator>(alloc: A, bytes: &[u8]) -> Result<Vec<u8, A>, AllocError>
+    ensures { IfOk result (λ v. v.items ≡ hex_of bytes.now ++ 10 ∷ []) }
+{
+    let mut line = Vec::new(alloc);
+    for byte in bytes {
+        put_byte(&mut line, *byte)?;
+    }
+    line.push(b'\n')?;
+    Ok(line)
+}
+
+/// The digit of a letter, of either case.
+fn digit_of(letter: u8) -> Option<u8>
+    ensures digit { result ≡ digit_of letter }
+    ensures small { IfSome result (λ d. d < 16) }
+{
+    match letter {
+        b'0'..=b'9' => Some(letter - 48),
+        b'a'..=b'f' => Some(letter - 87),
+        b'A'..=b'F' => Some(letter - 55),
+        _ => None,
+    }
+}
+
+/// The byte of two letters.
+fn byte_of(high: u8, low: u8) -> Option<u8>
+    ensures { result ≡ pair_of (digit_of high) (digit_of low) }
+{
+    let Some(first) = digit_of(high) else {
+        return None;
+    };
+    let Some(second) = digit_of(low) else {
+        return None;
+    };
+    Some(16 * first + second)
+}
+
+/// The bytes that hexadecimal digits spell, two a byte, or `None` where they spell none.
+pub fn read_hex<A: Allocator + Drop>(
+    alloc: A,
+    text: &[u8],
+) -> Result<Option<Vec<u8, A>>, AllocError>
+    ensures { IfOk result (λ o. MatchOption o (bytes_of_hex text.now ≡ None) (λ v. bytes_of_hex text.now ≡ Some v.items)) }
+{
+    let mut bytes = Vec::new(alloc);
+    let mut rest = text;
+    while let Some((high, behind)) = rest.split_first() {
+        let Some((low, others)) = behind.split_first() else {
+            return Ok(None);
+        };
+        let Some(byte) = byte_of(*high, *low) else {
+            return Ok(None);
+        };
+        bytes.push(byte)?;
+        rest = others;
+    }
+    Ok(Some(bytes))
+}

@@ -1,0 +1,106 @@
+//! Sketches from images, and what operators make of them.
+ghost use Rattle.std.specs.Prelude.{◌≡◌, true, IfOk};
+ghost use Rattle.sketch_base.specs.Seed.{seed_hash};
+ghost use Rattle.sketch_base.specs.declared.seed.TheConstants.{DEFAULT_UPDATE_SEED};
+ghost use Rattle.theta_compact.specs.CompactState.{compact_value};
+ghost use Rattle.theta_laws.specs.Entries.{hash_key, first_hash};
+ghost use Rattle.theta_laws.specs.Operators.{meet, minus};
+ghost use Rattle.theta_laws.specs.Refusal.{Refuses};
+ghost use Rattle.theta_laws.specs.Values.{Empty};
+ghost use Rattle.theta_laws.specs.declared.TheConstants.{MAX_THETA};
+ghost use Rattle.theta_operators.specs.Union.{empty_union};
+ghost use Rattle.theta_sketches.specs.Image.{Reads, written};
+ghost use Rattle.theta_table.specs.HashTable.{table_refusal};
+ghost use Rattle.line_sketches.specs.Keys.{ordered_sketch};
+ghost use Rattle.line_sketches.specs.Shards.{values_of_sketches};
+ghost use Rattle.line_sketches.specs.Meeting.{come_to};
+
+use crate::sketching::{finished, new_sketch};
+use sketch_base::{DEFAULT_UPDATE_SEED, Error, ErrorKind, compute_seed_hash};
+use std::alloc::Allocator;
+use theta_core::MIN_LG_K;
+use theta_sketches::laws::read_again;
+use theta_sketches::{
+    CompactThetaSketch, ThetaANotB, ThetaIntersection, ThetaUnion, ThetaUnionBuilder,
+};
+
+/// The sketch of an image.
+pub fn read_image<A: Allocator + Clone + Drop>(
+    alloc: A,
+    image: &[u8],
+) -> Result<CompactThetaSketch<A>, Error>
+    ensures { IfOk result (λ s. Reads image.now (seed_hash DEFAULT_UPDATE_SEED) s) }
+{
+    CompactThetaSketch::deserialize(alloc, image)
+}
+
+/// The image of a sketch of the default seed, which is read as the sketch again.
+pub fn image_of<A: Allocator + Clone + Drop>(
+    sketch: &CompactThetaSketch<A>,
+) -> Result<Vec<u8, A>, Error>
+    ensures written { IfOk result (λ v. v.items ≡ written sketch.now) }
+    ensures reads { sketch.now.seed_hash ≡ seed_hash DEFAULT_UPDATE_SEED → IfOk result (λ v. Reads v.items (seed_hash DEFAULT_UPDATE_SEED) sketch.now) }
+{
+    read_again();
+    // Its contract tells that the sketch keeps its laws.
+    let _ = sketch.num_retained();
+    let _hash = compute_seed_hash(DEFAULT_UPDATE_SEED, ErrorKind::InvalidArgument)?;
+    sketch.serialize()
+}
+
+/// A new union of 2^`lg_k` nominal entries.
+pub(crate) fn new_union<A: Allocator + Drop>(alloc: A, lg_k: u8) -> Result<ThetaUnion<A>, Error>
+    ensures made { IfOk result (λ u. u ≡ empty_union lg_k MAX_THETA (seed_hash DEFAULT_UPDATE_SEED) u.policy) }
+    ensures refused { Refuses result (table_refusal lg_k MAX_THETA DEFAULT_UPDATE_SEED) true }
+{
+    ThetaUnionBuilder::default().lg_k(lg_k).build(alloc)
+}
+
+/// The ordered sketch of no lines.
+fn empty_sketch<A: Allocator + Clone + Drop>(alloc: A) -> Result<CompactThetaSketch<A>, Error>
+    ensures { IfOk result (λ s. s ≡ ordered_sketch Empty) }
+{
+    let mut sketch = new_sketch(alloc, MIN_LG_K)?;
+    finished(&mut sketch)
+}
+
+/// What an intersection has come to, ordered: the sketch of no lines before its first sketch.
+fn met_sketch<A: Allocator + Clone + Drop>(
+    alloc: A,
+    intersection: &ThetaIntersection<A>,
+) -> Result<CompactThetaSketch<A>, Error>
+    ensures { intersection.now.seed_hash ≡ seed_hash DEFAULT_UPDATE_SEED → IfOk result (λ s. s ≡ ordered_sketch (come_to intersection.now.result)) }
+{
+    match intersection.to_sketch(true)? {
+        Some(sketch) => Ok(sketch),
+        None => empty_sketch(alloc),
+    }
+}
+
+/// What all sketches share, ordered; of no sketches, that of no lines. Refused with `InvalidArgument` for a sketch of another
+/// seed, and with `OutOfMemory`.
+pub fn met<A: Allocator + Clone + Drop>(
+    alloc: A,
+    sketches: &[CompactThetaSketch<A>],
+) -> Result<CompactThetaSketch<A>, Error>
+    ensures { IfOk result (λ s. s ≡ ordered_sketch (meet hash_key first_hash (values_of_sketches sketches.now))) }
+{
+    let mut intersection = ThetaIntersection::with_seed(alloc.clone()?, DEFAULT_UPDATE_SEED)?;
+    for sketch in sketches {
+        intersection.update(sketch.as_view())?;
+    }
+    met_sketch(alloc, &intersection)
+}
+
+/// What the first has and the second lacks, ordered. Refused with `InvalidArgument` where the first isn't empty and it, or a
+/// second that isn't empty, is of another seed, and with `OutOfMemory`.
+pub fn lacked<A: Allocator + Clone + Drop>(
+    alloc: A,
+    first: &CompactThetaSketch<A>,
+    second: &CompactThetaSketch<A>,
+) -> Result<CompactThetaSketch<A>, Error>
+    ensures { first.now.seed_hash ≡ seed_hash DEFAULT_UPDATE_SEED → IfOk result (λ s. s ≡ ordered_sketch (minus hash_key hash_key (compact_value hash_key first.now) (compact_value hash_key second.now))) }
+{
+    let difference = ThetaANotB::default()?;
+    difference.compute(alloc, first.as_view(), second.as_view(), true)
+}

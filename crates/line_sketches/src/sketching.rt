@@ -1,0 +1,169 @@
+//! Sketches of the lines that a reader has.
+ghost use Rattle.std.specs.Prelude.{◌≡◌, ◌<◌, ℕ, List, [], length, IfOk, OnOk, IfSome, true};
+ghost use Rattle.sketch_base.specs.declared.seed.TheConstants.{DEFAULT_UPDATE_SEED};
+ghost use Rattle.theta_laws.specs.Refusal.{Refuses};
+ghost use Rattle.theta_table.specs.HashTable.{table_refusal};
+ghost use Rattle.theta_laws.specs.declared.TheConstants.{MAX_THETA};
+ghost use Rattle.lines.specs.Lines.{lines_of, lines_after, Lacks};
+ghost use Rattle.lines.specs.Open.{IsOpen};
+ghost use Rattle.lines.specs.declared.key.Key.{Key};
+ghost use Rattle.line_sketches.specs.Keys.{held, new_held, with_lines, value_of_lines, ordered_sketch};
+ghost use Rattle.line_sketches.specs.Taking.{Takes, Leaves};
+
+use lines::{Key, OpenLine, cut_line, line_hash};
+use sketch_base::Error;
+use std::alloc::{AllocError, Allocator};
+use std::io;
+use std::io::{ErrorKind, Read};
+use theta_sketches::{CompactThetaSketch, ThetaSketch, ThetaSketchBuilder};
+
+/// Why lines or images were not taken in.
+#[derive(Debug, Drop)]
+pub enum Unread {
+    /// Memory was refused, an `lg_k` is none that a sketch may have, or a source is no image.
+    Refused(Error),
+    /// A source failed, or couldn't be opened.
+    Failed(io::Error),
+}
+
+impl From<Error> for Unread {
+    fn from(e: Error) -> Unread {
+        Unread::Refused(e)
+    }
+}
+
+impl From<AllocError> for Unread {
+    fn from(e: AllocError) -> Unread {
+        Unread::Refused(Error::from(e))
+    }
+}
+
+/// Looks on while lines are taken in.
+pub trait Watch {
+    /// So many bytes were read, and so many lines ended in them; the sketch has taken these in.
+    fn saw<A: Allocator>(&mut self, bytes: usize, lines: u64, sketch: &ThetaSketch<A>);
+}
+
+/// A new sketch of 2^`lg_k` nominal entries. Refused with `InvalidArgument` for an `lg_k` that isn't from 5 to 26, and with
+/// `OutOfMemory`.
+pub fn new_sketch<A: Allocator + Drop>(alloc: A, lg_k: u8) -> Result<ThetaSketch<A>, Error>
+    ensures new { IfOk result (λ s. held s ≡ new_held lg_k) }
+    ensures refused { Refuses result (table_refusal lg_k MAX_THETA DEFAULT_UPDATE_SEED) true }
+{
+    ThetaSketchBuilder::default().lg_k(lg_k).build(alloc)
+}
+
+/// Takes in the lines of a text that end by an LF, and tells what stands after the last of them, and how many they were.
+fn take_lines<'a, A: Allocator + Clone>(
+    sketch: &mut ThetaSketch<A>,
+    key: Key,
+    text: &'a [u8],
+) -> Result<(&'a [u8], u64), Error>
+    ensures lacks { IfOk result (λ x. Lacks 10 x.0.now) }
+    ensures leaves { IfOk result (λ x. Leaves key (held sketch.old) text.now (held sketch.new) x.0.now) }
+{
+    let mut rest = text;
+    let mut count = 0u64;
+    while let Some((line, others)) = cut_line(rest) {
+        sketch.update_hash(line_hash(key, line))?;
+        rest = others;
+        count = count.wrapping_add(1);
+    }
+    Ok((rest, count))
+}
+
+/// Takes in a block that continues an open line, which then is what stands after the block's last LF. Tells how many lines
+/// ended.
+fn take_block<A: Allocator + Clone>(
+    sketch: &mut ThetaSketch<A>,
+    key: Key,
+    last: &mut OpenLine,
+    block: &[u8],
+) -> Result<u64, Error>
+    ensures { (before : List ℕ) → IsOpen key before last.old → OnOk result ((after : List ℕ) × IsOpen key after last.new × Takes key (held sketch.old) before block.now (held sketch.new) after) }
+{
+    let Some((first, others)) = cut_line(block) else {
+        last.extend(block);
+        return Ok(0);
+    };
+    last.extend(first);
+    sketch.update_hash(last.hash())?;
+    *last = OpenLine::new(key);
+    let (rest, count) = take_lines(sketch, key, others)?;
+    last.extend(rest);
+    Ok(count.wrapping_add(1))
+}
+
+/// Takes in a line that no LF ends, if it has a byte.
+fn take_last<A: Allocator + Clone>(
+    sketch: &mut ThetaSketch<A>,
+    last: &OpenLine,
+) -> Result<(), Error>
+    ensures { (key : Key) (front : List ℕ) → IsOpen key front last.now → OnOk result (held sketch.new ≡ with_lines key (held sketch.old) (lines_after front [])) }
+{
+    if last.is_begun() {
+        sketch.update_hash(last.hash())?;
+    }
+    Ok(())
+}
+
+/// Takes in all lines that a reader has left, block by block, each by its key. A read that was interrupted is made again.
+///
+/// Where it fails, what was read before is taken in.
+pub fn add_lines<A: Allocator + Clone, R: Read, W: Watch>(
+    sketch: &mut ThetaSketch<A>,
+    key: Key,
+    reader: &mut R,
+    block: &mut [u8],
+    watch: &mut W,
+) -> Result<(), Unread>
+    requires room { 0 < length block.old }
+    ensures { IfSome (R.remaining reader.old) (λ text. OnOk result (held sketch.new ≡ with_lines key (held sketch.old) (lines_of text))) }
+{
+    let mut last = OpenLine::new(key);
+    for _ in 0..u64::MAX {
+        match reader.read(block) {
+            Ok(0) => {
+                take_last(sketch, &last)?;
+                return Ok(());
+            }
+            Ok(count) => {
+                let lines = take_block(sketch, key, &mut last, &block[..count])?;
+                watch.saw(count, lines, sketch);
+            }
+            Err(error) => {
+                if error.kind() != ErrorKind::Interrupted {
+                    return Err(Unread::Failed(error));
+                }
+            }
+        }
+    }
+    Err(Unread::Refused(Error::from(AllocError)))
+}
+
+/// The sketch, trimmed and ordered.
+pub fn finished<A: Allocator + Clone>(
+    sketch: &mut ThetaSketch<A>,
+) -> Result<CompactThetaSketch<A>, Error>
+    ensures { (key : Key) (lg_k : ℕ) (lines : List (List ℕ)) → held sketch.old ≡ with_lines key (new_held lg_k) lines → IfOk result (λ s. s ≡ ordered_sketch (value_of_lines key lg_k lines)) }
+{
+    sketch.trim()?;
+    sketch.compact(true)
+}
+
+/// The sketch of all lines that a reader has left.
+pub fn sketch_lines<A: Allocator + Clone + Drop, R: Read, W: Watch>(
+    alloc: A,
+    key: Key,
+    lg_k: u8,
+    reader: &mut R,
+    block: &mut [u8],
+    watch: &mut W,
+) -> Result<CompactThetaSketch<A>, Unread>
+    requires room { 0 < length block.old }
+    ensures { IfSome (R.remaining reader.old) (λ text. IfOk result (λ s. s ≡ ordered_sketch (value_of_lines key lg_k (lines_of text)))) }
+{
+    let mut sketch = new_sketch(alloc, lg_k)?;
+    add_lines(&mut sketch, key, reader, block, watch)?;
+    Ok(finished(&mut sketch)?)
+}

@@ -1,0 +1,82 @@
+//! Texts, each behind a reader of its own, one after another.
+ghost use Rattle.std.specs.Prelude.{◌≡◌, ℕ, List, Option, IfOk, OnOk, IfSome};
+ghost use Rattle.lines.specs.Lines.{lines_of, lines_of_all};
+ghost use Rattle.line_sketches.specs.Keys.{held, with_lines, value_of_lines, ordered_sketch};
+ghost use Rattle.line_sketches.specs.Sources.{GivesNext};
+
+use crate::sketching::{Unread, Watch, add_lines, finished, new_sketch};
+use lines::Key;
+use sketch_base::Error;
+use std::alloc::{AllocError, Allocator};
+use std::io;
+use std::io::Read;
+use theta_sketches::{CompactThetaSketch, ThetaSketch};
+
+/// How many bytes a read of lines asks for.
+pub const BLOCK: usize = 1 << 17;
+
+/// Texts, each behind a reader of its own, one after another.
+pub trait Sources {
+    /// A reader of one text.
+    type Source: Read + Drop;
+
+    /// The texts that are left, where they are known.
+    ghost texts: { Self → Option (List (List ℕ)) };
+
+    /// The next text's reader, or `None` at the end.
+    fn next_source(&mut self) -> io::Result<Option<Self::Source>>
+        ensures { IfOk result (GivesNext Self.Source.remaining (texts self.old) (texts self.new)) };
+}
+
+/// Takes in the lines of one text.
+fn add_source<A: Allocator + Clone, B: Allocator, R: Read, W: Watch>(
+    sketch: &mut ThetaSketch<A>,
+    alloc: B,
+    key: Key,
+    reader: &mut R,
+    watch: &mut W,
+) -> Result<(), Unread>
+    ensures { IfSome (R.remaining reader.old) (λ text. OnOk result (held sketch.new ≡ with_lines key (held sketch.old) (lines_of text))) }
+{
+    let mut block = vec![in alloc; 0u8; BLOCK]?;
+    add_lines(sketch, key, reader, &mut block, watch)
+}
+
+/// Takes in the lines of all texts, each text's by themselves: a last line without an LF isn't joined to the next text.
+///
+/// Where it fails, what was read before is taken in.
+pub fn add_sources<A: Allocator + Clone, B: Allocator + Clone + Drop, S: Sources, W: Watch>(
+    sketch: &mut ThetaSketch<A>,
+    alloc: B,
+    key: Key,
+    sources: &mut S,
+    watch: &mut W,
+) -> Result<(), Unread>
+    ensures { IfSome (S.texts sources.old) (λ texts. OnOk result (held sketch.new ≡ with_lines key (held sketch.old) (lines_of_all texts))) }
+{
+    for _ in 0..u64::MAX {
+        match sources.next_source() {
+            Ok(Some(mut source)) => {
+                add_source(sketch, alloc.clone()?, key, &mut source, watch)?;
+            }
+            Ok(None) => return Ok(()),
+            Err(error) => return Err(Unread::Failed(error)),
+        }
+    }
+    Err(Unread::Refused(Error::from(AllocError)))
+}
+
+/// The sketch of the lines of all texts, each text's by themselves.
+pub fn sketch_sources<A: Allocator + Clone + Drop, S: Sources, W: Watch>(
+    alloc: A,
+    key: Key,
+    lg_k: u8,
+    sources: &mut S,
+    watch: &mut W,
+) -> Result<CompactThetaSketch<A>, Unread>
+    ensures { IfSome (S.texts sources.old) (λ texts. IfOk result (λ s. s ≡ ordered_sketch (value_of_lines key lg_k (lines_of_all texts)))) }
+{
+    let mut sketch = new_sketch(alloc.clone()?, lg_k)?;
+    add_sources(&mut sketch, alloc, key, sources, watch)?;
+    Ok(finished(&mut sketch)?)
+}

@@ -1,0 +1,98 @@
+//! Images that are united one after another, and what their union is the image of.
+ghost use Rattle.std.specs.Prelude.{◌≡◌, ◌++◌, ◌∷◌, ℕ, List, [], IfOk, OnOk, IfSome};
+ghost use Rattle.std.specs.List.{concat};
+ghost use Rattle.lines.specs.Lines.{AreWhole};
+ghost use Rattle.lines.specs.declared.key.Key.{Key};
+ghost use Rattle.line_sketches.specs.Keys.{image_of_text};
+ghost use Rattle.line_sketches.specs.Shards.{images_of_texts};
+ghost use Rattle.line_sketches.specs.Unions.{HasUnited, IsUnitedImage};
+
+use crate::images::{image_of, new_union, read_image};
+use crate::sketching::Unread;
+use crate::sources::Sources;
+use sketch_base::Error;
+use std::alloc::{AllocError, Allocator};
+use std::io::Read;
+use theta_sketches::ThetaUnion;
+use theta_sketches::laws::{one_reading, read_again};
+
+/// Takes in an image. Refused with `InvalidData` for bytes that are no image of a theta sketch of the default seed, and with
+/// `OutOfMemory`.
+fn add_image<A: Allocator + Clone, B: Allocator + Clone + Drop>(
+    union: &mut ThetaUnion<A>,
+    alloc: B,
+    image: &[u8],
+) -> Result<(), Error>
+    ensures { (lg_k : ℕ) (images : List (List ℕ)) → HasUnited lg_k images union.old → OnOk result (HasUnited lg_k (images ++ image.now ∷ []) union.new) }
+{
+    let sketch = read_image(alloc, image)?;
+    union.update(sketch.as_view())?;
+    Ok(())
+}
+
+/// Takes in the image that a reader has.
+fn add_reader<A: Allocator + Clone, B: Allocator + Clone + Drop, R: Read>(
+    union: &mut ThetaUnion<A>,
+    alloc: B,
+    reader: &mut R,
+) -> Result<(), Unread>
+    ensures { (lg_k : ℕ) (images : List (List ℕ)) → HasUnited lg_k images union.old → IfSome (R.remaining reader.old) (λ image. OnOk result (HasUnited lg_k (images ++ image ∷ []) union.new)) }
+{
+    let mut image = Vec::new(alloc.clone()?);
+    if let Err(error) = reader.read_to_end(&mut image) {
+        return Err(Unread::Failed(error));
+    }
+    add_image(union, alloc, image.as_slice())?;
+    Ok(())
+}
+
+/// Takes in images one after another.
+fn add_images<A: Allocator + Clone, B: Allocator + Clone + Drop, S: Sources>(
+    union: &mut ThetaUnion<A>,
+    alloc: B,
+    sources: &mut S,
+) -> Result<(), Unread>
+    ensures { (lg_k : ℕ) (images : List (List ℕ)) → HasUnited lg_k images union.old → IfSome (S.texts sources.old) (λ more. OnOk result (HasUnited lg_k (images ++ more) union.new)) }
+{
+    for _ in 0..u64::MAX {
+        match sources.next_source() {
+            Ok(Some(mut source)) => {
+                add_reader(union, alloc.clone()?, &mut source)?;
+            }
+            Ok(None) => return Ok(()),
+            Err(error) => return Err(Unread::Failed(error)),
+        }
+    }
+    Err(Unread::Refused(Error::from(AllocError)))
+}
+
+/// The image of what a union has come to, ordered.
+fn united_image<A: Allocator + Clone + Drop>(union: &ThetaUnion<A>) -> Result<Vec<u8, A>, Error>
+    ensures { (lg_k : ℕ) (images : List (List ℕ)) → HasUnited lg_k images union.now → IfOk result (λ v. IsUnitedImage lg_k images v.items) }
+{
+    let sketch = union.to_sketch(true)?;
+    image_of(&sketch)
+}
+
+/// The image of the union of images, each behind a reader of its own.
+///
+/// Where the images are those of texts that were sketched apart, by one key and with this `lg_k`, and each text but the last
+/// is empty or ends by an LF, it is the image of the texts one behind the other, byte for byte. An image doesn't tell the
+/// `lg_k` that it was made with.
+///
+/// Refused with `InvalidArgument` for an `lg_k` that isn't from 5 to 26, with `InvalidData` for a source that is no image of
+/// a theta sketch of the default seed, and with `OutOfMemory`.
+pub fn unite_images<A: Allocator + Clone + Drop, S: Sources>(
+    alloc: A,
+    lg_k: u8,
+    images: &mut S,
+) -> Result<Vec<u8, A>, Unread>
+    ensures united { IfSome (S.texts images.old) (λ all. IfOk result (λ v. IsUnitedImage lg_k all v.items)) }
+    ensures whole { IfSome (S.texts images.old) (λ all. (key : Key) (texts : List (List ℕ)) → AreWhole texts → all ≡ images_of_texts key lg_k texts → IfOk result (λ v. v.items ≡ image_of_text key lg_k (concat texts))) }
+{
+    one_reading();
+    read_again();
+    let mut union = new_union(alloc.clone()?, lg_k)?;
+    add_images(&mut union, alloc, images)?;
+    Ok(united_image(&union)?)
+}

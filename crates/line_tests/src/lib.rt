@@ -1,0 +1,8 @@
+//! Tests of sketches of lines: readers that give a byte at a time or fail, blocks of every size, texts split in many ways, with
+//! images from outside. It has no code of its own.
+#![tactic(auto)]
+
+#[cfg(test)]
+mod readers;
+#[cfg(test)]
+mod splits;

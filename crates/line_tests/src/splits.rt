@@ -1,0 +1,118 @@
+//! Texts that are split over parts in many ways, sketched apart and united.
+ghost use Rattle.std.specs.Prelude.{None};
+
+use crate::readers::Counter;
+use line_sketches::{Sources, image_of, sketch_sources, unite_images};
+use lines::{Key, cut_line};
+use std::alloc::Global;
+use std::io;
+use std::test::Fail;
+
+/// Texts in memory, one after another.
+#[derive(Drop)]
+struct Parts<'a> {
+    left: &'a [Vec<u8>],
+}
+
+impl<'a> Sources for Parts<'a> {
+    type Source = &'a [u8];
+
+    ghost texts = { λ _. None };
+
+    fn next_source(&mut self) -> io::Result<Option<&'a [u8]>> {
+        let Some((first, others)) = self.left.split_first() else {
+            return Ok(None);
+        };
+        self.left = others;
+        Ok(Some(first.as_slice()))
+    }
+}
+
+/// 300 lines, of which 200 are distinct, and a last one without an LF.
+fn text(alloc: Global) -> io::Result<String> {
+    let mut text = String::new(alloc);
+    for i in 0..300u32 {
+        let number = i % 200;
+        let line = format!(in alloc; "line {number}\n")?;
+        text.push_str(line.as_str())?;
+    }
+    text.push_str("the last")?;
+    Ok(text)
+}
+
+/// A text, cut behind every so many lines.
+fn parts_of(alloc: Global, text: &[u8], every: u32) -> io::Result<Vec<Vec<u8>>> {
+    let mut parts = Vec::new(alloc);
+    let mut part = Vec::new(alloc);
+    let mut rest = text;
+    let mut count = 0u32;
+    for _ in 0..text.len() {
+        let Some((line, others)) = cut_line(rest) else {
+            break;
+        };
+        part.extend_from_slice(line)?;
+        part.push(b'\n')?;
+        rest = others;
+        count = count.wrapping_add(1);
+        if count == every {
+            parts.push(part)?;
+            part = Vec::new(alloc);
+            count = 0;
+        }
+    }
+    part.extend_from_slice(rest)?;
+    parts.push(part)?;
+    Ok(parts)
+}
+
+/// The image of the lines of texts.
+fn image_of_texts(alloc: Global, texts: &[Vec<u8>]) -> io::Result<Vec<u8>> {
+    let mut counter = Counter { lines: 0, bytes: 0 };
+    let mut parts = Parts { left: texts };
+    match sketch_sources(alloc, Key::Line, 5, &mut parts, &mut counter) {
+        Ok(sketch) => match image_of(&sketch) {
+            Ok(image) => Ok(image),
+            Err(_) => Ok(Vec::new(alloc)),
+        },
+        Err(_) => Ok(Vec::new(alloc)),
+    }
+}
+
+/// The image of the union of the images of texts that are sketched apart, in their order or the other way.
+fn united(alloc: Global, texts: &[Vec<u8>], reversed: bool) -> io::Result<Vec<u8>> {
+    let mut images = Vec::new(alloc);
+    for i in 0..texts.len() {
+        let image = image_of_texts(alloc, &texts[i..i + 1])?;
+        images.push(image)?;
+    }
+    if reversed {
+        images.reverse();
+    }
+    let mut parts = Parts {
+        left: images.as_slice(),
+    };
+    match unite_images(alloc, 5, &mut parts) {
+        Ok(image) => Ok(image),
+        Err(_) => Ok(Vec::new(alloc)),
+    }
+}
+
+#[test]
+fn parts_unite(rt: HostRuntime) -> Result<(), Fail> {
+    let text = text(rt.alloc())?;
+    let all = parts_of(rt.alloc(), text.as_bytes(), 1000)?;
+    let whole = image_of_texts(rt.alloc(), all.as_slice())?;
+    assert_eq!(rt; whole.len(), 24 + 8 * 32);
+    for (every, reversed) in [
+        (1, false),
+        (7, true),
+        (100, false),
+        (150, true),
+        (299, false),
+    ] {
+        let parts = parts_of(rt.alloc(), text.as_bytes(), every)?;
+        let image = united(rt.alloc(), parts.as_slice(), reversed)?;
+        assert_eq!(rt; image.as_slice(), whole.as_slice(), "every {every}");
+    }
+    Ok(())
+}

@@ -1,0 +1,11 @@
+use Rattle.std.proofs.Common.{◌≡◌, ℕ, List, ◌++◌, length}
+use Rattle.lines.specs.Open.{IsOpenKey}
+use Rattle.lines.specs.declared.key.Key.TheVariants.{Field}
+use Rattle.lines.proofs.open_key.OpenKey.extend_field.Given as goal
+
+-- what was taken in stands before the rest
+abbrev pub invariant-loop-piece : goal.invariant-loop-piece
+invariant-loop-piece l = (taken : List ℕ) × (l.bytes ≡ taken ++ l.rest) × ((front : List ℕ) → IsOpenKey (Field l.before l.separator) front l.fn.self → IsOpenKey (Field l.before l.separator) (front ++ taken) l.self)
+
+abbrev pub decreases-loop-piece : goal.decreases-loop-piece
+decreases-loop-piece l = length l.rest

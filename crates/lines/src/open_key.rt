@@ -1,0 +1,98 @@
+//! The key of a line that has begun.
+ghost use Rattle.std.specs.Prelude.{◌≡◌, ℕ, List, [], ◌++◌, ◌∷◌};
+ghost use Rattle.sketch_base.specs.MurmurState.{HasWritten};
+ghost use Rattle.sketch_base.specs.declared.seed.TheConstants.{DEFAULT_UPDATE_SEED};
+ghost use Rattle.lines.specs.Keys.{line_hash, key_of};
+ghost use Rattle.lines.specs.Lines.{Lacks};
+ghost use Rattle.lines.specs.Open.{IsOpenKey};
+ghost use Rattle.lines.specs.declared.key.Key.{Key};
+ghost use Rattle.lines.specs.declared.key.Key.TheVariants.{Line, Field};
+
+use crate::cut::cut_at;
+use crate::key::Key;
+use sketch_base::{DEFAULT_UPDATE_SEED, MurmurHash3X64128};
+use std::hash::Hasher;
+
+/// The hasher of a line's key so far, and how many separators were passed: no further than one more than stand before the
+/// key's field.
+#[derive(Clone, Copy)]
+pub(crate) struct OpenKey {
+    hasher: MurmurHash3X64128,
+    passed: u64,
+}
+
+impl OpenKey {
+    /// That of a line of no bytes yet.
+    pub(crate) fn new() -> OpenKey
+        ensures line { IsOpenKey Line [] result }
+        ensures field { (before separator : ℕ) → IsOpenKey (Field before separator) [] result }
+    {
+        OpenKey {
+            hasher: MurmurHash3X64128::with_seed(DEFAULT_UPDATE_SEED),
+            passed: 0,
+        }
+    }
+
+    /// Takes in bytes of one field: they belong to the key where no separator was passed yet, or as many as stand before the
+    /// key's field.
+    fn put(&mut self, before: u32, separator: u8, piece: &[u8])
+        requires { Lacks separator piece.now }
+        ensures { (front : List ℕ) → IsOpenKey (Field before separator) front self.old → IsOpenKey (Field before separator) (front ++ piece.now) self.new }
+    {
+        if self.passed == 0 || self.passed == before as u64 {
+            self.hasher.write(piece);
+        }
+    }
+
+    /// Forgets what stands before the first separator, where it is neither the only field nor the key's.
+    fn forget(&mut self, before: u32, separator: u8)
+        ensures hashed { (front : List ℕ) → IsOpenKey (Field before separator) front self.old → HasWritten DEFAULT_UPDATE_SEED (key_of (Field before separator) (front ++ separator ∷ [])) self.new.hasher }
+        ensures passed { self.new.passed ≡ self.old.passed }
+    {
+        if self.passed == 0 && before != 0 {
+            self.hasher = MurmurHash3X64128::with_seed(DEFAULT_UPDATE_SEED);
+        }
+    }
+
+    /// Takes in a separator.
+    fn pass(&mut self, before: u32, separator: u8)
+        ensures { (front : List ℕ) → IsOpenKey (Field before separator) front self.old → IsOpenKey (Field before separator) (front ++ separator ∷ []) self.new }
+    {
+        self.forget(before, separator);
+        if self.passed <= before as u64 {
+            self.passed += 1;
+        }
+    }
+
+    /// Takes in bytes of a line whose key is a field.
+    fn extend_field(&mut self, before: u32, separator: u8, bytes: &[u8])
+        ensures { (front : List ℕ) → IsOpenKey (Field before separator) front self.old → IsOpenKey (Field before separator) (front ++ bytes.now) self.new }
+    {
+        let mut rest = bytes;
+        while let Some((piece, others)) = cut_at(rest, separator) {
+            self.put(before, separator, piece);
+            self.pass(before, separator);
+            rest = others;
+        }
+        self.put(before, separator, rest);
+    }
+
+    /// Takes in bytes of a line.
+    #[inline(always)]
+    pub(crate) fn extend(&mut self, key: Key, bytes: &[u8])
+        ensures { (front : List ℕ) → IsOpenKey key front self.old → IsOpenKey key (front ++ bytes.now) self.new }
+    {
+        match key {
+            Key::Line => self.hasher.write(bytes),
+            Key::Field(before, separator) => self.extend_field(before, separator, bytes),
+        }
+    }
+
+    /// The hash of the key of the bytes so far.
+    #[inline(always)]
+    pub(crate) fn hash(&self) -> u64
+        ensures { (key : Key) (front : List ℕ) → IsOpenKey key front self.now → result ≡ line_hash key front }
+    {
+        self.hasher.finish() >> 1
+    }
+}

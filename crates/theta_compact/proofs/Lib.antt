@@ -1,0 +1,2 @@
+pub mod LawsOfShown
+pub mod Answered

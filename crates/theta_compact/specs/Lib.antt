@@ -1,0 +1,2 @@
+pub mod CompactState
+pub mod Mapped

@@ -1,0 +1,9 @@
+//! Compact states: the entries of a sketch that no longer changes, with its theta, seed hash and order.
+//!
+//! Contracts see one as a record of these, and every one keeps the laws of what a sketch shows. An entry is a type with a
+//! hash.
+#![tactic(auto)]
+
+mod compact_state;
+
+pub use compact_state::{CompactSketchState, is_answer_ordered};

@@ -1,7 +1,0 @@
-use Rattle.std.proofs.Common.{◌≡◌, ◌++◌, ℕ, List, length}
-use Rattle.theta_images.specs.Entry.{SpellsEach}
-use Rattle.theta_images.proofs.read.read_entries.Given as goal
-
--- the bytes that are gone spell the entries so far
-abbrev pub invariant-read_each : goal.invariant-read_each
-invariant-read_each g l = (text : List ℕ) × (l.bytes ≡ text ++ l.slice) × SpellsEach g.E.ImageEntry.spells text l.entries.items × (length l.entries.items ≡ l._i)

@@ -1,0 +1,34 @@
+-- Entries in slots.
+use Rattle.std.specs.Prelude.{ℕ, ◌<◌, ◌≡◌, ◌^◌, ◌==◌, not, Bool, false, true, Option, Some, None, List, [], ◌∷◌, length, get_or}
+use Rattle.theta_slots.specs.Probe.{probe}
+
+-- what the slots hold, in their order
+abbrev pub filled : {X : Type 0} → List (Option X) → List X
+filled [] = []
+filled (None ∷ slots) = filled slots
+filled (Some x ∷ slots) = x ∷ filled slots
+
+-- what is in a slot
+abbrev pub slot : {X : Type 0} → List (Option X) → ℕ → Option X
+slot slots p = get_or slots p None
+
+-- an entry with another hash
+abbrev pub is_other : {X : Type 0} → (X → ℕ) → ℕ → Option X → Bool
+is_other key h None = false
+is_other key h (Some x) = not (key x == h)
+
+-- other hashes are in the first n slots on the path of h
+unfoldable pub HasOthers : {X : Type 0} → (X → ℕ) → (lg : ℕ) → List (Option X) → (h n : ℕ) → Type 0
+HasOthers key lg slots h n = (i : ℕ) → i < n → is_other key h (slot slots (probe h lg i)) ≡ true
+
+-- the slot p is on the path of h, after other hashes only
+pub record IsOnPath {X : Type 0} (key : X → ℕ) (lg : ℕ) (slots : List (Option X)) (h p : ℕ) : Type 0 where
+  pub step : ℕ
+  pub in_range : step < 2 ^ lg
+  pub here : probe h lg step ≡ p
+  pub others : HasOthers key lg slots h step
+
+-- each hash is on its path, after other hashes only
+pub record IsLaidOut {X : Type 0} (key : X → ℕ) (lg : ℕ) (slots : List (Option X)) : Type 0 where
+  pub size : length slots ≡ 2 ^ lg
+  pub on_path : (p : ℕ) (x : X) → slot slots p ≡ Some x → IsOnPath key lg slots (key x) p

@@ -1,0 +1,5 @@
+pub mod Probe
+pub mod Layout
+pub mod Moving
+pub mod Rank
+pub mod HashSlots

@@ -1,0 +1,9 @@
+-- Hashes by how many are smaller.
+use Rattle.std.specs.Prelude.{ℕ, ◌≡◌, List, IsSome}
+use Rattle.theta_laws.specs.Maps.{rank, entry_at}
+use Rattle.theta_laws.specs.Entries.{hash_key}
+
+-- h is one of these hashes, and just k of them are smaller
+pub record HasRank (hashes : List ℕ) (k h : ℕ) : Type 0 where
+  pub is_one : IsSome (entry_at hash_key hashes h)
+  pub ranked : rank hash_key hashes h ≡ k

@@ -1,0 +1,41 @@
+//! The entries that slots hold.
+ghost use Rattle.std.specs.Prelude.{◌≡◌, ◌<◌, [], length, map, Option, Some, None, IfOk};
+ghost use Rattle.std.specs.Option.{option_copied};
+ghost use Rattle.theta_slots.specs.Layout.{filled};
+
+use std::alloc::{AllocError, Allocator};
+use theta_laws::SketchEntry;
+
+/// An entry that a table keeps in slots of the type that it names. Each slot is free or holds an entry.
+pub trait SlotEntry: SketchEntry {
+    /// What a slot is in memory.
+    type Slot: Drop;
+
+    /// What a slot holds.
+    ghost held: { Self.Slot → Option Self };
+
+    /// A free slot.
+    fn free_slot() -> Self::Slot
+        ensures { held result ≡ None };
+
+    /// `count` free slots, in one request for memory. It fails only where memory ran out.
+    fn free_slots<A: Allocator + Drop>(
+        alloc: A,
+        count: usize,
+    ) -> Result<Vec<Self::Slot, A>, AllocError>
+        ensures size { IfOk result (λ slots. length slots.items ≡ count) }
+        ensures free { IfOk result (λ slots. filled (map held slots.items) ≡ []) };
+
+    /// The slot of this entry, whose hash is not 0.
+    fn into_slot(self) -> Self::Slot
+        requires { 0 < Self.key self }
+        ensures { held result ≡ Some self };
+
+    /// The entry that a slot held, if it held one.
+    fn from_slot(slot: Self::Slot) -> Option<Self>
+        ensures { result ≡ held slot };
+
+    /// The entry that a slot holds, if it holds one.
+    fn in_slot(slot: &Self::Slot) -> Option<&Self>
+        ensures { option_copied result ≡ held slot.now };
+}

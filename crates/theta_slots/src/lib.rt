@@ -1,0 +1,15 @@
+//! Slots in which a table keeps entries by open addressing: searches, writes, and moves from slots to slots.
+//!
+//! There are 2^lg slots. The path of a hash begins at the slot of its low lg bits and goes on by an odd stride of its next
+//! 7 bits, so it meets each slot once. Contracts see slots as a list of what each holds, and speak of the map that the
+//! entries make. Whether an entry may be retained, and when slots grow, is for the table above to say.
+#![tactic(auto)]
+
+mod count;
+mod entry;
+pub mod laws;
+mod slots;
+
+pub use count::Count;
+pub use entry::SlotEntry;
+pub use slots::{Place, free_slots, hash_of_rank, keep_below, put_spread, seek};

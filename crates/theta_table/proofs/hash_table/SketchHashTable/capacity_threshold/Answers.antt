@@ -1,0 +1,13 @@
+use Rattle.std.proofs.Common.{arith}
+use Rattle.theta_table.proofs.Slotted.{slotted_count}
+use Rattle.theta_table.proofs.Counting.{rebuilds_few, placed_few}
+use Rattle.theta_table.proofs.hash_table.SketchHashTable.capacity_threshold.Goals as goal
+
+pub returns-clause-few : goal.returns-clause-few
+returns-clause-few g c = rw (← c.self.view_is) (λ has. omega (arith, slotted_count g.E.SketchEntry.key _ _ _ _ _ c.self.invariant.slotted, (c.self.invariant.slotted.sized has).few))
+
+pub returns-clause-rebuilds : goal.returns-clause-rebuilds
+returns-clause-rebuilds g c = rw (← c.self.view_is) (rebuilds_few _ _ _ _ c.self.invariant.counted)
+
+pub returns-clause-placed : goal.returns-clause-placed
+returns-clause-placed g c = rw (← c.self.view_is) (placed_few _ _ _ _ c.self.invariant.counted)

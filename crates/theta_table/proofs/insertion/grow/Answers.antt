@@ -1,0 +1,37 @@
+use Rattle.std.proofs.Common.{◌≡◌, ◌+◌, ◌<◌, map, length, refl, ap, ◌∙◌, arith}
+use Rattle.theta_laws.specs.Maps.{map_of, with_entry}
+use Rattle.theta_slots.specs.Layout.{filled}
+use Rattle.theta_laws.proofs.maps.Ascending.{each-with_entry}
+use Rattle.theta_laws.proofs.cuts.Cuts.{below_all}
+use Rattle.theta_table.proofs.Tables.{grown, joined_count}
+use Rattle.theta_slots.proofs.Held.{length-held}
+use Rattle.theta_slots.proofs.Layouts.{length-map_of}
+use Rattle.theta_table.proofs.insertion.grow.Goals as goal
+
+pub overflow_add-sizes : goal.overflow_add-sizes
+overflow_add-sizes g c = omega (arith, c.requires.sized.within, c.requires.sized.nom_high, c.requires.sized.grow_high)
+
+pub put_spread-requires-clause-small : goal.put_spread-requires-clause-small
+put_spread-requires-clause-small g c = omega (arith, c.min-lg_cur.ensures, c.requires.sized.nom_high)
+
+pub put_spread-requires-clause-room : goal.put_spread-requires-clause-room
+put_spread-requires-clause-room g c =
+    let s = c.args.sizes in
+    omega (arith, c.requires.counted, (grown s.lg_cur c.min-lg_cur.result s.lg_nom s.grow s.count c.requires.sized c.requires.growing c.min-lg_cur.ensures).fits)
+
+pub returns-clause-after : goal.returns-clause-after
+returns-clause-after g c =
+    let key = g.E.SketchEntry.key in
+    let m = map_of key (filled (map g.E.SlotEntry.held c.args.slots.now.items)) in
+    c.in_ok-put_spread.ensures.map ∙ below_all key (with_entry key m c.args.entry) c.args.sizes.theta (each-with_entry key (λ y. key y < c.args.sizes.theta) m c.args.entry c.requires.below_theta c.requires.low)
+
+pub returns-clause-ticked : goal.returns-clause-ticked
+returns-clause-ticked g c =
+    let key = g.E.SketchEntry.key in
+    let held = g.E.SlotEntry.held in
+    let slots = map held c.args.slots.now.items in
+    let after = map held c.put_spread.new.slots.items in
+    let inside : c.args.at < length slots = omega (arith, c.requires.inside, length-held held c.args.slots.now.items) in
+    let many : length (filled after) ≡ c.args.sizes.count + 1 =
+    omega (arith, c.requires.counted, joined_count key c.args.sizes.lg_cur c.args.at c.args.entry slots c.requires.laid_out inside c.requires.free c.requires.on_path, ap length (returns-clause-after g c), length-map_of key c.min-lg_cur.result after c.in_ok-put_spread.ensures.laid_out) in
+    rw (c.tick.ensures, c.tick-2.ensures, c.in_ok-put_spread.ensures.placed, many) refl

@@ -1,0 +1,15 @@
+use Rattle.std.proofs.Common.{◌≡◌, map, length}
+use Rattle.theta_slots.specs.Layout.{filled}
+use Rattle.theta_table.specs.Gathering.{from_below}
+use Rattle.theta_table.proofs.iter.slots_from_below.Given as goal
+
+-- what was passed is not below theta
+abbrev pub invariant-pass_each : goal.invariant-pass_each
+invariant-pass_each g l =
+    let key = g.E.SketchEntry.key in
+    let held = g.E.SlotEntry.held in
+    from_below key l.theta (filled (map held l.left)) ≡ from_below key l.theta (filled (map held l.slots))
+
+-- the slots that are left
+abbrev pub decreases-pass_each : goal.decreases-pass_each
+decreases-pass_each g l = length l.left

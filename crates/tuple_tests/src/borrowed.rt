@@ -1,0 +1,109 @@
+//! Summaries that borrow: their type has a lifetime, and so has that of a sketch that owns them.
+ghost use Rattle.std.specs.Prelude.{Some};
+
+use std::alloc::Global;
+use std::test::Fail;
+use tuple_sketches::{
+    CompactTupleSketch, Error, SummaryCombinePolicy, SummaryPolicy, SummaryUpdatePolicy,
+    TupleSketchBuilder, TupleUnionBuilder,
+};
+
+/// Keeps the last word that came with a key.
+#[derive(Debug, Clone, Copy)]
+struct LastWord<'a> {
+    first: &'a str,
+}
+
+impl<'a> SummaryPolicy for LastWord<'a> {
+    type Summary = &'a str;
+
+    ghost creates = { λ policy. Some policy.first };
+
+    fn create(&self) -> Result<&'a str, Error> {
+        Ok(self.first)
+    }
+}
+
+impl<'a> SummaryUpdatePolicy<&'a str> for LastWord<'a> {
+    ghost updates = { λ policy last word. Some word };
+
+    fn update(&self, last: &mut &'a str, word: &'a str) -> Result<(), Error> {
+        *last = word;
+        Ok(())
+    }
+}
+
+impl<'a> SummaryCombinePolicy for LastWord<'a> {
+    ghost combines = { λ policy last incoming. Some incoming };
+
+    fn combine(&self, last: &mut &'a str, incoming: &&'a str) -> Result<(), Error> {
+        *last = *incoming;
+        Ok(())
+    }
+}
+
+/// A sketch of the last word at each hash.
+fn sketch_of<'a>(
+    alloc: Global,
+    words: &[(u64, &'a str)],
+) -> Result<CompactTupleSketch<&'a str>, Error> {
+    let mut sketch = TupleSketchBuilder::new(LastWord { first: "" }).build(alloc)?;
+    for (hash, word) in words {
+        sketch.update_hash(*hash, *word)?;
+    }
+    sketch.compact(true)
+}
+
+/// The union of two sketches of words, in which the second's words are the last.
+fn united<'a>(
+    alloc: Global,
+    first: &CompactTupleSketch<&'a str>,
+    second: &CompactTupleSketch<&'a str>,
+) -> Result<CompactTupleSketch<&'a str>, Error> {
+    let mut union = TupleUnionBuilder::new(LastWord { first: "" }).build(alloc)?;
+    union.update(first.as_view())?;
+    union.update(second.as_view())?;
+    union.to_sketch(true)
+}
+
+/// The hashes of a sketch, each with its word.
+fn listed<'a>(
+    alloc: Global,
+    sketch: &CompactTupleSketch<&'a str>,
+) -> Result<Vec<(u64, &'a str)>, Error> {
+    let mut words = Vec::new(alloc);
+    for entry in sketch.iter() {
+        words.push((entry.hash(), *entry.summary()))?;
+    }
+    Ok(words)
+}
+
+/// The words of the union of two lists of them.
+fn last_words<'a>(
+    alloc: Global,
+    first: &[(u64, &'a str)],
+    second: &[(u64, &'a str)],
+) -> Result<Vec<(u64, &'a str)>, Error> {
+    let first = sketch_of(alloc, first)?;
+    let second = sketch_of(alloc, second)?;
+    listed(alloc, &united(alloc, &first, &second)?)
+}
+
+/// The last words where a first one is seen again and a second one comes in.
+fn words_of<'a>(
+    alloc: Global,
+    green: &'a str,
+    blue: &'a str,
+) -> Result<Vec<(u64, &'a str)>, Error> {
+    let first = [(9, blue), (4, green), (9, green)];
+    last_words(alloc, &first, &[(4, blue), (6, green)])
+}
+
+#[test]
+fn words_are_borrowed(rt: HostRuntime) -> Result<(), Fail> {
+    let text = String::from_str(rt.alloc(), "green")?;
+    let last = words_of(rt.alloc(), text.as_str(), "blue")?;
+    let wanted = [(4, "blue"), (6, "green"), (9, "green")];
+    assert_eq!(rt; last.as_slice(), wanted.as_slice());
+    Ok(())
+}
