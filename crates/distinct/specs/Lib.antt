@@ -1,2 +1,6 @@
 pub mod Numbers
-pub mod Steps
+pub mod Words
+pub mod Arguments
+pub mod Faults
+pub mod Failures
+pub mod Seeds

@@ -1,9 +1,14 @@
 //! The program's arguments.
-ghost use Rattle.std.specs.Prelude.{◌+◌, ◌≤◌, length, IfOk, IfSome};
-ghost use Rattle.distinct.specs.Steps.{LeavesFewer};
+ghost use Rattle.std.specs.Prelude.{◌≡◌, ◌∷◌, true, false, codes, map, string_bytes};
+ghost use Rattle.std.specs.Option.{option_map};
+ghost use Rattle.std.specs.Str.{bytes_eq};
+ghost use Rattle.distinct.specs.Arguments.{asked, asked_of, with_flag, with_value, untold};
+ghost use Rattle.distinct.specs.Faults.{told_of, AnswersAsked, IsTold, IsStep};
+ghost use Rattle.distinct.specs.Failures.{key_told};
+ghost use Rattle.distinct.specs.Words.{command_of, has_option, is_help, is_option, number_of, byte_of};
 
 use crate::failure::Failure;
-use crate::help;
+use crate::options::Options;
 use lines::Key;
 
 /// The binary logarithm of a sketch's nominal entries, where none is told.
@@ -34,22 +39,21 @@ pub enum Command {
     Show,
 }
 
-/// How it is to be done.
-#[derive(Clone, Copy, Debug)]
-pub struct Options<'a> {
-    pub lg_k: u8,
-    /// The number of a field, from 1, where a line's key is a field.
-    pub field: Option<u32>,
-    pub separator: u8,
-    pub hex: bool,
-    pub progress: bool,
-    /// The file that the image goes to, or `None` for standard output.
-    pub output: Option<&'a str>,
+/// What may be told without reading anything.
+#[derive(Clone, Copy, Debug, PartialEq, Eq)]
+pub enum Topic {
+    /// What the program does.
+    Program,
+    Version,
+    /// What a command does, and its options.
+    Help(Command),
 }
 
 impl<'a> Options<'a> {
     /// Those of a command without options.
-    fn new() -> Options<'a> {
+    fn new() -> Options<'a>
+        ensures { told_of result ≡ untold }
+    {
         Options {
             lg_k: DEFAULT_LG_K,
             field: None,
@@ -61,15 +65,11 @@ impl<'a> Options<'a> {
     }
 
     /// What of a line is its key.
-    pub fn key(&self) -> Key {
+    pub fn key(&self) -> Key
+        ensures { result ≡ key_told (told_of self.now) }
+    {
         match self.field {
-            Some(number) => {
-                if number == 0 {
-                    Key::Line
-                } else {
-                    Key::field(number, self.separator)
-                }
-            }
+            Some(number) => Key::field(number, self.separator),
             None => Key::Line,
         }
     }
@@ -78,11 +78,14 @@ impl<'a> Options<'a> {
 /// What the words ask for: a text to be told, or a command, how it is to be done, and its files.
 #[derive(Clone, Copy, Debug)]
 pub enum Request<'a> {
-    Tell(&'static str),
+    Tell(Topic),
     Run(Command, Options<'a>, &'a [String]),
 }
 
-fn command_of(word: &str) -> Option<Command> {
+/// The command that a word names.
+fn command_of(word: &str) -> Option<Command>
+    ensures { result ≡ command_of word.now }
+{
     match word {
         "count" => Some(Command::Count),
         "sketch" => Some(Command::Sketch),
@@ -94,9 +97,26 @@ fn command_of(word: &str) -> Option<Command> {
     }
 }
 
+/// Whether a word asks for help.
+fn is_help(word: &str) -> bool
+    ensures { result ≡ is_help word.now }
+{
+    word == "--help" || word == "-h"
+}
+
+/// Whether a word is an option: it begins with a hyphen, and has more than that.
+fn is_option(word: &str) -> bool
+    ensures { result ≡ is_option word.now }
+{
+    match word.as_bytes() {
+        [first, _, ..] => *first == b'-',
+        _ => false,
+    }
+}
+
 /// The number that a word tells, from `least` to `greatest`.
 fn number_of(word: &str, least: u32, greatest: u32) -> Option<u32>
-    ensures { IfSome result (λ n. (least ≤ n) × (n ≤ greatest)) }
+    ensures { result ≡ number_of least greatest word.now }
 {
     match word.parse::<u32>() {
         Ok(number) => {
@@ -111,7 +131,9 @@ fn number_of(word: &str, least: u32, greatest: u32) -> Option<u32>
 }
 
 /// The one byte of a word.
-fn byte_of(word: &str) -> Option<u8> {
+fn byte_of(word: &str) -> Option<u8>
+    ensures { result ≡ byte_of word.now }
+{
     match word.as_bytes() {
         [byte] => Some(*byte),
         _ => None,
@@ -119,7 +141,9 @@ fn byte_of(word: &str) -> Option<u8> {
 }
 
 /// Whether a command has an option.
-fn has_option(command: Command, word: &str) -> bool {
+pub fn has_option(command: Command, word: &str) -> bool
+    ensures { result ≡ has_option command word.now }
+{
     let reads_lines = command == Command::Count || command == Command::Sketch;
     match word {
         "--lg-k" => reads_lines || command == Command::Combine(Operator::Union),
@@ -132,12 +156,27 @@ fn has_option(command: Command, word: &str) -> bool {
     }
 }
 
+/// Takes in an option that has no value; `None` for any other word.
+fn with_flag<'a>(options: Options<'a>, option: &str) -> Option<Options<'a>>
+    ensures { option_map told_of result ≡ with_flag (told_of options.entry) option.now }
+{
+    let mut told = options;
+    match option {
+        "--hex" => told.hex = true,
+        "--progress" => told.progress = true,
+        _ => return None,
+    }
+    Some(told)
+}
+
 /// Takes in an option that has a value.
 fn with_value<'a>(
     options: Options<'a>,
     option: &str,
     value: &'a str,
-) -> Result<Options<'a>, Failure> {
+) -> Result<Options<'a>, Failure>
+    ensures { IsTold result (with_value (told_of options.entry) option.now value.now) }
+{
     let mut told = options;
     match option {
         "--lg-k" => match number_of(value, MIN_LG_K as u32, MAX_LG_K as u32) {
@@ -160,14 +199,9 @@ fn with_value<'a>(
 /// What the next words are: an option, a wish for help, or the files.
 #[derive(Clone, Copy, Debug)]
 enum Step<'a> {
-    Option(Options<'a>, &'a [String]),
+    Next(Options<'a>, &'a [String]),
     Help,
     Files(&'a [String]),
-}
-
-/// Whether a word is an option: it begins with a hyphen, and has more than that.
-fn is_option(word: &str) -> bool {
-    word != "-" && word.starts_with('-')
 }
 
 /// Takes in the option that stands before others.
@@ -177,26 +211,23 @@ fn read_option<'a>(
     word: &'a String,
     others: &'a [String],
 ) -> Result<Step<'a>, Failure>
-    ensures { IfOk result (LeavesFewer (length others.now + 1)) }
+    requires no_help { is_help (string_bytes word.now) ≡ false }
+    requires no_end { bytes_eq (string_bytes word.now) (codes "--") ≡ false }
+    requires no_file { is_option (string_bytes word.now) ≡ true }
+    ensures { IsStep command (told_of options.entry) (string_bytes word.now ∷ map (λ other. string_bytes other) others.now) result }
 {
     let option = word.as_str();
     if !has_option(command, option) {
         return Err(Failure::UnknownOption(word.clone()?));
     }
-    let mut told = options;
-    if option == "--hex" {
-        told.hex = true;
-        return Ok(Step::Option(told, others));
-    }
-    if option == "--progress" {
-        told.progress = true;
-        return Ok(Step::Option(told, others));
+    if let Some(told) = with_flag(options, option) {
+        return Ok(Step::Next(told, others));
     }
     let Some((value, behind)) = others.split_first() else {
         return Err(Failure::NoValue(word.clone()?));
     };
-    let all = with_value(options, option, value.as_str())?;
-    Ok(Step::Option(all, behind))
+    let told = with_value(options, option, value.as_str())?;
+    Ok(Step::Next(told, behind))
 }
 
 /// What stands next. `--` ends the options, and `-` is a file.
@@ -205,23 +236,22 @@ fn read_step<'a>(
     options: Options<'a>,
     words: &'a [String],
 ) -> Result<Step<'a>, Failure>
-    ensures { IfOk result (LeavesFewer (length words.now)) }
+    ensures { IsStep command (told_of options.entry) (map (λ word. string_bytes word) words.now) result }
 {
     let Some((word, others)) = words.split_first() else {
         return Ok(Step::Files(words));
     };
-    match word.as_str() {
-        "--help" => Ok(Step::Help),
-        "-h" => Ok(Step::Help),
-        "--" => Ok(Step::Files(others)),
-        option => {
-            if is_option(option) {
-                read_option(command, options, word, others)
-            } else {
-                Ok(Step::Files(words))
-            }
-        }
+    let next = word.as_str();
+    if is_help(next) {
+        return Ok(Step::Help);
     }
+    if next == "--" {
+        return Ok(Step::Files(others));
+    }
+    if !is_option(next) {
+        return Ok(Step::Files(words));
+    }
+    read_option(command, options, word, others)
 }
 
 /// What the words behind a command ask for: options, and then files.
@@ -229,26 +259,32 @@ fn read_command<'a>(
     command: Command,
     options: Options<'a>,
     words: &'a [String],
-) -> Result<Request<'a>, Failure> {
+) -> Result<Request<'a>, Failure>
+    ensures { AnswersAsked result (asked_of command (told_of options.entry) (map (λ word. string_bytes word) words.now)) }
+{
     match read_step(command, options, words)? {
-        Step::Option(told, behind) => read_command(command, told, behind),
-        Step::Help => Ok(Request::Tell(help::help_of(command))),
+        Step::Next(told, behind) => read_command(command, told, behind),
+        Step::Help => Ok(Request::Tell(Topic::Help(command))),
         Step::Files(files) => Ok(Request::Run(command, options, files)),
     }
 }
 
-/// What the words behind the program's name ask for.
-pub fn read_arguments(words: &[String]) -> Result<Request<'_>, Failure> {
+/// What the words behind the program's name ask for. Where they ask for nothing, it fails with the first fault, from the left,
+/// or with `Memory` where memory for the word that the fault names was refused.
+pub fn read_arguments(words: &[String]) -> Result<Request<'_>, Failure>
+    ensures { AnswersAsked result (asked (map (λ word. string_bytes word) words.now)) }
+{
     let Some((first, rest)) = words.split_first() else {
         return Err(Failure::NoCommand);
     };
-    match first.as_str() {
-        "--help" => return Ok(Request::Tell(help::HELP)),
-        "-h" => return Ok(Request::Tell(help::HELP)),
-        "--version" => return Ok(Request::Tell(help::VERSION)),
-        _ => {}
+    let word = first.as_str();
+    if is_help(word) {
+        return Ok(Request::Tell(Topic::Program));
     }
-    match command_of(first.as_str()) {
+    if word == "--version" {
+        return Ok(Request::Tell(Topic::Version));
+    }
+    match command_of(word) {
         Some(command) => read_command(command, Options::new(), rest),
         None => Err(Failure::UnknownCommand(first.clone()?)),
     }

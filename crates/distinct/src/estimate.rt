@@ -69,6 +69,6 @@ pub fn estimate_so_far<A: Allocator>(sketch: &ThetaSketch<A>) -> u128
     ensures { result ≡ nearest (fraction_of (sketch_value sketch.now)).0 (fraction_of (sketch_value sketch.now)).1 }
 {
     let _ = sketch.num_retained();
-    let (over, under) = sketch.estimate_fraction();
-    rounded(over, under)
+    let (above, below) = sketch.estimate_fraction();
+    rounded(above, below)
 }

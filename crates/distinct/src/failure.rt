@@ -1,4 +1,8 @@
 //! Why the program answers nothing.
+ghost use Rattle.std.specs.Prelude.{◌≡◌};
+ghost use Rattle.sketch_base.specs.declared.error.ErrorKind.TheVariants.{OutOfMemory};
+ghost use Rattle.distinct.specs.Failures.{status_of};
+ghost use Rattle.distinct.specs.declared.failure.Failure.TheVariants as failure;
 
 use sketch_base::Error;
 use std::alloc::{AllocError, AllocFailed};
@@ -39,7 +43,9 @@ pub enum Failure {
 
 impl Failure {
     /// The exit status: 2 where the arguments are wrong, else 1.
-    pub fn status(&self) -> u8 {
+    pub fn status(&self) -> u8
+        ensures { result ≡ status_of self.now }
+    {
         match self {
             Failure::Memory => 1,
             Failure::Unreadable(_, _) => 1,
@@ -48,6 +54,15 @@ impl Failure {
             _ => 2,
         }
     }
+}
+
+/// The failure of an error that tells of memory.
+pub fn out_of_memory(error: Error) -> Failure
+    requires { error ≡ OutOfMemory }
+    ensures { result ≡ failure.Memory }
+{
+    let _ = error;
+    Failure::Memory
 }
 
 impl fmt::Display for Failure {
@@ -85,18 +100,20 @@ impl fmt::Display for Failure {
 }
 
 impl From<AllocError> for Failure {
+    ghost use Rattle.distinct.specs.declared.failure.Failure.TheVariants.{Memory};
+
+    ghost from_gives = { λ _ e. e ≡ Memory };
+
     fn from(_e: AllocError) -> Failure {
         Failure::Memory
     }
 }
 
-impl From<Error> for Failure {
-    fn from(_e: Error) -> Failure {
-        Failure::Memory
-    }
-}
-
 impl<T: Drop> From<AllocFailed<T>> for Failure {
+    ghost use Rattle.distinct.specs.declared.failure.Failure.TheVariants.{Memory};
+
+    ghost from_gives = { λ _ e. e ≡ Memory };
+
     fn from(_e: AllocFailed<T>) -> Failure {
         Failure::Memory
     }

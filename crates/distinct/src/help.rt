@@ -1,10 +1,10 @@
 //! What `--help` and `--version` tell.
 
-use crate::arguments::{Command, Operator};
+use crate::arguments::{Command, Operator, Topic};
 
-pub const VERSION: &str = "distinct 0.1.0\n";
+const VERSION: &str = "distinct 0.1.0\n";
 
-pub const HELP: &str = "\
+const HELP: &str = "\
 distinct: how many distinct lines there are, about, in little memory
 
   distinct count [FILE..]           how many distinct lines, about
@@ -76,14 +76,16 @@ exactly or estimated, how many hashes it retains, and its theta
   --hex           images in hexadecimal, one a line
 ";
 
-/// What `--help` tells of a command.
-pub fn help_of(command: Command) -> &'static str {
-    match command {
-        Command::Count => COUNT,
-        Command::Sketch => SKETCH,
-        Command::Combine(Operator::Union) => UNION,
-        Command::Combine(Operator::Meet) => MEET,
-        Command::Combine(Operator::Minus) => MINUS,
-        Command::Show => SHOW,
+/// What is told of a topic.
+pub fn text_of(topic: Topic) -> &'static str {
+    match topic {
+        Topic::Program => HELP,
+        Topic::Version => VERSION,
+        Topic::Help(Command::Count) => COUNT,
+        Topic::Help(Command::Sketch) => SKETCH,
+        Topic::Help(Command::Combine(Operator::Union)) => UNION,
+        Topic::Help(Command::Combine(Operator::Meet)) => MEET,
+        Topic::Help(Command::Combine(Operator::Minus)) => MINUS,
+        Topic::Help(Command::Show) => SHOW,
     }
 }

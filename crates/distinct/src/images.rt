@@ -1,5 +1,6 @@
 //! The images that files have: a file is one, or each of its lines is one in hexadecimal.
-ghost use Rattle.std.specs.Prelude.{None};
+ghost use Rattle.std.specs.Prelude.{◌≡◌, None};
+ghost use Rattle.distinct.specs.Failures.{called, IsOfImages, TellsNoSketch};
 
 use crate::failure::Failure;
 use crate::inputs::{Input, Inputs};
@@ -29,12 +30,16 @@ impl<'a> Images<'a> {
     }
 
     /// The name of the file that was opened last, as messages call it.
-    pub fn name(&self) -> &'a str {
+    pub fn name(&self) -> &'a str
+        ensures { result.now ≡ called self.now.inputs.current.now }
+    {
         self.inputs.name()
     }
 
     /// Why there is no image: the file can't be read.
-    pub fn unreadable(&self, error: io::Error) -> Failure {
+    pub fn unreadable(&self, error: io::Error) -> Failure
+        ensures { IsOfImages result }
+    {
         if error.kind() == ErrorKind::InvalidData {
             return self.no_sketch();
         }
@@ -42,7 +47,9 @@ impl<'a> Images<'a> {
     }
 
     /// Why there is no image: it was read, and is none.
-    pub fn no_sketch(&self) -> Failure {
+    pub fn no_sketch(&self) -> Failure
+        ensures { TellsNoSketch (called self.now.inputs.current.now) self.now.line result }
+    {
         match String::from_str(self.rt.alloc(), self.name()) {
             Ok(name) => Failure::NoSketch(name, self.line),
             Err(_) => Failure::Memory,

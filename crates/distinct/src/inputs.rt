@@ -1,5 +1,6 @@
 //! The files that are read.
-ghost use Rattle.std.specs.Prelude.{None};
+ghost use Rattle.std.specs.Prelude.{◌≡◌, None};
+ghost use Rattle.distinct.specs.Failures.{called, TellsUnreadable};
 
 use crate::failure::Failure;
 use line_sketches::Sources;
@@ -65,7 +66,9 @@ impl<'a> Inputs<'a> {
     }
 
     /// The name of the file that was opened last, as messages call it.
-    pub fn name(&self) -> &'a str {
+    pub fn name(&self) -> &'a str
+        ensures { result.now ≡ called self.now.current.now }
+    {
         if self.current == "-" {
             STANDARD_INPUT
         } else {
@@ -74,7 +77,9 @@ impl<'a> Inputs<'a> {
     }
 
     /// Why the file that was opened last is not read.
-    pub fn unreadable(&self, error: io::Error) -> Failure {
+    pub fn unreadable(&self, error: io::Error) -> Failure
+        ensures { TellsUnreadable (called self.now.current.now) error result }
+    {
         match String::from_str(self.rt.alloc(), self.name()) {
             Ok(name) => Failure::Unreadable(name, error),
             Err(_) => Failure::Memory,

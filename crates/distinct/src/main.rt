@@ -3,19 +3,37 @@
 //! of its fields.
 #![tactic(auto)]
 
+ghost use Rattle.std.specs.Prelude.{◌≡◌, ◌≤◌, ◌⊎◌, None, length, IfOk, IfErr, IfSome};
+ghost use Rattle.sketch_base.specs.Seed.{seed_hash};
+ghost use Rattle.sketch_base.specs.declared.error.ErrorKind.TheVariants.{OutOfMemory, InvalidData};
+ghost use Rattle.sketch_base.specs.declared.seed.TheConstants.{DEFAULT_UPDATE_SEED};
+ghost use Rattle.theta_compact.specs.CompactState.{compact_value};
+ghost use Rattle.theta_laws.specs.Entries.{hash_key, first_hash};
+ghost use Rattle.theta_laws.specs.Operators.{meet, minus};
+ghost use Rattle.theta_sketches.specs.Image.{written};
+ghost use Rattle.line_sketches.specs.Keys.{ordered_sketch};
+ghost use Rattle.line_sketches.specs.Shards.{values_of_sketches};
+ghost use Rattle.distinct.specs.Failures.{status_of, called, IsOfReading, IsOfImages, IsOfCombining, IsOfCommand, TellsNoSketch};
+ghost use Rattle.distinct.specs.Seeds.{AreSeeded};
+ghost use Rattle.distinct.specs.declared.failure.Failure.TheVariants as failure;
+
 mod arguments;
 mod estimate;
 mod failure;
 mod help;
 mod images;
 mod inputs;
+mod options;
 mod output;
 mod progress;
+#[cfg(test)]
+mod tests;
 
-use crate::arguments::{Command, Operator, Options, Request, read_arguments};
-use crate::failure::Failure;
+use crate::arguments::{Command, Operator, Request, read_arguments};
+use crate::failure::{Failure, out_of_memory};
 use crate::images::Images;
 use crate::inputs::Inputs;
+use crate::options::Options;
 use crate::progress::Progress;
 use line_sketches::{Unread, image_of, lacked, met, read_image, sketch_sources, unite_images};
 use sketch_base::{Error, ErrorKind};
@@ -40,17 +58,21 @@ fn run(rt: &HostRuntime) -> Result<(), Failure> {
     };
     let words: Vec<String> = args.skip(1).collect(rt.alloc())?;
     match read_arguments(words.as_slice())? {
-        Request::Tell(text) => output::print(rt, text.as_bytes()),
+        Request::Tell(topic) => output::print(rt, help::text_of(topic).as_bytes()),
         Request::Run(command, options, files) => answer(rt, command, &options, files),
     }
 }
 
+/// Answers a command. It fails with `NoFiles` and `NotTwo` where too few images are named, or not two, and else where memory,
+/// a file, what is in it, or an output is at fault.
 fn answer(
     rt: &HostRuntime,
     command: Command,
     options: &Options<'_>,
     files: &[String],
-) -> Result<(), Failure> {
+) -> Result<(), Failure>
+    ensures { IfErr result (IsOfCommand command (length files.now)) }
+{
     match command {
         Command::Count => {
             let sketch = sketch_files(rt, options, files)?;
@@ -59,7 +81,7 @@ fn answer(
         }
         Command::Sketch => {
             let sketch = sketch_files(rt, options, files)?;
-            let image = image_of(&sketch)?;
+            let image = image_to_put(&sketch)?;
             output::put_image(rt, options.hex, options.output, image.as_slice())
         }
         Command::Combine(operator) => {
@@ -78,12 +100,15 @@ fn answer(
     }
 }
 
-/// The sketch of the lines of all files in turn, or of standard input where none is named.
+/// The sketch of the lines of all files in turn, or of standard input where none is named. It fails where memory was refused or
+/// a file can't be read.
 fn sketch_files(
     rt: &HostRuntime,
     options: &Options<'_>,
     files: &[String],
-) -> Result<CompactThetaSketch, Failure> {
+) -> Result<CompactThetaSketch, Failure>
+    ensures { IfErr result IsOfReading }
+{
     let mut inputs = Inputs::new(rt, files);
     let mut progress = Progress::new(rt, options.progress);
     match sketch_sources(
@@ -95,24 +120,44 @@ fn sketch_files(
     ) {
         Ok(sketch) => Ok(sketch),
         Err(Unread::Failed(error)) => Err(inputs.unreadable(error)),
-        Err(Unread::Refused(_)) => Err(Failure::Memory),
+        Err(Unread::Refused(error)) => Err(out_of_memory(error)),
+    }
+}
+
+/// The image of a sketch. It fails where memory was refused.
+fn image_to_put(sketch: &CompactThetaSketch) -> Result<Vec<u8>, Failure>
+    ensures image { IfOk result (λ v. v.items ≡ written sketch.now) }
+    ensures memory { IfErr result (λ f. f ≡ failure.Memory) }
+{
+    match image_of(sketch) {
+        Ok(image) => Ok(image),
+        Err(error) => Err(out_of_memory(error)),
     }
 }
 
 /// Why an image was not taken in.
-fn refused(images: &Images<'_>, error: Error) -> Failure {
+fn refused(images: &Images<'_>, error: Error) -> Failure
+    requires { (error ≡ OutOfMemory) ⊎ (error ≡ InvalidData) }
+    ensures memory { error ≡ OutOfMemory → result ≡ failure.Memory }
+    ensures data { error ≡ InvalidData → TellsNoSketch (called images.now.inputs.current.now) images.now.line result }
+    ensures of_images { IsOfImages result }
+{
     if error.kind() == ErrorKind::InvalidData {
         images.no_sketch()
     } else {
-        Failure::Memory
+        out_of_memory(error)
     }
 }
 
-/// The sketch of the next image, or `None` at the end.
+/// The sketch of the next image, of the default seed, or `None` at the end. It fails where memory was refused, a file can't be
+/// read, or an image is none.
 fn next_sketch(
     rt: &HostRuntime,
     images: &mut Images<'_>,
-) -> Result<Option<CompactThetaSketch>, Failure> {
+) -> Result<Option<CompactThetaSketch>, Failure>
+    ensures seeded { IfOk result (λ next. IfSome next (λ s. s.seed_hash ≡ seed_hash DEFAULT_UPDATE_SEED)) }
+    ensures failed { IfErr result IsOfImages }
+{
     match images.next_image() {
         Ok(Some(image)) => match read_image(rt.alloc(), image.as_slice()) {
             Ok(sketch) => Ok(Some(sketch)),
@@ -124,7 +169,9 @@ fn next_sketch(
 }
 
 /// Tells of each image in a line.
-fn show_files(rt: &HostRuntime, options: &Options<'_>, files: &[String]) -> Result<(), Failure> {
+fn show_files(rt: &HostRuntime, options: &Options<'_>, files: &[String]) -> Result<(), Failure>
+    ensures { IfErr result (λ f. status_of f ≡ 1) }
+{
     let mut images = Images::new(rt, files, options.hex);
     for _ in 0..u64::MAX {
         let Some(sketch) = next_sketch(rt, &mut images)? else {
@@ -142,37 +189,77 @@ fn combine_files(
     options: &Options<'_>,
     files: &[String],
     operator: Operator,
-) -> Result<Vec<u8>, Failure> {
+) -> Result<Vec<u8>, Failure>
+    ensures { IfErr result (IsOfCombining operator) }
+{
     let mut images = Images::new(rt, files, options.hex);
     match operator {
-        Operator::Union => match unite_images(rt.alloc(), options.lg_k, &mut images) {
-            Ok(image) => Ok(image),
-            Err(Unread::Failed(error)) => Err(images.unreadable(error)),
-            Err(Unread::Refused(error)) => Err(refused(&images, error)),
-        },
+        Operator::Union => union_image(rt, options.lg_k, &mut images),
         Operator::Meet => {
             let sketches = all_sketches(rt, &mut images)?;
-            let sketch = met(rt.alloc(), sketches.as_slice())?;
-            Ok(image_of(&sketch)?)
+            meet_image(rt, sketches.as_slice())
         }
         Operator::Minus => {
             let sketches = all_sketches(rt, &mut images)?;
             match sketches.as_slice() {
-                [first, second] => {
-                    let sketch = lacked(rt.alloc(), first, second)?;
-                    Ok(image_of(&sketch)?)
-                }
+                [first, second] => minus_image(rt, first, second),
                 _ => Err(Failure::NotTwo),
             }
         }
     }
 }
 
-/// The sketches of all images.
+/// The image of the union of images. It fails where memory was refused, a file can't be read, or an image is none.
+fn union_image(rt: &HostRuntime, lg_k: u8, images: &mut Images<'_>) -> Result<Vec<u8>, Failure>
+    requires low { 5 ≤ lg_k }
+    requires high { lg_k ≤ 26 }
+    ensures { IfErr result IsOfImages }
+{
+    match unite_images(rt.alloc(), lg_k, images) {
+        Ok(image) => Ok(image),
+        Err(Unread::Failed(error)) => Err(images.unreadable(error)),
+        Err(Unread::Refused(error)) => Err(refused(images, error)),
+    }
+}
+
+/// The image of what sketches of the default seed share. It fails where memory was refused.
+fn meet_image(rt: &HostRuntime, sketches: &[CompactThetaSketch]) -> Result<Vec<u8>, Failure>
+    requires { AreSeeded sketches.now }
+    ensures image { IfOk result (λ v. v.items ≡ written (ordered_sketch (meet hash_key first_hash (values_of_sketches sketches.now)))) }
+    ensures memory { IfErr result (λ f. f ≡ failure.Memory) }
+{
+    match met(rt.alloc(), sketches) {
+        Ok(sketch) => image_to_put(&sketch),
+        Err(error) => Err(out_of_memory(error)),
+    }
+}
+
+/// The image of what the first of two sketches of the default seed has and the second lacks. It fails where memory was refused.
+fn minus_image(
+    rt: &HostRuntime,
+    first: &CompactThetaSketch,
+    second: &CompactThetaSketch,
+) -> Result<Vec<u8>, Failure>
+    requires first { first.now.seed_hash ≡ seed_hash DEFAULT_UPDATE_SEED }
+    requires second { second.now.seed_hash ≡ seed_hash DEFAULT_UPDATE_SEED }
+    ensures image { IfOk result (λ v. v.items ≡ written (ordered_sketch (minus hash_key hash_key (compact_value hash_key first.now) (compact_value hash_key second.now)))) }
+    ensures memory { IfErr result (λ f. f ≡ failure.Memory) }
+{
+    match lacked(rt.alloc(), first, second) {
+        Ok(sketch) => image_to_put(&sketch),
+        Err(error) => Err(out_of_memory(error)),
+    }
+}
+
+/// The sketches of all images, each of the default seed. It fails where memory was refused, a file can't be read, or an image
+/// is none.
 fn all_sketches(
     rt: &HostRuntime,
     images: &mut Images<'_>,
-) -> Result<Vec<CompactThetaSketch>, Failure> {
+) -> Result<Vec<CompactThetaSketch>, Failure>
+    ensures seeded { IfOk result (λ v. AreSeeded v.items) }
+    ensures failed { IfErr result IsOfImages }
+{
     let mut sketches = Vec::new(rt.alloc());
     for _ in 0..u64::MAX {
         match next_sketch(rt, images)? {

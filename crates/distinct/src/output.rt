@@ -1,4 +1,6 @@
 //! Where answers go.
+ghost use Rattle.std.specs.Prelude.{IfErr};
+ghost use Rattle.distinct.specs.Failures.{IsOfWriting, TellsNotWritten};
 
 use crate::failure::Failure;
 use line_sketches::hex_line;
@@ -6,7 +8,9 @@ use std::io::Write;
 use std::{fs, io};
 
 /// Writes to standard output.
-pub fn print(rt: &HostRuntime, bytes: &[u8]) -> Result<(), Failure> {
+pub fn print(rt: &HostRuntime, bytes: &[u8]) -> Result<(), Failure>
+    ensures { IfErr result IsOfWriting }
+{
     match rt.stdout().write_all(bytes) {
         Ok(()) => Ok(()),
         Err(error) => Err(not_written(rt, "standard output", error)),
@@ -19,7 +23,9 @@ pub fn put_image(
     hex: bool,
     output: Option<&str>,
     image: &[u8],
-) -> Result<(), Failure> {
+) -> Result<(), Failure>
+    ensures { IfErr result IsOfWriting }
+{
     if hex {
         let line = hex_line(rt.alloc(), image)?;
         put(rt, output, line.as_slice())
@@ -28,7 +34,9 @@ pub fn put_image(
     }
 }
 
-fn put(rt: &HostRuntime, output: Option<&str>, bytes: &[u8]) -> Result<(), Failure> {
+fn put(rt: &HostRuntime, output: Option<&str>, bytes: &[u8]) -> Result<(), Failure>
+    ensures { IfErr result IsOfWriting }
+{
     match output {
         None => print(rt, bytes),
         Some(name) => match put_file(rt, name, bytes) {
@@ -64,7 +72,10 @@ fn put_beside(rt: &HostRuntime, beside: &str, name: &str, bytes: &[u8]) -> io::R
     fs::rename(rt, beside, name)
 }
 
-fn not_written(rt: &HostRuntime, name: &str, error: io::Error) -> Failure {
+/// The failure of an output of this name, for this reason.
+fn not_written(rt: &HostRuntime, name: &str, error: io::Error) -> Failure
+    ensures { TellsNotWritten name.now error result }
+{
     match String::from_str(rt.alloc(), name) {
         Ok(name) => Failure::NotWritten(name, error),
         Err(_) => Failure::Memory,

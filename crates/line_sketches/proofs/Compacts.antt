@@ -1,23 +1,23 @@
 -- Ordered sketches of lines keep the laws of compact sketches, and their images are read as them.
-use Rattle.std.proofs.Common.{◌≡◌, ℕ, ◌^◌, ◌<◌, ◌≤◌, Bool, true, false, cond, List, [], ◌∷◌, ◌++◌, length, take, Option, Some, None, refl, sym, ap, subst, ◌∙◌, arith, append-nil, length-take-le, inl, inr}
+use Rattle.std.proofs.Common.{◌≡◌, ℕ, ◌^◌, ◌<◌, ◌≤◌, true, false, cond, List, [], ◌∷◌, length, Some, None, refl, ap, subst, ◌∙◌, arith}
 use Rattle.std.specs.List.{AllByRecursion, concat}
 use Rattle.std.specs.Option.{option_map_or}
 use Rattle.std.proofs.lemmas.Bool.Decides.{nat_tests}
 use Rattle.std.proofs.Math.Pow.{pow_mono}
 use Rattle.sketch_base.specs.Seed.{seed_hash}
 use Rattle.sketch_base.specs.declared.seed.TheConstants.{DEFAULT_UPDATE_SEED}
-use Rattle.theta_laws.specs.Cuts.{Retained, IsRetained, cut}
-use Rattle.theta_laws.specs.Entries.{hash_key, first_hash, hash_step, is_carried}
+use Rattle.theta_laws.specs.Cuts.{IsRetained, cut}
+use Rattle.theta_laws.specs.Entries.{hash_key, hash_step, is_carried}
 use Rattle.theta_laws.specs.Insertion.{whole_upsert}
 use Rattle.theta_laws.specs.Leaf.{whole_from, hash_step_of}
-use Rattle.theta_laws.specs.Maps.{IsAscending, entry_at, with_entry, rank}
+use Rattle.theta_laws.specs.Maps.{entry_at, with_entry}
 use Rattle.theta_laws.specs.declared.TheConstants.{MAX_THETA}
 use Rattle.theta_laws.proofs.insertions.Cases.{IsRetained-cut, length-cut}
 use Rattle.theta_laws.proofs.maps.Ascending.{each-with_entry}
 use Rattle.theta_laws.proofs.cuts.WithinWholeMaps.{found_key}
 use Rattle.theta_compact.specs.CompactState.{Compact, IsCompact}
 use Rattle.theta_compact.proofs.LawsOfShown.{IsShown-retained, IsShown-none}
-use Rattle.theta_sketches.specs.Image.{Reads, written}
+use Rattle.theta_sketches.specs.Image.{written}
 use Rattle.lines.specs.Keys.{line_hash}
 use Rattle.lines.specs.Lines.{lines_of, AreWhole}
 use Rattle.lines.specs.declared.key.Key.{Key}

@@ -10,6 +10,10 @@ pub if_some : {T : Type 0} (o : Option T) (P Q : T → Type 0) → ((x : T) → 
 if_some None P Q step holds = tt
 if_some (Some x) P Q step holds = step x holds
 
+pub if_any : {T : Type 0} (o : Option T) → IfSome o (λ x. Unit {0})
+if_any None = tt
+if_any (Some x) = tt
+
 module _ (key : Key) where
   with_lines-append : (s : Held) (xs ys : List (List ℕ)) → with_lines key s (xs ++ ys) ≡ with_lines key (with_lines key s xs) ys
   with_lines-append s [] ys = refl

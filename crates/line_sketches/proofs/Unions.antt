@@ -1,6 +1,5 @@
 -- Sketches that are handed to a union one by one.
-use Rattle.std.proofs.Common.{◌≡◌, ℕ, ◌^◌, ◌<◌, ◌≤◌, ◌+◌, true, false, cond, List, [], ◌∷◌, ◌++◌, length, get_or, take, Option, None, arith, refl, sym, ap, ◌∙◌}
-use Rattle.std.proofs.lemmas.List.{map_more}
+use Rattle.std.proofs.Common.{◌≡◌, ℕ, ◌^◌, ◌≤◌, true, false, cond, List, [], ◌∷◌, ◌++◌, None, arith, refl, sym, ap, ◌∙◌}
 use Rattle.theta_compact.specs.CompactState.{Compact, compact_value}
 use Rattle.theta_laws.specs.Maps.{map_of}
 use Rattle.theta_laws.specs.Entries.{hash_key, first_hash}

@@ -5,3 +5,4 @@ pub mod Sources
 pub mod Unions
 pub mod Hex
 pub mod Meeting
+pub mod Refusals

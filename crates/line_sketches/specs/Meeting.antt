@@ -1,7 +1,14 @@
 -- What sketches that are met one by one come to.
-use Rattle.std.specs.Prelude.{ℕ, Option, Some, None, List, [], ◌∷◌}
+use Rattle.std.specs.Prelude.{ℕ, ◌==◌, ◌||◌, Option, Some, None, List, [], ◌∷◌, if◌then◌else◌}
+use Rattle.sketch_base.specs.Seed.{seed_hash}
+use Rattle.sketch_base.specs.declared.error.ErrorKind.{ErrorKind}
+use Rattle.sketch_base.specs.declared.error.ErrorKind.TheVariants.{InvalidArgument}
+use Rattle.sketch_base.specs.declared.seed.TheConstants.{DEFAULT_UPDATE_SEED}
+use Rattle.theta_compact.specs.CompactState.{Compact, compact_value, shown_of}
+use Rattle.theta_operators.specs.ANotB.{difference_refusal}
+use Rattle.theta_operators.specs.Intersection.{is_settled}
 use Rattle.theta_laws.specs.Entries.{hash_key, first_hash}
-use Rattle.theta_laws.specs.Operators.{meet}
+use Rattle.theta_laws.specs.Operators.{meet, meet_next}
 use Rattle.theta_laws.specs.Values.{Sketch, Empty}
 
 -- what an intersection has come to: Empty before its first sketch
@@ -13,3 +20,21 @@ come_to (Some v) = v
 abbrev pub met_of : List (Sketch ℕ) → Option (Sketch ℕ)
 met_of [] = None
 met_of (v ∷ vs) = Some (meet hash_key first_hash (v ∷ vs))
+
+-- what a sketch is refused with after those that came to this: another seed, unless either is Empty
+abbrev pub one_refusal : Option (Sketch ℕ) → Compact ℕ → Option ErrorKind
+one_refusal so_far s = if is_settled so_far || s.empty then None else if seed_hash DEFAULT_UPDATE_SEED == s.seed_hash then None else Some InvalidArgument
+
+-- the first refusal, if there is one
+abbrev pub or_later : Option ErrorKind → Option ErrorKind → Option ErrorKind
+or_later (Some kind) later = Some kind
+or_later None later = later
+
+-- what sketches that are met one by one are refused with
+abbrev pub meet_refusal : Option (Sketch ℕ) → List (Compact ℕ) → Option ErrorKind
+meet_refusal so_far [] = None
+meet_refusal so_far (s ∷ sketches) = or_later (one_refusal so_far s) (meet_refusal (Some (meet_next hash_key first_hash so_far (compact_value hash_key s))) sketches)
+
+-- what a difference is refused with
+abbrev pub lack_refusal : (first second : Compact ℕ) → Option ErrorKind
+lack_refusal first second = difference_refusal (seed_hash DEFAULT_UPDATE_SEED) (shown_of hash_key first) (shown_of hash_key second)

@@ -1,5 +1,5 @@
 -- Images that a union has taken in.
-use Rattle.std.specs.Prelude.{ℕ, ◌≡◌, List}
+use Rattle.std.specs.Prelude.{ℕ, ◌≡◌, false, List}
 use Rattle.sketch_base.specs.Seed.{seed_hash}
 use Rattle.sketch_base.specs.declared.seed.TheConstants.{DEFAULT_UPDATE_SEED}
 use Rattle.theta_laws.specs.Entries.{hash_key}
@@ -9,6 +9,11 @@ use Rattle.theta_compact.specs.CompactState.{Compact}
 use Rattle.theta_sketches.specs.Image.{written}
 use Rattle.line_sketches.specs.Keys.{ordered_sketch}
 use Rattle.line_sketches.specs.Shards.{united, values_of_sketches, AreRead}
+
+-- a union takes in images: it hasn't failed, and its sketches are of the default seed
+pub record IsReady {P : Type 0} (u : Union ℕ P) : Type 0 where
+  pub sound : u.failed ≡ false
+  pub seeded : u.seed_hash ≡ seed_hash DEFAULT_UPDATE_SEED
 
 -- a union of 2^lg_k nominal entries has the value of the sketches that these images are read as
 pub record HasUnited {P : Type 0} (lg_k : ℕ) (images : List (List ℕ)) (u : Union ℕ P) : Type 0 where

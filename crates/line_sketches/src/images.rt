@@ -1,5 +1,5 @@
 //! Sketches from images, and what operators make of them.
-ghost use Rattle.std.specs.Prelude.{◌≡◌, true, IfOk};
+ghost use Rattle.std.specs.Prelude.{◌≡◌, true, None, IfOk, IfErr};
 ghost use Rattle.sketch_base.specs.Seed.{seed_hash};
 ghost use Rattle.sketch_base.specs.declared.seed.TheConstants.{DEFAULT_UPDATE_SEED};
 ghost use Rattle.theta_compact.specs.CompactState.{compact_value};
@@ -9,14 +9,15 @@ ghost use Rattle.theta_laws.specs.Refusal.{Refuses};
 ghost use Rattle.theta_laws.specs.Values.{Empty};
 ghost use Rattle.theta_laws.specs.declared.TheConstants.{MAX_THETA};
 ghost use Rattle.theta_operators.specs.Union.{empty_union};
-ghost use Rattle.theta_sketches.specs.Image.{Reads, written};
+ghost use Rattle.theta_sketches.specs.Image.{Reads, IsReadable, written};
 ghost use Rattle.theta_table.specs.HashTable.{table_refusal};
 ghost use Rattle.line_sketches.specs.Keys.{ordered_sketch};
 ghost use Rattle.line_sketches.specs.Shards.{values_of_sketches};
-ghost use Rattle.line_sketches.specs.Meeting.{come_to};
+ghost use Rattle.line_sketches.specs.Meeting.{come_to, meet_refusal, lack_refusal};
+ghost use Rattle.theta_images.specs.Read.{IsRefused};
 
 use crate::sketching::{finished, new_sketch};
-use sketch_base::{DEFAULT_UPDATE_SEED, Error, ErrorKind, compute_seed_hash};
+use sketch_base::{DEFAULT_UPDATE_SEED, Error};
 use std::alloc::Allocator;
 use theta_core::MIN_LG_K;
 use theta_sketches::laws::read_again;
@@ -24,27 +25,29 @@ use theta_sketches::{
     CompactThetaSketch, ThetaANotB, ThetaIntersection, ThetaUnion, ThetaUnionBuilder,
 };
 
-/// The sketch of an image.
+/// The sketch of an image. Refused with `InvalidData` only for bytes that are no image of a theta sketch of the default seed, and
+/// with `OutOfMemory`.
 pub fn read_image<A: Allocator + Clone + Drop>(
     alloc: A,
     image: &[u8],
 ) -> Result<CompactThetaSketch<A>, Error>
-    ensures { IfOk result (λ s. Reads image.now (seed_hash DEFAULT_UPDATE_SEED) s) }
+    ensures reads { IfOk result (λ s. Reads image.now (seed_hash DEFAULT_UPDATE_SEED) s) }
+    ensures refused { IfErr result (λ e. IsRefused e (IsReadable image.now (seed_hash DEFAULT_UPDATE_SEED))) }
 {
     CompactThetaSketch::deserialize(alloc, image)
 }
 
-/// The image of a sketch of the default seed, which is read as the sketch again.
+/// The image of a sketch of the default seed, which is read as the sketch again. Refused with `OutOfMemory` alone.
 pub fn image_of<A: Allocator + Clone + Drop>(
     sketch: &CompactThetaSketch<A>,
 ) -> Result<Vec<u8, A>, Error>
     ensures written { IfOk result (λ v. v.items ≡ written sketch.now) }
     ensures reads { sketch.now.seed_hash ≡ seed_hash DEFAULT_UPDATE_SEED → IfOk result (λ v. Reads v.items (seed_hash DEFAULT_UPDATE_SEED) sketch.now) }
+    ensures refused { Refuses result None true }
 {
     read_again();
     // Its contract tells that the sketch keeps its laws.
     let _ = sketch.num_retained();
-    let _hash = compute_seed_hash(DEFAULT_UPDATE_SEED, ErrorKind::InvalidArgument)?;
     sketch.serialize()
 }
 
@@ -58,7 +61,8 @@ pub(crate) fn new_union<A: Allocator + Drop>(alloc: A, lg_k: u8) -> Result<Theta
 
 /// The ordered sketch of no lines.
 fn empty_sketch<A: Allocator + Clone + Drop>(alloc: A) -> Result<CompactThetaSketch<A>, Error>
-    ensures { IfOk result (λ s. s ≡ ordered_sketch Empty) }
+    ensures empty { IfOk result (λ s. s ≡ ordered_sketch Empty) }
+    ensures refused { Refuses result None true }
 {
     let mut sketch = new_sketch(alloc, MIN_LG_K)?;
     finished(&mut sketch)
@@ -69,7 +73,8 @@ fn met_sketch<A: Allocator + Clone + Drop>(
     alloc: A,
     intersection: &ThetaIntersection<A>,
 ) -> Result<CompactThetaSketch<A>, Error>
-    ensures { intersection.now.seed_hash ≡ seed_hash DEFAULT_UPDATE_SEED → IfOk result (λ s. s ≡ ordered_sketch (come_to intersection.now.result)) }
+    ensures value { intersection.now.seed_hash ≡ seed_hash DEFAULT_UPDATE_SEED → IfOk result (λ s. s ≡ ordered_sketch (come_to intersection.now.result)) }
+    ensures refused { Refuses result None true }
 {
     match intersection.to_sketch(true)? {
         Some(sketch) => Ok(sketch),
@@ -78,12 +83,13 @@ fn met_sketch<A: Allocator + Clone + Drop>(
 }
 
 /// What all sketches share, ordered; of no sketches, that of no lines. Refused with `InvalidArgument` for a sketch of another
-/// seed, and with `OutOfMemory`.
+/// seed, unless it or what those before it share is empty, and with `OutOfMemory`.
 pub fn met<A: Allocator + Clone + Drop>(
     alloc: A,
     sketches: &[CompactThetaSketch<A>],
 ) -> Result<CompactThetaSketch<A>, Error>
-    ensures { IfOk result (λ s. s ≡ ordered_sketch (meet hash_key first_hash (values_of_sketches sketches.now))) }
+    ensures met { IfOk result (λ s. s ≡ ordered_sketch (meet hash_key first_hash (values_of_sketches sketches.now))) }
+    ensures refused { Refuses result (meet_refusal None sketches.now) true }
 {
     let mut intersection = ThetaIntersection::with_seed(alloc.clone()?, DEFAULT_UPDATE_SEED)?;
     for sketch in sketches {
@@ -99,7 +105,8 @@ pub fn lacked<A: Allocator + Clone + Drop>(
     first: &CompactThetaSketch<A>,
     second: &CompactThetaSketch<A>,
 ) -> Result<CompactThetaSketch<A>, Error>
-    ensures { first.now.seed_hash ≡ seed_hash DEFAULT_UPDATE_SEED → IfOk result (λ s. s ≡ ordered_sketch (minus hash_key hash_key (compact_value hash_key first.now) (compact_value hash_key second.now))) }
+    ensures lacked { first.now.seed_hash ≡ seed_hash DEFAULT_UPDATE_SEED → IfOk result (λ s. s ≡ ordered_sketch (minus hash_key hash_key (compact_value hash_key first.now) (compact_value hash_key second.now))) }
+    ensures refused { Refuses result (lack_refusal first.now second.now) true }
 {
     let difference = ThetaANotB::default()?;
     difference.compute(alloc, first.as_view(), second.as_view(), true)

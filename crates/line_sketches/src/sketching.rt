@@ -1,5 +1,5 @@
 //! Sketches of the lines that a reader has.
-ghost use Rattle.std.specs.Prelude.{◌≡◌, ◌<◌, ℕ, List, [], length, IfOk, OnOk, IfSome, true};
+ghost use Rattle.std.specs.Prelude.{◌≡◌, ◌<◌, ℕ, List, [], length, IfOk, IfErr, OnOk, IfSome, None, true};
 ghost use Rattle.sketch_base.specs.declared.seed.TheConstants.{DEFAULT_UPDATE_SEED};
 ghost use Rattle.theta_laws.specs.Refusal.{Refuses};
 ghost use Rattle.theta_table.specs.HashTable.{table_refusal};
@@ -9,6 +9,7 @@ ghost use Rattle.lines.specs.Open.{IsOpen};
 ghost use Rattle.lines.specs.declared.key.Key.{Key};
 ghost use Rattle.line_sketches.specs.Keys.{held, new_held, with_lines, value_of_lines, ordered_sketch};
 ghost use Rattle.line_sketches.specs.Taking.{Takes, Leaves};
+ghost use Rattle.line_sketches.specs.Refusals.{RefusesRead, IsLasting};
 
 use lines::{Key, OpenLine, cut_line, line_hash};
 use sketch_base::Error;
@@ -27,12 +28,21 @@ pub enum Unread {
 }
 
 impl From<Error> for Unread {
+    ghost use Rattle.line_sketches.specs.declared.sketching.Unread.TheVariants.{Refused};
+
+    ghost from_gives = { λ e unread. unread ≡ Refused e };
+
     fn from(e: Error) -> Unread {
         Unread::Refused(e)
     }
 }
 
 impl From<AllocError> for Unread {
+    ghost use Rattle.sketch_base.specs.declared.error.ErrorKind.TheVariants.{OutOfMemory};
+    ghost use Rattle.line_sketches.specs.declared.sketching.Unread.TheVariants.{Refused};
+
+    ghost from_gives = { λ _ unread. unread ≡ Refused OutOfMemory };
+
     fn from(e: AllocError) -> Unread {
         Unread::Refused(Error::from(e))
     }
@@ -61,6 +71,7 @@ fn take_lines<'a, A: Allocator + Clone>(
 ) -> Result<(&'a [u8], u64), Error>
     ensures lacks { IfOk result (λ x. Lacks 10 x.0.now) }
     ensures leaves { IfOk result (λ x. Leaves key (held sketch.old) text.now (held sketch.new) x.0.now) }
+    ensures refused { Refuses result None true }
 {
     let mut rest = text;
     let mut count = 0u64;
@@ -80,7 +91,8 @@ fn take_block<A: Allocator + Clone>(
     last: &mut OpenLine,
     block: &[u8],
 ) -> Result<u64, Error>
-    ensures { (before : List ℕ) → IsOpen key before last.old → OnOk result ((after : List ℕ) × IsOpen key after last.new × Takes key (held sketch.old) before block.now (held sketch.new) after) }
+    ensures takes { (before : List ℕ) → IsOpen key before last.old → OnOk result ((after : List ℕ) × IsOpen key after last.new × Takes key (held sketch.old) before block.now (held sketch.new) after) }
+    ensures refused { Refuses result None true }
 {
     let Some((first, others)) = cut_line(block) else {
         last.extend(block);
@@ -99,7 +111,8 @@ fn take_last<A: Allocator + Clone>(
     sketch: &mut ThetaSketch<A>,
     last: &OpenLine,
 ) -> Result<(), Error>
-    ensures { (key : Key) (front : List ℕ) → IsOpen key front last.now → OnOk result (held sketch.new ≡ with_lines key (held sketch.old) (lines_after front [])) }
+    ensures taken { (key : Key) (front : List ℕ) → IsOpen key front last.now → OnOk result (held sketch.new ≡ with_lines key (held sketch.old) (lines_after front [])) }
+    ensures refused { Refuses result None true }
 {
     if last.is_begun() {
         sketch.update_hash(last.hash())?;
@@ -109,7 +122,8 @@ fn take_last<A: Allocator + Clone>(
 
 /// Takes in all lines that a reader has left, block by block, each by its key. A read that was interrupted is made again.
 ///
-/// Where it fails, what was read before is taken in.
+/// Where it fails, lines that ended before are taken in, and nothing of the line that was open. Refused with `OutOfMemory`
+/// alone; a source that failed tells its error, which is never that a read was interrupted.
 pub fn add_lines<A: Allocator + Clone, R: Read, W: Watch>(
     sketch: &mut ThetaSketch<A>,
     key: Key,
@@ -118,7 +132,9 @@ pub fn add_lines<A: Allocator + Clone, R: Read, W: Watch>(
     watch: &mut W,
 ) -> Result<(), Unread>
     requires room { 0 < length block.old }
-    ensures { IfSome (R.remaining reader.old) (λ text. OnOk result (held sketch.new ≡ with_lines key (held sketch.old) (lines_of text))) }
+    ensures lines { IfSome (R.remaining reader.old) (λ text. OnOk result (held sketch.new ≡ with_lines key (held sketch.old) (lines_of text))) }
+    ensures refused { RefusesRead result None }
+    ensures retried { IfErr result IsLasting }
 {
     let mut last = OpenLine::new(key);
     for _ in 0..u64::MAX {
@@ -141,17 +157,19 @@ pub fn add_lines<A: Allocator + Clone, R: Read, W: Watch>(
     Err(Unread::Refused(Error::from(AllocError)))
 }
 
-/// The sketch, trimmed and ordered.
+/// The sketch, trimmed and ordered. Refused with `OutOfMemory` alone; then it may be trimmed already.
 pub fn finished<A: Allocator + Clone>(
     sketch: &mut ThetaSketch<A>,
 ) -> Result<CompactThetaSketch<A>, Error>
-    ensures { (key : Key) (lg_k : ℕ) (lines : List (List ℕ)) → held sketch.old ≡ with_lines key (new_held lg_k) lines → IfOk result (λ s. s ≡ ordered_sketch (value_of_lines key lg_k lines)) }
+    ensures sketch { (key : Key) (lg_k : ℕ) (lines : List (List ℕ)) → held sketch.old ≡ with_lines key (new_held lg_k) lines → IfOk result (λ s. s ≡ ordered_sketch (value_of_lines key lg_k lines)) }
+    ensures refused { Refuses result None true }
 {
     sketch.trim()?;
     sketch.compact(true)
 }
 
-/// The sketch of all lines that a reader has left.
+/// The sketch of all lines that a reader has left. Refused with `InvalidArgument` for an `lg_k` that isn't from 5 to 26, before
+/// anything is read, and with `OutOfMemory`; a source that failed tells its error, which is never that a read was interrupted.
 pub fn sketch_lines<A: Allocator + Clone + Drop, R: Read, W: Watch>(
     alloc: A,
     key: Key,
@@ -161,7 +179,9 @@ pub fn sketch_lines<A: Allocator + Clone + Drop, R: Read, W: Watch>(
     watch: &mut W,
 ) -> Result<CompactThetaSketch<A>, Unread>
     requires room { 0 < length block.old }
-    ensures { IfSome (R.remaining reader.old) (λ text. IfOk result (λ s. s ≡ ordered_sketch (value_of_lines key lg_k (lines_of text)))) }
+    ensures sketch { IfSome (R.remaining reader.old) (λ text. IfOk result (λ s. s ≡ ordered_sketch (value_of_lines key lg_k (lines_of text)))) }
+    ensures refused { RefusesRead result (table_refusal lg_k MAX_THETA DEFAULT_UPDATE_SEED) }
+    ensures retried { IfErr result IsLasting }
 {
     let mut sketch = new_sketch(alloc, lg_k)?;
     add_lines(&mut sketch, key, reader, block, watch)?;

@@ -1,8 +1,12 @@
 //! Texts, each behind a reader of its own, one after another.
-ghost use Rattle.std.specs.Prelude.{◌≡◌, ℕ, List, Option, IfOk, OnOk, IfSome};
+ghost use Rattle.std.specs.Prelude.{◌≡◌, ℕ, List, Option, None, IfOk, OnOk, IfSome};
 ghost use Rattle.lines.specs.Lines.{lines_of, lines_of_all};
 ghost use Rattle.line_sketches.specs.Keys.{held, with_lines, value_of_lines, ordered_sketch};
 ghost use Rattle.line_sketches.specs.Sources.{GivesNext};
+ghost use Rattle.line_sketches.specs.Refusals.{RefusesRead};
+ghost use Rattle.sketch_base.specs.declared.seed.TheConstants.{DEFAULT_UPDATE_SEED};
+ghost use Rattle.theta_laws.specs.declared.TheConstants.{MAX_THETA};
+ghost use Rattle.theta_table.specs.HashTable.{table_refusal};
 
 use crate::sketching::{Unread, Watch, add_lines, finished, new_sketch};
 use lines::Key;
@@ -36,7 +40,8 @@ fn add_source<A: Allocator + Clone, B: Allocator, R: Read, W: Watch>(
     reader: &mut R,
     watch: &mut W,
 ) -> Result<(), Unread>
-    ensures { IfSome (R.remaining reader.old) (λ text. OnOk result (held sketch.new ≡ with_lines key (held sketch.old) (lines_of text))) }
+    ensures lines { IfSome (R.remaining reader.old) (λ text. OnOk result (held sketch.new ≡ with_lines key (held sketch.old) (lines_of text))) }
+    ensures refused { RefusesRead result None }
 {
     let mut block = vec![in alloc; 0u8; BLOCK]?;
     add_lines(sketch, key, reader, &mut block, watch)
@@ -44,7 +49,8 @@ fn add_source<A: Allocator + Clone, B: Allocator, R: Read, W: Watch>(
 
 /// Takes in the lines of all texts, each text's by themselves: a last line without an LF isn't joined to the next text.
 ///
-/// Where it fails, what was read before is taken in.
+/// Where it fails, lines that ended before are taken in, and nothing of the line that was open. Refused with `OutOfMemory` alone; a source that failed, or couldn't be
+/// opened, tells its error.
 pub fn add_sources<A: Allocator + Clone, B: Allocator + Clone + Drop, S: Sources, W: Watch>(
     sketch: &mut ThetaSketch<A>,
     alloc: B,
@@ -52,7 +58,8 @@ pub fn add_sources<A: Allocator + Clone, B: Allocator + Clone + Drop, S: Sources
     sources: &mut S,
     watch: &mut W,
 ) -> Result<(), Unread>
-    ensures { IfSome (S.texts sources.old) (λ texts. OnOk result (held sketch.new ≡ with_lines key (held sketch.old) (lines_of_all texts))) }
+    ensures lines { IfSome (S.texts sources.old) (λ texts. OnOk result (held sketch.new ≡ with_lines key (held sketch.old) (lines_of_all texts))) }
+    ensures refused { RefusesRead result None }
 {
     for _ in 0..u64::MAX {
         match sources.next_source() {
@@ -66,7 +73,8 @@ pub fn add_sources<A: Allocator + Clone, B: Allocator + Clone + Drop, S: Sources
     Err(Unread::Refused(Error::from(AllocError)))
 }
 
-/// The sketch of the lines of all texts, each text's by themselves.
+/// The sketch of the lines of all texts, each text's by themselves. Refused with `InvalidArgument` for an `lg_k` that isn't from
+/// 5 to 26, before anything is read, and with `OutOfMemory`; a source that failed, or couldn't be opened, tells its error.
 pub fn sketch_sources<A: Allocator + Clone + Drop, S: Sources, W: Watch>(
     alloc: A,
     key: Key,
@@ -74,7 +82,8 @@ pub fn sketch_sources<A: Allocator + Clone + Drop, S: Sources, W: Watch>(
     sources: &mut S,
     watch: &mut W,
 ) -> Result<CompactThetaSketch<A>, Unread>
-    ensures { IfSome (S.texts sources.old) (λ texts. IfOk result (λ s. s ≡ ordered_sketch (value_of_lines key lg_k (lines_of_all texts)))) }
+    ensures sketch { IfSome (S.texts sources.old) (λ texts. IfOk result (λ s. s ≡ ordered_sketch (value_of_lines key lg_k (lines_of_all texts)))) }
+    ensures refused { RefusesRead result (table_refusal lg_k MAX_THETA DEFAULT_UPDATE_SEED) }
 {
     let mut sketch = new_sketch(alloc.clone()?, lg_k)?;
     add_sources(&mut sketch, alloc, key, sources, watch)?;

@@ -1,11 +1,19 @@
 //! Images that are united one after another, and what their union is the image of.
-ghost use Rattle.std.specs.Prelude.{◌≡◌, ◌++◌, ◌∷◌, ℕ, List, [], IfOk, OnOk, IfSome};
+ghost use Rattle.std.specs.Prelude.{◌≡◌, ◌++◌, ◌∷◌, ℕ, List, [], true, None, IfOk, IfErr, OnOk, IfSome};
 ghost use Rattle.std.specs.List.{concat};
 ghost use Rattle.lines.specs.Lines.{AreWhole};
 ghost use Rattle.lines.specs.declared.key.Key.{Key};
 ghost use Rattle.line_sketches.specs.Keys.{image_of_text};
 ghost use Rattle.line_sketches.specs.Shards.{images_of_texts};
-ghost use Rattle.line_sketches.specs.Unions.{HasUnited, IsUnitedImage};
+ghost use Rattle.line_sketches.specs.Unions.{HasUnited, IsReady, IsUnitedImage};
+ghost use Rattle.line_sketches.specs.Refusals.{IsImageRefusal, IsImagesRefusal, IsUniteRefusal};
+ghost use Rattle.sketch_base.specs.Seed.{seed_hash};
+ghost use Rattle.sketch_base.specs.declared.seed.TheConstants.{DEFAULT_UPDATE_SEED};
+ghost use Rattle.theta_images.specs.Read.{IsRefused};
+ghost use Rattle.theta_laws.specs.Refusal.{Refuses};
+ghost use Rattle.theta_laws.specs.declared.TheConstants.{MAX_THETA};
+ghost use Rattle.theta_sketches.specs.Image.{IsReadable};
+ghost use Rattle.theta_table.specs.HashTable.{table_refusal};
 
 use crate::images::{image_of, new_union, read_image};
 use crate::sketching::Unread;
@@ -23,7 +31,9 @@ fn add_image<A: Allocator + Clone, B: Allocator + Clone + Drop>(
     alloc: B,
     image: &[u8],
 ) -> Result<(), Error>
-    ensures { (lg_k : ℕ) (images : List (List ℕ)) → HasUnited lg_k images union.old → OnOk result (HasUnited lg_k (images ++ image.now ∷ []) union.new) }
+    ensures united { (lg_k : ℕ) (images : List (List ℕ)) → HasUnited lg_k images union.old → OnOk result (HasUnited lg_k (images ++ image.now ∷ []) union.new) }
+    ensures refused { IsReady union.old → IfErr result (λ e. IsRefused e (IsReadable image.now (seed_hash DEFAULT_UPDATE_SEED))) }
+    ensures ready { IsReady union.old → OnOk result (IsReady union.new) }
 {
     let sketch = read_image(alloc, image)?;
     union.update(sketch.as_view())?;
@@ -36,7 +46,9 @@ fn add_reader<A: Allocator + Clone, B: Allocator + Clone + Drop, R: Read>(
     alloc: B,
     reader: &mut R,
 ) -> Result<(), Unread>
-    ensures { (lg_k : ℕ) (images : List (List ℕ)) → HasUnited lg_k images union.old → IfSome (R.remaining reader.old) (λ image. OnOk result (HasUnited lg_k (images ++ image ∷ []) union.new)) }
+    ensures united { (lg_k : ℕ) (images : List (List ℕ)) → HasUnited lg_k images union.old → IfSome (R.remaining reader.old) (λ image. OnOk result (HasUnited lg_k (images ++ image ∷ []) union.new)) }
+    ensures refused { IsReady union.old → IfErr result (IsImageRefusal (R.remaining reader.old)) }
+    ensures ready { IsReady union.old → OnOk result (IsReady union.new) }
 {
     let mut image = Vec::new(alloc.clone()?);
     if let Err(error) = reader.read_to_end(&mut image) {
@@ -52,7 +64,9 @@ fn add_images<A: Allocator + Clone, B: Allocator + Clone + Drop, S: Sources>(
     alloc: B,
     sources: &mut S,
 ) -> Result<(), Unread>
-    ensures { (lg_k : ℕ) (images : List (List ℕ)) → HasUnited lg_k images union.old → IfSome (S.texts sources.old) (λ more. OnOk result (HasUnited lg_k (images ++ more) union.new)) }
+    ensures united { (lg_k : ℕ) (images : List (List ℕ)) → HasUnited lg_k images union.old → IfSome (S.texts sources.old) (λ more. OnOk result (HasUnited lg_k (images ++ more) union.new)) }
+    ensures refused { IsReady union.old → IfErr result (IsImagesRefusal (S.texts sources.old)) }
+    ensures ready { IsReady union.old → OnOk result (IsReady union.new) }
 {
     for _ in 0..u64::MAX {
         match sources.next_source() {
@@ -68,7 +82,8 @@ fn add_images<A: Allocator + Clone, B: Allocator + Clone + Drop, S: Sources>(
 
 /// The image of what a union has come to, ordered.
 fn united_image<A: Allocator + Clone + Drop>(union: &ThetaUnion<A>) -> Result<Vec<u8, A>, Error>
-    ensures { (lg_k : ℕ) (images : List (List ℕ)) → HasUnited lg_k images union.now → IfOk result (λ v. IsUnitedImage lg_k images v.items) }
+    ensures image { (lg_k : ℕ) (images : List (List ℕ)) → HasUnited lg_k images union.now → IfOk result (λ v. IsUnitedImage lg_k images v.items) }
+    ensures refused { IsReady union.now → Refuses result None true }
 {
     let sketch = union.to_sketch(true)?;
     image_of(&sketch)
@@ -80,8 +95,9 @@ fn united_image<A: Allocator + Clone + Drop>(union: &ThetaUnion<A>) -> Result<Ve
 /// is empty or ends by an LF, it is the image of the texts one behind the other, byte for byte. An image doesn't tell the
 /// `lg_k` that it was made with.
 ///
-/// Refused with `InvalidArgument` for an `lg_k` that isn't from 5 to 26, with `InvalidData` for a source that is no image of
-/// a theta sketch of the default seed, and with `OutOfMemory`.
+/// Refused with `InvalidArgument` for an `lg_k` that isn't from 5 to 26, before anything is read; with `InvalidData` only where
+/// some source is no image of a theta sketch of the default seed; and with `OutOfMemory`. A source that failed, or couldn't be
+/// opened, tells its error.
 pub fn unite_images<A: Allocator + Clone + Drop, S: Sources>(
     alloc: A,
     lg_k: u8,
@@ -89,6 +105,8 @@ pub fn unite_images<A: Allocator + Clone + Drop, S: Sources>(
 ) -> Result<Vec<u8, A>, Unread>
     ensures united { IfSome (S.texts images.old) (λ all. IfOk result (λ v. IsUnitedImage lg_k all v.items)) }
     ensures whole { IfSome (S.texts images.old) (λ all. (key : Key) (texts : List (List ℕ)) → AreWhole texts → all ≡ images_of_texts key lg_k texts → IfOk result (λ v. v.items ≡ image_of_text key lg_k (concat texts))) }
+    ensures accepted { OnOk result (table_refusal lg_k MAX_THETA DEFAULT_UPDATE_SEED ≡ None) }
+    ensures refused { IfErr result (IsUniteRefusal (table_refusal lg_k MAX_THETA DEFAULT_UPDATE_SEED) (S.texts images.old)) }
 {
     one_reading();
     read_again();

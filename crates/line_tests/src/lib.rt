@@ -1,8 +1,10 @@
 //! Tests of sketches of lines: readers that give a byte at a time or fail, blocks of every size, texts split in many ways, with
-//! images from outside. It has no code of its own.
+//! images from outside, and each request for memory refused in turn. It has no code of its own.
 #![tactic(auto)]
 
 #[cfg(test)]
 mod readers;
+#[cfg(test)]
+mod refusals;
 #[cfg(test)]
 mod splits;

@@ -1,6 +1,8 @@
 //! Lines through readers of every kind.
 
-use line_sketches::{Unread, Watch, hex_line, image_of, sketch_lines};
+use line_sketches::{
+    Unread, Watch, add_lines, finished, hex_line, image_of, new_sketch, sketch_lines,
+};
 use lines::Key;
 use std::alloc::{Allocator, Global};
 use std::io;
@@ -129,6 +131,54 @@ fn fails_with_a_read(rt: HostRuntime) -> Result<(), Fail> {
     for (piece, size) in [(1, 1), (7, 5), (1000, 1000)] {
         let said = image_in_pieces(rt.alloc(), Key::Line, TEXT, piece, size, true)?;
         assert_eq!(rt; said.0.len(), 0, "in {piece}");
+    }
+    Ok(())
+}
+
+/// The image in hexadecimal of what a sketch has after a reader of such pieces has failed, and the kind of its failure.
+fn kept_after_failure(
+    alloc: Global,
+    text: &[u8],
+    piece: usize,
+    size: usize,
+) -> Result<(Vec<u8>, Option<ErrorKind>), Unread> {
+    let mut reader = Pieces {
+        text,
+        piece,
+        interrupted: false,
+        fails: true,
+    };
+    let mut counter = Counter { lines: 0, bytes: 0 };
+    let mut block = vec![in alloc; 0u8; size.max(1)]?;
+    let mut sketch = new_sketch(alloc, 12)?;
+    let failed = match add_lines(
+        &mut sketch,
+        Key::Line,
+        &mut reader,
+        &mut block,
+        &mut counter,
+    ) {
+        Err(Unread::Failed(error)) => Some(error.kind()),
+        Err(Unread::Refused(_)) => None,
+        Ok(()) => None,
+    };
+    let image = image_of(&finished(&mut sketch)?)?;
+    Ok((hex_line(alloc, image.as_slice())?, failed))
+}
+
+/// Of a text, the lines that end before a failure are kept, and not the line that it breaks off.
+#[test]
+fn keeps_lines_before_a_failure(rt: HostRuntime) -> Result<(), Fail> {
+    let cut = b"ann\nbob\nann\nzo";
+    let whole = image_in_pieces(rt.alloc(), Key::Line, b"ann\nbob\n", 1000, 1000, false)?;
+    for (piece, size) in [(1, 1), (5, 3), (1000, 1000)] {
+        match kept_after_failure(rt.alloc(), cut, piece, size) {
+            Ok((image, failed)) => {
+                assert_eq!(rt; failed, Some(ErrorKind::BrokenPipe), "in {piece}");
+                assert_eq!(rt; image.as_slice(), whole.0.as_slice(), "in {piece}");
+            }
+            Err(_) => assert!(rt; false, "in {piece}"),
+        }
     }
     Ok(())
 }

@@ -132,7 +132,7 @@ fn assert_told(
     Ok(())
 }
 
-// Growth asks for the new slots, and a rebuild or a trim for the hashes to select from and for the slots.
+// Growth asks for the new slots, a rebuild or a trim for the hashes to select from, and then for other slots or for marks.
 #[test]
 fn refused_insertions_change_nothing(rt: HostRuntime) -> Result<(), Fail> {
     let heap = Refusing::new(rt.alloc());

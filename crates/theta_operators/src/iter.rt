@@ -1,5 +1,5 @@
 //! Iterators over the entries that views lend. Contracts see of each what it has left.
-ghost use Rattle.std.specs.Prelude.{◌≡◌, Some, true, false, length, map, IsSome, IfSome};
+ghost use Rattle.std.specs.Prelude.{◌≡◌, ◌↔◌, Some, true, false, length, map, IsSome, IfSome};
 ghost use Rattle.theta_laws.specs.Maps.{IsLent};
 ghost use Rattle.theta_table.specs.Gathering.{from_below};
 ghost use Rattle.std.specs.Iterator.{YieldsFirst, YieldsFirstRef, UpTo, item_count};
@@ -67,6 +67,20 @@ fn entries_from_below<'a, E: SlotEntry>(entries: &'a [E], theta: u64) -> &'a [E]
         left = others;
     }
     left
+}
+
+impl<'a, E: SlotEntry> EntryIter<'a, E> {
+    /// The entries that are left, where these stand in a slice.
+    #[inline(always)]
+    pub fn as_slice(&self) -> Option<&'a [E]>
+        ensures left { IfSome result (λ s. s.now ≡ self.now.rest) }
+        ensures told { IsSome result ↔ (self.now.counted ≡ true) }
+    {
+        match &self.source {
+            Source::Table(_) => None,
+            Source::Slice(entries) => Some(*entries),
+        }
+    }
 }
 
 impl<'a, E: SlotEntry> EntryIter<'a, E> {

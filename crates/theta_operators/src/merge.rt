@@ -3,7 +3,7 @@ ghost use Rattle.std.specs.Prelude.{◌≡◌, ◌^◌, ◌⊎◌, Some, None, [
 ghost use Rattle.sketch_base.specs.declared.error.ErrorKind.TheVariants.{OutOfMemory, Policy};
 ghost use Rattle.theta_laws.specs.Step.{merge_step};
 ghost use Rattle.theta_laws.specs.Insertion.{after_upserts};
-ghost use Rattle.theta_laws.specs.Maps.{below};
+ghost use Rattle.theta_laws.specs.Maps.{below, IsAscending};
 ghost use Rattle.theta_laws.specs.Refusal.{policy_refusal};
 ghost use Rattle.theta_laws.specs.Folds.{Value, fold_key, fold_merges, unmarked, never};
 ghost use Rattle.theta_operators.specs.Iter.{still_asked};
@@ -67,9 +67,42 @@ fn next_entry<'a, E: SlotEntry>(
     entries.next()
 }
 
-/// Merges the entries of a sketch below a theta into the table of a union, in their order; no policy sees the others. Where they
-/// ascend it stops at the first that is not below that theta or that the table screens.
-pub(crate) fn merge_entries<S: EntrySketch, P: UnionMergePolicy<S::Entry>, A: Allocator + Clone>(
+/// Merges entries that ascend into the table of a union, in their order. It stops at the first that is not below a theta or
+/// that the table screens; no policy sees those. Each entry takes few instructions here: a loop that also goes over slots, or
+/// asks for the order, takes twice as many.
+#[inline(never)]
+fn merge_ascending<E: SlotEntry + Clone, P: UnionMergePolicy<E>, A: Allocator + Clone>(
+    table: &mut SketchHashTable<E, A>,
+    entries: &[E],
+    policy: &P,
+    theta: u64,
+) -> Result<(), Error>
+    requires clones_equal { ClonesEqual E.is_clone }
+    requires ascending { IsAscending E.key entries.now }
+    requires of_sketch { MIN_LG_K ≤ table.old.map.lg_nom }
+    ensures after { OnOk result (unmarked table.new.map.kept ≡ after_upserts (fold_key E.key) (2 ^ table.old.map.lg_nom) (merge_step (fold_merges E.key (P.merges policy.now) (P.refuses policy.now)) never) (map Value (below E.key entries.now theta)) (unmarked table.old.map.kept)) }
+    ensures made_with { table.new.map ≡ record table.old.map { kept = table.new.map.kept } }
+    ensures refused { IfErr result (λ e. (e ≡ OutOfMemory) ⊎ ((e ≡ Policy) × IsMergeRefused E.key (P.refuses policy.now) (below E.key table.old.map.kept.entries theta) entries.now)) }
+{
+    let mut lesser = theta.min(table.retention_theta());
+    'merge_in_order: for first in entries {
+        let key = first.hash();
+        if key >= lesser {
+            break;
+        }
+        let merging = MergeStep {
+            policy,
+            incoming: first,
+        };
+        table.upsert_entry(key, merging)?;
+        lesser = theta.min(table.retention_theta());
+    }
+    Ok(())
+}
+
+/// Merges the entries that a sketch lends below a theta into the table of a union, in their order; no policy sees the others.
+/// Where they ascend it stops at the first that is not below that theta or that the table screens.
+fn merge_lent<S: EntrySketch, P: UnionMergePolicy<S::Entry>, A: Allocator + Clone>(
     table: &mut SketchHashTable<S::Entry, A>,
     sketch: S,
     policy: &P,
@@ -104,4 +137,32 @@ where
         lesser = theta.min(table.retention_theta());
     }
     Ok(())
+}
+
+/// Merges the entries of a sketch below a theta into the table of a union, in their order; no policy sees the others. Where they
+/// ascend it stops at the first that is not below that theta or that the table screens.
+pub(crate) fn merge_entries<S: EntrySketch, P: UnionMergePolicy<S::Entry>, A: Allocator + Clone>(
+    table: &mut SketchHashTable<S::Entry, A>,
+    sketch: S,
+    policy: &P,
+    ordered: bool,
+    theta: u64,
+) -> Result<(), Error>
+where
+    S::Entry: Clone,
+    requires clones_equal { ClonesEqual S.Entry.is_clone }
+    requires in_order { ordered ≡ (S.shown sketch).ordered }
+    requires of_sketch { MIN_LG_K ≤ table.old.map.lg_nom }
+    ensures listed { map S.Entry.key (S.listing sketch) ≡ (S.shown sketch).hashes }
+    ensures after { OnOk result (unmarked table.new.map.kept ≡ after_upserts (fold_key S.Entry.key) (2 ^ table.old.map.lg_nom) (merge_step (fold_merges S.Entry.key (P.merges policy.now) (P.refuses policy.now)) never) (map Value (below S.Entry.key (S.listing sketch) theta)) (unmarked table.old.map.kept)) }
+    ensures made_with { table.new.map ≡ record table.old.map { kept = table.new.map.kept } }
+    ensures refused { IfErr result (λ e. (e ≡ OutOfMemory) ⊎ ((e ≡ Policy) × IsMergeRefused S.Entry.key (P.refuses policy.now) (below S.Entry.key table.old.map.kept.entries theta) (S.listing sketch))) }
+{
+    let lent = sketch.entries();
+    if ordered {
+        if let Some(ascending) = lent.as_slice() {
+            return merge_ascending(table, ascending, policy, theta);
+        }
+    }
+    merge_lent(table, sketch, policy, ordered, theta)
 }

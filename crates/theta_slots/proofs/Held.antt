@@ -19,6 +19,10 @@ module _ {S X : Type 0} (held : S → Option X) where
   length-held [] = refl
   length-held (s ∷ slots) = ap suc (length-held slots)
 
+pub no_some : {Y : Type 0} (o : Option Y) → ((y : Y) → o ≡ Some y → ⊥) → o ≡ None
+no_some None never = refl
+no_some (Some y) never = absurd (never y refl)
+
 module _ {X : Type 0} (key : X → ℕ) where
   -- an entry of a hash
   pub some_of : (o : Option X) (h : ℕ) → option_map key o ≡ Some h → (x : X) × (o ≡ Some x) × (key x ≡ h)

@@ -4,3 +4,6 @@ pub mod Moves
 pub mod Held
 pub mod Ranks
 pub mod PathEnds
+pub mod Relays
+pub mod Windows
+pub mod Gathers

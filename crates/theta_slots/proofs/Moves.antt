@@ -13,8 +13,11 @@ use Rattle.theta_laws.proofs.cuts.Cuts.{length-below}
 use Rattle.theta_laws.proofs.maps.MapsOfLists.{entry_at-map_of, ascending-map_of}
 use Rattle.theta_slots.proofs.Layouts.{rank-map_of, length-map_of, filled-append, laid_out_empty, put_joins}
 
-count-append : {X : Type 0} (p : X → Bool) (xs ys : List X) → count_by p (xs ++ ys) ≡ count_by p xs + count_by p ys
+pub count-append : {X : Type 0} (p : X → Bool) (xs ys : List X) → count_by p (xs ++ ys) ≡ count_by p xs + count_by p ys
 count-append p xs ys = sum_by-append (λ x. cond (p x) 1 0) xs ys
+
+pub count-cons : {X : Type 0} (p : X → Bool) (x : X) (xs : List X) → count_by p (x ∷ xs) ≡ count_by p (x ∷ []) + count_by p xs
+count-cons p x xs = count-append p (x ∷ []) xs
 
 put_more : (n a b w : ℕ) → n + a ≡ w → a ≡ b + 1 → (n + 1) + b ≡ w
 put_more n a b w one two = omega (arith, one, two)
@@ -105,14 +108,27 @@ module _ {X : Type 0} (key : X → ℕ) (lg theta : ℕ) where
           looked_few = looked_more put looked looked' (length (filled slots)) is.looked_few looks is.few;
         }
 
-  pub ends : (whole from slots : List (Option X)) (put looked : ℕ) → from ≡ [] → IsMoving key lg theta whole from slots put looked → map_of key (filled slots) ≡ below key (map_of key (filled whole)) theta
+  -- what is left may stand in another order
+  pub reordered : (whole from from' slots : List (Option X)) (put looked : ℕ) → ((q : ℕ) → entry_at key (filled from') q ≡ entry_at key (filled from) q)
+      → count_by (λ x. ltb (key x) theta) (filled from') ≡ count_by (λ x. ltb (key x) theta) (filled from) → length (filled from') ≡ length (filled from) → IsMoving key lg theta whole from slots put looked → IsMoving key lg theta whole from' slots put looked
+  reordered whole from from' slots put looked found counts long is = record {
+    laid_out = is.laid_out;
+    found = λ q low. entry_at-append key (filled from') (filled slots) q ∙ ap (λ o. option_map_or Some o (entry_at key (filled slots) q)) (found q) ∙ sym (entry_at-append key (filled from) (filled slots) q) ∙ is.found q low;
+    none_above = is.none_above;
+    counted = let all = is.counted in omega (arith, counts, all);
+    room = omega (arith, long, is.room);
+    few = is.few;
+    looked_few = is.looked_few;
+  }
+
+  pub ends : (whole from slots : List (Option X)) (put looked : ℕ) → filled from ≡ [] → IsMoving key lg theta whole from slots put looked → map_of key (filled slots) ≡ below key (map_of key (filled whole)) theta
   ends whole from slots put looked none is =
       same_map key (map_of key (filled slots)) (below key (map_of key (filled whole)) theta) (ascending-map_of key (filled slots))
       (ascending-filter key (λ x. ltb (key x) theta) (map_of key (filled whole)) (ascending-map_of key (filled whole)))
       (λ q.
       entry_at-map_of key (filled slots) q ∙
       (elim (ltb q theta) as (λ b. ltb q theta ≡ b → entry_at key (filled slots) q ≡ cond b (entry_at key (map_of key (filled whole)) q) None) [
-        | true ↦ λ e. let low : q < theta = grind (arith, nat_tests) in ap (λ (xs : List (Option X)). entry_at key (filled xs ++ filled slots) q) (sym none) ∙ is.found q low ∙ sym (entry_at-map_of key (filled whole) q)
+        | true ↦ λ e. let low : q < theta = grind (arith, nat_tests) in ap (λ xs. entry_at key (xs ++ filled slots) q) (sym none) ∙ is.found q low ∙ sym (entry_at-map_of key (filled whole) q)
         | false ↦ λ e. is.none_above q (grind (arith, nat_tests))
       ]) refl ∙
       sym (entry_at-below key (map_of key (filled whole)) theta q))

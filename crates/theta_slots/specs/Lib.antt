@@ -1,5 +1,6 @@
 pub mod Probe
 pub mod Layout
 pub mod Moving
+pub mod Relaying
 pub mod Rank
 pub mod HashSlots

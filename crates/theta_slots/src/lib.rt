@@ -1,4 +1,5 @@
-//! Slots in which a table keeps entries by open addressing: searches, writes, and moves from slots to slots.
+//! Slots in which a table keeps entries by open addressing: searches, writes, moves from slots to slots, laying out anew in
+//! place, and the hash of a rank among those in slots.
 //!
 //! There are 2^lg slots. The path of a hash begins at the slot of its low lg bits and goes on by an odd stride of its next
 //! 7 bits, so it meets each slot once. Contracts see slots as a list of what each holds, and speak of the map that the
@@ -7,9 +8,14 @@
 
 mod count;
 mod entry;
+mod gathering;
 pub mod laws;
+mod relaying;
+mod selection;
 mod slots;
 
 pub use count::Count;
 pub use entry::SlotEntry;
-pub use slots::{Place, free_slots, hash_of_rank, keep_below, put_spread, seek};
+pub use relaying::{keep_below, put_kept};
+pub use selection::hash_of_rank;
+pub use slots::{Place, free_slots, put_spread, seek};

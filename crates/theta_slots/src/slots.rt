@@ -1,12 +1,10 @@
 //! Entries in slots.
-ghost use Rattle.std.specs.Prelude.{◌≡◌, ℕ, ◌+◌, ◌-◌, ◌<◌, ◌≤◌, ◌^◌, ◌%◌, ◌*◌, true, false, nat_lt, Some, None, is_none, IfOk, OnOk, OnErr, [], ◌∷◌, ◌++◌, length, map, option_map};
+ghost use Rattle.std.specs.Prelude.{◌≡◌, ℕ, ◌+◌, ◌-◌, ◌<◌, ◌≤◌, ◌^◌, ◌%◌, ◌*◌, true, false, nat_lt, Some, None, is_none, IfOk, OnOk, OnErr, [], ◌∷◌, length, map, option_map};
 ghost use Rattle.std.specs.List.{count_by};
 ghost use Rattle.std.specs.Option.{option_copied};
-ghost use Rattle.theta_laws.specs.Entries.{hash_key};
-ghost use Rattle.theta_laws.specs.Maps.{IsApart, entry_at, below, with_entry, map_of};
+ghost use Rattle.theta_laws.specs.Maps.{entry_at, below, with_entry, map_of};
 ghost use Rattle.theta_slots.specs.Layout.{filled, slot, is_other, IsOnPath, IsLaidOut};
 ghost use Rattle.theta_slots.specs.Probe.{stride};
-ghost use Rattle.theta_slots.specs.Rank.{HasRank};
 
 use crate::count::Count;
 use crate::entry::SlotEntry;
@@ -38,7 +36,7 @@ fn look_at<'a, E: SlotEntry + 'a>(
 
 /// What is left of a number in so many slots.
 #[inline(always)]
-fn slot_of(number: usize, lg: u8) -> usize
+pub(crate) fn slot_of(number: usize, lg: u8) -> usize
     requires { lg < 64 }
     ensures value { result ≡ number % 2 ^ lg }
     ensures below { result < 2 ^ lg }
@@ -48,7 +46,7 @@ fn slot_of(number: usize, lg: u8) -> usize
 
 /// How far the path of a hash goes at each step.
 #[inline(always)]
-fn stride_of(hash: u64, lg: u8) -> usize
+pub(crate) fn stride_of(hash: u64, lg: u8) -> usize
     requires { lg < 64 }
     ensures value { result ≡ stride hash lg }
     ensures small { result < 256 }
@@ -88,7 +86,7 @@ pub fn seek<E: SlotEntry>(slots: &[E::Slot], lg: u8, hash: u64, looks: &mut Coun
 
 /// The hash of what a slot holds.
 #[inline(always)]
-fn hash_in<E: SlotEntry>(slot: &E::Slot) -> Option<u64>
+pub(crate) fn hash_in<E: SlotEntry>(slot: &E::Slot) -> Option<u64>
     ensures { result ≡ option_map E.key (E.held slot.now) }
 {
     let entry = E::in_slot(slot)?;
@@ -119,7 +117,7 @@ fn put_slot<E: SlotEntry>(
 }
 
 /// Moves the entries with a hash below theta into slots that are free.
-fn spread<E: SlotEntry, A: Allocator>(
+pub(crate) fn spread<E: SlotEntry, A: Allocator>(
     from: &mut Vec<E::Slot, A>,
     theta: u64,
     slots: &mut [E::Slot],
@@ -162,7 +160,7 @@ pub fn free_slots<E: SlotEntry, A: Allocator + Drop>(
 
 /// 2 to the power of a number below 40.
 #[inline(always)]
-fn power_of_two(lg: u8) -> usize
+pub(crate) fn power_of_two(lg: u8) -> usize
     requires { lg < 40 }
     ensures { result ≡ 2 ^ lg }
 {
@@ -201,66 +199,6 @@ pub fn put_spread<E: SlotEntry + Drop, A: Allocator + Clone>(
     let mut others = free_slots::<E, A>(slots.allocator().clone()?, new_lg)?;
     slots[at] = entry.into_slot();
     spread::<E, A>(slots, theta, &mut others, new_lg, placed, looks);
-    *slots = others;
-    Ok(())
-}
-
-/// The hash with this many smaller ones among these.
-fn nth_hash<A: Allocator + Drop>(hashes: &mut Vec<u64, A>, rank: usize) -> u64
-    requires apart { IsApart hash_key hashes.old.items }
-    requires inside { rank < length hashes.old.items }
-    ensures ranked { HasRank hashes.old.items rank result }
-{
-    let (_, hash, _) = hashes.select_nth_unstable(rank);
-    *hash
-}
-
-/// The hash that has just `rank` smaller ones among some hashes and those in the slots, all of which differ.
-///
-/// It fails only where memory ran out, which does not happen where the hashes have room for those in the slots. Their memory
-/// is given back before it answers.
-pub fn hash_of_rank<E: SlotEntry, A: Allocator + Drop>(
-    first: Vec<u64, A>,
-    slots: &[E::Slot],
-    rank: usize,
-) -> Result<u64, AllocError>
-    requires apart { IsApart hash_key (first.items ++ map E.key (filled (map E.held slots.now))) }
-    requires inside { rank < length (first.items ++ map E.key (filled (map E.held slots.now))) }
-    ensures ranked { IfOk result (HasRank (first.items ++ map E.key (filled (map E.held slots.now))) rank) }
-{
-    let mut hashes = first;
-    for slot in slots {
-        if let Some(hash) = hash_in::<E>(slot) {
-            hashes.push(hash)?;
-        }
-    }
-    Ok(nth_hash(&mut hashes, rank))
-}
-
-/// Moves all that is below theta to other slots, as many as there are. Counts in `placed` the entries moved, in `looks` the
-/// slots looked at.
-///
-/// It fails only where memory for the other slots ran out; then nothing has changed.
-pub fn keep_below<E: SlotEntry + Drop, A: Allocator + Clone>(
-    slots: &mut Vec<E::Slot, A>,
-    lg: u8,
-    theta: u64,
-    placed: &mut Count,
-    looks: &mut Count,
-) -> Result<(), AllocError>
-    requires small { lg < 40 }
-    requires laid_out { IsLaidOut E.key lg (map E.held slots.old.items) }
-    requires room { length (filled (map E.held slots.old.items)) ≤ 2 ^ lg }
-    ensures laid_out { OnOk result (IsLaidOut E.key lg (map E.held slots.new.items)) }
-    ensures map { OnOk result (map_of E.key (filled (map E.held slots.new.items)) ≡ below E.key (map_of E.key (filled (map E.held slots.old.items))) theta) }
-    ensures placed { OnOk result (placed.new ≡ placed.old + length (filled (map E.held slots.new.items))) }
-    ensures err { OnErr result (slots.new.items ≡ slots.old.items) }
-    ensures placed_err { OnErr result (placed.new ≡ placed.old) }
-    ensures looked { looks.old ≤ looks.new }
-    ensures looks { 2 * looks.new ≤ 2 * looks.old + (placed.new - placed.old) * (placed.new - placed.old + 1) }
-{
-    let mut others = free_slots::<E, A>(slots.allocator().clone()?, lg)?;
-    spread::<E, A>(slots, theta, &mut others, lg, placed, looks);
     *slots = others;
     Ok(())
 }

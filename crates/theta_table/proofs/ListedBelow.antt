@@ -1,6 +1,7 @@
 -- What is below a theta of entries in any order, and answers that list it.
-use Rattle.std.proofs.Common.{◌≡◌, ℕ, ◌<◌, ◌^◌, Bool, true, false, cond, eqb, ltb, List, [], ◌∷◌, length, Option, Some, None, refl, sym, ap, ◌∙◌}
-use Rattle.std.specs.List.{filter}
+use Rattle.std.proofs.Common.{◌≡◌, ℕ, ◌<◌, ◌≤◌, ◌-◌, ◌^◌, ◌++◌, min, arith, MatchOption, Bool, true, false, cond, eqb, ltb, List, [], ◌∷◌, length, Option, Some, None, refl, sym, ap, ◌∙◌}
+use Rattle.std.specs.List.{filter, AllByRecursion}
+use Rattle.std.proofs.lemmas.Bool.Decides.{nat_tests}
 use Rattle.std.proofs.lemmas.List.Sorted.{length_permutation}
 use Rattle.theta_compact.specs.CompactState.{Compact, IsCompactOf, shown_of, is_answer_ordered}
 use Rattle.theta_laws.specs.Maps.{IsApart, below, entry_at, map_of}
@@ -11,6 +12,8 @@ use Rattle.theta_laws.specs.Cuts.{IsRetained}
 use Rattle.theta_laws.proofs.maps.Ascending.{ascending-filter}
 use Rattle.theta_laws.proofs.maps.LookUps.{entry_at-below, same_map}
 use Rattle.theta_laws.proofs.maps.MapsOfLists.{entry_at-map_of, ascending-map_of, lent-ascending}
+use Rattle.theta_slots.specs.Layout.{filled}
+use Rattle.theta_table.specs.Gathering.{from_below}
 use Rattle.theta_table.proofs.OtherOrders.{map_of-moved}
 use Rattle.theta_compact.proofs.LawsOfShown.{IsShown-retained, shown-lent}
 
@@ -82,3 +85,29 @@ module _ {X : Type 0} (key : X → ℕ) where
           lists_all = rw is (lent-ascending key (below key (map_of key xs) t) (ascending-filter key (λ x. ltb (key x) t) (map_of key xs) (ascending-map_of key xs)));
           in_order = λ _. is;
         }
+
+module _ {X : Type 0} (key : X → ℕ) where
+  -- no entry has a hash below a number
+  abbrev pub NoneBelow : (bound : ℕ) → List X → Type 0
+  NoneBelow bound xs = AllByRecursion (λ x. bound ≤ key x) xs
+
+  none_below_more : (bound lower : ℕ) (xs ys : List X) → lower ≤ bound → NoneBelow bound xs → NoneBelow lower ys → NoneBelow lower (xs ++ ys)
+  none_below_more bound lower [] ys le front behind = behind
+  none_below_more bound lower (x ∷ xs) ys le front behind = (omega (arith, le, front.0), none_below_more bound lower xs ys le front.1 behind)
+
+  none_below_slot : (bound hash : ℕ) (held : Option X) → MatchOption held (hash ≡ 2 ^ 64 - 1) (λ x. hash ≡ key x) → bound ≤ hash → NoneBelow bound (filled (held ∷ []))
+  none_below_slot bound hash None is le = tt
+  none_below_slot bound hash (Some x) is le = (omega (arith, le, is), tt)
+
+  -- a slot more, and the lesser of its hash and the number so far
+  pub none_below-next : (least hash : ℕ) (xs : List X) (held : Option X) → NoneBelow least xs → MatchOption held (hash ≡ 2 ^ 64 - 1) (λ x. hash ≡ key x) → NoneBelow (min hash least) (xs ++ filled (held ∷ []))
+  none_below-next least hash xs held so_far is =
+      none_below_more least (min hash least) xs (filled (held ∷ [])) (omega arith) so_far (none_below_slot (min hash least) hash held is (omega arith))
+
+  -- entries that are not below theta are passed over
+  pub from_below-behind : (theta bound : ℕ) (xs ys : List X) → theta ≤ bound → NoneBelow bound xs → from_below key theta (xs ++ ys) ≡ from_below key theta ys
+  from_below-behind theta bound [] ys le high = refl
+  from_below-behind theta bound (x ∷ xs) ys le high =
+      let far : theta ≤ key x = omega (arith, le, high.0) in
+      let e : ltb (key x) theta ≡ false = grind (arith, nat_tests) in
+      rw e (from_below-behind theta bound xs ys le high.1)

@@ -170,12 +170,14 @@ pub(crate) fn state_below<E: SlotEntry + Clone, A: Allocator>(
     Ok(CompactSketchState::non_empty(entries, theta, seed_hash, false))
 }
 
-/// The theta of what is below a theta, cut to k: the same, or the (k+1)th smallest hash where that is less.
+/// The theta of what is below a theta, cut to k: the same, or the (k+1)th smallest hash where that is less. That the entries
+/// are spread evenly below `own_theta` is no more than a hint.
 pub(crate) fn cut_theta<E: SlotEntry, A: Allocator + Drop>(
     alloc: A,
     slots: &[E::Slot],
     count: usize,
     nominal: usize,
+    own_theta: u64,
     theta: u64,
 ) -> Result<u64, AllocError>
     requires apart { IsApart E.key (filled (map E.held slots.now)) }
@@ -189,7 +191,6 @@ pub(crate) fn cut_theta<E: SlotEntry, A: Allocator + Drop>(
     if count <= nominal {
         return Ok(theta);
     }
-    let none = Vec::with_capacity(alloc, count)?;
-    let hash = hash_of_rank::<E, A>(none, slots, nominal)?;
+    let hash = hash_of_rank::<E, A>(alloc, None, slots, count, nominal, own_theta)?;
     Ok(hash.min(theta))
 }

@@ -400,11 +400,13 @@ impl<E: SlotEntry + Drop, A: Allocator + Clone> SketchHashTable<E, A> {
         if !has_slots || self.count <= nominal {
             return Ok(());
         }
+        let old_theta = self.theta;
         let theta = cut_slots::<E, A>(
             &mut self.slots,
             self.lg_cur_size,
             self.count,
             nominal,
+            old_theta,
             &mut self.counts.placed,
         )?;
         self.theta = theta;
@@ -450,7 +452,8 @@ impl<E: SlotEntry + Clone, A: Allocator + Clone> SketchHashTable<E, A> {
     {
         let nominal = nominal_size(self.lg_nom_size);
         let spare = self.slots.allocator().clone()?;
-        let lesser = cut_theta::<E, A>(spare, &self.slots, self.count, nominal, theta)?;
+        let own = self.theta;
+        let lesser = cut_theta::<E, A>(spare, &self.slots, self.count, nominal, own, theta)?;
         let seed_hash = self.seed_hash;
         let alloc = self.slots.allocator().clone()?;
         let state = state_below::<E, A>(

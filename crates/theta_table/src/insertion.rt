@@ -13,7 +13,7 @@ use sketch_base::Error;
 use std::alloc::{AllocError, Allocator};
 use std::mem;
 use theta_laws::MIN_LG_K;
-use theta_slots::{Count, SlotEntry, hash_of_rank, keep_below, put_spread};
+use theta_slots::{Count, SlotEntry, hash_of_rank, keep_below, put_kept, put_spread};
 
 /// What was done since a table was made or last reset. Only clauses see it.
 #[derive(Drop)]
@@ -227,7 +227,7 @@ fn grow<E: SlotEntry + Drop, A: Allocator + Clone>(
     })
 }
 
-/// Puts an entry, and moves the k entries of least hash to other slots. Theta is then the hash next above them.
+/// Puts an entry, and keeps the k entries of least hash, in the same slots. Theta is then the hash next above them.
 #[inline(never)]
 fn rebuild<E: SlotEntry + Drop, A: Allocator + Clone>(
     slots: &mut Vec<E::Slot, A>,
@@ -258,12 +258,18 @@ fn rebuild<E: SlotEntry + Drop, A: Allocator + Clone>(
     ensures unticked { OnErr result (counts.new ≡ record counts.old { looks = counts.new.looks }) }
 {
     let nominal = nominal_size(sizes.lg_nom);
-    let mut first = Vec::with_capacity(slots.allocator().clone()?, sizes.count + 1)?;
-    first.push(entry.hash())?;
-    let cut_theta = hash_of_rank::<E, A>(first, slots, nominal)?;
-    put_spread::<E, A>(
+    let alloc = slots.allocator().clone()?;
+    let count = sizes.count + 1;
+    let cut_theta = hash_of_rank::<E, A>(
+        alloc,
+        Some(entry.hash()),
         slots,
-        sizes.lg_cur,
+        count,
+        nominal,
+        sizes.theta,
+    )?;
+    put_kept::<E, A>(
+        slots,
         sizes.lg_cur,
         cut_theta,
         at,
@@ -318,12 +324,14 @@ pub(crate) fn write_at<E: SlotEntry + Drop, S: UpsertStep<E> + Drop>(
     }
 }
 
-/// Keeps the k entries of least hash, of `count`, which are more. Answers the theta above them.
+/// Keeps the k entries of least hash, of `count`, which are more. Answers the theta above them. That they are spread evenly
+/// below `old_theta` is no more than a hint.
 pub(crate) fn cut_slots<E: SlotEntry + Drop, A: Allocator + Clone>(
     slots: &mut Vec<E::Slot, A>,
     lg: u8,
     count: usize,
     nominal: usize,
+    old_theta: u64,
     placed: &mut Count,
 ) -> Result<u64, AllocError>
     requires small { lg < 40 }
@@ -338,8 +346,8 @@ pub(crate) fn cut_slots<E: SlotEntry + Drop, A: Allocator + Clone>(
     ensures placed_err { OnErr result (placed.new ≡ placed.old) }
     ensures err { OnErr result (slots.new.items ≡ slots.old.items) }
 {
-    let first = Vec::with_capacity(slots.allocator().clone()?, count)?;
-    let theta = hash_of_rank::<E, A>(first, slots, nominal)?;
+    let alloc = slots.allocator().clone()?;
+    let theta = hash_of_rank::<E, A>(alloc, None, slots, count, nominal, old_theta)?;
     let mut looks = Count::new();
     keep_below::<E, A>(slots, lg, theta, placed, &mut looks)?;
     Ok(theta)

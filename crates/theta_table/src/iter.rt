@@ -1,7 +1,8 @@
 //! The iterator over the entries of a table. Contracts see of it what it has left.
-ghost use Rattle.std.specs.Prelude.{◌≡◌, ◌^◌, ◌-◌, ⊤, Some, None, [], ◌∷◌, true, false, nat_lt, length, map, IsSome, IfSome, MatchOption, List};
+ghost use Rattle.std.specs.Prelude.{◌≡◌, ◌^◌, ◌-◌, ◌≤◌, ⊤, Some, None, [], ◌∷◌, true, false, nat_lt, length, map, IsSome, IfSome, MatchOption, List};
 ghost use Rattle.std.specs.Iterator.{YieldsFirstRef, UpTo, item_count};
 ghost use Rattle.std.specs.Iterator.SizeHint.{IsWithinCount};
+ghost use Rattle.std.specs.List.{AllByRecursion};
 ghost use Rattle.theta_slots.specs.Layout.{filled};
 ghost use Rattle.theta_table.specs.Gathering.{from_below};
 
@@ -70,12 +71,35 @@ fn holds_below<E: SlotEntry>(slot: &E::Slot, theta: u64) -> bool
     hash_or_greatest::<E>(slot) < theta
 }
 
+/// How many slots are passed over at once.
+const BLOCK: usize = 8;
+
+/// A number that no entry in a few slots has a hash below: the least hash, or the greatest number where all of them are free.
+/// It takes no branch on what a slot holds.
+#[inline(always)]
+fn least_hash<E: SlotEntry>(block: &[E::Slot]) -> u64
+    ensures { AllByRecursion (λ x. result ≤ E.key x) (filled (map E.held block.now)) }
+{
+    let mut least = u64::MAX;
+    'compare_each: for slot in block {
+        least = hash_or_greatest::<E>(slot).min(least);
+    }
+    least
+}
+
 /// The slots from the first on that holds an entry below theta.
 #[inline(always)]
 fn slots_from_below<'a, E: SlotEntry + 'a>(slots: &'a [E::Slot], theta: u64) -> &'a [E::Slot]
     ensures { filled (map E.held result.now) ≡ from_below E.key theta (filled (map E.held slots.entry.now)) }
 {
     let mut left = slots;
+    'pass_blocks: while left.len() >= BLOCK {
+        let (block, after) = left.split_at(BLOCK);
+        if least_hash::<E>(block) < theta {
+            break;
+        }
+        left = after;
+    }
     'pass_each: while let Some((first, others)) = left.split_first() {
         if holds_below::<E>(first, theta) {
             break;

@@ -1,11 +1,12 @@
-use Rattle.std.proofs.Common.{◌≡◌, take}
-use Rattle.line_sketches.specs.Meeting.{met_of}
+use Rattle.std.proofs.Common.{◌≡◌, take, drop, None}
+use Rattle.line_sketches.specs.Meeting.{met_of, meet_refusal}
 use Rattle.line_sketches.specs.Shards.{values_of_sketches}
 use Rattle.line_sketches.proofs.images.met.Given as goal
 
--- the intersection has come to what the sketches so far share, and its seed stays
+-- the intersection has come to what the sketches so far share, and its seed stays; what is refused of all is what is refused of those that are left
 abbrev pub invariant-loop-sketch : goal.invariant-loop-sketch
 invariant-loop-sketch g l = record {
   value : l.intersection.result ≡ met_of (values_of_sketches (take l.sketch-index l.sketches));
   seed : l.intersection.seed_hash ≡ l.initial.intersection.seed_hash;
+  refusal : meet_refusal None l.sketches ≡ meet_refusal l.intersection.result (drop l.sketch-index l.sketches);
 }

@@ -10,21 +10,21 @@ use Rattle.line_sketches.proofs.sketching.add_lines.Goals as goal
 pub loop-init : goal.loop-init
 loop-init g c = ([], [], Consumes-nil (g.R.Read.remaining c.args.reader.now), c.new-last.ensures, λ more. refl)
 
-pub returns-in-Ok-eq0 : goal.returns-in-Ok-eq0
-returns-in-Ok-eq0 g c =
+pub returns-in-Ok-eq0-clause-lines : goal.returns-in-Ok-eq0-clause-lines
+returns-in-Ok-eq0-clause-lines g c =
     let inv = c.loop.invariant in
     let all = inv.0 ++ take c.in-Ok-eq0.field-0 c.read.new.buf in
     let none : all ≡ inv.0 = ap (λ n. inv.0 ++ take n c.read.new.buf) c.in-Ok-eq0.field-0-test ∙ append-nil inv.0 in
     Consumes-whole (g.R.Read.remaining c.args.reader.now) (g.R.Read.remaining c.read.new.self) all _
     (Consumes-trans (g.R.Read.remaining c.args.reader.now) (g.R.Read.remaining c.loop.reader) (g.R.Read.remaining c.read.new.self) inv.0 (take c.in-Ok-eq0.field-0 c.read.new.buf) inv.2 c.in-Ok-eq0.ensures.bytes.0)
     (c.in-Ok-eq0.ensures.bytes.1 c.in-Ok-eq0.field-0-test (omega arith))
-    (c.in_ok-take_last-in-Ok-eq0.ensures c.args.key inv.1 inv.3 ∙ sym (takes_all c.args.key (held c.args.sketch.now) (held c.loop.sketch) inv.0 inv.1 inv.4) ∙ ap (λ bs. with_lines c.args.key (held c.args.sketch.now) (lines_of bs)) (sym none))
+    (c.in_ok-take_last-in-Ok-eq0.ensures.taken c.args.key inv.1 inv.3 ∙ sym (takes_all c.args.key (held c.args.sketch.now) (held c.loop.sketch) inv.0 inv.1 inv.4) ∙ ap (λ bs. with_lines c.args.key (held c.args.sketch.now) (lines_of bs)) (sym none))
 
 pub loop-preserved : goal.loop-preserved
 loop-preserved g c = let inv = c.loop.invariant in elim c.match-read.branch [
   | in-Ok+in_ok-lines-in-Ok w ↦
       let block = take w.in-Ok.count c.read.new.buf in
-      let step = w.in_ok-lines-in-Ok.ensures inv.1 inv.3 in
+      let step = w.in_ok-lines-in-Ok.ensures.takes inv.1 inv.3 in
       rw (w.last-is, w.sketch-is) (
         inv.0 ++ block,
         step.0,

@@ -3,11 +3,11 @@ use Rattle.line_sketches.specs.Keys.{held}
 use Rattle.line_sketches.proofs.Takings.{held_line, takes_lacking, takes_block}
 use Rattle.line_sketches.proofs.sketching.take_block.Goals as goal
 
-pub returns-in_default : goal.returns-in_default
-returns-in_default g c = λ before is. (before ++ c.args.block.now, c.extend.ensures c.args.key before is, takes_lacking c.args.key (held c.args.sketch.now) before c.args.block.now c.in_default.ensures.none)
+pub returns-in_default-clause-takes : goal.returns-in_default-clause-takes
+returns-in_default-clause-takes g c = λ before is. (before ++ c.args.block.now, c.extend.ensures c.args.key before is, takes_lacking c.args.key (held c.args.sketch.now) before c.args.block.now c.in_default.ensures.none)
 
-pub returns : goal.returns
-returns g c = λ before is.
+pub returns-clause-takes : goal.returns-clause-takes
+returns-clause-takes g c = λ before is.
     let line = before ++ c.in-Some.first.now in
     let now = c.extend-2.ensures c.args.key before is in
     let taken = held_line c.args.key c.args.sketch.now c.update_hash.new.self c.hash.result line (c.hash.ensures c.args.key line now) c.in_ok-update_hash.ensures.after c.in_ok-update_hash.ensures.nonempty in (

@@ -1,8 +1,12 @@
 use Rattle.std.proofs.Common.{ℕ, List, ◌++◌}
 use Rattle.line_sketches.specs.Sources.{Continues}
-use Rattle.line_sketches.specs.Unions.{HasUnited}
+use Rattle.line_sketches.specs.Unions.{HasUnited, IsReady}
 use Rattle.line_sketches.proofs.uniting.add_images.Given as goal
 
--- the images that were taken so far are united behind those that were before
+-- the images that were taken so far are united behind those that were before, and the union may take in more
 abbrev pub invariant-loop : goal.invariant-loop
-invariant-loop g l = (lg_k : ℕ) (images : List (List ℕ)) → HasUnited lg_k images l.fn.union → Continues (g.S.Sources.texts l.fn.sources) (g.S.Sources.texts l.sources) (λ taken. HasUnited lg_k (images ++ taken) l.union)
+invariant-loop g l = record {
+  united : (lg_k : ℕ) (images : List (List ℕ)) → HasUnited lg_k images l.fn.union → Continues (g.S.Sources.texts l.fn.sources) (g.S.Sources.texts l.sources) (λ taken. HasUnited lg_k (images ++ taken) l.union);
+  ready : IsReady l.fn.union → IsReady l.union;
+  parted : Continues (g.S.Sources.texts l.fn.sources) (g.S.Sources.texts l.sources) (λ taken. Unit {0});
+}

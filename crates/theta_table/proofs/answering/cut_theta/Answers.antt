@@ -3,7 +3,6 @@ use Rattle.std.proofs.lemmas.List.{length-map}
 use Rattle.theta_laws.specs.Maps.{map_of}
 use Rattle.theta_laws.specs.Cuts.{retained}
 use Rattle.theta_slots.specs.Layout.{filled}
-use Rattle.theta_slots.specs.Rank.{HasRank}
 use Rattle.theta_slots.proofs.Ranks.{apart-hashes, cut_least, cut_of_few, ranked_low}
 use Rattle.theta_table.proofs.answering.cut_theta.Goals as goal
 
@@ -12,23 +11,19 @@ returns-then-count-nominal-clause-cut g c =
     cut_of_few g.E.SketchEntry.key c.args.nominal c.args.theta (filled (map g.E.SlotEntry.held c.args.slots.now)) c.requires.apart (omega (arith, c.if-count-nominal.true, c.requires.counted))
 
 pub hash_of_rank-requires-clause-apart : goal.hash_of_rank-requires-clause-apart
-hash_of_rank-requires-clause-apart g c = rw c.in_ok-none.ensures.items (apart-hashes g.E.SketchEntry.key (filled (map g.E.SlotEntry.held c.args.slots.now)) c.requires.apart)
+hash_of_rank-requires-clause-apart g c = apart-hashes g.E.SketchEntry.key (filled (map g.E.SlotEntry.held c.args.slots.now)) c.requires.apart
 
-pub hash_of_rank-requires-clause-inside : goal.hash_of_rank-requires-clause-inside
-hash_of_rank-requires-clause-inside g c =
-    let held = filled (map g.E.SlotEntry.held c.args.slots.now) in
-    rw c.in_ok-none.ensures.items (omega (arith, length-map held g.E.SketchEntry.key, c.requires.counted, c.if-count-nominal.false))
+pub hash_of_rank-requires-clause-counted : goal.hash_of_rank-requires-clause-counted
+hash_of_rank-requires-clause-counted g c = omega (arith, length-map (filled (map g.E.SlotEntry.held c.args.slots.now)) g.E.SketchEntry.key, c.requires.counted)
 
 pub returns-clause-cut : goal.returns-clause-cut
 returns-clause-cut g c =
     let key = g.E.SketchEntry.key in
     let held = filled (map g.E.SlotEntry.held c.args.slots.now) in
-    let ranked : HasRank (map key held) c.args.nominal c.in_ok-hash.hash = rw c.in_ok-none.ensures.items at c.in_ok-hash.ensures.ranked in
-    cut_least key c.args.nominal c.args.theta c.in_ok-hash.hash held c.requires.apart ranked ∙ ap (retained key (map_of key held)) (sym c.min.ensures)
+    cut_least key c.args.nominal c.args.theta c.in_ok-hash.hash held c.requires.apart c.in_ok-hash.ensures.ranked ∙ ap (retained key (map_of key held)) (sym c.min.ensures)
 
 pub returns-clause-low : goal.returns-clause-low
 returns-clause-low g c =
     let key = g.E.SketchEntry.key in
     let held = filled (map g.E.SlotEntry.held c.args.slots.now) in
-    let ranked : HasRank (map key held) c.args.nominal c.in_ok-hash.hash = rw c.in_ok-none.ensures.items at c.in_ok-hash.ensures.ranked in
-    omega (arith, c.min.ensures, c.requires.low, ranked_low key c.args.nominal c.in_ok-hash.hash held ranked c.requires.nonzero)
+    omega (arith, c.min.ensures, c.requires.low, ranked_low key c.args.nominal c.in_ok-hash.hash held c.in_ok-hash.ensures.ranked c.requires.nonzero)

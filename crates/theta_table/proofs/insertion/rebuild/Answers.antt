@@ -1,4 +1,4 @@
-use Rattle.std.proofs.Common.{◌≡◌, ◌^◌, ℕ, ◌∷◌, ◌++◌, [], map, length, refl, sym, ap, ◌∙◌, arith}
+use Rattle.std.proofs.Common.{◌^◌, ◌∷◌, map, length, refl, sym, ap, ◌∙◌, arith}
 use Rattle.std.proofs.lemmas.List.{length-map}
 use Rattle.theta_slots.specs.Layout.{filled}
 use Rattle.theta_slots.specs.Rank.{HasRank}
@@ -10,24 +10,23 @@ pub hash_of_rank-requires-clause-apart : goal.hash_of_rank-requires-clause-apart
 hash_of_rank-requires-clause-apart g c =
     let key = g.E.SketchEntry.key in
     let slots = map g.E.SlotEntry.held c.args.slots.now.items in
-    let first : c.push.new.self.items ≡ key c.args.entry ∷ [] = c.in_ok-push.ensures.items ∙ ap (λ xs. xs ++ c.hash.result ∷ []) c.in_ok-first.ensures.items ∙ ap (λ (n : ℕ). n ∷ []) c.hash.ensures in
-    rw (c.deref.ensures.value, first) (apart-hashes key (c.args.entry ∷ filled slots) (apart-more key c.args.sizes.lg_cur c.args.at c.args.entry slots c.requires.laid_out c.requires.on_path c.requires.free))
+    rw (c.deref.ensures.value, c.hash.ensures) (apart-hashes key (c.args.entry ∷ filled slots) (apart-more key c.args.sizes.lg_cur c.args.at c.args.entry slots c.requires.laid_out c.requires.on_path c.requires.free))
+
+pub hash_of_rank-requires-clause-counted : goal.hash_of_rank-requires-clause-counted
+hash_of_rank-requires-clause-counted g c =
+    let slots = map g.E.SlotEntry.held c.args.slots.now.items in
+    rw c.deref.ensures.value (omega (arith, length-map (filled slots) g.E.SketchEntry.key, c.requires.counted))
 
 pub hash_of_rank-requires-clause-inside : goal.hash_of_rank-requires-clause-inside
-hash_of_rank-requires-clause-inside g c =
-    let key = g.E.SketchEntry.key in
-    let slots = map g.E.SlotEntry.held c.args.slots.now.items in
-    let first : c.push.new.self.items ≡ key c.args.entry ∷ [] = c.in_ok-push.ensures.items ∙ ap (λ xs. xs ++ c.hash.result ∷ []) c.in_ok-first.ensures.items ∙ ap (λ (n : ℕ). n ∷ []) c.hash.ensures in
-    rw (c.deref.ensures.value, first) (omega (arith, length-map (filled slots) key, c.requires.counted, c.requires.full, c.requires.large, c.nominal_size-nominal.ensures.power))
+hash_of_rank-requires-clause-inside g c = omega (arith, c.requires.full, c.requires.large, c.nominal_size-nominal.ensures.power)
 
 pub returns-clause-after : goal.returns-clause-after
 returns-clause-after g c =
     let key = g.E.SketchEntry.key in
     let slots = map g.E.SlotEntry.held c.args.slots.now.items in
-    let first : c.push.new.self.items ≡ key c.args.entry ∷ [] = c.in_ok-push.ensures.items ∙ ap (λ xs. xs ++ c.hash.result ∷ []) c.in_ok-first.ensures.items ∙ ap (λ (n : ℕ). n ∷ []) c.hash.ensures in
-    let told : HasRank (c.push.new.self.items ++ map key (filled slots)) c.nominal_size-nominal.result c.in_ok-cut_theta.cut_theta = rw c.deref.ensures.value at c.in_ok-cut_theta.ensures.ranked in
-    let ranked : HasRank (key c.args.entry ∷ map key (filled slots)) (2 ^ c.args.sizes.lg_nom) c.in_ok-cut_theta.cut_theta = rw (first, c.nominal_size-nominal.ensures.power) at told in
-    ap (λ ys. record { entries = ys; theta = c.in_ok-cut_theta.cut_theta }) c.in_ok-put_spread.ensures.map
+    let told : HasRank (c.hash.result ∷ map key (filled slots)) c.nominal_size-nominal.result c.in_ok-cut_theta.cut_theta = rw c.deref.ensures.value at c.in_ok-cut_theta.ensures.ranked in
+    let ranked : HasRank (key c.args.entry ∷ map key (filled slots)) (2 ^ c.args.sizes.lg_nom) c.in_ok-cut_theta.cut_theta = rw (c.hash.ensures, c.nominal_size-nominal.ensures.power) at told in
+    ap (λ ys. record { entries = ys; theta = c.in_ok-cut_theta.cut_theta }) c.in_ok-put_kept.ensures.map
     ∙ sym (rebuilt_at key (2 ^ c.args.sizes.lg_nom) c.args.sizes.theta c.in_ok-cut_theta.cut_theta c.args.entry (filled slots) c.requires.large (omega (arith, c.requires.full, c.requires.counted))
     (apart-more key c.args.sizes.lg_cur c.args.at c.args.entry slots c.requires.laid_out c.requires.on_path c.requires.free) c.requires.below_theta c.requires.low ranked)
 
@@ -35,13 +34,12 @@ pub returns-clause-count : goal.returns-clause-count
 returns-clause-count g c =
     let key = g.E.SketchEntry.key in
     let slots = map g.E.SlotEntry.held c.args.slots.now.items in
-    let after = map g.E.SlotEntry.held c.put_spread.new.slots.items in
-    let first : c.push.new.self.items ≡ key c.args.entry ∷ [] = c.in_ok-push.ensures.items ∙ ap (λ xs. xs ++ c.hash.result ∷ []) c.in_ok-first.ensures.items ∙ ap (λ (n : ℕ). n ∷ []) c.hash.ensures in
-    let told : HasRank (c.push.new.self.items ++ map key (filled slots)) c.nominal_size-nominal.result c.in_ok-cut_theta.cut_theta = rw c.deref.ensures.value at c.in_ok-cut_theta.ensures.ranked in
-    let ranked : HasRank (key c.args.entry ∷ map key (filled slots)) (2 ^ c.args.sizes.lg_nom) c.in_ok-cut_theta.cut_theta = rw (first, c.nominal_size-nominal.ensures.power) at told in
-    sym (length-map_of key c.args.sizes.lg_cur after c.in_ok-put_spread.ensures.laid_out) ∙ ap length c.in_ok-put_spread.ensures.map
+    let after = map g.E.SlotEntry.held c.put_kept.new.slots.items in
+    let told : HasRank (c.hash.result ∷ map key (filled slots)) c.nominal_size-nominal.result c.in_ok-cut_theta.cut_theta = rw c.deref.ensures.value at c.in_ok-cut_theta.ensures.ranked in
+    let ranked : HasRank (key c.args.entry ∷ map key (filled slots)) (2 ^ c.args.sizes.lg_nom) c.in_ok-cut_theta.cut_theta = rw (c.hash.ensures, c.nominal_size-nominal.ensures.power) at told in
+    sym (length-map_of key c.args.sizes.lg_cur after c.in_ok-put_kept.ensures.laid_out) ∙ ap length c.in_ok-put_kept.ensures.map
     ∙ kept_count key (2 ^ c.args.sizes.lg_nom) c.in_ok-cut_theta.cut_theta c.args.entry (filled slots) (apart-more key c.args.sizes.lg_cur c.args.at c.args.entry slots c.requires.laid_out c.requires.on_path c.requires.free) ranked
 
 pub returns-clause-ticked : goal.returns-clause-ticked
 returns-clause-ticked g c =
-    rw (c.tick.ensures, c.tick-2.ensures, c.new.ensures, c.in_ok-put_spread.ensures.placed, returns-clause-count g c) refl
+    rw (c.tick.ensures, c.tick-2.ensures, c.new.ensures, c.in_ok-put_kept.ensures.placed, returns-clause-count g c) refl

@@ -13,3 +13,14 @@ invariant-pass_each g l =
 -- the slots that are left
 abbrev pub decreases-pass_each : goal.decreases-pass_each
 decreases-pass_each g l = length l.left
+
+-- what was passed in blocks is not below theta
+abbrev pub invariant-pass_blocks : goal.invariant-pass_blocks
+invariant-pass_blocks g l =
+    let key = g.E.SketchEntry.key in
+    let held = g.E.SlotEntry.held in
+    from_below key l.theta (filled (map held l.left)) ≡ from_below key l.theta (filled (map held l.slots))
+
+-- the slots that are left
+abbrev pub decreases-pass_blocks : goal.decreases-pass_blocks
+decreases-pass_blocks g l = length l.left

@@ -1,0 +1,53 @@
+-- Numbers in decimal digits.
+use Rattle.std.proofs.Common.{◌≡◌, ℕ, ◌<◌, ◌≤◌, ◌^◌, Bool, true, false, cond, List, [], ◌∷◌, length, Some, None, refl, arith}
+use Rattle.std.specs.Prelude.{◌&&◌, ◌==◌, not, nat_le}
+use Rattle.std.specs.Char.{is_ascii_digit, digit_value}
+use Rattle.std.specs.Str.{all_ascii_digits}
+use Rattle.std.specs.Str.Parse.{AllDigits, IsNumeral, digits_value, without_leading_plus}
+use Rattle.std.proofs.lemmas.Bool.Decides.{nat_tests}
+use Rattle.distinct.specs.Words.{number_of}
+
+digit_small : (c : ℕ) → is_ascii_digit c ≡ true → digit_value c < 10
+digit_small c is = grind (arith, nat_tests)
+
+digit_told : (c : ℕ) → digit_value c < 10 → is_ascii_digit c ≡ true
+digit_told c lt = grind (arith, nat_tests)
+
+and_left : (a b : Bool) → (a && b) ≡ true → a ≡ true
+and_left true b is = refl
+and_left false b is = absurd cc
+
+and_right : (a b : Bool) → (a && b) ≡ true → b ≡ true
+and_right true b is = is
+and_right false b is = absurd cc
+
+all_small : (ds : List ℕ) → all_ascii_digits ds ≡ true → AllDigits 10 ds
+all_small [] is = tt
+all_small (d ∷ ds) is = (digit_small d (and_left (is_ascii_digit d) (all_ascii_digits ds) is), all_small ds (and_right (is_ascii_digit d) (all_ascii_digits ds) is))
+
+all_told : (ds : List ℕ) → AllDigits 10 ds → all_ascii_digits ds ≡ true
+all_told [] all = refl
+all_told (d ∷ ds) all = rw (digit_told d all.0, all_told ds all.1) refl
+
+-- a numeral from the least to the greatest
+pub number_some : (least greatest n : ℕ) (word : List ℕ) → IsNumeral 10 (without_leading_plus word) → n ≡ digits_value 10 (without_leading_plus word) → least ≤ n → n ≤ greatest → Some n ≡ number_of least greatest word
+number_some least greatest n word numeral is low high = grind (arith, nat_tests, all_told (without_leading_plus word) numeral.1)
+
+-- what is no numeral, or is out of range
+pub number_none : (least greatest : ℕ) (word : List ℕ) → greatest < 2 ^ 32 → (IsNumeral 10 (without_leading_plus word) × (digits_value 10 (without_leading_plus word) < 2 ^ 32) → ⊥) → None ≡ number_of least greatest word
+number_none least greatest word small wrong =
+    let digits = without_leading_plus word in
+    let number = digits_value 10 digits in
+    let some = not (length digits == 0) in
+    let digital = all_ascii_digits digits in
+    (elim (some && digital && nat_le least number && nat_le number greatest) as (λ b. (some && digital && nat_le least number && nat_le number greatest) ≡ b → None ≡ cond b (Some number) None) [
+      | true ↦ λ e.
+          let front : (some && digital && nat_le least number) ≡ true = and_left (some && digital && nat_le least number) (nat_le number greatest) e in
+          let high : nat_le number greatest ≡ true = and_right (some && digital && nat_le least number) (nat_le number greatest) e in
+          let both : (some && digital) ≡ true = and_left (some && digital) (nat_le least number) front in
+          let nonempty : some ≡ true = and_left some digital both in
+          let at_most : number ≤ greatest = grind (arith, nat_tests) in
+          let begun : 0 < length digits = grind (arith, nat_tests) in
+          absurd (wrong ((begun, all_small digits (and_right some digital both)), omega arith))
+      | false ↦ λ e. refl
+    ]) refl

@@ -1,0 +1,56 @@
+-- What sketches of the default seed and of sizes in range are refused with: memory alone.
+use Rattle.std.proofs.Common.{◌≡◌, ℕ, ◌≤◌, Bool, true, false, cond, List, [], ◌∷◌, ◌++◌, Option, Some, None, refl, sym, ap, subst, ◌∙◌, arith, inl, inr}
+use Rattle.std.specs.Prelude.{◌⊎◌, ◌==◌, ◌||◌}
+use Rattle.std.proofs.lemmas.Bool.Decides.{nat_tests}
+use Rattle.sketch_base.specs.Seed.{seed_hash}
+use Rattle.sketch_base.specs.declared.error.ErrorKind.{ErrorKind}
+use Rattle.sketch_base.specs.declared.error.ErrorKind.TheVariants.{OutOfMemory, InvalidArgument, InvalidData}
+use Rattle.sketch_base.specs.declared.seed.TheConstants.{DEFAULT_UPDATE_SEED}
+use Rattle.theta_compact.specs.CompactState.{Compact, compact_value}
+use Rattle.theta_laws.specs.Entries.{hash_key, first_hash}
+use Rattle.theta_laws.specs.Operators.{meet_next}
+use Rattle.theta_laws.specs.Values.{Sketch}
+use Rattle.theta_laws.specs.declared.TheConstants.{MAX_THETA}
+use Rattle.theta_operators.specs.Intersection.{is_settled}
+use Rattle.theta_table.specs.HashTable.{table_refusal}
+use Rattle.line_sketches.specs.Meeting.{or_later, meet_refusal}
+use Rattle.line_sketches.specs.Refusals.{IsUnread, IsUniteRefusal}
+use Rattle.line_sketches.specs.declared.sketching.Unread.{Unread}
+use Rattle.line_sketches.specs.declared.sketching.Unread.TheVariants.{Refused}
+use Rattle.line_sketches.proofs.DefaultSeed.{default_seed}
+use Rattle.distinct.specs.Seeds.{AreSeeded}
+
+-- a size in range
+pub sized : (lg_k : ℕ) → 5 ≤ lg_k → lg_k ≤ 26 → table_refusal lg_k MAX_THETA DEFAULT_UPDATE_SEED ≡ None
+sized lg_k low high = grind (arith, nat_tests, default_seed)
+
+read_of : (refusal : Option ErrorKind) (e : ErrorKind) → refusal ≡ None → IsUnread refusal (Refused e) → e ≡ OutOfMemory
+read_of refusal e none (inl is) = let both : None ≡ Some e = sym none ∙ is in absurd (cc)
+read_of refusal e none (inr memory) = memory
+
+pub read_kind : (refusal : Option ErrorKind) (u : Unread) (e : ErrorKind) → refusal ≡ None → u ≡ Refused e → IsUnread refusal u → e ≡ OutOfMemory
+read_kind refusal u e none is refused = read_of refusal e none (subst (IsUnread refusal) is refused)
+
+unite_of : (refusal : Option ErrorKind) (images : Option (List (List ℕ))) (e : ErrorKind) → refusal ≡ None → IsUniteRefusal refusal images (Refused e) → (e ≡ OutOfMemory) ⊎ (e ≡ InvalidData)
+unite_of refusal images e none (inl is) = let both : None ≡ Some e = sym none ∙ is in absurd (cc)
+unite_of refusal images e none (inr (inl memory)) = inl memory
+unite_of refusal images e none (inr (inr faulty)) = inr faulty.0
+
+pub unite_kind : (refusal : Option ErrorKind) (images : Option (List (List ℕ))) (u : Unread) (e : ErrorKind) → refusal ≡ None → u ≡ Refused e → IsUniteRefusal refusal images u → (e ≡ OutOfMemory) ⊎ (e ≡ InvalidData)
+unite_kind refusal images u e none is refused = unite_of refusal images e none (subst (IsUniteRefusal refusal images) is refused)
+
+-- sketches of the default seed
+one_accepted : (settled empty : Bool) (x y : ℕ) → y ≡ x → cond (settled || empty) None (cond (x == y) None (Some InvalidArgument)) ≡ None
+one_accepted true empty x y same = refl
+one_accepted false true x y same = refl
+one_accepted false false x y same = grind (arith, nat_tests)
+
+pub meet_accepted : (so_far : Option (Sketch ℕ)) (sketches : List (Compact ℕ)) → AreSeeded sketches → meet_refusal so_far sketches ≡ None
+meet_accepted so_far [] seeded = refl
+meet_accepted so_far (s ∷ sketches) seeded =
+    let next = Some (meet_next hash_key first_hash so_far (compact_value hash_key s)) in
+    ap (λ o. or_later o (meet_refusal next sketches)) (one_accepted (is_settled so_far) s.empty (seed_hash DEFAULT_UPDATE_SEED) s.seed_hash seeded.0) ∙ meet_accepted next sketches seeded.1
+
+pub seeded-more : (sketches : List (Compact ℕ)) (s : Compact ℕ) → AreSeeded sketches → s.seed_hash ≡ seed_hash DEFAULT_UPDATE_SEED → AreSeeded (sketches ++ s ∷ [])
+seeded-more [] s all one = (one, tt)
+seeded-more (t ∷ ts) s all one = (all.0, seeded-more ts s all.1 one)

@@ -1,0 +1,133 @@
+//! Tests of what the program tells: messages with their statuses, and help.
+
+use crate::arguments::{Command, Operator, Topic, has_option};
+use crate::failure::Failure;
+use crate::help::text_of;
+use std::alloc::{AllocError, Global};
+use std::io::{Error, ErrorKind};
+use std::test::Fail;
+
+/// Each kind of failure.
+#[derive(Clone, Copy, Debug)]
+enum Kind {
+    NotText,
+    NoCommand,
+    UnknownCommand,
+    UnknownOption,
+    NoValue,
+    WrongSize,
+    WrongField,
+    WrongSeparator,
+    NoFiles,
+    NotTwo,
+    Memory,
+    Unreadable,
+    NoSketch,
+    NoSketchOnLine,
+    NotWritten,
+}
+
+fn failure_of(alloc: Global, kind: Kind) -> Result<Failure, AllocError> {
+    let name = String::from_str(alloc, "it")?;
+    Ok(match kind {
+        Kind::NotText => Failure::NotText,
+        Kind::NoCommand => Failure::NoCommand,
+        Kind::UnknownCommand => Failure::UnknownCommand(name),
+        Kind::UnknownOption => Failure::UnknownOption(name),
+        Kind::NoValue => Failure::NoValue(name),
+        Kind::WrongSize => Failure::WrongSize,
+        Kind::WrongField => Failure::WrongField,
+        Kind::WrongSeparator => Failure::WrongSeparator,
+        Kind::NoFiles => Failure::NoFiles,
+        Kind::NotTwo => Failure::NotTwo,
+        Kind::Memory => Failure::Memory,
+        Kind::Unreadable => Failure::Unreadable(name, Error::from(ErrorKind::NotFound)),
+        Kind::NoSketch => Failure::NoSketch(name, 0),
+        Kind::NoSketchOnLine => Failure::NoSketch(name, 7),
+        Kind::NotWritten => Failure::NotWritten(name, Error::from(ErrorKind::StorageFull)),
+    })
+}
+
+/// The status of a kind of failure, and its message.
+fn told(alloc: Global, kind: Kind) -> Result<(u8, String), AllocError> {
+    let failure = failure_of(alloc, kind)?;
+    let message = format!(in alloc; "{failure}")?;
+    Ok((failure.status(), message))
+}
+
+#[test]
+fn tells_each_failure(rt: HostRuntime) -> Result<(), Fail> {
+    for (kind, status, message) in [
+        (Kind::NotText, 2, "an argument is not UTF-8 text"),
+        (
+            Kind::NoCommand,
+            2,
+            "say what is wanted: count, sketch, union, meet, minus or show (try --help)",
+        ),
+        (
+            Kind::UnknownCommand,
+            2,
+            "it: not one of count, sketch, union, meet, minus and show (try --help)",
+        ),
+        (Kind::UnknownOption, 2, "it: no such option (try --help)"),
+        (Kind::NoValue, 2, "it: a value has to follow"),
+        (Kind::WrongSize, 2, "--lg-k takes a number from 5 to 26"),
+        (Kind::WrongField, 2, "--field takes a number from 1 on"),
+        (Kind::WrongSeparator, 2, "--separator takes one byte"),
+        (Kind::NoFiles, 2, "which images? (try --help)"),
+        (Kind::NotTwo, 2, "minus takes two images (try --help)"),
+        (Kind::Memory, 1, "out of memory"),
+        (Kind::Unreadable, 1, "it: entity not found"),
+        (
+            Kind::NoSketch,
+            1,
+            "it: not an image of a theta sketch, or cut short, or of another seed",
+        ),
+        (
+            Kind::NoSketchOnLine,
+            1,
+            "it: line 7 is not an image in hexadecimal, or cut short, or of another seed",
+        ),
+        (Kind::NotWritten, 1, "it: no storage space"),
+    ] {
+        let said = told(rt.alloc(), kind)?;
+        assert_eq!(rt; (said.0, said.1.as_str()), (status, message), "{kind:?}");
+    }
+    Ok(())
+}
+
+/// Each word, and no other, has help, which names each of its options and no other.
+#[test]
+fn helps_with_each_option(rt: HostRuntime) {
+    for (command, begin) in [
+        (Command::Count, "distinct count [OPTION..] [FILE..]: "),
+        (Command::Sketch, "distinct sketch [OPTION..] [FILE..]: "),
+        (
+            Command::Combine(Operator::Union),
+            "distinct union [OPTION..] IMAGE..: ",
+        ),
+        (
+            Command::Combine(Operator::Meet),
+            "distinct meet [OPTION..] IMAGE..: ",
+        ),
+        (
+            Command::Combine(Operator::Minus),
+            "distinct minus [OPTION..] IMAGE IMAGE: ",
+        ),
+        (Command::Show, "distinct show [OPTION..] IMAGE..: "),
+    ] {
+        let text = text_of(Topic::Help(command));
+        assert!(rt; text.starts_with(begin), "{command:?}");
+        for option in [
+            "--lg-k",
+            "--field",
+            "--separator",
+            "--progress",
+            "--hex",
+            "--output",
+        ] {
+            let told = text.contains(option);
+            assert_eq!(rt; told, has_option(command, option), "{command:?} {option}");
+        }
+    }
+}

@@ -1,0 +1,77 @@
+-- Entries below a theta that are gathered in front of other slots.
+use Rattle.std.proofs.Common.{◌≡◌, ◌⊎◌, ℕ, zero, suc, ◌+◌, ◌<◌, ◌≤◌, Bool, true, false, cond, ltb, List, [], ◌∷◌, ◌++◌, length, map, get_or, set, take, drop, Option, Some, None, inl, inr, refl, sym, ap, subst, ◌∙◌, arith}
+use Rattle.std.specs.List.{filter, count_by}
+use Rattle.std.proofs.lemmas.List.{take-set, get_or-drop, map-append, append-nil}
+use Rattle.std.proofs.Math.Seq.{take-suc-set}
+use Rattle.std.proofs.lemmas.List.Elements.{filter-append}
+use Rattle.theta_laws.specs.Maps.{below, map_of, entry_at}
+use Rattle.theta_laws.proofs.cuts.Cuts.{length-below}
+use Rattle.theta_laws.proofs.cuts.WithinWholeMaps.{filter-filter}
+use Rattle.theta_laws.proofs.maps.Ascending.{ascending-filter}
+use Rattle.theta_laws.proofs.maps.LookUps.{entry_at-below, same_map}
+use Rattle.theta_laws.proofs.maps.MapsOfLists.{entry_at-map_of, ascending-map_of}
+use Rattle.theta_slots.specs.Layout.{filled}
+use Rattle.theta_slots.proofs.Held.{filled-next}
+use Rattle.theta_slots.proofs.Layouts.{filled-append}
+
+module _ {S : Type 0} where
+  -- what was not come to is not written
+  pub drop-set : (xs : List S) (i : ℕ) (s : S) → drop (i + 1) (set xs i s) ≡ drop (i + 1) xs
+  drop-set xs i s = let next : suc i ≡ i + 1 = omega arith in subst (λ (n : ℕ). drop n (set xs i s) ≡ drop n xs) next (drop_suc xs i s)
+    where
+      drop_suc : (xs : List S) (i : ℕ) (s : S) → drop (suc i) (set xs i s) ≡ drop (suc i) xs
+      drop_suc [] i s = refl
+      drop_suc (x ∷ xs) zero s = refl
+      drop_suc (x ∷ xs) (suc i) s = drop_suc xs i s
+
+  -- the first of what is left
+  pub get_or-left : (xs ys : List S) (i : ℕ) (d : S) → drop i xs ≡ drop i ys → get_or xs i d ≡ get_or ys i d
+  get_or-left xs ys i d same =
+      let here : i + 0 ≡ i = omega arith in
+      subst (λ (n : ℕ). get_or xs n d ≡ get_or ys n d) here (sym (get_or-drop i xs 0 d) ∙ ap (λ zs. get_or zs 0 d) same ∙ get_or-drop i ys 0 d)
+
+module _ {X : Type 0} (key : X → ℕ) where
+  -- what a slot holds is below theta, or is not
+  one_or_none : (o : Option X) (theta : ℕ) → (below key (filled (o ∷ [])) theta ≡ []) ⊎ ((below key (filled (o ∷ [])) theta ≡ filled (o ∷ [])) × (length (below key (filled (o ∷ [])) theta) ≡ 1))
+  one_or_none None theta = inl refl
+  one_or_none (Some x) theta = elim (ltb (key x) theta) as (λ b. (cond b (x ∷ []) [] ≡ []) ⊎ ((cond b (x ∷ []) [] ≡ x ∷ []) × (length (cond b (x ∷ []) []) ≡ 1))) [ true ↦ inr (refl, refl) | false ↦ inl refl ]
+
+  module _ {S : Type 0} (held : S → Option X) where
+    -- a slot more
+    pub gathered-next : (first others : List S) (at count theta more : ℕ) (s d : S) → at < length first → count < length others → s ≡ get_or first at d → more ≡ length (below key (filled (held s ∷ [])) theta)
+        → filled (map held (take count others)) ≡ below key (filled (map held (take at first))) theta
+        → filled (map held (take (count + more) (set others count s))) ≡ below key (filled (map held (take (at + 1) first))) theta
+    gathered-next first others at count theta more s d lt inside is number so_far =
+        let seen : List X = filled (map held (take at first)) in
+        let one : List X = filled (held s ∷ []) in
+        let rest : filled (map held (take (at + 1) first)) ≡ seen ++ one = filled-next held first at d lt ∙ ap (λ x. seen ++ filled (held x ∷ [])) (sym is) in
+        let right : below key (filled (map held (take (at + 1) first))) theta ≡ below key seen theta ++ below key one theta = ap (λ xs. below key xs theta) rest ∙ filter-append (λ x. ltb (key x) theta) seen one in
+        elim (one_or_none (held s) theta) [
+          | inl none ↦
+              let still : count + more ≡ count = omega (arith, number, ap length none) in
+              ap (λ (n : ℕ). filled (map held (take n (set others count s)))) still ∙ ap (λ xs. filled (map held xs)) (take-set others count s) ∙ so_far
+              ∙ sym (right ∙ ap (λ xs. below key seen theta ++ xs) none ∙ append-nil (below key seen theta))
+          | inr all ↦
+              let next : count + more ≡ suc count = omega (arith, number, all.1) in
+              ap (λ (n : ℕ). filled (map held (take n (set others count s)))) next ∙ ap (λ xs. filled (map held xs)) (take-suc-set others count s inside)
+              ∙ ap filled (map-append held (take count others) (s ∷ [])) ∙ filled-append (map held (take count others)) (held s ∷ [])
+              ∙ ap (λ xs. xs ++ one) so_far ∙ sym (right ∙ ap (λ xs. below key seen theta ++ xs) all.0)
+        ]
+
+  -- what is below theta of what is below theta
+  pub count-below : (xs : List X) (theta : ℕ) → count_by (λ x. ltb (key x) theta) (below key xs theta) ≡ count_by (λ x. ltb (key x) theta) xs
+  count-below xs theta =
+      sym (length-below key (below key xs theta) theta) ∙ ap length (filter-filter (λ x. ltb (key x) theta) (λ x. ltb (key x) theta) xs (λ x e. e)) ∙ length-below key xs theta
+
+  pub map_of-below-below : (xs : List X) (theta : ℕ) → below key (map_of key (below key xs theta)) theta ≡ below key (map_of key xs) theta
+  map_of-below-below xs theta =
+      same_map key _ _ (ascending-filter key _ _ (ascending-map_of key (below key xs theta))) (ascending-filter key _ _ (ascending-map_of key xs))
+      (λ q. entry_at-below key (map_of key (below key xs theta)) theta q
+      ∙ ap (λ o. cond (ltb q theta) o None) (entry_at-map_of key (below key xs theta) q ∙ entry_at-below key xs theta q)
+      ∙ again (ltb q theta) (entry_at key xs q)
+      ∙ ap (λ o. cond (ltb q theta) o None) (sym (entry_at-map_of key xs q))
+      ∙ sym (entry_at-below key (map_of key xs) theta q))
+    where
+      again : (b : Bool) (o : Option X) → cond b (cond b o None) None ≡ cond b o None
+      again true o = refl
+      again false o = refl

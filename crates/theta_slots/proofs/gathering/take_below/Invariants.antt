@@ -1,0 +1,18 @@
+use Rattle.std.proofs.Common.{◌≡◌, ◌≤◌, [], length, map, take, drop}
+use Rattle.theta_laws.specs.Maps.{below}
+use Rattle.theta_slots.specs.Layout.{filled}
+use Rattle.theta_slots.proofs.gathering.take_below.Given as goal
+
+-- the slots so far are free, the others are as they were, and what was below theta has come
+abbrev pub invariant-take_each : goal.invariant-take_each
+invariant-take_each g l =
+    let key = g.E.SketchEntry.key in
+    let held = g.E.SlotEntry.held in
+    record {
+      size : length l.slots ≡ length l.initial.slots;
+      long : length l.others ≡ length l.initial.others;
+      few : l.count ≤ l.at;
+      left : drop l.at l.slots ≡ drop l.at l.initial.slots;
+      free : filled (map held (take l.at l.slots)) ≡ [];
+      taken : filled (map held (take l.count l.others)) ≡ below key (filled (map held (take l.at l.initial.slots))) l.theta;
+    }
