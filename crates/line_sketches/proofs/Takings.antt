@@ -1,17 +1,46 @@
 -- Pieces of a text, taken in one after another.
-use Rattle.std.proofs.Common.{◌≡◌, ℕ, ◌^◌, false, List, [], ◌∷◌, ◌++◌, sym, ap, ◌∙◌, append_assoc, append-nil}
+use Rattle.std.proofs.Common.{◌≡◌, ℕ, suc, ◌+◌, ◌<◌, ◌^◌, Bool, true, false, List, [], ◌∷◌, ◌++◌, length, map, take, set, refl, sym, subst, ap, ◌∙◌, arith, append_assoc, append-nil}
+use Rattle.std.specs.Prelude.{◌&&◌, ◌==◌}
+use Rattle.std.proofs.lemmas.Bool.Decides.{nat_tests}
+use Rattle.std.proofs.lemmas.List.{map-append, take_more_set}
 use Rattle.theta_laws.specs.Entries.{hash_key, hash_step}
-use Rattle.theta_table.specs.HashTable.{MapTable}
+use Rattle.theta_table.specs.HashTable.{MapTable, after_hashes}
 use Rattle.theta_laws.specs.Insertion.{after_upsert}
 use Rattle.theta_family.specs.Updatable.{Updatable}
 use Rattle.lines.specs.Lines.{lines_of, lines_after, Lacks}
 use Rattle.lines.specs.Keys.{line_hash}
 use Rattle.line_sketches.specs.Keys.{Held, held, with_line, with_lines}
-use Rattle.line_sketches.specs.Taking.{Takes, Leaves}
+use Rattle.line_sketches.specs.Taking.{Takes, Leaves, AreHashesOfLines}
 use Rattle.lines.proofs.Texts.{lines_after-line, lines_after-lacking, lines_whole}
 use Rattle.lines.specs.declared.key.Key.{Key}
 
+and_true : (b : Bool) → (b && (0 == 0)) ≡ b
+and_true true = refl
+and_true false = refl
+
+and_false : (b : Bool) (n : ℕ) → (b && (suc n == 0)) ≡ false
+and_false true n = grind (arith, nat_tests)
+and_false false n = refl
+
 module _ (key : Key) where
+  -- a line more is hashed
+  pub hashed_more : (text hashes rest line others : List ℕ) (hash : ℕ) → AreHashesOfLines key text hashes rest → rest ≡ line ++ 10 ∷ others → Lacks 10 line → hash ≡ line_hash key line → AreHashesOfLines key text (hashes ++ hash ∷ []) others
+  hashed_more text hashes rest line others hash before is lacks hashed = (
+    before.0 ++ line ∷ [],
+    ap (λ hs. hs ++ hash ∷ []) before.1 ∙ ap (λ (h : ℕ). map (line_hash key) before.0 ++ h ∷ []) hashed ∙ sym (map-append (line_hash key) before.0 (line ∷ [])),
+    λ more.
+        before.2 more ∙ ap (λ bs. before.0 ++ lines_after [] (bs ++ more)) is
+        ∙ ap (λ bs. before.0 ++ lines_after [] bs) (append_assoc line (10 ∷ others) more)
+        ∙ ap (λ ls. before.0 ++ ls) (lines_after-line [] line (others ++ more) lacks)
+        ∙ sym (append_assoc before.0 (line ∷ []) (lines_after [] (others ++ more))),
+  )
+
+  pub hashed_next : (text hashes rest line others : List ℕ) (count index hash : ℕ) → count ≡ index → index < length hashes → AreHashesOfLines key text (take count hashes) rest → rest ≡ line ++ 10 ∷ others → Lacks 10 line → hash ≡ line_hash key line →
+      AreHashesOfLines key text (take (count + 1) (set hashes index hash)) others
+  hashed_next text hashes rest line others count index hash same lt before is lacks hashed =
+      let now : take (count + 1) (set hashes index hash) ≡ take count hashes ++ hash ∷ [] = ap (λ (n : ℕ). take (n + 1) (set hashes index hash)) same ∙ take_more_set hashes index hash lt ∙ ap (λ (n : ℕ). take n hashes ++ hash ∷ []) (sym same) in
+      subst (λ hs. AreHashesOfLines key text hs others) (sym now) (hashed_more text (take count hashes) rest line others hash before is lacks hashed)
+
   -- a sketch takes in a line
   pub held_line : (s t : Updatable ℕ) (hash : ℕ) (line : List ℕ) → hash ≡ line_hash key line → t.map ≡ record s.map { kept = after_upsert hash_key (2 ^ s.map.lg_nom) hash (hash_step hash) s.map.kept } → t.empty ≡ false →
       held t ≡ with_line key (held s) line
@@ -20,13 +49,29 @@ module _ (key : Key) where
       let whole : t.map ≡ made (line_hash key line) = map_is ∙ ap made is in
       λ i. record { map = whole i; empty = empty_is i }
 
-  -- a line more leaves less
-  pub leaves_line : (a b c : Held) (text rest line others : List ℕ) → Leaves key a text b rest → rest ≡ line ++ 10 ∷ others → Lacks 10 line → c ≡ with_line key b line → Leaves key a text c others
-  leaves_line a b c text rest line others before is lacks taken = λ more.
-      before more ∙ ap (λ bs. with_lines key b (lines_after [] (bs ++ more))) is
-      ∙ ap (λ bs. with_lines key b (lines_after [] bs)) (append_assoc line (10 ∷ others) more)
-      ∙ ap (with_lines key b) (lines_after-line [] line (others ++ more) lacks)
-      ∙ ap (λ s. with_lines key s (lines_after [] (others ++ more))) (sym taken)
+  -- it takes in lines, by their hashes
+  with_lines-hashes : (lines : List (List ℕ)) (s : Held) →
+      with_lines key s lines ≡ record { map = after_hashes (map (line_hash key) lines) s.map; empty = s.empty && (length (map (line_hash key) lines) == 0) }
+  with_lines-hashes [] s = λ i. record { map = s.map; empty = sym (and_true s.empty) i }
+  with_lines-hashes (line ∷ lines) s = with_lines-hashes lines (with_line key s line) ∙ (λ i. record { map = after_hashes (map (line_hash key) (line ∷ lines)) s.map; empty = sym (and_false s.empty (length (map (line_hash key) lines))) i })
+
+  pub held_lines : (s t : Updatable ℕ) (hashes : List ℕ) (lines : List (List ℕ)) → hashes ≡ map (line_hash key) lines → t.map ≡ after_hashes hashes s.map → t.empty ≡ (s.empty && (length hashes == 0)) →
+      held t ≡ with_lines key (held s) lines
+  held_lines s t hashes lines is map_is empty_is =
+      let whole : t.map ≡ after_hashes (map (line_hash key) lines) s.map = map_is ∙ ap (λ hs. after_hashes hs s.map) is in
+      let none : t.empty ≡ (s.empty && (length (map (line_hash key) lines) == 0)) = empty_is ∙ ap (λ hs. s.empty && (length hs == 0)) is in
+      (λ i. record { map = whole i; empty = none i }) ∙ sym (with_lines-hashes lines (held s))
+
+  with_lines-append : (lines others : List (List ℕ)) (s : Held) → with_lines key s (lines ++ others) ≡ with_lines key (with_lines key s lines) others
+  with_lines-append [] others s = refl
+  with_lines-append (line ∷ lines) others s = with_lines-append lines others (with_line key s line)
+
+  -- lines more leave less
+  pub leaves_lines : (a : Held) (s t : Updatable ℕ) (text rest others hashes : List ℕ) → Leaves key a text (held s) rest → AreHashesOfLines key rest hashes others →
+      t.map ≡ after_hashes hashes s.map → t.empty ≡ (s.empty && (length hashes == 0)) → Leaves key a text (held t) others
+  leaves_lines a s t text rest others hashes before are map_is empty_is = λ more.
+      before more ∙ ap (with_lines key (held s)) (are.2 more) ∙ with_lines-append are.0 (lines_after [] (others ++ more)) (held s)
+      ∙ ap (λ u. with_lines key u (lines_after [] (others ++ more))) (sym (held_lines s t hashes are.0 are.1 map_is empty_is))
 
   -- a block without an LF
   pub takes_lacking : (a : Held) (front block : List ℕ) → Lacks 10 block → Takes key a front block a (front ++ block)

@@ -1,5 +1,6 @@
 -- What is taken in of a text that comes in pieces.
-use Rattle.std.specs.Prelude.{ℕ, ◌≡◌, List, [], ◌++◌}
+use Rattle.std.specs.Prelude.{ℕ, ◌≡◌, List, [], ◌++◌, map}
+use Rattle.lines.specs.Keys.{line_hash}
 use Rattle.lines.specs.Lines.{lines_after}
 use Rattle.lines.specs.declared.key.Key.{Key}
 use Rattle.line_sketches.specs.Keys.{Held, with_lines}
@@ -11,3 +12,7 @@ Takes key old front piece new left = (more : List ℕ) → with_lines key old (l
 -- The same, where what is left of the piece is not taken in yet.
 abbrev pub Leaves : Key → (old : Held) (piece : List ℕ) (new : Held) (left : List ℕ) → Type 0
 Leaves key old piece new left = (more : List ℕ) → with_lines key old (lines_after [] (piece ++ more)) ≡ with_lines key new (lines_after [] (left ++ more))
+
+-- The hashes of the lines at the head of a text, behind which `rest` stands: whatever comes behind the text, its lines are these and those of the rest and what comes.
+abbrev pub AreHashesOfLines : Key → (text hashes rest : List ℕ) → Type 0
+AreHashesOfLines key text hashes rest = (lines : List (List ℕ)) × (hashes ≡ map (line_hash key) lines) × ((more : List ℕ) → lines_after [] (text ++ more) ≡ lines ++ lines_after [] (rest ++ more))

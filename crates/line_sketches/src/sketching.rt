@@ -1,5 +1,5 @@
 //! Sketches of the lines that a reader has.
-ghost use Rattle.std.specs.Prelude.{◌≡◌, ◌<◌, ℕ, List, [], length, IfOk, IfErr, OnOk, IfSome, None, true};
+ghost use Rattle.std.specs.Prelude.{◌≡◌, ◌+◌, ◌<◌, ◌≤◌, ℕ, List, [], length, take, IfOk, IfErr, OnOk, IfSome, None, true};
 ghost use Rattle.sketch_base.specs.declared.seed.TheConstants.{DEFAULT_UPDATE_SEED};
 ghost use Rattle.theta_laws.specs.Refusal.{Refuses};
 ghost use Rattle.theta_table.specs.HashTable.{table_refusal};
@@ -8,7 +8,7 @@ ghost use Rattle.lines.specs.Lines.{lines_of, lines_after, Lacks};
 ghost use Rattle.lines.specs.Open.{IsOpen};
 ghost use Rattle.lines.specs.declared.key.Key.{Key};
 ghost use Rattle.line_sketches.specs.Keys.{held, new_held, with_lines, value_of_lines, ordered_sketch};
-ghost use Rattle.line_sketches.specs.Taking.{Takes, Leaves};
+ghost use Rattle.line_sketches.specs.Taking.{Takes, Leaves, AreHashesOfLines};
 ghost use Rattle.line_sketches.specs.Refusals.{RefusesRead, IsLasting};
 
 use lines::{Key, OpenLine, cut_line, line_hash};
@@ -63,6 +63,30 @@ pub fn new_sketch<A: Allocator + Drop>(alloc: A, lg_k: u8) -> Result<ThetaSketch
     ThetaSketchBuilder::default().lg_k(lg_k).build(alloc)
 }
 
+/// How many lines are hashed before their hashes are taken in together.
+const LINES_AT_ONCE: usize = 256;
+
+/// Hashes the first lines of a text that end by an LF, in their order, into `hashes`: all, or as many as have a place there.
+/// Tells how many they are, and what stands after the last of them.
+fn hash_lines<'a>(key: Key, text: &'a [u8], hashes: &mut [u64]) -> (usize, &'a [u8])
+    ensures few { result.0 ≤ length hashes.old }
+    ensures lines { AreHashesOfLines key text.now (take result.0 hashes.new) result.1.now }
+    ensures all { result.0 < length hashes.old → Lacks 10 result.1.now }
+    ensures shorter { length result.1.now + result.0 ≤ length text.now }
+{
+    let mut rest = text;
+    let mut count = 0usize;
+    'hash_each: for hash in hashes.iter_mut() {
+        let Some((line, others)) = cut_line(rest) else {
+            return (count, rest);
+        };
+        *hash = line_hash(key, line);
+        rest = others;
+        count += 1;
+    }
+    (count, rest)
+}
+
 /// Takes in the lines of a text that end by an LF, and tells what stands after the last of them, and how many they were.
 fn take_lines<'a, A: Allocator + Clone>(
     sketch: &mut ThetaSketch<A>,
@@ -73,14 +97,18 @@ fn take_lines<'a, A: Allocator + Clone>(
     ensures leaves { IfOk result (λ x. Leaves key (held sketch.old) text.now (held sketch.new) x.0.now) }
     ensures refused { Refuses result None true }
 {
+    let mut hashes = [0u64; LINES_AT_ONCE];
     let mut rest = text;
     let mut count = 0u64;
-    while let Some((line, others)) = cut_line(rest) {
-        sketch.update_hash(line_hash(key, line))?;
-        rest = others;
-        count = count.wrapping_add(1);
+    'take_some: loop {
+        let (lines, behind) = hash_lines(key, rest, &mut hashes);
+        sketch.update_hashes(&hashes[..lines])?;
+        rest = behind;
+        count = count.wrapping_add(lines as u64);
+        if lines < LINES_AT_ONCE {
+            return Ok((rest, count));
+        }
     }
-    Ok((rest, count))
 }
 
 /// Takes in a block that continues an open line, which then is what stands after the block's last LF. Tells how many lines
@@ -122,7 +150,8 @@ fn take_last<A: Allocator + Clone>(
 
 /// Takes in all lines that a reader has left, block by block, each by its key. A read that was interrupted is made again.
 ///
-/// Where it fails, lines that ended before are taken in, and nothing of the line that was open. Refused with `OutOfMemory`
+/// Where a source fails, the lines that ended before are taken in, and nothing of the line that was open; where memory is
+/// refused, some first part of the lines that ended. Refused with `OutOfMemory`
 /// alone; a source that failed tells its error, which is never that a read was interrupted.
 pub fn add_lines<A: Allocator + Clone, R: Read, W: Watch>(
     sketch: &mut ThetaSketch<A>,

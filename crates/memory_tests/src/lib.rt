@@ -3,6 +3,8 @@
 #![tactic(auto)]
 
 #[cfg(test)]
+mod many_requests;
+#[cfg(test)]
 mod operator_requests;
 #[cfg(test)]
 mod reading_requests;

@@ -70,6 +70,32 @@ pub fn value_between(
     Ok((empty, theta, numbers(alloc, first, last)?))
 }
 
+/// Hashes in no order: so many, of which `distinct` are different. The first of them is 0, and the second is more than any hash.
+pub fn mixed_hashes(alloc: Global, count: u64, distinct: u64) -> Result<Vec<u64>, AllocError> {
+    let mut hashes = Vec::new(alloc);
+    for number in 0..count {
+        let which = number % distinct.max(1);
+        let spread = which.wrapping_mul(11400714819323198485) >> 1;
+        hashes.push(if which == 1 { u64::MAX } else { spread })?;
+    }
+    Ok(hashes)
+}
+
+/// The emptiness, theta and hashes of a sketch that takes updates.
+pub fn shown_of<A: Allocator>(alloc: Global, sketch: &ThetaSketch<A>) -> Result<Value, AllocError> {
+    let hashes = ascending(alloc, sketch.iter())?;
+    Ok((sketch.is_empty(), sketch.theta64(), hashes))
+}
+
+/// What a sketch of 2^`lg_k` nominal entries is after hashes, with one call for each.
+pub fn after_each(alloc: Global, lg_k: u8, hashes: &[u64]) -> Result<Value, Error> {
+    let mut sketch = ThetaSketchBuilder::default().lg_k(lg_k).build(alloc)?;
+    for hash in hashes {
+        sketch.update_hash(*hash)?;
+    }
+    Ok(shown_of(alloc, &sketch)?)
+}
+
 /// The emptiness, theta and hashes of a compact sketch.
 pub fn value_of<A: Allocator>(
     alloc: Global,

@@ -13,6 +13,8 @@ mod hashes;
 #[cfg(test)]
 mod intersections;
 #[cfg(test)]
+mod many_hashes;
+#[cfg(test)]
 mod mapped;
 #[cfg(test)]
 mod plain;

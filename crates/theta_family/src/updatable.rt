@@ -1,5 +1,5 @@
 //! The state of a sketch that takes updates, of either family.
-ghost use Rattle.std.specs.Prelude.{◌≡◌, ◌≤◌, ◌&&◌, ◌^◌, true, false, not, nat_lt, None, length, IfOk, OnOk, OnErr};
+ghost use Rattle.std.specs.Prelude.{◌≡◌, ◌≤◌, ◌==◌, ◌&&◌, ◌^◌, true, false, not, nat_lt, None, length, IfOk, OnOk, OnErr};
 ghost use Rattle.std.specs.List.{concat};
 ghost use Rattle.std.specs.Option.{ForSome};
 ghost use Rattle.sketch_base.specs.Seed.{hash_of};
@@ -8,8 +8,8 @@ ghost use Rattle.theta_laws.specs.Cuts.{cut};
 ghost use Rattle.theta_laws.specs.Entries.{hash_key, hash_step, ClonesEqual};
 ghost use Rattle.theta_laws.specs.Refusal.{Refuses};
 ghost use Rattle.theta_laws.specs.Maps.{IsLent};
-ghost use Rattle.theta_table.specs.HashTable.{empty_table, after_reset, table_refusal};
-ghost use Rattle.theta_laws.specs.Insertion.{after_upsert, upsert_refusal, upsert_allocates};
+ghost use Rattle.theta_table.specs.HashTable.{empty_table, after_reset, after_hashes, table_refusal};
+ghost use Rattle.theta_laws.specs.Insertion.{after_upsert, upsert_refusal, upsert_allocates, HoldsOfFirstPart};
 ghost use Rattle.theta_family.specs.Updatable.{IsUpdatable, sketch_value, sketch_shows};
 ghost use Rattle.theta_laws.specs.Values.{theta_of, count_of, fraction_of};
 ghost use Rattle.theta_laws.specs.Shown.{IsShown};
@@ -233,6 +233,24 @@ impl<A: Allocator + Clone> UpdatableState<ThetaEntry, A> {
     {
         self.table.try_insert_hash(hash)?;
         self.empty = false;
+        Ok(())
+    }
+
+    /// Takes in hashes in their order, each as `insert_hash` does, with the slots of up to 256 of them looked at side by side. The
+    /// state is nonempty then, but where it was empty and there is no hash.
+    ///
+    /// Refused with `OutOfMemory` alone; then some first part of the hashes has been taken in.
+    pub fn insert_hashes(&mut self, hashes: &[u64]) -> Result<(), Error>
+        ensures after { OnOk result (self.new.map ≡ after_hashes hashes.now self.old.map) }
+        ensures empty { OnOk result (self.new.empty ≡ (self.old.empty && length hashes.now == 0)) }
+        ensures err { OnErr result (HoldsOfFirstPart hashes.now (λ front. (self.new.map ≡ after_hashes front self.old.map) × (self.new.empty ≡ (self.old.empty && length front == 0)))) }
+        ensures refused { Refuses result None true }
+    {
+        let Some((first, others)) = hashes.split_first() else {
+            return Ok(());
+        };
+        self.insert_hash(*first)?;
+        self.table.insert_hashes(others)?;
         Ok(())
     }
 }

@@ -7,11 +7,11 @@ ghost use Rattle.theta_laws.specs.Cuts.{Retained, cut, IsRetained, none_below};
 ghost use Rattle.theta_laws.specs.Commuting.{Commutes, Associates, IsIdempotent};
 ghost use Rattle.theta_laws.specs.KeysOfValues.{keys_of, IsKeyOf, IsBelowTheta};
 ghost use Rattle.theta_laws.specs.Folds.{folded, folded_of, has_mark, Fold, Value, fold_key, fold_merges, unmarked, unmarked_value, never};
-ghost use Rattle.theta_laws.specs.Entries.{hash_key, first_hash, KeepsKey};
+ghost use Rattle.theta_laws.specs.Entries.{hash_key, hash_step, first_hash, KeepsKey};
 ghost use Rattle.theta_laws.specs.Operators.{meet_next, unite, meet, minus, lacking, least, all_have, joined_all, nonempties, joined, common, ComesToNothing};
 ghost use Rattle.theta_laws.specs.Values.{keys, IsAscendingValue, Sketch, Empty, NonEmpty};
 ghost use Rattle.theta_laws.specs.Lawful.{IsLawful, IsWithin};
-ghost use Rattle.theta_laws.specs.Insertion.{whole_upsert, after_upsert, upsert_refusal};
+ghost use Rattle.theta_laws.specs.Insertion.{whole_upsert, after_upsert, after_upserts, upsert_refusal, IsRedundant, LeavesOut};
 ghost use Rattle.theta_laws.specs.declared.leaf.LeafStep.{LeafStep};
 ghost use Rattle.theta_laws.specs.declared.leaf.LeafStep.TheVariants.{Trim};
 ghost use Rattle.theta_laws.specs.Leaf.{leaf, leaf_from, whole, hash_step_of, added, kmin, is_updated, KeepsHashes};
@@ -38,6 +38,11 @@ pub fn lawful_for_less<X>()
 /// An insertion keeps what is retained within the whole map, which it changes as if there were no theta.
 pub fn upsert_stays_within<X>()
     ensures { (key : X → ℕ) (k start h : ℕ) (step : Step X) (v : Retained X) (whole : List X) → 0 < h → ((x : X) → key x ≡ h → key (step.writes x) ≡ h) → ((x : X) → step.makes ≡ Some x → key x ≡ h) → IsWithin key k start v whole → IsWithin key k start (after_upsert key k h step v) (whole_upsert key h step whole) }
+{}
+
+/// Of hashes that are inserted in turn those may be left out that were screened or retained at the start: what is then retained is the same.
+pub fn redundant_hashes_left_out()
+    ensures { (k : ℕ) (v : Retained ℕ) (hashes left : List ℕ) → IsRetained hash_key v → LeavesOut (IsRedundant hash_key v) hashes left → after_upserts hash_key k hash_step hashes v ≡ after_upserts hash_key k hash_step left v }
 {}
 
 /// After any steps a leaf retains all of the whole map of what was added below a lawful theta.

@@ -6,9 +6,9 @@ ghost use Rattle.theta_compact.specs.CompactState.{IsAnswer};
 ghost use Rattle.theta_laws.specs.Cuts.{cut};
 ghost use Rattle.theta_laws.specs.Entries.{hash_key, hash_step};
 ghost use Rattle.theta_laws.specs.Refusal.{Refuses};
-ghost use Rattle.theta_table.specs.HashTable.{IsTable, empty_table, after_reset, table_refusal};
+ghost use Rattle.theta_table.specs.HashTable.{IsTable, empty_table, after_reset, after_hashes, table_refusal};
 ghost use Rattle.theta_laws.specs.Maps.{IsLent};
-ghost use Rattle.theta_laws.specs.Insertion.{after_upsert, upsert_allocates};
+ghost use Rattle.theta_laws.specs.Insertion.{after_upsert, upsert_allocates, HoldsOfFirstPart};
 ghost use Rattle.theta_family.specs.Updatable.{IsUpdatable, sketch_value, sketch_shows};
 ghost use Rattle.theta_laws.specs.Values.{theta_of, count_of, fraction_of};
 ghost use Rattle.theta_laws.specs.Shown.{IsShown, shown_value};
@@ -174,6 +174,30 @@ impl<A: Allocator + Clone> ThetaSketch<A> {
         ensures refused { Refuses result None (upsert_allocates hash_key hash (hash_step hash) self.old.map.kept) }
     {
         self.state.insert_hash(hash)
+    }
+
+    /// Takes in hashes in their order, each as `update_hash` does. The sketch is nonempty then, but where it was empty and there is
+    /// no hash.
+    ///
+    /// Where a sketch is large this is several times as fast as one call for each, since the memory of up to 256 hashes is
+    /// waited for together. So hand over a few hundred at a time.
+    ///
+    /// Refused with `OutOfMemory` alone; then some first part of the hashes has been taken in.
+    ///
+    /// ```
+    /// use theta_sketches::ThetaSketchBuilder;
+    ///
+    /// let mut sketch = ThetaSketchBuilder::default().build(rt.alloc())?;
+    /// sketch.update_hashes(&[7, 5, 7])?;
+    /// assert_eq!(sketch.num_retained(), 2);
+    /// ```
+    pub fn update_hashes(&mut self, hashes: &[u64]) -> Result<(), Error>
+        ensures after { OnOk result (self.new.map ≡ after_hashes hashes.now self.old.map) }
+        ensures empty { OnOk result (self.new.empty ≡ (self.old.empty && length hashes.now == 0)) }
+        ensures err { OnErr result (HoldsOfFirstPart hashes.now (λ front. (self.new.map ≡ after_hashes front self.old.map) × (self.new.empty ≡ (self.old.empty && length front == 0)))) }
+        ensures refused { Refuses result None true }
+    {
+        self.state.insert_hashes(hashes)
     }
 
     /// Where more than k hashes are retained, lowers theta to the (k+1)th smallest and keeps the k below it.

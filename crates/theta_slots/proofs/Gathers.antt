@@ -1,10 +1,10 @@
 -- Entries below a theta that are gathered in front of other slots.
-use Rattle.std.proofs.Common.{◌≡◌, ◌⊎◌, ℕ, zero, suc, ◌+◌, ◌<◌, ◌≤◌, Bool, true, false, cond, ltb, List, [], ◌∷◌, ◌++◌, length, map, get_or, set, take, drop, Option, Some, None, inl, inr, refl, sym, ap, subst, ◌∙◌, arith}
-use Rattle.std.specs.List.{filter, count_by}
+use Rattle.std.proofs.Common.{◌≡◌, ◌⊎◌, ℕ, zero, suc, ◌+◌, ◌<◌, Bool, true, false, cond, ltb, List, [], ◌∷◌, ◌++◌, length, map, get_or, set, take, drop, Option, Some, None, inl, inr, refl, sym, ap, subst, ◌∙◌, arith}
+use Rattle.std.specs.List.{count_by}
 use Rattle.std.proofs.lemmas.List.{take-set, get_or-drop, map-append, append-nil}
 use Rattle.std.proofs.Math.Seq.{take-suc-set}
 use Rattle.std.proofs.lemmas.List.Elements.{filter-append}
-use Rattle.theta_laws.specs.Maps.{below, map_of, entry_at}
+use Rattle.theta_laws.specs.Maps.{IsApart, below, map_of, entry_at}
 use Rattle.theta_laws.proofs.cuts.Cuts.{length-below}
 use Rattle.theta_laws.proofs.cuts.WithinWholeMaps.{filter-filter}
 use Rattle.theta_laws.proofs.maps.Ascending.{ascending-filter}
@@ -75,3 +75,24 @@ module _ {X : Type 0} (key : X → ℕ) where
       again : (b : Bool) (o : Option X) → cond b (cond b o None) None ≡ cond b o None
       again true o = refl
       again false o = refl
+
+  -- the map of what is below theta
+  pub map_of-below : (xs : List X) (theta : ℕ) → map_of key (below key xs theta) ≡ below key (map_of key xs) theta
+  map_of-below xs theta =
+      same_map key _ _ (ascending-map_of key (below key xs theta)) (ascending-filter key _ _ (ascending-map_of key xs))
+      (λ q. entry_at-map_of key (below key xs theta) q
+      ∙ entry_at-below key xs theta q
+      ∙ ap (λ o. cond (ltb q theta) o None) (sym (entry_at-map_of key xs q))
+      ∙ sym (entry_at-below key (map_of key xs) theta q))
+
+  -- hashes that differ differ below theta
+  pub apart-below : (xs : List X) (theta : ℕ) → IsApart key xs → IsApart key (below key xs theta)
+  apart-below [] theta each = each
+  apart-below (x ∷ xs) theta each =
+      let rest = apart-below xs theta each.1 in
+      let none : entry_at key (below key xs theta) (key x) ≡ None = entry_at-below key xs theta (key x) ∙ either_none (ltb (key x) theta) (entry_at key xs (key x)) each.0 in
+      elim (ltb (key x) theta) as (λ b. IsApart key (cond b (x ∷ below key xs theta) (below key xs theta))) [ true ↦ (none, rest) | false ↦ rest ]
+    where
+      either_none : (b : Bool) (o : Option X) → o ≡ None → cond b o None ≡ None
+      either_none true o is = is
+      either_none false o is = refl

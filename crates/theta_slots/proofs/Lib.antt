@@ -5,5 +5,7 @@ pub mod Held
 pub mod Ranks
 pub mod PathEnds
 pub mod Relays
+pub mod Settled
 pub mod Windows
+pub mod Lookups
 pub mod Gathers

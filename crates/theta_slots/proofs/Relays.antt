@@ -169,7 +169,7 @@ past : (a b c d e f : ℕ) → a ≡ d + b → c ≡ d + e → b ≡ f + e → a
 past a b c d e f one two three = omega (arith, one, two, three)
 
 module _ {X : Type 0} where
-  count_took : (p : X → Bool) (slots : List (Option X)) (at : ℕ) → count_by p (filled (set slots at None)) + count_by p (filled (slot slots at ∷ [])) ≡ count_by p (filled slots)
+  pub count_took : (p : X → Bool) (slots : List (Option X)) (at : ℕ) → count_by p (filled (set slots at None)) + count_by p (filled (slot slots at ∷ [])) ≡ count_by p (filled slots)
   count_took p [] at = refl
   count_took p (None ∷ slots) zero = let e : count_by p (filled slots) + 0 ≡ count_by p (filled slots) = omega arith in e
   count_took p (Some x ∷ slots) zero = let e : count_by p (filled slots) + count_by p (x ∷ []) ≡ count_by p (x ∷ filled slots) = omega (arith, count-cons p x (filled slots)) in e
@@ -181,7 +181,7 @@ module _ {X : Type 0} where
   count_lifted : (p : X → Bool) (slots : List (Option X)) (at : ℕ) → count_by p (filled (set slots at None ++ slot slots at ∷ [])) ≡ count_by p (filled slots)
   count_lifted p slots at = ap (count_by p) (filled-append (set slots at None) (slot slots at ∷ [])) ∙ count-append p (filled (set slots at None)) (filled (slot slots at ∷ [])) ∙ count_took p slots at
 
-  length_took : (slots : List (Option X)) (at : ℕ) → length (filled (set slots at None)) + length (filled (slot slots at ∷ [])) ≡ length (filled slots)
+  pub length_took : (slots : List (Option X)) (at : ℕ) → length (filled (set slots at None)) + length (filled (slot slots at ∷ [])) ≡ length (filled slots)
   length_took [] at = refl
   length_took (None ∷ slots) zero = let e : length (filled slots) + 0 ≡ length (filled slots) = omega arith in e
   length_took (Some x ∷ slots) zero = let e : length (filled slots) + 1 ≡ suc (length (filled slots)) = omega arith in e
@@ -195,7 +195,7 @@ module _ {X : Type 0} where
   length_lifted slots at = ap length (filled-append (set slots at None) (slot slots at ∷ [])) ∙ length-append (filled (set slots at None)) (filled (slot slots at ∷ [])) ∙ length_took slots at
 
 module _ {X : Type 0} (key : X → ℕ) where
-  one_here : (x : X) (q : ℕ) → eqb (key x) q ≡ true → count_by (λ y. eqb (key y) q) (x ∷ []) ≡ 1
+  pub one_here : (x : X) (q : ℕ) → eqb (key x) q ≡ true → count_by (λ y. eqb (key y) q) (x ∷ []) ≡ 1
   one_here x q is = rw is refl
 
   none_here : (x : X) (q : ℕ) → eqb (key x) q ≡ false → count_by (λ y. eqb (key y) q) (x ∷ []) ≡ 0
@@ -218,7 +218,7 @@ module _ {X : Type 0} (key : X → ℕ) where
   here_last xs x q same none = entry_at-append key xs (x ∷ []) q ∙ rw (none, same) refl
 
   -- of hashes that are there once, none is found elsewhere when its entry is taken out and carried behind the others
-  found_took : (slots : List (Option X)) (at q : ℕ) → count_by (λ x. eqb (key x) q) (filled slots) ≤ 1 → entry_at key (filled (set slots at None) ++ filled (slot slots at ∷ [])) q ≡ entry_at key (filled slots) q
+  pub found_took : (slots : List (Option X)) (at q : ℕ) → count_by (λ x. eqb (key x) q) (filled slots) ≤ 1 → entry_at key (filled (set slots at None) ++ filled (slot slots at ∷ [])) q ≡ entry_at key (filled slots) q
   found_took [] at q once = refl
   found_took (None ∷ slots) zero q once = ap (λ xs. entry_at key xs q) (append-nil (filled slots))
   found_took (Some x ∷ slots) zero q once =
@@ -235,7 +235,7 @@ module _ {X : Type 0} (key : X → ℕ) where
   found_lifted : (slots : List (Option X)) (at q : ℕ) → count_by (λ x. eqb (key x) q) (filled slots) ≤ 1 → entry_at key (filled (set slots at None ++ slot slots at ∷ [])) q ≡ entry_at key (filled slots) q
   found_lifted slots at q once = ap (λ xs. entry_at key xs q) (filled-append (set slots at None) (slot slots at ∷ [])) ∙ found_took slots at q once
 
-  counted_there : (slots : List (Option X)) (p q : ℕ) (x : X) → slot slots p ≡ Some x → key x ≡ q → 1 ≤ times_in key q slots
+  pub counted_there : (slots : List (Option X)) (p q : ℕ) (x : X) → slot slots p ≡ Some x → key x ≡ q → 1 ≤ times_in key q slots
   counted_there [] p q x held same = absurd (cc)
   counted_there (None ∷ slots) zero q x held same = absurd (cc)
   counted_there (Some y ∷ slots) zero q x held same =
@@ -244,7 +244,7 @@ module _ {X : Type 0} (key : X → ℕ) where
   counted_there (None ∷ slots) (suc p) q x held same = counted_there slots p q x held same
   counted_there (Some y ∷ slots) (suc p) q x held same = omega (arith, count-cons (λ z. eqb (key z) q) y (filled slots), counted_there slots p q x held same)
 
-  count_put : (p : X → Bool) (slots : List (Option X)) (at : ℕ) (x : X) → at < length slots → slot slots at ≡ None → count_by p (filled (set slots at (Some x))) ≡ count_by p (x ∷ []) + count_by p (filled slots)
+  pub count_put : (p : X → Bool) (slots : List (Option X)) (at : ℕ) (x : X) → at < length slots → slot slots at ≡ None → count_by p (filled (set slots at (Some x))) ≡ count_by p (x ∷ []) + count_by p (filled slots)
   count_put p [] at x lt free = absurd (omega (arith, lt))
   count_put p (None ∷ slots) zero x lt free = count-cons p x (filled slots)
   count_put p (Some y ∷ slots) zero x lt free = absurd (cc)
@@ -265,7 +265,7 @@ module _ {X : Type 0} (key : X → ℕ) where
         | false ↦ λ e n. omega (arith, parts, none_here x q e, absent_counted xs q n)
       ]) refl none
 
-  apart_once : (xs : List X) (q : ℕ) → IsApart key xs → count_by (λ x. eqb (key x) q) xs ≤ 1
+  pub apart_once : (xs : List X) (q : ℕ) → IsApart key xs → count_by (λ x. eqb (key x) q) xs ≤ 1
   apart_once [] q each = omega arith
   apart_once (x ∷ xs) q each =
       let parts = count-cons (λ y. eqb (key y) q) x xs in
@@ -282,14 +282,14 @@ module _ {X : Type 0} where
   bare : (slots : List (Option X)) → filled (slots ++ None ∷ []) ≡ filled slots
   bare slots = filled-append slots (None ∷ []) ∙ append-nil (filled slots)
 
-  stays_free : (slots : List (Option X)) (at p : ℕ) → slot slots p ≡ None → slot (set slots at None) p ≡ None
+  pub stays_free : (slots : List (Option X)) (at p : ℕ) → slot slots p ≡ None → slot (set slots at None) p ≡ None
   stays_free [] at p free = free
   stays_free (o ∷ slots) zero zero free = refl
   stays_free (o ∷ slots) zero (suc p) free = free
   stays_free (o ∷ slots) (suc at) zero free = free
   stays_free (o ∷ slots) (suc at) (suc p) free = stays_free slots at p free
 
-  made_free : (slots : List (Option X)) (at : ℕ) → slot (set slots at None) at ≡ None
+  pub made_free : (slots : List (Option X)) (at : ℕ) → slot (set slots at None) at ≡ None
   made_free [] at = refl
   made_free (o ∷ slots) zero = refl
   made_free (o ∷ slots) (suc at) = made_free slots at

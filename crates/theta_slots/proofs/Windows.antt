@@ -1,11 +1,13 @@
 -- Hashes of a window, and ranks among them.
-use Rattle.std.proofs.Common.{◌≡◌, ℕ, suc, ◌+◌, ◌-◌, ◌<◌, ◌≤◌, true, false, not, cond, eqb, ltb, ◌&&◌, IsSome, List, [], ◌∷◌, ◌++◌, length, Some, None, inl, inr, refl, ap, ◌∙◌, arith}
+use Rattle.std.proofs.Common.{◌≡◌, ℕ, suc, ◌+◌, ◌-◌, ◌<◌, ◌≤◌, true, false, not, cond, eqb, ltb, ◌&&◌, IsSome, List, [], ◌∷◌, ◌++◌, length, map, Option, Some, None, inl, inr, refl, ap, ◌∙◌, arith}
 use Rattle.std.specs.List.{AllByRecursion}
+use Rattle.std.specs.Option.{option_map}
 use Rattle.std.proofs.lemmas.Bool.{cases_lt}
 use Rattle.std.proofs.lemmas.Bool.Decides.{nat_tests}
 use Rattle.std.proofs.lemmas.List.Sums.{count_by-le-length}
 use Rattle.theta_laws.specs.Entries.{hash_key}
 use Rattle.theta_laws.specs.Maps.{IsApart, rank, entry_at}
+use Rattle.theta_slots.specs.Layout.{filled}
 use Rattle.theta_slots.specs.Rank.{HasRank, IsWindow, within}
 use Rattle.theta_slots.proofs.Moves.{count-append, count-cons}
 
@@ -128,3 +130,13 @@ rank_none (x ∷ xs) = let is : ltb x 0 ≡ false = grind (arith, nat_tests) in 
 pub within_all : (xs : List ℕ) (n : ℕ) → AllByRecursion (λ h. h < suc n) xs → within 0 n xs ≡ xs
 within_all [] n all = refl
 within_all (x ∷ xs) n all = first_kept 0 n x xs (omega arith) (omega (arith, all.0)) ∙ ap (λ ys. x ∷ ys) (within_all xs n all.1)
+
+-- what a slot holds that is from low to high
+module _ {X : Type 0} (key : X → ℕ) (low high : ℕ) where
+  pub held_kept : (o : Option X) → (length (within low high (map key (filled (o ∷ [])))) ≡ 0 → ⊥) → filled (option_map key o ∷ []) ≡ within low high (map key (filled (o ∷ [])))
+  held_kept None some = refl
+  held_kept (Some x) some = elim (not (ltb (key x) low) && not (ltb high (key x))) as (λ b. (length (cond b (key x ∷ []) []) ≡ 0 → ⊥) → key x ∷ [] ≡ cond b (key x ∷ []) []) [ true ↦ λ n. refl | false ↦ λ n. absurd (n refl) ] some
+
+pub none_kept : {Y : Type 0} (ys : List Y) → length ys ≡ 0 → [] ≡ ys
+none_kept [] none = refl
+none_kept (y ∷ ys) none = absurd (omega (arith, none))

@@ -7,6 +7,7 @@ ghost use Rattle.theta_slots.specs.Layout.{filled, slot, IsOnPath, IsLaidOut};
 
 use crate::count::Count;
 use crate::entry::SlotEntry;
+use crate::rounds::settle;
 use crate::slots::{free_slots, hash_in, spread};
 use std::alloc::{AllocError, Allocator};
 use std::mem;
@@ -42,8 +43,20 @@ fn take_below<E: SlotEntry>(slots: &mut [E::Slot], theta: u64, others: &mut [E::
     count
 }
 
-/// Lays the slots out anew with what is below theta, which is gathered in as many others first; what is not is dropped. Counts in
-/// `placed` the entries placed, in `looks` the slots looked at.
+/// How many bytes a word of memory has.
+const WORD: usize = 8;
+
+/// Whether slots are at most one word each.
+#[inline(always)]
+fn are_words<T>(slots: &[T]) -> bool
+    requires { length slots.now < 2 ^ 40 }
+{
+    size_of_val(slots) <= WORD * slots.len()
+}
+
+/// Lays the slots out anew with what is below theta, which is gathered in as many others first; what is not is dropped. Slots of
+/// one word are filled in rounds, and larger ones one by one. Counts in `placed` the entries placed, in `looks` the slots looked
+/// at.
 fn gather<E: SlotEntry, A: Allocator>(
     slots: &mut [E::Slot],
     others: Vec<E::Slot, A>,
@@ -66,6 +79,10 @@ where
     let mut gathered = others;
     let count = take_below::<E>(slots, theta, &mut gathered);
     gathered.truncate(count);
+    if are_words(slots) {
+        settle::<E>(&mut gathered, slots, lg, placed, looks);
+        return;
+    }
     spread::<E, A>(&mut gathered, theta, slots, lg, placed, looks);
 }
 

@@ -10,12 +10,15 @@ mod count;
 mod entry;
 mod gathering;
 pub mod laws;
+mod lookup;
 mod relaying;
+mod rounds;
 mod selection;
 mod slots;
 
 pub use count::Count;
 pub use entry::SlotEntry;
+pub use lookup::leave_out_held;
 pub use relaying::{keep_below, put_kept};
 pub use selection::hash_of_rank;
 pub use slots::{Place, free_slots, put_spread, seek};

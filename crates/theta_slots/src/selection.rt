@@ -69,8 +69,34 @@ fn number_within(hash: u64, low: u64, high: u64) -> usize
     if is_within(hash, low, high) { 1 } else { 0 }
 }
 
+/// How many hashes a slot holds that are less than `low`.
+#[inline(always)]
+fn held_less<E: SlotEntry>(slot: &E::Slot, low: u64) -> usize
+    ensures number { result ≡ rank hash_key (map E.key (filled (E.held slot.now ∷ []))) low }
+    ensures small { result ≤ 1 }
+    ensures words { AllByRecursion (λ h. h < 2 ^ 64) (map E.key (filled (E.held slot.now ∷ []))) }
+{
+    match hash_in::<E>(slot) {
+        None => 0,
+        Some(hash) => number_less(hash, low),
+    }
+}
+
+/// How many hashes a slot holds that are from `low` to `high`.
+#[inline(always)]
+fn held_within<E: SlotEntry>(slot: &E::Slot, low: u64, high: u64) -> usize
+    requires { low ≤ high }
+    ensures number { result ≡ length (within low high (map E.key (filled (E.held slot.now ∷ [])))) }
+    ensures small { result ≤ 1 }
+{
+    match hash_in::<E>(slot) {
+        None => 0,
+        Some(hash) => number_within(hash, low, high),
+    }
+}
+
 /// Counts the hashes in the slots and `also`, if that is one, that are less than `low`, and those from `low` to `high`. It
-/// takes no branch on a hash.
+/// takes no branch on a hash, nor on whether a slot is free.
 fn counted_window<E: SlotEntry>(also: Option<u64>, slots: &[E::Slot], low: u64, high: u64) -> Window
     requires ordered { low ≤ high }
     requires fits { length (filled (also ∷ []) ++ map E.key (filled (map E.held slots.now))) < 2 ^ 64 }
@@ -83,10 +109,8 @@ fn counted_window<E: SlotEntry>(also: Option<u64>, slots: &[E::Slot], low: u64, 
     let mut less = 0usize;
     let mut inside = 0usize;
     'count_each: for slot in slots {
-        if let Some(hash) = hash_in::<E>(slot) {
-            less += number_less(hash, low);
-            inside += number_within(hash, low, high);
-        }
+        less += held_less::<E>(slot, low);
+        inside += held_within::<E>(slot, low, high);
     }
     match also {
         None => Window {
@@ -144,6 +168,19 @@ fn kept_within(hash: u64, low: u64, high: u64) -> Option<u64>
     }
 }
 
+/// The hash that a slot holds, where it is from `low` to `high`: one branch, on both that a slot is free and that its hash is not.
+#[inline(always)]
+fn held_kept<E: SlotEntry>(slot: &E::Slot, low: u64, high: u64) -> Option<u64>
+    requires { low ≤ high }
+    ensures { filled (result ∷ []) ≡ within low high (map E.key (filled (E.held slot.now ∷ []))) }
+{
+    let number = held_within::<E>(slot, low, high);
+    if number == 0 {
+        return None;
+    }
+    hash_in::<E>(slot)
+}
+
 /// The hashes of a window, in one request for memory where the window has counted them.
 fn gathered<E: SlotEntry, A: Allocator>(
     alloc: A,
@@ -161,10 +198,8 @@ fn gathered<E: SlotEntry, A: Allocator>(
         }
     }
     'gather_each: for slot in slots {
-        if let Some(hash) = hash_in::<E>(slot) {
-            if let Some(kept) = kept_within(hash, window.low, window.high) {
-                hashes.push(kept)?;
-            }
+        if let Some(kept) = held_kept::<E>(slot, window.low, window.high) {
+            hashes.push(kept)?;
         }
     }
     Ok(hashes)

@@ -4,7 +4,7 @@ ghost use Rattle.std.specs.List.{count_by};
 ghost use Rattle.std.specs.Option.{option_copied};
 ghost use Rattle.theta_laws.specs.Maps.{entry_at, below, with_entry, map_of};
 ghost use Rattle.theta_slots.specs.Layout.{filled, slot, is_other, IsOnPath, IsLaidOut};
-ghost use Rattle.theta_slots.specs.Probe.{stride};
+ghost use Rattle.theta_slots.specs.Probe.{probe, stride};
 
 use crate::count::Count;
 use crate::entry::SlotEntry;
@@ -82,6 +82,17 @@ pub fn seek<E: SlotEntry>(slots: &[E::Slot], lg: u8, hash: u64, looks: &mut Coun
         }
         at = slot_of(at + stride, lg);
     }
+}
+
+/// The slot of the path of a hash at which a search is after so many steps.
+#[inline(always)]
+pub(crate) fn slot_after(hash: u64, lg: u8, steps: usize) -> usize
+    requires small { lg < 40 }
+    requires few { steps < 2 ^ lg }
+    ensures { result ≡ probe hash lg steps }
+{
+    let on = slot_of(hash as usize, lg) + steps * stride_of(hash, lg);
+    slot_of(on, lg)
 }
 
 /// The hash of what a slot holds.

@@ -4,4 +4,5 @@ pub mod Slotted
 pub mod OtherOrders
 pub mod ListedBelow
 pub mod Counting
-pub mod Gathered
+pub mod Marks
+pub mod ManyHashes

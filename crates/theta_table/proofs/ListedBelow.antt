@@ -1,7 +1,9 @@
 -- What is below a theta of entries in any order, and answers that list it.
-use Rattle.std.proofs.Common.{◌≡◌, ℕ, ◌<◌, ◌≤◌, ◌-◌, ◌^◌, ◌++◌, min, arith, MatchOption, Bool, true, false, cond, eqb, ltb, List, [], ◌∷◌, length, Option, Some, None, refl, sym, ap, ◌∙◌}
+use Rattle.std.proofs.Common.{◌≡◌, ℕ, ◌<◌, ◌≤◌, ◌^◌, ◌++◌, ◌||◌, arith, MatchOption, Bool, true, false, cond, eqb, ltb, List, [], ◌∷◌, length, Option, Some, None, refl, sym, ap, ◌∙◌}
 use Rattle.std.specs.List.{filter, AllByRecursion}
 use Rattle.std.proofs.lemmas.Bool.Decides.{nat_tests}
+use Rattle.theta_slots.specs.Layout.{filled}
+use Rattle.theta_table.specs.Gathering.{from_below}
 use Rattle.std.proofs.lemmas.List.Sorted.{length_permutation}
 use Rattle.theta_compact.specs.CompactState.{Compact, IsCompactOf, shown_of, is_answer_ordered}
 use Rattle.theta_laws.specs.Maps.{IsApart, below, entry_at, map_of}
@@ -12,8 +14,6 @@ use Rattle.theta_laws.specs.Cuts.{IsRetained}
 use Rattle.theta_laws.proofs.maps.Ascending.{ascending-filter}
 use Rattle.theta_laws.proofs.maps.LookUps.{entry_at-below, same_map}
 use Rattle.theta_laws.proofs.maps.MapsOfLists.{entry_at-map_of, ascending-map_of, lent-ascending}
-use Rattle.theta_slots.specs.Layout.{filled}
-use Rattle.theta_table.specs.Gathering.{from_below}
 use Rattle.theta_table.proofs.OtherOrders.{map_of-moved}
 use Rattle.theta_compact.proofs.LawsOfShown.{IsShown-retained, shown-lent}
 
@@ -86,28 +86,28 @@ module _ {X : Type 0} (key : X → ℕ) where
           in_order = λ _. is;
         }
 
-module _ {X : Type 0} (key : X → ℕ) where
-  -- no entry has a hash below a number
-  abbrev pub NoneBelow : (bound : ℕ) → List X → Type 0
-  NoneBelow bound xs = AllByRecursion (λ x. bound ≤ key x) xs
+module _ {X : Type 0} (key : X → ℕ) (theta : ℕ) where
+  -- no entry has a hash below theta
+  abbrev pub NoneBelow : List X → Type 0
+  NoneBelow xs = AllByRecursion (λ x. theta ≤ key x) xs
 
-  none_below_more : (bound lower : ℕ) (xs ys : List X) → lower ≤ bound → NoneBelow bound xs → NoneBelow lower ys → NoneBelow lower (xs ++ ys)
-  none_below_more bound lower [] ys le front behind = behind
-  none_below_more bound lower (x ∷ xs) ys le front behind = (omega (arith, le, front.0), none_below_more bound lower xs ys le front.1 behind)
+  none_below_more : (xs ys : List X) → NoneBelow xs → NoneBelow ys → NoneBelow (xs ++ ys)
+  none_below_more [] ys front behind = behind
+  none_below_more (x ∷ xs) ys front behind = (front.0, none_below_more xs ys front.1 behind)
 
-  none_below_slot : (bound hash : ℕ) (held : Option X) → MatchOption held (hash ≡ 2 ^ 64 - 1) (λ x. hash ≡ key x) → bound ≤ hash → NoneBelow bound (filled (held ∷ []))
-  none_below_slot bound hash None is le = tt
-  none_below_slot bound hash (Some x) is le = (omega (arith, le, is), tt)
+  none_below_slot : (held : Option X) (b : Bool) → MatchOption held (b ≡ false) (λ x. b ≡ ltb (key x) theta) → b ≡ false → NoneBelow (filled (held ∷ []))
+  none_below_slot None b is none = tt
+  none_below_slot (Some x) b is none = let far : ltb (key x) theta ≡ false = sym is ∙ none in (grind (arith, nat_tests), tt)
 
-  -- a slot more, and the lesser of its hash and the number so far
-  pub none_below-next : (least hash : ℕ) (xs : List X) (held : Option X) → NoneBelow least xs → MatchOption held (hash ≡ 2 ^ 64 - 1) (λ x. hash ≡ key x) → NoneBelow (min hash least) (xs ++ filled (held ∷ []))
-  none_below-next least hash xs held so_far is =
-      none_below_more least (min hash least) xs (filled (held ∷ [])) (omega arith) so_far (none_below_slot (min hash least) hash held is (omega arith))
+  -- a slot more
+  pub none_below-next : (any b : Bool) (xs : List X) (held : Option X) → (any ≡ false → NoneBelow xs) → MatchOption held (b ≡ false) (λ x. b ≡ ltb (key x) theta) → (any || b) ≡ false → NoneBelow (xs ++ filled (held ∷ []))
+  none_below-next true b xs held so_far is none = absurd (cc)
+  none_below-next false b xs held so_far is none = none_below_more xs (filled (held ∷ [])) (so_far refl) (none_below_slot held b is none)
 
   -- entries that are not below theta are passed over
-  pub from_below-behind : (theta bound : ℕ) (xs ys : List X) → theta ≤ bound → NoneBelow bound xs → from_below key theta (xs ++ ys) ≡ from_below key theta ys
-  from_below-behind theta bound [] ys le high = refl
-  from_below-behind theta bound (x ∷ xs) ys le high =
-      let far : theta ≤ key x = omega (arith, le, high.0) in
+  pub from_below-behind : (xs ys : List X) → NoneBelow xs → from_below key theta (xs ++ ys) ≡ from_below key theta ys
+  from_below-behind [] ys high = refl
+  from_below-behind (x ∷ xs) ys high =
+      let far : theta ≤ key x = high.0 in
       let e : ltb (key x) theta ≡ false = grind (arith, nat_tests) in
-      rw e (from_below-behind theta bound xs ys le high.1)
+      rw e (from_below-behind xs ys high.1)

@@ -7,7 +7,8 @@ use Rattle.sketch_base.specs.declared.error.ErrorKind.TheVariants.{InvalidArgume
 use Rattle.theta_laws.specs.declared.TheConstants.{MAX_THETA, MIN_LG_K, MAX_LG_K}
 use Rattle.theta_laws.specs.Cuts.{Retained, none_below, IsRetained}
 use Rattle.theta_laws.specs.Maps.{entry_at}
-use Rattle.theta_laws.specs.Insertion.{is_screened}
+use Rattle.theta_laws.specs.Entries.{hash_key, hash_step}
+use Rattle.theta_laws.specs.Insertion.{is_screened, after_upserts}
 use Rattle.theta_table.specs.declared.insertion.Counts.{Counts}
 use Rattle.theta_slots.specs.Layout.{filled, IsLaidOut}
 
@@ -62,6 +63,10 @@ pub record IsMadeWith (lg_nom start seed hash : ℕ) : Type 0 where
   pub start_high : start ≤ MAX_THETA
   pub of_seed : hash ≡ seed_hash seed
   pub hash_low : 0 < hash
+
+-- a table of hashes after more of them were inserted in turn
+abbrev pub after_hashes : List ℕ → MapTable ℕ → MapTable ℕ
+after_hashes hashes t = record t { kept = after_upserts hash_key (2 ^ t.lg_nom) hash_step hashes t.kept }
 
 -- what holds of every table
 pub record IsTable {X : Type 0} (key : X → ℕ) (t : MapTable X) : Type 0 where

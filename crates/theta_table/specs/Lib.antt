@@ -3,3 +3,4 @@ pub mod ResizeFactor
 pub mod Entry
 pub mod LentSummary
 pub mod Gathering
+pub mod Marks

@@ -1,9 +1,7 @@
 //! Answers of tables: what is in slots, below a theta, as compact states.
 ghost use Rattle.std.specs.Prelude.{◌≡◌, ℕ, ◌<◌, ◌≤◌, ◌^◌, [], ◌∷◌, ◌++◌, length, map, take, true, false, None, IfOk, OnOk};
-ghost use Rattle.std.specs.List.{AllByRecursion, flat_map};
-ghost use Rattle.std.specs.Option.{option_copied};
+ghost use Rattle.std.specs.List.{AllByRecursion};
 ghost use Rattle.theta_compact.specs.CompactState.{IsCompactOf};
-ghost use Rattle.theta_table.specs.Gathering.{below_at, below_in};
 ghost use Rattle.theta_laws.specs.Maps.{IsApart, below, map_of};
 ghost use Rattle.theta_laws.specs.Cuts.{cut, retained};
 ghost use Rattle.theta_laws.specs.Entries.{ClonesEqual};
@@ -11,109 +9,45 @@ ghost use Rattle.theta_slots.specs.Layout.{filled};
 ghost use Rattle.theta_laws.specs.Refusal.{Refuses};
 ghost use Rattle.theta_laws.specs.Cuts.{IsRetained};
 
+use crate::iter::SketchHashTableIter;
 use sketch_base::Error;
 use std::alloc::{AllocError, Allocator};
 use theta_compact::{CompactSketchState, is_answer_ordered};
 use theta_laws::SketchEntry;
 use theta_slots::{SlotEntry, hash_of_rank};
 
-/// The entry that a slot holds, where its hash is below theta.
-#[inline(always)]
-fn entry_below<E: SlotEntry>(slot: &E::Slot, theta: u64) -> Option<&E>
-    ensures { filled (option_copied result ∷ []) ≡ below E.key (filled (E.held slot.now ∷ [])) theta }
-{
-    let entry = E::in_slot(slot)?;
-    if entry.hash() < theta {
-        Some(entry)
-    } else {
-        None
-    }
-}
-
-/// Appends a clone of the entry that a slot holds, where its hash is below theta.
+/// Appends a clone of an entry, where its hash is below theta.
 #[inline(always)]
 fn append_below<E: SlotEntry + Clone, A: Allocator>(
     entries: &mut Vec<E, A>,
-    slot: &E::Slot,
+    entry: &E,
     theta: u64,
 ) -> Result<(), AllocError>
     requires clones_equal { ClonesEqual E.is_clone }
-    ensures ok { OnOk result (entries.new.items ≡ entries.old.items ++ below_in E.key E.held theta slot.now) }
+    ensures ok { OnOk result (entries.new.items ≡ entries.old.items ++ below E.key (entry.now ∷ []) theta) }
 {
-    match entry_below::<E>(slot, theta) {
-        None => Ok(()),
-        Some(entry) => {
-            entries.push(entry.clone()?)?;
-            Ok(())
-        }
-    }
-}
-
-/// Appends a clone of the entry in the slot at a place, where its hash is below theta.
-#[inline(always)]
-fn append_at<E: SlotEntry + Clone, A: Allocator>(
-    entries: &mut Vec<E, A>,
-    slots: &[E::Slot],
-    place: usize,
-    theta: u64,
-) -> Result<(), AllocError>
-    requires clones_equal { ClonesEqual E.is_clone }
-    ensures ok { OnOk result (entries.new.items ≡ entries.old.items ++ below_at E.key E.held theta slots.now place) }
-{
-    if place < slots.len() {
-        return append_below::<E, A>(entries, &slots[place], theta);
+    if entry.hash() < theta {
+        entries.push(entry.clone()?)?;
     }
     Ok(())
 }
 
-/// How many slots are looked at before the entries in them are cloned.
-const BLOCK: usize = 64;
-
-/// Puts the places of the slots that hold an entry below theta first, in their order, and answers how many they are. It
-/// writes at each slot and takes no branch on what the slot holds: which of them are taken is as good as random.
-#[inline(always)]
-fn find_below<E: SlotEntry>(block: &[E::Slot], theta: u64, found: &mut [usize; BLOCK]) -> usize
-    requires { length block.now ≤ 64 }
-    ensures few { result ≤ 64 }
-    ensures found { flat_map (below_at E.key E.held theta block.now) (take result found.new) ≡ flat_map (below_in E.key E.held theta) block.now }
-{
-    let mut count = 0;
-    'find_each: for at in 0..block.len() {
-        found[count] = at;
-        count += number_below::<E>(&block[at], theta);
-    }
-    count
-}
-
-/// How many entries below theta a slot holds.
-#[inline(always)]
-fn number_below<E: SlotEntry>(slot: &E::Slot, theta: u64) -> usize
-    ensures few { result ≤ 1 }
-    ensures none { result ≡ 0 → below_in E.key E.held theta slot.now ≡ [] }
-{
-    match entry_below::<E>(slot, theta) {
-        None => 0,
-        Some(_) => 1,
-    }
-}
-
-/// Appends clones of the entries below theta in a few slots.
-fn append_block<E: SlotEntry + Clone, A: Allocator>(
-    entries: &mut Vec<E, A>,
-    block: &[E::Slot],
+/// Clones of those of some entries that are below a theta, in their order, with room for `room` of them from the start.
+fn clones_below<'a, E: SlotEntry + Clone + 'a, A: Allocator>(
+    alloc: A,
+    entries: SketchHashTableIter<'a, E>,
     theta: u64,
-) -> Result<(), AllocError>
+    room: usize,
+) -> Result<Vec<E, A>, AllocError>
     requires clones_equal { ClonesEqual E.is_clone }
-    requires few { length block.now ≤ 64 }
-    ensures ok { OnOk result (entries.new.items ≡ entries.old.items ++ flat_map (below_in E.key E.held theta) block.now) }
+    ensures listed { IfOk result (λ v. v.items ≡ below E.key entries.entry theta) }
 {
-    let mut found = [0usize; BLOCK];
-    let count = find_below::<E>(block, theta, &mut found);
-    let places = &found[..count];
-    'clone_each: for place in places {
-        append_at::<E, A>(entries, block, *place, theta)?;
+    let mut left = entries;
+    let mut clones = Vec::with_capacity(alloc, room)?;
+    'clone_each: while let Some(entry) = left.next() {
+        append_below(&mut clones, entry, theta)?;
     }
-    Ok(())
+    Ok(clones)
 }
 
 /// Clones of the entries below a theta, in the order of the slots, with room for `room` of them from the start.
@@ -126,14 +60,7 @@ fn entries_below<E: SlotEntry + Clone, A: Allocator>(
     requires clones_equal { ClonesEqual E.is_clone }
     ensures listed { IfOk result (λ v. v.items ≡ below E.key (filled (map E.held slots.now)) theta) }
 {
-    let mut entries = Vec::with_capacity(alloc, room)?;
-    let mut rest = slots;
-    'list_blocks: while !rest.is_empty() {
-        let (block, others) = rest.split_at(rest.len().min(BLOCK));
-        append_block::<E, A>(&mut entries, block, theta)?;
-        rest = others;
-    }
-    Ok(entries)
+    clones_below(alloc, SketchHashTableIter::<E>::over(slots), theta, room)
 }
 
 /// Entries of different hashes, ascending.

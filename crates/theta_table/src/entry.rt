@@ -176,9 +176,7 @@ impl<S: Drop> SlotEntry for TupleEntry<S> {
         count: usize,
     ) -> Result<Vec<Option<TupleEntry<S>>, A>, AllocError> {
         let mut slots = Vec::with_capacity(alloc, count)?;
-        for _slot in 0..count {
-            slots.push(None)?;
-        }
+        slots.resize_with(count, || None)?;
         Ok(slots)
     }
 

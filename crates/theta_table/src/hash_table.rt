@@ -1,5 +1,5 @@
 //! The table of retained entries.
-ghost use Rattle.std.specs.Prelude.{◌≡◌, ◌==◌, ◌⊎◌, ◌&&◌, if◌then◌else◌, ℕ, ◌+◌, ◌-◌, ◌*◌, ◌<◌, ◌≤◌, ◌^◌, not, true, false, None, nat_lt, length, IfOk, OnOk, OnErr, IsTrue};
+ghost use Rattle.std.specs.Prelude.{◌≡◌, ◌==◌, ◌⊎◌, ◌&&◌, if◌then◌else◌, ℕ, ◌+◌, ◌-◌, ◌*◌, ◌<◌, ◌≤◌, ◌^◌, not, true, false, None, nat_lt, length, take, IfOk, OnOk, OnErr, IsTrue};
 ghost use Rattle.std.specs.List.{AllByRecursion, concat};
 ghost use Rattle.std.specs.Option.{ForSome, option_copied};
 ghost use Rattle.sketch_base.specs.Seed.{hash_of};
@@ -8,11 +8,12 @@ ghost use Rattle.theta_laws.specs.Maps.{entry_at, IsLent};
 ghost use Rattle.theta_laws.specs.Cuts.{cut, none_below};
 ghost use Rattle.theta_laws.specs.Entries.{hash_key, hash_step, ClonesEqual};
 ghost use Rattle.theta_laws.specs.Refusal.{Refuses};
-ghost use Rattle.theta_table.specs.HashTable.{MapTable, Table, IsTable, IsSized, IsSeedHash, empty_table, set_table, after_reset, table_refusal, lg_size_for, whole_log, has_room, may_insert, threshold, sub_multiple, slots_of_operator, nothing_done, ticked, size_after};
+ghost use Rattle.theta_table.specs.HashTable.{MapTable, Table, IsTable, IsSized, IsSeedHash, empty_table, set_table, after_reset, table_refusal, after_hashes, lg_size_for, whole_log, has_room, may_insert, threshold, sub_multiple, slots_of_operator, nothing_done, ticked, size_after};
 ghost use Rattle.theta_table.specs.ResizeFactor.{lg_of};
 ghost use Rattle.theta_slots.specs.Layout.{IsLaidOut};
 ghost use Rattle.theta_table.specs.Entry.{tuple_key, entry_step};
-ghost use Rattle.theta_laws.specs.Insertion.{is_screened, after_upsert, creates, upsert_refusal, upsert_allocates};
+ghost use Rattle.theta_table.specs.declared.hash_table.TheConstants.{BLOCK};
+ghost use Rattle.theta_laws.specs.Insertion.{is_screened, after_upsert, IsRedundant, LeavesOut, HoldsOfFirstPart, creates, upsert_refusal, upsert_allocates};
 
 use crate::answering::{cut_theta, state_below};
 use crate::clearing::{clear_slots, operator_slots};
@@ -30,7 +31,7 @@ use std::hash::{Hash, Hasher};
 use std::marker::{Model, PhantomData};
 use theta_compact::CompactSketchState;
 use theta_laws::{MAX_LG_K, MAX_THETA, MIN_LG_K};
-use theta_slots::{Count, SlotEntry, free_slots, seek};
+use theta_slots::{Count, SlotEntry, free_slots, leave_out_held, seek};
 
 /// The entries of a sketch below its theta. Contracts see them as a map, ascending by hash, and the theta.
 ///
@@ -500,6 +501,68 @@ impl<A: Allocator + Clone> SketchHashTable<ThetaEntry, A> {
     {
         self.upsert_entry(hash, PutStep::new(ThetaEntry { hash }))
     }
+
+    /// Inserts hashes in their order, each as `try_insert_hash` does. There are at least 8 nominal entries, as in every table
+    /// of `new`.
+    ///
+    /// It looks at the slots of up to 256 hashes side by side, so that they are waited for together: where slots are many, that is
+    /// several times as fast. Those looks aren't counted.
+    ///
+    /// Refused with `OutOfMemory` alone; then some first part of the hashes has been inserted.
+    pub fn insert_hashes(&mut self, hashes: &[u64]) -> Result<(), Error>
+        requires room { 3 ≤ self.old.map.lg_nom }
+        ensures after { OnOk result (self.new.map ≡ after_hashes hashes.now self.old.map) }
+        ensures err { OnErr result (HoldsOfFirstPart hashes.now (λ front. self.new.map ≡ after_hashes front self.old.map)) }
+        ensures refused { Refuses result None true }
+    {
+        let mut rest = hashes;
+        'each_block: while !rest.is_empty() {
+            let (block, others) = rest.split_at(rest.len().min(BLOCK));
+            self.insert_block(block)?;
+            rest = others;
+        }
+        Ok(())
+    }
+
+    /// Inserts a block of hashes: those alone that aren't screened and aren't found at once.
+    fn insert_block(&mut self, hashes: &[u64]) -> Result<(), Error>
+        requires room { 3 ≤ self.old.map.lg_nom }
+        requires few { length hashes.now ≤ BLOCK }
+        ensures after { OnOk result (self.new.map ≡ after_hashes hashes.now self.old.map) }
+        ensures err { OnErr result (HoldsOfFirstPart hashes.now (λ front. self.new.map ≡ after_hashes front self.old.map)) }
+        ensures refused { Refuses result None true }
+    {
+        let mut block = [0u64; BLOCK];
+        let left = self.take_unfound(hashes, &mut block);
+        self.insert_each(&block[..left])
+    }
+
+    /// Takes into `block` what is left of hashes without those that are screened and those that are found at once. Tells how
+    /// many these are.
+    fn take_unfound(&self, hashes: &[u64], block: &mut [u64]) -> usize
+        requires room { 3 ≤ self.now.map.lg_nom }
+        requires few { length hashes.now ≤ length block.old }
+        ensures left { LeavesOut (IsRedundant hash_key self.now.map.kept) hashes.now (take result block.new) }
+        ensures few { result ≤ length block.old }
+        ensures sound { IsTable hash_key self.now.map }
+    {
+        let front = &mut block[..hashes.len()];
+        front.copy_from_slice(hashes);
+        leave_out_held::<ThetaEntry>(&self.slots, self.lg_cur_size, self.theta, front)
+    }
+
+    /// Inserts hashes one by one.
+    fn insert_each(&mut self, hashes: &[u64]) -> Result<(), Error>
+        requires room { 3 ≤ self.old.map.lg_nom }
+        ensures after { OnOk result (self.new.map ≡ after_hashes hashes.now self.old.map) }
+        ensures err { OnErr result (HoldsOfFirstPart hashes.now (λ front. self.new.map ≡ after_hashes front self.old.map)) }
+        ensures refused { Refuses result None true }
+    {
+        'each: for hash in hashes {
+            self.try_insert_hash(*hash)?;
+        }
+        Ok(())
+    }
 }
 
 /// The table of a tuple sketch, whose entries are hashes with their summaries.
@@ -560,6 +623,9 @@ impl<S: Drop, A: Allocator + Clone> SketchHashTable<TupleEntry<S>, A> {
 
 /// The nominal logarithm from which a table is rebuilt before its slots are full.
 const ALWAYS_ROOM_LG_NOM: u8 = 3;
+
+/// How many hashes are looked up together.
+const BLOCK: usize = 256;
 
 /// How many sixteenths of its slots a table fills before it is rebuilt.
 const FILLED_SIXTEENTHS: u128 = 15;

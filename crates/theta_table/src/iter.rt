@@ -1,18 +1,40 @@
 //! The iterator over the entries of a table. Contracts see of it what it has left.
-ghost use Rattle.std.specs.Prelude.{◌≡◌, ◌^◌, ◌-◌, ◌≤◌, ⊤, Some, None, [], ◌∷◌, true, false, nat_lt, length, map, IsSome, IfSome, MatchOption, List};
+ghost use Rattle.std.specs.Prelude.{◌≡◌, ◌^◌, ◌-◌, ◌≤◌, [], ◌∷◌, None, false, if◌then◌else◌, is_some, nat_lt, length, map, IsSome, IfSome, MatchOption};
 ghost use Rattle.std.specs.Iterator.{YieldsFirstRef, UpTo, item_count};
-ghost use Rattle.std.specs.Iterator.SizeHint.{IsWithinCount};
 ghost use Rattle.std.specs.List.{AllByRecursion};
+ghost use Rattle.std.specs.Option.{option_copied};
+ghost use Rattle.std.specs.Simd.Lanes.{mask_l};
+ghost use Rattle.std.specs.Iterator.SizeHint.{IsWithinCount};
 ghost use Rattle.theta_slots.specs.Layout.{filled};
 ghost use Rattle.theta_table.specs.Gathering.{from_below};
+ghost use Rattle.theta_table.specs.Marks.{AreMarked};
 
+use std::alloc::AllocError;
 use std::marker::{Model, PhantomData};
 use theta_slots::SlotEntry;
 
+/// Slots, of which the first few are marked: a bit for each of these tells whether it holds an entry.
+struct Marked<'a, E: SlotEntry> {
+    slots: &'a [E::Slot],
+    ahead: usize,
+    marks: u64,
+}
+
+impl<'a, E: SlotEntry> Clone for Marked<'a, E> {
+    fn clone(&self) -> Result<Self, AllocError> {
+        Ok(*self)
+    }
+}
+
+impl<'a, E: SlotEntry> Copy for Marked<'a, E> {}
+
 /// The entries of a table, each once, in an open order.
+///
+/// It marks some slots at once: whether a slot holds an entry is as good as random, and a branch on each would be guessed wrong
+/// every second time.
 #[derive(Drop)]
 pub struct SketchHashTableIter<'a, E: SlotEntry> {
-    rest: &'a [E::Slot],
+    rest: Marked<'a, E>,
     // No bytes: it names the entries, whose lifetimes the type of a slot doesn't tell.
     of: PhantomData<E>,
 }
@@ -20,10 +42,13 @@ pub struct SketchHashTableIter<'a, E: SlotEntry> {
 impl<'a, E: SlotEntry> Model for SketchHashTableIter<'a, E> {
     ghost use Rattle.std.specs.Prelude.{List, map};
     ghost use Rattle.theta_slots.specs.Layout.{filled};
+    ghost use Rattle.theta_table.specs.Marks.{AreMarked};
 
     ghost Value = { List E };
 
-    ghost view = { λ s. filled (map E.held s.rest.now) };
+    ghost view = { λ s. filled (map E.held s.rest.slots.now) };
+
+    ghost invariant = { λ s. AreMarked (map E.held s.rest.slots.now) s.rest.ahead s.rest.marks };
 }
 
 impl<'a, E: SlotEntry> SketchHashTableIter<'a, E> {
@@ -31,24 +56,104 @@ impl<'a, E: SlotEntry> SketchHashTableIter<'a, E> {
         ensures { result ≡ filled (map E.held slots.entry.now) }
     {
         SketchHashTableIter {
-            rest: slots,
+            rest: Marked {
+                slots,
+                ahead: 0,
+                marks: 0,
+            },
             of: PhantomData,
         }
     }
 }
 
-/// The first entry in some slots, and the slots after it.
-fn first_in<'a, E: SlotEntry + 'a>(slots: &'a [E::Slot]) -> Option<(&'a E, &'a [E::Slot])>
-    ensures { MatchOption result (filled (map E.held slots.entry.now) ≡ []) (λ p. filled (map E.held slots.entry.now) ≡ p.0.now ∷ filled (map E.held p.1.now)) }
+/// How many slots are marked at once.
+const BLOCK: usize = 64;
+
+/// 1 for a slot that holds an entry, and 0 for a free one.
+#[inline(always)]
+fn mark_of<E: SlotEntry>(slot: &E::Slot) -> u64
+    ensures { result ≡ if is_some (E.held slot.now) then 1 else 0 }
+{
+    match E::in_slot(slot) {
+        None => 0,
+        Some(_) => 1,
+    }
+}
+
+/// A bit for each of a few slots, the lowest for the first: whether it holds an entry. It takes no branch on what a slot holds.
+#[inline(always)]
+fn marks_of<E: SlotEntry>(slots: &[E::Slot]) -> u64
+    requires { length slots.now ≤ 64 }
+    ensures { result ≡ mask_l (map is_some (map E.held slots.now)) }
+{
+    let mut marks = 0u64;
+    'mark_each: for i in 0..slots.len() {
+        marks = 2 * marks + mark_of::<E>(&slots[slots.len() - 1 - i]);
+    }
+    marks
+}
+
+/// Slots from the first few on of which one holds an entry, and these marked; no slots where none does.
+#[inline(always)]
+fn marked_from<'a, E: SlotEntry + 'a>(slots: &'a [E::Slot]) -> Marked<'a, E>
+    ensures marked { AreMarked (map E.held result.slots.now) result.ahead result.marks }
+    ensures same { filled (map E.held result.slots.now) ≡ filled (map E.held slots.entry.now) }
+    ensures none { result.marks ≡ 0 → filled (map E.held result.slots.now) ≡ [] }
 {
     let mut left = slots;
-    while let Some((first, others)) = left.split_first() {
-        if let Some(entry) = E::in_slot(first) {
-            return Some((entry, others));
+    'pass_blocks: while !left.is_empty() {
+        let ahead = left.len().min(BLOCK);
+        let marks = marks_of::<E>(&left[..ahead]);
+        if marks != 0 {
+            return Marked {
+                slots: left,
+                ahead,
+                marks,
+            };
         }
-        left = others;
+        left = &left[ahead..];
     }
-    None
+    Marked {
+        slots: left,
+        ahead: 0,
+        marks: 0,
+    }
+}
+
+/// The same slots, or those behind what is marked, so that a mark tells of an entry where one is left.
+#[inline(always)]
+fn marked_ahead<'a, E: SlotEntry + 'a>(rest: Marked<'a, E>) -> Marked<'a, E>
+    requires marked { AreMarked (map E.held rest.slots.now) rest.ahead rest.marks }
+    ensures marked { AreMarked (map E.held result.slots.now) result.ahead result.marks }
+    ensures same { filled (map E.held result.slots.now) ≡ filled (map E.held rest.entry.slots.now) }
+    ensures none { result.marks ≡ 0 → filled (map E.held result.slots.now) ≡ [] }
+{
+    if rest.marks != 0 {
+        return rest;
+    }
+    marked_from(&rest.slots[rest.ahead..])
+}
+
+/// The entry in the first slot that is marked, and what is behind that slot; nothing where no slot is marked and none holds an
+/// entry.
+#[inline(always)]
+fn first_in<'a, E: SlotEntry + 'a>(rest: Marked<'a, E>) -> (Option<&'a E>, Marked<'a, E>)
+    requires marked { AreMarked (map E.held rest.slots.now) rest.ahead rest.marks }
+    requires none { rest.marks ≡ 0 → filled (map E.held rest.slots.now) ≡ [] }
+    ensures marked { AreMarked (map E.held result.1.slots.now) result.1.ahead result.1.marks }
+    ensures first { filled (map E.held rest.entry.slots.now) ≡ filled (option_copied result.0 ∷ map E.held result.1.slots.now) }
+    ensures none { result.0 ≡ None → filled (map E.held rest.entry.slots.now) ≡ [] }
+{
+    if rest.marks == 0 {
+        return (None, rest);
+    }
+    let free = rest.marks.trailing_zeros() as usize;
+    let behind = Marked {
+        slots: &rest.slots[free + 1..],
+        ahead: rest.ahead - (free + 1),
+        marks: (rest.marks >> free) >> 1,
+    };
+    (E::in_slot(&rest.slots[free]), behind)
 }
 
 /// The hash of what a slot holds, and the greatest number of a free slot.
@@ -72,19 +177,18 @@ fn holds_below<E: SlotEntry>(slot: &E::Slot, theta: u64) -> bool
 }
 
 /// How many slots are passed over at once.
-const BLOCK: usize = 8;
+const PASSED: usize = 8;
 
-/// A number that no entry in a few slots has a hash below: the least hash, or the greatest number where all of them are free.
-/// It takes no branch on what a slot holds.
+/// Whether some of a few slots hold an entry below theta. It takes no branch on what a slot holds.
 #[inline(always)]
-fn least_hash<E: SlotEntry>(block: &[E::Slot]) -> u64
-    ensures { AllByRecursion (λ x. result ≤ E.key x) (filled (map E.held block.now)) }
+fn any_below<E: SlotEntry>(block: &[E::Slot], theta: u64) -> bool
+    ensures { result ≡ false → AllByRecursion (λ x. theta ≤ E.key x) (filled (map E.held block.now)) }
 {
-    let mut least = u64::MAX;
-    'compare_each: for slot in block {
-        least = hash_or_greatest::<E>(slot).min(least);
+    let mut any = false;
+    'test_each: for slot in block {
+        any |= holds_below::<E>(slot, theta);
     }
-    least
+    any
 }
 
 /// The slots from the first on that holds an entry below theta.
@@ -93,9 +197,9 @@ fn slots_from_below<'a, E: SlotEntry + 'a>(slots: &'a [E::Slot], theta: u64) -> 
     ensures { filled (map E.held result.now) ≡ from_below E.key theta (filled (map E.held slots.entry.now)) }
 {
     let mut left = slots;
-    'pass_blocks: while left.len() >= BLOCK {
-        let (block, after) = left.split_at(BLOCK);
-        if least_hash::<E>(block) < theta {
+    'pass_blocks: while left.len() >= PASSED {
+        let (block, after) = left.split_at(PASSED);
+        if any_below::<E>(block, theta) {
             break;
         }
         left = after;
@@ -115,7 +219,14 @@ impl<'a, E: SlotEntry + 'a> SketchHashTableIter<'a, E> {
     pub fn pass_to_below(&mut self, theta: u64)
         ensures { self.new ≡ from_below E.key theta self.old }
     {
-        self.rest = slots_from_below::<E>(self.rest, theta);
+        let slots = slots_from_below::<E>(self.rest.slots, theta);
+        let ahead = slots.len().min(1);
+        let marks = marks_of::<E>(&slots[..ahead]);
+        self.rest = Marked {
+            slots,
+            ahead,
+            marks,
+        };
     }
 }
 
@@ -127,16 +238,9 @@ impl<'a, E: SlotEntry + 'a> Iterator for SketchHashTableIter<'a, E> {
     ghost remaining = { item_count (λ s. s) };
 
     fn next(&mut self) -> Option<&'a E> {
-        match first_in::<E>(self.rest) {
-            None => {
-                self.rest = &self.rest[self.rest.len()..];
-                None
-            }
-            Some((entry, others)) => {
-                self.rest = others;
-                Some(entry)
-            }
-        }
+        let (first, rest) = first_in(marked_ahead(self.rest));
+        self.rest = rest;
+        first
     }
 
     /// At least none, and at most a number that is no less than the entries left.
@@ -146,6 +250,6 @@ impl<'a, E: SlotEntry + 'a> Iterator for SketchHashTableIter<'a, E> {
         ensures from_none { result.0 ≡ 0 }
         ensures bounded { IsSome result.1 }
     {
-        (0, Some(self.rest.len()))
+        (0, Some(self.rest.slots.len()))
     }
 }

@@ -54,7 +54,7 @@ module _ {X : Type 0} (key : X → ℕ) where
   }
 
   -- the theta of a cut is one of the keys, or as it was
-  cut_theta : (k : ℕ) (xs : List X) (theta : ℕ) → IsRetained key (record { entries = xs; theta = theta }) → record { low : 0 < (cut key k xs theta).theta; high : (cut key k xs theta).theta ≤ theta }
+  pub cut_theta : (k : ℕ) (xs : List X) (theta : ℕ) → IsRetained key (record { entries = xs; theta = theta }) → record { low : 0 < (cut key k xs theta).theta; high : (cut key k xs theta).theta ≤ theta }
   cut_theta k [] theta v = rw (cut_few key k [] theta v.ascending (omega arith)) (record { low = v.theta_low; high = omega arith })
   cut_theta k (x ∷ xs) theta v =
       elim (cases_lt k (rank key (x ∷ xs) theta)) [

@@ -1,4 +1,4 @@
-use Rattle.std.proofs.Common.{◌≡◌, ℕ, ◌∙◌, sym, ap, length-set, arith, get_or}
+use Rattle.std.proofs.Common.{ℕ, ◌∙◌, ap, length-set, arith}
 use Rattle.std.proofs.lemmas.Grind.{drop_more_same}
 use Rattle.theta_slots.proofs.Held.{freed}
 use Rattle.theta_slots.proofs.Gathers.{drop-set, get_or-left, gathered-next}

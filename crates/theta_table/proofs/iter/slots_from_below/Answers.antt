@@ -16,5 +16,4 @@ pass_blocks-preserved g c =
     let whole : left ≡ block ++ after = rw (c.split_at.ensures.front, c.split_at.ensures.back) (sym (take-append-drop 8 left)) in
     let parts : filled (map held left) ≡ filled (map held block) ++ filled (map held after) =
     ap (λ xs. filled (map held xs)) whole ∙ ap filled (map-append held block after) ∙ filled-append (map held block) (map held after) in
-    sym (ap (from_below key c.args.theta) parts ∙ from_below-behind key c.args.theta c.least_hash.result (filled (map held block)) (filled (map held after)) c.if-least_hash-theta.false c.least_hash.ensures)
-    ∙ c.pass_blocks.invariant
+    sym (ap (from_below key c.args.theta) parts ∙ from_below-behind key c.args.theta (filled (map held block)) (filled (map held after)) (c.any_below.ensures c.if-any_below.false)) ∙ c.pass_blocks.invariant

@@ -1,0 +1,69 @@
+//! Many hashes handed over at once, beside one call for each.
+
+use crate::common::{Value, after_each, mixed_hashes, shown_of};
+use sketch_base::Error;
+use std::alloc::Global;
+use std::test::Fail;
+use theta_sketches::ThetaSketchBuilder;
+
+/// What a sketch is after hashes that are handed over in parts of so many.
+fn after_parts(alloc: Global, lg_k: u8, hashes: &[u64], part: usize) -> Result<Value, Error> {
+    let mut sketch = ThetaSketchBuilder::default().lg_k(lg_k).build(alloc)?;
+    let mut rest = hashes;
+    while !rest.is_empty() {
+        let (first, others) = rest.split_at(rest.len().min(part.max(1)));
+        sketch.update_hashes(first)?;
+        rest = others;
+    }
+    sketch.update_hashes(&[])?;
+    Ok(shown_of(alloc, &sketch)?)
+}
+
+/// What a sketch is after so many mixed hashes in parts, and after each by itself.
+fn both(
+    alloc: Global,
+    lg_k: u8,
+    (count, distinct): (u64, u64),
+    part: usize,
+) -> Result<(Value, Value), Error> {
+    let hashes = mixed_hashes(alloc, count, distinct)?;
+    Ok((
+        after_parts(alloc, lg_k, &hashes, part)?,
+        after_each(alloc, lg_k, &hashes)?,
+    ))
+}
+
+/// A size, how many hashes and how many of them are different, the parts, and how many are retained at least and at most.
+type Row = (u8, (u64, u64), usize, usize, usize);
+
+#[test]
+fn many_hashes_are_as_each(rt: HostRuntime) -> Result<(), Fail> {
+    let rows: [Row; 16] = [
+        (5, (0, 1), 1, 0, 0),
+        (5, (1, 1), 1, 0, 0),
+        (5, (2, 2), 2, 0, 0),
+        (5, (3, 3), 3, 1, 1),
+        (5, (127, 40), 127, 38, 38),
+        (5, (128, 128), 128, 32, 60),
+        (5, (129, 129), 128, 32, 60),
+        (5, (255, 200), 255, 32, 60),
+        (5, (256, 256), 256, 32, 60),
+        (5, (257, 257), 257, 32, 60),
+        (5, (513, 500), 513, 32, 60),
+        (5, (3000, 700), 3000, 32, 60),
+        (12, (5000, 3000), 5000, 2998, 2998),
+        (12, (5000, 3000), 257, 2998, 2998),
+        (9, (9000, 4000), 9000, 512, 960),
+        (9, (9000, 9000), 100, 512, 960),
+    ];
+    for (lg_k, hashes, part, least, most) in rows {
+        let (parts, each) = both(rt.alloc(), lg_k, hashes, part)?;
+        assert_eq!(rt; parts, each, "{lg_k} {hashes:?} {part}");
+        let count = parts.2.len();
+        assert!(rt;
+            least <= count && count <= most,
+            "{lg_k} {hashes:?} {count}"
+        );
+    }
+    Ok(())
+}

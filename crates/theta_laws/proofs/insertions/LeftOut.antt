@@ -1,0 +1,147 @@
+-- Hashes that are left out of a list since their insertion changes nothing.
+use Rattle.std.proofs.Common.{◌≡◌, ℕ, ◌*◌, ◌/◌, ◌<◌, ◌≤◌, Bool, true, false, cond, eqb, ltb, leb, length, List, [], ◌∷◌, ◌++◌, Some, None, inl, inr, refl, sym, ap, subst, ◌∙◌, filter, arith}
+use Rattle.std.specs.Prelude.{IsSome, ◌&&◌}
+use Rattle.std.proofs.lemmas.Bool.{cases_lt}
+use Rattle.std.proofs.lemmas.Bool.Decides.{nat_tests}
+use Rattle.theta_laws.specs.Cuts.{Retained, retained, cut, IsRetained}
+use Rattle.theta_laws.specs.Entries.{hash_key, hash_step}
+use Rattle.theta_laws.specs.Maps.{IsAscending, entry_at, with_entry}
+use Rattle.theta_laws.specs.Insertion.{is_screened, rebuilt, after_upsert, after_upserts, IsRedundant, LeavesOut, HoldsOfFirstPart}
+use Rattle.theta_laws.proofs.maps.Ascending.{ascending-with_entry}
+use Rattle.theta_laws.proofs.maps.LookUps.{entry_at-below, entry_at-with_entry, same_map}
+use Rattle.theta_laws.proofs.cuts.Cuts.{cut_is_below}
+use Rattle.theta_laws.proofs.cuts.WithinWholeMaps.{found_key, has-with_entry}
+use Rattle.theta_laws.proofs.insertions.Cases.{is_screened_true, cut_theta, screened_case, existing_case, absent_case, IsRetained-with_entry, IsRetained-rebuilt}
+
+module _ {X : Type 0} (P : X → Type 0) where
+  pub nothing_left_out : (xs : List X) → LeavesOut P xs xs
+  nothing_left_out [] = refl
+  nothing_left_out (x ∷ xs) = inr (xs, refl, nothing_left_out xs)
+
+  -- what is left out twice
+  pub left_out_again : (xs ys zs : List X) → LeavesOut P xs ys → LeavesOut P ys zs → LeavesOut P xs zs
+  left_out_again [] ys zs first second = subst (λ ys. LeavesOut P ys zs) first second
+  left_out_again (x ∷ xs) ys zs (inl (out, first)) second = inl (out, left_out_again xs ys zs first second)
+  left_out_again (x ∷ xs) ys zs (inr (left, is, first)) second =
+      elim (subst (λ ys. LeavesOut P ys zs) is second) [
+        | inl also ↦ inl (also.0, left_out_again xs left zs first also.1)
+        | inr kept ↦ inr (kept.0, kept.1, left_out_again xs left kept.0 first kept.2)
+      ]
+
+  -- those that fail a test
+  pub left_out-filter : (test : X → Bool) → ((x : X) → test x ≡ false → P x) → (xs : List X) → LeavesOut P xs (filter test xs)
+  left_out-filter test out [] = refl
+  left_out-filter test out (x ∷ xs) =
+      (elim (test x) as (λ b. test x ≡ b → LeavesOut P (x ∷ xs) (cond b (x ∷ filter test xs) (filter test xs))) [
+        | true ↦ λ e. inr (filter test xs, refl, left_out-filter test out xs)
+        | false ↦ λ e. inl (out x e, left_out-filter test out xs)
+      ]) refl
+
+  -- a first part of what is left is left of a first part
+  pub left_out-front : (xs front rest : List X) → LeavesOut P xs (front ++ rest) → HoldsOfFirstPart xs (λ part. LeavesOut P part front)
+  left_out-front xs [] rest leaves = ([], xs, refl, refl)
+  left_out-front [] (y ∷ front) rest leaves = absurd (cc)
+  left_out-front (x ∷ xs) (y ∷ front) rest (inl (out, leaves)) =
+      let part = left_out-front xs (y ∷ front) rest leaves in
+      (x ∷ part.0, part.1, ap (λ zs. x ∷ zs) part.2, inl (out, part.3))
+  left_out-front (x ∷ xs) (y ∷ front) rest (inr (left, is, leaves)) =
+      let same : front ++ rest ≡ left = cc in
+      let head : y ≡ x = cc in
+      let part = left_out-front xs front rest (subst (λ zs. LeavesOut P xs zs) (sym same) leaves) in
+      (x ∷ part.0, part.1, ap (λ zs. x ∷ zs) part.2, inr (front, ap (λ z. z ∷ front) head, part.3))
+
+pub left_out-weaker : {X : Type 0} (P Q : X → Type 0) → ((x : X) → P x → Q x) → (xs ys : List X) → LeavesOut P xs ys → LeavesOut Q xs ys
+left_out-weaker P Q weaker [] ys leaves = leaves
+left_out-weaker P Q weaker (x ∷ xs) ys (inl (out, leaves)) = inl (weaker x out, left_out-weaker P Q weaker xs ys leaves)
+left_out-weaker P Q weaker (x ∷ xs) ys (inr (left, is, leaves)) = inr (left, is, left_out-weaker P Q weaker xs left leaves)
+
+-- hashes that are redundant stay so
+redundant_below : (xs : List ℕ) (theta t q : ℕ) → t ≤ theta → IsRedundant hash_key (record { entries = xs; theta = theta }) q → IsRedundant hash_key (retained hash_key xs t) q
+redundant_below xs theta t q le (inl screened) = inl (grind (arith, nat_tests))
+redundant_below xs theta t q le (inr some) =
+    elim (cases_lt q t) [
+      | inl lt ↦ let e : ltb q t ≡ true = grind (arith, nat_tests) in inr (rw (entry_at-below hash_key xs t q, e) some)
+      | inr high ↦ inl (is_screened_true q t (inr high))
+    ]
+
+redundant_rebuilt : (k : ℕ) (xs : List ℕ) (theta q : ℕ) → IsRetained hash_key (record { entries = xs; theta = theta }) → IsRedundant hash_key (record { entries = xs; theta = theta }) q → IsRedundant hash_key (rebuilt hash_key k xs theta) q
+unfolding rebuilt
+redundant_rebuilt k xs theta q v redundant =
+    elim (leb 8 k && ltb (15 * k / 8) (length xs)) as (λ b. IsRedundant hash_key (cond b (cut hash_key k xs theta) (record { entries = xs; theta = theta })) q) [
+      | true ↦ rw (cut_is_below hash_key k xs theta) (redundant_below xs theta (cut hash_key k xs theta).theta q (cut_theta hash_key k xs theta v).high redundant)
+      | false ↦ redundant
+    ]
+
+redundant_with : (xs : List ℕ) (theta x q : ℕ) → IsRedundant hash_key (record { entries = xs; theta = theta }) q → IsRedundant hash_key (record { entries = with_entry hash_key xs x; theta = theta }) q
+redundant_with xs theta x q (inl screened) = inl screened
+redundant_with xs theta x q (inr some) = inr (has-with_entry hash_key xs x q some)
+
+-- an entry that is there, once more
+same_with : (xs : List ℕ) (x : ℕ) → IsAscending hash_key xs → entry_at hash_key xs x ≡ Some x → with_entry hash_key xs x ≡ xs
+same_with xs x up here =
+    same_map hash_key (with_entry hash_key xs x) xs (ascending-with_entry hash_key xs x up) up
+    (λ q. entry_at-with_entry hash_key xs x q
+    ∙ (elim (eqb x q) as (λ b. eqb x q ≡ b → cond b (Some x) (entry_at hash_key xs q) ≡ entry_at hash_key xs q) [
+      | true ↦ λ e. let same : x ≡ q = grind (arith, nat_tests) in sym (subst (λ (u : ℕ). entry_at hash_key xs u ≡ Some x) same here)
+      | false ↦ λ e. refl
+    ]) refl)
+
+module _ (k : ℕ) where
+  existing_stays : (v : Retained ℕ) (h x : ℕ) → IsRetained hash_key v → is_screened h v.theta ≡ false → entry_at hash_key v.entries h ≡ Some x → after_upsert hash_key k h (hash_step h) v ≡ v
+  existing_stays v h x is passes there =
+      let same : x ≡ h = found_key hash_key v.entries h x there in
+      let here : entry_at hash_key v.entries x ≡ Some x = rw same (there ∙ ap Some same) in
+      (existing_case hash_key k h (hash_step h) v x passes there).after_is ∙ ap (λ xs. record { entries = xs; theta = v.theta }) (same_with v.entries x is.ascending here)
+
+  -- an insertion of a hash that is redundant changes nothing
+  redundant_stays : (v : Retained ℕ) (h : ℕ) → IsRetained hash_key v → IsRedundant hash_key v h → after_upsert hash_key k h (hash_step h) v ≡ v
+  redundant_stays v h is (inl screened) = (screened_case hash_key k h (hash_step h) v screened).after_is
+  redundant_stays v h is (inr some) =
+      (elim (is_screened h v.theta) as (λ b. is_screened h v.theta ≡ b → after_upsert hash_key k h (hash_step h) v ≡ v) [
+        | true ↦ λ e. (screened_case hash_key k h (hash_step h) v e).after_is
+        | false ↦ λ e.
+            (elim (entry_at hash_key v.entries h) as (λ o. entry_at hash_key v.entries h ≡ o → IsSome o → after_upsert hash_key k h (hash_step h) v ≡ v) [
+              | Some x ↦ λ there s. existing_stays v h x is e there
+              | None ↦ λ there s. absurd (cc)
+            ]) refl some
+      ]) refl
+
+  -- what an insertion of a hash leaves
+  record IsLeft (v after : Retained ℕ) : Type 0 where
+    pub retained : IsRetained hash_key after
+    pub redundant : (q : ℕ) → IsRedundant hash_key v q → IsRedundant hash_key after q
+
+  left_after : (v : Retained ℕ) (h : ℕ) → IsRetained hash_key v → IsLeft v (after_upsert hash_key k h (hash_step h) v)
+  left_after v h is =
+      let same : IsLeft v v = record { retained = is; redundant = λ q redundant. redundant } in
+      (elim (is_screened h v.theta) as (λ b. is_screened h v.theta ≡ b → IsLeft v (after_upsert hash_key k h (hash_step h) v)) [
+        | true ↦ λ e. rw (screened_case hash_key k h (hash_step h) v e).after_is same
+        | false ↦ λ e.
+            (elim (entry_at hash_key v.entries h) as (λ o. entry_at hash_key v.entries h ≡ o → IsLeft v (after_upsert hash_key k h (hash_step h) v)) [
+              | Some x ↦ λ there. rw (existing_stays v h x is e there) same
+              | None ↦ λ there.
+                  let low : 0 < h = grind (arith, nat_tests) in
+                  let high : h < v.theta = grind (arith, nat_tests) in
+                  let more = IsRetained-with_entry hash_key v.entries v.theta h is low high in
+                  rw (absent_case hash_key k h (hash_step h) v e there).after_is
+                  (record {
+                    retained = IsRetained-rebuilt hash_key k (with_entry hash_key v.entries h) v.theta more;
+                    redundant = λ q redundant. redundant_rebuilt k (with_entry hash_key v.entries h) v.theta q more (redundant_with v.entries v.theta h q redundant);
+                  })
+            ]) refl
+      ]) refl
+
+  -- hashes that are redundant may be left out
+  pub redundant_left_out : (xs ys : List ℕ) (v w : Retained ℕ) → IsRetained hash_key w → ((h : ℕ) → IsRedundant hash_key v h → IsRedundant hash_key w h) → LeavesOut (IsRedundant hash_key v) xs ys → after_upserts hash_key k hash_step xs w ≡ after_upserts hash_key k hash_step ys w
+  redundant_left_out [] ys v w is all leaves = ap (λ zs. after_upserts hash_key k hash_step zs w) (sym leaves)
+  redundant_left_out (x ∷ xs) ys v w is all (inl (out, leaves)) =
+      ap (after_upserts hash_key k hash_step xs) (redundant_stays w x is (all x out)) ∙ redundant_left_out xs ys v w is all leaves
+  redundant_left_out (x ∷ xs) ys v w is all (inr (left, same, leaves)) =
+      let after = left_after w x is in
+      redundant_left_out xs left v (after_upsert hash_key k x (hash_step x) w) after.retained (λ h p. after.redundant h (all h p)) leaves
+      ∙ ap (λ zs. after_upserts hash_key k hash_step zs w) (sym same)
+
+-- what is retained stays lawful
+pub retained_upserts : (k : ℕ) (xs : List ℕ) (v : Retained ℕ) → IsRetained hash_key v → IsRetained hash_key (after_upserts hash_key k hash_step xs v)
+retained_upserts k [] v is = is
+retained_upserts k (x ∷ xs) v is = retained_upserts k xs (after_upsert hash_key k x (hash_step x) v) (left_after k v x is).retained

@@ -1,0 +1,108 @@
+//! Many hashes looked up at once, so that the slots of one are waited for together with those of others.
+//!
+//! Which hash a slot holds is as good as random, and where slots are many each look waits for memory. So a round looks at one
+//! slot of each hash, without a branch on what it finds, and only then those that were found are left out.
+ghost use Rattle.std.specs.Prelude.{◌≡◌, ◌==◌, ◌<◌, ◌≤◌, ◌^◌, if◌then◌else◌, not, option_map, unwrap_or, length, map, filter, take, slice_index, EachIndex};
+ghost use Rattle.theta_laws.specs.Insertion.{IsRedundant, LeavesOut, is_screened};
+ghost use Rattle.theta_slots.specs.Layout.{filled};
+ghost use Rattle.theta_slots.specs.Lookup.{IsBlanked};
+
+use crate::entry::SlotEntry;
+use crate::slots::{hash_in, slot_of, stride_of};
+
+/// How many slots on the path of a hash are looked at: so many that few hashes that are held are not found.
+const ROUNDS: usize = 3;
+
+/// The hash of what a slot holds, and 0 for a free slot.
+#[inline(always)]
+fn hash_or_zero<E: SlotEntry>(slot: &E::Slot) -> u64
+    ensures { result ≡ unwrap_or (option_map E.key (E.held slot.now)) 0 }
+{
+    match hash_in::<E>(slot) {
+        None => 0,
+        Some(hash) => hash,
+    }
+}
+
+/// A hash, and 0 in place of one that is the other.
+#[inline(always)]
+fn unless_same(hash: u64, other: u64) -> u64
+    ensures { result ≡ (if hash == other then 0 else hash) }
+{
+    if hash == other { 0 } else { hash }
+}
+
+/// A hash, and 0 in place of one that the slot `at` holds. It takes no branch.
+#[inline(always)]
+fn blanked_at<E: SlotEntry>(slots: &[E::Slot], at: usize, hash: u64) -> u64
+    requires inside { at < length slots.now }
+    ensures { IsBlanked E.key (filled (map E.held slots.now)) hash result }
+{
+    let held = hash_or_zero::<E>(&slots[at]);
+    unless_same(hash, held)
+}
+
+/// Writes 0 in place of each hash that is held by the slot `step` strides along its path.
+fn blank_held<E: SlotEntry>(slots: &[E::Slot], lg: u8, step: usize, hashes: &mut [u64])
+    requires small { lg < 40 }
+    requires near { step < 256 }
+    requires size { length slots.now ≡ 2 ^ lg }
+    ensures blanked { EachIndex hashes.old (λ p. IsBlanked E.key (filled (map E.held slots.now)) (slice_index hashes.old p) (slice_index hashes.new p)) }
+{
+    'blank_each: for hash in hashes.iter_mut() {
+        let at = slot_of(
+            (*hash as usize).wrapping_add(step * stride_of(*hash, lg)),
+            lg,
+        );
+        *hash = blanked_at::<E>(slots, at, *hash);
+    }
+}
+
+/// 1 for a hash that is neither 0 nor at least theta, otherwise 0. It is one comparison.
+#[inline(always)]
+fn number_unscreened(hash: u64, theta: u64) -> usize
+    requires positive { 0 < theta }
+    ensures { result ≡ (if is_screened hash theta then 0 else 1) }
+{
+    (hash.wrapping_sub(1) < theta - 1) as usize
+}
+
+/// Moves the hashes that are neither 0 nor at least theta to the front, in their order, and tells how many they are. It takes
+/// no branch on a hash.
+fn pack_unscreened(hashes: &mut [u64], theta: u64) -> usize
+    requires positive { 0 < theta }
+    ensures packed { take result hashes.new ≡ filter (λ h. not (is_screened h theta)) hashes.old }
+    ensures few { result ≤ length hashes.old }
+{
+    let mut count = 0usize;
+    'pack_each: for i in 0..hashes.len() {
+        let hash = hashes[i];
+        hashes[count] = hash;
+        count += number_unscreened(hash, theta);
+    }
+    count
+}
+
+/// Leaves out of `hashes` those that are 0, at least theta, or found held within a few looks. What is left moves to the
+/// front, in its order; tells how many that are.
+///
+/// The slots of one hash are waited for together with those of others. These looks are not counted.
+pub fn leave_out_held<E: SlotEntry>(
+    slots: &[E::Slot],
+    lg: u8,
+    theta: u64,
+    hashes: &mut [u64],
+) -> usize
+    requires small { lg < 40 }
+    requires size { length slots.now ≡ 2 ^ lg }
+    requires positive { 0 < theta }
+    ensures left { LeavesOut (IsRedundant E.key (record { entries = filled (map E.held slots.now); theta = theta })) hashes.old (take result hashes.new) }
+    ensures few { result ≤ length hashes.old }
+{
+    let mut left = pack_unscreened(hashes, theta);
+    'round: for step in 0..ROUNDS {
+        blank_held::<E>(slots, lg, step, &mut hashes[..left]);
+        left = pack_unscreened(&mut hashes[..left], theta);
+    }
+    left
+}

@@ -1,0 +1,90 @@
+//! Entries put into free slots in rounds, in each of which every entry that is left looks one slot further on its path.
+//!
+//! No branch depends on whether a slot is free: put one by one, each entry ends its search with a branch that is guessed wrong.
+ghost use Rattle.std.specs.Prelude.{◌≡◌, ◌+◌, ◌-◌, ◌<◌, ◌≤◌, ◌^◌, ◌*◌, [], None, is_none, if◌then◌else◌, length, map, set};
+ghost use Rattle.theta_laws.specs.Maps.{IsApart, map_of};
+ghost use Rattle.theta_slots.specs.Layout.{filled, slot, IsLaidOut};
+
+use crate::count::Count;
+use crate::entry::SlotEntry;
+use crate::slots::{hash_in, slot_after};
+use std::mem;
+
+/// Two values, in turn where that is asked. It takes no branch on it where they are words.
+#[inline(always)]
+fn turned_if<T>(is_turned: bool, first: T, second: T) -> (T, T)
+    ensures first { result.0 ≡ if is_turned then second else first }
+    ensures second { result.1 ≡ if is_turned then first else second }
+{
+    if is_turned {
+        (second, first)
+    } else {
+        (first, second)
+    }
+}
+
+/// Puts an entry into a slot if that is free. Answers whether it was, and what waits then: nothing, or the entry. It is one look.
+#[inline(always)]
+fn put_if_free<E: SlotEntry>(
+    slots: &mut [E::Slot],
+    at: usize,
+    entry: E::Slot,
+    looks: &mut Count,
+) -> (bool, E::Slot)
+    requires { at < length slots.old }
+    ensures free { result.0 ≡ is_none (slot (map E.held slots.old) at) }
+    ensures stands { map E.held slots.new ≡ if result.0 then set (map E.held slots.old) at (E.held entry) else map E.held slots.old }
+    ensures waits { E.held result.1 ≡ if result.0 then None else E.held entry }
+    ensures looks { looks.new ≡ looks.old + 1 }
+{
+    looks.tick();
+    let held = mem::replace(&mut slots[at], E::free_slot());
+    let is_free = E::in_slot(&held).is_none();
+    let (stands, waits) = turned_if(is_free, held, entry);
+    slots[at] = stands;
+    (is_free, waits)
+}
+
+/// Moves entries into slots that are free. Counts in `placed` the entries, in `looks` the slots looked at.
+pub(crate) fn settle<E: SlotEntry>(
+    left: &mut [E::Slot],
+    slots: &mut [E::Slot],
+    lg: u8,
+    placed: &mut Count,
+    looks: &mut Count,
+)
+    requires small { lg < 40 }
+    requires size { length slots.old ≡ 2 ^ lg }
+    requires free { filled (map E.held slots.old) ≡ [] }
+    requires apart { IsApart E.key (filled (map E.held left.old)) }
+    requires room { length (filled (map E.held left.old)) ≤ 2 ^ lg }
+    ensures laid_out { IsLaidOut E.key lg (map E.held slots.new) }
+    ensures map { map_of E.key (filled (map E.held slots.new)) ≡ map_of E.key (filled (map E.held left.old)) }
+    ensures placed { placed.new ≡ placed.old + length (filled (map E.held left.old)) }
+    ensures looked { looks.old ≤ looks.new }
+    ensures looks { 2 * looks.new ≤ 2 * looks.old + (placed.new - placed.old) * (placed.new - placed.old + 1) }
+{
+    let mut count = left.len();
+    let mut round = 0;
+    'rounds: loop {
+        if count == 0 {
+            return;
+        }
+        let mut kept = 0;
+        'look_on: for at in 0..count {
+            let entry = mem::replace(&mut left[at], E::free_slot());
+            if let Some(hash) = hash_in::<E>(&entry) {
+                let next = slot_after(hash, lg, round);
+                let (is_settled, waits) = put_if_free::<E>(slots, next, entry, looks);
+                left[kept] = waits;
+                if is_settled {
+                    placed.tick();
+                } else {
+                    kept += 1;
+                }
+            }
+        }
+        count = kept;
+        round += 1;
+    }
+}

@@ -1,0 +1,16 @@
+use Rattle.std.proofs.Common.{ℕ, ◌∷◌, [], take, drop, get_or, sym, ap, ◌∙◌, take-append-drop}
+use Rattle.std.proofs.lemmas.Result.{err_from_is_err_and}
+use Rattle.std.proofs.lemmas.List.{take_more}
+use Rattle.theta_table.specs.HashTable.{after_hashes}
+use Rattle.theta_table.proofs.ManyHashes.{after_hashes-append}
+use Rattle.theta_table.proofs.hash_table.SketchHashTable+ThetaEntry+A.insert_each.Goals as goal
+
+pub returns-in_err-try_insert_hash-clause-err : goal.returns-in_err-try_insert_hash-clause-err
+returns-in_err-try_insert_hash-clause-err g c =
+    let p = err_from_is_err_and c.from_residual.result c.from_residual.ensures.1 in
+    rw (p.1) (take c.each.hash-index c.args.hashes.now, drop c.each.hash-index c.args.hashes.now, sym (take-append-drop c.each.hash-index c.args.hashes.now), c.in_err-try_insert_hash.ensures.err ∙ c.each.invariant)
+
+pub each-preserved : goal.each-preserved
+each-preserved g c =
+    let hash : ℕ = get_or c.args.hashes.now c.each.hash-index 0 in
+    c.in_ok-try_insert_hash.ensures.after ∙ ap (after_hashes (hash ∷ [])) c.each.invariant ∙ sym (after_hashes-append (take c.each.hash-index c.args.hashes.now) (hash ∷ []) c.args.self.now.map) ∙ ap (λ xs. after_hashes xs c.args.self.now.map) (sym (take_more c.args.hashes.now c.each.hash-index 0 c.each-test.true))
