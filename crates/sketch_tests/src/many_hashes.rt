@@ -9,11 +9,8 @@ use theta_sketches::ThetaSketchBuilder;
 /// What a sketch is after hashes that are handed over in parts of so many.
 fn after_parts(alloc: Global, lg_k: u8, hashes: &[u64], part: usize) -> Result<Value, Error> {
     let mut sketch = ThetaSketchBuilder::default().lg_k(lg_k).build(alloc)?;
-    let mut rest = hashes;
-    while !rest.is_empty() {
-        let (first, others) = rest.split_at(rest.len().min(part.max(1)));
-        sketch.update_hashes(first)?;
-        rest = others;
+    for some in hashes.chunks(part.max(1)) {
+        sketch.update_hashes(some)?;
     }
     sketch.update_hashes(&[])?;
     Ok(shown_of(alloc, &sketch)?)
