@@ -1,10 +1,8 @@
 -- Sketches of texts, read from images.
-use Rattle.std.proofs.Common.{◌≡◌, ℕ, List, [], ◌∷◌, ◌++◌, ◌<◌, ◌^◌, Result, Ok, Err, arith, refl, sym, ap, subst, ◌∙◌}
-use Rattle.std.specs.Prelude.{IfOk}
+use Rattle.std.proofs.Common.{◌≡◌, ℕ, List, [], ◌∷◌, ◌++◌, ◌<◌, ◌^◌, arith, refl, sym, ap, subst, ◌∙◌}
 use Rattle.std.proofs.lemmas.List.{append-nil}
 use Rattle.sketch_base.specs.Seed.{seed_hash}
 use Rattle.sketch_base.specs.declared.seed.TheConstants.{DEFAULT_UPDATE_SEED}
-use Rattle.sketch_base.specs.declared.error.ErrorKind.{ErrorKind}
 use Rattle.theta_compact.specs.CompactState.{Compact, IsCompact, compact_value}
 use Rattle.theta_laws.specs.Maps.{IsAscending}
 use Rattle.theta_laws.specs.Cuts.{Retained}
@@ -59,7 +57,3 @@ reads_it anew s seed bytes compact same seeded image =
     let small : s.seed_hash < 2 ^ 16 = omega (arith, same, seed_hash-small seed) in
     let all : written s ++ [] ≡ bytes = append-nil (written s) ∙ sym image in
     subst (λ (h : ℕ). Reads bytes h s) same (subst (λ (bs : List ℕ). Reads bs s.seed_hash s) all (anew s [] compact low small))
-
-pub on_ok : {T : Type 0} (r : Result T ErrorKind) (P Q : T → Type 0) → ((x : T) → P x → Q x) → IfOk r P → IfOk r Q
-on_ok (Ok x) P Q step holds = step x holds
-on_ok (Err e) P Q step holds = tt

@@ -13,6 +13,6 @@ Takes key old front piece new left = (more : List ℕ) → with_lines key old (l
 abbrev pub Leaves : Key → (old : Held) (piece : List ℕ) (new : Held) (left : List ℕ) → Type 0
 Leaves key old piece new left = (more : List ℕ) → with_lines key old (lines_after [] (piece ++ more)) ≡ with_lines key new (lines_after [] (left ++ more))
 
--- The hashes of the lines at the head of a text, behind which `rest` stands: whatever comes behind the text, its lines are these and those of the rest and what comes.
+-- some first lines of a text have these hashes, and `rest` stands behind them: whatever comes behind the text, its lines are those and then the lines of the rest and what comes
 abbrev pub AreHashesOfLines : Key → (text hashes rest : List ℕ) → Type 0
 AreHashesOfLines key text hashes rest = (lines : List (List ℕ)) × (hashes ≡ map (line_hash key) lines) × ((more : List ℕ) → lines_after [] (text ++ more) ≡ lines ++ lines_after [] (rest ++ more))

@@ -50,7 +50,8 @@ impl From<AllocError> for Unread {
 
 /// Looks on while lines are taken in.
 pub trait Watch {
-    /// So many bytes were read, and so many lines ended in them; the sketch has taken these in.
+    /// So many bytes were read, and so many lines ended in them; the sketch has taken these in. The numbers are for a reader's
+    /// eye: no clause speaks of them.
     fn saw<A: Allocator>(&mut self, bytes: usize, lines: u64, sketch: &ThetaSketch<A>);
 }
 
@@ -150,9 +151,8 @@ fn take_last<A: Allocator + Clone>(
 
 /// Takes in all lines that a reader has left, block by block, each by its key. A read that was interrupted is made again.
 ///
-/// Where a source fails, the lines that ended before are taken in, and nothing of the line that was open; where memory is
-/// refused, some first part of the lines that ended. Refused with `OutOfMemory`
-/// alone; a source that failed tells its error, which is never that a read was interrupted.
+/// Refused with `OutOfMemory` alone; a source that failed tells its error, which is never that a read was interrupted. Then
+/// some first part of the lines is taken in; no clause says which.
 pub fn add_lines<A: Allocator + Clone, R: Read, W: Watch>(
     sketch: &mut ThetaSketch<A>,
     key: Key,

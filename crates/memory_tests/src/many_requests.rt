@@ -7,8 +7,8 @@ use std::alloc::Global;
 use std::test::Fail;
 use theta_sketches::{ResizeFactor, ThetaSketch, ThetaSketchBuilder};
 
-/// What a sketch of 32 nominal entries, whose slots double, is after hashes of which one request is refused; why, if it
-/// came to that request; and what it is after the same hashes once more.
+/// What a sketch of 32 nominal entries, whose slots double, is after hashes that are handed over while one request for memory
+/// is refused; why, if it came to that request; and what it is after the same hashes once more.
 fn after_refusal<'a>(
     heap: &'a Heap,
     hashes: &[u64],
@@ -36,7 +36,8 @@ fn taken(alloc: Global, hashes: &[u64], value: &Value) -> Result<Option<usize>, 
     Ok(None)
 }
 
-/// For the first request, the second and each later one: how many hashes were taken in where it was refused, until none was.
+/// For the first request, the second and each later one, until none was refused: how many hashes were taken in where it was
+/// refused; `None` where that is no first part of them, the error is another, or the same hashes once more don't come to all.
 fn taken_in_turn(heap: &Heap, hashes: &[u64]) -> Result<Vec<Option<usize>>, Error> {
     let alloc = *heap.inner();
     let whole = after_each(alloc, 5, hashes)?;
@@ -58,7 +59,7 @@ fn some_first_part_is_taken_in(rt: HostRuntime) -> Result<(), Fail> {
     let hashes = mixed_hashes(rt.alloc(), 90, 70)?;
     let counts = taken_in_turn(&heap, &hashes)?;
     assert!(rt; counts.len() >= 2, "{counts:?}");
-    assert!(rt; counts.iter().all(|count| count.is_some()), "{counts:?}");
-    assert!(rt; counts.iter().all(|count| *count >= Some(16)), "{counts:?}");
+    // 16 entries stand in the first 32 slots, behind two hashes that are not retained, before memory is asked for.
+    assert!(rt; counts.iter().all(|count| *count >= Some(18)), "{counts:?}");
     Ok(())
 }

@@ -70,7 +70,8 @@ pub fn value_between(
     Ok((empty, theta, numbers(alloc, first, last)?))
 }
 
-/// Hashes in no order: so many, of which `distinct` are different. The first of them is 0, and the second is more than any hash.
+/// Hashes in no order, `count` of them, of which at most `distinct` are different. The first is 0, and the second is more than
+/// any hash.
 pub fn mixed_hashes(alloc: Global, count: u64, distinct: u64) -> Result<Vec<u64>, AllocError> {
     let mut hashes = Vec::new(alloc);
     for number in 0..count {

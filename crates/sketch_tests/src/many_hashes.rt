@@ -30,7 +30,8 @@ fn both(
     ))
 }
 
-/// A size, how many hashes and how many of them are different, the parts, and how many are retained at least and at most.
+/// The nominal logarithm, how many hashes and how many of them are different, how many are handed over at once, and how many
+/// are retained, at least and at most.
 type Row = (u8, (u64, u64), usize, usize, usize);
 
 #[test]
@@ -40,13 +41,13 @@ fn many_hashes_are_as_each(rt: HostRuntime) -> Result<(), Fail> {
         (5, (1, 1), 1, 0, 0),
         (5, (2, 2), 2, 0, 0),
         (5, (3, 3), 3, 1, 1),
-        (5, (127, 40), 127, 38, 38),
-        (5, (128, 128), 128, 32, 60),
-        (5, (129, 129), 128, 32, 60),
-        (5, (255, 200), 255, 32, 60),
-        (5, (256, 256), 256, 32, 60),
+        (5, (256, 200), 256, 32, 60),
         (5, (257, 257), 257, 32, 60),
+        (5, (258, 258), 258, 32, 60),
         (5, (513, 500), 513, 32, 60),
+        (5, (514, 514), 514, 32, 60),
+        (9, (258, 258), 258, 256, 256),
+        (9, (514, 500), 514, 498, 498),
         (5, (3000, 700), 3000, 32, 60),
         (12, (5000, 3000), 5000, 2998, 2998),
         (12, (5000, 3000), 257, 2998, 2998),

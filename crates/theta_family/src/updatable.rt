@@ -1,15 +1,16 @@
 //! The state of a sketch that takes updates, of either family.
-ghost use Rattle.std.specs.Prelude.{◌≡◌, ◌≤◌, ◌==◌, ◌&&◌, ◌^◌, true, false, not, nat_lt, None, length, IfOk, OnOk, OnErr};
+ghost use Rattle.std.specs.Prelude.{◌≡◌, ◌≤◌, ◌==◌, ◌&&◌, ◌^◌, true, false, not, nat_lt, None, length, IfOk, OnOk, OnErr, IsTrue};
 ghost use Rattle.std.specs.List.{concat};
 ghost use Rattle.std.specs.Option.{ForSome};
 ghost use Rattle.sketch_base.specs.Seed.{hash_of};
 ghost use Rattle.theta_compact.specs.CompactState.{IsAnswer};
 ghost use Rattle.theta_laws.specs.Cuts.{cut};
 ghost use Rattle.theta_laws.specs.Entries.{hash_key, hash_step, ClonesEqual};
+ghost use Rattle.theta_laws.specs.Parts.{StopsAt};
 ghost use Rattle.theta_laws.specs.Refusal.{Refuses};
 ghost use Rattle.theta_laws.specs.Maps.{IsLent};
 ghost use Rattle.theta_table.specs.HashTable.{empty_table, after_reset, after_hashes, table_refusal};
-ghost use Rattle.theta_laws.specs.Insertion.{after_upsert, upsert_refusal, upsert_allocates, HoldsOfFirstPart};
+ghost use Rattle.theta_laws.specs.Insertion.{after_upsert, upsert_refusal, upsert_allocates};
 ghost use Rattle.theta_family.specs.Updatable.{IsUpdatable, sketch_value, sketch_shows};
 ghost use Rattle.theta_laws.specs.Values.{theta_of, count_of, fraction_of};
 ghost use Rattle.theta_laws.specs.Shown.{IsShown};
@@ -236,21 +237,22 @@ impl<A: Allocator + Clone> UpdatableState<ThetaEntry, A> {
         Ok(())
     }
 
-    /// Takes in hashes in their order, each as `insert_hash` does, with the slots of up to 256 of them looked at side by side. The
-    /// state is nonempty then, but where it was empty and there is no hash.
+    /// Takes in hashes in their order, each as `insert_hash` does; the slots of up to 256 of them are looked at side by side.
+    /// The state is nonempty then, unless it was empty and there were none.
     ///
-    /// Refused with `OutOfMemory` alone; then some first part of the hashes has been taken in.
+    /// Refused with `OutOfMemory` alone, and only at a new hash below theta; then just the hashes before that one have been
+    /// taken in, and the same call may be made again.
     pub fn insert_hashes(&mut self, hashes: &[u64]) -> Result<(), Error>
         ensures after { OnOk result (self.new.map ≡ after_hashes hashes.now self.old.map) }
         ensures empty { OnOk result (self.new.empty ≡ (self.old.empty && length hashes.now == 0)) }
-        ensures err { OnErr result (HoldsOfFirstPart hashes.now (λ front. (self.new.map ≡ after_hashes front self.old.map) × (self.new.empty ≡ (self.old.empty && length front == 0)))) }
+        ensures err { OnErr result (StopsAt hashes.now (λ front hash. (self.new.map ≡ after_hashes front self.old.map) × (self.new.empty ≡ (self.old.empty && length front == 0)) × IsTrue (upsert_allocates hash_key hash (hash_step hash) self.new.map.kept))) }
         ensures refused { Refuses result None true }
     {
         let Some((first, others)) = hashes.split_first() else {
             return Ok(());
         };
+        // The first goes alone: the state is nonempty from it on, also where a later one is refused.
         self.insert_hash(*first)?;
-        self.table.insert_hashes(others)?;
-        Ok(())
+        self.table.insert_hashes(others)
     }
 }

@@ -4,3 +4,4 @@ pub mod Insertions
 pub mod MapsOfLists
 pub mod MappedEntries
 pub mod BinarySearch
+pub mod ApartEntries

@@ -1,5 +1,5 @@
 -- Insertions into what is retained, one and many, and into a whole map.
-use Rattle.std.specs.Prelude.{ℕ, ◌≡◌, ◌⊎◌, ◌++◌, true, IsSome, ◌==◌, ◌-◌, ◌*◌, ◌/◌, ◌&&◌, ◌||◌, not, List, [], nat_lt, nat_le, Bool, if◌then◌else◌, Option, None, length, is_none, is_some, ◌∷◌}
+use Rattle.std.specs.Prelude.{ℕ, ◌≡◌, ◌⊎◌, true, IsSome, ◌==◌, ◌*◌, ◌/◌, ◌&&◌, ◌||◌, not, List, [], nat_lt, nat_le, Bool, if◌then◌else◌, Option, None, length, is_none, is_some, ◌∷◌}
 use Rattle.std.specs.Option.{option_map_or}
 use Rattle.sketch_base.specs.declared.error.ErrorKind.{ErrorKind}
 use Rattle.theta_laws.specs.Step.{Step}
@@ -49,10 +49,6 @@ IsRedundant key v h = (is_screened h v.theta ≡ true) ⊎ IsSome (entry_at key 
 abbrev pub LeavesOut : {X : Type 0} → (X → Type 0) → (xs ys : List X) → Type 0
 LeavesOut {X} P [] ys = ys ≡ []
 LeavesOut {X} P (x ∷ xs) ys = (P x × LeavesOut P xs ys) ⊎ ((zs : List X) × (ys ≡ x ∷ zs) × LeavesOut P xs zs)
-
--- P holds of some first part of a list
-abbrev pub HoldsOfFirstPart : {X : Type 0} → List X → (List X → Type 0) → Type 0
-HoldsOfFirstPart {X} xs P = (front : List X) × (rest : List X) × (xs ≡ front ++ rest) × P front
 
 -- a step at h on a whole map, which knows no theta
 abbrev pub whole_upsert : {X : Type 0} → (X → ℕ) → ℕ → Step X → List X → List X

@@ -5,6 +5,7 @@ pub mod Refusal
 pub mod Step
 pub mod Entries
 pub mod Insertion
+pub mod Parts
 pub mod Values
 pub mod Folds
 pub mod Lawful

@@ -40,9 +40,15 @@ pub fn upsert_stays_within<X>()
     ensures { (key : X → ℕ) (k start h : ℕ) (step : Step X) (v : Retained X) (whole : List X) → 0 < h → ((x : X) → key x ≡ h → key (step.writes x) ≡ h) → ((x : X) → step.makes ≡ Some x → key x ≡ h) → IsWithin key k start v whole → IsWithin key k start (after_upsert key k h step v) (whole_upsert key h step whole) }
 {}
 
-/// Of hashes that are inserted in turn those may be left out that were screened or retained at the start: what is then retained is the same.
+/// Of hashes that are inserted in turn, those that were screened or retained at the start may be left out: what is retained in
+/// the end is the same.
 pub fn redundant_hashes_left_out()
     ensures { (k : ℕ) (v : Retained ℕ) (hashes left : List ℕ) → IsRetained hash_key v → LeavesOut (IsRedundant hash_key v) hashes left → after_upserts hash_key k hash_step hashes v ≡ after_upserts hash_key k hash_step left v }
+{}
+
+/// After a first part of some hashes was inserted, inserting all of them comes to the same as inserting them once.
+pub fn first_part_inserted_again()
+    ensures { (k : ℕ) (v : Retained ℕ) (front rest : List ℕ) → IsRetained hash_key v → after_upserts hash_key k hash_step (front ++ rest) (after_upserts hash_key k hash_step front v) ≡ after_upserts hash_key k hash_step (front ++ rest) v }
 {}
 
 /// After any steps a leaf retains all of the whole map of what was added below a lawful theta.

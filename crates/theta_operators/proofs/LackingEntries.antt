@@ -20,6 +20,7 @@ use Rattle.theta_laws.proofs.maps.Ascending.{each-filter, each-weaker, each-pass
 use Rattle.theta_laws.proofs.operators.CommonMaps.{filter-and, filter-agree, lacking-nil}
 use Rattle.theta_laws.proofs.cuts.Cuts.{below_all}
 use Rattle.theta_laws.proofs.maps.MapsOfLists.{distinct-apart, each-hash, apart-distinct, ascending-from_map, each-from_map, ascending-map, entry_at-map_of, ascending-map_of}
+use Rattle.theta_laws.proofs.maps.ApartEntries.{apart-filter}
 use Rattle.theta_laws.proofs.maps.LookUps.{entry_at-filter_in, entry_at-filter_out, entry_at-below, entry_at_head, past, same_map}
 use Rattle.theta_table.proofs.OtherOrders.{map_of-ascending, map_of-moved, each-map_of}
 use Rattle.theta_compact.proofs.LawsOfShown.{IsShown-retained}
@@ -107,19 +108,6 @@ module _ {X : Type 0} (key : X → ℕ) where
   pub stops : (x : X) (left : List X) (theta : ℕ) → IsAscending key (x ∷ left) → theta ≤ key x → below key (x ∷ left) theta ≡ []
   stops x left theta up le = none_low (x ∷ left) theta (le, each-weaker _ _ (λ y lt. omega (arith, le, lt)) left (ascending-head key x left up))
 
-  filter_absent : (p : X → Bool) (xs : List X) (q : ℕ) → entry_at key xs q ≡ None → entry_at key (filter p xs) q ≡ None
-  filter_absent p [] q none = refl
-  filter_absent p (x ∷ xs) q none =
-      (elim (eqb (key x) q) as (λ b. eqb (key x) q ≡ b → cond b (Some x) (entry_at key xs q) ≡ None → entry_at key (filter p (x ∷ xs)) q ≡ None) [
-        | true ↦ λ e n. absurd (cc)
-        | false ↦ λ e n. elim (p x) as (λ b. entry_at key (cond b (x ∷ filter p xs) (filter p xs)) q ≡ None) [ true ↦ rw e (filter_absent p xs q n) | false ↦ filter_absent p xs q n ]
-      ]) refl none
-
-  apart-filter : (p : X → Bool) (xs : List X) → IsApart key xs → IsApart key (filter p xs)
-  apart-filter p [] each = tt
-  apart-filter p (x ∷ xs) each =
-      elim (p x) as (λ b. IsApart key (cond b (x ∷ filter p xs) (filter p xs))) [ true ↦ (filter_absent p xs (key x) each.0, apart-filter p xs each.1) | false ↦ apart-filter p xs each.1 ]
-
   -- where a test is of keys alone
   entry_at-keyed : (f : ℕ → Bool) (xs : List X) (q : ℕ) → entry_at key (filter (λ x. f (key x)) xs) q ≡ cond (f q) (entry_at key xs q) None
   entry_at-keyed f xs q =
@@ -172,7 +160,7 @@ module _ {X : Type 0} (key : X → ℕ) where
   shown_kept a listing hs theta seed_hash shown hashes low high = record {
     theta_low = low;
     theta_high = omega (arith, high, shown.theta_high);
-    distinct = distinct-apart key (kept_of listing hs theta) (apart-filter _ _ (apart-filter _ listing (apart-distinct key listing (rw hashes shown.distinct))));
+    distinct = distinct-apart key (kept_of listing hs theta) (apart-filter key _ _ (apart-filter key _ listing (apart-distinct key listing (rw hashes shown.distinct))));
     nonzero = each-hash key (λ h. 0 < h) (kept_of listing hs theta) (each-filter _ _ _ (each-filter _ _ listing (each-from_map key (λ h. 0 < h) listing (rw hashes shown.nonzero))));
     below_theta = each-hash key (λ h. h < theta) (kept_of listing hs theta) (each-filter _ _ _ (each-passes (λ x. key x < theta) (λ x. ltb (key x) theta) (λ x e. grind (arith, nat_tests)) listing));
     few =

@@ -1,14 +1,15 @@
 //! Theta sketches that take updates.
-ghost use Rattle.std.specs.Prelude.{◌≡◌, ◌≤◌, ◌==◌, ◌&&◌, ◌^◌, true, false, not, nat_lt, None, length, IfOk, OnOk, OnErr, is_some};
+ghost use Rattle.std.specs.Prelude.{◌≡◌, ◌≤◌, ◌==◌, ◌&&◌, ◌^◌, true, false, not, nat_lt, None, length, IfOk, OnOk, OnErr, IsTrue, is_some};
 ghost use Rattle.std.specs.List.{concat};
 ghost use Rattle.sketch_base.specs.Seed.{hash_of};
 ghost use Rattle.theta_compact.specs.CompactState.{IsAnswer};
 ghost use Rattle.theta_laws.specs.Cuts.{cut};
 ghost use Rattle.theta_laws.specs.Entries.{hash_key, hash_step};
+ghost use Rattle.theta_laws.specs.Parts.{StopsAt};
 ghost use Rattle.theta_laws.specs.Refusal.{Refuses};
 ghost use Rattle.theta_table.specs.HashTable.{IsTable, empty_table, after_reset, after_hashes, table_refusal};
 ghost use Rattle.theta_laws.specs.Maps.{IsLent};
-ghost use Rattle.theta_laws.specs.Insertion.{after_upsert, upsert_allocates, HoldsOfFirstPart};
+ghost use Rattle.theta_laws.specs.Insertion.{after_upsert, upsert_allocates};
 ghost use Rattle.theta_family.specs.Updatable.{IsUpdatable, sketch_value, sketch_shows};
 ghost use Rattle.theta_laws.specs.Values.{theta_of, count_of, fraction_of};
 ghost use Rattle.theta_laws.specs.Shown.{IsShown, shown_value};
@@ -176,13 +177,14 @@ impl<A: Allocator + Clone> ThetaSketch<A> {
         self.state.insert_hash(hash)
     }
 
-    /// Takes in hashes in their order, each as `update_hash` does. The sketch is nonempty then, but where it was empty and there is
-    /// no hash.
+    /// Takes in hashes in their order, each as `update_hash` does. The sketch is nonempty then, unless it was empty and there
+    /// were none.
     ///
-    /// Where a sketch is large this is several times as fast as one call for each, since the memory of up to 256 hashes is
+    /// Where a sketch is large this is several times as fast as one call for each, since the slots of up to 256 hashes are
     /// waited for together. So hand over a few hundred at a time.
     ///
-    /// Refused with `OutOfMemory` alone; then some first part of the hashes has been taken in.
+    /// Refused with `OutOfMemory` alone, and only at a new hash below theta; then just the hashes before that one have been
+    /// taken in. The same call may then be made again: what was taken in before changes nothing.
     ///
     /// ```
     /// use theta_sketches::ThetaSketchBuilder;
@@ -194,7 +196,7 @@ impl<A: Allocator + Clone> ThetaSketch<A> {
     pub fn update_hashes(&mut self, hashes: &[u64]) -> Result<(), Error>
         ensures after { OnOk result (self.new.map ≡ after_hashes hashes.now self.old.map) }
         ensures empty { OnOk result (self.new.empty ≡ (self.old.empty && length hashes.now == 0)) }
-        ensures err { OnErr result (HoldsOfFirstPart hashes.now (λ front. (self.new.map ≡ after_hashes front self.old.map) × (self.new.empty ≡ (self.old.empty && length front == 0)))) }
+        ensures err { OnErr result (StopsAt hashes.now (λ front hash. (self.new.map ≡ after_hashes front self.old.map) × (self.new.empty ≡ (self.old.empty && length front == 0)) × IsTrue (upsert_allocates hash_key hash (hash_step hash) self.new.map.kept))) }
         ensures refused { Refuses result None true }
     {
         self.state.insert_hashes(hashes)

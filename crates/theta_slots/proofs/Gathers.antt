@@ -1,7 +1,7 @@
 -- Entries below a theta that are gathered in front of other slots.
 use Rattle.std.proofs.Common.{◌≡◌, ◌⊎◌, ℕ, zero, suc, ◌+◌, ◌<◌, Bool, true, false, cond, ltb, List, [], ◌∷◌, ◌++◌, length, map, get_or, set, take, drop, Option, Some, None, inl, inr, refl, sym, ap, subst, ◌∙◌, arith}
 use Rattle.std.specs.List.{count_by}
-use Rattle.std.proofs.lemmas.List.{take-set, get_or-drop, map-append, append-nil}
+use Rattle.std.proofs.lemmas.List.{take-set, take_at, get_or-drop, map-append, append-nil}
 use Rattle.std.proofs.Math.Seq.{take-suc-set}
 use Rattle.std.proofs.lemmas.List.Elements.{filter-append}
 use Rattle.theta_laws.specs.Maps.{IsApart, below, map_of, entry_at}
@@ -57,6 +57,12 @@ module _ {X : Type 0} (key : X → ℕ) where
               ∙ ap filled (map-append held (take count others) (s ∷ [])) ∙ filled-append (map held (take count others)) (held s ∷ [])
               ∙ ap (λ xs. xs ++ one) so_far ∙ sym (right ∙ ap (λ xs. below key seen theta ++ xs) all.0)
         ]
+
+    -- what has come stands in front of others, and is kept
+    pub front_gathered : (first come others kept : List S) (n count theta : ℕ) → n ≡ length come → kept ≡ take count (take n (come ++ drop (length come) others))
+        → filled (map held (take count come)) ≡ below key (filled (map held first)) theta → filled (map held kept) ≡ below key (filled (map held first)) theta
+    front_gathered first come others kept n count theta long is taken =
+        ap (λ xs. filled (map held xs)) (is ∙ ap (λ xs. take count xs) (take_at come (drop (length come) others) n (sym long))) ∙ taken
 
   -- what is below theta of what is below theta
   pub count-below : (xs : List X) (theta : ℕ) → count_by (λ x. ltb (key x) theta) (below key xs theta) ≡ count_by (λ x. ltb (key x) theta) xs

@@ -1,6 +1,7 @@
 -- Hashes that are looked up together: what is blanked, packed and left out.
 use Rattle.std.proofs.Common.{◌≡◌, ◌≢◌, ℕ, zero, suc, ◌+◌, ◌<◌, ◌≤◌, Bool, true, false, cond, eqb, not, List, [], ◌∷◌, ◌++◌, length, map, filter, take, drop, set, get_or, Option, Some, None, inl, inr, refl, sym, ap, subst, ◌∙◌, arith, get_or-set_other}
 use Rattle.std.specs.Prelude.{IsSome, option_map, unwrap_or}
+use Rattle.std.specs.List.{AllByRecursion}
 use Rattle.std.proofs.lemmas.Bool.Decides.{nat_tests}
 use Rattle.std.proofs.lemmas.List.{take_more, take_more_set, take-set, append-nil, length-set, length-append, length-take-le, take-append-le, take-append-drop, take_at, take_all}
 use Rattle.std.proofs.lemmas.List.Elements.{filter-append}
@@ -88,6 +89,14 @@ module _ {S X : Type 0} (key : X → ℕ) (held : S → Option X) where
         | false ↦ λ e m. inl m
       ]) refl made
 
+-- what is packed isn't screened
+pub packed_pass : (theta : ℕ) (hashes : List ℕ) → AllByRecursion (λ h. is_screened h theta ≡ false) (filter (λ h. not (is_screened h theta)) hashes)
+packed_pass theta [] = tt
+packed_pass theta (h ∷ hashes) =
+    let rest = packed_pass theta hashes in
+    let left : List ℕ = filter (λ h. not (is_screened h theta)) hashes in
+    (elim (is_screened h theta) as (λ b. is_screened h theta ≡ b → AllByRecursion (λ h. is_screened h theta ≡ false) (cond (not b) (h ∷ left) left)) [ true ↦ λ e. rest | false ↦ λ e. (e, rest) ]) refl
+
 -- hashes that were blanked and packed are left out
 module _ {X : Type 0} (key : X → ℕ) (xs : List X) (theta : ℕ) where
   left_out-blanked : (hashes now : List ℕ) → length now ≡ length hashes → ((p : ℕ) → p < length hashes → IsBlanked key xs (get_or hashes p 0) (get_or now p 0)) →
@@ -113,6 +122,7 @@ module _ {X : Type 0} (key : X → ℕ) (xs : List X) (theta : ℕ) where
   pub record IsLeft (whole hashes : List ℕ) (left : ℕ) : Type 0 where
     pub size : length hashes ≡ length whole
     pub few : left ≤ length hashes
+    pub unscreened : AllByRecursion (λ h. is_screened h theta ≡ false) (take left hashes)
     pub others_out : LeavesOut (IsRedundant key (record { entries = xs; theta = theta })) whole (take left hashes)
 
   -- a round more: the front is blanked, and what is not is packed
@@ -134,6 +144,7 @@ module _ {X : Type 0} (key : X → ℕ) (xs : List X) (theta : ℕ) where
       record {
         size = whole_size ∙ was.size;
         few = omega (arith, few, short, was.few, whole_size);
+        unscreened = subst (AllByRecursion (λ h. is_screened h theta ≡ false)) (sym now) (packed_pass theta blanks);
         others_out = left_out_again _ whole (take left hashes) (take more (packs ++ drop left (blanks ++ drop left hashes))) was.others_out
             (subst (λ zs. LeavesOut (IsRedundant key (record { entries = xs; theta = theta })) (take left hashes) zs) (sym now) (left_out-blanked (take left hashes) blanks size each));
       }

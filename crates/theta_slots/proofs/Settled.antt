@@ -1,10 +1,10 @@
 -- Entries that are put into free slots in rounds.
-use Rattle.std.proofs.Common.{◌≡◌, ℕ, zero, suc, ◌+◌, ◌-◌, ◌*◌, ◌^◌, ◌<◌, ◌≤◌, ◌≢◌, true, false, not, eqb, IsSome, List, [], ◌∷◌, ◌++◌, length, append_assoc, append-nil, set, get_or, Option, Some, None, is_none, inl, inr, refl, sym, ap, ◌∙◌, subst, arith}
+use Rattle.std.proofs.Common.{◌≡◌, ℕ, ◌+◌, ◌-◌, ◌*◌, ◌^◌, ◌<◌, ◌≤◌, ◌≢◌, true, false, not, eqb, IsSome, List, [], ◌∷◌, ◌++◌, length, append_assoc, append-nil, set, Option, Some, None, is_none, inl, inr, refl, sym, ap, ◌∙◌, subst, arith}
 use Rattle.std.specs.List.{count_by}
 use Rattle.std.specs.Option.{option_map_or}
 use Rattle.std.proofs.lemmas.Bool.{cases_eq, cases_lt}
 use Rattle.std.proofs.lemmas.Bool.Decides.{nat_tests}
-use Rattle.std.proofs.lemmas.List.{get_or-set_same, get_or-set_other, length-set}
+use Rattle.std.proofs.lemmas.List.{get_or-set_same, get_or-set_other, set-get_or, length-set}
 use Rattle.theta_laws.specs.Maps.{IsApart, entry_at, map_of}
 use Rattle.theta_laws.proofs.maps.LookUps.{entry_at-append, same_map}
 use Rattle.theta_laws.proofs.maps.MapsOfLists.{entry_at-map_of, ascending-map_of}
@@ -19,9 +19,7 @@ use Rattle.theta_slots.proofs.Relays.{apart_once, count_put, count_took, counted
 -- ---- one place of a list
 module _ {X : Type 0} where
   pub set_none : (xs : List (Option X)) (p : ℕ) → slot xs p ≡ None → set xs p None ≡ xs
-  set_none [] p none = refl
-  set_none (o ∷ xs) zero none = ap (λ u. u ∷ xs) (sym none)
-  set_none (o ∷ xs) (suc p) none = ap (λ zs. o ∷ zs) (set_none xs p none)
+  set_none xs p none = ap (λ o. set xs p o) (sym none) ∙ set-get_or xs p None
 
   -- what is found elsewhere once a place is cleared
   elsewhere : (xs : List (Option X)) (at p : ℕ) (x : X) → slot (set xs at None) p ≡ Some x → (p ≢ at) × (slot xs p ≡ Some x)
@@ -49,12 +47,6 @@ module _ {X : Type 0} where
   pub is_taken : (o : Option X) → is_none o ≡ false → (x : X) × (o ≡ Some x)
   is_taken None is = absurd (cc)
   is_taken (Some x) is = (x, refl)
-
--- what is written back
-pub set-back : {Y : Type 0} (ys : List Y) (p : ℕ) (d : Y) → p < length ys → set ys p (get_or ys p d) ≡ ys
-set-back [] p d lt = refl
-set-back (y ∷ ys) zero d lt = refl
-set-back (y ∷ ys) (suc p) d lt = ap (λ zs. y ∷ zs) (set-back ys p d (omega (arith, lt)))
 
 -- ---- numbers
 turned : (p l r s : ℕ) → 2 * l ≤ p * (p + 1) → r ≤ p → 2 * (l + r + 1) ≤ (p + 1) * ((p + 1) + 1)
@@ -263,9 +255,9 @@ module _ {X : Type 0} (key : X → ℕ) (lg : ℕ) where
         as_many_left = omega (arith, took_one, filled_new (set left at None) kept x in_place free_there)
 
     -- nothing is left once there is no place to look at
-    module _ (left slots : List (Option X)) (round put looked : ℕ) (is : IsInRound key lg whole left slots round 0 0 0 put looked) where
+    module _ (left slots : List (Option X)) (round count put looked : ℕ) (none : count ≡ 0) (is : IsInRound key lg whole left slots round 0 0 count put looked) where
       none_left : filled left ≡ []
-      none_left = nothing_waits left (λ p lt. no_some (slot left p) (λ x here. absurd (omega (arith, (is.after p x here (omega arith)).0))))
+      none_left = nothing_waits left (λ p lt. no_some (slot left p) (λ x here. absurd (omega (arith, none, (is.after p x here (omega arith)).0))))
 
       pub no_more : length (filled left) ≡ 0
       no_more = ap length none_left

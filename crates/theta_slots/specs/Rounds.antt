@@ -4,7 +4,7 @@ use Rattle.theta_laws.specs.Maps.{entry_at}
 use Rattle.theta_slots.specs.Layout.{filled, slot, HasOthers, IsLaidOut}
 use Rattle.theta_slots.specs.Relaying.{times_in}
 
--- of the entries `whole` so many are put into slots, with so many looks, and the others are left. In this round those in the first `kept` places have looked, and those from the place `at` on have not
+-- of the entries `whole`, `put` are in slots, after `looked` looks at most, and the others are in `left`, before the place `count`. In this round those before the place `kept` have looked, and those from the place `at` on have not
 pub record IsInRound {X : Type 0} (key : X → ℕ) (lg : ℕ) (whole left slots : List (Option X)) (round at kept count put looked : ℕ) : Type 0 where
   pub laid_out : IsLaidOut key lg slots
   pub found : (q : ℕ) → entry_at key (filled left ++ filled slots) q ≡ entry_at key (filled whole) q

@@ -1,6 +1,6 @@
-//! Slots laid out anew by way of others, into which what is below a theta is gathered first. No branch depends on a hash while it
-//! is gathered, which serves where the slots are few enough to stand in a near cache.
-ghost use Rattle.std.specs.Prelude.{◌≡◌, ◌+◌, ◌-◌, ◌<◌, ◌≤◌, ◌^◌, ◌*◌, [], ◌∷◌, None, nat_lt, OnOk, OnErr, length, map, take};
+//! Slots laid out anew by way of others, into which what is below a theta is gathered first. No branch depends on a hash while
+//! it is gathered, which serves where the slots are few enough to stand in a near cache.
+ghost use Rattle.std.specs.Prelude.{◌≡◌, ◌+◌, ◌-◌, ◌<◌, ◌≤◌, ◌^◌, ◌*◌, [], None, nat_lt, OnOk, OnErr, length, map, take};
 ghost use Rattle.std.specs.List.{count_by};
 ghost use Rattle.theta_laws.specs.Maps.{below, with_entry, map_of};
 ghost use Rattle.theta_slots.specs.Layout.{filled, slot, IsOnPath, IsLaidOut};
@@ -8,21 +8,9 @@ ghost use Rattle.theta_slots.specs.Layout.{filled, slot, IsOnPath, IsLaidOut};
 use crate::count::Count;
 use crate::entry::SlotEntry;
 use crate::rounds::settle;
-use crate::slots::{free_slots, hash_in, spread};
+use crate::slots::{free_slots, held_less, spread};
 use std::alloc::{AllocError, Allocator};
 use std::mem;
-
-/// How many entries below theta a slot holds.
-#[inline(always)]
-fn number_below<E: SlotEntry>(slot: &E::Slot, theta: u64) -> usize
-    ensures number { result ≡ length (below E.key (filled (E.held slot.now ∷ [])) theta) }
-    ensures few { result ≤ 1 }
-{
-    match hash_in::<E>(slot) {
-        None => 0,
-        Some(hash) => { if hash < theta { 1 } else { 0 } }
-    }
-}
 
 /// Moves what is below theta into the slots in front of others, and frees the rest. Answers how many have come.
 fn take_below<E: SlotEntry>(slots: &mut [E::Slot], theta: u64, others: &mut [E::Slot]) -> usize
@@ -36,7 +24,7 @@ fn take_below<E: SlotEntry>(slots: &mut [E::Slot], theta: u64, others: &mut [E::
     let mut count = 0;
     'take_each: for at in 0..slots.len() {
         let slot = mem::replace(&mut slots[at], E::free_slot());
-        let more = number_below::<E>(&slot, theta);
+        let more = held_less::<E>(&slot, theta);
         others[count] = slot;
         count += more;
     }
@@ -54,9 +42,9 @@ fn are_words<T>(slots: &[T]) -> bool
     size_of_val(slots) <= WORD * slots.len()
 }
 
-/// Lays the slots out anew with what is below theta, which is gathered in as many others first; what is not is dropped. Slots of
-/// one word are filled in rounds, and larger ones one by one. Counts in `placed` the entries placed, in `looks` the slots looked
-/// at.
+/// Lays the slots out anew with what is below theta, which is gathered in as many others first; what is not is dropped. Slots
+/// of one word are filled in rounds, and larger ones one by one. Counts in `placed` the entries placed, in `looks` the slots
+/// looked at.
 fn gather<E: SlotEntry, A: Allocator>(
     slots: &mut [E::Slot],
     others: Vec<E::Slot, A>,

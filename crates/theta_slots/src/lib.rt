@@ -1,5 +1,5 @@
 //! Slots in which a table keeps entries by open addressing: searches, writes, moves from slots to slots, laying out anew in
-//! place, and the hash of a rank among those in slots.
+//! place, many hashes looked up at once, and the hash of a rank among those in slots.
 //!
 //! There are 2^lg slots. The path of a hash begins at the slot of its low lg bits and goes on by an odd stride of its next
 //! 7 bits, so it meets each slot once. Contracts see slots as a list of what each holds, and speak of the map that the

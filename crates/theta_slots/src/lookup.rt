@@ -2,15 +2,16 @@
 //!
 //! Which hash a slot holds is as good as random, and where slots are many each look waits for memory. So a round looks at one
 //! slot of each hash, without a branch on what it finds, and only then those that were found are left out.
-ghost use Rattle.std.specs.Prelude.{◌≡◌, ◌==◌, ◌<◌, ◌≤◌, ◌^◌, if◌then◌else◌, not, option_map, unwrap_or, length, map, filter, take, slice_index, EachIndex};
+ghost use Rattle.std.specs.Prelude.{◌≡◌, ◌==◌, ◌<◌, ◌≤◌, ◌^◌, if◌then◌else◌, false, not, option_map, unwrap_or, length, map, filter, take, slice_index, EachIndex};
+ghost use Rattle.std.specs.List.{AllByRecursion};
 ghost use Rattle.theta_laws.specs.Insertion.{IsRedundant, LeavesOut, is_screened};
 ghost use Rattle.theta_slots.specs.Layout.{filled};
 ghost use Rattle.theta_slots.specs.Lookup.{IsBlanked};
 
 use crate::entry::SlotEntry;
-use crate::slots::{hash_in, slot_of, stride_of};
+use crate::slots::{hash_in, slot_after};
 
-/// How many slots on the path of a hash are looked at: so many that few hashes that are held are not found.
+/// How many slots on the path of a hash are looked at: few hashes that are held stand further on.
 const ROUNDS: usize = 3;
 
 /// The hash of what a slot holds, and 0 for a free slot.
@@ -18,13 +19,10 @@ const ROUNDS: usize = 3;
 fn hash_or_zero<E: SlotEntry>(slot: &E::Slot) -> u64
     ensures { result ≡ unwrap_or (option_map E.key (E.held slot.now)) 0 }
 {
-    match hash_in::<E>(slot) {
-        None => 0,
-        Some(hash) => hash,
-    }
+    hash_in::<E>(slot).unwrap_or(0)
 }
 
-/// A hash, and 0 in place of one that is the other.
+/// The hash, or 0 where it is the other.
 #[inline(always)]
 fn unless_same(hash: u64, other: u64) -> u64
     ensures { result ≡ (if hash == other then 0 else hash) }
@@ -32,7 +30,7 @@ fn unless_same(hash: u64, other: u64) -> u64
     if hash == other { 0 } else { hash }
 }
 
-/// A hash, and 0 in place of one that the slot `at` holds. It takes no branch.
+/// The hash, or 0 where the slot `at` holds it. It takes no branch.
 #[inline(always)]
 fn blanked_at<E: SlotEntry>(slots: &[E::Slot], at: usize, hash: u64) -> u64
     requires inside { at < length slots.now }
@@ -45,15 +43,12 @@ fn blanked_at<E: SlotEntry>(slots: &[E::Slot], at: usize, hash: u64) -> u64
 /// Writes 0 in place of each hash that is held by the slot `step` strides along its path.
 fn blank_held<E: SlotEntry>(slots: &[E::Slot], lg: u8, step: usize, hashes: &mut [u64])
     requires small { lg < 40 }
-    requires near { step < 256 }
+    requires near { step < 2 ^ 40 }
     requires size { length slots.now ≡ 2 ^ lg }
     ensures blanked { EachIndex hashes.old (λ p. IsBlanked E.key (filled (map E.held slots.now)) (slice_index hashes.old p) (slice_index hashes.new p)) }
 {
     'blank_each: for hash in hashes.iter_mut() {
-        let at = slot_of(
-            (*hash as usize).wrapping_add(step * stride_of(*hash, lg)),
-            lg,
-        );
+        let at = slot_after(*hash, lg, step);
         *hash = blanked_at::<E>(slots, at, *hash);
     }
 }
@@ -83,8 +78,8 @@ fn pack_unscreened(hashes: &mut [u64], theta: u64) -> usize
     count
 }
 
-/// Leaves out of `hashes` those that are 0, at least theta, or found held within a few looks. What is left moves to the
-/// front, in its order; tells how many that are.
+/// Leaves out of `hashes` all that are 0 or at least `theta`, and of the others only such as are held by one of the 2^`lg`
+/// slots: those found within a few looks. What is left moves to the front, in its order; tells how many these are.
 ///
 /// The slots of one hash are waited for together with those of others. These looks are not counted.
 pub fn leave_out_held<E: SlotEntry>(
@@ -97,6 +92,7 @@ pub fn leave_out_held<E: SlotEntry>(
     requires size { length slots.now ≡ 2 ^ lg }
     requires positive { 0 < theta }
     ensures left { LeavesOut (IsRedundant E.key (record { entries = filled (map E.held slots.now); theta = theta })) hashes.old (take result hashes.new) }
+    ensures unscreened { AllByRecursion (λ h. is_screened h theta ≡ false) (take result hashes.new) }
     ensures few { result ≤ length hashes.old }
 {
     let mut left = pack_unscreened(hashes, theta);

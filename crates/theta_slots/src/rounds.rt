@@ -1,6 +1,7 @@
 //! Entries put into free slots in rounds, in each of which every entry that is left looks one slot further on its path.
 //!
-//! No branch depends on whether a slot is free: put one by one, each entry ends its search with a branch that is guessed wrong.
+//! Compiled, no branch depends on whether a slot is free, since the counts take no memory: put one by one, each entry ends its
+//! search with a branch that is guessed wrong.
 ghost use Rattle.std.specs.Prelude.{◌≡◌, ◌+◌, ◌-◌, ◌<◌, ◌≤◌, ◌^◌, ◌*◌, [], None, is_none, if◌then◌else◌, length, map, set};
 ghost use Rattle.theta_laws.specs.Maps.{IsApart, map_of};
 ghost use Rattle.theta_slots.specs.Layout.{filled, slot, IsLaidOut};
@@ -10,20 +11,21 @@ use crate::entry::SlotEntry;
 use crate::slots::{hash_in, slot_after};
 use std::mem;
 
-/// Two values, in turn where that is asked. It takes no branch on it where they are words.
+/// Two values, exchanged where that is asked. It takes no branch on it where they are words.
 #[inline(always)]
-fn turned_if<T>(is_turned: bool, first: T, second: T) -> (T, T)
-    ensures first { result.0 ≡ if is_turned then second else first }
-    ensures second { result.1 ≡ if is_turned then first else second }
+fn exchanged_if<T>(is_exchanged: bool, first: T, second: T) -> (T, T)
+    ensures first { result.0 ≡ if is_exchanged then second else first }
+    ensures second { result.1 ≡ if is_exchanged then first else second }
 {
-    if is_turned {
+    if is_exchanged {
         (second, first)
     } else {
         (first, second)
     }
 }
 
-/// Puts an entry into a slot if that is free. Answers whether it was, and what waits then: nothing, or the entry. It is one look.
+/// Puts an entry into a slot if that is free. Answers whether it was, and what waits then: nothing, or the entry. It is one
+/// look.
 #[inline(always)]
 fn put_if_free<E: SlotEntry>(
     slots: &mut [E::Slot],
@@ -40,12 +42,13 @@ fn put_if_free<E: SlotEntry>(
     looks.tick();
     let held = mem::replace(&mut slots[at], E::free_slot());
     let is_free = E::in_slot(&held).is_none();
-    let (stands, waits) = turned_if(is_free, held, entry);
+    let (stands, waits) = exchanged_if(is_free, held, entry);
     slots[at] = stands;
     (is_free, waits)
 }
 
-/// Moves entries into slots that are free. Counts in `placed` the entries, in `looks` the slots looked at.
+/// Moves the entries of `left` into slots, all of which are free. Counts in `placed` the entries, in `looks` the slots looked
+/// at.
 pub(crate) fn settle<E: SlotEntry>(
     left: &mut [E::Slot],
     slots: &mut [E::Slot],

@@ -11,7 +11,7 @@ ghost use Rattle.theta_slots.specs.Layout.{filled};
 ghost use Rattle.theta_slots.specs.Rank.{HasRank, IsWindow, within};
 
 use crate::entry::SlotEntry;
-use crate::slots::hash_in;
+use crate::slots::{hash_in, held_less, number_less};
 use std::alloc::{AllocError, Allocator};
 
 /// The hashes from `low` to `high`, of which there are `within`, and `below` less than `low`.
@@ -39,16 +39,6 @@ fn expected_bounds(count: usize, rank: usize, theta: u64) -> (u64, u64)
     (middle.saturating_sub(half), middle.saturating_add(half))
 }
 
-/// 1 for a hash that is less than `low`, otherwise 0.
-#[inline(always)]
-fn number_less(hash: u64, low: u64) -> usize
-    ensures number { result ≡ rank hash_key (hash ∷ []) low }
-    ensures small { result ≤ 1 }
-    ensures word { hash < 2 ^ 64 }
-{
-    if hash < low { 1 } else { 0 }
-}
-
 /// Whether a hash is from `low` to `high`, by one comparison: few hashes are, but whether one is less than `low` is as good as
 /// random, and a branch on that would be slow.
 #[inline(always)]
@@ -66,23 +56,10 @@ fn number_within(hash: u64, low: u64, high: u64) -> usize
     ensures number { result ≡ length (within low high (hash ∷ [])) }
     ensures small { result ≤ 1 }
 {
-    if is_within(hash, low, high) { 1 } else { 0 }
+    is_within(hash, low, high) as usize
 }
 
-/// How many hashes a slot holds that are less than `low`.
-#[inline(always)]
-fn held_less<E: SlotEntry>(slot: &E::Slot, low: u64) -> usize
-    ensures number { result ≡ rank hash_key (map E.key (filled (E.held slot.now ∷ []))) low }
-    ensures small { result ≤ 1 }
-    ensures words { AllByRecursion (λ h. h < 2 ^ 64) (map E.key (filled (E.held slot.now ∷ []))) }
-{
-    match hash_in::<E>(slot) {
-        None => 0,
-        Some(hash) => number_less(hash, low),
-    }
-}
-
-/// How many hashes a slot holds that are from `low` to `high`.
+/// 1 for a slot that holds a hash from `low` to `high`, otherwise 0.
 #[inline(always)]
 fn held_within<E: SlotEntry>(slot: &E::Slot, low: u64, high: u64) -> usize
     requires { low ≤ high }
@@ -161,14 +138,10 @@ fn kept_within(hash: u64, low: u64, high: u64) -> Option<u64>
     requires { low ≤ high }
     ensures { filled (result ∷ []) ≡ within low high (hash ∷ []) }
 {
-    if is_within(hash, low, high) {
-        Some(hash)
-    } else {
-        None
-    }
+    is_within(hash, low, high).then_some(hash)
 }
 
-/// The hash that a slot holds, where it is from `low` to `high`: one branch, on both that a slot is free and that its hash is not.
+/// The hash that a slot holds, where it is from `low` to `high`. A free slot and a hash outside take the same branch.
 #[inline(always)]
 fn held_kept<E: SlotEntry>(slot: &E::Slot, low: u64, high: u64) -> Option<u64>
     requires { low ≤ high }
@@ -215,7 +188,8 @@ fn nth_hash<A: Allocator + Drop>(hashes: &mut Vec<u64, A>, rank: usize) -> u64
     *hash
 }
 
-/// The hash that has just `rank` smaller ones among those in the slots and `also`, if that is one. They are `count`, and differ.
+/// The hash that has just `rank` smaller ones among those in the slots and `also`, if that is one. They are `count`, and
+/// differ.
 ///
 /// Where they are spread evenly below `theta`, of 64 bits, it asks for memory for few of them, and otherwise for all; what it
 /// answers is the same. It fails only where that memory ran out. The memory is given back before it answers.

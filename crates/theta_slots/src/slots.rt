@@ -1,8 +1,9 @@
 //! Entries in slots.
 ghost use Rattle.std.specs.Prelude.{◌≡◌, ℕ, ◌+◌, ◌-◌, ◌<◌, ◌≤◌, ◌^◌, ◌%◌, ◌*◌, true, false, nat_lt, Some, None, is_none, IfOk, OnOk, OnErr, [], ◌∷◌, length, map, option_map};
-ghost use Rattle.std.specs.List.{count_by};
+ghost use Rattle.std.specs.List.{AllByRecursion, count_by};
 ghost use Rattle.std.specs.Option.{option_copied};
-ghost use Rattle.theta_laws.specs.Maps.{entry_at, below, with_entry, map_of};
+ghost use Rattle.theta_laws.specs.Entries.{hash_key};
+ghost use Rattle.theta_laws.specs.Maps.{rank, entry_at, below, with_entry, map_of};
 ghost use Rattle.theta_slots.specs.Layout.{filled, slot, is_other, IsOnPath, IsLaidOut};
 ghost use Rattle.theta_slots.specs.Probe.{probe, stride};
 
@@ -19,7 +20,7 @@ pub struct Place {
     pub is_free: bool,
 }
 
-/// The entry that a slot holds, if it holds one. Each look at a slot is one call.
+/// The entry that a slot holds, if it holds one. Each look of a search is one call.
 #[inline(always)]
 fn look_at<'a, E: SlotEntry + 'a>(
     slots: &'a [E::Slot],
@@ -84,12 +85,13 @@ pub fn seek<E: SlotEntry>(slots: &[E::Slot], lg: u8, hash: u64, looks: &mut Coun
     }
 }
 
-/// The slot of the path of a hash at which a search is after so many steps.
+/// The slot that a search for a hash looks at after so many steps, below 2^`lg`.
 #[inline(always)]
 pub(crate) fn slot_after(hash: u64, lg: u8, steps: usize) -> usize
     requires small { lg < 40 }
-    requires few { steps < 2 ^ lg }
-    ensures { result ≡ probe hash lg steps }
+    requires few { steps < 2 ^ 40 }
+    ensures value { result ≡ probe hash lg steps }
+    ensures below { result < 2 ^ lg }
 {
     let on = slot_of(hash as usize, lg) + steps * stride_of(hash, lg);
     slot_of(on, lg)
@@ -102,6 +104,30 @@ pub(crate) fn hash_in<E: SlotEntry>(slot: &E::Slot) -> Option<u64>
 {
     let entry = E::in_slot(slot)?;
     Some(entry.hash())
+}
+
+/// 1 for a hash that is less than `low`, otherwise 0.
+#[inline(always)]
+pub(crate) fn number_less(hash: u64, low: u64) -> usize
+    ensures number { result ≡ rank hash_key (hash ∷ []) low }
+    ensures small { result ≤ 1 }
+    ensures word { hash < 2 ^ 64 }
+{
+    (hash < low) as usize
+}
+
+/// 1 for a slot that holds a hash less than `low`, otherwise 0.
+#[inline(always)]
+pub(crate) fn held_less<E: SlotEntry>(slot: &E::Slot, low: u64) -> usize
+    ensures number { result ≡ rank hash_key (map E.key (filled (E.held slot.now ∷ []))) low }
+    ensures below { result ≡ length (below E.key (filled (E.held slot.now ∷ [])) low) }
+    ensures small { result ≤ 1 }
+    ensures words { AllByRecursion (λ h. h < 2 ^ 64) (map E.key (filled (E.held slot.now ∷ []))) }
+{
+    match hash_in::<E>(slot) {
+        None => 0,
+        Some(hash) => number_less(hash, low),
+    }
 }
 
 /// Puts a slot's entry of this hash where a search for the hash ends.

@@ -1,54 +1,27 @@
 -- What is below a theta of entries in any order, and answers that list it.
-use Rattle.std.proofs.Common.{◌≡◌, ℕ, ◌<◌, ◌≤◌, ◌^◌, ◌++◌, ◌||◌, arith, MatchOption, Bool, true, false, cond, eqb, ltb, List, [], ◌∷◌, length, Option, Some, None, refl, sym, ap, ◌∙◌}
-use Rattle.std.specs.List.{filter, AllByRecursion}
+use Rattle.std.proofs.Common.{◌≡◌, ℕ, ◌<◌, ◌≤◌, ◌^◌, ◌++◌, ◌||◌, arith, MatchOption, Bool, true, false, ltb, List, [], ◌∷◌, length, Option, Some, None, refl, sym, ap, ◌∙◌}
+use Rattle.std.specs.List.{AllByRecursion}
 use Rattle.std.proofs.lemmas.Bool.Decides.{nat_tests}
 use Rattle.theta_slots.specs.Layout.{filled}
+use Rattle.theta_slots.proofs.Gathers.{apart-below, map_of-below}
 use Rattle.theta_table.specs.Gathering.{from_below}
 use Rattle.std.proofs.lemmas.List.Sorted.{length_permutation}
 use Rattle.theta_compact.specs.CompactState.{Compact, IsCompactOf, shown_of, is_answer_ordered}
-use Rattle.theta_laws.specs.Maps.{IsApart, below, entry_at, map_of}
+use Rattle.theta_laws.specs.Maps.{IsApart, below, map_of}
 use Rattle.theta_laws.specs.Cuts.{retained}
 use Rattle.theta_laws.specs.Shown.{IsShown}
 use Rattle.theta_laws.specs.Maps.{IsLent}
 use Rattle.theta_laws.specs.Cuts.{IsRetained}
 use Rattle.theta_laws.proofs.maps.Ascending.{ascending-filter}
-use Rattle.theta_laws.proofs.maps.LookUps.{entry_at-below, same_map}
-use Rattle.theta_laws.proofs.maps.MapsOfLists.{entry_at-map_of, ascending-map_of, lent-ascending}
+use Rattle.theta_laws.proofs.maps.MapsOfLists.{ascending-map_of, lent-ascending}
 use Rattle.theta_table.proofs.OtherOrders.{map_of-moved}
 use Rattle.theta_compact.proofs.LawsOfShown.{IsShown-retained, shown-lent}
 
--- what is never something is nothing
-pub never_some : {Y : Type 0} (o : Option Y) → ((y : Y) → o ≡ Some y → ⊥) → o ≡ None
-never_some None never = refl
-never_some (Some y) never = absurd (never y refl)
-
 module _ {X : Type 0} (key : X → ℕ) where
-  filter_absent : (p : X → Bool) (xs : List X) (q : ℕ) → entry_at key xs q ≡ None → entry_at key (filter p xs) q ≡ None
-  filter_absent p [] q none = refl
-  filter_absent p (x ∷ xs) q none =
-      (elim (eqb (key x) q) as (λ b. eqb (key x) q ≡ b → cond b (Some x) (entry_at key xs q) ≡ None → entry_at key (filter p (x ∷ xs)) q ≡ None) [
-        | true ↦ λ e n. absurd (cc)
-        | false ↦ λ e n. elim (p x) as (λ b. entry_at key (cond b (x ∷ filter p xs) (filter p xs)) q ≡ None) [ true ↦ rw e (filter_absent p xs q n) | false ↦ filter_absent p xs q n ]
-      ]) refl none
-
-  apart-filter : (p : X → Bool) (xs : List X) → IsApart key xs → IsApart key (filter p xs)
-  apart-filter p [] each = tt
-  apart-filter p (x ∷ xs) each =
-      elim (p x) as (λ b. IsApart key (cond b (x ∷ filter p xs) (filter p xs))) [ true ↦ (filter_absent p xs (key x) each.0, apart-filter p xs each.1) | false ↦ apart-filter p xs each.1 ]
-
-  pub apart-below : (xs : List X) (t : ℕ) → IsApart key xs → IsApart key (below key xs t)
-  apart-below xs t each = apart-filter (λ x. ltb (key x) t) xs each
-
-  -- the map of what is below a theta is what of the map is
-  pub map_of-below : (xs : List X) (t : ℕ) → map_of key (below key xs t) ≡ below key (map_of key xs) t
-  map_of-below xs t =
-      same_map key (map_of key (below key xs t)) (below key (map_of key xs) t) (ascending-map_of key (below key xs t)) (ascending-filter key (λ x. ltb (key x) t) (map_of key xs) (ascending-map_of key xs))
-      (λ q. entry_at-map_of key (below key xs t) q ∙ entry_at-below key xs t q ∙ ap (λ o. cond (ltb q t) o None) (sym (entry_at-map_of key xs q)) ∙ sym (entry_at-below key (map_of key xs) t q))
-
   pub lent-below : (xs : List X) (t : ℕ) → IsApart key xs → IsLent key (below key (map_of key xs) t) (below key xs t)
   lent-below xs t each =
-      let kept = apart-below xs t each in
-      record { each_once = rw (← map_of-below xs t) (map_of-moved key (below key xs t) kept); apart = kept; same_map = map_of-below xs t }
+      let kept = apart-below key xs t each in
+      record { each_once = rw (← map_of-below key xs t) (map_of-moved key (below key xs t) kept); apart = kept; same_map = map_of-below key xs t }
 
   module _ (xs : List X) (t seed_hash : ℕ) (each : IsApart key xs) where
     abbrev listed : List X → Bool → Compact X
@@ -62,7 +35,7 @@ module _ {X : Type 0} (key : X → ℕ) where
       shown_listed = shown-lent key (retained key (map_of key xs) t) (below key xs t) seed_hash sound (lent-below xs t each) few
 
       pub shown_sorted : IsShown (shown_of key (listed (map_of key (below key xs t)) true))
-      shown_sorted = rw (map_of-below xs t) (IsShown-retained key (retained key (map_of key xs) t) seed_hash true sound few)
+      shown_sorted = rw (map_of-below key xs t) (IsShown-retained key (retained key (map_of key xs) t) seed_hash true sound few)
 
     pub answer_listed : (asked : Bool) → is_answer_ordered asked (length (below key xs t)) t ≡ false → IsCompactOf key (retained key (map_of key xs) t) seed_hash asked (listed (below key xs t) false)
     answer_listed asked open_order = record {
@@ -76,7 +49,7 @@ module _ {X : Type 0} (key : X → ℕ) where
 
     pub answer_sorted : (asked : Bool) → is_answer_ordered asked (length (below key xs t)) t ≡ true → IsCompactOf key (retained key (map_of key xs) t) seed_hash asked (listed (map_of key (below key xs t)) true)
     answer_sorted asked ascends =
-        let is : map_of key (below key xs t) ≡ below key (map_of key xs) t = map_of-below xs t in
+        let is : map_of key (below key xs t) ≡ below key (map_of key xs) t = map_of-below key xs t in
         record {
           nonempty = refl;
           same_theta = refl;

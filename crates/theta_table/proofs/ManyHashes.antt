@@ -1,21 +1,22 @@
 -- A table of hashes, and many of them inserted in turn.
-use Rattle.std.proofs.Common.{◌≡◌, ℕ, ◌^◌, ◌≤◌, List, [], ◌∷◌, ◌++◌, length, take, drop, Ok, Err, refl, sym, ap, subst, ◌∙◌, append_assoc, append-nil, inl, inr, arith}
-use Rattle.std.specs.Prelude.{Result, OnOk, OnErr}
+use Rattle.std.proofs.Common.{◌≡◌, ℕ, suc, ◌^◌, ◌<◌, ◌≤◌, List, [], ◌∷◌, ◌++◌, length, take, drop, get_or, refl, sym, ap, subst, ◌∙◌, append_assoc, append-nil, drop-cons, inl, inr, arith}
+use Rattle.std.specs.Prelude.{IsTrue}
 use Rattle.std.proofs.lemmas.List.{take-append-le, take-append-drop}
-use Rattle.theta_laws.specs.Cuts.{Retained, IsRetained}
+use Rattle.theta_laws.specs.Cuts.{IsRetained}
 use Rattle.theta_laws.specs.Entries.{hash_key, hash_step}
-use Rattle.theta_laws.specs.Insertion.{after_upserts, IsRedundant, LeavesOut, HoldsOfFirstPart}
+use Rattle.theta_laws.specs.Insertion.{IsRedundant, LeavesOut, upsert_allocates}
+use Rattle.theta_laws.specs.Parts.{StopsAt}
 use Rattle.theta_laws.specs.Maps.{map_of}
-use Rattle.theta_laws.proofs.insertions.LeftOut.{left_out-front, left_out-weaker, redundant_left_out}
+use Rattle.theta_laws.proofs.insertions.LeftOut.{after_upserts-append, left_out-front, left_out-weaker, redundant_left_out}
 use Rattle.theta_laws.proofs.maps.MapsOfLists.{entry_at-map_of}
 use Rattle.theta_table.specs.HashTable.{MapTable, after_hashes}
 
-after_upserts-append : (k : ℕ) (xs ys : List ℕ) (v : Retained ℕ) → after_upserts hash_key k hash_step (xs ++ ys) v ≡ after_upserts hash_key k hash_step ys (after_upserts hash_key k hash_step xs v)
-after_upserts-append k [] ys v = refl
-after_upserts-append k (x ∷ xs) ys v = after_upserts-append k xs ys _
-
 pub after_hashes-append : (xs ys : List ℕ) (t : MapTable ℕ) → after_hashes (xs ++ ys) t ≡ after_hashes ys (after_hashes xs t)
 after_hashes-append xs ys t = ap (λ v. record t { kept = v }) (after_upserts-append (2 ^ t.lg_nom) xs ys t.kept)
+
+-- the insertion of a hash makes an entry, and so takes memory
+abbrev pub Makes : MapTable ℕ → ℕ → Type 0
+Makes t hash = IsTrue (upsert_allocates hash_key hash (hash_step hash) t.kept)
 
 -- of hashes a first part was inserted, and the rest is left
 pub record HasInserted (hashes rest : List ℕ) (old new : MapTable ℕ) : Type 0 where
@@ -43,23 +44,28 @@ module _ (hashes : List ℕ) (old : MapTable ℕ) where
   pub all_inserted : (rest : List ℕ) (new : MapTable ℕ) → rest ≡ [] → HasInserted hashes rest old new → new ≡ after_hashes hashes old
   all_inserted rest new none was = was.after ∙ ap (λ xs. after_hashes xs old) (sym (append-nil was.front) ∙ ap (λ xs. was.front ++ xs) (sym none) ∙ sym was.parts)
 
-  pub part_inserted : (block others : List ℕ) (mid new : MapTable ℕ) → HasInserted hashes (block ++ others) old mid → HoldsOfFirstPart block (λ front. new ≡ after_hashes front mid) → HoldsOfFirstPart hashes (λ front. new ≡ after_hashes front old)
+  pub part_inserted : (block others : List ℕ) (mid new : MapTable ℕ) → HasInserted hashes (block ++ others) old mid → StopsAt block (λ front hash. (new ≡ after_hashes front mid) × Makes new hash) → StopsAt hashes (λ front hash. (new ≡ after_hashes front old) × Makes new hash)
   part_inserted block others mid new was part = (
     was.front ++ part.0,
-    part.1 ++ others,
-    was.parts ∙ ap (λ xs. was.front ++ (xs ++ others)) part.2 ∙ ap (λ xs. was.front ++ xs) (append_assoc part.0 part.1 others) ∙ sym (append_assoc was.front part.0 (part.1 ++ others)),
-    part.3 ∙ ap (after_hashes part.0) was.after ∙ sym (after_hashes-append was.front part.0 old),
+    part.1,
+    part.2 ++ others,
+    was.parts ∙ ap (λ xs. was.front ++ (xs ++ others)) part.3 ∙ ap (λ xs. was.front ++ xs) (append_assoc part.0 (part.1 ∷ part.2) others) ∙ sym (append_assoc was.front part.0 (part.1 ∷ part.2 ++ others)),
+    (part.4.0 ∙ ap (after_hashes part.0) was.after ∙ sym (after_hashes-append was.front part.0 old), part.4.1),
   )
+
+-- one of a list, and what stands before and behind it
+pub stops_here : (hashes : List ℕ) (index : ℕ) → index < length hashes → hashes ≡ take index hashes ++ get_or hashes index 0 ∷ drop (suc index) hashes
+stops_here hashes index lt = sym (take-append-drop index hashes) ∙ ap (λ xs. take index hashes ++ xs) (drop-cons hashes index 0 lt)
 
 -- hashes that are redundant are not inserted
 module _ (t : MapTable ℕ) (is : IsRetained hash_key t.kept) where
   pub left_inserted : (hashes left : List ℕ) → LeavesOut (IsRedundant hash_key t.kept) hashes left → after_hashes left t ≡ after_hashes hashes t
   left_inserted hashes left leaves = ap (λ v. record t { kept = v }) (sym (redundant_left_out (2 ^ t.lg_nom) hashes left t.kept t.kept is (λ h redundant. redundant) leaves))
 
-  pub part_left_inserted : (hashes left : List ℕ) (new : MapTable ℕ) → LeavesOut (IsRedundant hash_key t.kept) hashes left → HoldsOfFirstPart left (λ front. new ≡ after_hashes front t) → HoldsOfFirstPart hashes (λ front. new ≡ after_hashes front t)
+  pub part_left_inserted : (hashes left : List ℕ) (new : MapTable ℕ) → LeavesOut (IsRedundant hash_key t.kept) hashes left → StopsAt left (λ front hash. (new ≡ after_hashes front t) × Makes new hash) → StopsAt hashes (λ front hash. (new ≡ after_hashes front t) × Makes new hash)
   part_left_inserted hashes left new leaves part =
-      let whole = left_out-front (IsRedundant hash_key t.kept) hashes part.0 part.1 (subst (λ zs. LeavesOut (IsRedundant hash_key t.kept) hashes zs) part.2 leaves) in
-      (whole.0, whole.1, whole.2, part.3 ∙ left_inserted whole.0 part.0 whole.3)
+      let whole = left_out-front (IsRedundant hash_key t.kept) hashes part.0 part.1 part.2 (subst (λ zs. LeavesOut (IsRedundant hash_key t.kept) hashes zs) part.3 leaves) in
+      (whole.0, part.1, whole.1, whole.2, (part.4.0 ∙ left_inserted whole.0 part.0 whole.3, part.4.1))
 
 -- what is redundant by the entries in slots is so by their map
 redundant_in_map : (xs : List ℕ) (theta : ℕ) (hashes left : List ℕ) → LeavesOut (IsRedundant hash_key (record { entries = xs; theta = theta })) hashes left → LeavesOut (IsRedundant hash_key (record { entries = map_of hash_key xs; theta = theta })) hashes left
@@ -75,12 +81,3 @@ left_in_block xs theta hashes copied now rest left same few size leaves =
     redundant_in_map xs theta hashes (take left (now ++ rest))
     (subst (λ zs. LeavesOut (IsRedundant hash_key (record { entries = xs; theta = theta })) zs (take left (now ++ rest))) same
     (subst (λ zs. LeavesOut (IsRedundant hash_key (record { entries = xs; theta = theta })) copied zs) (sym front) leaves))
-
--- what an answer tells, told otherwise
-pub on_ok : {T E P Q : Type 0} → (P → Q) → (r : Result T E) → OnOk r P → OnOk r Q
-on_ok more (Ok x) p = more p
-on_ok more (Err e) p = tt
-
-pub on_err : {T E P Q : Type 0} → (P → Q) → (r : Result T E) → OnErr r P → OnErr r Q
-on_err more (Ok x) p = tt
-on_err more (Err e) p = more p

@@ -1,5 +1,5 @@
 -- Marks: the first marked slot, what is marked behind it, and slots that no mark stands for.
-use Rattle.std.proofs.Common.{Bor, ◌≡◌, ℕ, zero, suc, ◌+◌, ◌-◌, ◌*◌, ◌/◌, ◌^◌, ◌<◌, ◌≤◌, not, if◌then◌else◌, List, [], ◌∷◌, length, map, get_or, take, drop, Option, Some, None, is_some, refl, sym, ap, subst, ◌∙◌, arith}
+use Rattle.std.proofs.Common.{Bor, ◌≡◌, ℕ, zero, suc, ◌+◌, ◌-◌, ◌*◌, ◌/◌, ◌^◌, ◌<◌, ◌≤◌, not, if◌then◌else◌, List, [], ◌∷◌, length, map, get_or, take, drop, drop-cons, Option, Some, None, is_some, refl, sym, ap, subst, ◌∙◌, arith}
 use Rattle.std.specs.List.{prefix_len}
 use Rattle.std.specs.Option.{option_copied}
 use Rattle.std.specs.Simd.Lanes.{mask_l}
@@ -17,8 +17,8 @@ halved m n =
     ap (λ p. 2 * m / p / 2) (pow-suc 2 n ∙ mul_comm (2 ^ n) 2)
     ∙ ap (λ k. k / 2) (sym (div-div-eq-div-mul (2 * m) 2 (2 ^ n)) ∙ ap (λ k. k / 2 ^ n) (omega arith))
 
-refl_of : (m : ℕ) → (1 + 2 * m) / 2 ^ 0 / 2 ≡ m
-refl_of m = ap (λ k. k / 2) (div-one (1 + 2 * m)) ∙ omega arith
+odd_halved : (m : ℕ) → (1 + 2 * m) / 2 ^ 0 / 2 ≡ m
+odd_halved m = ap (λ k. k / 2) (div-one (1 + 2 * m)) ∙ omega arith
 
 module _ {X : Type 0} where
   -- the bits of which of some slots hold an entry
@@ -56,7 +56,7 @@ module _ {X : Type 0} where
     entry = x;
     here = refl;
     parts = refl;
-    behind = refl_of (marks_in (take ahead slots)) ∙ ap (λ k. marks_in (take k slots)) (omega arith);
+    behind = odd_halved (marks_in (take ahead slots)) ∙ ap (λ k. marks_in (take k slots)) (omega arith);
   }
   first_marked (None ∷ slots) (suc ahead) some =
       let later = first_marked slots ahead (omega (arith, some)) in
@@ -72,14 +72,9 @@ module _ {X : Type 0} where
       } in
       subst (IsFirstMarked (None ∷ slots) (suc ahead)) (omega arith) next
 
-  next_slot : (slots : List (Option X)) (k : ℕ) → k < length slots → drop k slots ≡ get_or slots k None ∷ drop (suc k) slots
-  next_slot [] k lt = absurd (omega (arith, lt))
-  next_slot (o ∷ slots) zero lt = refl
-  next_slot (o ∷ slots) (suc k) lt = next_slot slots k (omega (arith, lt))
-
   -- the marks of a slot and those behind it
   pub marks_with : (slots : List (Option X)) (k : ℕ) → k < length slots → marks_in (drop k slots) ≡ (if is_some (get_or slots k None) then 1 else 0) + 2 * marks_in (drop (suc k) slots)
-  marks_with slots k lt = ap marks_in (next_slot slots k lt)
+  marks_with slots k lt = ap marks_in (drop-cons slots k None lt)
 
 -- the marks of slots as they are in memory, made from the last on
 module _ {S X : Type 0} (held : S → Option X) where

@@ -7,13 +7,14 @@ ghost use Rattle.theta_compact.specs.CompactState.{IsCompactOf};
 ghost use Rattle.theta_laws.specs.Maps.{entry_at, IsLent};
 ghost use Rattle.theta_laws.specs.Cuts.{cut, none_below};
 ghost use Rattle.theta_laws.specs.Entries.{hash_key, hash_step, ClonesEqual};
+ghost use Rattle.theta_laws.specs.Parts.{StopsAt};
 ghost use Rattle.theta_laws.specs.Refusal.{Refuses};
 ghost use Rattle.theta_table.specs.HashTable.{MapTable, Table, IsTable, IsSized, IsSeedHash, empty_table, set_table, after_reset, table_refusal, after_hashes, lg_size_for, whole_log, has_room, may_insert, threshold, sub_multiple, slots_of_operator, nothing_done, ticked, size_after};
 ghost use Rattle.theta_table.specs.ResizeFactor.{lg_of};
 ghost use Rattle.theta_slots.specs.Layout.{IsLaidOut};
 ghost use Rattle.theta_table.specs.Entry.{tuple_key, entry_step};
 ghost use Rattle.theta_table.specs.declared.hash_table.TheConstants.{BLOCK};
-ghost use Rattle.theta_laws.specs.Insertion.{is_screened, after_upsert, IsRedundant, LeavesOut, HoldsOfFirstPart, creates, upsert_refusal, upsert_allocates};
+ghost use Rattle.theta_laws.specs.Insertion.{is_screened, after_upsert, IsRedundant, LeavesOut, creates, upsert_refusal, upsert_allocates};
 
 use crate::answering::{cut_theta, state_below};
 use crate::clearing::{clear_slots, operator_slots};
@@ -38,7 +39,8 @@ use theta_slots::{Count, SlotEntry, free_slots, leave_out_held, seek};
 /// With k the nominal entries, 2 to the power of its nominal logarithm and at least 8, an insertion that makes the
 /// entries more than 15k/8 lowers theta to the (k+1)th smallest hash, and exactly the k below it stay.
 ///
-/// It keeps its entries in slots by open addressing, at most 2k of them. What it counts of its work, only contracts see.
+/// It keeps its entries in slots by open addressing, at most 2k of them. What it counts of its work, only contracts see; of
+/// insertions, those of `upsert_entry` alone tell it.
 #[derive(Drop)]
 pub struct SketchHashTable<E: SlotEntry, A: Allocator = Global> {
     lg_cur_size: u8,
@@ -505,14 +507,15 @@ impl<A: Allocator + Clone> SketchHashTable<ThetaEntry, A> {
     /// Inserts hashes in their order, each as `try_insert_hash` does. There are at least 8 nominal entries, as in every table
     /// of `new`.
     ///
-    /// It looks at the slots of up to 256 hashes side by side, so that they are waited for together: where slots are many, that is
-    /// several times as fast. Those looks aren't counted.
+    /// It looks at the slots of up to 256 hashes side by side, so that they are waited for together: where slots are many, that
+    /// is several times as fast. Those looks aren't counted.
     ///
-    /// Refused with `OutOfMemory` alone; then some first part of the hashes has been inserted.
+    /// Refused with `OutOfMemory` alone, and only at a new hash below theta; then just the hashes before that one have been
+    /// inserted, and the same call may be made again.
     pub fn insert_hashes(&mut self, hashes: &[u64]) -> Result<(), Error>
         requires room { 3 ≤ self.old.map.lg_nom }
         ensures after { OnOk result (self.new.map ≡ after_hashes hashes.now self.old.map) }
-        ensures err { OnErr result (HoldsOfFirstPart hashes.now (λ front. self.new.map ≡ after_hashes front self.old.map)) }
+        ensures err { OnErr result (StopsAt hashes.now (λ front hash. (self.new.map ≡ after_hashes front self.old.map) × IsTrue (upsert_allocates hash_key hash (hash_step hash) self.new.map.kept))) }
         ensures refused { Refuses result None true }
     {
         let mut rest = hashes;
@@ -524,12 +527,12 @@ impl<A: Allocator + Clone> SketchHashTable<ThetaEntry, A> {
         Ok(())
     }
 
-    /// Inserts a block of hashes: those alone that aren't screened and aren't found at once.
+    /// Inserts a block of hashes in their order; those that are screened or found at once are left out first.
     fn insert_block(&mut self, hashes: &[u64]) -> Result<(), Error>
         requires room { 3 ≤ self.old.map.lg_nom }
         requires few { length hashes.now ≤ BLOCK }
         ensures after { OnOk result (self.new.map ≡ after_hashes hashes.now self.old.map) }
-        ensures err { OnErr result (HoldsOfFirstPart hashes.now (λ front. self.new.map ≡ after_hashes front self.old.map)) }
+        ensures err { OnErr result (StopsAt hashes.now (λ front hash. (self.new.map ≡ after_hashes front self.old.map) × IsTrue (upsert_allocates hash_key hash (hash_step hash) self.new.map.kept))) }
         ensures refused { Refuses result None true }
     {
         let mut block = [0u64; BLOCK];
@@ -537,8 +540,7 @@ impl<A: Allocator + Clone> SketchHashTable<ThetaEntry, A> {
         self.insert_each(&block[..left])
     }
 
-    /// Takes into `block` what is left of hashes without those that are screened and those that are found at once. Tells how
-    /// many these are.
+    /// Copies into `block` the hashes that are neither screened nor found at once, in their order, and tells how many they are.
     fn take_unfound(&self, hashes: &[u64], block: &mut [u64]) -> usize
         requires room { 3 ≤ self.now.map.lg_nom }
         requires few { length hashes.now ≤ length block.old }
@@ -555,7 +557,7 @@ impl<A: Allocator + Clone> SketchHashTable<ThetaEntry, A> {
     fn insert_each(&mut self, hashes: &[u64]) -> Result<(), Error>
         requires room { 3 ≤ self.old.map.lg_nom }
         ensures after { OnOk result (self.new.map ≡ after_hashes hashes.now self.old.map) }
-        ensures err { OnErr result (HoldsOfFirstPart hashes.now (λ front. self.new.map ≡ after_hashes front self.old.map)) }
+        ensures err { OnErr result (StopsAt hashes.now (λ front hash. (self.new.map ≡ after_hashes front self.old.map) × IsTrue (upsert_allocates hash_key hash (hash_step hash) self.new.map.kept))) }
         ensures refused { Refuses result None true }
     {
         'each: for hash in hashes {
@@ -624,7 +626,7 @@ impl<S: Drop, A: Allocator + Clone> SketchHashTable<TupleEntry<S>, A> {
 /// The nominal logarithm from which a table is rebuilt before its slots are full.
 const ALWAYS_ROOM_LG_NOM: u8 = 3;
 
-/// How many hashes are looked up together.
+/// How many hashes are looked up together, at most.
 const BLOCK: usize = 256;
 
 /// How many sixteenths of its slots a table fills before it is rebuilt.

@@ -13,10 +13,12 @@ use std::alloc::AllocError;
 use std::marker::{Model, PhantomData};
 use theta_slots::SlotEntry;
 
-/// Slots, of which the first few are marked: a bit for each of these tells whether it holds an entry.
+/// Slots, and a mark for each of the first `ahead` that holds an entry.
 struct Marked<'a, E: SlotEntry> {
     slots: &'a [E::Slot],
+    /// Of how many slots the marks tell, at most 64.
     ahead: usize,
+    /// Bit k is 1 where the k-th slot holds an entry.
     marks: u64,
 }
 
@@ -30,8 +32,8 @@ impl<'a, E: SlotEntry> Copy for Marked<'a, E> {}
 
 /// The entries of a table, each once, in an open order.
 ///
-/// It marks some slots at once: whether a slot holds an entry is as good as random, and a branch on each would be guessed wrong
-/// every second time.
+/// It makes the marks of 64 slots at once: whether a slot holds an entry is as good as random, and a branch on each would be
+/// guessed wrong every second time.
 #[derive(Drop)]
 pub struct SketchHashTableIter<'a, E: SlotEntry> {
     rest: Marked<'a, E>,
@@ -66,7 +68,7 @@ impl<'a, E: SlotEntry> SketchHashTableIter<'a, E> {
     }
 }
 
-/// How many slots are marked at once.
+/// Of how many slots marks are made at once.
 const BLOCK: usize = 64;
 
 /// 1 for a slot that holds an entry, and 0 for a free one.
@@ -74,10 +76,7 @@ const BLOCK: usize = 64;
 fn mark_of<E: SlotEntry>(slot: &E::Slot) -> u64
     ensures { result ≡ if is_some (E.held slot.now) then 1 else 0 }
 {
-    match E::in_slot(slot) {
-        None => 0,
-        Some(_) => 1,
-    }
+    E::in_slot(slot).is_some() as u64
 }
 
 /// A bit for each of a few slots, the lowest for the first: whether it holds an entry. It takes no branch on what a slot holds.
@@ -93,7 +92,7 @@ fn marks_of<E: SlotEntry>(slots: &[E::Slot]) -> u64
     marks
 }
 
-/// Slots from the first few on of which one holds an entry, and these marked; no slots where none does.
+/// The slots from the first block on in which one holds an entry, with the marks of that block; no slots where none does.
 #[inline(always)]
 fn marked_from<'a, E: SlotEntry + 'a>(slots: &'a [E::Slot]) -> Marked<'a, E>
     ensures marked { AreMarked (map E.held result.slots.now) result.ahead result.marks }
@@ -120,7 +119,7 @@ fn marked_from<'a, E: SlotEntry + 'a>(slots: &'a [E::Slot]) -> Marked<'a, E>
     }
 }
 
-/// The same slots, or those behind what is marked, so that a mark tells of an entry where one is left.
+/// What is left, with a mark where an entry is left: as it is where it has one, and otherwise from a later block on.
 #[inline(always)]
 fn marked_ahead<'a, E: SlotEntry + 'a>(rest: Marked<'a, E>) -> Marked<'a, E>
     requires marked { AreMarked (map E.held rest.slots.now) rest.ahead rest.marks }
@@ -147,13 +146,14 @@ fn first_in<'a, E: SlotEntry + 'a>(rest: Marked<'a, E>) -> (Option<&'a E>, Marke
     if rest.marks == 0 {
         return (None, rest);
     }
-    let free = rest.marks.trailing_zeros() as usize;
+    let at = rest.marks.trailing_zeros() as usize;
+    // By two shifts, since the first mark may be at bit 63.
     let behind = Marked {
-        slots: &rest.slots[free + 1..],
-        ahead: rest.ahead - (free + 1),
-        marks: (rest.marks >> free) >> 1,
+        slots: &rest.slots[at + 1..],
+        ahead: rest.ahead - (at + 1),
+        marks: (rest.marks >> at) >> 1,
     };
-    (E::in_slot(&rest.slots[free]), behind)
+    (E::in_slot(&rest.slots[at]), behind)
 }
 
 /// The hash of what a slot holds, and the greatest number of a free slot.
@@ -220,6 +220,7 @@ impl<'a, E: SlotEntry + 'a> SketchHashTableIter<'a, E> {
         ensures { self.new ≡ from_below E.key theta self.old }
     {
         let slots = slots_from_below::<E>(self.rest.slots, theta);
+        // The slot at hand alone: the caller takes its entry and mostly passes on, so that marks of a block would be lost.
         let ahead = slots.len().min(1);
         let marks = marks_of::<E>(&slots[..ahead]);
         self.rest = Marked {

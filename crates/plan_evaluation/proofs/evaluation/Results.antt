@@ -23,8 +23,3 @@ for_other e strict other (inr policy) = inr (policy.0, policy.1, other policy.2)
 pub on_answer : {T P : Type 0} (r : Result T ErrorKind) → P → OnOk r P
 on_answer (Ok x) holds = holds
 on_answer (Err e) holds = tt
-
--- a fact on an answer makes another
-pub on_ok : {T P Q : Type 0} (r : Result T ErrorKind) → OnOk r P → (P → Q) → OnOk r Q
-on_ok (Ok x) p more = more p
-on_ok (Err e) p more = tt

@@ -1,12 +1,12 @@
 -- Hashes that are left out of a list since their insertion changes nothing.
 use Rattle.std.proofs.Common.{◌≡◌, ℕ, ◌*◌, ◌/◌, ◌<◌, ◌≤◌, Bool, true, false, cond, eqb, ltb, leb, length, List, [], ◌∷◌, ◌++◌, Some, None, inl, inr, refl, sym, ap, subst, ◌∙◌, filter, arith}
-use Rattle.std.specs.Prelude.{IsSome, ◌&&◌}
+use Rattle.std.specs.Prelude.{IsSome, is_some, ◌&&◌}
 use Rattle.std.proofs.lemmas.Bool.{cases_lt}
 use Rattle.std.proofs.lemmas.Bool.Decides.{nat_tests}
 use Rattle.theta_laws.specs.Cuts.{Retained, retained, cut, IsRetained}
 use Rattle.theta_laws.specs.Entries.{hash_key, hash_step}
 use Rattle.theta_laws.specs.Maps.{IsAscending, entry_at, with_entry}
-use Rattle.theta_laws.specs.Insertion.{is_screened, rebuilt, after_upsert, after_upserts, IsRedundant, LeavesOut, HoldsOfFirstPart}
+use Rattle.theta_laws.specs.Insertion.{is_screened, rebuilt, after_upsert, after_upserts, IsRedundant, LeavesOut}
 use Rattle.theta_laws.proofs.maps.Ascending.{ascending-with_entry}
 use Rattle.theta_laws.proofs.maps.LookUps.{entry_at-below, entry_at-with_entry, same_map}
 use Rattle.theta_laws.proofs.cuts.Cuts.{cut_is_below}
@@ -37,18 +37,21 @@ module _ {X : Type 0} (P : X → Type 0) where
         | false ↦ λ e. inl (out x e, left_out-filter test out xs)
       ]) refl
 
-  -- a first part of what is left is left of a first part
-  pub left_out-front : (xs front rest : List X) → LeavesOut P xs (front ++ rest) → HoldsOfFirstPart xs (λ part. LeavesOut P part front)
-  left_out-front xs [] rest leaves = ([], xs, refl, refl)
-  left_out-front [] (y ∷ front) rest leaves = absurd (cc)
-  left_out-front (x ∷ xs) (y ∷ front) rest (inl (out, leaves)) =
-      let part = left_out-front xs (y ∷ front) rest leaves in
+  -- what stands before one that is left is left of what stood before it
+  pub left_out-front : (xs front : List X) (y : X) (rest : List X) → LeavesOut P xs (front ++ y ∷ rest) → (part : List X) × (behind : List X) × (xs ≡ part ++ y ∷ behind) × LeavesOut P part front
+  left_out-front [] [] y rest leaves = absurd (cc)
+  left_out-front [] (z ∷ front) y rest leaves = absurd (cc)
+  left_out-front (x ∷ xs) front y rest (inl (out, leaves)) =
+      let part = left_out-front xs front y rest leaves in
       (x ∷ part.0, part.1, ap (λ zs. x ∷ zs) part.2, inl (out, part.3))
-  left_out-front (x ∷ xs) (y ∷ front) rest (inr (left, is, leaves)) =
-      let same : front ++ rest ≡ left = cc in
-      let head : y ≡ x = cc in
-      let part = left_out-front xs front rest (subst (λ zs. LeavesOut P xs zs) (sym same) leaves) in
-      (x ∷ part.0, part.1, ap (λ zs. x ∷ zs) part.2, inr (front, ap (λ z. z ∷ front) head, part.3))
+  left_out-front (x ∷ xs) [] y rest (inr (left, is, leaves)) =
+      let head : x ≡ y = cc in
+      ([], xs, ap (λ z. z ∷ xs) head, refl)
+  left_out-front (x ∷ xs) (z ∷ front) y rest (inr (left, is, leaves)) =
+      let same : front ++ y ∷ rest ≡ left = cc in
+      let head : z ≡ x = cc in
+      let part = left_out-front xs front y rest (subst (λ zs. LeavesOut P xs zs) (sym same) leaves) in
+      (x ∷ part.0, part.1, ap (λ zs. x ∷ zs) part.2, inr (front, ap (λ w. w ∷ front) head, part.3))
 
 pub left_out-weaker : {X : Type 0} (P Q : X → Type 0) → ((x : X) → P x → Q x) → (xs ys : List X) → LeavesOut P xs ys → LeavesOut Q xs ys
 left_out-weaker P Q weaker [] ys leaves = leaves
@@ -86,6 +89,10 @@ same_with xs x up here =
       | false ↦ λ e. refl
     ]) refl)
 
+pub after_upserts-append : (k : ℕ) (xs ys : List ℕ) (v : Retained ℕ) → after_upserts hash_key k hash_step (xs ++ ys) v ≡ after_upserts hash_key k hash_step ys (after_upserts hash_key k hash_step xs v)
+after_upserts-append k [] ys v = refl
+after_upserts-append k (x ∷ xs) ys v = after_upserts-append k xs ys _
+
 module _ (k : ℕ) where
   existing_stays : (v : Retained ℕ) (h x : ℕ) → IsRetained hash_key v → is_screened h v.theta ≡ false → entry_at hash_key v.entries h ≡ Some x → after_upsert hash_key k h (hash_step h) v ≡ v
   existing_stays v h x is passes there =
@@ -107,26 +114,30 @@ module _ (k : ℕ) where
       ]) refl
 
   -- what an insertion of a hash leaves
-  record IsLeft (v after : Retained ℕ) : Type 0 where
+  record IsLeft (v : Retained ℕ) (h : ℕ) (after : Retained ℕ) : Type 0 where
     pub retained : IsRetained hash_key after
     pub redundant : (q : ℕ) → IsRedundant hash_key v q → IsRedundant hash_key after q
+    pub inserted : IsRedundant hash_key after h
 
-  left_after : (v : Retained ℕ) (h : ℕ) → IsRetained hash_key v → IsLeft v (after_upsert hash_key k h (hash_step h) v)
+  left_after : (v : Retained ℕ) (h : ℕ) → IsRetained hash_key v → IsLeft v h (after_upsert hash_key k h (hash_step h) v)
   left_after v h is =
-      let same : IsLeft v v = record { retained = is; redundant = λ q redundant. redundant } in
-      (elim (is_screened h v.theta) as (λ b. is_screened h v.theta ≡ b → IsLeft v (after_upsert hash_key k h (hash_step h) v)) [
-        | true ↦ λ e. rw (screened_case hash_key k h (hash_step h) v e).after_is same
+      let same : IsRedundant hash_key v h → IsLeft v h v = λ here. record { retained = is; redundant = λ q redundant. redundant; inserted = here } in
+      (elim (is_screened h v.theta) as (λ b. is_screened h v.theta ≡ b → IsLeft v h (after_upsert hash_key k h (hash_step h) v)) [
+        | true ↦ λ e. rw (screened_case hash_key k h (hash_step h) v e).after_is (same (inl e))
         | false ↦ λ e.
-            (elim (entry_at hash_key v.entries h) as (λ o. entry_at hash_key v.entries h ≡ o → IsLeft v (after_upsert hash_key k h (hash_step h) v)) [
-              | Some x ↦ λ there. rw (existing_stays v h x is e there) same
+            (elim (entry_at hash_key v.entries h) as (λ o. entry_at hash_key v.entries h ≡ o → IsLeft v h (after_upsert hash_key k h (hash_step h) v)) [
+              | Some x ↦ λ there. rw (existing_stays v h x is e there) (same (inr (ap is_some there)))
               | None ↦ λ there.
                   let low : 0 < h = grind (arith, nat_tests) in
                   let high : h < v.theta = grind (arith, nat_tests) in
                   let more = IsRetained-with_entry hash_key v.entries v.theta h is low high in
+                  let hit : eqb h h ≡ true = grind (arith, nat_tests) in
+                  let here : IsSome (entry_at hash_key (with_entry hash_key v.entries h) h) = rw (entry_at-with_entry hash_key v.entries h h, hit) refl in
                   rw (absent_case hash_key k h (hash_step h) v e there).after_is
                   (record {
                     retained = IsRetained-rebuilt hash_key k (with_entry hash_key v.entries h) v.theta more;
                     redundant = λ q redundant. redundant_rebuilt k (with_entry hash_key v.entries h) v.theta q more (redundant_with v.entries v.theta h q redundant);
+                    inserted = redundant_rebuilt k (with_entry hash_key v.entries h) v.theta h more (inr here);
                   })
             ]) refl
       ]) refl
@@ -141,7 +152,29 @@ module _ (k : ℕ) where
       redundant_left_out xs left v (after_upsert hash_key k x (hash_step x) w) after.retained (λ h p. after.redundant h (all h p)) leaves
       ∙ ap (λ zs. after_upserts hash_key k hash_step zs w) (sym same)
 
--- what is retained stays lawful
-pub retained_upserts : (k : ℕ) (xs : List ℕ) (v : Retained ℕ) → IsRetained hash_key v → IsRetained hash_key (after_upserts hash_key k hash_step xs v)
-retained_upserts k [] v is = is
-retained_upserts k (x ∷ xs) v is = retained_upserts k xs (after_upsert hash_key k x (hash_step x) v) (left_after k v x is).retained
+  -- what is retained stays lawful
+  pub retained_upserts : (xs : List ℕ) (v : Retained ℕ) → IsRetained hash_key v → IsRetained hash_key (after_upserts hash_key k hash_step xs v)
+  retained_upserts [] v is = is
+  retained_upserts (x ∷ xs) v is = retained_upserts xs (after_upsert hash_key k x (hash_step x) v) (left_after v x is).retained
+
+  -- hashes that were inserted are redundant
+  redundant_upserts : (xs : List ℕ) (v : Retained ℕ) (q : ℕ) → IsRetained hash_key v → IsRedundant hash_key v q → IsRedundant hash_key (after_upserts hash_key k hash_step xs v) q
+  redundant_upserts [] v q is redundant = redundant
+  redundant_upserts (x ∷ xs) v q is redundant =
+      let after = left_after v x is in
+      redundant_upserts xs (after_upsert hash_key k x (hash_step x) v) q after.retained (after.redundant q redundant)
+
+  inserted_left_out : (xs : List ℕ) (v : Retained ℕ) → IsRetained hash_key v → LeavesOut (IsRedundant hash_key (after_upserts hash_key k hash_step xs v)) xs []
+  inserted_left_out [] v is = refl
+  inserted_left_out (x ∷ xs) v is =
+      let after = left_after v x is in
+      let next : Retained ℕ = after_upsert hash_key k x (hash_step x) v in
+      inl (redundant_upserts xs next x after.retained after.inserted, inserted_left_out xs next after.retained)
+
+  -- so a first part of what is inserted may have been inserted before
+  pub inserted_again : (front rest : List ℕ) (v : Retained ℕ) → IsRetained hash_key v → after_upserts hash_key k hash_step (front ++ rest) (after_upserts hash_key k hash_step front v) ≡ after_upserts hash_key k hash_step (front ++ rest) v
+  inserted_again front rest v is =
+      let part : Retained ℕ = after_upserts hash_key k hash_step front v in
+      after_upserts-append k front rest part
+      ∙ ap (after_upserts hash_key k hash_step rest) (redundant_left_out front [] part part (retained_upserts front v is) (λ h redundant. redundant) (inserted_left_out front v is))
+      ∙ sym (after_upserts-append k front rest v)

@@ -1,9 +1,10 @@
 use Rattle.std.proofs.Common.{◌^◌, ◌∙◌, ap, sym, refl}
+use Rattle.std.proofs.lemmas.Result.{on_ok_weaker}
 use Rattle.theta_laws.specs.Folds.{Value, fold_key, unmarked}
 use Rattle.theta_laws.proofs.insertions.FoldedSteps.{unmarked-step}
 use Rattle.theta_laws.proofs.maps.MappedEntries.{cut-map}
 use Rattle.plan_evaluation.proofs.evaluation.LeafSteps.{addition_marks}
-use Rattle.plan_evaluation.proofs.evaluation.Results.{on_both, on_ok, if_refused, for_other}
+use Rattle.plan_evaluation.proofs.evaluation.Results.{on_both, if_refused, for_other}
 use Rattle.plan_evaluation.proofs.evaluate.apply.Goals as goal
 
 pub returns-in-Add-clause-map : goal.returns-in-Add-clause-map
@@ -23,5 +24,6 @@ pub returns-in-Trim-clause-map : goal.returns-in-Trim-clause-map
 returns-in-Trim-clause-map g c =
     let key = (g.F.SketchFamily.rules c.args.family.now).key in
     let old = (g.F.SketchFamily.state c.args.sketch.now).map in
-    rw c.in-Trim.is (on_ok c.trim.result c.trim.ensures.after
-    (λ after. ap (λ t. unmarked t.kept) after ∙ sym (cut-map Value key (fold_key key) (λ y. refl) (2 ^ old.lg_nom) old.kept.entries old.kept.theta)))
+    rw c.in-Trim.is (on_ok_weaker c.trim.result
+    (λ after. ap (λ t. unmarked t.kept) after ∙ sym (cut-map Value key (fold_key key) (λ y. refl) (2 ^ old.lg_nom) old.kept.entries old.kept.theta))
+    c.trim.ensures.after)

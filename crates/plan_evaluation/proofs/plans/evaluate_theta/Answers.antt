@@ -1,22 +1,22 @@
+use Rattle.std.proofs.lemmas.Result.{on_ok_weaker}
 use Rattle.sketch_base.specs.Seed.{seed_hash}
 use Rattle.theta_laws.specs.Folds.{never}
 use Rattle.plan_values.specs.Family.{hashes, folds_of}
 use Rattle.plan_values.proofs.ThetaPlans.{whole_kept, merge_kept, value_trimmed}
 use Rattle.plan_evaluation.proofs.evaluation.OrderedSketches.{theta_sketch, refused_settings}
-use Rattle.plan_evaluation.proofs.evaluation.Results.{on_ok}
 use Rattle.plan_evaluation.proofs.plans.evaluate_theta.Goals as goal
 
 pub returns-clause-value : goal.returns-clause-value
 returns-clause-value g c = theta_sketch c.args.plan.now (seed_hash c.args.seed) c.ordered.result c.ordered.ensures.value
 
 pub returns-clause-whole : goal.returns-clause-whole
-returns-clause-whole g c = on_ok c.ordered.result c.ordered.ensures.accepted (λ accepted. whole_kept c.args.seed c.args.plan.now accepted)
+returns-clause-whole g c = on_ok_weaker c.ordered.result (λ accepted. whole_kept c.args.seed c.args.plan.now accepted) c.ordered.ensures.accepted
 
 pub returns-clause-merged : goal.returns-clause-merged
-returns-clause-merged g c = λ lg_k start merge. on_ok c.ordered.result c.ordered.ensures.accepted (λ accepted. merge_kept c.args.seed c.args.plan.now accepted lg_k start merge)
+returns-clause-merged g c = λ lg_k start merge. on_ok_weaker c.ordered.result (λ accepted. merge_kept c.args.seed c.args.plan.now accepted lg_k start merge) c.ordered.ensures.accepted
 
 pub returns-clause-trimmed : goal.returns-clause-trimmed
-returns-clause-trimmed g c = λ lg_k start steps is updated. on_ok c.ordered.result c.ordered.ensures.accepted (value_trimmed c.args.seed lg_k start steps c.args.plan.now is updated)
+returns-clause-trimmed g c = λ lg_k start steps is updated. on_ok_weaker c.ordered.result (value_trimmed c.args.seed lg_k start steps c.args.plan.now is updated) c.ordered.ensures.accepted
 
 pub returns-clause-refused : goal.returns-clause-refused
 returns-clause-refused g c = refused_settings (folds_of hashes never) c.args.seed c.args.plan.now c.ordered.result c.ordered.ensures.accepted c.ordered.ensures.refused

@@ -1,4 +1,5 @@
 use Rattle.std.proofs.Common.{◌^◌}
+use Rattle.std.proofs.lemmas.Result.{on_ok_weaker}
 use Rattle.sketch_base.specs.Seed.{seed_hash}
 use Rattle.theta_laws.specs.Leaf.{added, whole}
 use Rattle.theta_table.specs.Entry.{tuple_key}
@@ -13,7 +14,6 @@ use Rattle.plan_values.proofs.Samples.{sampled}
 use Rattle.plan_values.proofs.TrimmedLeaf.{trimmed_plan}
 use Rattle.plan_evaluation.proofs.evaluation.MergedSketches.{merged_keys}
 use Rattle.plan_evaluation.proofs.evaluation.OrderedSketches.{refused_policy}
-use Rattle.plan_evaluation.proofs.evaluation.Results.{on_ok}
 use Rattle.plan_evaluation.proofs.plans.evaluate_tuple.Goals as goal
 
 pub returns-clause-value : goal.returns-clause-value
@@ -24,14 +24,14 @@ returns-clause-whole g c =
     let creates = g.P.SummaryPolicy.creates c.args.update_policy in
     let updates = g.P.SummaryUpdatePolicy.updates c.args.update_policy in
     let combines = g.Q.SummaryCombinePolicy.combines c.args.combine_policy in
-    on_ok c.ordered.result c.ordered.ensures.accepted (λ accepted. (sampled _ (tuple_folds creates updates combines) (tuple_folds_keep creates updates combines) c.args.seed c.args.plan.now accepted).all_below)
+    on_ok_weaker c.ordered.result (λ accepted. (sampled _ (tuple_folds creates updates combines) (tuple_folds_keep creates updates combines) c.args.seed c.args.plan.now accepted).all_below) c.ordered.ensures.accepted
 
 pub returns-clause-merged : goal.returns-clause-merged
 returns-clause-merged g c = λ lg_k start merge.
     let creates = g.P.SummaryPolicy.creates c.args.update_policy in
     let updates = g.P.SummaryUpdatePolicy.updates c.args.update_policy in
     let combines = g.Q.SummaryCombinePolicy.combines c.args.combine_policy in
-    on_ok c.ordered.result c.ordered.ensures.accepted (λ accepted. merge_plan (tuple_folds creates updates combines) (tuple_folds_keep creates updates combines) c.args.seed c.args.plan.now accepted lg_k start merge)
+    on_ok_weaker c.ordered.result (λ accepted. merge_plan (tuple_folds creates updates combines) (tuple_folds_keep creates updates combines) c.args.seed c.args.plan.now accepted lg_k start merge) c.ordered.ensures.accepted
 
 pub returns-clause-kmin : goal.returns-clause-kmin
 returns-clause-kmin g c = λ lg_k start merge.
@@ -41,7 +41,7 @@ returns-clause-kmin g c = λ lg_k start merge.
     let f = tuple_folds creates updates combines in
     merged_keys tuple_key (2 ^ lg_k) start (whole_in f c.args.plan.now) (whole_hashes c.args.plan.now) (value_in f c.args.plan.now) (seed_hash c.args.seed) c.ordered.result
     (tuple_keys creates updates combines c.args.plan.now (merges_unite _ lg_k start c.args.plan.now merge.below_it))
-    (on_ok c.ordered.result c.ordered.ensures.accepted (λ accepted. merge_plan f (tuple_folds_keep creates updates combines) c.args.seed c.args.plan.now accepted lg_k start merge))
+    (on_ok_weaker c.ordered.result (λ accepted. merge_plan f (tuple_folds_keep creates updates combines) c.args.seed c.args.plan.now accepted lg_k start merge) c.ordered.ensures.accepted)
     (rw (c.new-family.ensures.updates, c.new-family.ensures.combines) at c.ordered.ensures.value)
 
 pub returns-clause-trimmed : goal.returns-clause-trimmed
@@ -49,7 +49,7 @@ returns-clause-trimmed g c = λ lg_k start steps is updated.
     let creates = g.P.SummaryPolicy.creates c.args.update_policy in
     let updates = g.P.SummaryUpdatePolicy.updates c.args.update_policy in
     let combines = g.Q.SummaryCombinePolicy.combines c.args.combine_policy in
-    on_ok c.ordered.result c.ordered.ensures.accepted (trimmed_plan (tuple_folds creates updates combines) (tuple_folds_keep creates updates combines) c.args.seed lg_k start steps c.args.plan.now is updated)
+    on_ok_weaker c.ordered.result (trimmed_plan (tuple_folds creates updates combines) (tuple_folds_keep creates updates combines) c.args.seed lg_k start steps c.args.plan.now is updated) c.ordered.ensures.accepted
 
 pub returns-clause-trimmed_kmin : goal.returns-clause-trimmed_kmin
 returns-clause-trimmed_kmin g c = λ lg_k start steps is updated.
@@ -59,7 +59,7 @@ returns-clause-trimmed_kmin g c = λ lg_k start steps is updated.
     let f = tuple_folds creates updates combines in
     merged_keys tuple_key (2 ^ lg_k) start (whole f.key f.step_of steps) (added steps) (value_in f c.args.plan.now) (seed_hash c.args.seed) c.ordered.result
     (tuple_leaf_keys creates updates combines g.row.B.Denot steps)
-    (on_ok c.ordered.result c.ordered.ensures.accepted (trimmed_plan f (tuple_folds_keep creates updates combines) c.args.seed lg_k start steps c.args.plan.now is updated))
+    (on_ok_weaker c.ordered.result (trimmed_plan f (tuple_folds_keep creates updates combines) c.args.seed lg_k start steps c.args.plan.now is updated) c.ordered.ensures.accepted)
     (rw (c.new-family.ensures.updates, c.new-family.ensures.combines) at c.ordered.ensures.value)
 
 pub returns-clause-refused : goal.returns-clause-refused

@@ -1,11 +1,10 @@
-use Rattle.std.proofs.Common.{rules, ◌≡◌, ◌+◌, ◌^◌, ◌≤◌, ◌++◌, ℕ, ltb, length, map, take, drop, ap, ◌∙◌, arith}
+use Rattle.std.proofs.Common.{◌+◌, ◌^◌, ◌≤◌, ℕ, ltb, length, map, ap, ◌∙◌, arith}
 use Rattle.std.proofs.Math.Pow.{pow_mono}
-use Rattle.std.proofs.lemmas.List.{places}
 use Rattle.std.specs.List.{count_by}
 use Rattle.theta_laws.specs.Maps.{below, map_of}
 use Rattle.theta_slots.specs.Layout.{filled}
 use Rattle.theta_slots.proofs.Held.{filled_most, length-held}
-use Rattle.theta_slots.proofs.Gathers.{apart-below, count-below, map_of-below, map_of-below-below}
+use Rattle.theta_slots.proofs.Gathers.{apart-below, count-below, front_gathered, map_of-below, map_of-below-below}
 use Rattle.theta_slots.proofs.Ranks.{apart-laid_out}
 use Rattle.theta_laws.proofs.cuts.Cuts.{length-below}
 use Rattle.theta_slots.proofs.gathering.gather.Goals as goal
@@ -19,30 +18,21 @@ pub returns-clause-map : goal.returns-clause-map
 returns-clause-map g c =
     let key = g.E.SketchEntry.key in
     let held = g.E.SlotEntry.held in
-    let come = c.take_below-count.new.others in
-    let whole : take c.args.others.len (come ++ drop (length come) c.args.others.items) ≡ come = search (rules, places) in
-    let gathered : filled (map held c.truncate.new.self.items) ≡ below key (filled (map held c.args.slots.now)) c.args.theta =
-    ap (λ xs. filled (map held xs)) (c.truncate.ensures.items ∙ ap (λ xs. take c.take_below-count.result xs) whole) ∙ c.take_below-count.ensures.taken in
+    let gathered = front_gathered key held c.args.slots.now c.take_below-count.new.others c.args.others.items c.truncate.new.self.items c.args.others.len c.take_below-count.result c.args.theta (omega (arith, c.take_below-count.ensures.size_others, c.deref_mut.ensures.len)) c.truncate.ensures.items c.take_below-count.ensures.taken in
     c.spread.ensures.map ∙ ap (λ xs. below key (map_of key xs) c.args.theta) gathered ∙ map_of-below-below key (filled (map held c.args.slots.now)) c.args.theta
 
 pub returns-clause-placed : goal.returns-clause-placed
 returns-clause-placed g c =
     let key = g.E.SketchEntry.key in
     let held = g.E.SlotEntry.held in
-    let come = c.take_below-count.new.others in
-    let whole : take c.args.others.len (come ++ drop (length come) c.args.others.items) ≡ come = search (rules, places) in
-    let gathered : filled (map held c.truncate.new.self.items) ≡ below key (filled (map held c.args.slots.now)) c.args.theta =
-    ap (λ xs. filled (map held xs)) (c.truncate.ensures.items ∙ ap (λ xs. take c.take_below-count.result xs) whole) ∙ c.take_below-count.ensures.taken in
+    let gathered = front_gathered key held c.args.slots.now c.take_below-count.new.others c.args.others.items c.truncate.new.self.items c.args.others.len c.take_below-count.result c.args.theta (omega (arith, c.take_below-count.ensures.size_others, c.deref_mut.ensures.len)) c.truncate.ensures.items c.take_below-count.ensures.taken in
     c.spread.ensures.placed ∙ ap (λ xs. c.args.placed.now + count_by (λ x. ltb (key x) c.args.theta) xs) gathered ∙ ap (λ (n : ℕ). c.args.placed.now + n) (count-below key (filled (map held c.args.slots.now)) c.args.theta)
 
 pub settle-requires-clause-apart : goal.settle-requires-clause-apart
 settle-requires-clause-apart g c =
     let key = g.E.SketchEntry.key in
     let held = g.E.SlotEntry.held in
-    let come = c.take_below-count.new.others in
-    let whole : take c.args.others.len (come ++ drop (length come) c.args.others.items) ≡ come = search (rules, places) in
-    let gathered : filled (map held c.deref_mut-then-are_words.result.now) ≡ below key (filled (map held c.args.slots.now)) c.args.theta =
-    ap (λ xs. filled (map held xs)) (c.deref_mut-then-are_words.ensures.value ∙ c.truncate.ensures.items ∙ ap (λ xs. take c.take_below-count.result xs) whole) ∙ c.take_below-count.ensures.taken in
+    let gathered = front_gathered key held c.args.slots.now c.take_below-count.new.others c.args.others.items c.deref_mut-then-are_words.result.now c.args.others.len c.take_below-count.result c.args.theta (omega (arith, c.take_below-count.ensures.size_others, c.deref_mut.ensures.len)) (c.deref_mut-then-are_words.ensures.value ∙ c.truncate.ensures.items) c.take_below-count.ensures.taken in
     rw gathered (apart-below key (filled (map held c.args.slots.now)) c.args.theta (apart-laid_out key c.args.lg (map held c.args.slots.now) c.requires.laid_out))
 
 pub settle-requires-clause-room : goal.settle-requires-clause-room
@@ -54,20 +44,14 @@ pub returns-then-are_words-clause-map : goal.returns-then-are_words-clause-map
 returns-then-are_words-clause-map g c =
     let key = g.E.SketchEntry.key in
     let held = g.E.SlotEntry.held in
-    let come = c.take_below-count.new.others in
-    let whole : take c.args.others.len (come ++ drop (length come) c.args.others.items) ≡ come = search (rules, places) in
-    let gathered : filled (map held c.deref_mut-then-are_words.result.now) ≡ below key (filled (map held c.args.slots.now)) c.args.theta =
-    ap (λ xs. filled (map held xs)) (c.deref_mut-then-are_words.ensures.value ∙ c.truncate.ensures.items ∙ ap (λ xs. take c.take_below-count.result xs) whole) ∙ c.take_below-count.ensures.taken in
+    let gathered = front_gathered key held c.args.slots.now c.take_below-count.new.others c.args.others.items c.deref_mut-then-are_words.result.now c.args.others.len c.take_below-count.result c.args.theta (omega (arith, c.take_below-count.ensures.size_others, c.deref_mut.ensures.len)) (c.deref_mut-then-are_words.ensures.value ∙ c.truncate.ensures.items) c.take_below-count.ensures.taken in
     c.settle.ensures.map ∙ ap (map_of key) gathered ∙ map_of-below key (filled (map held c.args.slots.now)) c.args.theta
 
 pub returns-then-are_words-clause-placed : goal.returns-then-are_words-clause-placed
 returns-then-are_words-clause-placed g c =
     let key = g.E.SketchEntry.key in
     let held = g.E.SlotEntry.held in
-    let come = c.take_below-count.new.others in
-    let whole : take c.args.others.len (come ++ drop (length come) c.args.others.items) ≡ come = search (rules, places) in
-    let gathered : filled (map held c.deref_mut-then-are_words.result.now) ≡ below key (filled (map held c.args.slots.now)) c.args.theta =
-    ap (λ xs. filled (map held xs)) (c.deref_mut-then-are_words.ensures.value ∙ c.truncate.ensures.items ∙ ap (λ xs. take c.take_below-count.result xs) whole) ∙ c.take_below-count.ensures.taken in
+    let gathered = front_gathered key held c.args.slots.now c.take_below-count.new.others c.args.others.items c.deref_mut-then-are_words.result.now c.args.others.len c.take_below-count.result c.args.theta (omega (arith, c.take_below-count.ensures.size_others, c.deref_mut.ensures.len)) (c.deref_mut-then-are_words.ensures.value ∙ c.truncate.ensures.items) c.take_below-count.ensures.taken in
     c.settle.ensures.placed ∙ ap (λ xs. c.args.placed.now + length xs) gathered ∙ ap (λ (n : ℕ). c.args.placed.now + n) (length-below key (filled (map held c.args.slots.now)) c.args.theta)
 
 pub are_words-requires : goal.are_words-requires

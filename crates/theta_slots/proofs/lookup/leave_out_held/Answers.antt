@@ -1,6 +1,6 @@
 use Rattle.std.proofs.Common.{◌≡◌, length, map, take, arith}
 use Rattle.theta_slots.specs.Layout.{filled}
-use Rattle.theta_slots.proofs.Lookups.{left_out-first, left_more}
+use Rattle.theta_slots.proofs.Lookups.{left_out-first, left_more, packed_pass}
 use Rattle.theta_slots.proofs.lookup.leave_out_held.Goals as goal
 
 pub round-init : goal.round-init
@@ -9,6 +9,7 @@ round-init g c =
     record {
       size = size;
       few = omega (arith, c.pack_unscreened-left.ensures.few, size);
+      unscreened = rw c.pack_unscreened-left.ensures.packed (packed_pass c.args.theta c.args.hashes.now);
       others_out = left_out-first g.E.SketchEntry.key (filled (map g.E.SlotEntry.held c.args.slots.now)) c.args.theta c.args.hashes.now (take c.pack_unscreened-left.result c.pack_unscreened-left.new.hashes) c.pack_unscreened-left.ensures.packed;
     }
 

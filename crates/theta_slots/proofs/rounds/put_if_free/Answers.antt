@@ -1,6 +1,6 @@
 use Rattle.std.proofs.Common.{◌≡◌, ℕ, true, false, cond, set, map, ap, ◌∙◌}
 use Rattle.theta_slots.proofs.Held.{map-set, set-again}
-use Rattle.theta_slots.proofs.Settled.{set-back}
+use Rattle.std.proofs.lemmas.List.{set-get_or}
 use Rattle.theta_slots.proofs.rounds.put_if_free.Goals as goal
 
 pub returns-clause-stands : goal.returns-clause-stands
@@ -11,8 +11,8 @@ returns-clause-stands g c =
     let free = c.replace-held.new.dest in
     let was = c.replace-held.result in
     let entry = c.args.entry in
-    let back : set slots at was ≡ slots = ap (λ s. set slots at s) c.replace-held.ensures.value ∙ set-back slots at c.index-slots-at.result c.requires in
-    ap (λ s. map held (set (set slots at free) at s)) c.turned_if-stands.ensures.first
+    let back : set slots at was ≡ slots = ap (λ s. set slots at s) c.replace-held.ensures.value ∙ set-get_or slots at c.index-slots-at.result in
+    ap (λ s. map held (set (set slots at free) at s)) c.exchanged_if-stands.ensures.first
     ∙ elim c.is_none-is_free.result as (λ b. map held (set (set slots at free) at (cond b entry was)) ≡ cond b (set (map held slots) at (held entry)) (map held slots)) [
       | true ↦ ap (map held) (set-again slots at free entry) ∙ map-set held slots at entry
       | false ↦ ap (map held) (set-again slots at free was ∙ back)

@@ -1,11 +1,11 @@
-use Rattle.std.proofs.Common.{◌≡◌, ℕ, ◌+◌, ◌<◌, ◌^◌, Some, None, length, map, set, subst, sym, ap, ◌∙◌, arith}
+use Rattle.std.proofs.Common.{◌≡◌, ℕ, ◌+◌, ◌<◌, ◌≤◌, ◌^◌, Some, None, length, map, set, subst, sym, ap, ◌∙◌, arith}
 use Rattle.std.proofs.lemmas.List.{length-set}
 use Rattle.std.proofs.lemmas.Nat.{pow_pos}
+use Rattle.std.proofs.Math.Pow.{pow_mono}
 use Rattle.theta_slots.specs.Layout.{filled, slot}
 use Rattle.theta_slots.specs.Probe.{probe}
 use Rattle.theta_slots.specs.Rounds.{IsInRound}
 use Rattle.theta_slots.proofs.Held.{slot-map, map-set, length-held, filled_most, some_of, none_of}
-use Rattle.theta_slots.proofs.Layouts.{probe_low}
 use Rattle.theta_slots.proofs.Settled.{round_starts, round_next, round_short, round_passes, round_puts, round_keeps, rounds_end, no_more, kept_few, one_fewer, as_many_left, free_there, set_none, is_free, is_taken, looks_next, looks_put, looks_kept, looks_passed, looks_end}
 use Rattle.theta_slots.proofs.rounds.settle.Goals as goal
 use Rattle.theta_slots.proofs.rounds.settle.Goals.{in-Some+then-is_settled, in-Some+else-is_settled, in_default}
@@ -35,8 +35,7 @@ returns-then-count-eq0-clause-map g c =
     let whole = map held c.args.left.now in
     let left = map held c.rounds.left in
     let slots = map held c.rounds.slots in
-    let is : IsInRound key c.args.lg whole left slots c.rounds.round 0 0 0 i.0 i.1 = subst (λ (n : ℕ). IsInRound key c.args.lg whole left slots c.rounds.round 0 0 n i.0 i.1) c.if-count-eq0.true i.5 in
-    rounds_end key c.args.lg whole left slots c.rounds.round i.0 i.1 is
+    rounds_end key c.args.lg whole left slots c.rounds.round c.rounds.count i.0 i.1 c.if-count-eq0.true i.5
 
 pub returns-then-count-eq0-clause-placed : goal.returns-then-count-eq0-clause-placed
 returns-then-count-eq0-clause-placed g c =
@@ -46,8 +45,7 @@ returns-then-count-eq0-clause-placed g c =
     let whole = map held c.args.left.now in
     let left = map held c.rounds.left in
     let slots = map held c.rounds.slots in
-    let is : IsInRound key c.args.lg whole left slots c.rounds.round 0 0 0 i.0 i.1 = subst (λ (n : ℕ). IsInRound key c.args.lg whole left slots c.rounds.round 0 0 n i.0 i.1) c.if-count-eq0.true i.5 in
-    omega (arith, i.2, i.5.counted, no_more key c.args.lg whole left slots c.rounds.round i.0 i.1 is)
+    omega (arith, i.2, i.5.counted, no_more key c.args.lg whole left slots c.rounds.round c.rounds.count i.0 i.1 c.if-count-eq0.true i.5)
 
 pub returns-then-count-eq0-clause-looks : goal.returns-then-count-eq0-clause-looks
 returns-then-count-eq0-clause-looks g c =
@@ -57,13 +55,17 @@ returns-then-count-eq0-clause-looks g c =
     let whole = map held c.args.left.now in
     let left = map held c.rounds.left in
     let slots = map held c.rounds.slots in
-    let is : IsInRound key c.args.lg whole left slots c.rounds.round 0 0 0 i.0 i.1 = subst (λ (n : ℕ). IsInRound key c.args.lg whole left slots c.rounds.round 0 0 n i.0 i.1) c.if-count-eq0.true i.5 in
-    looks_end c.rounds.looks c.args.looks.now i.1 c.rounds.round (length (filled left)) i.0 c.rounds.placed c.args.placed.now i.4 (no_more key c.args.lg whole left slots c.rounds.round i.0 i.1 is) i.5.looked_few i.2
+    looks_end c.rounds.looks c.args.looks.now i.1 c.rounds.round (length (filled left)) i.0 c.rounds.placed c.args.placed.now i.4 (no_more key c.args.lg whole left slots c.rounds.round c.rounds.count i.0 i.1 c.if-count-eq0.true i.5) i.5.looked_few i.2
+
+pub slot_after-next-requires-clause-few : goal.slot_after-next-requires-clause-few
+slot_after-next-requires-clause-few g c =
+    let most : 2 ^ c.args.lg ≤ 2 ^ 40 = pow_mono {i = c.args.lg} {j = 40} (omega (arith, c.requires.small)) in
+    omega (arith, most, c.rounds.invariant.6 (omega (arith, c.look_on-test.true)))
 
 pub put_if_free-is_settled-requires : goal.put_if_free-is_settled-requires
 put_if_free-is_settled-requires g c =
     let held = g.E.SlotEntry.held in
-    omega (arith, c.slot_after-next.ensures, probe_low c.in-Some.hash c.args.lg c.rounds.round, c.look_on.invariant.5.laid_out.size, length-held held c.look_on.slots)
+    omega (arith, c.slot_after-next.ensures.below, c.look_on.invariant.5.laid_out.size, length-held held c.look_on.slots)
 
 pub look_on-preserved : goal.look_on-preserved
 look_on-preserved g c =
@@ -91,7 +93,7 @@ look_on-preserved g c =
           let one = some_of key (held entry) w.in-Some.hash told in
           let here : slot left at ≡ Some one.0 = sym taken ∙ one.1 in
           let next : ℕ = w.slot_after-next.result in
-          let way : next ≡ probe (key one.0) lg round = w.slot_after-next.ensures ∙ ap (λ (n : ℕ). probe n lg round) (sym one.2) in
+          let way : next ≡ probe (key one.0) lg round = w.slot_after-next.ensures.value ∙ ap (λ (n : ℕ). probe n lg round) (sym one.2) in
           let put = w.put_if_free-is_settled in
           let free : slot slots next ≡ None = is_free (slot slots next) (sym put.ensures.free ∙ w.if-is_settled.true) in
           let stands : map held put.new.slots ≡ set slots next (Some one.0) = (rw w.if-is_settled.true at put.ensures.stands) ∙ ap (λ o. set slots next o) one.1 in
@@ -114,7 +116,7 @@ look_on-preserved g c =
           let one = some_of key (held entry) w.in-Some.hash told in
           let here : slot left at ≡ Some one.0 = sym taken ∙ one.1 in
           let next : ℕ = w.slot_after-next.result in
-          let way : next ≡ probe (key one.0) lg round = w.slot_after-next.ensures ∙ ap (λ (n : ℕ). probe n lg round) (sym one.2) in
+          let way : next ≡ probe (key one.0) lg round = w.slot_after-next.ensures.value ∙ ap (λ (n : ℕ). probe n lg round) (sym one.2) in
           let put = w.put_if_free-is_settled in
           let other = is_taken (slot slots next) (sym put.ensures.free ∙ w.if-is_settled.false) in
           let stands : map held put.new.slots ≡ slots = rw w.if-is_settled.false at put.ensures.stands in

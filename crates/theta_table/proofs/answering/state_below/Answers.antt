@@ -2,7 +2,8 @@ use Rattle.std.proofs.Common.{◌≡◌, true, false, map, length, sym, ◌∙�
 use Rattle.theta_compact.specs.CompactState.{is_answer_ordered}
 use Rattle.theta_laws.specs.Maps.{below}
 use Rattle.theta_slots.specs.Layout.{filled}
-use Rattle.theta_table.proofs.ListedBelow.{apart-below, shown_listed, shown_sorted, answer_listed, answer_sorted}
+use Rattle.theta_slots.proofs.Gathers.{apart-below}
+use Rattle.theta_table.proofs.ListedBelow.{shown_listed, shown_sorted, answer_listed, answer_sorted}
 use Rattle.theta_table.proofs.answering.state_below.Goals as goal
 
 pub sorted-requires : goal.sorted-requires

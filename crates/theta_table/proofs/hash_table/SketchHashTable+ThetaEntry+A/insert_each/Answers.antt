@@ -1,14 +1,26 @@
-use Rattle.std.proofs.Common.{ℕ, ◌∷◌, [], take, drop, get_or, sym, ap, ◌∙◌, take-append-drop}
+use Rattle.std.proofs.Common.{ℕ, suc, ◌∷◌, [], take, drop, get_or, sym, ap, ◌∙◌, inl, inr}
 use Rattle.std.proofs.lemmas.Result.{err_from_is_err_and}
 use Rattle.std.proofs.lemmas.List.{take_more}
 use Rattle.theta_table.specs.HashTable.{after_hashes}
-use Rattle.theta_table.proofs.ManyHashes.{after_hashes-append}
+use Rattle.theta_table.proofs.ManyHashes.{after_hashes-append, stops_here}
 use Rattle.theta_table.proofs.hash_table.SketchHashTable+ThetaEntry+A.insert_each.Goals as goal
 
 pub returns-in_err-try_insert_hash-clause-err : goal.returns-in_err-try_insert_hash-clause-err
 returns-in_err-try_insert_hash-clause-err g c =
     let p = err_from_is_err_and c.from_residual.result c.from_residual.ensures.1 in
-    rw (p.1) (take c.each.hash-index c.args.hashes.now, drop c.each.hash-index c.args.hashes.now, sym (take-append-drop c.each.hash-index c.args.hashes.now), c.in_err-try_insert_hash.ensures.err ∙ c.each.invariant)
+    let hash : ℕ = get_or c.args.hashes.now c.each.hash-index 0 in
+    let stays = c.in_err-try_insert_hash.ensures.err in
+    let parts = stops_here c.args.hashes.now c.each.hash-index c.each-test.true in
+    rw (p.1) (
+      take c.each.hash-index c.args.hashes.now,
+      hash,
+      drop (suc c.each.hash-index) c.args.hashes.now,
+      parts,
+      (
+        stays ∙ c.each.invariant,
+        elim c.in_err-try_insert_hash.ensures.refused [ inl never ↦ absurd (cc) | inr makes ↦ rw stays (makes.1) ],
+      ),
+    )
 
 pub each-preserved : goal.each-preserved
 each-preserved g c =
