@@ -152,7 +152,7 @@ fn take_last<A: Allocator + Clone>(
 /// Takes in all lines that a reader has left, block by block, each by its key. A read that was interrupted is made again.
 ///
 /// Refused with `OutOfMemory` alone; a source that failed tells its error, which is never that a read was interrupted. Then
-/// some first part of the lines is taken in; no clause says which.
+/// some first part of the lines is taken in; no clause says so.
 pub fn add_lines<A: Allocator + Clone, R: Read, W: Watch>(
     sketch: &mut ThetaSketch<A>,
     key: Key,
