@@ -1,27 +1,26 @@
 -- Differences of listings, and the states of what is kept.
-use Rattle.std.proofs.Common.{◌≡◌, ℕ, suc, ◌<◌, ◌≤◌, ◌≢◌, ◌^◌, Bool, true, false, cond, ltb, leb, eqb, is_none, min, Result, Ok, Err, IfOk, IfErr, is_err, List, [], ◌∷◌, ◌++◌, length, map, Option, Some, None, refl, sym, ap, ◌∙◌, subst, arith}
-use Rattle.std.specs.Prelude.{◌&&◌, ◌==◌}
-use Rattle.std.specs.List.{filter, AllByRecursion, AllPairs}
+use Rattle.std.proofs.Common.{◌+◌, inl, inr, take, drop, set, ◌≡◌, ℕ, suc, ◌<◌, ◌≤◌, ◌≢◌, ◌^◌, Bool, true, false, cond, ltb, leb, is_none, min, Result, Ok, Err, IfOk, IfErr, is_err, List, [], ◌∷◌, ◌++◌, length, map, Option, Some, None, refl, sym, ap, ◌∙◌, arith}
+use Rattle.std.specs.Prelude.{◌&&◌, ◌==◌, option_map}
+use Rattle.theta_laws.proofs.maps.MappedEntries.{entry_at-map}
+use Rattle.std.specs.List.{filter, slice_get, AllByRecursion, AllPairs}
+use Rattle.std.proofs.lemmas.Bool.{cases_lt}
 use Rattle.std.proofs.lemmas.Bool.Decides.{nat_tests}
-use Rattle.std.proofs.lemmas.List.{length-map, map-id, append_assoc}
+use Rattle.std.proofs.lemmas.List.{length-map, map-id, map-append, append_assoc, take_more_set, take-set}
 use Rattle.std.proofs.lemmas.List.Sorted.{length_permutation}
 use Rattle.theta_compact.specs.CompactState.{Compact, IsCompactOf, IsAnswer, shown_of, empty_compact, is_answer_ordered}
 use Rattle.theta_laws.specs.Maps.{IsAscending, IsApart, below, entry_at, map_of}
-use Rattle.std.specs.Iterator.{YieldsFirst}
-use Rattle.std.specs.Option.{option_eq}
 use Rattle.theta_laws.specs.Places.{IsAt, IsGapFor}
 use Rattle.theta_laws.proofs.maps.Insertions.{entry_at_place, entry_at_gap}
-use Rattle.theta_operators.specs.ANotB.{at_hand_first, hashes_from}
 use Rattle.theta_laws.specs.Entries.{hash_key}
 use Rattle.theta_laws.specs.Operators.{lacking, minus, unless_nothing}
 use Rattle.theta_laws.specs.Shown.{Shown, IsShown, shown_value}
 use Rattle.theta_laws.specs.declared.TheConstants.{MAX_THETA}
-use Rattle.theta_laws.proofs.maps.Ascending.{each-filter, each-weaker, each-passes, ascending-head, ascending-tail, ascending-nil, ascending-cons, ascending-filter, filter_each}
+use Rattle.theta_laws.proofs.maps.Ascending.{each-filter, each-weaker, each-passes, ascending-head, ascending-tail, ascending-nil, ascending-cons, ascending-filter}
 use Rattle.theta_laws.proofs.operators.CommonMaps.{filter-and, filter-agree, lacking-nil}
 use Rattle.theta_laws.proofs.cuts.Cuts.{below_all}
 use Rattle.theta_laws.proofs.maps.MapsOfLists.{distinct-apart, each-hash, apart-distinct, ascending-from_map, each-from_map, ascending-map, entry_at-map_of, ascending-map_of}
 use Rattle.theta_laws.proofs.maps.ApartEntries.{apart-filter}
-use Rattle.theta_laws.proofs.maps.LookUps.{entry_at-filter_in, entry_at-filter_out, entry_at-below, entry_at_head, past, same_map}
+use Rattle.theta_laws.proofs.maps.LookUps.{entry_at_rest, entry_at-filter_in, entry_at-filter_out, entry_at-below, entry_at_head, past, same_map}
 use Rattle.theta_table.proofs.OtherOrders.{map_of-ascending, map_of-moved, each-map_of}
 use Rattle.theta_compact.proofs.LawsOfShown.{IsShown-retained}
 
@@ -211,77 +210,135 @@ pub search_tells : (hs : List ℕ) (h : ℕ) (r : Result ℕ ℕ) → IsAscendin
 search_tells hs h (Ok at) up found absent = ap is_none (sym (entry_at_place hash_key hs h at 0 up found))
 search_tells hs h (Err at) up found absent = ap is_none (sym (entry_at_gap hash_key hs h at absent))
 
--- the hashes from a least one on
-pub from_low : (h : ℕ) (rest : List ℕ) (least : ℕ) → h < least → hashes_from (h ∷ rest) least ≡ hashes_from rest least
-from_low h rest least lt = let e : leb least h ≡ false = grind (arith, nat_tests) in rw e refl
+module _ {X Y : Type 0} (key : X → ℕ) (other : Y → ℕ) (theta : ℕ) where
+  none_mapped : (o : Option Y) → is_none o ≡ is_none (option_map other o)
+  none_mapped None = refl
+  none_mapped (Some y) = refl
 
-pub from_high : (h : ℕ) (rest : List ℕ) (least : ℕ) → IsAscending hash_key (h ∷ rest) → least ≤ h → hashes_from (h ∷ rest) least ≡ h ∷ rest
-from_high h rest least up le =
-    filter_each (λ q. leb least q) (h ∷ rest) (grind (arith, nat_tests), each-weaker (λ q. h < q) (λ q. leb least q ≡ true) (λ q lt. grind (arith, nat_tests)) rest (ascending-head hash_key h rest up))
+  -- what is to be kept of entries: below theta, and not among others
+  abbrev pub to_keep : List X → List Y → List X
+  to_keep left others = lacking key other (below key left theta) others
 
--- after a call for the next hash
-pub at_hand_is : {S : Type 0} (rest : S → List ℕ) (s t : S) (r : Option ℕ) → YieldsFirst rest s r t → at_hand_first r (rest t) ≡ rest s
-at_hand_is rest s t None steps = sym steps.0
-at_hand_is rest s t (Some h) steps = sym steps
+  -- entries and others that ascend are read side by side: what is kept so far and what is to be kept of what is left is what is to be kept in all
+  pub record IsSifting (whole left : List X) (others : List Y) (kept : List X) : Type 0 where
+    pub rest : kept ++ to_keep left others ≡ whole
+    pub ascending : IsAscending key left
+    pub others_ascend : IsAscending other others
+
+  -- one that is less than all entries takes nothing away
+  lesser_other : (y : Y) (others : List Y) (left : List X) → AllByRecursion (λ x. other y < key x) left → to_keep left (y ∷ others) ≡ to_keep left others
+  lesser_other y others [] all = refl
+  lesser_other y others (x ∷ left) all =
+      let differs : other y ≢ key x = λ same. absurd (omega (arith, same, all.0)) in
+      let seen : entry_at other (y ∷ others) (key x) ≡ entry_at other others (key x) = entry_at_rest other y others (key x) differs in
+      let on = lesser_other y others left all.1 in
+      elim (ltb (key x) theta) as (λ t. lacking key other (cond t (x ∷ below key left theta) (below key left theta)) (y ∷ others) ≡ lacking key other (cond t (x ∷ below key left theta) (below key left theta)) others) [
+        | true ↦ ap (λ o. cond (is_none o) (x ∷ to_keep left (y ∷ others)) (to_keep left (y ∷ others))) seen ∙ ap (λ zs. cond (is_none (entry_at other others (key x))) (x ∷ zs) zs) on
+        | false ↦ on
+      ]
+
+  -- an entry below theta is kept where no other has its hash
+  kept_first : (x : X) (left : List X) (others : List Y) → key x < theta → entry_at other others (key x) ≡ None → to_keep (x ∷ left) others ≡ x ∷ to_keep left others
+  kept_first x left others lt absent = let e : ltb (key x) theta ≡ true = grind (arith, nat_tests) in rw (e, absent) refl
+
+  left_first : (x : X) (left : List X) (others : List Y) → key x < theta → is_none (entry_at other others (key x)) ≡ false → to_keep (x ∷ left) others ≡ to_keep left others
+  left_first x left others lt there = let e : ltb (key x) theta ≡ true = grind (arith, nat_tests) in rw (e, there) refl
+
+  module _ (whole : List X) (x : X) (left : List X) (y : Y) (others : List Y) (kept : List X) (lt : key x < theta) (was : IsSifting whole (x ∷ left) (y ∷ others) kept) where
+    sifted_less : key x < other y → IsSifting whole left (y ∷ others) (kept ++ x ∷ [])
+    sifted_less less = record {
+      rest = append_assoc kept (x ∷ []) (to_keep left (y ∷ others)) ∙ ap (λ zs. kept ++ zs) (sym (kept_first x left (y ∷ others) lt (past other y others (key x) was.others_ascend less))) ∙ was.rest;
+      ascending = ascending-tail key x left was.ascending;
+      others_ascend = was.others_ascend;
+    }
+
+    sifted_same : key x ≡ other y → IsSifting whole left others kept
+    sifted_same same =
+        let met : is_none (entry_at other (y ∷ others) (key x)) ≡ false = ap is_none (entry_at_head other y others (key x) (sym same)) in
+        let later : AllByRecursion (λ z. other y < key z) left = each-weaker (λ z. key x < key z) (λ z. other y < key z) (λ z after. omega (arith, same, after)) left (ascending-head key x left was.ascending) in
+        record {
+          rest = ap (λ zs. kept ++ zs) (sym (lesser_other y others left later) ∙ sym (left_first x left (y ∷ others) lt met)) ∙ was.rest;
+          ascending = ascending-tail key x left was.ascending;
+          others_ascend = ascending-tail other y others was.others_ascend;
+        }
+
+    sifted_greater : other y < key x → IsSifting whole (x ∷ left) others kept
+    sifted_greater greater =
+        let all : AllByRecursion (λ z. other y < key z) (x ∷ left) = (greater, each-weaker (λ z. key x < key z) (λ z. other y < key z) (λ z after. omega (arith, greater, after)) left (ascending-head key x left was.ascending)) in
+        record {
+          rest = ap (λ zs. kept ++ zs) (sym (lesser_other y others (x ∷ left) all)) ∙ was.rest;
+          ascending = was.ascending;
+          others_ascend = ascending-tail other y others was.others_ascend;
+        }
+
+  -- one comparison more, by numbers alone: the entry is written behind those that are kept, and counts where it is less; each list goes on where its first isn't the greater
+  module _ {R : Type 0} (at : R → X) (whole : List X) (r : R) (left : List X) (y : Y) (others : List Y) (kept : List R) (count : ℕ) (room : count < length kept) (lt : key (at r) < theta)
+      (was : IsSifting whole (at r ∷ left) (y ∷ others) (map at (take count kept))) where
+    abbrev after : (more passed others_passed : ℕ) → Type 0
+    after more passed others_passed = IsSifting whole (drop passed (at r ∷ left)) (drop others_passed (y ∷ others)) (map at (take more (set kept count r)))
+
+    written : map at (take (count + 1) (set kept count r)) ≡ map at (take count kept) ++ at r ∷ []
+    written = ap (map at) (take_more_set kept count r room) ∙ map-append at (take count kept) (r ∷ [])
+
+    stays : map at (take (count + 0) (set kept count r)) ≡ map at (take count kept)
+    stays = ap (λ (n : ℕ). map at (take n (set kept count r))) (omega arith) ∙ ap (map at) (take-set kept count r)
+
+    pub sifted_more : after (count + cond (ltb (key (at r)) (other y)) 1 0) (cond (leb (key (at r)) (other y)) 1 0) (cond (leb (other y) (key (at r))) 1 0)
+    sifted_more =
+        elim (cases_lt (key (at r)) (other y)) [
+          | inl less ↦
+              let a : ltb (key (at r)) (other y) ≡ true = grind (arith, nat_tests) in
+              let b : leb (key (at r)) (other y) ≡ true = grind (arith, nat_tests) in
+              let c : leb (other y) (key (at r)) ≡ false = grind (arith, nat_tests) in
+              rw (a, b, c, written) (sifted_less whole (at r) left y others (map at (take count kept)) lt was less)
+          | inr no_less ↦ elim (cases_lt (other y) (key (at r))) [
+            | inl greater ↦
+                let a : ltb (key (at r)) (other y) ≡ false = grind (arith, nat_tests) in
+                let b : leb (key (at r)) (other y) ≡ false = grind (arith, nat_tests) in
+                let c : leb (other y) (key (at r)) ≡ true = grind (arith, nat_tests) in
+                rw (a, b, c, stays) (sifted_greater whole (at r) left y others (map at (take count kept)) lt was greater)
+            | inr no_greater ↦
+                let a : ltb (key (at r)) (other y) ≡ false = grind (arith, nat_tests) in
+                let b : leb (key (at r)) (other y) ≡ true = grind (arith, nat_tests) in
+                let c : leb (other y) (key (at r)) ≡ true = grind (arith, nat_tests) in
+                rw (a, b, c, stays) (sifted_same whole (at r) left y others (map at (take count kept)) lt was (omega (arith, no_less, no_greater)))
+          ]
+        ]
+
+  -- the same told by what is at the front of both lists, and by the numbers that the comparisons come to
+  pub sifted_on : {R : Type 0} (at : R → X) (whole left : List X) (others : List Y) (r : R) (y : Y) (kept : List R) (count hash other_hash more passed others_passed : ℕ)
+      → Some (at r) ≡ slice_get left 0 → Some y ≡ slice_get others 0 → count < length kept → hash ≡ key (at r) → other_hash ≡ other y → hash < theta
+      → more ≡ cond (ltb hash other_hash) 1 0 → passed ≡ cond (leb hash other_hash) 1 0 → others_passed ≡ cond (leb other_hash hash) 1 0
+      → IsSifting whole left others (map at (take count kept)) → IsSifting whole (drop passed left) (drop others_passed others) (map at (take (count + more) (set kept count r)))
+  sifted_on at whole [] others r y kept count hash other_hash more passed others_passed first other_first room hash_is known_is lt more_is passed_is others_passed_is was = absurd (cc)
+  sifted_on at whole (x ∷ left) [] r y kept count hash other_hash more passed others_passed first other_first room hash_is known_is lt more_is passed_is others_passed_is was = absurd (cc)
+  sifted_on at whole (x ∷ left) (z ∷ others) r y kept count hash other_hash more passed others_passed first other_first room hash_is known_is lt more_is passed_is others_passed_is was =
+      let x_is : x ≡ at r = cc in
+      let z_is : z ≡ y = cc in
+      rw (more_is, passed_is, others_passed_is, hash_is, known_is, x_is, z_is) (sifted_more at whole r left y others kept count room (rw (← hash_is) lt) (rw (x_is, z_is) at was))
+
+  -- where either list is at its end, or the first entry is not below theta, all that is below theta is to be kept
+  pub whole_at_end : (left : List X) (others : List Y) → None ≡ slice_get left 0 → to_keep left others ≡ below key left theta
+  whole_at_end [] others none = refl
+  whole_at_end (x ∷ left) others none = absurd (cc)
+
+  pub whole_with_none : (left : List X) (others : List Y) → None ≡ slice_get others 0 → to_keep left others ≡ below key left theta
+  whole_with_none left [] none = lacking-nil key other (below key left theta)
+  whole_with_none left (y ∷ others) none = absurd (cc)
+
+  pub whole_past : (left : List X) (others : List Y) (x : X) → Some x ≡ slice_get left 0 → IsAscending key left → theta ≤ key x → to_keep left others ≡ below key left theta
+  whole_past [] others x first up le = refl
+  whole_past (z ∷ left) others x first up le =
+      let z_is : z ≡ x = cc in
+      let none : below key (z ∷ left) theta ≡ [] = stops key z left theta up (rw z_is le) in
+      ap (λ xs. lacking key other xs others) none ∙ sym none
+
+  -- others by their hashes alone
+  pub kept_of_hashes : (left : List X) (others : List Y) → to_keep left others ≡ lacking key hash_key (below key left theta) (map other others)
+  kept_of_hashes left others = filter-agree (λ x. is_none (entry_at other others (key x))) (λ x. is_none (entry_at hash_key (map other others) (key x))) (below key left theta) (λ x.
+      none_mapped (entry_at other others (key x)) ∙ ap is_none (sym (entry_at-map other other hash_key (λ y. refl) others (key x))))
 
 module _ {X : Type 0} (key : X → ℕ) where
-  -- entries and hashes that ascend are read side by side: of the hashes all are left that the entries that are left ask for
-  pub record IsScanning (listing left kept : List X) (hashes from : List ℕ) (theta : ℕ) : Type 0 where
-    pub rest : kept ++ kept_of key left hashes theta ≡ kept_of key listing hashes theta
-    pub agrees : AllByRecursion (λ x. entry_at hash_key from (key x) ≡ entry_at hash_key hashes (key x)) left
-    pub in_order : IsAscending key left
-    pub ascending : IsAscending hash_key from
-
-  each_agrees : (left : List X) (hashes : List ℕ) → AllByRecursion (λ x. entry_at hash_key hashes (key x) ≡ entry_at hash_key hashes (key x)) left
-  each_agrees [] hashes = tt
-  each_agrees (x ∷ left) hashes = (refl, each_agrees left hashes)
-
-  pub scanning_start : (listing : List X) (hashes : List ℕ) (theta : ℕ) → IsAscending key listing → IsAscending hash_key hashes → IsScanning listing listing [] hashes hashes theta
-  scanning_start listing hashes theta up hashes_up = record { rest = refl; agrees = each_agrees listing hashes; in_order = up; ascending = hashes_up }
-
-  entry_at-from : (from : List ℕ) (least q : ℕ) → least ≤ q → entry_at hash_key (hashes_from from least) q ≡ entry_at hash_key from q
-  entry_at-from from least q le = entry_at-filter_in hash_key (λ h. leb least h) from q (λ h same. grind (arith, nat_tests))
-
-  later_agree : (h : ℕ) (left : List X) (hashes from : List ℕ) → AllByRecursion (λ x. h < key x) left → AllByRecursion (λ x. entry_at hash_key from (key x) ≡ entry_at hash_key hashes (key x)) left → AllByRecursion (λ x. entry_at hash_key (hashes_from from h) (key x) ≡ entry_at hash_key hashes (key x)) left
-  later_agree h [] hashes from later agrees = tt
-  later_agree h (x ∷ left) hashes from later agrees = (entry_at-from from h (key x) (omega (arith, later.0)) ∙ agrees.0, later_agree h left hashes from later.1 agrees.1)
-
-  -- an entry more, where the hashes before its own were passed over
-  scanning_on : (listing : List X) (x : X) (left kept more : List X) (hashes from on : List ℕ) (theta : ℕ) → on ≡ hashes_from from (key x) → IsScanning listing (x ∷ left) kept hashes from theta → more ++ kept_of key left hashes theta ≡ kept ++ kept_of key (x ∷ left) hashes theta → IsScanning listing left more hashes on theta
-  scanning_on listing x left kept more hashes from on theta on_is so_far next = rw on_is (record {
-    rest = next ∙ so_far.rest;
-    agrees = later_agree (key x) left hashes from (ascending-head key x left so_far.in_order) so_far.agrees.1;
-    in_order = ascending-tail key x left so_far.in_order;
-    ascending = ascending-filter hash_key _ from so_far.ascending;
-  })
-
-  asked_for : (listing : List X) (x : X) (left kept : List X) (hashes from on : List ℕ) (theta : ℕ) → on ≡ hashes_from from (key x) → IsScanning listing (x ∷ left) kept hashes from theta → entry_at hash_key on (key x) ≡ entry_at hash_key hashes (key x)
-  asked_for listing x left kept hashes from on theta on_is so_far = rw on_is (entry_at-from from (key x) (key x) (omega arith)) ∙ so_far.agrees.0
-
-  none_at_hand : (rest : List ℕ) (h : ℕ) (at_hand : Option ℕ) (from : List ℕ) → IsAscending hash_key from → at_hand_first at_hand rest ≡ hashes_from from h → option_eq eqb at_hand (Some h) ≡ false → entry_at hash_key (at_hand_first at_hand rest) h ≡ None
-  none_at_hand rest h None from up is differs = refl
-  none_at_hand rest h (Some u) from up is differs =
-      let high : AllByRecursion (λ q. h ≤ q) (u ∷ rest) = subst (λ zs. AllByRecursion (λ q. h ≤ q) zs) (sym is) (each-passes (λ q. h ≤ q) (λ q. leb h q) (λ q e. grind (arith, nat_tests)) from) in
-      let ascends : IsAscending hash_key (u ∷ rest) = subst (λ zs. IsAscending hash_key zs) (sym is) (ascending-filter hash_key (λ q. leb h q) from up) in
-      past hash_key u rest h ascends (grind (arith, nat_tests, high.0, differs))
-
-  met_at_hand : (rest : List ℕ) (h : ℕ) (at_hand : Option ℕ) → option_eq eqb at_hand (Some h) ≡ true → is_none (entry_at hash_key (at_hand_first at_hand rest) h) ≡ false
-  met_at_hand rest h None met = absurd (cc)
-  met_at_hand rest h (Some u) met = let tie : u ≡ h = grind (arith, nat_tests, met) in ap is_none (entry_at_head hash_key u rest h tie)
-
-  -- an entry whose hash isn't the one at hand is kept, and one whose hash is isn't
-  pub scanning_kept : (listing : List X) (x : X) (left kept : List X) (hashes from rest : List ℕ) (at_hand : Option ℕ) (theta : ℕ) → at_hand_first at_hand rest ≡ hashes_from from (key x) → key x < theta → option_eq eqb at_hand (Some (key x)) ≡ false → IsScanning listing (x ∷ left) kept hashes from theta → IsScanning listing left (kept ++ x ∷ []) hashes (at_hand_first at_hand rest) theta
-  scanning_kept listing x left kept hashes from rest at_hand theta is low differs so_far =
-      let absent : entry_at hash_key hashes (key x) ≡ None = sym (asked_for listing x left kept hashes from (at_hand_first at_hand rest) theta is so_far) ∙ none_at_hand rest (key x) at_hand from so_far.ascending is differs in
-      let e : ltb (key x) theta ≡ true = grind (arith, nat_tests) in
-      scanning_on listing x left kept (kept ++ x ∷ []) hashes from (at_hand_first at_hand rest) theta is so_far (kept_more key kept x left hashes theta (rw (e, absent) refl))
-
-  pub scanning_met : (listing : List X) (x : X) (left kept : List X) (hashes from rest : List ℕ) (at_hand : Option ℕ) (theta : ℕ) → at_hand_first at_hand rest ≡ hashes_from from (key x) → key x < theta → option_eq eqb at_hand (Some (key x)) ≡ true → IsScanning listing (x ∷ left) kept hashes from theta → IsScanning listing left kept hashes (at_hand_first at_hand rest) theta
-  scanning_met listing x left kept hashes from rest at_hand theta is low met so_far =
-      let found : is_none (entry_at hash_key hashes (key x)) ≡ false = ap is_none (sym (asked_for listing x left kept hashes from (at_hand_first at_hand rest) theta is so_far)) ∙ met_at_hand rest (key x) at_hand met in
-      let e : ltb (key x) theta ≡ true = grind (arith, nat_tests) in
-      scanning_on listing x left kept kept hashes from (at_hand_first at_hand rest) theta is so_far (kept_same key kept x left hashes theta (rw (e, found) refl))
-
   -- the difference of what two sketches show is what is kept
   minus_value : (a b : Shown) (listing : List X) (hs : List ℕ) (theta : ℕ) → a.empty ≡ false → b.empty ≡ false → theta ≡ min a.theta b.theta →
       minus key hash_key (shown_value key a listing) (shown_value hash_key b hs) ≡ unless_nothing (record { entries = map_of key (kept_of key listing hs theta); theta = theta })

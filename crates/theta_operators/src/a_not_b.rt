@@ -1,8 +1,8 @@
 //! Differences: what of one sketch another lacks.
-ghost use Rattle.std.specs.Prelude.{◌≡◌, ◌<◌, ◌≤◌, ◌==◌, ◌&&◌, ◌||◌, true, false, None, is_none, nat_lt, map, IfOk};
+ghost use Rattle.std.specs.Prelude.{◌≡◌, ◌+◌, ◌<◌, ◌≤◌, ◌==◌, ◌&&◌, ◌||◌, ◌++◌, if◌then◌else◌, true, false, None, is_none, nat_lt, length, map, take, IfOk, OnOk};
 ghost use Rattle.theta_compact.specs.CompactState.{IsAnswer, IsCompactOf, shown_of, is_answer_ordered};
 ghost use Rattle.theta_laws.specs.Maps.{IsAscending, IsApart, below, entry_at, map_of};
-ghost use Rattle.theta_operators.specs.ANotB.{difference_refusal, at_hand_first, hashes_from};
+ghost use Rattle.theta_operators.specs.ANotB.{difference_refusal};
 ghost use Rattle.theta_laws.specs.Entries.{hash_key, ClonesEqual};
 ghost use Rattle.theta_laws.specs.Operators.{lacking, minus};
 ghost use Rattle.theta_laws.specs.Refusal.{Refuses};
@@ -12,7 +12,7 @@ use crate::merge::is_past;
 use crate::share::{cloned_entries, table_of};
 use crate::view::{EntrySketch, KeySketch, ThetaFamilySketchMetadata};
 use sketch_base::{Error, ErrorKind};
-use std::alloc::Allocator;
+use std::alloc::{AllocError, Allocator};
 use theta_compact::{CompactSketchState, is_answer_ordered};
 use theta_laws::{MAX_THETA, SketchEntry};
 use theta_table::{SketchHashTable, ThetaEntry};
@@ -26,7 +26,7 @@ use theta_table::{SketchHashTable, ThetaEntry};
 ///
 /// Refused with `InvalidArgument` where `a` isn't empty and it, or a `b` that isn't empty, has another seed hash than
 /// `seed_hash`; with `OutOfMemory` where memory is. The inputs stay as they are.
-pub fn compute<S: EntrySketch, T: KeySketch, A: Allocator + Clone>(
+pub fn compute<S: EntrySketch, T: EntrySketch, A: Allocator + Clone>(
     alloc: A,
     seed_hash: u16,
     a: S,
@@ -58,7 +58,7 @@ where
 }
 
 /// The difference of a sketch that isn't empty, of this seed hash and theta, and any other.
-fn difference<S: EntrySketch, T: KeySketch, A: Allocator + Clone>(
+fn difference<S: EntrySketch, T: EntrySketch, A: Allocator + Clone>(
     alloc: A,
     seed_hash: u16,
     a: S,
@@ -111,7 +111,7 @@ fn leaves_nothing(count: usize, theta: u64) -> bool
 }
 
 /// Clones of the entries below a theta whose hashes another sketch, of `b_count` hashes, lacks, in their order.
-fn kept_entries<S: EntrySketch, T: KeySketch, A: Allocator + Clone>(
+fn kept_entries<S: EntrySketch, T: EntrySketch, A: Allocator + Clone>(
     alloc: A,
     a: S,
     a_ordered: bool,
@@ -132,60 +132,144 @@ where
     ensures refused { Refuses result None true }
 {
     if a_ordered && b_ordered {
-        return lacking_by_scan(alloc, a, b, theta);
+        let (lent, others) = (a.entries(), b.entries());
+        if let (Some(entries), Some(hashes)) = (lent.as_slice(), others.as_slice()) {
+            return lacking_by_scan(alloc, entries, hashes, theta);
+        }
     }
     let keys = keys_of(alloc.clone()?, b, theta, b_ordered, b_count)?;
     lacking_by_search(alloc, a, &keys, theta, a_ordered)
 }
 
-/// One pass over two sketches whose hashes ascend.
-fn lacking_by_scan<S: EntrySketch, T: KeySketch, A: Allocator>(
-    alloc: A,
-    a: S,
-    b: T,
+/// How many entries are kept, at most, before they are cloned.
+const BLOCK: usize = 64;
+
+/// What a comparison of entries with others has kept, and what is left to compare.
+#[derive(Drop)]
+struct Sifted<'a, 'b, E, F> {
+    /// How many were kept.
+    count: usize,
+    entries: &'a [E],
+    others: &'b [F],
+}
+
+/// 1 if so, otherwise 0.
+#[inline(always)]
+fn number_if(so: bool) -> usize
+    ensures value { result ≡ if so then 1 else 0 }
+    ensures small { result ≤ 1 }
+{
+    so as usize
+}
+
+/// Writes the first entries below theta whose hashes others lack to the front of `kept`: of all that are left, or as many as
+/// there is room for. Entries and others ascend. Which of two hashes is less is as good as random, so it takes no branch on
+/// that.
+#[inline(always)]
+fn sift<'a, 'b, E: SketchEntry, F: SketchEntry>(
+    entries: &'a [E],
+    others: &'b [F],
     theta: u64,
-) -> Result<Vec<S::Entry, A>, Error>
-where
-    S::Entry: Clone,
-    requires clones_equal { ClonesEqual S.Entry.is_clone }
-    requires a_in_order { (S.shown a).ordered ≡ true }
-    requires b_in_order { (T.shown b).ordered ≡ true }
-    ensures listed { map S.Entry.key (S.listing a) ≡ (S.shown a).hashes }
-    ensures ok { IfOk result (λ v. v.items ≡ lacking S.Entry.key hash_key (below S.Entry.key (S.listing a) theta) (T.shown b).hashes) }
+    kept: &mut [&'a E; BLOCK],
+) -> Sifted<'a, 'b, E, F>
+    requires ascending { IsAscending E.key entries.now }
+    requires others_ascend { IsAscending F.key others.now }
+    ensures kept { map (λ x. x.now) (take result.count kept.new) ++ lacking E.key F.key (below E.key result.entries.now theta) result.others.now ≡ lacking E.key F.key (below E.key entries.entry.now theta) others.entry.now }
+    ensures ascending { IsAscending E.key result.entries.now }
+    ensures others_ascend { IsAscending F.key result.others.now }
+    ensures whole { result.count < 64 → lacking E.key F.key (below E.key result.entries.now theta) result.others.now ≡ below E.key result.entries.now theta }
+    ensures few { result.count ≤ 64 }
+    ensures room { length kept.new ≡ 64 }
+    ensures fewer { result.count + length result.entries.now ≤ length entries.entry.now }
+{
+    let mut left = entries;
+    let mut others_left = others;
+    let mut count = 0usize;
+    'compare_each: while count < BLOCK {
+        let Some(entry) = left.first() else {
+            break;
+        };
+        let Some(other) = others_left.first() else {
+            break;
+        };
+        let hash = entry.hash();
+        let known = other.hash();
+        if hash >= theta {
+            break;
+        }
+        kept[count] = entry;
+        count += number_if(hash < known);
+        left = &left[number_if(hash <= known)..];
+        others_left = &others_left[number_if(known <= hash)..];
+    }
+    Sifted {
+        count,
+        entries: left,
+        others: others_left,
+    }
+}
+
+/// Appends clones of lent entries.
+fn push_lent<E: Clone + Drop, A: Allocator>(
+    entries: &mut Vec<E, A>,
+    lent: &[&E],
+) -> Result<(), AllocError>
+    requires clones_equal { ClonesEqual E.is_clone }
+    ensures { OnOk result (entries.new.items ≡ entries.old.items ++ map (λ x. x.now) lent.now) }
+{
+    'push_each: for entry in lent {
+        entries.push((*entry).clone()?)?;
+    }
+    Ok(())
+}
+
+/// Appends clones of those of some entries that ascend that are below theta.
+fn push_below<E: SketchEntry + Clone + Drop, A: Allocator>(
+    kept: &mut Vec<E, A>,
+    entries: &[E],
+    theta: u64,
+) -> Result<(), AllocError>
+    requires clones_equal { ClonesEqual E.is_clone }
+    requires ascending { IsAscending E.key entries.now }
+    ensures { OnOk result (kept.new.items ≡ kept.old.items ++ below E.key entries.now theta) }
+{
+    'push_each: for entry in entries {
+        if entry.hash() >= theta {
+            break;
+        }
+        kept.push(entry.clone()?)?;
+    }
+    Ok(())
+}
+
+/// One pass over entries and others that ascend.
+fn lacking_by_scan<E: SketchEntry + Clone + Drop, F: SketchEntry, A: Allocator>(
+    alloc: A,
+    entries: &[E],
+    others: &[F],
+    theta: u64,
+) -> Result<Vec<E, A>, Error>
+    requires clones_equal { ClonesEqual E.is_clone }
+    requires ascending { IsAscending E.key entries.now }
+    requires others_ascend { IsAscending F.key others.now }
+    ensures ok { IfOk result (λ v. v.items ≡ lacking E.key F.key (below E.key entries.now theta) others.now) }
     ensures refused { Refuses result None true }
 {
     let mut kept = Vec::new(alloc);
-    let mut hashes = b.hashes();
-    let mut at_hand = hashes.next();
-    'scan_both: for entry in a.entries() {
-        let hash = entry.hash();
-        if is_past(true, hash, theta) {
+    let mut left = entries;
+    let mut others_left = others;
+    'sift_blocks: while let Some(first) = left.first() {
+        let mut found = [first; BLOCK];
+        let sifted = sift(left, others_left, theta, &mut found);
+        push_lent(&mut kept, &found[..sifted.count])?;
+        left = sifted.entries;
+        others_left = sifted.others;
+        if sifted.count < BLOCK {
             break;
         }
-        at_hand = first_from::<T>(&mut hashes, at_hand, hash);
-        if at_hand != Some(hash) {
-            kept.push(entry.clone()?)?;
-        }
     }
+    push_below(&mut kept, left, theta)?;
     Ok(kept)
-}
-
-/// Of the hash at hand and those that come after it, the first from a least one on.
-fn first_from<T: KeySketch>(
-    hashes: &mut T::Hashes,
-    mut at_hand: Option<u64>,
-    least: u64,
-) -> Option<u64>
-    requires { IsAscending hash_key (at_hand_first at_hand (T.rest hashes.old)) }
-    ensures { at_hand_first result (T.rest hashes.new) ≡ hashes_from (at_hand_first at_hand (T.rest hashes.old)) least }
-{
-    'skip_smaller: while let Some(hash) = at_hand {
-        if hash >= least {
-            break;
-        }
-        at_hand = hashes.next();
-    }
-    at_hand
 }
 
 /// Each entry looked up in a table of hashes. Where the entries ascend, it stops at the first that is not below theta.

@@ -1,10 +1,8 @@
-use Rattle.std.proofs.Common.{◌≡◌, ◌^◌, ◌<◌, ◌≤◌, ◌+◌, ◌∷◌, [], ℕ, drop, length, min, map, None, true, refl, sym, ap, ◌∙◌, inl, inr, arith}
+use Rattle.std.proofs.Common.{◌≡◌, ◌^◌, ◌<◌, ◌≤◌, ◌+◌, ◌∷◌, [], ℕ, drop, min, None, true, refl, sym, ap, ◌∙◌, inl, inr, arith}
 use Rattle.std.proofs.lemmas.List.{drop_more, drop_all}
 use Rattle.std.proofs.lemmas.Result.{err_from_is_err_and}
 use Rattle.theta_laws.specs.Step.{merge_step}
-use Rattle.theta_laws.specs.Insertion.{after_upsert, after_upserts, upsert_refusal}
-use Rattle.theta_laws.specs.Folds.{Value, fold_key, fold_merges, unmarked, never}
-use Rattle.theta_laws.specs.Maps.{below}
+use Rattle.theta_laws.specs.Insertion.{after_upsert, upsert_refusal}
 use Rattle.theta_operators.proofs.MergedListing.{made_with_next, IsMerging, merging-start, merging-next, merging-refused, folds_stop, folds_next}
 use Rattle.theta_laws.proofs.maps.MapsOfLists.{ascending-apart}
 use Rattle.theta_table.proofs.Sizes.{always_room}
