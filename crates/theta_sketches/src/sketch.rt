@@ -180,8 +180,9 @@ impl<A: Allocator + Clone> ThetaSketch<A> {
     /// Takes in hashes in their order, each as `update_hash` does. The sketch is nonempty then, unless it was empty and there
     /// were none.
     ///
-    /// Where a sketch is large this is several times as fast as one call for each, since the slots of up to 256 hashes are
-    /// waited for together. So hand over a few hundred at a time.
+    /// Where a sketch is large and retains most of the hashes already, this takes half the time of one call for each, since the
+    /// slots of up to 256 hashes are waited for together. So hand over a few hundred at a time. Where most are new, or the
+    /// sketch is small, one call for each is as fast or faster.
     ///
     /// Refused with `OutOfMemory` alone, and only at a new hash below theta; then just the hashes before that one have been
     /// taken in. The same call may then be made again: what was taken in before changes nothing.

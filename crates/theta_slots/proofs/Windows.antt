@@ -8,8 +8,14 @@ use Rattle.std.proofs.lemmas.List.Sums.{count_by-le-length}
 use Rattle.theta_laws.specs.Entries.{hash_key}
 use Rattle.theta_laws.specs.Maps.{IsApart, rank, entry_at}
 use Rattle.theta_slots.specs.Layout.{filled}
-use Rattle.theta_slots.specs.Rank.{HasRank, IsWindow, within}
+use Rattle.theta_slots.specs.Rank.{HasRank, within}
 use Rattle.theta_slots.proofs.Moves.{count-append, count-cons}
+
+-- just `before` of these hashes are less than low, and the one with k smaller ones is from low to high
+pub record IsWindow (hashes : List ℕ) (low high before k : ℕ) : Type 0 where
+  pub counted : rank hash_key hashes low ≡ before
+  pub from : before ≤ k
+  pub to : k < before + length (within low high hashes)
 
 -- ---- one hash more
 pub rank-append : (xs ys : List ℕ) (h : ℕ) → rank hash_key (xs ++ ys) h ≡ rank hash_key xs h + rank hash_key ys h

@@ -1,5 +1,5 @@
 -- Hashes by how many are smaller.
-use Rattle.std.specs.Prelude.{ℕ, ◌≡◌, ◌≤◌, ◌<◌, ◌+◌, ◌&&◌, not, nat_lt, List, length, filter, IsSome}
+use Rattle.std.specs.Prelude.{ℕ, ◌≡◌, ◌&&◌, not, nat_lt, List, filter, IsSome}
 use Rattle.theta_laws.specs.Maps.{rank, entry_at}
 use Rattle.theta_laws.specs.Entries.{hash_key}
 
@@ -11,9 +11,3 @@ pub record HasRank (hashes : List ℕ) (k h : ℕ) : Type 0 where
 -- the hashes from low to high
 abbrev pub within : (low high : ℕ) → List ℕ → List ℕ
 within low high hashes = filter (λ h. not (nat_lt h low) && not (nat_lt high h)) hashes
-
--- just `before` of these hashes are less than low, and the one with k smaller ones is from low to high
-pub record IsWindow (hashes : List ℕ) (low high before k : ℕ) : Type 0 where
-  pub counted : rank hash_key hashes low ≡ before
-  pub from : before ≤ k
-  pub to : k < before + length (within low high hashes)

@@ -1,30 +1,21 @@
 //! The hash of a rank among those in slots.
 //!
 //! Hashes are spread evenly below the theta of a table, so that arithmetic tells about where the one of a rank is. One pass
-//! counts the hashes below a narrow window around that place and those within it. Where the rank falls into the window only
-//! what is within it is gathered, and otherwise all is; what is answered is the same.
-ghost use Rattle.std.specs.Prelude.{◌≡◌, ℕ, ◌+◌, ◌-◌, ◌<◌, ◌≤◌, ◌^◌, ◌&&◌, not, nat_lt, [], ◌∷◌, ◌++◌, length, map, IfOk};
+//! gathers the hashes within a narrow window around that place, and counts those below it. Where the rank doesn't fall into
+//! the window a second pass gathers all; what is answered is the same.
+ghost use Rattle.std.specs.Prelude.{◌≡◌, ℕ, ◌+◌, ◌-◌, ◌<◌, ◌≤◌, ◌^◌, ◌&&◌, not, nat_lt, [], ◌∷◌, ◌++◌, length, map, IfOk, OnOk};
 ghost use Rattle.std.specs.List.{AllByRecursion};
 ghost use Rattle.theta_laws.specs.Entries.{hash_key};
 ghost use Rattle.theta_laws.specs.Maps.{IsApart, rank};
 ghost use Rattle.theta_slots.specs.Layout.{filled};
-ghost use Rattle.theta_slots.specs.Rank.{HasRank, IsWindow, within};
+ghost use Rattle.theta_slots.specs.Rank.{HasRank, within};
 
 use crate::entry::SlotEntry;
 use crate::slots::{hash_in, held_less, number_less};
 use std::alloc::{AllocError, Allocator};
 
-/// The hashes from `low` to `high`, of which there are `within`, and `below` less than `low`.
-#[derive(Clone, Copy)]
-struct Window {
-    low: u64,
-    high: u64,
-    below: usize,
-    within: usize,
-}
-
 /// Half the width of a window: so many times theta by the square root of the number of hashes.
-const HALF_WIDTH: u64 = 3;
+const HALF_WIDTH: u64 = 2;
 
 /// The bounds of a window around where the hash of a rank is to be expected among `count` hashes that are spread evenly below
 /// theta. Its half is at least four times the standard deviation of that hash.
@@ -34,9 +25,19 @@ fn expected_bounds(count: usize, rank: usize, theta: u64) -> (u64, u64)
     let number = count as u64;
     let step = theta / number.saturating_add(1);
     let middle = step.saturating_mul((rank as u64).saturating_add(1));
-    let root_bits = (u64::BITS - number.leading_zeros()) / 2;
-    let half = HALF_WIDTH.saturating_mul(theta >> root_bits);
+    let half = HALF_WIDTH.saturating_mul(theta / number.isqrt().max(1));
     (middle.saturating_sub(half), middle.saturating_add(half))
+}
+
+/// How many hashes there is room for at least, unless all are fewer.
+const LEAST_ROOM: usize = 1024;
+
+/// Room for the hashes of a window among `count`: for twice as many as are to be expected, and at most for all.
+fn window_room(count: usize) -> usize
+    ensures { result ≤ count }
+{
+    let twice = (4 * HALF_WIDTH as usize).saturating_mul(count.isqrt());
+    twice.max(LEAST_ROOM).min(count)
 }
 
 /// Whether a hash is from `low` to `high`, by one comparison: few hashes are, but whether one is less than `low` is as good as
@@ -72,66 +73,6 @@ fn held_within<E: SlotEntry>(slot: &E::Slot, low: u64, high: u64) -> usize
     }
 }
 
-/// Counts the hashes in the slots and `also`, if that is one, that are less than `low`, and those from `low` to `high`. It
-/// takes no branch on a hash, nor on whether a slot is free.
-fn counted_window<E: SlotEntry>(also: Option<u64>, slots: &[E::Slot], low: u64, high: u64) -> Window
-    requires ordered { low ≤ high }
-    requires fits { length (filled (also ∷ []) ++ map E.key (filled (map E.held slots.now))) < 2 ^ 64 }
-    ensures low { result.low ≡ low }
-    ensures high { result.high ≡ high }
-    ensures below { result.below ≡ rank hash_key (filled (also ∷ []) ++ map E.key (filled (map E.held slots.now))) low }
-    ensures within { result.within ≡ length (within low high (filled (also ∷ []) ++ map E.key (filled (map E.held slots.now)))) }
-    ensures words { AllByRecursion (λ h. h < 2 ^ 64) (filled (also ∷ []) ++ map E.key (filled (map E.held slots.now))) }
-{
-    let mut less = 0usize;
-    let mut inside = 0usize;
-    'count_each: for slot in slots {
-        less += held_less::<E>(slot, low);
-        inside += held_within::<E>(slot, low, high);
-    }
-    match also {
-        None => Window {
-            low,
-            high,
-            below: less,
-            within: inside,
-        },
-        Some(hash) => Window {
-            low,
-            high,
-            below: less + number_less(hash, low),
-            within: inside + number_within(hash, low, high),
-        },
-    }
-}
-
-/// A window that the hash of a rank among `count` is in: a narrow one where it is as expected, and otherwise that of all.
-fn window_of_rank<E: SlotEntry>(
-    also: Option<u64>,
-    slots: &[E::Slot],
-    count: usize,
-    rank: usize,
-    theta: u64,
-) -> Window
-    requires counted { count ≡ length (filled (also ∷ []) ++ map E.key (filled (map E.held slots.now))) }
-    requires inside { rank < count }
-    ensures window { IsWindow (filled (also ∷ []) ++ map E.key (filled (map E.held slots.now))) result.low result.high result.below rank }
-    ensures ordered { result.low ≤ result.high }
-    ensures within { result.within ≡ length (within result.low result.high (filled (also ∷ []) ++ map E.key (filled (map E.held slots.now)))) }
-{
-    let (low, high) = expected_bounds(count, rank, theta);
-    let expected = counted_window::<E>(also, slots, low, high);
-    if expected.below <= rank && rank - expected.below < expected.within {
-        return expected;
-    }
-    Window {
-        low: 0,
-        high: u64::MAX,
-        below: 0,
-        within: count,
-    }
-}
-
 /// A hash, where it is from `low` to `high`.
 #[inline(always)]
 fn kept_within(hash: u64, low: u64, high: u64) -> Option<u64>
@@ -154,28 +95,38 @@ fn held_kept<E: SlotEntry>(slot: &E::Slot, low: u64, high: u64) -> Option<u64>
     hash_in::<E>(slot)
 }
 
-/// The hashes of a window, in one request for memory where the window has counted them.
-fn gathered<E: SlotEntry, A: Allocator>(
-    alloc: A,
+/// Gathers the hashes from `low` to `high` in the slots and `also`, if that is one, and counts those that are less than `low`.
+/// Whether a hash is less takes no branch.
+fn gather_window<E: SlotEntry, A: Allocator>(
+    hashes: &mut Vec<u64, A>,
     also: Option<u64>,
     slots: &[E::Slot],
-    window: Window,
-) -> Result<Vec<u64, A>, AllocError>
-    requires ordered { window.low ≤ window.high }
-    ensures { IfOk result (λ hashes. hashes.items ≡ within window.low window.high (filled (also ∷ []) ++ map E.key (filled (map E.held slots.now)))) }
+    low: u64,
+    high: u64,
+) -> Result<usize, AllocError>
+    requires ordered { low ≤ high }
+    requires none { hashes.old.items ≡ [] }
+    requires fits { length (filled (also ∷ []) ++ map E.key (filled (map E.held slots.now))) < 2 ^ 64 }
+    ensures gathered { OnOk result (hashes.new.items ≡ within low high (filled (also ∷ []) ++ map E.key (filled (map E.held slots.now)))) }
+    ensures below { IfOk result (λ n. n ≡ rank hash_key (filled (also ∷ []) ++ map E.key (filled (map E.held slots.now))) low) }
+    ensures words { IfOk result (λ _. AllByRecursion (λ h. h < 2 ^ 64) (filled (also ∷ []) ++ map E.key (filled (map E.held slots.now)))) }
 {
-    let mut hashes = Vec::with_capacity(alloc, window.within)?;
     if let Some(hash) = also {
-        if let Some(first) = kept_within(hash, window.low, window.high) {
+        if let Some(first) = kept_within(hash, low, high) {
             hashes.push(first)?;
         }
     }
+    let mut less = 0usize;
     'gather_each: for slot in slots {
-        if let Some(kept) = held_kept::<E>(slot, window.low, window.high) {
+        less += held_less::<E>(slot, low);
+        if let Some(kept) = held_kept::<E>(slot, low, high) {
             hashes.push(kept)?;
         }
     }
-    Ok(hashes)
+    match also {
+        None => Ok(less),
+        Some(hash) => Ok(less + number_less(hash, low)),
+    }
 }
 
 /// The hash with this many smaller ones among these.
@@ -206,7 +157,13 @@ pub fn hash_of_rank<E: SlotEntry, A: Allocator + Drop>(
     requires inside { rank < count }
     ensures ranked { IfOk result (HasRank (filled (also ∷ []) ++ map E.key (filled (map E.held slots.now))) rank) }
 {
-    let window = window_of_rank::<E>(also, slots, count, rank, theta);
-    let mut hashes = gathered::<E, A>(alloc, also, slots, window)?;
-    Ok(nth_hash(&mut hashes, rank - window.below))
+    let (low, high) = expected_bounds(count, rank, theta);
+    let mut hashes = Vec::with_capacity(alloc, window_room(count))?;
+    let below = gather_window::<E, A>(&mut hashes, also, slots, low, high)?;
+    if below <= rank && rank - below < hashes.len() {
+        return Ok(nth_hash(&mut hashes, rank - below));
+    }
+    hashes.clear();
+    gather_window::<E, A>(&mut hashes, also, slots, 0, u64::MAX)?;
+    Ok(nth_hash(&mut hashes, rank))
 }

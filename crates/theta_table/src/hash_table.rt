@@ -507,8 +507,8 @@ impl<A: Allocator + Clone> SketchHashTable<ThetaEntry, A> {
     /// Inserts hashes in their order, each as `try_insert_hash` does. There are at least 8 nominal entries, as in every table
     /// of `new`.
     ///
-    /// It looks at the slots of up to 256 hashes side by side, so that they are waited for together: where slots are many, that
-    /// is several times as fast. Those looks aren't counted.
+    /// It looks at the slots of up to 256 hashes side by side, so that they are waited for together: where slots are many
+    /// and most hashes are retained, that takes half the time. Those looks aren't counted.
     ///
     /// Refused with `OutOfMemory` alone, and only at a new hash below theta; then just the hashes before that one have been
     /// inserted, and the same call may be made again.

@@ -1,0 +1,18 @@
+use Rattle.std.proofs.Common.{◌≡◌, ◌<◌, ◌≤◌, ◌^◌, ◌++◌, ◌∷◌, [], map, take}
+use Rattle.std.specs.List.{AllByRecursion}
+use Rattle.theta_laws.specs.Entries.{hash_key}
+use Rattle.theta_laws.specs.Maps.{rank}
+use Rattle.theta_slots.specs.Layout.{filled}
+use Rattle.theta_slots.specs.Rank.{within}
+use Rattle.theta_slots.proofs.selection.gather_window.Given as goal
+
+-- of the hashes so far: those of the window, and how many are less
+abbrev pub invariant-gather_each : goal.invariant-gather_each
+invariant-gather_each g l =
+    let seen = map g.E.SketchEntry.key (filled (map g.E.SlotEntry.held (take l.slot-index l.slots))) in
+    record {
+      gathered : l.hashes.items ≡ within l.low l.high (filled (l.fn.also ∷ []) ++ seen);
+      counted : l.less ≡ rank hash_key seen l.low;
+      words : AllByRecursion (λ h. h < 2 ^ 64) seen;
+      few : l.less ≤ l.slot-index;
+    }
