@@ -1,4 +1,5 @@
 pub mod HashTable
+mod Insertion
 pub mod ResizeFactor
 pub mod Entry
 pub mod LentSummary

@@ -7,6 +7,7 @@ ghost use Rattle.theta_laws.specs.Maps.{with_entry, map_of};
 ghost use Rattle.theta_laws.specs.Refusal.{Refuses};
 ghost use Rattle.theta_slots.specs.Layout.{filled, slot, IsOnPath, IsLaidOut};
 ghost use Rattle.theta_table.specs.HashTable.{threshold, HasSize, sub_multiple, ticked, size_after, count_after};
+ghost use Rattle.theta_table.specs.Insertion.{HasPlaceFor};
 
 use crate::step::UpsertStep;
 use sketch_base::Error;
@@ -100,16 +101,9 @@ pub(crate) fn put_entry<E: SlotEntry + Drop, A: Allocator + Clone>(
     entry: E,
     counts: &mut Counts,
 ) -> Result<Sizes, AllocError>
-    requires laid_out { IsLaidOut E.key sizes.lg_cur (map E.held slots.old.items) }
-    requires counted { sizes.count ≡ length (filled (map E.held slots.old.items)) }
-    requires below_theta { AllByRecursion (λ x. E.key x < sizes.theta) (map_of E.key (filled (map E.held slots.old.items))) }
-    requires sized { HasSize sizes.lg_cur sizes.lg_nom sizes.grow sizes.count }
+    requires place { HasPlaceFor E.key (map E.held slots.old.items) sizes at entry }
     requires room { sizes.lg_nom < 3 → sizes.count + 1 < 2 ^ sizes.lg_cur }
     requires inside { at < length slots.old.items }
-    requires free { slot (map E.held slots.old.items) at ≡ None }
-    requires on_path { IsOnPath E.key sizes.lg_cur (map E.held slots.old.items) (E.key entry) at }
-    requires nonzero { 0 < E.key entry }
-    requires low { E.key entry < sizes.theta }
     ensures laid_out { IfOk result (λ s. IsLaidOut E.key s.lg_cur (map E.held slots.new.items)) }
     ensures counted { IfOk result (λ s. s.count ≡ length (filled (map E.held slots.new.items))) }
     ensures after { IfOk result (λ s. record { entries = map_of E.key (filled (map E.held slots.new.items)); theta = s.theta } ≡ rebuilt E.key (2 ^ sizes.lg_nom) (with_entry E.key (map_of E.key (filled (map E.held slots.old.items))) entry) sizes.theta) }
@@ -147,17 +141,10 @@ fn overflow<E: SlotEntry + Drop, A: Allocator + Clone>(
     entry: E,
     counts: &mut Counts,
 ) -> Result<Sizes, AllocError>
-    requires laid_out { IsLaidOut E.key sizes.lg_cur (map E.held slots.old.items) }
-    requires counted { sizes.count ≡ length (filled (map E.held slots.old.items)) }
-    requires below_theta { AllByRecursion (λ x. E.key x < sizes.theta) (map_of E.key (filled (map E.held slots.old.items))) }
-    requires sized { HasSize sizes.lg_cur sizes.lg_nom sizes.grow sizes.count }
+    requires place { HasPlaceFor E.key (map E.held slots.old.items) sizes at entry }
     requires room { sizes.lg_nom < 3 → sizes.count + 1 < 2 ^ sizes.lg_cur }
     requires inside { at < length slots.old.items }
-    requires free { slot (map E.held slots.old.items) at ≡ None }
-    requires on_path { IsOnPath E.key sizes.lg_cur (map E.held slots.old.items) (E.key entry) at }
-    requires nonzero { 0 < E.key entry }
     requires full { threshold sizes.lg_cur sizes.lg_nom < sizes.count + 1 }
-    requires low { E.key entry < sizes.theta }
     ensures laid_out { IfOk result (λ s. IsLaidOut E.key s.lg_cur (map E.held slots.new.items)) }
     ensures counted { IfOk result (λ s. s.count ≡ length (filled (map E.held slots.new.items))) }
     ensures after { IfOk result (λ s. record { entries = map_of E.key (filled (map E.held slots.new.items)); theta = s.theta } ≡ rebuilt E.key (2 ^ sizes.lg_nom) (with_entry E.key (map_of E.key (filled (map E.held slots.old.items))) entry) sizes.theta) }
@@ -188,16 +175,9 @@ fn grow<E: SlotEntry + Drop, A: Allocator + Clone>(
     entry: E,
     counts: &mut Counts,
 ) -> Result<Sizes, AllocError>
-    requires laid_out { IsLaidOut E.key sizes.lg_cur (map E.held slots.old.items) }
-    requires counted { sizes.count ≡ length (filled (map E.held slots.old.items)) }
-    requires below_theta { AllByRecursion (λ x. E.key x < sizes.theta) (map_of E.key (filled (map E.held slots.old.items))) }
-    requires sized { HasSize sizes.lg_cur sizes.lg_nom sizes.grow sizes.count }
+    requires place { HasPlaceFor E.key (map E.held slots.old.items) sizes at entry }
     requires growing { sizes.lg_cur ≤ sizes.lg_nom }
     requires inside { at < length slots.old.items }
-    requires free { slot (map E.held slots.old.items) at ≡ None }
-    requires on_path { IsOnPath E.key sizes.lg_cur (map E.held slots.old.items) (E.key entry) at }
-    requires nonzero { 0 < E.key entry }
-    requires low { E.key entry < sizes.theta }
     ensures laid_out { IfOk result (λ s. IsLaidOut E.key s.lg_cur (map E.held slots.new.items)) }
     ensures after { OnOk result (map_of E.key (filled (map E.held slots.new.items)) ≡ with_entry E.key (map_of E.key (filled (map E.held slots.old.items))) entry) }
     ensures same { IfOk result (λ s. s ≡ record sizes { lg_cur = min (sizes.lg_cur + sizes.grow) (sizes.lg_nom + 1); count = sizes.count + 1 }) }
@@ -236,17 +216,10 @@ fn rebuild<E: SlotEntry + Drop, A: Allocator + Clone>(
     entry: E,
     counts: &mut Counts,
 ) -> Result<Sizes, AllocError>
-    requires laid_out { IsLaidOut E.key sizes.lg_cur (map E.held slots.old.items) }
-    requires counted { sizes.count ≡ length (filled (map E.held slots.old.items)) }
-    requires below_theta { AllByRecursion (λ x. E.key x < sizes.theta) (map_of E.key (filled (map E.held slots.old.items))) }
-    requires sized { HasSize sizes.lg_cur sizes.lg_nom sizes.grow sizes.count }
+    requires place { HasPlaceFor E.key (map E.held slots.old.items) sizes at entry }
     requires full { 15 * 2 ^ sizes.lg_nom / 8 < sizes.count + 1 }
     requires large { 8 ≤ 2 ^ sizes.lg_nom }
     requires inside { at < length slots.old.items }
-    requires free { slot (map E.held slots.old.items) at ≡ None }
-    requires on_path { IsOnPath E.key sizes.lg_cur (map E.held slots.old.items) (E.key entry) at }
-    requires nonzero { 0 < E.key entry }
-    requires low { E.key entry < sizes.theta }
     ensures laid_out { OnOk result (IsLaidOut E.key sizes.lg_cur (map E.held slots.new.items)) }
     ensures after { IfOk result (λ s. record { entries = map_of E.key (filled (map E.held slots.new.items)); theta = s.theta } ≡ rebuilt E.key (2 ^ sizes.lg_nom) (with_entry E.key (map_of E.key (filled (map E.held slots.old.items))) entry) sizes.theta) }
     ensures same { IfOk result (λ s. s ≡ record sizes { count = 2 ^ sizes.lg_nom; theta = s.theta }) }

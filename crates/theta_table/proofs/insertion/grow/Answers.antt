@@ -9,21 +9,21 @@ use Rattle.theta_slots.proofs.Layouts.{length-map_of}
 use Rattle.theta_table.proofs.insertion.grow.Goals as goal
 
 pub overflow_add-sizes : goal.overflow_add-sizes
-overflow_add-sizes g c = omega (arith, c.requires.sized.within, c.requires.sized.nom_high, c.requires.sized.grow_high)
+overflow_add-sizes g c = omega (arith, c.requires.place.sized.within, c.requires.place.sized.nom_high, c.requires.place.sized.grow_high)
 
 pub put_spread-requires-clause-small : goal.put_spread-requires-clause-small
-put_spread-requires-clause-small g c = omega (arith, c.min-lg_cur.ensures, c.requires.sized.nom_high)
+put_spread-requires-clause-small g c = omega (arith, c.min-lg_cur.ensures, c.requires.place.sized.nom_high)
 
 pub put_spread-requires-clause-room : goal.put_spread-requires-clause-room
 put_spread-requires-clause-room g c =
     let s = c.args.sizes in
-    omega (arith, c.requires.counted, (grown s.lg_cur c.min-lg_cur.result s.lg_nom s.grow s.count c.requires.sized c.requires.growing c.min-lg_cur.ensures).fits)
+    omega (arith, c.requires.place.counted, (grown s.lg_cur c.min-lg_cur.result s.lg_nom s.grow s.count c.requires.place.sized c.requires.growing c.min-lg_cur.ensures).fits)
 
 pub returns-clause-after : goal.returns-clause-after
 returns-clause-after g c =
     let key = g.E.SketchEntry.key in
     let m = map_of key (filled (map g.E.SlotEntry.held c.args.slots.now.items)) in
-    c.in_ok-put_spread.ensures.map ∙ below_all key (with_entry key m c.args.entry) c.args.sizes.theta (each-with_entry key (λ y. key y < c.args.sizes.theta) m c.args.entry c.requires.below_theta c.requires.low)
+    c.in_ok-put_spread.ensures.map ∙ below_all key (with_entry key m c.args.entry) c.args.sizes.theta (each-with_entry key (λ y. key y < c.args.sizes.theta) m c.args.entry c.requires.place.below_theta c.requires.place.low)
 
 pub returns-clause-ticked : goal.returns-clause-ticked
 returns-clause-ticked g c =
@@ -33,5 +33,5 @@ returns-clause-ticked g c =
     let after = map held c.put_spread.new.slots.items in
     let inside : c.args.at < length slots = omega (arith, c.requires.inside, length-held held c.args.slots.now.items) in
     let many : length (filled after) ≡ c.args.sizes.count + 1 =
-    omega (arith, c.requires.counted, joined_count key c.args.sizes.lg_cur c.args.at c.args.entry slots c.requires.laid_out inside c.requires.free c.requires.on_path, ap length (returns-clause-after g c), length-map_of key c.min-lg_cur.result after c.in_ok-put_spread.ensures.laid_out) in
+    omega (arith, c.requires.place.counted, joined_count key c.args.sizes.lg_cur c.args.at c.args.entry slots c.requires.place.laid_out inside c.requires.place.free c.requires.place.on_path, ap length (returns-clause-after g c), length-map_of key c.min-lg_cur.result after c.in_ok-put_spread.ensures.laid_out) in
     rw (c.tick.ensures, c.tick-2.ensures, c.in_ok-put_spread.ensures.placed, many) refl

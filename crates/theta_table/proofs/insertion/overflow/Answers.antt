@@ -10,12 +10,12 @@ use Rattle.theta_table.proofs.insertion.overflow.Goals as goal
 pub rebuild-requires-clause-full : goal.rebuild-requires-clause-full
 rebuild-requires-clause-full g c =
     let s = c.args.sizes in
-    (full s.lg_cur s.lg_nom s.grow s.count c.requires.sized (omega (arith, c.if-full.false)) c.requires.full c.requires.room).many
+    (full s.lg_cur s.lg_nom s.grow s.count c.requires.place.sized (omega (arith, c.if-full.false)) c.requires.full c.requires.room).many
 
 pub rebuild-requires-clause-large : goal.rebuild-requires-clause-large
 rebuild-requires-clause-large g c =
     let s = c.args.sizes in
-    (full s.lg_cur s.lg_nom s.grow s.count c.requires.sized (omega (arith, c.if-full.false)) c.requires.full c.requires.room).large
+    (full s.lg_cur s.lg_nom s.grow s.count c.requires.place.sized (omega (arith, c.if-full.false)) c.requires.full c.requires.room).large
 
 pub returns-then-full-clause-counted : goal.returns-then-full-clause-counted
 returns-then-full-clause-counted g c =
@@ -26,7 +26,7 @@ returns-then-full-clause-counted g c =
     let s = c.args.sizes in
     let inside : c.args.at < length slots = omega (arith, c.requires.inside, length-held held c.args.slots.now.items) in
     let one = c.in_ok-wider.ensures in
-    ap (λ z. z.count) one.same ∙ omega (arith, c.requires.counted, joined_count key s.lg_cur c.args.at c.args.entry slots c.requires.laid_out inside c.requires.free c.requires.on_path, ap length one.after, length-map_of key c.in_ok-wider.wider.lg_cur after one.laid_out)
+    ap (λ z. z.count) one.same ∙ omega (arith, c.requires.place.counted, joined_count key s.lg_cur c.args.at c.args.entry slots c.requires.place.laid_out inside c.requires.place.free c.requires.place.on_path, ap length one.after, length-map_of key c.in_ok-wider.wider.lg_cur after one.laid_out)
 
 pub returns-then-full-clause-after : goal.returns-then-full-clause-after
 returns-then-full-clause-after g c =
@@ -36,15 +36,15 @@ returns-then-full-clause-after g c =
     let s = c.args.sizes in
     let inside : c.args.at < length slots = omega (arith, c.requires.inside, length-held held c.args.slots.now.items) in
     let one = c.in_ok-wider.ensures in
-    let wide = grown s.lg_cur _ s.lg_nom s.grow s.count c.requires.sized c.if-full.true refl in
+    let wide = grown s.lg_cur _ s.lg_nom s.grow s.count c.requires.place.sized c.if-full.true refl in
     ap (λ ys. record { entries = ys; theta = c.in_ok-wider.wider.theta }) one.after
     ∙ ap (λ (t : ℕ). record { entries = with_entry key (map_of key (filled slots)) c.args.entry; theta = t }) (ap (λ z. z.theta) one.same)
-    ∙ sym (not_rebuilt key s.lg_cur c.args.at c.args.entry slots c.requires.laid_out inside c.requires.free c.requires.on_path s.lg_nom s.theta (inr (omega (arith, c.requires.counted, wide.few))))
+    ∙ sym (not_rebuilt key s.lg_cur c.args.at c.args.entry slots c.requires.place.laid_out inside c.requires.place.free c.requires.place.on_path s.lg_nom s.theta (inr (omega (arith, c.requires.place.counted, wide.few))))
 
 pub returns-then-full-clause-sized : goal.returns-then-full-clause-sized
 returns-then-full-clause-sized g c =
     let s = c.args.sizes in
-    let wide = grown s.lg_cur _ s.lg_nom s.grow s.count c.requires.sized c.if-full.true refl in
+    let wide = grown s.lg_cur _ s.lg_nom s.grow s.count c.requires.place.sized c.if-full.true refl in
     rw c.in_ok-wider.ensures.same wide.size
 
 pub returns-clause-counted : goal.returns-clause-counted
@@ -54,7 +54,7 @@ pub returns-clause-sized : goal.returns-clause-sized
 returns-clause-sized g c =
     let s = c.args.sizes in
     rw c.in_ok-cut.ensures.same
-    (full s.lg_cur s.lg_nom s.grow s.count c.requires.sized (omega (arith, c.if-full.false)) c.requires.full c.requires.room).size
+    (full s.lg_cur s.lg_nom s.grow s.count c.requires.place.sized (omega (arith, c.if-full.false)) c.requires.full c.requires.room).size
 
 pub returns-clause-laid_out : goal.returns-clause-laid_out
 returns-clause-laid_out g c = rw c.in_ok-cut.ensures.same c.in_ok-cut.ensures.laid_out

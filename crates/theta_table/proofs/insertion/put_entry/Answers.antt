@@ -13,14 +13,14 @@ returns-then-more-threshold_of-clause-laid_out g c =
     let held = g.E.SlotEntry.held in
     let slots = map held c.args.slots.now.items in
     rw (map-set held c.args.slots.now.items c.args.at c.into_slot.result, c.into_slot.ensures)
-    (laid_out_new key c.args.sizes.lg_cur slots c.args.at c.args.entry c.requires.laid_out (omega (arith, c.requires.inside, length-held held c.args.slots.now.items)) c.requires.free c.requires.on_path)
+    (laid_out_new key c.args.sizes.lg_cur slots c.args.at c.args.entry c.requires.place.laid_out (omega (arith, c.requires.inside, length-held held c.args.slots.now.items)) c.requires.place.free c.requires.place.on_path)
 
 pub returns-then-more-threshold_of-clause-counted : goal.returns-then-more-threshold_of-clause-counted
 returns-then-more-threshold_of-clause-counted g c =
     let held = g.E.SlotEntry.held in
     let slots = map held c.args.slots.now.items in
     rw (map-set held c.args.slots.now.items c.args.at c.into_slot.result, c.into_slot.ensures)
-    (omega (arith, c.requires.counted, filled_new slots c.args.at c.args.entry (omega (arith, c.requires.inside, length-held held c.args.slots.now.items)) c.requires.free))
+    (omega (arith, c.requires.place.counted, filled_new slots c.args.at c.args.entry (omega (arith, c.requires.inside, length-held held c.args.slots.now.items)) c.requires.place.free))
 
 pub returns-then-more-threshold_of-clause-after : goal.returns-then-more-threshold_of-clause-after
 returns-then-more-threshold_of-clause-after g c =
@@ -31,18 +31,18 @@ returns-then-more-threshold_of-clause-after g c =
     let inside : c.args.at < length slots = omega (arith, c.requires.inside, length-held held c.args.slots.now.items) in
     let few : c.args.sizes.count + 1 ≤ threshold c.args.sizes.lg_cur c.args.sizes.lg_nom = omega (arith, c.if-more-threshold_of.true, c.threshold_of.ensures) in
     rw (map-set held c.args.slots.now.items c.args.at c.into_slot.result, c.into_slot.ensures)
-    (ap (λ ys. record { entries = ys; theta = c.args.sizes.theta }) (joins key s.lg_cur c.args.at c.args.entry slots c.requires.laid_out inside c.requires.free c.requires.on_path)
-    ∙ sym (not_rebuilt key s.lg_cur c.args.at c.args.entry slots c.requires.laid_out inside c.requires.free c.requires.on_path s.lg_nom s.theta
+    (ap (λ ys. record { entries = ys; theta = c.args.sizes.theta }) (joins key s.lg_cur c.args.at c.args.entry slots c.requires.place.laid_out inside c.requires.place.free c.requires.place.on_path)
+    ∙ sym (not_rebuilt key s.lg_cur c.args.at c.args.entry slots c.requires.place.laid_out inside c.requires.place.free c.requires.place.on_path s.lg_nom s.theta
     (elim (cases_lt s.lg_nom 3) [
       | inl lt ↦ inl lt
-      | inr ge ↦ inr (omega (arith, few, c.requires.counted, threshold_most s.lg_cur s.lg_nom s.grow s.count c.requires.sized ge))
+      | inr ge ↦ inr (omega (arith, few, c.requires.place.counted, threshold_most s.lg_cur s.lg_nom s.grow s.count c.requires.place.sized ge))
     ])))
 
 pub returns-then-more-threshold_of-clause-sized : goal.returns-then-more-threshold_of-clause-sized
 returns-then-more-threshold_of-clause-sized g c =
     let s = c.args.sizes in
     let few : c.args.sizes.count + 1 ≤ threshold c.args.sizes.lg_cur c.args.sizes.lg_nom = omega (arith, c.if-more-threshold_of.true, c.threshold_of.ensures) in
-    one_more s.lg_cur s.lg_nom s.grow s.count c.requires.sized few c.requires.room
+    one_more s.lg_cur s.lg_nom s.grow s.count c.requires.place.sized few c.requires.room
 
 pub returns-then-more-threshold_of-clause-ticked : goal.returns-then-more-threshold_of-clause-ticked
 returns-then-more-threshold_of-clause-ticked g c =

@@ -10,12 +10,12 @@ pub hash_of_rank-requires-clause-apart : goal.hash_of_rank-requires-clause-apart
 hash_of_rank-requires-clause-apart g c =
     let key = g.E.SketchEntry.key in
     let slots = map g.E.SlotEntry.held c.args.slots.now.items in
-    rw (c.deref.ensures.value, c.hash.ensures) (apart-hashes key (c.args.entry ∷ filled slots) (apart-more key c.args.sizes.lg_cur c.args.at c.args.entry slots c.requires.laid_out c.requires.on_path c.requires.free))
+    rw (c.deref.ensures.value, c.hash.ensures) (apart-hashes key (c.args.entry ∷ filled slots) (apart-more key c.args.sizes.lg_cur c.args.at c.args.entry slots c.requires.place.laid_out c.requires.place.on_path c.requires.place.free))
 
 pub hash_of_rank-requires-clause-counted : goal.hash_of_rank-requires-clause-counted
 hash_of_rank-requires-clause-counted g c =
     let slots = map g.E.SlotEntry.held c.args.slots.now.items in
-    rw c.deref.ensures.value (omega (arith, length-map (filled slots) g.E.SketchEntry.key, c.requires.counted))
+    rw c.deref.ensures.value (omega (arith, length-map (filled slots) g.E.SketchEntry.key, c.requires.place.counted))
 
 pub hash_of_rank-requires-clause-inside : goal.hash_of_rank-requires-clause-inside
 hash_of_rank-requires-clause-inside g c = omega (arith, c.requires.full, c.requires.large, c.nominal_size-nominal.ensures.power)
@@ -27,8 +27,8 @@ returns-clause-after g c =
     let told : HasRank (c.hash.result ∷ map key (filled slots)) c.nominal_size-nominal.result c.in_ok-cut_theta.cut_theta = rw c.deref.ensures.value at c.in_ok-cut_theta.ensures.ranked in
     let ranked : HasRank (key c.args.entry ∷ map key (filled slots)) (2 ^ c.args.sizes.lg_nom) c.in_ok-cut_theta.cut_theta = rw (c.hash.ensures, c.nominal_size-nominal.ensures.power) at told in
     ap (λ ys. record { entries = ys; theta = c.in_ok-cut_theta.cut_theta }) c.in_ok-put_kept.ensures.map
-    ∙ sym (rebuilt_at key (2 ^ c.args.sizes.lg_nom) c.args.sizes.theta c.in_ok-cut_theta.cut_theta c.args.entry (filled slots) c.requires.large (omega (arith, c.requires.full, c.requires.counted))
-    (apart-more key c.args.sizes.lg_cur c.args.at c.args.entry slots c.requires.laid_out c.requires.on_path c.requires.free) c.requires.below_theta c.requires.low ranked)
+    ∙ sym (rebuilt_at key (2 ^ c.args.sizes.lg_nom) c.args.sizes.theta c.in_ok-cut_theta.cut_theta c.args.entry (filled slots) c.requires.large (omega (arith, c.requires.full, c.requires.place.counted))
+    (apart-more key c.args.sizes.lg_cur c.args.at c.args.entry slots c.requires.place.laid_out c.requires.place.on_path c.requires.place.free) c.requires.place.below_theta c.requires.place.low ranked)
 
 pub returns-clause-count : goal.returns-clause-count
 returns-clause-count g c =
@@ -38,7 +38,7 @@ returns-clause-count g c =
     let told : HasRank (c.hash.result ∷ map key (filled slots)) c.nominal_size-nominal.result c.in_ok-cut_theta.cut_theta = rw c.deref.ensures.value at c.in_ok-cut_theta.ensures.ranked in
     let ranked : HasRank (key c.args.entry ∷ map key (filled slots)) (2 ^ c.args.sizes.lg_nom) c.in_ok-cut_theta.cut_theta = rw (c.hash.ensures, c.nominal_size-nominal.ensures.power) at told in
     sym (length-map_of key c.args.sizes.lg_cur after c.in_ok-put_kept.ensures.laid_out) ∙ ap length c.in_ok-put_kept.ensures.map
-    ∙ kept_count key (2 ^ c.args.sizes.lg_nom) c.in_ok-cut_theta.cut_theta c.args.entry (filled slots) (apart-more key c.args.sizes.lg_cur c.args.at c.args.entry slots c.requires.laid_out c.requires.on_path c.requires.free) ranked
+    ∙ kept_count key (2 ^ c.args.sizes.lg_nom) c.in_ok-cut_theta.cut_theta c.args.entry (filled slots) (apart-more key c.args.sizes.lg_cur c.args.at c.args.entry slots c.requires.place.laid_out c.requires.place.on_path c.requires.place.free) ranked
 
 pub returns-clause-ticked : goal.returns-clause-ticked
 returns-clause-ticked g c =

@@ -152,6 +152,29 @@ returns-in_err-absent-clause-refused g c =
     let p = err_from_is_err_and c.from_residual-in_err-absent.result c.from_residual-in_err-absent.ensures.1 in
     rw (p.1, p.2, ← c.self.view_is, case.refusal_is, case.allocates_is) (elim c.in_err-absent.ensures.refused [ inl a ↦ inl a | inr b ↦ inr (b.0, or_left _ _ b.1) ])
 
+pub put_entry-requires-clause-place : goal.put_entry-requires-clause-place
+put_entry-requires-clause-place g c =
+    let key = g.E.SketchEntry.key in
+    let slots = map g.E.SlotEntry.held c.self.inside.slots.items in
+    let at : ℕ = c.seek-place.result.at in
+    let passes = is_screened_false c.args.hash c.self.inside.theta c.if-hash-eq0.false c.if-hash-self.false in
+    let found = rw c.deref.ensures.value at c.seek-place.ensures in
+    let has : c.self.inside.has_slots ≡ true = must_have key _ c.self.inside.lg_cur_size _ c.self.inside.count c.args.hash slots c.self.invariant.slotted refl passes (rw (← c.self.view_is) at c.requires.room) in
+    let laid = c.self.invariant.slotted.laid_out has in
+    let free : slot slots at ≡ None = free_is (slot slots at) _ found.told c.if-not-place.false in
+    let made = sym c.in_ok-absent.ensures.made ∙ c.in-Some.is in
+    let has_key : key c.in-Some.entry ≡ c.args.hash = c.requires.makes_hash c.in-Some.entry made in
+    record {
+      laid_out = laid;
+      counted = c.self.invariant.slotted.counted;
+      below_theta = c.self.invariant.slotted.table.kept.below_theta;
+      sized = rw (← c.lg_value.ensures) at (c.self.invariant.slotted.sized has);
+      free = free;
+      on_path = rw has_key found.on_path;
+      nonzero = omega (arith, has_key, c.if-hash-eq0.false);
+      low = omega (arith, has_key, c.if-hash-self.false);
+    }
+
 pub put_entry-requires-clause-room : goal.put_entry-requires-clause-room
 put_entry-requires-clause-room g c =
     let key = g.E.SketchEntry.key in
