@@ -6,3 +6,4 @@ pub mod ListedBelow
 pub mod Counting
 pub mod Marks
 pub mod ManyHashes
+pub mod Upserts
