@@ -88,11 +88,11 @@ impl fmt::Display for Failure {
             Failure::Unreadable(name, error) => write!(f, "{name}: {error}"),
             Failure::NoSketch(name, 0) => write!(
                 f,
-                "{name}: not an image of a theta sketch, or cut short, or of another seed"
+                "{name}: not the image of one theta sketch, or cut short, or of another seed"
             ),
             Failure::NoSketch(name, line) => write!(
                 f,
-                "{name}: line {line} is not an image in hexadecimal, or cut short, or of another seed"
+                "{name}: line {line} is not the image of one theta sketch, or cut short, or of another seed"
             ),
             Failure::NotWritten(name, error) => write!(f, "{name}: {error}"),
         }

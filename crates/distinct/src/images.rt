@@ -1,4 +1,5 @@
-//! The images that files have: a file is one, or each of its lines is one in hexadecimal.
+//! The images that files have: a file is one and nothing else, or each of its lines is one in hexadecimal, blanks around it
+//! aside.
 ghost use Rattle.std.specs.Prelude.{◌≡◌, None};
 ghost use Rattle.distinct.specs.Failures.{called, IsOfImages, TellsNoSketch};
 
@@ -7,6 +8,34 @@ use crate::inputs::{Input, Inputs};
 use line_sketches::{Sources, read_hex};
 use std::io;
 use std::io::{BufRead, BufReader, Cursor, ErrorKind, Read};
+
+/// How many bytes an image has that begins so, as its preamble tells: 0 where they are too few to tell.
+fn told_length(bytes: &[u8]) -> usize {
+    let [longs, version, _, _, _, flags, _, _, rest @ ..] = bytes else {
+        return 0;
+    };
+    let count = match rest {
+        [a, b, c, d, ..] => u32::from_le_bytes([*a, *b, *c, *d]) as usize,
+        _ => 0,
+    };
+    let is_empty = *flags & 4 != 0;
+    match (*version, *longs) {
+        (1, _) => 24 + 8 * count,
+        (2, 1) => 8,
+        (3, longs) if is_empty => 8 * longs as usize,
+        (3, 1) => 16,
+        (_, longs) => 8 * longs as usize + 8 * count,
+    }
+}
+
+/// Refuses bytes that begin with an image and go on: a second image behind it would be passed over.
+fn check_alone(bytes: &[u8]) -> io::Result<()> {
+    if 8 <= bytes.len() && told_length(bytes) < bytes.len() {
+        Err(io::Error::from(ErrorKind::InvalidData))
+    } else {
+        Ok(())
+    }
+}
 
 /// The images of files, one after another.
 #[derive(Drop)]
@@ -72,6 +101,7 @@ impl<'a> Images<'a> {
         };
         let mut image = Vec::new(self.rt.alloc());
         input.read_to_end(&mut image)?;
+        check_alone(&image)?;
         Ok(Some(image))
     }
 
@@ -101,12 +131,11 @@ impl<'a> Images<'a> {
             return Ok(None);
         }
         self.line = self.line.saturating_add(1);
-        let digits = match line.as_slice() {
-            [digits @ .., b'\n'] => digits,
-            digits => digits,
-        };
-        match read_hex(self.rt.alloc(), digits)? {
-            Some(image) => Ok(Some(image)),
+        match read_hex(self.rt.alloc(), line.trim_ascii())? {
+            Some(image) => {
+                check_alone(&image)?;
+                Ok(Some(image))
+            }
             None => Err(io::Error::from(ErrorKind::InvalidData)),
         }
     }

@@ -4,7 +4,8 @@ ghost use Rattle.distinct.specs.Failures.{IsOfWriting, TellsNotWritten};
 
 use crate::failure::Failure;
 use line_sketches::hex_line;
-use std::io::Write;
+use std::fs::File;
+use std::io::{ErrorKind, Write};
 use std::{fs, io};
 
 /// Writes to standard output.
@@ -54,21 +55,49 @@ fn is_special(rt: &HostRuntime, name: &str) -> bool {
     }
 }
 
-/// Writes a file, all or nothing: first beside it, and then under its name.
+/// Writes a file, all or nothing: first a new one beside it, which then takes its name. Its permissions stay, if it stood there.
 fn put_file(rt: &HostRuntime, name: &str, bytes: &[u8]) -> io::Result<()> {
     if is_special(rt, name) {
         return fs::write(rt, name, bytes);
     }
-    let beside = format!(in rt.alloc(); "{name}.part")?;
-    let put = put_beside(rt, beside.as_str(), name, bytes);
+    let (beside, file) = new_beside(rt, name)?;
+    let put = put_beside(rt, file, beside.as_str(), name, bytes);
     if put.is_err() {
         let _ = fs::remove_file(rt, beside.as_str());
     }
     put
 }
 
-fn put_beside(rt: &HostRuntime, beside: &str, name: &str, bytes: &[u8]) -> io::Result<()> {
-    fs::write(rt, beside, bytes)?;
+/// How many names beside a file are tried, until nothing has one.
+const NAMES: u32 = 1000;
+
+/// A new file beside another, with its name.
+fn new_beside(rt: &HostRuntime, name: &str) -> io::Result<(String, File)> {
+    for number in 0..NAMES {
+        let beside = format!(in rt.alloc(); "{name}.{number}.part")?;
+        match File::create_new(rt, beside.as_str()) {
+            Ok(file) => return Ok((beside, file)),
+            Err(error) => {
+                if error.kind() != ErrorKind::AlreadyExists {
+                    return Err(error);
+                }
+            }
+        }
+    }
+    Err(io::Error::from(ErrorKind::AlreadyExists))
+}
+
+fn put_beside(
+    rt: &HostRuntime,
+    mut file: File,
+    beside: &str,
+    name: &str,
+    bytes: &[u8],
+) -> io::Result<()> {
+    if let Ok(metadata) = fs::metadata(rt, name) {
+        file.set_permissions(metadata.permissions())?;
+    }
+    file.write_all(bytes)?;
     fs::rename(rt, beside, name)
 }
 

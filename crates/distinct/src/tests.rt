@@ -81,12 +81,12 @@ fn tells_each_failure(rt: HostRuntime) -> Result<(), Fail> {
         (
             Kind::NoSketch,
             1,
-            "it: not an image of a theta sketch, or cut short, or of another seed",
+            "it: not the image of one theta sketch, or cut short, or of another seed",
         ),
         (
             Kind::NoSketchOnLine,
             1,
-            "it: line 7 is not an image in hexadecimal, or cut short, or of another seed",
+            "it: line 7 is not the image of one theta sketch, or cut short, or of another seed",
         ),
         (Kind::NotWritten, 1, "it: no storage space"),
     ] {
