@@ -16,9 +16,10 @@ distinct: how many distinct lines there are, about, in little memory
   distinct WORD --help              the options of one of these words
   distinct --help, distinct --version
 
-Without a FILE, or where it is -, standard input is read. A line is its bytes up to the LF,
-compared byte by byte: a CR belongs to it, an empty line is a line, and so is a last one without
-an LF. Lines are hashed as other DataSketches libraries hash the bytes of a text, under seed 9001.
+Options stand before files. Without a FILE, or where it is -, standard input is read. A line is
+its bytes up to the LF, compared byte by byte: a CR belongs to it, an empty line is a line, and
+so is a last one without an LF. Lines are hashed as other DataSketches libraries hash the bytes of
+a text, under seed 9001. An image's file has nothing behind the image.
 
 Status: 0 if answered, 1 if a file cannot be read or is no sketch or an output fails, 2 for
 wrong arguments.
@@ -27,11 +28,13 @@ wrong arguments.
 const COUNT: &str = "\
 distinct count [OPTION..] [FILE..]: how many distinct lines the files have together, about
 
-  --lg-k N        keep 2^N hashes, N from 5 to 26; 12 if not told: an error of 1.6 percent
+  --lg-k N        keep 2^N hashes, N from 5 to 26; 12 if not told, which is a standard error of
+                  1.6 percent
   --field N       a line's key is its field N, as cut has it: a line without a separator is
                   its own key, and one of fewer fields has the empty key
   --separator C   what stands between fields, one byte; a tab if not told
-  --progress      about once a second, a line to standard error: lines and bytes so far
+  --progress      about once a second, a line to standard error: lines, bytes and the
+                  estimate so far
 ";
 
 const SKETCH: &str = "\
@@ -42,7 +45,8 @@ distinct sketch [OPTION..] [FILE..]: writes the sketch of the files' lines as an
   --separator C   what stands between fields, one byte; a tab if not told
   --hex           the image in hexadecimal, on a line
   --output FILE   to FILE, all or nothing, and not to standard output
-  --progress      about once a second, a line to standard error: lines and bytes so far
+  --progress      about once a second, a line to standard error: lines, bytes and the
+                  estimate so far
 ";
 
 const UNION: &str = "\

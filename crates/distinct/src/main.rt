@@ -200,6 +200,9 @@ fn combine_files(
             meet_image(rt, sketches.as_slice())
         }
         Operator::Minus => {
+            if !options.hex && files.len() != 2 {
+                return Err(Failure::NotTwo);
+            }
             let sketches = all_sketches(rt, &mut images)?;
             match sketches.as_slice() {
                 [first, second] => minus_image(rt, first, second),

@@ -21,7 +21,8 @@ fn put_byte<A: Allocator>(line: &mut Vec<u8, A>, byte: u8) -> Result<(), AllocEr
     Ok(())
 }
 
-/// Bytes as a line of hexadecimal digits, in small letters, with the LF that ends it.
+/// Bytes as a line of hexadecimal digits, two a byte, in small letters, with the LF that ends it. It refuses with `AllocError`
+/// alone. `read_hex` takes the digits without the LF.
 pub fn hex_line<A: Allocator>(alloc: A, bytes: &[u8]) -> Result<Vec<u8, A>, AllocError>
     ensures { IfOk result (λ v. v.items ≡ hex_of bytes.now ++ 10 ∷ []) }
 {
@@ -59,7 +60,8 @@ fn byte_of(high: u8, low: u8) -> Option<u8>
     Some(16 * first + second)
 }
 
-/// The bytes that hexadecimal digits spell, two a byte, or `None` where they spell none.
+/// The bytes that hexadecimal digits of either case spell, two a byte; `None` where their number is odd or another byte stands
+/// among them, an LF at the end too. It refuses with `AllocError` alone.
 pub fn read_hex<A: Allocator + Drop>(
     alloc: A,
     text: &[u8],

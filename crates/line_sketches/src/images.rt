@@ -83,7 +83,7 @@ fn met_sketch<A: Allocator + Clone + Drop>(
 }
 
 /// What all sketches share, ordered; of no sketches, that of no lines. Refused with `InvalidArgument` for a sketch of another
-/// seed, unless it or what those before it share is empty, and with `OutOfMemory`.
+/// seed than the default, 9001, unless it or what those before it share is empty, and with `OutOfMemory`.
 pub fn met<A: Allocator + Clone + Drop>(
     alloc: A,
     sketches: &[CompactThetaSketch<A>],
@@ -99,7 +99,7 @@ pub fn met<A: Allocator + Clone + Drop>(
 }
 
 /// What the first has and the second lacks, ordered. Refused with `InvalidArgument` where the first isn't empty and it, or a
-/// second that isn't empty, is of another seed, and with `OutOfMemory`.
+/// second that isn't empty, is of another seed than the default, 9001, and with `OutOfMemory`.
 pub fn lacked<A: Allocator + Clone + Drop>(
     alloc: A,
     first: &CompactThetaSketch<A>,

@@ -2,6 +2,14 @@
 //!
 //! The promise is `unite_images`: the images of texts that were sketched apart come, united, to the image of the texts one
 //! behind the other, byte for byte.
+//!
+//! The sketch of the lines of a reader, and its image as text:
+//!
+//! ```
+//! let mut block = vec![in alloc; 0u8; BLOCK]?;
+//! let sketch = sketch_lines(alloc, Key::Line, 12, &mut reader, &mut block, &mut watch)?;
+//! let line = hex_line(alloc, image_of(&sketch)?.as_slice())?;
+//! ```
 #![tactic(auto)]
 
 mod hex;

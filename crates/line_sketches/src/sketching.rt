@@ -21,7 +21,8 @@ use theta_sketches::{CompactThetaSketch, ThetaSketch, ThetaSketchBuilder};
 /// Why lines or images were not taken in.
 #[derive(Debug, Drop)]
 pub enum Unread {
-    /// Memory was refused, an `lg_k` is none that a sketch may have, or a source is no image.
+    /// Memory was refused (`OutOfMemory`), an `lg_k` isn't from 5 to 26, or a sketch is of another seed (`InvalidArgument`), or
+    /// a source is no image (`InvalidData`).
     Refused(Error),
     /// A source failed, or couldn't be opened.
     Failed(io::Error),
@@ -50,8 +51,8 @@ impl From<AllocError> for Unread {
 
 /// Looks on while lines are taken in.
 pub trait Watch {
-    /// So many bytes were read, and so many lines ended in them; the sketch has taken these in. The numbers are for a reader's
-    /// eye: no clause speaks of them.
+    /// A read gave `bytes` bytes, from 1 to the block's length, and `lines` lines, from 0 to `bytes`, ended in them; the sketch
+    /// has taken these in. A last line without an LF is not told. The numbers are for a reader's eye: no clause speaks of them.
     fn saw<A: Allocator>(&mut self, bytes: usize, lines: u64, sketch: &ThetaSketch<A>);
 }
 
@@ -153,6 +154,8 @@ fn take_last<A: Allocator + Clone>(
 ///
 /// Refused with `OutOfMemory` alone; a source that failed tells its error, which is never that a read was interrupted. Then
 /// some first part of the lines is taken in; no clause says so.
+///
+/// `block` has at least one byte, and a read asks for as many as it has; what stands in it before is not read.
 pub fn add_lines<A: Allocator + Clone, R: Read, W: Watch>(
     sketch: &mut ThetaSketch<A>,
     key: Key,
@@ -186,7 +189,8 @@ pub fn add_lines<A: Allocator + Clone, R: Read, W: Watch>(
     Err(Unread::Refused(Error::from(AllocError)))
 }
 
-/// The sketch, trimmed and ordered. Refused with `OutOfMemory` alone; then it may be trimmed already.
+/// Trims the sketch, which stays trimmed, and answers its compact form, ordered. Refused with `OutOfMemory` alone; then it may
+/// be trimmed already.
 pub fn finished<A: Allocator + Clone>(
     sketch: &mut ThetaSketch<A>,
 ) -> Result<CompactThetaSketch<A>, Error>
@@ -199,6 +203,8 @@ pub fn finished<A: Allocator + Clone>(
 
 /// The sketch of all lines that a reader has left. Refused with `InvalidArgument` for an `lg_k` that isn't from 5 to 26, before
 /// anything is read, and with `OutOfMemory`; a source that failed tells its error, which is never that a read was interrupted.
+///
+/// `block` has at least one byte, and a read asks for as many as it has; what stands in it before is not read.
 pub fn sketch_lines<A: Allocator + Clone + Drop, R: Read, W: Watch>(
     alloc: A,
     key: Key,

@@ -27,7 +27,8 @@ pub trait Sources {
     /// The texts that are left, where they are known.
     ghost texts: { Self → Option (List (List ℕ)) };
 
-    /// The next text's reader, or `None` at the end.
+    /// The next text's reader, or `None` at the end. An error, of any kind, tells that it couldn't be opened; what is left then
+    /// is not said.
     fn next_source(&mut self) -> io::Result<Option<Self::Source>>
         ensures { IfOk result (GivesNext Self.Source.remaining (texts self.old) (texts self.new)) };
 }
@@ -49,8 +50,8 @@ fn add_source<A: Allocator + Clone, B: Allocator, R: Read, W: Watch>(
 
 /// Takes in the lines of all texts, each text's by themselves: a last line without an LF isn't joined to the next text.
 ///
-/// Where it fails, lines that ended before are taken in, and nothing of the line that was open. Refused with `OutOfMemory` alone; a source that failed, or couldn't be
-/// opened, tells its error.
+/// Refused with `OutOfMemory` alone; a source that failed, or couldn't be opened, tells its error. Then some first part of the
+/// lines is taken in; no clause says so.
 pub fn add_sources<A: Allocator + Clone, B: Allocator + Clone + Drop, S: Sources, W: Watch>(
     sketch: &mut ThetaSketch<A>,
     alloc: B,

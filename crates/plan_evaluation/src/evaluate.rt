@@ -24,6 +24,10 @@ use theta_core::{MAX_THETA, MIN_LG_K};
 /// What a node of a plan comes to: a leaf as it is, any other node ordered exactly where that is asked, where it orders itself,
 /// where it is empty, and where it has one entry at the greatest theta. An operator is built first; then it takes
 /// in its parts one by one, a leaf as it is, any other node compacted, in whatever order.
+///
+/// Refused with `InvalidArgument` where the seed hash is 0, some node's `lg_k` isn't from 5 to 26 or its start isn't from 1 to
+/// `MAX_THETA`; with `OutOfMemory`; and with `Policy` only where a beginning of some leaf's steps, or of the parts of some union
+/// or intersection, folds to a refusal.
 pub fn evaluate<F: SketchFamily<A>, A: Allocator + Clone, B: Allocator>(
     family: &F,
     alloc: &A,
@@ -76,7 +80,7 @@ pub fn evaluate<F: SketchFamily<A>, A: Allocator + Clone, B: Allocator>(
     }
 }
 
-/// What a node came to as a compact sketch, a leaf's ordered where that is asked.
+/// What a node came to as a compact sketch, a leaf's ordered where that is asked. Refused with `OutOfMemory` alone.
 pub fn compacted<F: SketchFamily<A>, A: Allocator>(
     family: &F,
     evaluated: Evaluated<F::Sketch, F::Compact>,

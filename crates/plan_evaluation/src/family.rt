@@ -75,14 +75,16 @@ pub trait SketchFamily<A: Allocator> {
 
     ghost made_intersection: { Self → Self.Intersection → Type 0 };
 
-    /// A new sketch. Refused with `InvalidArgument` for settings that no sketch may have, and with `OutOfMemory`.
+    /// A new sketch. Refused with `InvalidArgument` for an `lg_k` that isn't from 5 to 26, a `start` that isn't from 1 to
+    /// `MAX_THETA` or a seed whose seed hash is 0, and with `OutOfMemory`.
     fn new_sketch(&self, alloc: A, lg_k: u8, start: u64, seed: u64) -> Result<Self::Sketch, Error>
         ensures own { IfOk result (made_sketch self.now) }
         ensures empty { IfOk result (λ s. (state s).empty ≡ true) }
         ensures made { IfOk result (λ s. (state s).map ≡ empty_table lg_k start seed) }
         ensures refused { Refuses result (table_refusal lg_k start seed) true };
 
-    /// Adds a value at a hash. Refused with `OutOfMemory`, or with `Policy` where the family's rules refuse the value there.
+    /// Adds a value at a hash. Refused with `OutOfMemory`, or with `Policy` where the family's rules refuse the value there; then
+    /// nothing is said of what the sketch holds.
     fn add(&self, sketch: &mut Self::Sketch, hash: u64, value: Self::Value) -> Result<(), Error>
         requires own { made_sketch self.now sketch.old }
         ensures still { made_sketch self.now sketch.new }
@@ -91,7 +93,7 @@ pub trait SketchFamily<A: Allocator> {
         ensures strict { IfErr result (λ e. RefusedFor e strict (upsert_refusal (rules self.now).key hash ((rules self.now).step_of hash value) (state sketch.old).map.kept ≡ Some e)) }
         ensures accepted { OnOk result (upsert_refusal (rules self.now).key hash ((rules self.now).step_of hash value) (state sketch.old).map.kept ≡ None) };
 
-    /// Trims a sketch. Refused with `OutOfMemory` alone.
+    /// Trims a sketch. Refused with `OutOfMemory` alone; then nothing is said of what the sketch holds.
     fn trim(&self, sketch: &mut Self::Sketch) -> Result<(), Error>
         requires own { made_sketch self.now sketch.old }
         ensures still { made_sketch self.now sketch.new }
@@ -111,7 +113,8 @@ pub trait SketchFamily<A: Allocator> {
         ensures ok { IfOk result (λ c. IsAnswer (rules self.now).key (sketch_value (state sketch.now)) (state sketch.now).map.seed_hash ordered (listed c)) }
         ensures refused { Refuses result None true };
 
-    /// A new union. Refused with `InvalidArgument` for settings that no union may have, and with `OutOfMemory`.
+    /// A new union. Refused with `InvalidArgument` for an `lg_k` that isn't from 5 to 26, a `start` that isn't from 1 to
+    /// `MAX_THETA` or a seed whose seed hash is 0, and with `OutOfMemory`.
     fn new_union(&self, alloc: A, lg_k: u8, start: u64, seed: u64) -> Result<Self::Union, Error>
         ensures own { IfOk result (made_union self.now) }
         ensures made { IfOk result (λ u. united u ≡ empty_union lg_k start (seed_hash seed) tt) }
@@ -119,7 +122,7 @@ pub trait SketchFamily<A: Allocator> {
         ensures refused { Refuses result (table_refusal lg_k start seed) true };
 
     /// Hands a part of the union's seed over to a union that has not failed. Refused with `OutOfMemory`, or with `Policy` where
-    /// the whole maps of the union and the part, joined, have a mark.
+    /// the whole maps of the union and the part, joined, have a mark; then nothing is said of what the union holds.
     fn join(
         &self,
         union: &mut Self::Union,
@@ -147,7 +150,7 @@ pub trait SketchFamily<A: Allocator> {
         ensures refused { Refuses result (seed_refusal seed) true };
 
     /// Hands a part of the intersection's seed over to it. Refused with `OutOfMemory`, or with `Policy` where what the whole maps
-    /// share has a mark.
+    /// share has a mark; then nothing is said of what the intersection holds.
     fn meet(
         &self,
         intersection: &mut Self::Intersection,

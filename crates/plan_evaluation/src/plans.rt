@@ -110,7 +110,8 @@ pub fn evaluate_tuple<
 /// plan merges leaves, or is a leaf that ends by a trim, the keys and theta are the k-minimum of the hashes that were added.
 ///
 /// Refused as `evaluate_tuple` is: with `Policy` only where a beginning of some leaf's steps, or of the parts of some union or
-/// intersection, sums up to a number out of the bounds of its type.
+/// intersection, sums up to a number out of the bounds of its type. A caller knows that clones of summaries equal their
+/// originals.
 pub fn evaluate_sums<
     S: CheckedSum + TupleSummaryValue<A> + Drop,
     A: Allocator + Clone,

@@ -150,7 +150,7 @@ impl<E: SlotEntry, A: Allocator> UpdatableState<E, A> {
         EntryIter::of_table(&self.table)
     }
 
-    /// How many bytes its retained entries take.
+    /// How many bytes the slots of its table take, free ones too.
     pub fn estimated_size(&self) -> usize {
         self.table.estimated_size()
     }

@@ -20,8 +20,8 @@ use theta_table::{SketchHashTable, ThetaEntry};
 /// The entries of `a` whose hashes `b` lacks, below the lesser theta, in memory of `alloc` or a clone of it.
 ///
 /// An empty `a` gives an empty state with its own seed hash, and then no seed is checked. An empty `b` gives the value of
-/// `a`, and its own seed is not checked. Where neither is empty and no entry is left below the greatest theta, `MAX_THETA`,
-/// the state is empty. It is ordered where that is asked or `a` is ordered, and where it is empty or has one entry at the
+/// `a`, and its own seed is not checked. Where neither is empty, no entry is left and the lesser theta is `MAX_THETA`, the
+/// state is empty. It is ordered where that is asked or `a` is ordered, and where it is empty or has one entry at the
 /// greatest theta.
 ///
 /// Refused with `InvalidArgument` where `a` isn't empty and it, or a `b` that isn't empty, has another seed hash than

@@ -84,7 +84,7 @@ impl<E: SlotEntry, P, A: Allocator> IntersectionState<E, P, A> {
         has_begun(self.outcome)
     }
 
-    /// How many bytes the entries that it holds take.
+    /// How many bytes the slots of its table take, free ones too.
     pub fn estimated_size(&self) -> usize {
         self.table.estimated_size()
     }

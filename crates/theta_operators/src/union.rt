@@ -133,7 +133,7 @@ impl<E: SlotEntry + Clone, P: UnionMergePolicy<E> + Drop, A: Allocator + Clone> 
         }
     }
 
-    /// How many bytes the entries that it holds take.
+    /// How many bytes the slots of its table take, free ones too.
     pub fn estimated_size(&self) -> usize {
         self.table.estimated_size()
     }

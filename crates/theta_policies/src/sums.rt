@@ -6,7 +6,7 @@ ghost use Rattle.theta_policies.specs.Sums.{sum_within};
 
 use sketch_base::{Error, ErrorKind};
 
-/// Whole numbers of a type, whose sum is checked against the bounds of the type.
+/// Whole numbers of a type, whose sum is checked against the bounds of the type: `u32`, `u64`, `i32` and `i64`.
 pub trait CheckedSum: Copy {
     /// The whole number that a value stands for.
     ghost whole: { Self → ℤ };

@@ -18,6 +18,7 @@ use std::marker::Model;
 use theta_core::a_not_b;
 
 /// The difference of theta sketches of one seed: the hashes of the one that the other lacks. Contracts see the seed's hash.
+/// The crate's comment has an example.
 #[derive(Debug, Clone, Copy)]
 pub struct ThetaANotB {
     seed_hash: u16,
@@ -65,9 +66,9 @@ impl ThetaANotB {
     /// The hashes of `a` that `b` lacks, below the lesser theta, in memory of `alloc` or a clone of it.
     ///
     /// An empty `a` gives an empty sketch with its own seed hash, and then no seed is checked. An empty `b` gives the value
-    /// of `a`, and its own seed is not checked. Where neither is empty and no hash is left below the greatest theta,
-    /// `MAX_THETA`, the sketch is empty. It is ordered where that is asked or `a` is ordered, and where it is empty or has
-    /// one hash at the greatest theta.
+    /// of `a`, and its own seed is not checked. Where neither is empty, no hash is left and the lesser theta is `MAX_THETA`,
+    /// the sketch is empty. It is ordered where that is asked or `a` is ordered, and where it is empty or has one hash at the
+    /// greatest theta.
     ///
     /// Refused with `InvalidArgument` where `a` isn't empty and it, or a `b` that isn't empty, is of another seed; with
     /// `OutOfMemory` where memory is. The inputs stay as they are.

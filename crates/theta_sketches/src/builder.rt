@@ -14,7 +14,7 @@ use std::marker::Model;
 use theta_core::ResizeFactor;
 use theta_family::Settings;
 
-/// Builds a theta sketch. Nothing is checked before `build`.
+/// Builds a theta sketch. Nothing is checked before `build`. The crate's comment has an example.
 #[derive(Debug, Drop)]
 pub struct ThetaSketchBuilder {
     settings: Settings,
@@ -49,7 +49,7 @@ impl ThetaSketchBuilder {
         self
     }
 
-    /// With this resize factor, which changes no answer.
+    /// With this resize factor, by which its slots grow. Of all answers only `estimated_size` depends on it.
     pub fn resize_factor(mut self, resize_factor: ResizeFactor) -> Self
         ensures { result ≡ record self { resize_factor = resize_factor } }
     {
@@ -84,7 +84,7 @@ impl ThetaSketchBuilder {
     }
 }
 
-/// Builds a theta union. Nothing is checked before `build`.
+/// Builds a theta union. Nothing is checked before `build`. The crate's comment has an example.
 #[derive(Debug, Clone, Drop)]
 pub struct ThetaUnionBuilder {
     settings: Settings,
@@ -119,7 +119,7 @@ impl ThetaUnionBuilder {
         self
     }
 
-    /// With this resize factor, which changes no answer.
+    /// With this resize factor, by which its slots grow. Of all answers only `estimated_size` depends on it.
     pub fn resize_factor(mut self, resize_factor: ResizeFactor) -> Self
         ensures { result ≡ record self { resize_factor = resize_factor } }
     {

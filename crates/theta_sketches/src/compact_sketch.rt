@@ -15,7 +15,8 @@ use std::marker::Model;
 use theta_core::{CompactSketchState, EntryIter, MAX_THETA, ThetaEntry};
 use theta_family::{Decimal, MAX_PLACES, ThetaSketchIter, compact_decimal, compact_fraction};
 
-/// A theta sketch that no longer changes: its hashes in a list, with its theta. Contracts see a record of these.
+/// A theta sketch that no longer changes: its hashes in a list, with its theta. Contracts see a record of these. The crate's
+/// comment has an example.
 #[derive(Drop)]
 pub struct CompactThetaSketch<A: Allocator = Global> {
     state: CompactSketchState<ThetaEntry, A>,
@@ -81,8 +82,8 @@ impl<A: Allocator> CompactThetaSketch<A> {
         self.state.retained_entries().len()
     }
 
-    /// The fraction whose quotient estimates how many distinct values were seen: the retained hashes times `MAX_THETA`, over
-    /// theta, not reduced; 0 over 1 for an empty sketch.
+    /// The fraction whose quotient estimates how many distinct values were seen, not reduced: the retained hashes times
+    /// `MAX_THETA`, below 2^95, over theta, from 1 to `MAX_THETA`; 0 over 1 for an empty sketch.
     pub fn estimate_fraction(&self) -> (u128, u128)
         ensures { result ≡ compact_fraction self.now }
     {
@@ -104,7 +105,7 @@ impl<A: Allocator> CompactThetaSketch<A> {
         self.state.is_ordered()
     }
 
-    /// The hash of its seed.
+    /// The hash of its seed, of 16 bits.
     pub fn seed_hash(&self) -> u16
         ensures { result ≡ self.now.seed_hash }
     {

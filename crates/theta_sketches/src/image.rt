@@ -115,10 +115,11 @@ impl<A: Allocator + Clone + Drop> CompactThetaSketch<A> {
 
     /// The sketch that a beginning of the bytes spells, under this seed. Bytes after the image are ignored.
     ///
-    /// Refused with `InvalidData` exactly where the seed hash is 0 or the bytes spell no sketch: they end too early, are of
-    /// another family or version, tell another seed hash, or tell hashes that repeat, do not ascend where they are said to, or
-    /// are not from 1 to below theta. An empty sketch's seed hash is not asked. Refused with `OutOfMemory` where memory is:
-    /// it asks for no more than the bytes could fill with hashes, and as much again to compare hashes that do not ascend.
+    /// Refused with `InvalidData` only where the seed hash is 0 or the bytes spell no sketch: they end too early, are of
+    /// another family or version, have not 1 to 3 preamble longs, tell another seed hash, a theta that isn't from 1 to
+    /// `MAX_THETA`, or hashes that repeat, do not ascend where they are said to, or are not from 1 to below theta. An empty
+    /// sketch's seed hash is not asked. Refused with `OutOfMemory` where memory is, also for such bytes: it asks for no more
+    /// than the bytes could fill with hashes, and as much again to compare hashes that do not ascend.
     pub fn deserialize_with_seed(alloc: A, bytes: &[u8], seed: u64) -> Result<Self, Error>
         ensures ok { IfOk result (λ s. Reads bytes.now (seed_hash seed) s) }
         ensures refused { IfErr result (λ e. IsRefused e (IsReadable bytes.now (seed_hash seed))) }

@@ -34,7 +34,7 @@ impl IntersectionMergePolicy<ThetaEntry> for NoopIntersectionPolicy {
     ghost keeps_hash = { λ p x y same. same };
 }
 
-/// An intersection of theta sketches that are handed over one by one.
+/// An intersection of theta sketches that are handed over one by one. The crate's comment has an example.
 ///
 /// It has no value before its first sketch. Its value has the hashes that all its sketches share, below their least theta.
 /// It is empty once a sketch is, or once sketches with hashes and at the greatest theta share none. A refused update
@@ -85,7 +85,7 @@ impl<A: Allocator> ThetaIntersection<A> {
         self.state.has_result()
     }
 
-    /// How many bytes the hashes that it holds take.
+    /// How many bytes the slots of its table take, free ones too: eight a slot, and none before its first sketch.
     pub fn estimated_size(&self) -> usize {
         self.state.estimated_size()
     }

@@ -2,6 +2,30 @@
 //!
 //! A theta sketch retains the smallest hashes of a stream below its theta. Contracts see its value: Empty, or the
 //! retained hashes as a map, ascending, with the theta. Every call is stated on that value.
+//!
+//! Two days' visitors: those of either day, of both, of the first alone; and an image of the first result, read again.
+//!
+//! ```
+//! let mut monday = ThetaSketchBuilder::default().lg_k(14).build(alloc)?;
+//! monday.update("ann")?;
+//! let mut tuesday = ThetaSketchBuilder::default().lg_k(14).build(alloc)?;
+//! tuesday.update("bob")?;
+//!
+//! let mut union = ThetaUnionBuilder::default().lg_k(14).build(alloc)?;
+//! union.update(monday.as_view())?;
+//! union.update(tuesday.as_view())?;
+//! let either_day = union.to_sketch(true)?;
+//!
+//! let mut intersection = ThetaIntersection::default(alloc)?;
+//! intersection.update(monday.as_view())?;
+//! intersection.update(tuesday.as_view())?;
+//! let both_days = intersection.to_sketch(true)?;
+//!
+//! let monday_alone = ThetaANotB::default()?.compute(alloc, monday.as_view(), tuesday.as_view(), true)?;
+//!
+//! let image = either_day.serialize()?;
+//! let read = CompactThetaSketch::deserialize(alloc, &image)?;
+//! ```
 #![tactic(auto)]
 
 mod a_not_b;

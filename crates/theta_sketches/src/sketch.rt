@@ -26,7 +26,7 @@ use std::marker::Model;
 use theta_core::{MAX_THETA, ThetaEntry};
 use theta_family::{Decimal, MAX_PLACES, Settings, ThetaSketchIter, UpdatableState};
 
-/// A theta sketch that takes updates. Its value is Empty until the first one is accepted.
+/// A theta sketch that takes updates. Its value is Empty until the first one is accepted. The crate's comment has an example.
 #[derive(Drop)]
 pub struct ThetaSketch<A: Allocator = Global> {
     state: UpdatableState<ThetaEntry, A>,
@@ -92,8 +92,8 @@ impl<A: Allocator> ThetaSketch<A> {
         self.state.num_retained()
     }
 
-    /// The fraction whose quotient estimates how many distinct values were seen: the retained hashes times `MAX_THETA`, over
-    /// theta, not reduced; 0 over 1 for an empty sketch.
+    /// The fraction whose quotient estimates how many distinct values were seen, not reduced: the retained hashes times
+    /// `MAX_THETA`, below 2^95, over theta, from 1 to `MAX_THETA`; 0 over 1 for an empty sketch.
     pub fn estimate_fraction(&self) -> (u128, u128)
         ensures { result ≡ fraction_of (sketch_value self.now) }
     {
@@ -115,7 +115,7 @@ impl<A: Allocator> ThetaSketch<A> {
         self.state.lg_k()
     }
 
-    /// The hash of its seed.
+    /// The hash of its seed, from 1 to 65535.
     pub fn seed_hash(&self) -> u16
         ensures { result ≡ self.now.map.seed_hash }
     {
@@ -130,7 +130,7 @@ impl<A: Allocator> ThetaSketch<A> {
         ThetaSketchIter::over(self.state.entries())
     }
 
-    /// How many bytes its retained entries take.
+    /// How many bytes the slots of its table take, free ones too: eight a slot, of which there are 32 to 2^(`lg_k` + 1).
     pub fn estimated_size(&self) -> usize {
         self.state.estimated_size()
     }
@@ -192,7 +192,7 @@ impl<A: Allocator + Clone> ThetaSketch<A> {
     ///
     /// let mut sketch = ThetaSketchBuilder::default().build(rt.alloc())?;
     /// sketch.update_hashes(&[7, 5, 7])?;
-    /// assert_eq!(sketch.num_retained(), 2);
+    /// assert_eq!(rt; sketch.num_retained(), 2);
     /// ```
     pub fn update_hashes(&mut self, hashes: &[u64]) -> Result<(), Error>
         ensures after { OnOk result (self.new.map ≡ after_hashes hashes.now self.old.map) }
@@ -203,7 +203,8 @@ impl<A: Allocator + Clone> ThetaSketch<A> {
         self.state.insert_hashes(hashes)
     }
 
-    /// Where more than k hashes are retained, lowers theta to the (k+1)th smallest and keeps the k below it.
+    /// Where more than k hashes are retained, k being its 2^`lg_k` nominal entries, lowers theta to the (k+1)th smallest and
+    /// keeps the k below it.
     ///
     /// Refused with `OutOfMemory` alone, and only where more than k are retained; then nothing has changed.
     pub fn trim(&mut self) -> Result<(), Error>

@@ -23,8 +23,9 @@ use theta_family::Settings;
 
 /// A union of theta sketches that are handed over one by one.
 ///
-/// Its value has the united hashes below the least theta of its inputs and its own start; where these are more than k, the
-/// k least, below the (k+1)th. Where memory is refused to an update the union has failed, until it is reset.
+/// Its value has the united hashes below the least theta of its inputs and its own start; where these are more than k, its
+/// 2^`lg_k` nominal entries, the k least, below the (k+1)th. Where memory is refused to an update the union has failed, until
+/// it is reset. The crate's comment has an example.
 #[derive(Drop)]
 pub struct ThetaUnion<A: Allocator = Global> {
     state: UnionState<ThetaEntry, NoopUnionPolicy, A>,
@@ -93,7 +94,7 @@ impl<A: Allocator + Clone> ThetaUnion<A> {
         Ok(CompactThetaSketch::of_state(state))
     }
 
-    /// How many bytes the hashes that it holds take.
+    /// How many bytes the slots of its table take, free ones too: eight a slot, of which there are 32 to 2^(`lg_k` + 1).
     pub fn estimated_size(&self) -> usize {
         self.state.estimated_size()
     }

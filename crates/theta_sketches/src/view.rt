@@ -12,7 +12,7 @@ use std::alloc::{Allocator, Global};
 use theta_core::ThetaEntry;
 use theta_family::SketchView;
 
-/// A view of a mutable or a compact theta sketch. A mutable one is seen as not ordered.
+/// A view of a mutable or a compact theta sketch. A mutable one is seen as not ordered. The crate's comment has an example.
 pub type ThetaSketchView<'a, A = Global> = SketchView<'a, ThetaEntry, A>;
 
 impl<'a, A: Allocator> From<&'a ThetaSketch<A>> for SketchView<'a, ThetaEntry, A> {

@@ -21,6 +21,11 @@ use std::marker::Model;
 
 /// The difference of tuple sketches of one seed: the entries of the one whose keys the other lacks. Contracts see the seed's
 /// hash.
+///
+/// ```
+/// let difference = TupleANotB::default()?;
+/// let only_on_monday = difference.compute(alloc, monday.as_view(), tuesday.as_view(), true)?;
+/// ```
 #[derive(Debug, Clone, Copy)]
 pub struct TupleANotB {
     seed_hash: u16,
@@ -74,7 +79,8 @@ impl TupleANotB {
     /// one entry at the greatest theta.
     ///
     /// Refused with `InvalidArgument` where `a` isn't empty and it, or a `b` that isn't empty, is of another seed; with
-    /// `OutOfMemory` where memory is. The inputs stay as they are.
+    /// `OutOfMemory` where memory is. The inputs stay as they are. A caller knows that clones of summaries equal their
+    /// originals.
     pub fn compute<S: Clone, T: Drop, A: Allocator + Clone, B: Allocator, C: Allocator>(
         &self,
         alloc: A,

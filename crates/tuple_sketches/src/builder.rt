@@ -10,7 +10,7 @@ use std::alloc::Allocator;
 use theta_core::{ResizeFactor, SummaryPolicy};
 use theta_family::Settings;
 
-/// Builds a tuple sketch under a policy. Nothing is checked before `build`.
+/// Builds a tuple sketch under a policy. Nothing is checked before `build`. The crate's comment has an example.
 #[derive(Debug, Drop)]
 pub struct TupleSketchBuilder<P> {
     settings: Settings,
@@ -34,7 +34,7 @@ impl<P> TupleSketchBuilder<P> {
         self
     }
 
-    /// With this resize factor, which changes no answer.
+    /// With this resize factor, by which its slots grow. Of all answers only `estimated_size` depends on it.
     pub fn resize_factor(mut self, resize_factor: ResizeFactor) -> Self
         ensures { result ≡ record self { settings = record self.settings { resize_factor = resize_factor } } }
     {

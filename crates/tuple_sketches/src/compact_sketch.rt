@@ -17,6 +17,7 @@ use theta_core::{CompactSketchState, EntryIter, MAX_THETA, TupleEntry};
 use theta_family::{Decimal, MAX_PLACES, compact_decimal, compact_fraction};
 
 /// A tuple sketch that no longer changes: its entries in a list, with its theta. Contracts see a record of these.
+/// The crate's comment has an example.
 #[derive(Drop)]
 pub struct CompactTupleSketch<S: Drop, A: Allocator = Global> {
     state: CompactSketchState<TupleEntry<S>, A>,
@@ -82,8 +83,8 @@ impl<S: Drop, A: Allocator> CompactTupleSketch<S, A> {
         self.state.retained_entries().len()
     }
 
-    /// The fraction whose quotient estimates how many distinct keys were seen: the retained entries times `MAX_THETA`, over
-    /// theta, not reduced; 0 over 1 for an empty sketch.
+    /// The fraction whose quotient estimates how many distinct keys were seen, not reduced: the retained entries times
+    /// `MAX_THETA`, below 2^95, over theta, from 1 to `MAX_THETA`; 0 over 1 for an empty sketch.
     pub fn estimate_fraction(&self) -> (u128, u128)
         ensures { result ≡ compact_fraction self.now }
     {
@@ -126,7 +127,8 @@ impl<S: Drop, A: Allocator> CompactTupleSketch<S, A> {
 }
 
 impl<S: Clone, A: Allocator + Clone> CompactTupleSketch<S, A> {
-    /// The same sketch again, in memory of a clone of its allocator. Refused with `OutOfMemory` alone.
+    /// The same sketch again, in memory of a clone of its allocator. Refused with `OutOfMemory` alone. A caller knows that
+    /// clones of summaries equal their originals.
     pub fn clone(&self) -> Result<Self, Error>
         requires clones_equal { ClonesEqual S.is_clone }
         ensures ok { IfOk result (λ s. s ≡ self.now) }

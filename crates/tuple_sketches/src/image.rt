@@ -101,11 +101,12 @@ impl<S: TupleSummaryValue<A> + Drop, A: Allocator + Clone + Drop> CompactTupleSk
 
     /// The sketch that a beginning of the bytes spells, under this seed. Bytes after the image are ignored.
     ///
-    /// Refused with `InvalidData` exactly where the seed hash is 0 or the bytes spell no sketch: they end too early, are of
-    /// another family, version or sketch type, tell another seed hash, tell hashes that repeat, do not ascend where they are
-    /// said to, or are not from 1 to below theta, or go on behind a hash with what spells no summary. An empty sketch's seed
-    /// hash is not asked. Refused with `OutOfMemory` where memory is: it asks for no more entries than the bytes could fill
-    /// with their hashes, for eight bytes an entry to compare hashes that do not ascend, and for what a summary asks for.
+    /// Refused with `InvalidData` only where the seed hash is 0 or the bytes spell no sketch: they end too early, are of
+    /// another family, version or sketch type, have not 1 to 3 preamble longs, tell another seed hash, a theta that isn't from
+    /// 1 to `MAX_THETA`, or hashes that repeat, do not ascend where they are said to, or are not from 1 to below theta, or go
+    /// on behind a hash with what spells no summary. An empty sketch's seed hash is not asked. Refused with `OutOfMemory`
+    /// where memory is, also for such bytes: it asks for no more entries than the bytes could fill with their hashes, for
+    /// eight bytes an entry to compare hashes that do not ascend, and for what a summary asks for.
     pub fn deserialize_with_seed(alloc: A, bytes: &[u8], seed: u64) -> Result<Self, Error>
         ensures ok { IfOk result (λ s. Reads S.spells bytes.now (seed_hash seed) s) }
         ensures refused { IfErr result (λ e. IsRefused e (IsReadable S.spells bytes.now (seed_hash seed))) }

@@ -22,6 +22,7 @@ use theta_core::{IntersectionState, SummaryCombinePolicy, SummaryPolicy, TupleEn
 /// It has no value before its first sketch. Its value has the keys that all its sketches share, below their least theta, and
 /// the summaries of a key are combined by its policy, in the order of the sketches. It is empty once a sketch is, or once
 /// sketches with keys and at the greatest theta share none. A refused update leaves it as it was.
+/// The crate's comment has an example.
 #[derive(Drop)]
 pub struct TupleIntersection<P: SummaryPolicy, A: Allocator = Global> {
     state: IntersectionState<TupleEntry<P::Summary>, P, A>,
@@ -58,7 +59,8 @@ impl<P: SummaryPolicy, A: Allocator> TupleIntersection<P, A> {
         self.state.has_result()
     }
 
-    /// How many bytes the entries that it holds take, without what their summaries hold elsewhere.
+    /// How many bytes the slots of its table take, free ones too, without what summaries hold elsewhere. There are none
+    /// before its first sketch.
     pub fn estimated_size(&self) -> usize {
         self.state.estimated_size()
     }
@@ -71,7 +73,8 @@ impl<P: SummaryCombinePolicy + Drop, A: Allocator + Clone> TupleIntersection<P, 
     /// with the one that comes in. Where that leaves none, of some on either side and at the greatest theta, it is empty.
     ///
     /// Refused with `InvalidArgument` for a sketch of another seed, with `OutOfMemory`, and with `Policy` where the policy
-    /// refuses the summaries of a shared key below the lesser theta; then nothing has changed.
+    /// refuses the summaries of a shared key below the lesser theta; then nothing has changed. A caller knows that clones of
+    /// summaries equal their originals.
     pub fn update<B: Allocator>(
         &mut self,
         sketch: TupleSketchView<'_, P::Summary, B>,
@@ -90,7 +93,8 @@ impl<P: SummaryCombinePolicy + Drop, A: Allocator + Clone> TupleIntersection<P, 
     }
 
     /// Its value, or `None` before its first sketch. Ordered where that is asked, or it is empty or has one entry at the
-    /// greatest theta. The intersection stays as it is. Refused with `OutOfMemory` alone, and only where there is a value.
+    /// greatest theta. The intersection stays as it is. Refused with `OutOfMemory` alone, and only where there is a value. A
+    /// caller knows that clones of summaries equal their originals.
     pub fn to_sketch(
         &self,
         ordered: bool,

@@ -46,7 +46,7 @@
 //! To bytes and back, for summaries that spell themselves (`TupleSummaryValue`):
 //!
 //! ```
-//! let image = on_both_days.serialize()?;
+//! let image = together.serialize()?;
 //! let read = CompactTupleSketch::<u64>::deserialize(alloc, &image)?;
 //! ```
 #![tactic(auto)]

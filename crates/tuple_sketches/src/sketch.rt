@@ -27,7 +27,7 @@ use theta_core::{MAX_THETA, SummaryPolicy, SummaryUpdatePolicy, TupleEntry, Upda
 use theta_family::{Decimal, MAX_PLACES, Settings, UpdatableState};
 
 /// A tuple sketch that takes updates: beside each hash it keeps a summary of the values that came with it, as its policy
-/// makes and updates them. Its value is Empty until the first update is accepted.
+/// makes and updates them. Its value is Empty until the first update is accepted. The crate's comment has an example.
 #[derive(Drop)]
 pub struct TupleSketch<P: SummaryPolicy, A: Allocator = Global> {
     state: UpdatableState<TupleEntry<P::Summary>, A>,
@@ -87,8 +87,8 @@ impl<P: SummaryPolicy, A: Allocator> TupleSketch<P, A> {
         self.state.num_retained()
     }
 
-    /// The fraction whose quotient estimates how many distinct keys were seen: the retained entries times `MAX_THETA`, over
-    /// theta, not reduced; 0 over 1 for an empty sketch.
+    /// The fraction whose quotient estimates how many distinct keys were seen, not reduced: the retained entries times
+    /// `MAX_THETA`, below 2^95, over theta, from 1 to `MAX_THETA`; 0 over 1 for an empty sketch.
     pub fn estimate_fraction(&self) -> (u128, u128)
         ensures { result ≡ fraction_of (sketch_value self.now.state) }
     {
@@ -125,7 +125,8 @@ impl<P: SummaryPolicy, A: Allocator> TupleSketch<P, A> {
         self.state.entries()
     }
 
-    /// How many bytes its retained entries take, without what their summaries hold elsewhere.
+    /// How many bytes the slots of its table take, free ones too, without what summaries hold elsewhere. There are 32 to
+    /// 2^(`lg_k` + 1) slots.
     pub fn estimated_size(&self) -> usize {
         self.state.estimated_size()
     }
@@ -182,7 +183,8 @@ impl<P: SummaryPolicy, A: Allocator + Clone> TupleSketch<P, A> {
         self.state.upsert(hash, step)
     }
 
-    /// Where more than k entries are retained, lowers theta to the (k+1)th smallest hash and keeps the k below it.
+    /// Where more than k entries are retained, k being its 2^`lg_k` nominal entries, lowers theta to the (k+1)th smallest
+    /// hash and keeps the k below it.
     ///
     /// Refused with `OutOfMemory` alone, and only where more than k are retained; then nothing has changed.
     pub fn trim(&mut self) -> Result<(), Error>
@@ -196,7 +198,8 @@ impl<P: SummaryPolicy, A: Allocator + Clone> TupleSketch<P, A> {
     }
 
     /// Its compact form, of the same value, untrimmed. It is ordered where that is asked, or it is empty or has one entry at
-    /// the greatest theta. The sketch stays as it is. Refused with `OutOfMemory` alone.
+    /// the greatest theta. The sketch stays as it is. Refused with `OutOfMemory` alone. A caller knows that clones of
+    /// summaries equal their originals.
     pub fn compact(&self, ordered: bool) -> Result<CompactTupleSketch<P::Summary, A>, Error>
     where
         P::Summary: Clone,

@@ -24,9 +24,10 @@ use theta_family::Settings;
 
 /// A union of tuple sketches that are handed over one by one.
 ///
-/// Its value has the joined entries below the least theta of its inputs and its own start; where these are more than k, the
-/// k of least hash, below the (k+1)th. The summaries of a key that inputs share are combined by its policy, in the order of
-/// the inputs. Where memory or the policy refuses an update the union has failed, until it is reset.
+/// Its value has the joined entries below the least theta of its inputs and its own start; where these are more than k, its
+/// 2^`lg_k` nominal entries, the k of least hash, below the (k+1)th. The summaries of a key that inputs share are combined by
+/// its policy, in the order of the inputs. Where memory or the policy refuses an update the union has failed, until it is
+/// reset. The crate's comment has an example.
 #[derive(Drop)]
 pub struct TupleUnion<P: SummaryPolicy, A: Allocator = Global> {
     state: UnionState<TupleEntry<P::Summary>, P, A>,
@@ -61,7 +62,8 @@ impl<P: SummaryCombinePolicy + Drop, A: Allocator + Clone> TupleUnion<P, A> {
     ///
     /// Refused with `Failed` where the union has failed, whatever the input, and with `InvalidArgument` for a sketch of
     /// another seed; then nothing has changed. Refused with `OutOfMemory`, or with `Policy` where the policy refuses the
-    /// summaries of a key below every theta so far; then the union has failed.
+    /// summaries of a key below every theta so far; then the union has failed. A caller knows that clones of summaries equal
+    /// their originals.
     pub fn update<B: Allocator>(
         &mut self,
         sketch: TupleSketchView<'_, P::Summary, B>,
@@ -82,7 +84,8 @@ impl<P: SummaryCombinePolicy + Drop, A: Allocator + Clone> TupleUnion<P, A> {
     }
 
     /// Its value, ordered where that is asked, or it is empty or has one entry at the greatest theta. The union stays as it
-    /// is. Refused with `Failed` where the union has failed, and with `OutOfMemory`.
+    /// is. Refused with `Failed` where the union has failed, and with `OutOfMemory`. A caller knows that clones of summaries
+    /// equal their originals.
     pub fn to_sketch(&self, ordered: bool) -> Result<CompactTupleSketch<P::Summary, A>, Error>
     where
         P::Summary: Clone,
@@ -94,7 +97,8 @@ impl<P: SummaryCombinePolicy + Drop, A: Allocator + Clone> TupleUnion<P, A> {
         Ok(CompactTupleSketch::of_state(state))
     }
 
-    /// How many bytes the entries that it holds take, without what their summaries hold elsewhere.
+    /// How many bytes the slots of its table take, free ones too, without what summaries hold elsewhere. There are 32 to
+    /// 2^(`lg_k` + 1) slots.
     pub fn estimated_size(&self) -> usize
     where
         P::Summary: Clone,

@@ -13,7 +13,7 @@ use theta_core::{ResizeFactor, SummaryPolicy};
 use theta_family::Settings;
 
 /// Builds a tuple union, whose policy combines the summaries of a key that its inputs share. Nothing is checked before
-/// `build`.
+/// `build`. The crate's comment has an example.
 #[derive(Debug, Drop)]
 pub struct TupleUnionBuilder<P> {
     settings: Settings,
@@ -37,7 +37,7 @@ impl<P> TupleUnionBuilder<P> {
         self
     }
 
-    /// With this resize factor, which changes no answer.
+    /// With this resize factor, by which its slots grow. Of all answers only `estimated_size` depends on it.
     pub fn resize_factor(mut self, resize_factor: ResizeFactor) -> Self
         ensures { result ≡ record self { settings = record self.settings { resize_factor = resize_factor } } }
     {

@@ -13,6 +13,7 @@ use theta_core::{EntryIter, SummaryPolicy, TupleEntry};
 use theta_family::SketchView;
 
 /// A view of a mutable or a compact tuple sketch, whatever its summaries. A mutable one is seen as not ordered.
+/// The crate's comment has an example.
 pub type TupleSketchView<'a, S, A = Global> = SketchView<'a, TupleEntry<S>, A>;
 
 /// The entries of a tuple sketch, lent one by one, each once: a mutable sketch's in an open order, a compact one's in its
