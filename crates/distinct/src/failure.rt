@@ -65,6 +65,23 @@ pub fn out_of_memory(error: Error) -> Failure
     Failure::Memory
 }
 
+/// A word of the arguments as messages tell it: on one line, each control character escaped.
+#[derive(Drop)]
+struct Told<'a>(&'a str);
+
+impl fmt::Display for Told<'_> {
+    fn fmt<W: fmt::Write>(&self, f: &mut fmt::Formatter<W>) -> fmt::Result {
+        'each_char: for c in self.0.chars() {
+            if c.is_control() {
+                write!(f, "{}", c.escape_default())?;
+            } else {
+                write!(f, "{c}")?;
+            }
+        }
+        Ok(())
+    }
+}
+
 impl fmt::Display for Failure {
     fn fmt<W: fmt::Write>(&self, f: &mut fmt::Formatter<W>) -> fmt::Result {
         match self {
@@ -75,26 +92,33 @@ impl fmt::Display for Failure {
             ),
             Failure::UnknownCommand(word) => write!(
                 f,
-                "{word}: not one of count, sketch, union, meet, minus and show (try --help)"
+                "{}: not one of count, sketch, union, meet, minus and show (try --help)",
+                Told(word)
             ),
-            Failure::UnknownOption(option) => write!(f, "{option}: no such option (try --help)"),
-            Failure::NoValue(option) => write!(f, "{option}: a value has to follow"),
+            Failure::UnknownOption(option) => write!(
+                f,
+                "{}: no such option (try --help)",
+                Told(option)
+            ),
+            Failure::NoValue(option) => write!(f, "{}: a value has to follow", Told(option)),
             Failure::WrongSize => write!(f, "--lg-k takes a number from 5 to 26"),
             Failure::WrongField => write!(f, "--field takes a number from 1 on"),
             Failure::WrongSeparator => write!(f, "--separator takes one byte"),
             Failure::NoFiles => write!(f, "which images? (try --help)"),
             Failure::NotTwo => write!(f, "minus takes two images (try --help)"),
             Failure::Memory => write!(f, "out of memory"),
-            Failure::Unreadable(name, error) => write!(f, "{name}: {error}"),
+            Failure::Unreadable(name, error) => write!(f, "{}: {error}", Told(name)),
             Failure::NoSketch(name, 0) => write!(
                 f,
-                "{name}: not the image of one theta sketch, or cut short, or of another seed"
+                "{}: not the image of one theta sketch, or cut short, or of another seed",
+                Told(name)
             ),
             Failure::NoSketch(name, line) => write!(
                 f,
-                "{name}: line {line} is not the image of one theta sketch, or cut short, or of another seed"
+                "{}: line {line} is not the image of one theta sketch, or cut short, or of another seed",
+                Told(name)
             ),
-            Failure::NotWritten(name, error) => write!(f, "{name}: {error}"),
+            Failure::NotWritten(name, error) => write!(f, "{}: {error}", Told(name)),
         }
     }
 }

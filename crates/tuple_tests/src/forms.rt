@@ -54,14 +54,27 @@ fn keys_are_hashed(rt: HostRuntime) -> Result<(), Fail> {
     Ok(())
 }
 
-/// A compact sketch's emptiness, theta and sums, and its order.
-fn told(
-    alloc: Global,
-    sketch: &CompactTupleSketch<u64>,
-) -> Result<((bool, u64, Vec<(u64, u64)>), bool), Error> {
-    let pairs = ascending(alloc, sketch.iter())?;
-    let value = (sketch.is_empty(), sketch.theta64(), pairs);
-    Ok((value, sketch.is_ordered()))
+/// A compact form of sums.
+fn compact_of(alloc: Global, last: u64, ordered: bool) -> Result<CompactTupleSketch<u64>, Error> {
+    sums_of(alloc, last)?.compact(ordered)
+}
+
+/// A compact sketch's emptiness, theta and order.
+fn state_of(sketch: &CompactTupleSketch<u64>) -> (bool, u64, bool) {
+    (sketch.is_empty(), sketch.theta64(), sketch.is_ordered())
+}
+
+/// What a compact form and its copy tell.
+fn told_twice(alloc: Global, last: u64, ordered: bool) -> Result<[(bool, u64, bool); 2], Error> {
+    let compact = compact_of(alloc, last, ordered)?;
+    let copy = compact.clone()?;
+    Ok([state_of(&compact), state_of(&copy)])
+}
+
+/// The entries of a copy of a compact form.
+fn copied(alloc: Global, last: u64, ordered: bool) -> Result<Vec<(u64, u64)>, Error> {
+    let copy = compact_of(alloc, last, ordered)?.clone()?;
+    Ok(ascending(alloc, copy.iter())?)
 }
 
 #[test]
@@ -75,12 +88,14 @@ fn compact_forms(rt: HostRuntime) -> Result<(), Fail> {
         (61, true, true, 33),
     ];
     for (last, asked, ordered, theta) in rows {
-        let compact = sums_of(rt.alloc(), last)?.compact(asked)?;
-        let kept = tenfold(rt.alloc(), last.min(theta - 1))?;
-        let wanted = ((last == 0, theta, kept), ordered);
-        assert_eq!(rt; told(rt.alloc(), &compact)?, wanted, "at {last}");
-        let copy = compact.clone()?;
-        assert_eq!(rt; told(rt.alloc(), &copy)?, wanted, "at {last}");
+        let told = told_twice(rt.alloc(), last, asked)?;
+        assert_eq!(rt; told, [(last == 0, theta, ordered); 2], "at {last}");
+        let kept = copied(rt.alloc(), last, asked)?;
+        assert_eq!(rt;
+            kept,
+            tenfold(rt.alloc(), last.min(theta - 1))?,
+            "at {last}"
+        );
     }
     Ok(())
 }
@@ -115,20 +130,32 @@ fn counted_twice<S: Drop>(view: TupleSketchView<'_, S>) -> [usize; 2] {
     [view.num_retained(), copy.num_retained()]
 }
 
+/// What a sketch lends.
+fn lent_by_sketch(alloc: Global, last: u64) -> Result<Vec<(u64, u64)>, Error> {
+    let sketch = sums_of(alloc, last)?;
+    Ok(ascending(alloc, sketch.as_view().iter())?)
+}
+
+/// What a compact form lends.
+fn lent_by_compact(alloc: Global, last: u64) -> Result<Vec<(u64, u64)>, Error> {
+    let compact = compact_of(alloc, last, false)?;
+    Ok(ascending(alloc, compact.as_view().iter())?)
+}
+
+/// How many entries a view of a compact form and its copy tell, and its iterator before the first.
+fn counted(alloc: Global, last: u64) -> Result<([usize; 2], (usize, Option<usize>)), Error> {
+    let compact = compact_of(alloc, last, false)?;
+    Ok((counted_twice(compact.as_view()), compact.iter().size_hint()))
+}
+
 #[test]
 fn entries_are_lent(rt: HostRuntime) -> Result<(), Fail> {
-    for last in [0, 1, 40] {
-        let sketch = sums_of(rt.alloc(), last)?;
+    for (last, count) in [(0, 0), (1, 1), (40, 40)] {
         let wanted = tenfold(rt.alloc(), last)?;
-        let lent = ascending(rt.alloc(), sketch.as_view().iter())?;
-        assert_eq!(rt; lent, wanted, "at {last}");
-        let compact = sketch.compact(false)?;
-        let view = compact.as_view();
-        let lent = ascending(rt.alloc(), view.iter())?;
-        assert_eq!(rt; lent, wanted, "at {last}");
-        assert_eq!(rt; counted_twice(view), [lent.len(); 2], "at {last}");
-        let hint = compact.iter().size_hint();
-        assert_eq!(rt; hint, (lent.len(), Some(lent.len())), "at {last}");
+        assert_eq!(rt; lent_by_sketch(rt.alloc(), last)?, wanted, "at {last}");
+        assert_eq!(rt; lent_by_compact(rt.alloc(), last)?, wanted, "at {last}");
+        let told = counted(rt.alloc(), last)?;
+        assert_eq!(rt; told, ([count; 2], (count, Some(count))), "at {last}");
     }
     Ok(())
 }
