@@ -65,11 +65,11 @@ pub fn out_of_memory(error: Error) -> Failure
     Failure::Memory
 }
 
-/// A word of the arguments as messages tell it: on one line, each control character escaped.
+/// A word of the arguments as messages tell it: each control character is escaped, so that it stands on one line.
 #[derive(Drop)]
-struct Told<'a>(&'a str);
+struct Escaped<'a>(&'a str);
 
-impl fmt::Display for Told<'_> {
+impl fmt::Display for Escaped<'_> {
     fn fmt<W: fmt::Write>(&self, f: &mut fmt::Formatter<W>) -> fmt::Result {
         'each_char: for c in self.0.chars() {
             if c.is_control() {
@@ -93,32 +93,32 @@ impl fmt::Display for Failure {
             Failure::UnknownCommand(word) => write!(
                 f,
                 "{}: not one of count, sketch, union, meet, minus and show (try --help)",
-                Told(word)
+                Escaped(word)
             ),
             Failure::UnknownOption(option) => write!(
                 f,
                 "{}: no such option (try --help)",
-                Told(option)
+                Escaped(option)
             ),
-            Failure::NoValue(option) => write!(f, "{}: a value has to follow", Told(option)),
+            Failure::NoValue(option) => write!(f, "{}: a value has to follow", Escaped(option)),
             Failure::WrongSize => write!(f, "--lg-k takes a number from 5 to 26"),
             Failure::WrongField => write!(f, "--field takes a number from 1 on"),
             Failure::WrongSeparator => write!(f, "--separator takes one byte"),
             Failure::NoFiles => write!(f, "which images? (try --help)"),
             Failure::NotTwo => write!(f, "minus takes two images (try --help)"),
             Failure::Memory => write!(f, "out of memory"),
-            Failure::Unreadable(name, error) => write!(f, "{}: {error}", Told(name)),
+            Failure::Unreadable(name, error) => write!(f, "{}: {error}", Escaped(name)),
             Failure::NoSketch(name, 0) => write!(
                 f,
                 "{}: not the image of one theta sketch, or cut short, or of another seed",
-                Told(name)
+                Escaped(name)
             ),
             Failure::NoSketch(name, line) => write!(
                 f,
                 "{}: line {line} is not the image of one theta sketch, or cut short, or of another seed",
-                Told(name)
+                Escaped(name)
             ),
-            Failure::NotWritten(name, error) => write!(f, "{}: {error}", Told(name)),
+            Failure::NotWritten(name, error) => write!(f, "{}: {error}", Escaped(name)),
         }
     }
 }
