@@ -1,13 +1,12 @@
 -- Hashes of a window, and ranks among them.
-use Rattle.std.proofs.Common.{◌≡◌, ℕ, suc, ◌+◌, ◌-◌, ◌<◌, ◌≤◌, true, false, not, cond, eqb, ltb, ◌&&◌, IsSome, List, [], ◌∷◌, ◌++◌, length, map, Option, Some, None, inl, inr, refl, ap, ◌∙◌, arith}
-use Rattle.std.specs.List.{AllByRecursion}
+use Rattle.std.proofs.Common.{◌≡◌, ℕ, suc, ◌+◌, ◌-◌, ◌<◌, ◌≤◌, true, false, not, cond, eqb, ltb, ◌&&◌, IsSome, List, [], ◌∷◌, ◌++◌, length, map, Option, Some, None, inl, inr, refl, ap, arith}
 use Rattle.std.specs.Option.{option_map}
 use Rattle.std.proofs.lemmas.Bool.{cases_lt}
 use Rattle.std.proofs.lemmas.Bool.Decides.{nat_tests}
 use Rattle.std.proofs.lemmas.List.Sums.{count_by-le-length}
 use Rattle.theta_laws.specs.Entries.{hash_key}
 use Rattle.theta_laws.specs.Maps.{IsApart, rank, entry_at}
-use Rattle.theta_slots.specs.Layout.{filled}
+use Rattle.theta_slots.specs.Layout.{filled, holds_within}
 use Rattle.theta_slots.specs.Rank.{HasRank, within}
 use Rattle.theta_slots.proofs.Moves.{count-append, count-cons}
 
@@ -23,10 +22,6 @@ rank-append xs ys h = count-append (λ x. ltb x h) xs ys
 
 pub rank_most : (xs : List ℕ) (h : ℕ) → rank hash_key xs h ≤ length xs
 rank_most xs h = count_by-le-length (λ x. ltb x h) xs
-
-pub words-append : (n : ℕ) (xs ys : List ℕ) → AllByRecursion (λ h. h < n) xs → AllByRecursion (λ h. h < n) ys → AllByRecursion (λ h. h < n) (xs ++ ys)
-words-append n [] ys all more = more
-words-append n (x ∷ xs) ys all more = (all.0, words-append n xs ys all.1 more)
 
 module _ (low high : ℕ) where
   pub within-append : (xs ys : List ℕ) → within low high (xs ++ ys) ≡ within low high xs ++ within low high ys
@@ -128,21 +123,17 @@ module _ (low high : ℕ) where
         ranked = omega (arith, rank_parts xs h there.from there.to, is.counted, is.from, ranked.ranked);
       }
 
--- ---- the window of all
-pub rank_none : (xs : List ℕ) → rank hash_key xs 0 ≡ 0
-rank_none [] = refl
-rank_none (x ∷ xs) = let is : ltb x 0 ≡ false = grind (arith, nat_tests) in let none : rank hash_key (x ∷ []) 0 ≡ 0 = rw is refl in omega (arith, count-cons (λ y. ltb y 0) x xs, none, rank_none xs)
-
-pub within_all : (xs : List ℕ) (n : ℕ) → AllByRecursion (λ h. h < suc n) xs → within 0 n xs ≡ xs
-within_all [] n all = refl
-within_all (x ∷ xs) n all = first_kept 0 n x xs (omega arith) (omega (arith, all.0)) ∙ ap (λ ys. x ∷ ys) (within_all xs n all.1)
-
 -- what a slot holds that is from low to high
 module _ {X : Type 0} (key : X → ℕ) (low high : ℕ) where
-  pub held_kept : (o : Option X) → (length (within low high (map key (filled (o ∷ [])))) ≡ 0 → ⊥) → filled (option_map key o ∷ []) ≡ within low high (map key (filled (o ∷ [])))
-  held_kept None some = refl
-  held_kept (Some x) some = elim (not (ltb (key x) low) && not (ltb high (key x))) as (λ b. (length (cond b (key x ∷ []) []) ≡ 0 → ⊥) → key x ∷ [] ≡ cond b (key x ∷ []) []) [ true ↦ λ n. refl | false ↦ λ n. absurd (n refl) ] some
+  pub held_kept : (o : Option X) → holds_within key low high o ≡ true → filled (option_map key o ∷ []) ≡ within low high (map key (filled (o ∷ [])))
+  held_kept None is = refl
+  held_kept (Some x) is = rw is refl
 
-pub none_kept : {Y : Type 0} (ys : List Y) → length ys ≡ 0 → [] ≡ ys
-none_kept [] none = refl
-none_kept (y ∷ ys) none = absurd (omega (arith, none))
+  pub none_kept : (o : Option X) → holds_within key low high o ≡ false → [] ≡ within low high (map key (filled (o ∷ [])))
+  none_kept None is = refl
+  none_kept (Some x) is = rw is refl
+
+-- the hash of what a slot holds
+pub key_held : {X : Type 0} (key : X → ℕ) (o : Option X) → filled (option_map key o ∷ []) ≡ map key (filled (o ∷ []))
+key_held key None = refl
+key_held key (Some x) = refl

@@ -1,5 +1,5 @@
 -- Entries in slots.
-use Rattle.std.specs.Prelude.{ℕ, ◌<◌, ◌≡◌, ◌^◌, ◌==◌, not, Bool, false, true, Option, Some, None, List, [], ◌∷◌, length, get_or}
+use Rattle.std.specs.Prelude.{ℕ, ◌<◌, ◌≡◌, ◌^◌, ◌==◌, ◌&&◌, not, nat_lt, Bool, false, true, Option, Some, None, List, [], ◌∷◌, length, get_or}
 use Rattle.theta_slots.specs.Probe.{probe}
 
 -- what the slots hold, in their order
@@ -16,6 +16,16 @@ slot slots p = get_or slots p None
 abbrev pub is_other : {X : Type 0} → (X → ℕ) → ℕ → Option X → Bool
 is_other key h None = false
 is_other key h (Some x) = not (key x == h)
+
+-- whether an entry is there whose hash is less than h
+abbrev pub holds_below : {X : Type 0} → (X → ℕ) → (h : ℕ) → Option X → Bool
+holds_below key h None = false
+holds_below key h (Some x) = nat_lt (key x) h
+
+-- whether an entry is there whose hash is from low to high
+abbrev pub holds_within : {X : Type 0} → (X → ℕ) → (low high : ℕ) → Option X → Bool
+holds_within key low high None = false
+holds_within key low high (Some x) = not (nat_lt (key x) low) && not (nat_lt high (key x))
 
 -- other hashes are in the first n slots on the path of h
 unfoldable pub HasOthers : {X : Type 0} → (X → ℕ) → (lg : ℕ) → List (Option X) → (h n : ℕ) → Type 0

@@ -1,7 +1,7 @@
 //! The entries that slots hold.
-ghost use Rattle.std.specs.Prelude.{◌≡◌, ◌<◌, [], length, map, Option, Some, None, IfOk};
+ghost use Rattle.std.specs.Prelude.{◌≡◌, ◌<◌, ◌≤◌, [], length, map, Option, Some, None, IfOk};
 ghost use Rattle.std.specs.Option.{option_copied};
-ghost use Rattle.theta_slots.specs.Layout.{filled};
+ghost use Rattle.theta_slots.specs.Layout.{filled, holds_below, holds_within};
 
 use std::alloc::{AllocError, Allocator};
 use theta_laws::SketchEntry;
@@ -34,6 +34,15 @@ pub trait SlotEntry: SketchEntry {
     /// The entry that a slot held, if it held one.
     fn from_slot(slot: Self::Slot) -> Option<Self>
         ensures { result ≡ held slot };
+
+    /// Whether a slot holds an entry whose hash is less than `hash`. A slot of one word tells it by one comparison.
+    fn is_below(slot: &Self::Slot, hash: u64) -> bool
+        ensures { result ≡ holds_below Self.key hash (held slot.now) };
+
+    /// Whether a slot holds an entry whose hash is from `low` to `high`. A slot of one word tells it by one comparison.
+    fn is_within(slot: &Self::Slot, low: u64, high: u64) -> bool
+        requires { low ≤ high }
+        ensures { result ≡ holds_within Self.key low high (held slot.now) };
 
     /// The entry that a slot holds, if it holds one.
     fn in_slot(slot: &Self::Slot) -> Option<&Self>

@@ -8,7 +8,7 @@ ghost use Rattle.theta_slots.specs.Layout.{filled, slot, IsOnPath, IsLaidOut};
 use crate::count::Count;
 use crate::entry::SlotEntry;
 use crate::rounds::settle;
-use crate::slots::{free_slots, held_less, spread};
+use crate::slots::{free_slots, number_below, spread};
 use std::alloc::{AllocError, Allocator};
 use std::mem;
 
@@ -24,7 +24,7 @@ fn take_below<E: SlotEntry>(slots: &mut [E::Slot], theta: u64, others: &mut [E::
     let mut count = 0;
     'take_each: for at in 0..slots.len() {
         let slot = mem::replace(&mut slots[at], E::free_slot());
-        let more = held_less::<E>(&slot, theta);
+        let more = number_below::<E>(&slot, theta);
         others[count] = slot;
         count += more;
     }

@@ -3,15 +3,14 @@
 //! Hashes are spread evenly below the theta of a table, so that arithmetic tells about where the one of a rank is. One pass
 //! gathers the hashes within a narrow window around that place, and counts those below it. Where the rank doesn't fall into
 //! the window a second pass gathers all; what is answered is the same.
-ghost use Rattle.std.specs.Prelude.{◌≡◌, ℕ, ◌+◌, ◌-◌, ◌<◌, ◌≤◌, ◌^◌, ◌&&◌, not, nat_lt, [], ◌∷◌, ◌++◌, length, map, IfOk, OnOk};
-ghost use Rattle.std.specs.List.{AllByRecursion};
+ghost use Rattle.std.specs.Prelude.{◌≡◌, ℕ, ◌+◌, ◌-◌, ◌<◌, ◌≤◌, ◌^◌, [], ◌∷◌, ◌++◌, length, map, IfOk, OnOk};
 ghost use Rattle.theta_laws.specs.Entries.{hash_key};
 ghost use Rattle.theta_laws.specs.Maps.{IsApart, rank};
 ghost use Rattle.theta_slots.specs.Layout.{filled};
 ghost use Rattle.theta_slots.specs.Rank.{HasRank, within};
 
 use crate::entry::SlotEntry;
-use crate::slots::{hash_in, held_less, number_less};
+use crate::slots::{hash_in, number_below};
 use std::alloc::{AllocError, Allocator};
 
 /// Half the width of a window: so many times theta by the square root of the number of hashes.
@@ -40,46 +39,19 @@ fn window_room(count: usize) -> usize
     twice.max(LEAST_ROOM).min(count)
 }
 
-/// Whether a hash is from `low` to `high`, by one comparison: few hashes are, but whether one is less than `low` is as good as
-/// random, and a branch on that would be slow.
-#[inline(always)]
-fn is_within(hash: u64, low: u64, high: u64) -> bool
-    requires { low ≤ high }
-    ensures { result ≡ (not (nat_lt hash low) && not (nat_lt high hash)) }
-{
-    hash.wrapping_sub(low) <= high - low
-}
-
-/// 1 for a hash from `low` to `high`, otherwise 0.
-#[inline(always)]
-fn number_within(hash: u64, low: u64, high: u64) -> usize
-    requires { low ≤ high }
-    ensures number { result ≡ length (within low high (hash ∷ [])) }
-    ensures small { result ≤ 1 }
-{
-    is_within(hash, low, high) as usize
-}
-
-/// 1 for a slot that holds a hash from `low` to `high`, otherwise 0.
-#[inline(always)]
-fn held_within<E: SlotEntry>(slot: &E::Slot, low: u64, high: u64) -> usize
-    requires { low ≤ high }
-    ensures number { result ≡ length (within low high (map E.key (filled (E.held slot.now ∷ [])))) }
-    ensures small { result ≤ 1 }
-{
-    match hash_in::<E>(slot) {
-        None => 0,
-        Some(hash) => number_within(hash, low, high),
-    }
-}
-
 /// A hash, where it is from `low` to `high`.
-#[inline(always)]
 fn kept_within(hash: u64, low: u64, high: u64) -> Option<u64>
-    requires { low ≤ high }
     ensures { filled (result ∷ []) ≡ within low high (hash ∷ []) }
 {
-    is_within(hash, low, high).then_some(hash)
+    (low <= hash && hash <= high).then_some(hash)
+}
+
+/// 1 for a hash that is less than `low`, otherwise 0.
+fn number_less(hash: u64, low: u64) -> usize
+    ensures number { result ≡ rank hash_key (hash ∷ []) low }
+    ensures small { result ≤ 1 }
+{
+    (hash < low) as usize
 }
 
 /// The hash that a slot holds, where it is from `low` to `high`. A free slot and a hash outside take the same branch.
@@ -88,8 +60,7 @@ fn held_kept<E: SlotEntry>(slot: &E::Slot, low: u64, high: u64) -> Option<u64>
     requires { low ≤ high }
     ensures { filled (result ∷ []) ≡ within low high (map E.key (filled (E.held slot.now ∷ []))) }
 {
-    let number = held_within::<E>(slot, low, high);
-    if number == 0 {
+    if !E::is_within(slot, low, high) {
         return None;
     }
     hash_in::<E>(slot)
@@ -109,7 +80,6 @@ fn gather_window<E: SlotEntry, A: Allocator>(
     requires fits { length (filled (also ∷ []) ++ map E.key (filled (map E.held slots.now))) < 2 ^ 64 }
     ensures gathered { OnOk result (hashes.new.items ≡ within low high (filled (also ∷ []) ++ map E.key (filled (map E.held slots.now)))) }
     ensures below { IfOk result (λ n. n ≡ rank hash_key (filled (also ∷ []) ++ map E.key (filled (map E.held slots.now))) low) }
-    ensures words { IfOk result (λ _. AllByRecursion (λ h. h < 2 ^ 64) (filled (also ∷ []) ++ map E.key (filled (map E.held slots.now)))) }
 {
     if let Some(hash) = also {
         if let Some(first) = kept_within(hash, low, high) {
@@ -118,7 +88,7 @@ fn gather_window<E: SlotEntry, A: Allocator>(
     }
     let mut less = 0usize;
     'gather_each: for slot in slots {
-        less += held_less::<E>(slot, low);
+        less += number_below::<E>(slot, low);
         if let Some(kept) = held_kept::<E>(slot, low, high) {
             hashes.push(kept)?;
         }
@@ -127,6 +97,26 @@ fn gather_window<E: SlotEntry, A: Allocator>(
         None => Ok(less),
         Some(hash) => Ok(less + number_less(hash, low)),
     }
+}
+
+/// Gathers `also`, if that is one, and all hashes in the slots.
+fn gather_all<E: SlotEntry, A: Allocator>(
+    hashes: &mut Vec<u64, A>,
+    also: Option<u64>,
+    slots: &[E::Slot],
+) -> Result<(), AllocError>
+    requires { hashes.old.items ≡ [] }
+    ensures { OnOk result (hashes.new.items ≡ filled (also ∷ []) ++ map E.key (filled (map E.held slots.now))) }
+{
+    if let Some(first) = also {
+        hashes.push(first)?;
+    }
+    'gather_each: for slot in slots {
+        if let Some(hash) = hash_in::<E>(slot) {
+            hashes.push(hash)?;
+        }
+    }
+    Ok(())
 }
 
 /// The hash with this many smaller ones among these.
@@ -164,6 +154,6 @@ pub fn hash_of_rank<E: SlotEntry, A: Allocator + Drop>(
         return Ok(nth_hash(&mut hashes, rank - below));
     }
     hashes.clear();
-    gather_window::<E, A>(&mut hashes, also, slots, 0, u64::MAX)?;
+    gather_all::<E, A>(&mut hashes, also, slots)?;
     Ok(nth_hash(&mut hashes, rank))
 }

@@ -106,28 +106,14 @@ pub(crate) fn hash_in<E: SlotEntry>(slot: &E::Slot) -> Option<u64>
     Some(entry.hash())
 }
 
-/// 1 for a hash that is less than `low`, otherwise 0.
-#[inline(always)]
-pub(crate) fn number_less(hash: u64, low: u64) -> usize
-    ensures number { result ≡ rank hash_key (hash ∷ []) low }
-    ensures small { result ≤ 1 }
-    ensures word { hash < 2 ^ 64 }
-{
-    (hash < low) as usize
-}
-
 /// 1 for a slot that holds a hash less than `low`, otherwise 0.
 #[inline(always)]
-pub(crate) fn held_less<E: SlotEntry>(slot: &E::Slot, low: u64) -> usize
+pub(crate) fn number_below<E: SlotEntry>(slot: &E::Slot, low: u64) -> usize
     ensures number { result ≡ rank hash_key (map E.key (filled (E.held slot.now ∷ []))) low }
     ensures below { result ≡ length (below E.key (filled (E.held slot.now ∷ [])) low) }
     ensures small { result ≤ 1 }
-    ensures words { AllByRecursion (λ h. h < 2 ^ 64) (map E.key (filled (E.held slot.now ∷ []))) }
 {
-    match hash_in::<E>(slot) {
-        None => 0,
-        Some(hash) => number_less(hash, low),
-    }
+    E::is_below(slot, low) as usize
 }
 
 /// Puts a slot's entry of this hash where a search for the hash ends.

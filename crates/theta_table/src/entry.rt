@@ -94,6 +94,18 @@ impl SlotEntry for ThetaEntry {
     }
 
     #[inline(always)]
+    fn is_below(slot: &ThetaEntry, hash: u64) -> bool {
+        // 0, of a free slot, wraps and is then less than nothing.
+        slot.hash.wrapping_sub(1) < hash.saturating_sub(1)
+    }
+
+    #[inline(always)]
+    fn is_within(slot: &ThetaEntry, low: u64, high: u64) -> bool {
+        let least = low.saturating_sub(1);
+        slot.hash.wrapping_sub(1).wrapping_sub(least) < high - least
+    }
+
+    #[inline(always)]
     fn in_slot(slot: &ThetaEntry) -> Option<&ThetaEntry> {
         if slot.hash == 0 { None } else { Some(slot) }
     }
@@ -188,6 +200,22 @@ impl<S: Drop> SlotEntry for TupleEntry<S> {
     #[inline(always)]
     fn from_slot(slot: Option<TupleEntry<S>>) -> Option<TupleEntry<S>> {
         slot
+    }
+
+    #[inline(always)]
+    fn is_below(slot: &Option<TupleEntry<S>>, hash: u64) -> bool {
+        match slot {
+            None => false,
+            Some(entry) => entry.hash < hash,
+        }
+    }
+
+    #[inline(always)]
+    fn is_within(slot: &Option<TupleEntry<S>>, low: u64, high: u64) -> bool {
+        match slot {
+            None => false,
+            Some(entry) => entry.hash.wrapping_sub(low) <= high - low,
+        }
     }
 
     #[inline(always)]

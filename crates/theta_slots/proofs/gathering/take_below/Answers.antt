@@ -17,13 +17,13 @@ take_each-preserved g c =
     let s = c.replace-slot.result in
     let d = c.index-slots-at.result in
     let free = c.replace-slot.new.dest in
-    let more = c.held_less-more.ensures in
+    let more = c.number_below-more.ensures in
     record {
       size = length-set slots at free ∙ was.size;
       long = length-set others count s ∙ was.long;
       few = omega (arith, was.few, more.small);
       left = drop-set slots at free ∙ drop_more_same slots first at was.left;
       free = freed held slots at free (omega (arith, was.size, c.take_each-test.true)) (ap held c.replace-slot.ensures.after ∙ c.free_slot.ensures) was.free;
-      taken = gathered-next key held first others at count c.args.theta c.held_less-more.result s d c.take_each-test.true (omega (arith, was.few, was.long, c.requires.room, c.take_each-test.true))
+      taken = gathered-next key held first others at count c.args.theta c.number_below-more.result s d c.take_each-test.true (omega (arith, was.few, was.long, c.requires.room, c.take_each-test.true))
           (c.replace-slot.ensures.value ∙ get_or-left slots first at d was.left) more.below was.taken;
     }

@@ -1,9 +1,9 @@
-use Rattle.std.proofs.Common.{◌≡◌, ℕ, ◌+◌, ◌^◌, ◌∷◌, ◌++◌, [], List, map, take, sym, ap, ◌∙◌, append_assoc, arith}
+use Rattle.std.proofs.Common.{◌≡◌, ℕ, ◌+◌, ◌∷◌, ◌++◌, [], List, map, take, sym, ap, ◌∙◌, append_assoc, arith}
 use Rattle.std.proofs.lemmas.List.{map-append, append-nil}
 use Rattle.theta_slots.specs.Layout.{filled}
 use Rattle.theta_slots.specs.Rank.{within}
 use Rattle.theta_slots.proofs.Held.{filled-next, no_some}
-use Rattle.theta_slots.proofs.Windows.{rank-append, within-append, words-append}
+use Rattle.theta_slots.proofs.Windows.{rank-append, within-append}
 use Rattle.theta_slots.proofs.selection.gather_window.Goals as goal
 use Rattle.theta_slots.proofs.selection.gather_window.Goals.{in-Some-held_kept+in_ok-push-2, in_default-held_kept}
 
@@ -36,7 +36,6 @@ gather_each-preserved g c =
             rw (w.hashes-is, is)
             (was.gathered ∙ sym (append-nil (within low high (first ++ seen))) ∙ ap (λ xs. within low high (first ++ seen) ++ xs) (sym kept) ∙ sym (within-append low high (first ++ seen) one) ∙ ap (within low high) (append_assoc first seen one))
       ];
-      counted = rw is (omega (arith, was.counted, c.held_less-less.ensures.number, rank-append seen one low));
-      words = rw is (words-append (2 ^ 64) seen one was.words c.held_less-less.ensures.words);
-      few = omega (arith, was.few, c.held_less-less.ensures.small);
+      counted = rw is (omega (arith, was.counted, c.number_below-less.ensures.number, rank-append seen one low));
+      few = omega (arith, was.few, c.number_below-less.ensures.small);
     }

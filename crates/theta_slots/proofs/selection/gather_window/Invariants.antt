@@ -1,5 +1,4 @@
-use Rattle.std.proofs.Common.{◌≡◌, ◌<◌, ◌≤◌, ◌^◌, ◌++◌, ◌∷◌, [], map, take}
-use Rattle.std.specs.List.{AllByRecursion}
+use Rattle.std.proofs.Common.{◌≡◌, ◌≤◌, ◌++◌, ◌∷◌, [], map, take}
 use Rattle.theta_laws.specs.Entries.{hash_key}
 use Rattle.theta_laws.specs.Maps.{rank}
 use Rattle.theta_slots.specs.Layout.{filled}
@@ -13,6 +12,5 @@ invariant-gather_each g l =
     record {
       gathered : l.hashes.items ≡ within l.low l.high (filled (l.fn.also ∷ []) ++ seen);
       counted : l.less ≡ rank hash_key seen l.low;
-      words : AllByRecursion (λ h. h < 2 ^ 64) seen;
       few : l.less ≤ l.slot-index;
     }

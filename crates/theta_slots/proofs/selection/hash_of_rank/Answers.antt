@@ -1,7 +1,7 @@
-use Rattle.std.proofs.Common.{ℕ, ◌≡◌, ◌-◌, ◌^◌, ◌∷◌, ◌++◌, [], List, length, map, sym, ap, ◌∙◌, arith}
+use Rattle.std.proofs.Common.{ℕ, ◌≡◌, ◌-◌, ◌∷◌, ◌++◌, [], List, length, map, sym, ap, arith}
 use Rattle.theta_slots.specs.Layout.{filled}
 use Rattle.theta_slots.specs.Rank.{HasRank, within}
-use Rattle.theta_slots.proofs.Windows.{IsWindow, apart_within, rank_in_window, within_all}
+use Rattle.theta_slots.proofs.Windows.{IsWindow, apart_within, rank_in_window}
 use Rattle.theta_slots.proofs.selection.hash_of_rank.Goals as goal
 
 pub nth_hash-requires-clause-apart : goal.nth_hash-requires-clause-apart
@@ -24,18 +24,10 @@ returns-then-rank-below g c =
     record { ranked = rank_in_window low high all c.in_ok-below.below c.args.rank c.nth_hash.result window told }
 
 pub nth_hash-requires-2-clause-apart : goal.nth_hash-requires-2-clause-apart
-nth_hash-requires-2-clause-apart g c =
-    let all : List ℕ = filled (c.args.also ∷ []) ++ map g.E.SketchEntry.key (filled (map g.E.SlotEntry.held c.args.slots.now)) in
-    rw c.in_ok-gather_window.ensures.gathered (apart_within 0 (2 ^ 64 - 1) all c.requires.apart)
+nth_hash-requires-2-clause-apart g c = rw c.in_ok-gather_all.ensures c.requires.apart
 
 pub nth_hash-requires-2-clause-inside : goal.nth_hash-requires-2-clause-inside
-nth_hash-requires-2-clause-inside g c =
-    let all : List ℕ = filled (c.args.also ∷ []) ++ map g.E.SketchEntry.key (filled (map g.E.SlotEntry.held c.args.slots.now)) in
-    let whole = ap length (c.in_ok-gather_window.ensures.gathered ∙ within_all all (2 ^ 64 - 1) c.in_ok-gather_window.ensures.words) in
-    omega (arith, whole, c.requires.counted, c.requires.inside)
+nth_hash-requires-2-clause-inside g c = omega (arith, ap length c.in_ok-gather_all.ensures, c.requires.counted, c.requires.inside)
 
 pub returns : goal.returns
-returns g c =
-    let all : List ℕ = filled (c.args.also ∷ []) ++ map g.E.SketchEntry.key (filled (map g.E.SlotEntry.held c.args.slots.now)) in
-    let whole : c.gather_window-2.new.hashes.items ≡ all = c.in_ok-gather_window.ensures.gathered ∙ within_all all (2 ^ 64 - 1) c.in_ok-gather_window.ensures.words in
-    record { ranked = rw whole at c.nth_hash-2.ensures.ranked }
+returns g c = record { ranked = rw c.in_ok-gather_all.ensures at c.nth_hash-2.ensures.ranked }
