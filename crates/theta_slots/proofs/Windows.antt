@@ -1,5 +1,6 @@
 -- Hashes of a window, and ranks among them.
 use Rattle.std.proofs.Common.{◌≡◌, ℕ, suc, ◌+◌, ◌-◌, ◌<◌, ◌≤◌, true, false, not, cond, eqb, ltb, ◌&&◌, IsSome, List, [], ◌∷◌, ◌++◌, length, map, Option, Some, None, inl, inr, refl, ap, arith}
+use Rattle.std.specs.Prelude.{unwrap_or}
 use Rattle.std.specs.Option.{option_map}
 use Rattle.std.proofs.lemmas.Bool.{cases_lt}
 use Rattle.std.proofs.lemmas.Bool.Decides.{nat_tests}
@@ -125,9 +126,9 @@ module _ (low high : ℕ) where
 
 -- what a slot holds that is from low to high
 module _ {X : Type 0} (key : X → ℕ) (low high : ℕ) where
-  pub held_kept : (o : Option X) → holds_within key low high o ≡ true → filled (option_map key o ∷ []) ≡ within low high (map key (filled (o ∷ [])))
-  held_kept None is = refl
-  held_kept (Some x) is = rw is refl
+  pub held_kept : (o : Option X) (h : ℕ) → holds_within key low high o ≡ true → h ≡ unwrap_or (option_map key o) 0 → h ∷ [] ≡ within low high (map key (filled (o ∷ [])))
+  held_kept None h is same = absurd (cc)
+  held_kept (Some x) h is same = rw (is, same) refl
 
   pub none_kept : (o : Option X) → holds_within key low high o ≡ false → [] ≡ within low high (map key (filled (o ∷ [])))
   none_kept None is = refl

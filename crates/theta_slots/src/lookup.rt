@@ -9,18 +9,10 @@ ghost use Rattle.theta_slots.specs.Layout.{filled};
 ghost use Rattle.theta_slots.specs.Lookup.{IsBlanked};
 
 use crate::entry::SlotEntry;
-use crate::slots::{hash_in, slot_after};
+use crate::slots::{hash_or_zero, slot_after};
 
 /// How many slots on the path of a hash are looked at: few hashes that are held stand further on.
 const ROUNDS: usize = 3;
-
-/// The hash of what a slot holds, and 0 for a free slot.
-#[inline(always)]
-fn hash_or_zero<E: SlotEntry>(slot: &E::Slot) -> u64
-    ensures { result ≡ unwrap_or (option_map E.key (E.held slot.now)) 0 }
-{
-    hash_in::<E>(slot).unwrap_or(0)
-}
 
 /// The hash, or 0 where it is the other.
 #[inline(always)]

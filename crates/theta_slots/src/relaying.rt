@@ -12,7 +12,7 @@ ghost use Rattle.theta_slots.specs.Relaying.{marked, IsFirstUnmarked};
 use crate::count::Count;
 use crate::entry::SlotEntry;
 use crate::gathering::put_gathered;
-use crate::slots::{hash_in, power_of_two, slot_of, stride_of};
+use crate::slots::{hash_or_zero, power_of_two, slot_of, stride_of};
 use std::alloc::{AllocError, Allocator};
 use std::mem;
 
@@ -56,8 +56,10 @@ fn hash_below<E: SlotEntry>(slot: &E::Slot, theta: u64) -> Option<u64>
     ensures below { (h : ℕ) → result ≡ Some h → (option_map E.key (E.held slot.now) ≡ Some h) × (h < theta) }
     ensures none { result ≡ None → (x : E) → E.held slot.now ≡ Some x → theta ≤ E.key x }
 {
-    let hash = hash_in::<E>(slot)?;
-    if hash < theta { Some(hash) } else { None }
+    if !E::is_below(slot, theta) {
+        return None;
+    }
+    Some(hash_or_zero::<E>(slot))
 }
 
 /// A mark for each of 2^`lg` slots, none of which is marked, in one request for memory.

@@ -10,7 +10,7 @@ ghost use Rattle.theta_slots.specs.Layout.{filled};
 ghost use Rattle.theta_slots.specs.Rank.{HasRank, within};
 
 use crate::entry::SlotEntry;
-use crate::slots::{hash_in, number_below};
+use crate::slots::{hash_in, hash_or_zero, number_below};
 use std::alloc::{AllocError, Allocator};
 
 /// Half the width of a window: so many times theta by the square root of the number of hashes.
@@ -63,7 +63,7 @@ fn held_kept<E: SlotEntry>(slot: &E::Slot, low: u64, high: u64) -> Option<u64>
     if !E::is_within(slot, low, high) {
         return None;
     }
-    hash_in::<E>(slot)
+    Some(hash_or_zero::<E>(slot))
 }
 
 /// Gathers the hashes from `low` to `high` in the slots and `also`, if that is one, and counts those that are less than `low`.

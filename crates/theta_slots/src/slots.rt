@@ -1,5 +1,5 @@
 //! Entries in slots.
-ghost use Rattle.std.specs.Prelude.{◌≡◌, ℕ, ◌+◌, ◌-◌, ◌<◌, ◌≤◌, ◌^◌, ◌%◌, ◌*◌, true, false, nat_lt, Some, None, is_none, IfOk, OnOk, OnErr, [], ◌∷◌, length, map, option_map};
+ghost use Rattle.std.specs.Prelude.{◌≡◌, ℕ, ◌+◌, ◌-◌, ◌<◌, ◌≤◌, ◌^◌, ◌%◌, ◌*◌, true, false, nat_lt, Some, None, is_none, IfOk, OnOk, OnErr, [], ◌∷◌, length, map, option_map, unwrap_or};
 ghost use Rattle.std.specs.List.{AllByRecursion, count_by};
 ghost use Rattle.std.specs.Option.{option_copied};
 ghost use Rattle.theta_laws.specs.Entries.{hash_key};
@@ -104,6 +104,14 @@ pub(crate) fn hash_in<E: SlotEntry>(slot: &E::Slot) -> Option<u64>
 {
     let entry = E::in_slot(slot)?;
     Some(entry.hash())
+}
+
+/// The hash of what a slot holds, and 0 for a free slot.
+#[inline(always)]
+pub(crate) fn hash_or_zero<E: SlotEntry>(slot: &E::Slot) -> u64
+    ensures { result ≡ unwrap_or (option_map E.key (E.held slot.now)) 0 }
+{
+    hash_in::<E>(slot).unwrap_or(0)
 }
 
 /// 1 for a slot that holds a hash less than `low`, otherwise 0.
