@@ -1,10 +1,9 @@
 -- Hashes of a window, and ranks among them.
-use Rattle.std.proofs.Common.{◌≡◌, ℕ, suc, ◌+◌, ◌-◌, ◌<◌, ◌≤◌, true, false, not, cond, eqb, ltb, ◌&&◌, IsSome, List, [], ◌∷◌, ◌++◌, length, map, Option, Some, None, inl, inr, refl, ap, arith}
+use Rattle.std.proofs.Common.{◌≡◌, ℕ, ◌+◌, ◌-◌, ◌<◌, ◌≤◌, true, false, not, cond, eqb, ltb, ◌&&◌, IsSome, List, [], ◌∷◌, ◌++◌, length, map, Option, Some, None, inl, inr, refl, ap, arith}
 use Rattle.std.specs.Prelude.{unwrap_or}
 use Rattle.std.specs.Option.{option_map}
 use Rattle.std.proofs.lemmas.Bool.{cases_lt}
 use Rattle.std.proofs.lemmas.Bool.Decides.{nat_tests}
-use Rattle.std.proofs.lemmas.List.Sums.{count_by-le-length}
 use Rattle.theta_laws.specs.Entries.{hash_key}
 use Rattle.theta_laws.specs.Maps.{IsApart, rank, entry_at}
 use Rattle.theta_slots.specs.Layout.{filled, holds_within}
@@ -21,21 +20,12 @@ pub record IsWindow (hashes : List ℕ) (low high before k : ℕ) : Type 0 where
 pub rank-append : (xs ys : List ℕ) (h : ℕ) → rank hash_key (xs ++ ys) h ≡ rank hash_key xs h + rank hash_key ys h
 rank-append xs ys h = count-append (λ x. ltb x h) xs ys
 
-pub rank_most : (xs : List ℕ) (h : ℕ) → rank hash_key xs h ≤ length xs
-rank_most xs h = count_by-le-length (λ x. ltb x h) xs
-
 module _ (low high : ℕ) where
   pub within-append : (xs ys : List ℕ) → within low high (xs ++ ys) ≡ within low high xs ++ within low high ys
   within-append [] ys = refl
   within-append (x ∷ xs) ys =
       let rest = within-append xs ys in
       elim (not (ltb x low) && not (ltb high x)) as (λ b. cond b (x ∷ within low high (xs ++ ys)) (within low high (xs ++ ys)) ≡ cond b (x ∷ within low high xs) (within low high xs) ++ within low high ys) [ true ↦ ap (λ zs. x ∷ zs) rest | false ↦ rest ]
-
-  pub within_most : (xs : List ℕ) → length (within low high xs) ≤ length xs
-  within_most [] = omega arith
-  within_most (x ∷ xs) =
-      let rest = within_most xs in
-      elim (not (ltb x low) && not (ltb high x)) as (λ b. length (cond b (x ∷ within low high xs) (within low high xs)) ≤ suc (length xs)) [ true ↦ omega (arith, rest) | false ↦ omega (arith, rest) ]
 
   -- ---- hashes that are apart
   absent_within : (xs : List ℕ) (h : ℕ) → entry_at hash_key xs h ≡ None → entry_at hash_key (within low high xs) h ≡ None

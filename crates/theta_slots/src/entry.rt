@@ -35,9 +35,9 @@ pub trait SlotEntry: SketchEntry {
     fn from_slot(slot: Self::Slot) -> Option<Self>
         ensures { result ≡ held slot };
 
-    /// Whether a slot holds an entry whose hash is less than `hash`. A slot of one word tells it by one comparison.
-    fn is_below(slot: &Self::Slot, hash: u64) -> bool
-        ensures { result ≡ holds_below Self.key hash (held slot.now) };
+    /// Whether a slot holds an entry whose hash is less than `bound`. A slot of one word tells it by one comparison.
+    fn is_below(slot: &Self::Slot, bound: u64) -> bool
+        ensures { result ≡ holds_below Self.key bound (held slot.now) };
 
     /// Whether a slot holds an entry whose hash is from `low` to `high`. A slot of one word tells it by one comparison.
     fn is_within(slot: &Self::Slot, low: u64, high: u64) -> bool

@@ -2,7 +2,7 @@
 //!
 //! Which hash a slot holds is as good as random, and where slots are many each look waits for memory. So a round looks at one
 //! slot of each hash, without a branch on what it finds, and only then those that were found are left out.
-ghost use Rattle.std.specs.Prelude.{◌≡◌, ◌==◌, ◌<◌, ◌≤◌, ◌^◌, if◌then◌else◌, false, not, option_map, unwrap_or, length, map, filter, take, slice_index, EachIndex};
+ghost use Rattle.std.specs.Prelude.{◌≡◌, ◌==◌, ◌<◌, ◌≤◌, ◌^◌, if◌then◌else◌, false, not, length, map, filter, take, slice_index, EachIndex};
 ghost use Rattle.std.specs.List.{AllByRecursion};
 ghost use Rattle.theta_laws.specs.Insertion.{IsRedundant, LeavesOut, is_screened};
 ghost use Rattle.theta_slots.specs.Layout.{filled};

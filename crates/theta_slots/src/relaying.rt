@@ -59,6 +59,7 @@ fn hash_below<E: SlotEntry>(slot: &E::Slot, theta: u64) -> Option<u64>
     if !E::is_below(slot, theta) {
         return None;
     }
+    // It isn't free, so that isn't asked again.
     Some(hash_or_zero::<E>(slot))
 }
 

@@ -3,7 +3,7 @@
 //! Hashes are spread evenly below the theta of a table, so that arithmetic tells about where the one of a rank is. One pass
 //! gathers the hashes within a narrow window around that place, and counts those below it. Where the rank doesn't fall into
 //! the window a second pass gathers all; what is answered is the same.
-ghost use Rattle.std.specs.Prelude.{◌≡◌, ℕ, ◌+◌, ◌-◌, ◌<◌, ◌≤◌, ◌^◌, [], ◌∷◌, ◌++◌, length, map, IfOk, OnOk};
+ghost use Rattle.std.specs.Prelude.{◌≡◌, ◌+◌, ◌-◌, ◌<◌, ◌≤◌, ◌^◌, [], ◌∷◌, ◌++◌, length, map, IfOk, OnOk};
 ghost use Rattle.theta_laws.specs.Entries.{hash_key};
 ghost use Rattle.theta_laws.specs.Maps.{IsApart, rank};
 ghost use Rattle.theta_slots.specs.Layout.{filled};
@@ -54,7 +54,8 @@ fn number_less(hash: u64, low: u64) -> usize
     (hash < low) as usize
 }
 
-/// The hash that a slot holds, where it is from `low` to `high`. A free slot and a hash outside take the same branch.
+/// The hash that a slot holds, where it is from `low` to `high`. Of slots of one word, a free one and one with a hash outside take
+/// the same branch.
 #[inline(always)]
 fn held_kept<E: SlotEntry>(slot: &E::Slot, low: u64, high: u64) -> Option<u64>
     requires { low ≤ high }
@@ -63,6 +64,7 @@ fn held_kept<E: SlotEntry>(slot: &E::Slot, low: u64, high: u64) -> Option<u64>
     if !E::is_within(slot, low, high) {
         return None;
     }
+    // It isn't free, so that isn't asked again.
     Some(hash_or_zero::<E>(slot))
 }
 
@@ -99,7 +101,7 @@ fn gather_window<E: SlotEntry, A: Allocator>(
     }
 }
 
-/// Gathers `also`, if that is one, and all hashes in the slots.
+/// Gathers all hashes: `also`, if that is one, and those in the slots.
 fn gather_all<E: SlotEntry, A: Allocator>(
     hashes: &mut Vec<u64, A>,
     also: Option<u64>,

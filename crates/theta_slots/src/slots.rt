@@ -1,6 +1,6 @@
 //! Entries in slots.
 ghost use Rattle.std.specs.Prelude.{◌≡◌, ℕ, ◌+◌, ◌-◌, ◌<◌, ◌≤◌, ◌^◌, ◌%◌, ◌*◌, true, false, nat_lt, Some, None, is_none, IfOk, OnOk, OnErr, [], ◌∷◌, length, map, option_map, unwrap_or};
-ghost use Rattle.std.specs.List.{AllByRecursion, count_by};
+ghost use Rattle.std.specs.List.{count_by};
 ghost use Rattle.std.specs.Option.{option_copied};
 ghost use Rattle.theta_laws.specs.Entries.{hash_key};
 ghost use Rattle.theta_laws.specs.Maps.{rank, entry_at, below, with_entry, map_of};
@@ -114,14 +114,14 @@ pub(crate) fn hash_or_zero<E: SlotEntry>(slot: &E::Slot) -> u64
     hash_in::<E>(slot).unwrap_or(0)
 }
 
-/// 1 for a slot that holds a hash less than `low`, otherwise 0.
+/// 1 for a slot that holds a hash less than `bound`, otherwise 0.
 #[inline(always)]
-pub(crate) fn number_below<E: SlotEntry>(slot: &E::Slot, low: u64) -> usize
-    ensures number { result ≡ rank hash_key (map E.key (filled (E.held slot.now ∷ []))) low }
-    ensures below { result ≡ length (below E.key (filled (E.held slot.now ∷ [])) low) }
+pub(crate) fn number_below<E: SlotEntry>(slot: &E::Slot, bound: u64) -> usize
+    ensures number { result ≡ rank hash_key (map E.key (filled (E.held slot.now ∷ []))) bound }
+    ensures below { result ≡ length (below E.key (filled (E.held slot.now ∷ [])) bound) }
     ensures small { result ≤ 1 }
 {
-    E::is_below(slot, low) as usize
+    E::is_below(slot, bound) as usize
 }
 
 /// Puts a slot's entry of this hash where a search for the hash ends.

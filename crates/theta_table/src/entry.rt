@@ -94,13 +94,14 @@ impl SlotEntry for ThetaEntry {
     }
 
     #[inline(always)]
-    fn is_below(slot: &ThetaEntry, hash: u64) -> bool {
-        // 0, of a free slot, wraps and is then less than nothing.
-        slot.hash.wrapping_sub(1) < hash.saturating_sub(1)
+    fn is_below(slot: &ThetaEntry, bound: u64) -> bool {
+        // A free slot's 0 wraps to the greatest number, which is less than no bound.
+        slot.hash.wrapping_sub(1) < bound.saturating_sub(1)
     }
 
     #[inline(always)]
     fn is_within(slot: &ThetaEntry, low: u64, high: u64) -> bool {
+        // Less 1, a free slot's 0 is the greatest number, beyond all from `least` to `high` - 1.
         let least = low.saturating_sub(1);
         slot.hash.wrapping_sub(1).wrapping_sub(least) < high - least
     }
@@ -203,10 +204,10 @@ impl<S: Drop> SlotEntry for TupleEntry<S> {
     }
 
     #[inline(always)]
-    fn is_below(slot: &Option<TupleEntry<S>>, hash: u64) -> bool {
+    fn is_below(slot: &Option<TupleEntry<S>>, bound: u64) -> bool {
         match slot {
             None => false,
-            Some(entry) => entry.hash < hash,
+            Some(entry) => entry.hash < bound,
         }
     }
 

@@ -156,24 +156,12 @@ fn first_in<'a, E: SlotEntry + 'a>(rest: Marked<'a, E>) -> (Option<&'a E>, Marke
     (E::in_slot(&rest.slots[at]), behind)
 }
 
-/// The hash of what a slot holds, and the greatest number of a free slot.
-#[inline(always)]
-fn hash_or_greatest<E: SlotEntry>(slot: &E::Slot) -> u64
-    ensures { MatchOption (E.held slot.now) (result ≡ 2 ^ 64 - 1) (λ x. result ≡ E.key x) }
-{
-    match E::in_slot(slot) {
-        None => u64::MAX,
-        Some(entry) => entry.hash(),
-    }
-}
-
-/// Whether a slot holds an entry below theta. It takes one test: whether a slot is free is as good as random, and a branch on
-/// it would be guessed wrong.
+/// Whether a slot holds an entry below theta.
 #[inline(always)]
 fn holds_below<E: SlotEntry>(slot: &E::Slot, theta: u64) -> bool
     ensures { MatchOption (E.held slot.now) (result ≡ false) (λ x. result ≡ nat_lt (E.key x) theta) }
 {
-    hash_or_greatest::<E>(slot) < theta
+    E::is_below(slot, theta)
 }
 
 /// How many slots are passed over at once.
