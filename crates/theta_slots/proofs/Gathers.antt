@@ -1,5 +1,5 @@
 -- Entries below a theta that are gathered in front of other slots.
-use Rattle.std.proofs.Common.{◌≡◌, ◌⊎◌, ℕ, zero, suc, ◌+◌, ◌<◌, Bool, true, false, cond, ltb, List, [], ◌∷◌, ◌++◌, length, map, get_or, set, take, drop, Option, Some, None, inl, inr, refl, sym, ap, subst, ◌∙◌, arith}
+use Rattle.std.proofs.Common.{◌≡◌, ◌⊎◌, ℕ, zero, suc, ◌+◌, ◌<◌, ◌≤◌, Bool, true, false, cond, ltb, List, [], ◌∷◌, ◌++◌, length, length-append, map, get_or, set, take, drop, Option, Some, None, inl, inr, refl, sym, ap, subst, ◌∙◌, arith}
 use Rattle.std.specs.List.{count_by}
 use Rattle.std.proofs.lemmas.List.{take-set, take_at, get_or-drop, map-append, append-nil}
 use Rattle.std.proofs.Math.Seq.{take-suc-set}
@@ -11,7 +11,7 @@ use Rattle.theta_laws.proofs.maps.Ascending.{ascending-filter}
 use Rattle.theta_laws.proofs.maps.LookUps.{entry_at-below, same_map}
 use Rattle.theta_laws.proofs.maps.MapsOfLists.{entry_at-map_of, ascending-map_of}
 use Rattle.theta_slots.specs.Layout.{filled}
-use Rattle.theta_slots.proofs.Held.{filled-next}
+use Rattle.theta_slots.proofs.Held.{filled-next, two_parts}
 use Rattle.theta_slots.proofs.Layouts.{filled-append}
 
 module _ {S : Type 0} where
@@ -36,7 +36,32 @@ module _ {X : Type 0} (key : X → ℕ) where
   one_or_none None theta = inl refl
   one_or_none (Some x) theta = elim (ltb (key x) theta) as (λ b. (cond b (x ∷ []) [] ≡ []) ⊎ ((cond b (x ∷ []) [] ≡ x ∷ []) × (length (cond b (x ∷ []) []) ≡ 1))) [ true ↦ inr (refl, refl) | false ↦ inl refl ]
 
+  -- no more are below theta than there are
+  pub below_few : (xs : List X) (theta : ℕ) → length (below key xs theta) ≤ length xs
+  below_few [] theta = omega arith
+  below_few (x ∷ xs) theta = let rest = below_few xs theta in elim (ltb (key x) theta) as (λ b. length (cond b (x ∷ below key xs theta) (below key xs theta)) ≤ suc (length xs)) [ true ↦ omega (arith, rest) | false ↦ omega (arith, rest) ]
+
   module _ {S : Type 0} (held : S → Option X) where
+    -- what one slot more holds below theta
+    low_next : (first : List S) (at theta : ℕ) (d : S) → at < length first
+        → below key (filled (map held (take (at + 1) first))) theta ≡ below key (filled (map held (take at first))) theta ++ below key (filled (held (get_or first at d) ∷ [])) theta
+    low_next first at theta d lt =
+        ap (λ xs. below key xs theta) (filled-next held first at d lt) ∙ filter-append (λ x. ltb (key x) theta) (filled (map held (take at first))) (filled (held (get_or first at d) ∷ []))
+
+    pub number_next : (first : List S) (at theta more : ℕ) (s d : S) → at < length first → s ≡ get_or first at d → more ≡ length (below key (filled (held s ∷ [])) theta)
+        → length (below key (filled (map held (take (at + 1) first))) theta) ≡ length (below key (filled (map held (take at first))) theta) + more
+    number_next first at theta more s d lt is number =
+        ap length (low_next first at theta d lt) ∙ length-append (below key (filled (map held (take at first))) theta) (below key (filled (held (get_or first at d) ∷ [])) theta)
+        ∙ ap (λ (n : ℕ). length (below key (filled (map held (take at first))) theta) + n) (ap (λ (t : S). length (below key (filled (held t ∷ [])) theta)) (sym is) ∙ sym number)
+
+    -- the first slots hold no more below theta than all
+    pub part_few : (first : List S) (at theta : ℕ) → length (below key (filled (map held (take at first))) theta) ≤ length (below key (filled (map held first)) theta)
+    part_few first at theta =
+        let seen : List X = filled (map held (take at first)) in
+        let rest : List X = filled (map held (drop at first)) in
+        let parts = ap (λ xs. length (below key xs theta)) (two_parts held first at) ∙ ap length (filter-append (λ x. ltb (key x) theta) seen rest) ∙ length-append (below key seen theta) (below key rest theta) in
+        omega (arith, parts)
+
     -- a slot more
     pub gathered-next : (first others : List S) (at count theta more : ℕ) (s d : S) → at < length first → count < length others → s ≡ get_or first at d → more ≡ length (below key (filled (held s ∷ [])) theta)
         → filled (map held (take count others)) ≡ below key (filled (map held (take at first))) theta
@@ -44,8 +69,8 @@ module _ {X : Type 0} (key : X → ℕ) where
     gathered-next first others at count theta more s d lt inside is number so_far =
         let seen : List X = filled (map held (take at first)) in
         let one : List X = filled (held s ∷ []) in
-        let rest : filled (map held (take (at + 1) first)) ≡ seen ++ one = filled-next held first at d lt ∙ ap (λ x. seen ++ filled (held x ∷ [])) (sym is) in
-        let right : below key (filled (map held (take (at + 1) first))) theta ≡ below key seen theta ++ below key one theta = ap (λ xs. below key xs theta) rest ∙ filter-append (λ x. ltb (key x) theta) seen one in
+        let right : below key (filled (map held (take (at + 1) first))) theta ≡ below key seen theta ++ below key one theta =
+        low_next first at theta d lt ∙ ap (λ (t : S). below key seen theta ++ below key (filled (held t ∷ [])) theta) (sym is) in
         elim (one_or_none (held s) theta) [
           | inl none ↦
               let still : count + more ≡ count = omega (arith, number, ap length none) in

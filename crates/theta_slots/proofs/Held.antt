@@ -1,7 +1,9 @@
 -- Slots as they are in memory, and what they hold.
-use Rattle.std.proofs.Common.{◌≡◌, ℕ, zero, suc, ◌+◌, ◌<◌, ◌≤◌, List, [], ◌∷◌, ◌++◌, length, map, get_or, set, take, replicate, Option, Some, None, Ok, Err, refl, sym, ap, subst, ◌∙◌, arith}
+use Rattle.std.proofs.Common.{◌≡◌, ℕ, zero, suc, ◌+◌, ◌<◌, ◌≤◌, List, [], ◌∷◌, ◌++◌, length, map, get_or, set, take, drop, replicate, Option, Some, None, Ok, Err, refl, sym, ap, subst, ◌∙◌, arith}
 use Rattle.std.specs.Prelude.{option_map, Result, MatchResult, OnOk, OnErr}
+use Rattle.std.proofs.lemmas.List.{map-append, take-append-drop}
 use Rattle.theta_slots.specs.Layout.{filled, slot}
+use Rattle.theta_slots.proofs.Layouts.{filled-append}
 
 module _ {S X : Type 0} (held : S → Option X) where
   -- what is held at a place
@@ -102,3 +104,8 @@ module _ {S X : Type 0} (held : S → Option X) where
   freed slots i s lt none before =
       let next : suc i ≡ i + 1 = omega arith in
       subst (λ (n : ℕ). filled (map held (take n (set slots i s))) ≡ []) next (freed-suc slots i s lt none before)
+
+module _ {S X : Type 0} (held : S → Option X) where
+  -- what the first slots hold, and what the others do
+  pub two_parts : (xs : List S) (n : ℕ) → filled (map held xs) ≡ filled (map held (take n xs)) ++ filled (map held (drop n xs))
+  two_parts xs n = ap (λ ys. filled (map held ys)) (sym (take-append-drop n xs)) ∙ ap filled (map-append held (take n xs) (drop n xs)) ∙ filled-append (map held (take n xs)) (map held (drop n xs))

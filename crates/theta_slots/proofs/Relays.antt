@@ -201,7 +201,7 @@ module _ {X : Type 0} (key : X → ℕ) where
   none_here : (x : X) (q : ℕ) → eqb (key x) q ≡ false → count_by (λ y. eqb (key y) q) (x ∷ []) ≡ 0
   none_here x q is = rw is refl
 
-  counted_none : (xs : List X) (q : ℕ) → count_by (λ x. eqb (key x) q) xs ≡ 0 → entry_at key xs q ≡ None
+  pub counted_none : (xs : List X) (q : ℕ) → count_by (λ x. eqb (key x) q) xs ≡ 0 → entry_at key xs q ≡ None
   counted_none [] q none = refl
   counted_none (x ∷ xs) q none =
       let parts = count-cons (λ y. eqb (key y) q) x xs in

@@ -35,6 +35,11 @@ pub trait SlotEntry: SketchEntry {
     fn from_slot(slot: Self::Slot) -> Option<Self>
         ensures { result ≡ held slot };
 
+    /// What a slot held, taken out of it. What it holds then is open, for it is about to be written or dropped: a slot of one
+    /// word is read, and not written.
+    fn take_out(slot: &mut Self::Slot) -> Self::Slot
+        ensures { held result ≡ held slot.old };
+
     /// Whether a slot holds an entry whose hash is less than `bound`. A slot of one word tells it by one comparison.
     fn is_below(slot: &Self::Slot, bound: u64) -> bool
         ensures { result ≡ holds_below Self.key bound (held slot.now) };

@@ -11,7 +11,7 @@ ghost use Rattle.theta_slots.specs.Relaying.{marked, IsFirstUnmarked};
 
 use crate::count::Count;
 use crate::entry::SlotEntry;
-use crate::gathering::put_gathered;
+use crate::gathering::{are_words, put_gathered};
 use crate::slots::{hash_or_zero, power_of_two, slot_of, stride_of};
 use std::alloc::{AllocError, Allocator};
 use std::mem;
@@ -129,19 +129,20 @@ pub fn keep_below<E: SlotEntry + Drop, A: Allocator + Clone>(
     Ok(())
 }
 
-/// The binary logarithm up to which a rebuild gathers what it keeps into other slots. These are in a near cache then, and no
-/// branch is guessed wrong; of more slots memory is far and large, and they are laid out anew in place.
+/// The binary logarithm up to which a rebuild gathers what it keeps into other slots, of any size. Larger ones are laid out anew
+/// in place where each has more than a word, since they are far in memory, and large.
 const GATHERED_LG: u8 = 16;
 
 /// Puts a new entry into the free slot `at`, where a search for it ends, and keeps of all what is below theta, in the same
-/// slots. Counts in `placed` the entries placed anew, in `looks` the slots looked at.
+/// slots: at most `kept` entries. Counts in `placed` the entries placed anew, in `looks` the slots looked at.
 ///
-/// It asks for as many slots more where there are at most 2^16, and else for a byte for each slot. It fails only where that
-/// memory ran out; then nothing has changed.
+/// It asks for `kept` slots more and one, or for a byte for each slot where there are more than 2^16 of more than a word. It fails
+/// only where that memory ran out; then nothing has changed.
 pub fn put_kept<E: SlotEntry + Drop, A: Allocator + Clone>(
     slots: &mut Vec<E::Slot, A>,
     lg: u8,
     theta: u64,
+    kept: usize,
     at: usize,
     entry: E,
     placed: &mut Count,
@@ -153,6 +154,8 @@ pub fn put_kept<E: SlotEntry + Drop, A: Allocator + Clone>(
     requires free { slot (map E.held slots.old.items) at ≡ None }
     requires on_path { IsOnPath E.key lg (map E.held slots.old.items) (E.key entry) at }
     requires nonzero { 0 < E.key entry }
+    requires kept { length (below E.key (with_entry E.key (map_of E.key (filled (map E.held slots.old.items))) entry) theta) ≤ kept }
+    requires few { kept < 2 ^ 40 }
     ensures laid_out { OnOk result (IsLaidOut E.key lg (map E.held slots.new.items)) }
     ensures map { OnOk result (map_of E.key (filled (map E.held slots.new.items)) ≡ below E.key (with_entry E.key (map_of E.key (filled (map E.held slots.old.items))) entry) theta) }
     ensures placed { OnOk result (placed.new ≡ placed.old + length (filled (map E.held slots.new.items))) }
@@ -161,8 +164,8 @@ pub fn put_kept<E: SlotEntry + Drop, A: Allocator + Clone>(
     ensures looked { looks.old ≤ looks.new }
     ensures looks { 2 * looks.new ≤ 2 * looks.old + (placed.new - placed.old) * (placed.new - placed.old + 1) }
 {
-    if lg <= GATHERED_LG {
-        return put_gathered::<E, A>(slots, lg, theta, at, entry, placed, looks);
+    if lg <= GATHERED_LG || are_words(slots) {
+        return put_gathered::<E, A>(slots, lg, theta, kept, at, entry, placed, looks);
     }
     let mut unmarked = no_marks(slots.allocator().clone()?, lg)?;
     slots[at] = entry.into_slot();

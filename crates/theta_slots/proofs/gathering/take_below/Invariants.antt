@@ -12,6 +12,7 @@ invariant-take_each g l =
       size : length l.slots ≡ length l.initial.slots;
       long : length l.others ≡ length l.initial.others;
       few : l.count ≤ l.at;
+      number : l.count ≡ length (below key (filled (map held (take l.at l.initial.slots))) l.theta);
       left : drop l.at l.slots ≡ drop l.at l.initial.slots;
       free : filled (map held (take l.at l.slots)) ≡ [];
       taken : filled (map held (take l.count l.others)) ≡ below key (filled (map held (take l.at l.initial.slots))) l.theta;

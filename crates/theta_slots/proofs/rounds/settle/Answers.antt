@@ -1,12 +1,13 @@
-use Rattle.std.proofs.Common.{◌≡◌, ℕ, ◌+◌, ◌<◌, ◌≤◌, ◌^◌, Some, None, length, map, set, subst, sym, ap, ◌∙◌, arith}
-use Rattle.std.proofs.lemmas.List.{length-set}
+use Rattle.std.proofs.Common.{◌≡◌, ℕ, ◌+◌, ◌*◌, ◌<◌, ◌≤◌, ◌^◌, ◌++◌, [], ◌∷◌, refl, Some, None, eqb, length, length-append, map, set, get_or, subst, sym, ap, ◌∙◌, arith}
+use Rattle.std.proofs.lemmas.List.{append-nil, length-set}
 use Rattle.std.proofs.lemmas.Nat.{pow_pos}
 use Rattle.std.proofs.Math.Pow.{pow_mono}
 use Rattle.theta_slots.specs.Layout.{filled, slot}
 use Rattle.theta_slots.specs.Probe.{probe}
 use Rattle.theta_slots.specs.Rounds.{IsInRound}
-use Rattle.theta_slots.proofs.Held.{slot-map, map-set, length-held, filled_most, some_of, none_of}
-use Rattle.theta_slots.proofs.Settled.{round_starts, round_next, round_short, round_passes, round_puts, round_keeps, rounds_end, no_more, kept_few, one_fewer, as_many_left, free_there, set_none, is_free, is_taken, looks_next, looks_put, looks_kept, looks_passed, looks_end}
+use Rattle.theta_slots.proofs.Held.{map-set, length-held, some_of, none_of}
+use Rattle.theta_slots.proofs.Moves.{count-append}
+use Rattle.theta_slots.proofs.Settled.{in_front, in_wait, waits_next, front_before, wait_behind, front_more, front_none, front_whole, front_is, none_behind, round_starts, round_next, round_short, round_puts, round_keeps, is_free, is_taken, looks_next, looks_put, looks_kept, looks_end}
 use Rattle.theta_slots.proofs.rounds.settle.Goals as goal
 use Rattle.theta_slots.proofs.rounds.settle.Goals.{in-Some+then-is_settled, in-Some+else-is_settled, in_default}
 
@@ -14,58 +15,89 @@ pub rounds-init : goal.rounds-init
 rounds-init g c =
     let key = g.E.SketchEntry.key in
     let held = g.E.SlotEntry.held in
-    let left = map held c.args.left.now in
+    let left = c.args.left.now in
     let slots = map held c.args.slots.now in
-    let starts = round_starts key c.args.lg left slots (length-held held c.args.slots.now ∙ c.requires.size) c.requires.free c.requires.apart in (
+    let begun : ℕ = length (filled slots) in
+    let all : in_front held (length left) left ≡ filled (map held left) = front_whole held left (length left) (omega arith) in
+    rw all (
+      begun,
       0,
-      0,
       omega arith,
       omega arith,
       omega arith,
-      subst (λ (n : ℕ). IsInRound key c.args.lg left left slots 0 0 0 n 0 0) (length-held held c.args.left.now) starts,
+      round_starts key c.args.lg (filled (map held left)) slots c.requires.laid_out c.requires.once,
       λ some. pow_pos c.args.lg,
       omega arith,
+      refl,
     )
 
-pub returns-then-count-eq0-clause-map : goal.returns-then-count-eq0-clause-map
-returns-then-count-eq0-clause-map g c =
+pub returns-then-count-eq0-clause-found : goal.returns-then-count-eq0-clause-found
+returns-then-count-eq0-clause-found g c =
     let key = g.E.SketchEntry.key in
     let held = g.E.SlotEntry.held in
     let i = c.rounds.invariant in
-    let whole = map held c.args.left.now in
-    let left = map held c.rounds.left in
+    let whole = filled (map held c.args.left.now) ++ filled (map held c.args.slots.now) in
     let slots = map held c.rounds.slots in
-    rounds_end key c.args.lg whole left slots c.rounds.round c.rounds.count i.0 i.1 c.if-count-eq0.true i.5
+    let none : in_front held c.rounds.count c.rounds.left ≡ [] = ap (λ (n : ℕ). in_front held n c.rounds.left) c.if-count-eq0.true ∙ front_none held c.rounds.left in
+    let is : IsInRound key c.args.lg whole [] [] slots (length (filled (map held c.args.slots.now))) c.rounds.round i.0 i.1 = rw none at i.5 in
+    λ q. is.found q
+
+pub returns-then-count-eq0-clause-all : goal.returns-then-count-eq0-clause-all
+returns-then-count-eq0-clause-all g c =
+    let key = g.E.SketchEntry.key in
+    let held = g.E.SlotEntry.held in
+    let i = c.rounds.invariant in
+    let left = filled (map held c.args.left.now) in
+    let begun = filled (map held c.args.slots.now) in
+    let none : in_front held c.rounds.count c.rounds.left ≡ [] = ap (λ (n : ℕ). in_front held n c.rounds.left) c.if-count-eq0.true ∙ front_none held c.rounds.left in
+    let is : IsInRound key c.args.lg (left ++ begun) [] [] (map held c.rounds.slots) (length begun) c.rounds.round i.0 i.1 = rw none at i.5 in
+    λ q. omega (arith, is.all q, count-append (λ x. eqb (key x) q) left begun)
+
+pub returns-then-count-eq0-clause-count : goal.returns-then-count-eq0-clause-count
+returns-then-count-eq0-clause-count g c =
+    let key = g.E.SketchEntry.key in
+    let held = g.E.SlotEntry.held in
+    let i = c.rounds.invariant in
+    let left = filled (map held c.args.left.now) in
+    let begun = filled (map held c.args.slots.now) in
+    let none : in_front held c.rounds.count c.rounds.left ≡ [] = ap (λ (n : ℕ). in_front held n c.rounds.left) c.if-count-eq0.true ∙ front_none held c.rounds.left in
+    let is : IsInRound key c.args.lg (left ++ begun) [] [] (map held c.rounds.slots) (length begun) c.rounds.round i.0 i.1 = rw none at i.5 in
+    omega (arith, is.counted, is.all_put, length-append left begun)
 
 pub returns-then-count-eq0-clause-placed : goal.returns-then-count-eq0-clause-placed
 returns-then-count-eq0-clause-placed g c =
     let key = g.E.SketchEntry.key in
     let held = g.E.SlotEntry.held in
     let i = c.rounds.invariant in
-    let whole = map held c.args.left.now in
-    let left = map held c.rounds.left in
-    let slots = map held c.rounds.slots in
-    omega (arith, i.2, i.5.counted, no_more key c.args.lg whole left slots c.rounds.round c.rounds.count i.0 i.1 c.if-count-eq0.true i.5)
+    let left = filled (map held c.args.left.now) in
+    let begun = filled (map held c.args.slots.now) in
+    let none : in_front held c.rounds.count c.rounds.left ≡ [] = ap (λ (n : ℕ). in_front held n c.rounds.left) c.if-count-eq0.true ∙ front_none held c.rounds.left in
+    let is : IsInRound key c.args.lg (left ++ begun) [] [] (map held c.rounds.slots) (length begun) c.rounds.round i.0 i.1 = rw none at i.5 in
+    omega (arith, i.2, is.counted, length-append left begun)
 
 pub returns-then-count-eq0-clause-looks : goal.returns-then-count-eq0-clause-looks
 returns-then-count-eq0-clause-looks g c =
     let key = g.E.SketchEntry.key in
     let held = g.E.SlotEntry.held in
     let i = c.rounds.invariant in
-    let whole = map held c.args.left.now in
-    let left = map held c.rounds.left in
-    let slots = map held c.rounds.slots in
-    looks_end c.rounds.looks c.args.looks.now i.1 c.rounds.round (length (filled left)) i.0 c.rounds.placed c.args.placed.now i.4 (no_more key c.args.lg whole left slots c.rounds.round c.rounds.count i.0 i.1 c.if-count-eq0.true i.5) i.5.looked_few i.2
+    let none : in_front held c.rounds.count c.rounds.left ≡ [] = ap (λ (n : ℕ). in_front held n c.rounds.left) c.if-count-eq0.true ∙ front_none held c.rounds.left in
+    looks_end c.rounds.looks c.args.looks.now i.1 c.rounds.round (length (in_front held c.rounds.count c.rounds.left)) i.0 (length (filled (map held c.rounds.slots))) (length (filled (map held c.args.slots.now))) i.4 (ap length none) i.5.looked_few i.5.all_put
 
-pub slot_after-next-requires-clause-few : goal.slot_after-next-requires-clause-few
-slot_after-next-requires-clause-few g c =
+pub slot_in_round-next-requires-clause-few : goal.slot_in_round-next-requires-clause-few
+slot_in_round-next-requires-clause-few g c =
     let most : 2 ^ c.args.lg ≤ 2 ^ 40 = pow_mono {i = c.args.lg} {j = 40} (omega (arith, c.requires.small)) in
     omega (arith, most, c.rounds.invariant.6 (omega (arith, c.look_on-test.true)))
 
 pub put_if_free-is_settled-requires : goal.put_if_free-is_settled-requires
 put_if_free-is_settled-requires g c =
     let held = g.E.SlotEntry.held in
-    omega (arith, c.slot_after-next.ensures.below, c.look_on.invariant.5.laid_out.size, length-held held c.look_on.slots)
+    omega (arith, c.slot_in_round-next.ensures.below, c.look_on.invariant.5.laid_out.size, length-held held c.look_on.slots)
+
+pub look_on-init : goal.look_on-init
+look_on-init g c =
+    let held = g.E.SlotEntry.held in
+    let i = c.rounds.invariant in
+    rw (front_none held c.rounds.left, front_is held c.rounds.left c.rounds.count) (i.0, i.1, i.2, i.3, i.4, i.5, refl, omega arith, refl)
 
 pub look_on-preserved : goal.look_on-preserved
 look_on-preserved g c =
@@ -73,81 +105,84 @@ look_on-preserved g c =
     let held = g.E.SlotEntry.held in
     let i = c.look_on.invariant in
     let lg : ℕ = c.args.lg in
-    let whole = map held c.args.left.now in
-    let l = c.look_on.left in
-    let left = map held l in
+    let begun = filled (map held c.args.slots.now) in
+    let whole = filled (map held c.args.left.now) ++ begun in
+    let left = c.look_on.left in
     let slots = map held c.look_on.slots in
     let at : ℕ = c.look_on.at in
     let kept : ℕ = c.look_on.kept in
     let round : ℕ = c.rounds.round in
     let count : ℕ = c.rounds.count in
-    let entry = c.replace-entry.result in
-    let inside : at < length l = omega (arith, c.look_on-test.true, i.6, c.rounds.invariant.7) in
+    let entry = c.take_out-entry.result in
+    let dest = c.take_out-entry.new.slot in
+    let stay = in_front held kept left in
+    let wait = in_wait held (at + 1) count left in
+    let within : count ≤ length left = omega (arith, i.6, c.rounds.invariant.7) in
     let low : round < 2 ^ lg = c.rounds.invariant.6 (omega (arith, c.look_on-test.true)) in
-    let taken : held entry ≡ slot left at = sym (slot-map held l at c.index-left-at.result inside ∙ ap held (sym c.replace-entry.ensures.value)) in
-    let cleared : map held (set l at c.replace-entry.new.dest) ≡ set left at None = map-set held l at c.replace-entry.new.dest ∙ ap (λ o. set left at o) (ap held c.replace-entry.ensures.after ∙ c.free_slot.ensures) in
-    let gone = set left at None in
+    let next_waits : in_wait held at count left ≡ filled (held entry ∷ []) ++ wait =
+    waits_next held left at count c.index-left-at.result c.look_on-test.true within ∙ ap (λ o. filled (o ∷ []) ++ wait) (sym c.take_out-entry.ensures) in
+    let cleared_stay : in_front held kept (set left at dest) ≡ stay = front_before held left kept at dest i.7 in
+    let cleared_wait : in_wait held (at + 1) count (set left at dest) ≡ wait = wait_behind held left at count at dest (omega arith) in
+    let long : length (set left at dest) ≡ length left = length-set left at dest in
     elim c.match-hash_in.branch [
       | in-Some+then-is_settled w ↦
           let told = sym c.hash_in.ensures ∙ w.in-Some.is in
           let one = some_of key (held entry) w.in-Some.hash told in
-          let here : slot left at ≡ Some one.0 = sym taken ∙ one.1 in
-          let next : ℕ = w.slot_after-next.result in
-          let way : next ≡ probe (key one.0) lg round = w.slot_after-next.ensures.value ∙ ap (λ (n : ℕ). probe n lg round) (sym one.2) in
+          let next : ℕ = w.slot_in_round-next.result in
+          let way : next ≡ probe (key one.0) lg round = w.slot_in_round-next.ensures.value ∙ ap (λ (n : ℕ). probe n lg round) (sym one.2) in
           let put = w.put_if_free-is_settled in
           let free : slot slots next ≡ None = is_free (slot slots next) (sym put.ensures.free ∙ w.if-is_settled.true) in
           let stands : map held put.new.slots ≡ set slots next (Some one.0) = (rw w.if-is_settled.true at put.ensures.stands) ∙ ap (λ o. set slots next o) one.1 in
-          let none : held put.result.1 ≡ None = rw w.if-is_settled.true at put.ensures.waits in
-          let waits : map held (set (set l at c.replace-entry.new.dest) kept put.result.1) ≡ gone =
-          map-set held (set l at c.replace-entry.new.dest) kept put.result.1 ∙ ap (λ xs. set xs kept (held put.result.1)) cleared ∙ ap (λ o. set gone kept o) none
-          ∙ set_none gone kept (free_there key lg whole left slots round at kept count i.0 i.1 i.5 one.0 here) in
-          let looks = looks_put (c.args.looks.now + i.1) round (length (filled left)) (length (filled gone)) kept c.look_on.looks (one_fewer key lg whole left slots round at kept count i.0 i.1 i.5 one.0 here) i.4 in
-          rw (w.left-is, w.slots-is, w.placed-is, w.looks-is, w.kept-is, waits, stands) (
+          let first : in_wait held at count left ≡ one.0 ∷ wait = next_waits ∙ ap (λ o. filled (o ∷ []) ++ wait) one.1 in
+          let is : IsInRound key lg whole stay (one.0 ∷ wait) slots (length begun) round i.0 i.1 = subst (λ xs. IsInRound key lg whole stay xs slots (length begun) round i.0 i.1) first i.5 in
+          let looks = looks_put (c.args.looks.now + i.1) round (length stay) (length (in_wait held at count left)) (length wait) c.look_on.looks (omega (arith, ap length first)) i.4 in
+          let stay_is : in_front held kept (set (set left at dest) kept put.result.1) ≡ stay = front_before held (set left at dest) kept kept put.result.1 (omega arith) ∙ cleared_stay in
+          let wait_is : in_wait held (at + 1) count (set (set left at dest) kept put.result.1) ≡ wait = wait_behind held (set left at dest) at count kept put.result.1 i.7 ∙ cleared_wait in
+          rw (w.left-is, w.slots-is, w.placed-is, w.looks-is, w.kept-is, stay_is, wait_is, stands) (
             i.0 + 1,
             i.1 + round + 1,
             omega (arith, i.2, w.tick.ensures),
             omega (arith, i.3, put.ensures.looks),
             omega (arith, looks, put.ensures.looks),
-            round_puts key lg whole left slots round at kept count i.0 i.1 i.5 one.0 here next low way free,
-            length-set (set l at c.replace-entry.new.dest) kept put.result.1 ∙ length-set l at c.replace-entry.new.dest ∙ i.6,
+            round_puts key lg whole stay slots (length begun) round i.0 i.1 one.0 wait is next way low free,
+            length-set (set left at dest) kept put.result.1 ∙ long ∙ i.6,
+            omega (arith, i.7),
+            i.8,
           )
       | in-Some+else-is_settled w ↦
           let told = sym c.hash_in.ensures ∙ w.in-Some.is in
           let one = some_of key (held entry) w.in-Some.hash told in
-          let here : slot left at ≡ Some one.0 = sym taken ∙ one.1 in
-          let next : ℕ = w.slot_after-next.result in
-          let way : next ≡ probe (key one.0) lg round = w.slot_after-next.ensures.value ∙ ap (λ (n : ℕ). probe n lg round) (sym one.2) in
+          let next : ℕ = w.slot_in_round-next.result in
+          let way : next ≡ probe (key one.0) lg round = w.slot_in_round-next.ensures.value ∙ ap (λ (n : ℕ). probe n lg round) (sym one.2) in
           let put = w.put_if_free-is_settled in
           let other = is_taken (slot slots next) (sym put.ensures.free ∙ w.if-is_settled.false) in
           let stands : map held put.new.slots ≡ slots = rw w.if-is_settled.false at put.ensures.stands in
           let same : held put.result.1 ≡ Some one.0 = (rw w.if-is_settled.false at put.ensures.waits) ∙ one.1 in
-          let waits : map held (set (set l at c.replace-entry.new.dest) kept put.result.1) ≡ set gone kept (Some one.0) =
-          map-set held (set l at c.replace-entry.new.dest) kept put.result.1 ∙ ap (λ xs. set xs kept (held put.result.1)) cleared ∙ ap (λ o. set gone kept o) same in
-          let many = as_many_left key lg whole left slots round at kept count i.0 i.1 i.5 one.0 here in
-          let looks = looks_kept (c.args.looks.now + i.1) round (length (filled left)) (length (filled (set gone kept (Some one.0)))) kept c.look_on.looks many i.4 in
-          rw (w.left-is, w.slots-is, w.placed-is, w.looks-is, w.kept-is, waits, stands) (
+          let first : in_wait held at count left ≡ one.0 ∷ wait = next_waits ∙ ap (λ o. filled (o ∷ []) ++ wait) one.1 in
+          let is : IsInRound key lg whole stay (one.0 ∷ wait) slots (length begun) round i.0 i.1 = subst (λ xs. IsInRound key lg whole stay xs slots (length begun) round i.0 i.1) first i.5 in
+          let looks = looks_kept (c.args.looks.now + i.1) round (length stay) (length (in_wait held at count left)) (length wait) c.look_on.looks (omega (arith, ap length first)) i.4 in
+          let more : length (stay ++ one.0 ∷ []) ≡ length stay + 1 = length-append stay (one.0 ∷ []) in
+          let inside : kept < length (set left at dest) = omega (arith, i.7, c.look_on-test.true, within, long) in
+          let stay_is : in_front held (kept + 1) (set (set left at dest) kept put.result.1) ≡ stay ++ one.0 ∷ [] =
+          front_more held (set left at dest) kept put.result.1 inside ∙ ap (λ xs. xs ++ filled (held put.result.1 ∷ [])) cleared_stay ∙ ap (λ o. stay ++ filled (o ∷ [])) same in
+          let wait_is : in_wait held (at + 1) count (set (set left at dest) kept put.result.1) ≡ wait = wait_behind held (set left at dest) at count kept put.result.1 i.7 ∙ cleared_wait in
+          rw (w.left-is, w.slots-is, w.placed-is, w.looks-is, w.kept-is, stay_is, wait_is, stands) (
             i.0,
             i.1,
             i.2,
             omega (arith, i.3, put.ensures.looks),
-            omega (arith, looks, put.ensures.looks),
-            round_keeps key lg whole left slots round at kept count i.0 i.1 i.5 one.0 here next other.0 way other.1,
-            length-set (set l at c.replace-entry.new.dest) kept put.result.1 ∙ length-set l at c.replace-entry.new.dest ∙ i.6,
+            rw more (omega (arith, looks, put.ensures.looks)),
+            round_keeps key lg whole stay slots (length begun) round i.0 i.1 one.0 wait is next way other.0 other.1,
+            length-set (set left at dest) kept put.result.1 ∙ long ∙ i.6,
+            omega (arith, i.7),
+            omega (arith, more, i.8),
           )
       | in_default w ↦
           let none : held entry ≡ None = none_of key (held entry) (λ h e. w.in_default.not-Some h (c.hash_in.ensures ∙ e)) in
-          let nothing : slot left at ≡ None = sym taken ∙ none in
-          let same : length (filled gone) ≡ length (filled left) = ap (λ xs. length (filled xs)) (set_none left at nothing) in
-          let looks = looks_passed (c.args.looks.now + i.1) round (length (filled left)) (length (filled gone)) kept c.look_on.looks same i.4 in
-          rw (w.left-is, w.slots-is, w.placed-is, w.looks-is, w.kept-is, cleared) (
-            i.0,
-            i.1,
-            i.2,
-            i.3,
-            looks,
-            round_passes key lg whole left slots round at kept count i.0 i.1 i.5 nothing,
-            length-set l at c.replace-entry.new.dest ∙ i.6,
-          )
+          let first : in_wait held at count left ≡ wait = next_waits ∙ ap (λ o. filled (o ∷ []) ++ wait) none in
+          let looks : c.look_on.looks ≤ c.args.looks.now + i.1 + round * (length stay + length wait) + length stay = subst (λ xs. c.look_on.looks ≤ c.args.looks.now + i.1 + round * (length stay + length xs) + length stay) first i.4 in
+          let is : IsInRound key lg whole stay wait slots (length begun) round i.0 i.1 = subst (λ xs. IsInRound key lg whole stay xs slots (length begun) round i.0 i.1) first i.5 in
+          rw (w.left-is, w.slots-is, w.placed-is, w.looks-is, w.kept-is, cleared_stay, cleared_wait) (i.0, i.1, i.2, i.3, looks, is, long ∙ i.6, omega (arith, i.7), i.8)
     ]
 
 pub rounds-preserved : goal.rounds-preserved
@@ -156,21 +191,23 @@ rounds-preserved g c =
     let held = g.E.SlotEntry.held in
     let i = c.look_on.invariant in
     let lg : ℕ = c.args.lg in
-    let whole = map held c.args.left.now in
-    let left = map held c.look_on.left in
+    let begun = filled (map held c.args.slots.now) in
+    let left = filled (map held c.args.left.now) in
     let slots = map held c.look_on.slots in
-    let at : ℕ = c.look_on.at in
     let kept : ℕ = c.look_on.kept in
     let round : ℕ = c.rounds.round in
     let count : ℕ = c.rounds.count in
-    let few = kept_few key lg whole left slots round at kept count i.0 i.1 i.5 in
+    let stay = in_front held kept c.look_on.left in
+    let none : in_wait held c.look_on.at count c.look_on.left ≡ [] = none_behind held c.look_on.left c.look_on.at count (omega (arith, c.look_on-test.false)) in
+    let is : IsInRound key lg (left ++ begun) stay [] slots (length begun) round i.0 i.1 = rw none at i.5 in
     let some : 0 < count = omega (arith, c.if-count-eq0.false) in (
       i.0,
       i.1,
       i.2,
       i.3,
-      looks_next (c.args.looks.now + i.1) round (length (filled left)) kept c.look_on.looks i.4 few,
-      round_next key lg whole left slots round at kept count i.0 i.1 i.5 c.look_on-test.false,
-      λ more. round_short key lg whole left slots round at kept count i.0 i.1 i.5 c.requires.room (c.rounds.invariant.6 some) more,
-      omega (arith, few, filled_most held c.look_on.left),
+      looks_next (c.args.looks.now + i.1) round (length (in_wait held c.look_on.at count c.look_on.left)) (length stay) c.look_on.looks i.4 (ap length none),
+      round_next key lg (left ++ begun) stay slots (length begun) round i.0 i.1 is,
+      λ more. round_short key lg (left ++ begun) stay slots (length begun) round i.0 i.1 [] is (omega (arith, c.requires.room, length-append left begun)) (c.rounds.invariant.6 some) (omega (arith, more, i.8)),
+      omega (arith, i.7, c.look_on.auto.at-end, c.look_on.auto.left, c.rounds.invariant.7),
+      i.6 ∙ c.rounds.invariant.8,
     )
