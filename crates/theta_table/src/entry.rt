@@ -94,6 +94,11 @@ impl SlotEntry for ThetaEntry {
     }
 
     #[inline(always)]
+    fn take_out(slot: &mut ThetaEntry) -> ThetaEntry {
+        *slot
+    }
+
+    #[inline(always)]
     fn is_below(slot: &ThetaEntry, bound: u64) -> bool {
         // A free slot's 0 wraps to the greatest number, which is less than no bound.
         slot.hash.wrapping_sub(1) < bound.saturating_sub(1)
@@ -201,6 +206,11 @@ impl<S: Drop> SlotEntry for TupleEntry<S> {
     #[inline(always)]
     fn from_slot(slot: Option<TupleEntry<S>>) -> Option<TupleEntry<S>> {
         slot
+    }
+
+    #[inline(always)]
+    fn take_out(slot: &mut Option<TupleEntry<S>>) -> Option<TupleEntry<S>> {
+        slot.take()
     }
 
     #[inline(always)]

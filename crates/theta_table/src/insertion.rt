@@ -241,10 +241,13 @@ fn rebuild<E: SlotEntry + Drop, A: Allocator + Clone>(
         nominal,
         sizes.theta,
     )?;
+    // All but those from theta on, of which there are `nominal`.
+    let kept = nominal;
     put_kept::<E, A>(
         slots,
         sizes.lg_cur,
         cut_theta,
+        kept,
         at,
         entry,
         &mut counts.placed,

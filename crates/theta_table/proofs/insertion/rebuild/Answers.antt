@@ -20,6 +20,14 @@ hash_of_rank-requires-clause-counted g c =
 pub hash_of_rank-requires-clause-inside : goal.hash_of_rank-requires-clause-inside
 hash_of_rank-requires-clause-inside g c = omega (arith, c.requires.full, c.requires.large, c.nominal_size-nominal.ensures.power)
 
+pub put_kept-requires-clause-kept : goal.put_kept-requires-clause-kept
+put_kept-requires-clause-kept g c =
+    let key = g.E.SketchEntry.key in
+    let slots = map g.E.SlotEntry.held c.args.slots.now.items in
+    let told : HasRank (c.hash.result ∷ map key (filled slots)) c.nominal_size-nominal.result c.in_ok-cut_theta.cut_theta = rw c.deref.ensures.value at c.in_ok-cut_theta.ensures.ranked in
+    let ranked : HasRank (key c.args.entry ∷ map key (filled slots)) c.nominal_size-nominal.result c.in_ok-cut_theta.cut_theta = rw c.hash.ensures at told in
+    omega (arith, kept_count key c.nominal_size-nominal.result c.in_ok-cut_theta.cut_theta c.args.entry (filled slots) (apart-more key c.args.sizes.lg_cur c.args.at c.args.entry slots c.requires.place.laid_out c.requires.place.on_path c.requires.place.free) ranked)
+
 pub returns-clause-after : goal.returns-clause-after
 returns-clause-after g c =
     let key = g.E.SketchEntry.key in
