@@ -1,8 +1,11 @@
 //! The hash of a rank among those in slots.
 //!
 //! Hashes are spread evenly below the theta of a table, so that arithmetic tells about where the one of a rank is. One pass
-//! gathers the hashes within a narrow window around that place, and counts those below it. Where the rank doesn't fall into
-//! the window a second pass gathers all; what is answered is the same.
+//! gathers the hashes within a narrow window around that place, and counts those below it.
+//!
+//! Hashes that came in ascending lists are spread otherwise, so that a window may miss the rank. What it counted then tells on
+//! which side the hash is, and among how many, and the next window is aimed there. Where some windows have missed a last pass
+//! gathers all; what is answered is the same.
 ghost use Rattle.std.specs.Prelude.{◌≡◌, ◌+◌, ◌-◌, ◌<◌, ◌≤◌, ◌^◌, [], ◌∷◌, ◌++◌, length, map, IfOk, OnOk};
 ghost use Rattle.theta_laws.specs.Entries.{hash_key};
 ghost use Rattle.theta_laws.specs.Maps.{IsApart, rank};
@@ -13,19 +16,63 @@ use crate::entry::SlotEntry;
 use crate::slots::{hash_in, hash_or_zero, number_below};
 use std::alloc::{AllocError, Allocator};
 
-/// Half the width of a window: so many times theta by the square root of the number of hashes.
+/// How many windows are searched before all hashes are gathered.
+const TRIES: usize = 4;
+
+/// Half the width of a window: so many times the span by the square root of the number of its hashes.
 const HALF_WIDTH: u64 = 2;
 
-/// The bounds of a window around where the hash of a rank is to be expected among `count` hashes that are spread evenly below
-/// theta. Its half is at least four times the standard deviation of that hash.
-fn expected_bounds(count: usize, rank: usize, theta: u64) -> (u64, u64)
+/// Where the hash of a rank is sought: from `low` on and below `high`. It is a hint, and no proof rests on it.
+#[derive(Clone, Copy)]
+struct Span {
+    low: u64,
+    high: u64,
+    /// How many hashes are less than `low`.
+    rank_from: usize,
+    /// How many hashes are less than `high`.
+    rank_to: usize,
+}
+
+/// The bounds of a window around where the hash of a rank is to be expected among the hashes of a span, if they are spread
+/// evenly there. Its half is at least four times the standard deviation of that hash.
+fn expected_bounds(span: Span, rank: usize) -> (u64, u64)
     ensures ordered { result.0 ≤ result.1 }
 {
-    let number = count as u64;
-    let step = theta / number.saturating_add(1);
-    let middle = step.saturating_mul((rank as u64).saturating_add(1));
-    let half = HALF_WIDTH.saturating_mul(theta / number.isqrt().max(1));
+    let width = span.high.saturating_sub(span.low);
+    let number = span.rank_to.saturating_sub(span.rank_from) as u64;
+    let smaller = rank.saturating_sub(span.rank_from) as u64;
+    let step = width / number.saturating_add(1);
+    let far = step.saturating_mul(smaller.saturating_add(1));
+    let middle = span.low.saturating_add(far);
+    let half = HALF_WIDTH.saturating_mul(width / number.isqrt().max(1));
     (middle.saturating_sub(half), middle.saturating_add(half))
+}
+
+/// What is left of a span after a window from `low` to `high` missed the rank: `below` hashes are less than `low`, and `between`
+/// are in the window.
+fn narrowed(span: Span, low: u64, high: u64, below: usize, between: usize, rank: usize) -> Span {
+    if below > rank {
+        Span {
+            high: low,
+            rank_to: below,
+            ..span
+        }
+    } else {
+        Span {
+            low: high.saturating_add(1),
+            rank_from: below.saturating_add(between),
+            ..span
+        }
+    }
+}
+
+/// One more than the greatest hash in the slots and `also`, if that is one.
+fn end_of_hashes<E: SlotEntry>(also: Option<u64>, slots: &[E::Slot]) -> u64 {
+    let mut greatest = also.unwrap_or(0);
+    'raise_each: for slot in slots {
+        greatest = greatest.max(hash_or_zero::<E>(slot));
+    }
+    greatest.saturating_add(1)
 }
 
 /// How many hashes there is room for at least, unless all are fewer.
@@ -134,8 +181,8 @@ fn nth_hash<A: Allocator + Drop>(hashes: &mut Vec<u64, A>, rank: usize) -> u64
 /// The hash that has just `rank` smaller ones among those in the slots and `also`, if that is one. They are `count`, and
 /// differ.
 ///
-/// Where they are spread evenly below `theta`, of 64 bits, it asks for memory for few of them, and otherwise for all; what it
-/// answers is the same. It fails only where that memory ran out. The memory is given back before it answers.
+/// Where they are spread evenly below `theta`, of 64 bits, it asks for memory for few of them, and otherwise for up to all;
+/// what it answers is the same. It fails only where that memory ran out. The memory is given back before it answers.
 pub fn hash_of_rank<E: SlotEntry, A: Allocator + Drop>(
     alloc: A,
     also: Option<u64>,
@@ -149,13 +196,26 @@ pub fn hash_of_rank<E: SlotEntry, A: Allocator + Drop>(
     requires inside { rank < count }
     ensures ranked { IfOk result (HasRank (filled (also ∷ []) ++ map E.key (filled (map E.held slots.now))) rank) }
 {
-    let (low, high) = expected_bounds(count, rank, theta);
+    let mut span = Span {
+        low: 0,
+        high: theta,
+        rank_from: 0,
+        rank_to: count,
+    };
     let mut hashes = Vec::with_capacity(alloc, window_room(count))?;
-    let below = gather_window::<E, A>(&mut hashes, also, slots, low, high)?;
-    if below <= rank && rank - below < hashes.len() {
-        return Ok(nth_hash(&mut hashes, rank - below));
+    'aim: for _ in 0..TRIES {
+        let (low, high) = expected_bounds(span, rank);
+        let below = gather_window::<E, A>(&mut hashes, also, slots, low, high)?;
+        if below <= rank && rank - below < hashes.len() {
+            return Ok(nth_hash(&mut hashes, rank - below));
+        }
+        span = narrowed(span, low, high, below, hashes.len(), rank);
+        // All hashes are below the window, so theta is far above the greatest of them.
+        if below == count {
+            span.high = end_of_hashes::<E>(also, slots);
+        }
+        hashes.clear();
     }
-    hashes.clear();
     gather_all::<E, A>(&mut hashes, also, slots)?;
     Ok(nth_hash(&mut hashes, rank))
 }
