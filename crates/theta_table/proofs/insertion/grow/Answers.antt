@@ -19,6 +19,9 @@ put_spread-requires-clause-room g c =
     let s = c.args.sizes in
     omega (arith, c.requires.place.counted, (grown s.lg_cur c.min-lg_cur.result s.lg_nom s.grow s.count c.requires.place.sized c.requires.growing c.min-lg_cur.ensures).fits)
 
+pub threshold_of-requires : goal.threshold_of-requires
+threshold_of-requires g c = omega (arith, c.min-lg_cur.ensures, c.requires.place.sized.nom_high)
+
 pub returns-clause-after : goal.returns-clause-after
 returns-clause-after g c =
     let key = g.E.SketchEntry.key in
