@@ -1,11 +1,11 @@
 -- Sizes of tables in slots, and what an insertion makes of them.
-use Rattle.std.proofs.Common.{◌≡◌, ℕ, suc, ◌+◌, ◌-◌, ◌*◌, ◌/◌, ◌%◌, ◌^◌, ◌<◌, ◌≤◌, min, true, false, cond, leb, eqb, List, length, set, Option, Some, None, inl, inr, ◌⊎◌, refl, sym, ap, ◌∙◌, arith}
+use Rattle.std.proofs.Common.{◌≡◌, ℕ, suc, ◌+◌, ◌-◌, ◌*◌, ◌/◌, ◌%◌, ◌^◌, ◌<◌, ◌≤◌, min, true, false, cond, not, if◌then◌else◌, leb, eqb, List, length, set, Option, Some, None, inl, inr, ◌⊎◌, refl, sym, ap, ◌∙◌, arith}
 use Rattle.std.proofs.lemmas.Bool.{cases_lt}
 use Rattle.std.proofs.lemmas.Bool.Decides.{nat_tests}
 use Rattle.std.proofs.Math.Nat.{two-pow-succ, mod-le}
 use Rattle.std.proofs.Math.Pow.{pow_mono}
 use Rattle.std.proofs.lemmas.Nat.{pow_pos, mod_below}
-use Rattle.theta_table.specs.HashTable.{threshold, HasSize, sub_multiple}
+use Rattle.theta_table.specs.HashTable.{threshold, IsSized, HasSize, sub_multiple}
 use Rattle.theta_laws.specs.Insertion.{rebuilt}
 use Rattle.theta_laws.specs.Maps.{with_entry, map_of}
 use Rattle.theta_slots.specs.Layout.{filled, slot, is_other, IsOnPath, IsLaidOut}
@@ -17,6 +17,14 @@ threshold_growing lg nom le = let e : leb lg nom ≡ true = grind (arith, nat_te
 
 pub threshold_full : (lg nom : ℕ) → nom < lg → threshold lg nom ≡ 2 ^ lg - 2 ^ lg / 16
 threshold_full lg nom lt = let e : leb lg nom ≡ false = grind (arith, nat_tests) in rw e refl
+
+-- of the table of an operator, with slots or without
+pub operator_threshold : (lg nom : ℕ) → IsSized lg nom → threshold lg nom ≡ (if not (eqb lg 0) then threshold lg nom else 0)
+operator_threshold lg nom sizes =
+    elim sizes [
+      | inl full ↦ let has : eqb lg 0 ≡ false = grind (arith, nat_tests) in rw has refl
+      | inr lacks ↦ rw (lacks.0, lacks.1) refl
+    ]
 
 -- nominal entries of 8 or more are a multiple of 8
 pub eights : (nom : ℕ) → 3 ≤ nom → (j : ℕ) × (2 ^ nom ≡ 8 * j)

@@ -158,7 +158,8 @@ ticked_if false false nominal count done = record done { inserted = done.inserte
 abbrev pub ticked : (lg_cur lg_nom count : ℕ) → Counts → Counts
 ticked lg_cur lg_nom count done = ticked_if (nat_le (count + 1) (threshold lg_cur lg_nom)) (nat_le lg_cur lg_nom) (2 ^ lg_nom) count done
 
--- what holds of every table, and of what was done to it
-pub record IsProbing {X : Type 0} (key : X → ℕ) (t : MapTable X) (lg_cur grow count : ℕ) (slots : List (Option X)) (done : Counts) : Type 0 where
+-- what holds of every table, of the threshold that it keeps, and of what was done to it
+pub record IsProbing {X : Type 0} (key : X → ℕ) (t : MapTable X) (lg_cur grow most count : ℕ) (slots : List (Option X)) (done : Counts) : Type 0 where
   pub slotted : IsSlotted key t lg_cur grow count slots
+  pub bounded : most ≡ (if t.has_slots then threshold lg_cur t.lg_nom else 0)
   pub counted : IsCounted lg_cur t.lg_nom count done

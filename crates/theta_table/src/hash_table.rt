@@ -47,6 +47,9 @@ pub struct SketchHashTable<E: SlotEntry, A: Allocator = Global> {
     lg_nom_size: u8,
     resize_factor: ResizeFactor,
     has_slots: bool,
+    // How many entries the slots may have before there are more of them or a rebuild: `threshold_of` their sizes, kept, since
+    // each insertion asks for it. 0 without slots.
+    threshold: usize,
     starting_theta: u64,
     seed: u64,
     seed_hash: u16,
@@ -69,7 +72,7 @@ impl<E: SlotEntry, A: Allocator> Model for SketchHashTable<E, A> {
 
     ghost view = { λ t. record { map = record { kept = record { entries = map_of E.key (filled (map E.held t.slots.items)); theta = t.theta }; lg_nom = t.lg_nom_size; has_slots = t.has_slots; start = t.starting_theta; seed = t.seed; seed_hash = t.seed_hash }; lends = filled (map E.held t.slots.items); layout = record { lg_cur = t.lg_cur_size; grow = lg_of t.resize_factor; slots = map E.held t.slots.items }; counts = t.counts } };
 
-    ghost invariant = { λ t. IsProbing E.key (record { kept = record { entries = map_of E.key (filled (map E.held t.slots.items)); theta = t.theta }; lg_nom = t.lg_nom_size; has_slots = t.has_slots; start = t.starting_theta; seed = t.seed; seed_hash = t.seed_hash }) t.lg_cur_size (lg_of t.resize_factor) t.count (map E.held t.slots.items) t.counts };
+    ghost invariant = { λ t. IsProbing E.key (record { kept = record { entries = map_of E.key (filled (map E.held t.slots.items)); theta = t.theta }; lg_nom = t.lg_nom_size; has_slots = t.has_slots; start = t.starting_theta; seed = t.seed; seed_hash = t.seed_hash }) t.lg_cur_size (lg_of t.resize_factor) t.threshold t.count (map E.held t.slots.items) t.counts };
 }
 
 impl<E: SlotEntry, A: Allocator> SketchHashTable<E, A> {
@@ -104,6 +107,7 @@ impl<E: SlotEntry, A: Allocator> SketchHashTable<E, A> {
             lg_nom_size,
             resize_factor,
             has_slots: true,
+            threshold: threshold_of(lg_cur_size, lg_nom_size),
             starting_theta,
             seed,
             seed_hash,
@@ -147,6 +151,7 @@ impl<E: SlotEntry, A: Allocator> SketchHashTable<E, A> {
             lg_nom_size,
             resize_factor: ResizeFactor::X1,
             has_slots: lg_cur_size != 0,
+            threshold: threshold_of(lg_cur_size, lg_nom_size),
             starting_theta: MAX_THETA,
             seed,
             seed_hash,
@@ -183,11 +188,7 @@ impl<E: SlotEntry, A: Allocator> SketchHashTable<E, A> {
         ensures rebuilds { 7 * 2 ^ self.now.map.lg_nom * self.now.counts.rebuilds ≤ 8 * self.now.counts.inserted }
         ensures placed { self.now.counts.trims ≡ 0 → self.now.counts.placed ≤ 3 * self.now.counts.inserted }
     {
-        let has_slots = self.has_slots;
-        if !has_slots {
-            return 0;
-        }
-        threshold_of(self.lg_cur_size, self.lg_nom_size)
+        self.threshold
     }
 
     /// How many entries it retains.
@@ -307,6 +308,7 @@ impl<E: SlotEntry, A: Allocator> SketchHashTable<E, A> {
         let lg_cur_size = starting_size(self.lg_nom_size, self.resize_factor.lg_value());
         clear_slots::<E, A>(&mut self.slots, nominal_size(lg_cur_size));
         self.lg_cur_size = lg_cur_size;
+        self.threshold = threshold_of(lg_cur_size, self.lg_nom_size);
         self.theta = self.starting_theta;
         self.count = 0;
         self.counts = nothing();
@@ -372,6 +374,7 @@ impl<E: SlotEntry + Drop, A: Allocator + Clone> SketchHashTable<E, A> {
                         lg_cur: self.lg_cur_size,
                         lg_nom: self.lg_nom_size,
                         grow: self.resize_factor.lg_value(),
+                        most: self.threshold,
                         count: self.count,
                         theta: self.theta,
                     },
@@ -380,6 +383,7 @@ impl<E: SlotEntry + Drop, A: Allocator + Clone> SketchHashTable<E, A> {
                     &mut self.counts,
                 )?;
                 self.lg_cur_size = settled.lg_cur;
+                self.threshold = settled.most;
                 self.theta = settled.theta;
                 self.count = settled.count;
                 Ok(true)

@@ -41,12 +41,13 @@ pub(crate) fn nothing() -> Counts
     }
 }
 
-/// The sizes of a table and its theta.
+/// The sizes of a table, how many entries its slots may have (`most`), and its theta.
 #[derive(Clone, Copy)]
 pub(crate) struct Sizes {
     pub(crate) lg_cur: u8,
     pub(crate) lg_nom: u8,
     pub(crate) grow: u8,
+    pub(crate) most: usize,
     pub(crate) count: usize,
     pub(crate) theta: u64,
 }
@@ -109,6 +110,7 @@ pub(crate) fn put_entry<E: SlotEntry + Drop, A: Allocator + Clone>(
     ensures after { IfOk result (λ s. record { entries = map_of E.key (filled (map E.held slots.new.items)); theta = s.theta } ≡ rebuilt E.key (2 ^ sizes.lg_nom) (with_entry E.key (map_of E.key (filled (map E.held slots.old.items))) entry) sizes.theta) }
     ensures sized { IfOk result (λ s. HasSize s.lg_cur sizes.lg_nom sizes.grow s.count) }
     ensures size { IfOk result (λ s. s.lg_cur ≡ size_after sizes.lg_cur sizes.lg_nom sizes.grow sizes.count) }
+    ensures most { IfOk result (λ s. s.most ≡ threshold s.lg_cur sizes.lg_nom) }
     ensures count { IfOk result (λ s. s.count ≡ count_after sizes.lg_cur sizes.lg_nom sizes.count) }
     ensures room { sizes.count < threshold sizes.lg_cur sizes.lg_nom → IsOk result }
     ensures err { OnErr result (slots.new.items ≡ slots.old.items) }
@@ -118,7 +120,7 @@ pub(crate) fn put_entry<E: SlotEntry + Drop, A: Allocator + Clone>(
     ensures unticked { OnErr result (counts.new ≡ record counts.old { looks = counts.new.looks }) }
 {
     let more = sizes.count + 1;
-    if more <= threshold_of(sizes.lg_cur, sizes.lg_nom) {
+    if more <= sizes.most {
         slots[at] = entry.into_slot();
         counts.inserted.tick();
         counts.fresh.tick();
@@ -150,6 +152,7 @@ fn overflow<E: SlotEntry + Drop, A: Allocator + Clone>(
     ensures after { IfOk result (λ s. record { entries = map_of E.key (filled (map E.held slots.new.items)); theta = s.theta } ≡ rebuilt E.key (2 ^ sizes.lg_nom) (with_entry E.key (map_of E.key (filled (map E.held slots.old.items))) entry) sizes.theta) }
     ensures sized { IfOk result (λ s. HasSize s.lg_cur sizes.lg_nom sizes.grow s.count) }
     ensures size { IfOk result (λ s. s.lg_cur ≡ size_after sizes.lg_cur sizes.lg_nom sizes.grow sizes.count) }
+    ensures most { IfOk result (λ s. s.most ≡ threshold s.lg_cur sizes.lg_nom) }
     ensures count { IfOk result (λ s. s.count ≡ count_after sizes.lg_cur sizes.lg_nom sizes.count) }
     ensures err { OnErr result (slots.new.items ≡ slots.old.items) }
     ensures looks { 2 * counts.new.looks ≤ 2 * counts.old.looks + (counts.new.placed - counts.old.placed) * (counts.new.placed - counts.old.placed + 1) }
@@ -180,7 +183,7 @@ fn grow<E: SlotEntry + Drop, A: Allocator + Clone>(
     requires inside { at < length slots.old.items }
     ensures laid_out { IfOk result (λ s. IsLaidOut E.key s.lg_cur (map E.held slots.new.items)) }
     ensures after { OnOk result (map_of E.key (filled (map E.held slots.new.items)) ≡ with_entry E.key (map_of E.key (filled (map E.held slots.old.items))) entry) }
-    ensures same { IfOk result (λ s. s ≡ record sizes { lg_cur = min (sizes.lg_cur + sizes.grow) (sizes.lg_nom + 1); count = sizes.count + 1 }) }
+    ensures same { IfOk result (λ s. s ≡ record sizes { lg_cur = min (sizes.lg_cur + sizes.grow) (sizes.lg_nom + 1); most = threshold (min (sizes.lg_cur + sizes.grow) (sizes.lg_nom + 1)) sizes.lg_nom; count = sizes.count + 1 }) }
     ensures err { OnErr result (slots.new.items ≡ slots.old.items) }
     ensures looks { 2 * counts.new.looks ≤ 2 * counts.old.looks + (counts.new.placed - counts.old.placed) * (counts.new.placed - counts.old.placed + 1) }
     ensures looked { counts.old.looks ≤ counts.new.looks }
@@ -202,6 +205,7 @@ fn grow<E: SlotEntry + Drop, A: Allocator + Clone>(
     counts.fresh.tick();
     Ok(Sizes {
         lg_cur,
+        most: threshold_of(lg_cur, sizes.lg_nom),
         count: sizes.count + 1,
         ..sizes
     })

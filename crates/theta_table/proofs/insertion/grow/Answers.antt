@@ -1,6 +1,7 @@
-use Rattle.std.proofs.Common.{◌≡◌, ◌+◌, ◌<◌, map, length, refl, ap, ◌∙◌, arith}
+use Rattle.std.proofs.Common.{◌≡◌, ℕ, ◌+◌, ◌<◌, map, length, refl, ap, ◌∙◌, arith}
 use Rattle.theta_laws.specs.Maps.{map_of, with_entry}
 use Rattle.theta_slots.specs.Layout.{filled}
+use Rattle.theta_table.specs.HashTable.{threshold}
 use Rattle.theta_laws.proofs.maps.Ascending.{each-with_entry}
 use Rattle.theta_laws.proofs.cuts.Cuts.{below_all}
 use Rattle.theta_table.proofs.Tables.{grown, joined_count}
@@ -19,11 +20,19 @@ put_spread-requires-clause-room g c =
     let s = c.args.sizes in
     omega (arith, c.requires.place.counted, (grown s.lg_cur c.min-lg_cur.result s.lg_nom s.grow s.count c.requires.place.sized c.requires.growing c.min-lg_cur.ensures).fits)
 
+pub threshold_of-requires : goal.threshold_of-requires
+threshold_of-requires g c = omega (arith, c.min-lg_cur.ensures, c.requires.place.sized.nom_high)
+
 pub returns-clause-after : goal.returns-clause-after
 returns-clause-after g c =
     let key = g.E.SketchEntry.key in
     let m = map_of key (filled (map g.E.SlotEntry.held c.args.slots.now.items)) in
     c.in_ok-put_spread.ensures.map ∙ below_all key (with_entry key m c.args.entry) c.args.sizes.theta (each-with_entry key (λ y. key y < c.args.sizes.theta) m c.args.entry c.requires.place.below_theta c.requires.place.low)
+
+pub returns-clause-same : goal.returns-clause-same
+returns-clause-same g c =
+    let s = c.args.sizes in
+    ap (λ (n : ℕ). record s { lg_cur = c.min-lg_cur.result; most = n; count = s.count + 1 }) c.threshold_of.ensures ∙ ap (λ (n : ℕ). record s { lg_cur = n; most = threshold n s.lg_nom; count = s.count + 1 }) c.min-lg_cur.ensures
 
 pub returns-clause-ticked : goal.returns-clause-ticked
 returns-clause-ticked g c =

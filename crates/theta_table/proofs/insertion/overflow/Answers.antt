@@ -88,3 +88,9 @@ pub returns-clause-count : goal.returns-clause-count
 returns-clause-count g c =
     let s = c.args.sizes in
     ap (λ z. z.count) c.in_ok-cut.ensures.same ∙ sym (rebuilt_ticked s.lg_cur s.lg_nom s.grow s.count c.args.counts.now c.requires.full (omega (arith, c.if-full.false))).retained
+
+pub returns-then-full-clause-most : goal.returns-then-full-clause-most
+returns-then-full-clause-most g c = rw c.in_ok-wider.ensures.same refl
+
+pub returns-clause-most : goal.returns-clause-most
+returns-clause-most g c = rw c.in_ok-cut.ensures.same c.requires.place.bounded

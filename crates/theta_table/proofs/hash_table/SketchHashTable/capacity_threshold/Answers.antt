@@ -3,6 +3,12 @@ use Rattle.theta_table.proofs.Slotted.{slotted_count}
 use Rattle.theta_table.proofs.Counting.{rebuilds_few, placed_few}
 use Rattle.theta_table.proofs.hash_table.SketchHashTable.capacity_threshold.Goals as goal
 
+pub returns-clause-threshold : goal.returns-clause-threshold
+returns-clause-threshold g c = rw (← c.self.view_is) (λ has. rw has at c.self.invariant.bounded)
+
+pub returns-clause-none : goal.returns-clause-none
+returns-clause-none g c = rw (← c.self.view_is) (λ lacks. rw lacks at c.self.invariant.bounded)
+
 pub returns-clause-few : goal.returns-clause-few
 returns-clause-few g c = rw (← c.self.view_is) (λ has. omega (arith, slotted_count g.E.SketchEntry.key _ _ _ _ _ c.self.invariant.slotted, (c.self.invariant.slotted.sized has).few))
 

@@ -12,5 +12,6 @@ invariant_of-self g c =
     let same : length after ≡ length slots = search rules in
     record {
       slotted = slotted_cleared g.E.SketchEntry.key _ c.self.inside.lg_cur_size _ c.self.inside.count (map held slots) (map held after) c.self.invariant.slotted c.clear_slots.ensures.free (length-held held after ∙ same ∙ sym (length-held held slots));
+      bounded = c.self.invariant.bounded;
       counted = counted_fewer c.self.inside.lg_cur_size c.self.inside.lg_nom_size c.self.inside.count _ c.self.invariant.counted 0 (omega arith);
     }

@@ -2,6 +2,7 @@ use Rattle.std.proofs.Common.{map, ◌∙◌}
 use Rattle.theta_slots.proofs.Held.{length-held}
 use Rattle.theta_table.proofs.Counting.{counted_nothing}
 use Rattle.theta_table.proofs.Slotted.{slotted_operator}
+use Rattle.theta_table.proofs.Tables.{operator_threshold}
 use Rattle.theta_table.proofs.hash_table.SketchHashTable.for_set_operation.Goals as goal
 
 pub invariant_of-result : goal.invariant_of-result
@@ -11,5 +12,6 @@ invariant_of-result g c =
     record {
       slotted = slotted_operator g.E.SketchEntry.key c.args.lg_cur_size c.args.lg_nom_size c.args.retention_theta c.args.seed c.args.seed_hash (map held slots) c.requires.sized c.requires.size_high c.requires.theta_low c.requires.theta_high c.requires.of_seed
           (length-held held slots ∙ c.in_ok-slots.ensures.size) c.in_ok-slots.ensures.free;
+      bounded = c.threshold_of.ensures ∙ operator_threshold c.args.lg_cur_size c.args.lg_nom_size c.requires.sized;
       counted = rw c.nothing.ensures (counted_nothing c.args.lg_cur_size c.args.lg_nom_size);
     }

@@ -17,5 +17,6 @@ invariant_of-result g c =
             of_seed = c.in_ok-seed_hash.ensures.ok;
             hash_low = rw c.in_ok-seed_hash.ensures.ok (omega (arith, c.in_ok-seed_hash.ensures.nonzero));
           });
+      bounded = c.threshold_of.ensures;
       counted = rw c.nothing.ensures (counted_nothing c.starting_size-lg_cur_size.result c.args.lg_nom_size);
     }

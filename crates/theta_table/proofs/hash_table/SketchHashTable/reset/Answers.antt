@@ -21,5 +21,6 @@ invariant_of-self g c =
     record {
       slotted = slotted_resized key _ c.self.inside.lg_cur_size _ c.self.inside.count c.starting_size-lg_cur_size.result c.self.inside.starting_theta (map held c.self.inside.slots.items) (map held after) c.self.invariant.slotted least.0
           c.clear_slots.ensures.free (length-held held after ∙ c.clear_slots.ensures.size ∙ c.nominal_size.ensures.power) (rw c.lg_value.ensures at c.starting_size-lg_cur_size.ensures.sized) made.start_low made.start_high;
+      bounded = rw least.0 c.threshold_of-self-inside.ensures;
       counted = rw c.nothing.ensures (counted_nothing c.starting_size-lg_cur_size.result c.self.inside.lg_nom_size);
     }

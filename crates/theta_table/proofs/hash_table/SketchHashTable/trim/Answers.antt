@@ -41,6 +41,7 @@ invariant_of-self-2 g c =
           (rw is (IsRetained-cut key c.nominal_size-nominal.result _ c.self.inside.theta c.self.invariant.slotted.table.kept))
           c.in_ok-theta.ensures.laid_out (sym c.in_ok-theta.ensures.count)
           (rw c.nominal_size-nominal.ensures.power (cut_size c.self.inside.lg_cur_size c.self.inside.lg_nom_size _ c.self.inside.count sized (omega (arith, c.if-self-nominal.false, c.nominal_size-nominal.ensures.power))));
+      bounded = c.self.invariant.bounded;
       counted = rw (c.nominal_size-nominal.ensures.power, c.tick.ensures) (counted_trimmed c.self.inside.lg_cur_size c.self.inside.lg_nom_size c.self.inside.count c.self.inside.counts c.self.invariant.counted c.cut_slots.new.placed);
     }
 

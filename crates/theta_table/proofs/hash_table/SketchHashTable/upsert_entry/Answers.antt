@@ -64,6 +64,7 @@ invariant_of-self-then-not-place g c =
       slotted = slotted_next key _ c.self.inside.lg_cur_size _ c.self.inside.count c.self.inside.lg_cur_size c.self.inside.count c.self.inside.theta slots (set slots at (Some (step.writes it.entry))) c.self.invariant.slotted it.has (rw joins retained)
           (written_laid_out key c.self.inside.lg_cur_size c.args.hash at it.entry (step.writes it.entry) slots it.laid inside found.on_path found.ends keeps)
           (c.self.invariant.slotted.counted ∙ sym (filled_over key slots at (step.writes it.entry) it.entry it.held)) (c.self.invariant.slotted.sized it.has);
+      bounded = c.self.invariant.bounded;
       counted = counted_looks _ _ _ _ c.self.invariant.counted c.seek-place.new.looks;
     })
 
@@ -121,6 +122,7 @@ put_entry-requires-clause-place g c =
       counted = c.self.invariant.slotted.counted;
       below_theta = c.self.invariant.slotted.table.kept.below_theta;
       sized = rw (← c.lg_value.ensures) at (c.self.invariant.slotted.sized it.has);
+      bounded = rw it.has at c.self.invariant.bounded;
       free = it.free;
       on_path = rw has_key found.on_path;
       nonzero = omega (arith, has_key, c.if-hash-eq0.false);
@@ -165,6 +167,7 @@ invariant_of-self-in-Some g c =
     record {
       slotted = slotted_next key _ c.self.inside.lg_cur_size _ c.self.inside.count c.in_ok-settled-in-Some.settled.lg_cur c.in_ok-settled-in-Some.settled.count c.in_ok-settled-in-Some.settled.theta slots (map g.E.SlotEntry.held c.put_entry.new.slots.items) c.self.invariant.slotted it.has (rw put.after retained)
           put.laid_out put.counted (rw c.lg_value.ensures at put.sized);
+      bounded = rw it.has put.most;
       counted = rw (put.size, put.count, put.ticked) (counted_looks _ _ _ _ is c.put_entry.new.counts.looks);
     }
 
