@@ -1,6 +1,6 @@
 -- Entries that are put into free slots in rounds.
-use Rattle.std.proofs.Common.{◌≡◌, ℕ, ◌+◌, ◌-◌, ◌*◌, ◌^◌, ◌<◌, ◌≤◌, ◌≢◌, zero, suc, true, false, not, eqb, cond, List, [], ◌∷◌, ◌++◌, length, length-append, length-take, append_assoc, append-nil, map, set, get_or, take, drop, Option, Some, None, is_none, refl, sym, ap, ◌∙◌, subst, arith}
-use Rattle.std.specs.List.{AllByRecursion, count_by}
+use Rattle.std.proofs.Common.{◌≡◌, ℕ, ◌+◌, ◌-◌, ◌*◌, ◌^◌, ◌<◌, ◌≤◌, ◌≢◌, zero, suc, true, false, not, eqb, cond, List, [], ◌∷◌, ◌++◌, length, length-append, length-take, append_assoc, append-nil, map, set, get_or, take, drop, Option, Some, None, is_none, refl, sym, ap, ◌∙◌, arith}
+use Rattle.std.specs.List.{AllByRecursion}
 use Rattle.std.specs.Option.{option_map_or}
 use Rattle.std.proofs.lemmas.Bool.Decides.{nat_tests}
 use Rattle.std.proofs.lemmas.List.{take-set-le, take_more_set, take_all, take_at, take-take, length-drop, drop_all, drop_more, get_or-take, get_or-set_other, map-append}
@@ -177,10 +177,10 @@ module _ {X : Type 0} (key : X → ℕ) (lg : ℕ) where
             found = λ q.
                 entry_at-append key stay (wait ++ filled (set slots p (Some x))) q
                 ∙ ap (λ o. option_map_or Some (entry_at key stay q) o) (
-                  entry_at-append key wait (filled (set slots p (Some x))) q
-                  ∙ ap (λ o. option_map_or Some (entry_at key wait q) o) (found q)
-                  ∙ sym (entry_at-append key wait (x ∷ filled slots) q)
-                  ∙ passing key wait (filled slots) x q (omega (arith, is.all q, is.once q))
+                entry_at-append key wait (filled (set slots p (Some x))) q
+                ∙ ap (λ o. option_map_or Some (entry_at key wait q) o) (found q)
+                ∙ sym (entry_at-append key wait (x ∷ filled slots) q)
+                ∙ passing key wait (filled slots) x q (omega (arith, is.all q, is.once q))
                 )
                 ∙ sym (entry_at-append key stay ((x ∷ wait) ++ filled slots) q)
                 ∙ is.found q;

@@ -1,11 +1,11 @@
-use Rattle.std.proofs.Common.{◌≡◌, ℕ, ◌+◌, ◌*◌, ◌<◌, ◌≤◌, ◌^◌, ◌++◌, [], ◌∷◌, refl, Some, None, eqb, length, length-append, map, set, get_or, subst, sym, ap, ◌∙◌, arith}
-use Rattle.std.proofs.lemmas.List.{append-nil, length-set}
+use Rattle.std.proofs.Common.{◌≡◌, ℕ, ◌+◌, ◌*◌, ◌<◌, ◌≤◌, ◌^◌, ◌++◌, [], ◌∷◌, refl, Some, None, eqb, length, length-append, map, set, subst, sym, ap, ◌∙◌, arith}
+use Rattle.std.proofs.lemmas.List.{length-set}
 use Rattle.std.proofs.lemmas.Nat.{pow_pos}
 use Rattle.std.proofs.Math.Pow.{pow_mono}
 use Rattle.theta_slots.specs.Layout.{filled, slot}
 use Rattle.theta_slots.specs.Probe.{probe}
 use Rattle.theta_slots.specs.Rounds.{IsInRound}
-use Rattle.theta_slots.proofs.Held.{map-set, length-held, some_of, none_of}
+use Rattle.theta_slots.proofs.Held.{length-held, some_of, none_of}
 use Rattle.theta_slots.proofs.Moves.{count-append}
 use Rattle.theta_slots.proofs.Settled.{in_front, in_wait, waits_next, front_before, wait_behind, front_more, front_none, front_whole, front_is, none_behind, round_starts, round_next, round_short, round_puts, round_keeps, is_free, is_taken, looks_next, looks_put, looks_kept, looks_end}
 use Rattle.theta_slots.proofs.rounds.settle.Goals as goal

@@ -1,4 +1,4 @@
-use Rattle.std.proofs.Common.{◌≡◌, ℕ, sym, ap, ◌∙◌}
+use Rattle.std.proofs.Common.{ℕ, sym, ap, ◌∙◌}
 use Rattle.theta_slots.specs.Probe.{probe}
 use Rattle.theta_slots.proofs.Layouts.{probe_start}
 use Rattle.theta_slots.proofs.rounds.slot_in_round.Goals as goal
