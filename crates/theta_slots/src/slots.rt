@@ -45,6 +45,17 @@ pub(crate) fn slot_of(number: usize, lg: u8) -> usize
     number & ((1usize << lg) - 1)
 }
 
+/// What is left of a number in `size` slots, which are 2^`lg`. That their number is there already saves a search the making of it.
+#[inline(always)]
+fn slot_among(number: usize, size: usize, lg: u8) -> usize
+    requires small { lg < 64 }
+    requires size { size ≡ 2 ^ lg }
+    ensures value { result ≡ number % 2 ^ lg }
+    ensures below { result < 2 ^ lg }
+{
+    number & (size - 1)
+}
+
 /// How far the path of a hash goes at each step.
 #[inline(always)]
 pub(crate) fn stride_of(hash: u64, lg: u8) -> usize
@@ -70,8 +81,9 @@ pub fn seek<E: SlotEntry>(slots: &[E::Slot], lg: u8, hash: u64, looks: &mut Coun
     ensures looked { looks.old < looks.new }
     ensures looks { looks.new ≤ looks.old + length (filled (map E.held slots.now)) + 1 }
 {
+    let size = slots.len();
     let stride = stride_of(hash, lg);
-    let mut at = slot_of(hash as usize, lg);
+    let mut at = slot_among(hash as usize, size, lg);
     'look: loop {
         match look_at::<E>(slots, at, looks) {
             None => return Place { at, is_free: true },
@@ -81,7 +93,7 @@ pub fn seek<E: SlotEntry>(slots: &[E::Slot], lg: u8, hash: u64, looks: &mut Coun
                 }
             }
         }
-        at = slot_of(at + stride, lg);
+        at = slot_among(at + stride, size, lg);
     }
 }
 

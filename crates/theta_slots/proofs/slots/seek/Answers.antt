@@ -7,7 +7,7 @@ use Rattle.theta_slots.proofs.Layouts.{probe_start, probe_next, probe_low, other
 use Rattle.theta_slots.proofs.slots.seek.Goals as goal
 
 pub look-init : goal.look-init
-look-init g c = (0, omega arith, c.slot_of-at.ensures.value ∙ sym (probe_start c.args.hash c.args.lg), omega arith, others_none g.E.SketchEntry.key c.args.lg (map g.E.SlotEntry.held c.args.slots.now) c.args.hash)
+look-init g c = (0, omega arith, c.slot_among-at.ensures.value ∙ sym (probe_start c.args.hash c.args.lg), omega arith, others_none g.E.SketchEntry.key c.args.lg (map g.E.SlotEntry.held c.args.slots.now) c.args.hash)
 
 pub look_at-requires : goal.look_at-requires
 look_at-requires g c = omega (arith, c.look.invariant.2, c.requires.size, probe_low c.args.hash c.args.lg c.look.invariant.0)
@@ -59,7 +59,7 @@ look-preserved g c =
     let there = ap (λ (n : ℕ). is_other key c.args.hash (slot slots n)) (sym i.2) ∙ ap (is_other key c.args.hash) holds ∙ another in (
       i.0 + 1,
       omega (arith, c.look_at.ensures.looks, i.1),
-      c.slot_of-at-in-look.ensures.value ∙ ap (λ (n : ℕ). (n + c.stride_of-stride.result) % 2 ^ c.args.lg) i.2 ∙ ap (λ (n : ℕ). (probe c.args.hash c.args.lg i.0 + n) % 2 ^ c.args.lg) c.stride_of-stride.ensures.value ∙ probe_next c.args.hash c.args.lg i.0,
+      c.slot_among-at-in-look.ensures.value ∙ ap (λ (n : ℕ). (n + c.stride_of-stride.result) % 2 ^ c.args.lg) i.2 ∙ ap (λ (n : ℕ). (probe c.args.hash c.args.lg i.0 + n) % 2 ^ c.args.lg) c.stride_of-stride.ensures.value ∙ probe_next c.args.hash c.args.lg i.0,
       omega (arith, few_others key c.args.lg c.args.hash i.0 slots i.3 i.4, c.requires.room),
       others_more key c.args.lg slots c.args.hash i.0 i.4 there,
     )
