@@ -1,4 +1,4 @@
--- Entries that are put into free slots in rounds.
+-- Entries that are put into free slots in rounds, or one by one.
 use Rattle.std.proofs.Common.{Bor, ◌≡◌, ℕ, ◌+◌, ◌-◌, ◌*◌, ◌^◌, ◌<◌, ◌≤◌, ◌≢◌, zero, suc, true, false, not, eqb, cond, List, [], ◌∷◌, ◌++◌, length, length-append, length-take, append_assoc, append-nil, map, set, get_or, take, drop, Option, Some, None, is_none, is_some, refl, sym, ap, ◌∙◌, subst, arith}
 use Rattle.std.specs.List.{AllByRecursion}
 use Rattle.std.specs.Option.{option_copied, option_map_or}

@@ -44,8 +44,8 @@ pub(crate) fn are_words<T>(slots: &[T]) -> bool
 }
 
 /// Lays the slots out anew with what is below theta, which is gathered in others first, of which there is one more at least; what
-/// is not is dropped. Slots of one word are filled in rounds, and larger ones one by one. Counts in `placed` the entries placed,
-/// in `looks` the slots looked at.
+/// is not is dropped. Slots of one word are filled in rounds, and larger ones one by one; no hash is compared, since all differ.
+/// Counts in `placed` the entries placed, in `looks` the slots looked at.
 fn gather<E: SlotEntry, A: Allocator>(
     slots: &mut [E::Slot],
     others: Vec<E::Slot, A>,

@@ -1,7 +1,8 @@
-//! Entries put into free slots in rounds, in each of which every entry that is left looks one slot further on its path.
+//! Entries whose hashes differ, put into free slots without a comparison of hashes: in rounds, in each of which every entry that
+//! is left looks one slot further on its path, or one by one.
 //!
-//! Compiled, no branch depends on whether a slot is free, since the counts take no memory: put one by one, each entry ends its
-//! search with a branch that is guessed wrong.
+//! Compiled, no branch of a round depends on whether a slot is free, since the counts take no memory: put one by one, each entry
+//! ends its search with a branch that is guessed wrong.
 ghost use Rattle.std.specs.Prelude.{◌≡◌, ℕ, ◌+◌, ◌-◌, ◌<◌, ◌≤◌, ◌^◌, ◌*◌, [], ◌++◌, None, is_none, if◌then◌else◌, length, map, set};
 ghost use Rattle.theta_laws.specs.Maps.{IsApart, entry_at, map_of};
 ghost use Rattle.theta_slots.specs.Layout.{filled, slot, IsOnPath, IsLaidOut};
@@ -171,8 +172,8 @@ fn first_free<E: SlotEntry>(slots: &[E::Slot], lg: u8, hash: u64, looks: &mut Co
     }
 }
 
-/// Moves the entries of `left` into slots, all of which are free, one after another. Counts in `placed` the entries, in `looks`
-/// the slots looked at.
+/// Moves the entries of `left` into slots, all of which are free, one by one: each into the first free slot on its path. Counts
+/// in `placed` the entries, in `looks` the slots looked at.
 pub(crate) fn settle_each<E: SlotEntry, A: Allocator>(
     left: &mut Vec<E::Slot, A>,
     slots: &mut [E::Slot],

@@ -1,10 +1,9 @@
-use Rattle.std.proofs.Common.{◌+◌, ◌^◌, ◌≤◌, ℕ, ltb, length, map, ap, ◌∙◌, arith}
+use Rattle.std.proofs.Common.{◌+◌, ◌^◌, ◌≤◌, ℕ, length, map, ap, ◌∙◌, arith}
 use Rattle.std.proofs.Math.Pow.{pow_mono}
-use Rattle.std.specs.List.{count_by}
-use Rattle.theta_laws.specs.Maps.{below, map_of}
+use Rattle.theta_laws.specs.Maps.{map_of}
 use Rattle.theta_slots.specs.Layout.{filled}
 use Rattle.theta_slots.proofs.Held.{filled_most, length-held}
-use Rattle.theta_slots.proofs.Gathers.{apart-below, below_few, count-below, front_gathered, map_of-below, map_of-below-below}
+use Rattle.theta_slots.proofs.Gathers.{apart-below, below_few, front_gathered, map_of-below}
 use Rattle.theta_slots.proofs.Ranks.{apart-laid_out}
 use Rattle.theta_laws.proofs.cuts.Cuts.{length-below}
 use Rattle.theta_slots.proofs.gathering.gather.Goals as goal

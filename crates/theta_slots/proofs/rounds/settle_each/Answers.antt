@@ -1,4 +1,4 @@
-use Rattle.std.proofs.Common.{◌≡◌, ℕ, ◌+◌, ◌*◌, ◌<◌, ◌++◌, [], ◌∷◌, Some, None, append-nil, length, map, sym, ap, ◌∙◌, subst, arith}
+use Rattle.std.proofs.Common.{◌≡◌, ℕ, ◌+◌, ◌<◌, ◌++◌, [], ◌∷◌, Some, None, append-nil, length, map, sym, ap, ◌∙◌, subst, arith}
 use Rattle.theta_slots.specs.Layout.{filled, IsOnPath}
 use Rattle.theta_slots.specs.Rounds.{IsInRound, times}
 use Rattle.theta_slots.proofs.Held.{length-held, map-set, some_of, none_of}
