@@ -1,5 +1,5 @@
 -- Marks: the first marked slot, what is marked behind it, and slots that no mark stands for.
-use Rattle.std.proofs.Common.{Bor, ◌≡◌, ℕ, zero, suc, ◌+◌, ◌-◌, ◌*◌, ◌/◌, ◌^◌, ◌<◌, ◌≤◌, not, if◌then◌else◌, List, [], ◌∷◌, length, map, get_or, take, drop, drop-cons, Option, Some, None, is_some, refl, sym, ap, subst, ◌∙◌, arith}
+use Rattle.std.proofs.Common.{Bor, true, false, cond, ltb, ◌≡◌, ℕ, zero, suc, ◌+◌, ◌-◌, ◌*◌, ◌/◌, ◌^◌, ◌<◌, ◌≤◌, not, if◌then◌else◌, List, [], ◌∷◌, length, map, get_or, take, drop, drop-cons, Option, Some, None, is_some, refl, sym, ap, subst, ◌∙◌, arith}
 use Rattle.std.specs.List.{prefix_len}
 use Rattle.std.specs.Option.{option_copied}
 use Rattle.std.specs.Simd.Lanes.{mask_l}
@@ -7,7 +7,8 @@ use Rattle.std.proofs.lemmas.List.{length-map, length-drop, length-take-le, drop
 use Rattle.std.proofs.lemmas.Simd.{mask_l-lt, trailing_mask_l}
 use Rattle.theta_slots.specs.Layout.{filled}
 use Rattle.theta_slots.proofs.Held.{slot-map, take_whole}
-use Rattle.theta_table.specs.Marks.{AreMarked}
+use Rattle.theta_laws.specs.Maps.{below}
+use Rattle.theta_table.specs.Marks.{AreMarked, only_below, under}
 use lib.Count.{count_trailing_zeros}
 use Rattle.std.proofs.Math.Pow.{pow_mono}
 use native.Mathlib.Nat.{pow-suc, two-pow-succ, mul_comm, div-one, div-div-eq-div-mul}
@@ -164,3 +165,30 @@ one_at_most (Some x) = omega arith
 -- a borrow of something is no borrow of nothing
 pub never_none : {X : Type 0} {o : Option (Bor X)} {x : X} → o ≡ None → option_copied o ≡ Some x → ⊥
 never_none none some = absurd (cc)
+
+-- what slots hold under a bound
+module _ {S X : Type 0} (key : X → ℕ) (held : S → Option X) where
+  only_held : (theta : ℕ) (o : Option X) (x : X) → only_below key theta o ≡ Some x → o ≡ Some x
+  only_held theta None x is = absurd (cc)
+  only_held theta (Some y) x is = (elim (ltb (key y) theta) as (λ t. (if t then Some y else None) ≡ Some x → Some y ≡ Some x) [ true ↦ λ e. e | false ↦ λ e. absurd (cc) ]) is
+
+  under_held : (bound : Option ℕ) (s : S) (x : X) → under key bound held s ≡ Some x → held s ≡ Some x
+  under_held None s x is = is
+  under_held (Some theta) s x is = only_held theta (held s) x is
+
+  -- under the bound the first marked slot holds what it holds
+  pub first_held : (bound : Option ℕ) (slots : List S) (ahead marks : ℕ) (are : AreMarked (map (under key bound held) slots) ahead marks) (some : 0 < marks) (d : S)
+      → held (get_or slots (count_trailing_zeros 64 marks) d) ≡ Some (first (under key bound held) slots ahead marks are some).entry
+  first_held bound slots ahead marks are some d = under_held bound (get_or slots (count_trailing_zeros 64 marks) d) (first (under key bound held) slots ahead marks are some).entry (held_first (under key bound held) slots ahead marks are some d)
+
+  -- what is held under a theta is what is held, below it
+  pub filled-under : (theta : ℕ) (slots : List S) → filled (map (under key (Some theta) held) slots) ≡ below key (filled (map held slots)) theta
+  filled-under theta [] = refl
+  filled-under theta (s ∷ slots) =
+      let rest = filled-under theta slots in
+      let others = map (under key (Some theta) held) slots in
+      elim (held s) as (λ o. filled (only_below key theta o ∷ others) ≡ below key (filled (o ∷ map held slots)) theta) [
+        | None ↦ rest
+        | Some x ↦
+            elim (ltb (key x) theta) as (λ t. filled ((if t then Some x else None) ∷ others) ≡ cond t (x ∷ below key (filled (map held slots)) theta) (below key (filled (map held slots)) theta)) [ true ↦ ap (λ xs. x ∷ xs) rest | false ↦ rest ]
+      ]

@@ -9,58 +9,34 @@ ghost use Rattle.theta_slots.specs.Layout.{filled};
 ghost use Rattle.theta_laws.specs.Refusal.{Refuses};
 ghost use Rattle.theta_laws.specs.Cuts.{IsRetained};
 
-use crate::iter::SketchHashTableIter;
+use crate::iter::{Marked, first_in};
 use sketch_base::Error;
 use std::alloc::{AllocError, Allocator};
 use theta_compact::{CompactSketchState, is_answer_ordered};
 use theta_laws::SketchEntry;
 use theta_slots::{SlotEntry, hash_of_rank};
 
-/// Appends a clone of an entry, where its hash is below theta.
-#[inline(always)]
-fn append_below<E: SlotEntry + Clone, A: Allocator>(
-    entries: &mut Vec<E, A>,
-    entry: &E,
-    theta: u64,
-) -> Result<(), AllocError>
-    requires clones_equal { ClonesEqual E.is_clone }
-    ensures ok { OnOk result (entries.new.items ≡ entries.old.items ++ below E.key (entry.now ∷ []) theta) }
-{
-    if entry.hash() < theta {
-        entries.push(entry.clone()?)?;
-    }
-    Ok(())
-}
-
-/// Clones of those of some entries that are below a theta, in their order, with room for `room` of them from the start.
-fn clones_below<'a, E: SlotEntry + Clone + 'a, A: Allocator>(
-    alloc: A,
-    entries: SketchHashTableIter<'a, E>,
-    theta: u64,
-    room: usize,
-) -> Result<Vec<E, A>, AllocError>
-    requires clones_equal { ClonesEqual E.is_clone }
-    ensures listed { IfOk result (λ v. v.items ≡ below E.key entries.entry theta) }
-{
-    let mut left = entries;
-    let mut clones = Vec::with_capacity(alloc, room)?;
-    'clone_each: while let Some(entry) = left.next() {
-        append_below(&mut clones, entry, theta)?;
-    }
-    Ok(clones)
-}
-
 /// Clones of the entries below a theta, in the order of the slots, with room for `room` of them from the start.
-fn entries_below<E: SlotEntry + Clone, A: Allocator>(
+fn entries_below<'a, E: SlotEntry + Clone + 'a, A: Allocator>(
     alloc: A,
-    slots: &[E::Slot],
+    slots: &'a [E::Slot],
     theta: u64,
     room: usize,
 ) -> Result<Vec<E, A>, AllocError>
     requires clones_equal { ClonesEqual E.is_clone }
     ensures listed { IfOk result (λ v. v.items ≡ below E.key (filled (map E.held slots.now)) theta) }
 {
-    clones_below(alloc, SketchHashTableIter::<E>::over(slots), theta, room)
+    let mut left = Marked {
+        slots,
+        ahead: 0,
+        marks: 0,
+    };
+    let mut clones = Vec::with_capacity(alloc, room)?;
+    'clone_each: while let (Some(entry), behind) = first_in::<E>(left, Some(theta)) {
+        clones.push(entry.clone()?)?;
+        left = behind;
+    }
+    Ok(clones)
 }
 
 /// Entries of different hashes, ascending.

@@ -7,19 +7,19 @@ ghost use Rattle.std.specs.Simd.Lanes.{mask_l};
 ghost use Rattle.std.specs.Iterator.SizeHint.{IsWithinCount};
 ghost use Rattle.theta_slots.specs.Layout.{filled};
 ghost use Rattle.theta_table.specs.Gathering.{from_below};
-ghost use Rattle.theta_table.specs.Marks.{AreMarked};
+ghost use Rattle.theta_table.specs.Marks.{AreMarked, under};
 
 use std::alloc::AllocError;
 use std::marker::{Model, PhantomData};
 use theta_slots::SlotEntry;
 
-/// Slots, and a mark for each of the first `ahead` that holds an entry.
-struct Marked<'a, E: SlotEntry> {
-    slots: &'a [E::Slot],
+/// Slots, and a mark for each of the first `ahead` that holds an entry, or one below a bound.
+pub(crate) struct Marked<'a, E: SlotEntry> {
+    pub(crate) slots: &'a [E::Slot],
     /// Of how many slots the marks tell, at most 64.
-    ahead: usize,
-    /// Bit k is 1 where the k-th slot holds an entry.
-    marks: u64,
+    pub(crate) ahead: usize,
+    /// Bit k is 1 where the k-th slot holds such an entry.
+    pub(crate) marks: u64,
 }
 
 impl<'a, E: SlotEntry> Clone for Marked<'a, E> {
@@ -71,38 +71,50 @@ impl<'a, E: SlotEntry> SketchHashTableIter<'a, E> {
 /// Of how many slots marks are made at once.
 const BLOCK: usize = 64;
 
-/// 1 for a slot that holds an entry, and 0 for a free one.
+/// Whether a slot holds an entry below theta.
 #[inline(always)]
-fn mark_of<E: SlotEntry>(slot: &E::Slot) -> u64
-    ensures { result ≡ if is_some (E.held slot.now) then 1 else 0 }
+fn holds_below<E: SlotEntry>(slot: &E::Slot, theta: u64) -> bool
+    ensures { MatchOption (E.held slot.now) (result ≡ false) (λ x. result ≡ nat_lt (E.key x) theta) }
 {
-    E::in_slot(slot).is_some() as u64
+    E::is_below(slot, theta)
 }
 
-/// A bit for each of a few slots, the lowest for the first: whether it holds an entry. It takes no branch on what a slot holds.
+/// 1 for a slot that holds an entry, below the bound if there is one, and otherwise 0.
 #[inline(always)]
-fn marks_of<E: SlotEntry>(slots: &[E::Slot]) -> u64
+fn mark_of<E: SlotEntry>(slot: &E::Slot, bound: Option<u64>) -> u64
+    ensures { result ≡ if is_some (under E.key bound E.held slot.now) then 1 else 0 }
+{
+    match bound {
+        Some(theta) => holds_below::<E>(slot, theta) as u64,
+        None => E::in_slot(slot).is_some() as u64,
+    }
+}
+
+/// A bit for each of a few slots, the lowest for the first: whether it holds an entry, below the bound if there is one. It takes
+/// no branch on what a slot holds.
+#[inline(always)]
+fn marks_of<E: SlotEntry>(slots: &[E::Slot], bound: Option<u64>) -> u64
     requires { length slots.now ≤ 64 }
-    ensures { result ≡ mask_l (map is_some (map E.held slots.now)) }
+    ensures { result ≡ mask_l (map is_some (map (under E.key bound E.held) slots.now)) }
 {
     let mut marks = 0u64;
     'mark_each: for i in 0..slots.len() {
-        marks = 2 * marks + mark_of::<E>(&slots[slots.len() - 1 - i]);
+        marks = 2 * marks + mark_of::<E>(&slots[slots.len() - 1 - i], bound);
     }
     marks
 }
 
-/// The slots from the first block on in which one holds an entry, with the marks of that block; no slots where none does.
+/// The slots from the first block on in which one is to be marked, with the marks of that block; no slots where none is.
 #[inline(always)]
-fn marked_from<'a, E: SlotEntry + 'a>(slots: &'a [E::Slot]) -> Marked<'a, E>
-    ensures marked { AreMarked (map E.held result.slots.now) result.ahead result.marks }
-    ensures same { filled (map E.held result.slots.now) ≡ filled (map E.held slots.entry.now) }
-    ensures none { result.marks ≡ 0 → filled (map E.held result.slots.now) ≡ [] }
+fn marked_from<'a, E: SlotEntry + 'a>(slots: &'a [E::Slot], bound: Option<u64>) -> Marked<'a, E>
+    ensures marked { AreMarked (map (under E.key bound E.held) result.slots.now) result.ahead result.marks }
+    ensures same { filled (map (under E.key bound E.held) result.slots.now) ≡ filled (map (under E.key bound E.held) slots.entry.now) }
+    ensures none { result.marks ≡ 0 → filled (map (under E.key bound E.held) result.slots.now) ≡ [] }
 {
     let mut left = slots;
     'pass_blocks: while !left.is_empty() {
         let ahead = left.len().min(BLOCK);
-        let marks = marks_of::<E>(&left[..ahead]);
+        let marks = marks_of::<E>(&left[..ahead], bound);
         if marks != 0 {
             return Marked {
                 slots: left,
@@ -121,28 +133,30 @@ fn marked_from<'a, E: SlotEntry + 'a>(slots: &'a [E::Slot]) -> Marked<'a, E>
 
 /// What is left, with a mark where an entry is left: as it is where it has one, and otherwise from a later block on.
 #[inline(always)]
-fn marked_ahead<'a, E: SlotEntry + 'a>(rest: Marked<'a, E>) -> Marked<'a, E>
-    requires marked { AreMarked (map E.held rest.slots.now) rest.ahead rest.marks }
-    ensures marked { AreMarked (map E.held result.slots.now) result.ahead result.marks }
-    ensures same { filled (map E.held result.slots.now) ≡ filled (map E.held rest.entry.slots.now) }
-    ensures none { result.marks ≡ 0 → filled (map E.held result.slots.now) ≡ [] }
+fn marked_ahead<'a, E: SlotEntry + 'a>(rest: Marked<'a, E>, bound: Option<u64>) -> Marked<'a, E>
+    requires marked { AreMarked (map (under E.key bound E.held) rest.slots.now) rest.ahead rest.marks }
+    ensures marked { AreMarked (map (under E.key bound E.held) result.slots.now) result.ahead result.marks }
+    ensures same { filled (map (under E.key bound E.held) result.slots.now) ≡ filled (map (under E.key bound E.held) rest.entry.slots.now) }
+    ensures none { result.marks ≡ 0 → filled (map (under E.key bound E.held) result.slots.now) ≡ [] }
 {
     if rest.marks != 0 {
         return rest;
     }
-    marked_from(&rest.slots[rest.ahead..])
+    marked_from(&rest.slots[rest.ahead..], bound)
 }
 
-/// The entry in the first slot that is marked, and what is behind that slot; nothing where no slot is marked and none holds an
-/// entry.
+/// The first entry, below the bound if there is one, and what is behind its slot; nothing where there is no such entry.
 #[inline(always)]
-fn first_in<'a, E: SlotEntry + 'a>(rest: Marked<'a, E>) -> (Option<&'a E>, Marked<'a, E>)
-    requires marked { AreMarked (map E.held rest.slots.now) rest.ahead rest.marks }
-    requires none { rest.marks ≡ 0 → filled (map E.held rest.slots.now) ≡ [] }
-    ensures marked { AreMarked (map E.held result.1.slots.now) result.1.ahead result.1.marks }
-    ensures first { filled (map E.held rest.entry.slots.now) ≡ filled (option_copied result.0 ∷ map E.held result.1.slots.now) }
-    ensures none { result.0 ≡ None → filled (map E.held rest.entry.slots.now) ≡ [] }
+pub(crate) fn first_in<'a, E: SlotEntry + 'a>(
+    left: Marked<'a, E>,
+    bound: Option<u64>,
+) -> (Option<&'a E>, Marked<'a, E>)
+    requires marked { AreMarked (map (under E.key bound E.held) left.slots.now) left.ahead left.marks }
+    ensures marked { AreMarked (map (under E.key bound E.held) result.1.slots.now) result.1.ahead result.1.marks }
+    ensures first { filled (map (under E.key bound E.held) left.entry.slots.now) ≡ filled (option_copied result.0 ∷ map (under E.key bound E.held) result.1.slots.now) }
+    ensures none { result.0 ≡ None → filled (map (under E.key bound E.held) left.entry.slots.now) ≡ [] }
 {
+    let rest = marked_ahead(left, bound);
     if rest.marks == 0 {
         return (None, rest);
     }
@@ -154,14 +168,6 @@ fn first_in<'a, E: SlotEntry + 'a>(rest: Marked<'a, E>) -> (Option<&'a E>, Marke
         marks: (rest.marks >> at) >> 1,
     };
     (E::in_slot(&rest.slots[at]), behind)
-}
-
-/// Whether a slot holds an entry below theta.
-#[inline(always)]
-fn holds_below<E: SlotEntry>(slot: &E::Slot, theta: u64) -> bool
-    ensures { MatchOption (E.held slot.now) (result ≡ false) (λ x. result ≡ nat_lt (E.key x) theta) }
-{
-    E::is_below(slot, theta)
 }
 
 /// How many slots are passed over at once.
@@ -210,7 +216,7 @@ impl<'a, E: SlotEntry + 'a> SketchHashTableIter<'a, E> {
         let slots = slots_from_below::<E>(self.rest.slots, theta);
         // The slot at hand alone: the caller takes its entry and mostly passes on, so that marks of a block would be lost.
         let ahead = slots.len().min(1);
-        let marks = marks_of::<E>(&slots[..ahead]);
+        let marks = marks_of::<E>(&slots[..ahead], None);
         self.rest = Marked {
             slots,
             ahead,
@@ -227,7 +233,7 @@ impl<'a, E: SlotEntry + 'a> Iterator for SketchHashTableIter<'a, E> {
     ghost remaining = { item_count (λ s. s) };
 
     fn next(&mut self) -> Option<&'a E> {
-        let (first, rest) = first_in(marked_ahead(self.rest));
+        let (first, rest) = first_in(self.rest, None);
         self.rest = rest;
         first
     }

@@ -1,4 +1,5 @@
 use Rattle.std.proofs.Common.{◌≡◌, ◌≤◌, ◌-◌, map, drop, length}
+use Rattle.theta_table.specs.Marks.{under}
 use Rattle.theta_table.proofs.Marks.{marks_in}
 use Rattle.theta_table.proofs.iter.marks_of.Given as goal
 
@@ -6,5 +7,5 @@ use Rattle.theta_table.proofs.iter.marks_of.Given as goal
 abbrev pub invariant-mark_each : goal.invariant-mark_each
 invariant-mark_each g l = record {
   within : l.i ≤ length l.slots;
-  told : l.marks ≡ marks_in (drop (length l.slots - l.i) (map g.E.SlotEntry.held l.slots));
+  told : l.marks ≡ marks_in (drop (length l.slots - l.i) (map (under g.E.SketchEntry.key l.bound g.E.SlotEntry.held) l.slots));
 }
