@@ -1,7 +1,7 @@
--- Entries that are put into free slots in rounds, or one by one.
-use Rattle.std.proofs.Common.{Bor, ◌≡◌, ℕ, ◌+◌, ◌-◌, ◌*◌, ◌^◌, ◌<◌, ◌≤◌, ◌≢◌, zero, suc, true, false, not, eqb, cond, List, [], ◌∷◌, ◌++◌, length, length-append, length-take, append_assoc, append-nil, map, set, get_or, take, drop, Option, Some, None, is_none, is_some, refl, sym, ap, ◌∙◌, subst, arith}
+-- Entries that are put into free slots in rounds.
+use Rattle.std.proofs.Common.{◌≡◌, ℕ, ◌+◌, ◌-◌, ◌*◌, ◌^◌, ◌<◌, ◌≤◌, ◌≢◌, zero, suc, true, false, not, eqb, cond, List, [], ◌∷◌, ◌++◌, length, length-append, length-take, append_assoc, append-nil, map, set, get_or, take, drop, Option, Some, None, is_none, refl, sym, ap, ◌∙◌, arith}
 use Rattle.std.specs.List.{AllByRecursion}
-use Rattle.std.specs.Option.{option_copied, option_map_or}
+use Rattle.std.specs.Option.{option_map_or}
 use Rattle.std.proofs.lemmas.Bool.Decides.{nat_tests}
 use Rattle.std.proofs.lemmas.List.{take-set-le, take_more_set, take_all, take_at, take-take, length-drop, drop_all, drop_more, get_or-take, get_or-set_other, map-append}
 use Rattle.theta_laws.specs.Maps.{entry_at, map_of}
@@ -24,11 +24,6 @@ module _ {X : Type 0} where
   pub is_taken : (o : Option X) → is_none o ≡ false → (x : X) × (o ≡ Some x)
   is_taken None is = absurd (cc)
   is_taken (Some x) is = (x, refl)
-
-  -- an entry that is lent stands in its slot
-  pub is_lent : (lent : Option (Bor X)) (o : Option X) → is_some lent ≡ true → option_copied lent ≡ o → (x : X) × (o ≡ Some x)
-  is_lent None o some lends = absurd (cc)
-  is_lent (Some b) o some lends = (b.now, sym lends)
 
 -- ---- what is left, in memory: what stays in front, and what waits from a place on
 module _ {S : Type 0} where
@@ -253,26 +248,6 @@ module _ {X : Type 0} (key : X → ℕ) (lg : ℕ) where
     waits = all_others_none after rest;
   }
 
-  module _ (whole rest : List X) (x : X) (slots : List (Option X)) (put : ℕ) (is : IsInRound key lg whole [] (rest ++ x ∷ []) slots 0 0 put 0) where
-    -- the hash of an entry that waits is in no slot
-    pub not_in_slots : times key (key x) (filled slots) ≡ 0
-    not_in_slots =
-        let same : eqb (key x) (key x) ≡ true = grind (arith, nat_tests) in
-        omega (arith, is.all (key x), is.once (key x), count-append (λ y. eqb (key y) (key x)) rest (x ∷ []), one_here key x (key x) same)
-
-    -- while one waits, not all are in slots
-    pub one_waits : length (filled slots) + 1 ≤ length whole
-    one_waits = omega (arith, is.all_put, is.counted, length-append rest (x ∷ []))
-
-    -- the last of those that wait takes a free slot on its path
-    pub last_settled : (p : ℕ) → p < length slots → slot slots p ≡ None → IsOnPath key lg slots (key x) p → IsInRound key lg whole [] rest (set slots p (Some x)) 0 0 (put + 1) 0
-    last_settled p inside free on =
-        let one : length (filled (set slots p (Some x))) ≡ length (filled slots) + 1 = filled_new slots p x inside free in
-        let more : length (filled (set slots p (Some x))) ≡ put + 1 = omega (arith, one, is.all_put) in
-        let found = put_found key lg slots p x is.laid_out inside on (ap (is_other key (key x)) free) in
-        subst (λ (n : ℕ). IsInRound key lg whole [] rest (set slots p (Some x)) 0 0 n 0) more
-        (part_settled whole rest (x ∷ []) slots (set slots p (Some x)) put is (laid_out_new key lg slots p x is.laid_out inside free on) found (λ q. count_put key (λ y. eqb (key y) q) slots p x inside free) (omega (arith, one)))
-
   -- all are in slots once none waits
   pub settled_map : (whole : List X) (slots : List (Option X)) (begun round put looked : ℕ) → IsInRound key lg whole [] [] slots begun round put looked → map_of key (filled slots) ≡ map_of key whole
   settled_map whole slots begun round put looked is =
@@ -298,9 +273,6 @@ looks_end l l0 looked r n put after begun most none few is =
 pub looks_part : (l m l0 after before put : ℕ) → before ≡ put → 2 * l + before * (before + 1) ≤ 2 * m + after * (after + 1) → 2 * m ≤ 2 * l0 + put * (put + 1) → 2 * l ≤ 2 * l0 + after * (after + 1)
 looks_part l m l0 after before put is more most = let same : before * (before + 1) ≡ put * (put + 1) = ap (λ (n : ℕ). n * (n + 1)) is in omega (arith, same, more, most)
 
-pub looks_one : (l m l0 put filled : ℕ) → filled ≡ put → l ≤ m + filled + 1 → 2 * m ≤ 2 * l0 + put * (put + 1) → 2 * l ≤ 2 * l0 + (put + 1) * ((put + 1) + 1)
-looks_one l m l0 put filled is more most = omega (arith, is, more, most)
-
 -- ---- parts of what waits
 module _ {S : Type 0} where
   -- the rest of a list, as a part of it
@@ -312,9 +284,3 @@ module _ {S : Type 0} where
   front_kept xs more end from n within le =
       let long : length (take from xs) ≡ from = omega (arith, length-take from xs, within) in
       take-take from n ((take from xs ++ more) ++ end) le ∙ ap (take from) (append_assoc (take from xs) more end) ∙ take_at (take from xs) (more ++ end) from long
-
--- the last of what waits is taken from it
-module _ {S X : Type 0} (held : S → Option X) where
-  pub last_taken : (left rest : List S) (s : S) (o : Option X) → left ≡ rest ++ s ∷ [] → held s ≡ o → filled (map held left) ≡ filled (map held rest) ++ filled (o ∷ [])
-  last_taken left rest s o popped is =
-      ap (λ xs. filled (map held xs)) popped ∙ ap filled (map-append held rest (s ∷ [])) ∙ filled-append (map held rest) (held s ∷ []) ∙ ap (λ u. filled (map held rest) ++ filled (u ∷ [])) is

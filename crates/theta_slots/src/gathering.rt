@@ -7,8 +7,8 @@ ghost use Rattle.theta_slots.specs.Layout.{filled, slot, IsOnPath, IsLaidOut};
 
 use crate::count::Count;
 use crate::entry::SlotEntry;
-use crate::rounds::{settle_all, settle_each};
-use crate::slots::number_below;
+use crate::rounds::settle_all;
+use crate::slots::{number_below, spread};
 use std::alloc::{AllocError, Allocator};
 use std::mem;
 
@@ -44,8 +44,8 @@ pub(crate) fn are_words<T>(slots: &[T]) -> bool
 }
 
 /// Lays the slots out anew with what is below theta, which is gathered in others first, of which there is one more at least; what
-/// is not is dropped. Slots of one word are filled in rounds, and larger ones one by one; no hash is compared, since all differ.
-/// Counts in `placed` the entries placed, in `looks` the slots looked at.
+/// is not is dropped. Slots of one word are filled in rounds, and larger ones one by one. Counts in `placed` the entries placed,
+/// in `looks` the slots looked at.
 fn gather<E: SlotEntry, A: Allocator>(
     slots: &mut [E::Slot],
     others: Vec<E::Slot, A>,
@@ -72,7 +72,7 @@ where
         settle_all::<E, A>(&mut gathered, slots, lg, placed, looks);
         return;
     }
-    settle_each::<E, A>(&mut gathered, slots, lg, placed, looks);
+    spread::<E, A>(&mut gathered, theta, slots, lg, placed, looks);
 }
 
 /// Puts a new entry into the free slot `at`, where a search for it ends, and lays the slots out anew with what is below theta, at

@@ -1,17 +1,16 @@
-//! Entries whose hashes differ, put into free slots without a comparison of hashes: in rounds, in each of which every entry that
-//! is left looks one slot further on its path, or one by one.
+//! Entries put into free slots in rounds, in each of which every entry that is left looks one slot further on its path.
 //!
-//! Compiled, no branch of a round depends on whether a slot is free, since the counts take no memory: put one by one, each entry
-//! ends its search with a branch that is guessed wrong.
+//! Compiled, no branch depends on whether a slot is free, since the counts take no memory: put one by one, each entry ends its
+//! search with a branch that is guessed wrong.
 ghost use Rattle.std.specs.Prelude.{◌≡◌, ℕ, ◌+◌, ◌-◌, ◌<◌, ◌≤◌, ◌^◌, ◌*◌, [], ◌++◌, None, is_none, if◌then◌else◌, length, map, set};
 ghost use Rattle.theta_laws.specs.Maps.{IsApart, entry_at, map_of};
-ghost use Rattle.theta_slots.specs.Layout.{filled, slot, IsOnPath, IsLaidOut};
+ghost use Rattle.theta_slots.specs.Layout.{filled, slot, IsLaidOut};
 ghost use Rattle.theta_slots.specs.Probe.{probe};
 ghost use Rattle.theta_slots.specs.Rounds.{times};
 
 use crate::count::Count;
 use crate::entry::SlotEntry;
-use crate::slots::{hash_in, look_at, slot_after, slot_of, stride_of};
+use crate::slots::{hash_in, slot_after, slot_of};
 use std::alloc::Allocator;
 use std::mem;
 
@@ -144,59 +143,5 @@ pub(crate) fn settle_all<E: SlotEntry, A: Allocator>(
         let from = count.saturating_sub(PART);
         settle::<E>(&mut left[from..], slots, lg, placed, looks);
         left.truncate(from);
-    }
-}
-
-/// The first free slot on the path of a hash that no slot holds. One of the 2^`lg` slots is free.
-///
-/// Each look at a slot is counted in `looks`: from 1 to one more than the slots that are taken.
-#[inline(always)]
-fn first_free<E: SlotEntry>(slots: &[E::Slot], lg: u8, hash: u64, looks: &mut Count) -> usize
-    requires small { lg < 40 }
-    requires size { length slots.now ≡ 2 ^ lg }
-    requires room { length (filled (map E.held slots.now)) < 2 ^ lg }
-    requires absent { times E.key hash (filled (map E.held slots.now)) ≡ 0 }
-    ensures inside { result < length slots.now }
-    ensures on_path { IsOnPath E.key lg (map E.held slots.now) hash result }
-    ensures free { slot (map E.held slots.now) result ≡ None }
-    ensures looked { looks.old < looks.new }
-    ensures looks { looks.new ≤ looks.old + length (filled (map E.held slots.now)) + 1 }
-{
-    let stride = stride_of(hash, lg);
-    let mut at = slot_of(hash as usize, lg);
-    'look: loop {
-        if look_at::<E>(slots, at, looks).is_none() {
-            return at;
-        }
-        at = slot_of(at + stride, lg);
-    }
-}
-
-/// Moves the entries of `left` into slots, all of which are free, one by one: each into the first free slot on its path. Counts
-/// in `placed` the entries, in `looks` the slots looked at.
-pub(crate) fn settle_each<E: SlotEntry, A: Allocator>(
-    left: &mut Vec<E::Slot, A>,
-    slots: &mut [E::Slot],
-    lg: u8,
-    placed: &mut Count,
-    looks: &mut Count,
-)
-    requires small { lg < 40 }
-    requires size { length slots.old ≡ 2 ^ lg }
-    requires free { filled (map E.held slots.old) ≡ [] }
-    requires apart { IsApart E.key (filled (map E.held left.old.items)) }
-    requires room { length (filled (map E.held left.old.items)) ≤ 2 ^ lg }
-    ensures laid_out { IsLaidOut E.key lg (map E.held slots.new) }
-    ensures map { map_of E.key (filled (map E.held slots.new)) ≡ map_of E.key (filled (map E.held left.old.items)) }
-    ensures placed { placed.new ≡ placed.old + length (filled (map E.held left.old.items)) }
-    ensures looked { looks.old ≤ looks.new }
-    ensures looks { 2 * looks.new ≤ 2 * looks.old + (placed.new - placed.old) * (placed.new - placed.old + 1) }
-{
-    while let Some(slot) = left.pop() {
-        if let Some(hash) = hash_in::<E>(&slot) {
-            let free = first_free::<E>(slots, lg, hash, looks);
-            slots[free] = slot;
-            placed.tick();
-        }
     }
 }

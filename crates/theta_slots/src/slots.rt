@@ -22,7 +22,7 @@ pub struct Place {
 
 /// The entry that a slot holds, if it holds one. Each look of a search is one call.
 #[inline(always)]
-pub(crate) fn look_at<'a, E: SlotEntry + 'a>(
+fn look_at<'a, E: SlotEntry + 'a>(
     slots: &'a [E::Slot],
     at: usize,
     looks: &mut Count,

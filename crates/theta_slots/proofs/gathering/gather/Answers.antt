@@ -1,22 +1,16 @@
-use Rattle.std.proofs.Common.{◌+◌, ◌^◌, ◌≤◌, ℕ, length, map, ap, ◌∙◌, arith}
+use Rattle.std.proofs.Common.{◌+◌, ◌^◌, ◌≤◌, ℕ, ltb, length, map, ap, ◌∙◌, arith}
 use Rattle.std.proofs.Math.Pow.{pow_mono}
-use Rattle.theta_laws.specs.Maps.{map_of}
+use Rattle.std.specs.List.{count_by}
+use Rattle.theta_laws.specs.Maps.{below, map_of}
 use Rattle.theta_slots.specs.Layout.{filled}
 use Rattle.theta_slots.proofs.Held.{filled_most, length-held}
-use Rattle.theta_slots.proofs.Gathers.{apart-below, below_few, front_gathered, map_of-below}
+use Rattle.theta_slots.proofs.Gathers.{apart-below, below_few, count-below, front_gathered, map_of-below, map_of-below-below}
 use Rattle.theta_slots.proofs.Ranks.{apart-laid_out}
 use Rattle.theta_laws.proofs.cuts.Cuts.{length-below}
 use Rattle.theta_slots.proofs.gathering.gather.Goals as goal
 
-pub settle_each-requires-clause-apart : goal.settle_each-requires-clause-apart
-settle_each-requires-clause-apart g c =
-    let key = g.E.SketchEntry.key in
-    let held = g.E.SlotEntry.held in
-    let gathered = front_gathered key held c.args.slots.now c.take_below-count.new.others c.args.others.items c.truncate.new.self.items c.args.others.len c.take_below-count.result c.args.theta (omega (arith, c.take_below-count.ensures.size_others, c.deref_mut.ensures.len)) c.truncate.ensures.items c.take_below-count.ensures.taken in
-    rw gathered (apart-below key (filled (map held c.args.slots.now)) c.args.theta (apart-laid_out key c.args.lg (map held c.args.slots.now) c.requires.laid_out))
-
-pub settle_each-requires-clause-room : goal.settle_each-requires-clause-room
-settle_each-requires-clause-room g c =
+pub spread-requires-clause-room : goal.spread-requires-clause-room
+spread-requires-clause-room g c =
     let key = g.E.SketchEntry.key in
     let held = g.E.SlotEntry.held in
     let slots = c.args.slots.now in
@@ -27,14 +21,14 @@ returns-clause-map g c =
     let key = g.E.SketchEntry.key in
     let held = g.E.SlotEntry.held in
     let gathered = front_gathered key held c.args.slots.now c.take_below-count.new.others c.args.others.items c.truncate.new.self.items c.args.others.len c.take_below-count.result c.args.theta (omega (arith, c.take_below-count.ensures.size_others, c.deref_mut.ensures.len)) c.truncate.ensures.items c.take_below-count.ensures.taken in
-    c.settle_each.ensures.map ∙ ap (map_of key) gathered ∙ map_of-below key (filled (map held c.args.slots.now)) c.args.theta
+    c.spread.ensures.map ∙ ap (λ xs. below key (map_of key xs) c.args.theta) gathered ∙ map_of-below-below key (filled (map held c.args.slots.now)) c.args.theta
 
 pub returns-clause-placed : goal.returns-clause-placed
 returns-clause-placed g c =
     let key = g.E.SketchEntry.key in
     let held = g.E.SlotEntry.held in
     let gathered = front_gathered key held c.args.slots.now c.take_below-count.new.others c.args.others.items c.truncate.new.self.items c.args.others.len c.take_below-count.result c.args.theta (omega (arith, c.take_below-count.ensures.size_others, c.deref_mut.ensures.len)) c.truncate.ensures.items c.take_below-count.ensures.taken in
-    c.settle_each.ensures.placed ∙ ap (λ xs. c.args.placed.now + length xs) gathered ∙ ap (λ (n : ℕ). c.args.placed.now + n) (length-below key (filled (map held c.args.slots.now)) c.args.theta)
+    c.spread.ensures.placed ∙ ap (λ xs. c.args.placed.now + count_by (λ x. ltb (key x) c.args.theta) xs) gathered ∙ ap (λ (n : ℕ). c.args.placed.now + n) (count-below key (filled (map held c.args.slots.now)) c.args.theta)
 
 pub settle_all-requires-clause-apart : goal.settle_all-requires-clause-apart
 settle_all-requires-clause-apart g c =
