@@ -1,5 +1,5 @@
 //! Merging the entries of a sketch into a table.
-ghost use Rattle.std.specs.Prelude.{◌≡◌, ◌^◌, ◌⊎◌, Some, None, [], ◌∷◌, true, map, MatchOption, OnOk, IfErr, IsTrue, ◌↔◌, ◌≤◌};
+ghost use Rattle.std.specs.Prelude.{◌≡◌, ◌^◌, ◌⊎◌, Some, None, [], ◌∷◌, true, map, MatchOption, OnOk, IfErr, IsTrue, ◌↔◌, ◌≤◌, min};
 ghost use Rattle.sketch_base.specs.declared.error.ErrorKind.TheVariants.{OutOfMemory, Policy};
 ghost use Rattle.theta_laws.specs.Step.{merge_step};
 ghost use Rattle.theta_laws.specs.Insertion.{after_upserts};
@@ -67,6 +67,15 @@ fn next_entry<'a, E: SlotEntry>(
     entries.next()
 }
 
+/// Whether a hash is not below one of two thetas. Each is compared by itself: the second is the table's, which an insertion asks
+/// then, and so is known.
+#[inline(always)]
+fn is_past_either(hash: u64, theta: u64, own_theta: u64) -> bool
+    ensures { IsTrue result ↔ (min theta own_theta ≤ hash) }
+{
+    hash >= theta || hash >= own_theta
+}
+
 /// Merges entries that ascend into the table of a union, in their order. It stops at the first that is not below a theta or
 /// that the table screens; no policy sees those. Each entry takes few instructions here: a loop that also goes over slots, or
 /// asks for the order, takes twice as many.
@@ -84,10 +93,9 @@ fn merge_ascending<E: SlotEntry + Clone, P: UnionMergePolicy<E>, A: Allocator + 
     ensures made_with { table.new.map ≡ record table.old.map { kept = table.new.map.kept } }
     ensures refused { IfErr result (λ e. (e ≡ OutOfMemory) ⊎ ((e ≡ Policy) × IsMergeRefused E.key (P.refuses policy.now) (below E.key table.old.map.kept.entries theta) entries.now)) }
 {
-    let mut lesser = theta.min(table.retention_theta());
     'merge_in_order: for first in entries {
         let key = first.hash();
-        if key >= lesser {
+        if is_past_either(key, theta, table.retention_theta()) {
             break;
         }
         let merging = MergeStep {
@@ -95,7 +103,6 @@ fn merge_ascending<E: SlotEntry + Clone, P: UnionMergePolicy<E>, A: Allocator + 
             incoming: first,
         };
         table.upsert_entry(key, merging)?;
-        lesser = theta.min(table.retention_theta());
     }
     Ok(())
 }

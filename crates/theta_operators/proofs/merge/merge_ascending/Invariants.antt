@@ -1,4 +1,4 @@
-use Rattle.std.proofs.Common.{◌≡◌, ◌^◌, true, map, min, drop}
+use Rattle.std.proofs.Common.{◌≡◌, ◌^◌, true, map, drop}
 use Rattle.theta_laws.specs.Step.{merge_step}
 use Rattle.theta_laws.specs.Maps.{below}
 use Rattle.theta_laws.specs.Insertion.{after_upserts}
@@ -15,7 +15,6 @@ invariant-merge_in_order g l =
     let left = drop l.first-index l.entries in
     record {
       rest : after_upserts (fold_key key) k step_of (map Value (below key left l.theta)) (unmarked l.table.map.kept) ≡ after_upserts (fold_key key) k step_of (map Value (below key l.entries l.theta)) (unmarked l.initial.table.map.kept);
-      lesser_is : l.lesser ≡ min l.theta l.table.map.kept.theta;
       made_with : l.table.map ≡ record l.initial.table.map { kept = l.table.map.kept };
       merging : IsMerging key l.entries l.initial.table.map.kept.entries left l.table.map.kept.entries true;
     }
