@@ -35,12 +35,10 @@ fn take_below<E: SlotEntry>(slots: &mut [E::Slot], theta: u64, others: &mut [E::
 /// How many bytes a word of memory has.
 const WORD: usize = 8;
 
-/// Whether slots are at most one word each.
+/// Whether slots are at most one word each. No clause speaks of memory: it chooses between two ways to the same answer.
 #[inline(always)]
-pub(crate) fn are_words<T>(slots: &[T]) -> bool
-    requires { length slots.now < 2 ^ 40 }
-{
-    size_of_val(slots) <= WORD * slots.len()
+pub fn are_words<T>(slots: &[T]) -> bool {
+    size_of_val(slots) / WORD <= slots.len()
 }
 
 /// Lays the slots out anew with what is below theta, which is gathered in others first, of which there is one more at least; what

@@ -1,5 +1,4 @@
-use Rattle.std.proofs.Common.{◌+◌, ◌^◌, ◌≤◌, ℕ, ltb, length, map, ap, ◌∙◌, arith}
-use Rattle.std.proofs.Math.Pow.{pow_mono}
+use Rattle.std.proofs.Common.{◌+◌, ℕ, ltb, length, map, ap, ◌∙◌, arith}
 use Rattle.std.specs.List.{count_by}
 use Rattle.theta_laws.specs.Maps.{below, map_of}
 use Rattle.theta_slots.specs.Layout.{filled}
@@ -57,8 +56,3 @@ returns-then-are_words-clause-placed g c =
     let held = g.E.SlotEntry.held in
     let gathered = front_gathered key held c.args.slots.now c.take_below-count.new.others c.args.others.items c.truncate.new.self.items c.args.others.len c.take_below-count.result c.args.theta (omega (arith, c.take_below-count.ensures.size_others, c.deref_mut.ensures.len)) c.truncate.ensures.items c.take_below-count.ensures.taken in
     c.settle_all.ensures.placed ∙ ap (λ xs. c.args.placed.now + length xs) gathered ∙ ap (λ (n : ℕ). c.args.placed.now + n) (length-below key (filled (map held c.args.slots.now)) c.args.theta)
-
-pub are_words-requires : goal.are_words-requires
-are_words-requires g c =
-    let most : 2 ^ c.args.lg ≤ 2 ^ 39 = pow_mono {i = c.args.lg} {j = 39} (omega (arith, c.requires.small)) in
-    omega (arith, most, c.take_below-count.ensures.size, c.requires.laid_out.size, length-held g.E.SlotEntry.held c.args.slots.now)

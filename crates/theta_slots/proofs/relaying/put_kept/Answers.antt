@@ -1,6 +1,5 @@
-use Rattle.std.proofs.Common.{rules, ◌≡◌, ℕ, ◌+◌, ◌<◌, ◌≤◌, ◌^◌, ◌++◌, Some, length, map, set, take, drop, ap, ◌∙◌, arith}
+use Rattle.std.proofs.Common.{rules, ◌≡◌, ℕ, ◌+◌, ◌<◌, ◌++◌, Some, length, map, set, take, drop, ap, ◌∙◌, arith}
 use Rattle.std.proofs.lemmas.List.{places}
-use Rattle.std.proofs.Math.Pow.{pow_mono}
 use Rattle.theta_slots.specs.Layout.{is_other}
 use Rattle.theta_slots.proofs.Held.{map-set, length-held}
 use Rattle.theta_slots.proofs.Layouts.{laid_out_new, put_joins}
@@ -40,8 +39,3 @@ returns-clause-placed g c =
     let moved = rw (c.deref_mut.ensures.value, written) at c.relay.ensures.map in
     let placed = rw (c.deref_mut.ensures.value, written) at c.relay.ensures.placed in
     rw whole (placed ∙ ap (λ (n : ℕ). c.args.placed.now + n) (moved_count key c.args.lg c.args.lg c.args.theta (set slots c.args.at (Some c.args.entry)) (map held after) laid c.relay.ensures.laid_out moved))
-
-pub are_words-requires : goal.are_words-requires
-are_words-requires g c =
-    let most : 2 ^ c.args.lg ≤ 2 ^ 39 = pow_mono {i = c.args.lg} {j = 39} (omega (arith, c.requires.small)) in
-    omega (arith, most, ap length c.deref.ensures.value, c.requires.laid_out.size, length-held g.E.SlotEntry.held c.args.slots.now.items)
