@@ -15,12 +15,21 @@ ghost use Rattle.theta_slots.specs.Rank.{HasRank, within};
 use crate::entry::SlotEntry;
 use crate::slots::{hash_in, hash_or_zero, number_below};
 use std::alloc::{AllocError, Allocator};
+use theta_laws::MAX_THETA;
 
 /// How many windows are searched before all hashes are gathered.
 const TRIES: usize = 4;
 
-/// Half the width of a window: so many times the span by the square root of the number of its hashes.
-const HALF_WIDTH: u64 = 2;
+/// How far a window goes down from the hash that is to be expected: so many times the span by twice the square root of the number
+/// of its hashes, which is about the standard deviation of that hash. Lists that ascend bring their smaller hashes first, so the
+/// hash of a rank may well be further down than evenly spread hashes have it.
+const FAR_DOWN: u64 = 8;
+
+/// How far a window goes up, in the same unit.
+const FAR_UP: u64 = 3;
+
+/// Of how many slots the greatest hash tells about how far the hashes of all reach.
+const SAMPLE: usize = 1024;
 
 /// Where the hash of a rank is sought: from `low` on and below `high`. It is a hint, and no proof rests on it.
 #[derive(Clone, Copy)]
@@ -34,7 +43,7 @@ struct Span {
 }
 
 /// The bounds of a window around where the hash of a rank is to be expected among the hashes of a span, if they are spread
-/// evenly there. Its half is at least four times the standard deviation of that hash.
+/// evenly there.
 fn expected_bounds(span: Span, rank: usize) -> (u64, u64)
     ensures ordered { result.0 ≤ result.1 }
 {
@@ -44,8 +53,10 @@ fn expected_bounds(span: Span, rank: usize) -> (u64, u64)
     let step = width / number.saturating_add(1);
     let far = step.saturating_mul(smaller.saturating_add(1));
     let middle = span.low.saturating_add(far);
-    let half = HALF_WIDTH.saturating_mul(width / number.isqrt().max(1));
-    (middle.saturating_sub(half), middle.saturating_add(half))
+    let unit = width / number.isqrt().saturating_mul(2).max(1);
+    let low = middle.saturating_sub(FAR_DOWN.saturating_mul(unit));
+    let high = middle.saturating_add(FAR_UP.saturating_mul(unit));
+    (low, high)
 }
 
 /// What is left of a span after a window from `low` to `high` missed the rank: `below` hashes are less than `low`, and `between`
@@ -75,6 +86,16 @@ fn end_of_hashes<E: SlotEntry>(also: Option<u64>, slots: &[E::Slot]) -> u64 {
     greatest.saturating_add(1)
 }
 
+/// About how far the hashes in the slots reach: to theta, or, where none was dropped yet, a little beyond the greatest of a few.
+fn expected_end<E: SlotEntry>(slots: &[E::Slot], theta: u64) -> u64 {
+    if theta < MAX_THETA {
+        return theta;
+    }
+    let sample = slots.len().min(SAMPLE);
+    let end = end_of_hashes::<E>(None, &slots[..sample]);
+    end.saturating_add(end / SAMPLE as u64)
+}
+
 /// How many hashes there is room for at least, unless all are fewer.
 const LEAST_ROOM: usize = 1024;
 
@@ -82,7 +103,7 @@ const LEAST_ROOM: usize = 1024;
 fn window_room(count: usize) -> usize
     ensures { result ≤ count }
 {
-    let twice = (4 * HALF_WIDTH as usize).saturating_mul(count.isqrt());
+    let twice = ((FAR_DOWN + FAR_UP) as usize).saturating_mul(count.isqrt());
     twice.max(LEAST_ROOM).min(count)
 }
 
@@ -198,7 +219,7 @@ pub fn hash_of_rank<E: SlotEntry, A: Allocator + Drop>(
 {
     let mut span = Span {
         low: 0,
-        high: theta,
+        high: expected_end::<E>(slots, theta),
         rank_from: 0,
         rank_to: count,
     };
