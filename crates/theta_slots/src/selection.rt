@@ -25,6 +25,9 @@ const TRIES: usize = 4;
 /// hash of a rank may well be further down than evenly spread hashes have it.
 const FAR_DOWN: u64 = 8;
 
+/// Below which end of the hashes many lists have come, so that a window goes half as far down.
+const END_OF_MANY: u64 = MAX_THETA / 16;
+
 /// How far a window goes up, in the same unit.
 const FAR_UP: u64 = 3;
 
@@ -54,7 +57,12 @@ fn expected_bounds(span: Span, rank: usize) -> (u64, u64)
     let far = step.saturating_mul(smaller.saturating_add(1));
     let middle = span.low.saturating_add(far);
     let unit = width / number.isqrt().saturating_mul(2).max(1);
-    let low = middle.saturating_sub(FAR_DOWN.saturating_mul(unit));
+    let down = if span.high < END_OF_MANY {
+        FAR_DOWN / 2
+    } else {
+        FAR_DOWN
+    };
+    let low = middle.saturating_sub(unit.saturating_mul(down));
     let high = middle.saturating_add(FAR_UP.saturating_mul(unit));
     (low, high)
 }
