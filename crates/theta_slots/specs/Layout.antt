@@ -1,5 +1,5 @@
 -- Entries in slots.
-use Rattle.std.specs.Prelude.{ℕ, ◌<◌, ◌≡◌, ◌^◌, ◌==◌, ◌&&◌, not, nat_lt, Bool, false, true, Option, Some, None, List, [], ◌∷◌, length, get_or}
+use Rattle.std.specs.Prelude.{ℕ, ◌<◌, ◌≡◌, ◌-◌, ◌^◌, ◌==◌, not, nat_lt, Bool, false, true, Option, Some, None, List, [], ◌∷◌, length, get_or, option_map, unwrap_or}
 use Rattle.theta_slots.specs.Probe.{probe}
 
 -- what the slots hold, in their order
@@ -22,10 +22,13 @@ abbrev pub holds_below : {X : Type 0} → (X → ℕ) → (h : ℕ) → Option X
 holds_below key h None = false
 holds_below key h (Some x) = nat_lt (key x) h
 
--- whether an entry is there whose hash is from low to high
-abbrev pub holds_within : {X : Type 0} → (X → ℕ) → (low high : ℕ) → Option X → Bool
-holds_within key low high None = false
-holds_within key low high (Some x) = not (nat_lt (key x) low) && not (nat_lt high (key x))
+-- the greatest number of 64 bits, which no hash from low to high is
+abbrev pub greatest : ℕ
+greatest = 2 ^ 64 - 1
+
+-- the hash of an entry that is there, or the greatest number
+abbrev pub hash_or_greatest : {X : Type 0} → (X → ℕ) → Option X → ℕ
+hash_or_greatest key o = unwrap_or (option_map key o) greatest
 
 -- other hashes are in the first n slots on the path of h
 unfoldable pub HasOthers : {X : Type 0} → (X → ℕ) → (lg : ℕ) → List (Option X) → (h n : ℕ) → Type 0

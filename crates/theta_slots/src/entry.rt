@@ -1,7 +1,7 @@
 //! The entries that slots hold.
 ghost use Rattle.std.specs.Prelude.{◌≡◌, ◌<◌, ◌≤◌, [], length, map, Option, Some, None, IfOk};
 ghost use Rattle.std.specs.Option.{option_copied};
-ghost use Rattle.theta_slots.specs.Layout.{filled, holds_below, holds_within};
+ghost use Rattle.theta_slots.specs.Layout.{filled, holds_below, hash_or_greatest};
 
 use std::alloc::{AllocError, Allocator};
 use theta_laws::SketchEntry;
@@ -44,10 +44,9 @@ pub trait SlotEntry: SketchEntry {
     fn is_below(slot: &Self::Slot, bound: u64) -> bool
         ensures { result ≡ holds_below Self.key bound (held slot.now) };
 
-    /// Whether a slot holds an entry whose hash is from `low` to `high`. A slot of one word tells it by one comparison.
-    fn is_within(slot: &Self::Slot, low: u64, high: u64) -> bool
-        requires { low ≤ high }
-        ensures { result ≡ holds_within Self.key low high (held slot.now) };
+    /// The hash of the entry that a slot holds, and the greatest number of 64 bits for a free slot. It takes no branch.
+    fn hash_or_greatest(slot: &Self::Slot) -> u64
+        ensures { result ≡ hash_or_greatest Self.key (held slot.now) };
 
     /// The entry that a slot holds, if it holds one.
     fn in_slot(slot: &Self::Slot) -> Option<&Self>

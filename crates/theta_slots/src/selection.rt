@@ -6,14 +6,14 @@
 //! Hashes that came in ascending lists are spread otherwise, so that a window may miss the rank. What it counted then tells on
 //! which side the hash is, and among how many, and the next window is aimed there. Where some windows have missed a last pass
 //! gathers all; what is answered is the same.
-ghost use Rattle.std.specs.Prelude.{◌≡◌, ◌+◌, ◌-◌, ◌<◌, ◌≤◌, ◌^◌, [], ◌∷◌, ◌++◌, length, map, IfOk, OnOk};
+ghost use Rattle.std.specs.Prelude.{◌≡◌, ◌+◌, ◌-◌, ◌<◌, ◌≤◌, ◌^◌, [], ◌∷◌, ◌++◌, length, map, take, IfOk, OnOk};
 ghost use Rattle.theta_laws.specs.Entries.{hash_key};
 ghost use Rattle.theta_laws.specs.Maps.{IsApart, rank};
-ghost use Rattle.theta_slots.specs.Layout.{filled};
+ghost use Rattle.theta_slots.specs.Layout.{filled, greatest};
 ghost use Rattle.theta_slots.specs.Rank.{HasRank, within};
 
 use crate::entry::SlotEntry;
-use crate::slots::{hash_in, hash_or_zero, number_below};
+use crate::slots::{hash_in, hash_or_zero};
 use std::alloc::{AllocError, Allocator};
 use theta_laws::MAX_THETA;
 
@@ -49,6 +49,7 @@ struct Span {
 /// evenly there.
 fn expected_bounds(span: Span, rank: usize) -> (u64, u64)
     ensures ordered { result.0 ≤ result.1 }
+    ensures far { result.1 < greatest }
 {
     let width = span.high.saturating_sub(span.low);
     let number = span.rank_to.saturating_sub(span.rank_from) as u64;
@@ -64,7 +65,7 @@ fn expected_bounds(span: Span, rank: usize) -> (u64, u64)
     };
     let low = middle.saturating_sub(unit.saturating_mul(down));
     let high = middle.saturating_add(FAR_UP.saturating_mul(unit));
-    (low, high)
+    (low.min(u64::MAX - 1), high.min(u64::MAX - 1))
 }
 
 /// What is left of a span after a window from `low` to `high` missed the rank: `below` hashes are less than `low`, and `between`
@@ -123,6 +124,7 @@ fn kept_within(hash: u64, low: u64, high: u64) -> Option<u64>
 }
 
 /// 1 for a hash that is less than `low`, otherwise 0.
+#[inline(always)]
 fn number_less(hash: u64, low: u64) -> usize
     ensures number { result ≡ rank hash_key (hash ∷ []) low }
     ensures small { result ≤ 1 }
@@ -130,30 +132,70 @@ fn number_less(hash: u64, low: u64) -> usize
     (hash < low) as usize
 }
 
-/// The hash that a slot holds, where it is from `low` to `high`. Of slots of one word, a free one and one with a hash outside take
-/// the same branch.
+/// 1 for a hash from `low` to `high`, otherwise 0. It is one comparison.
 #[inline(always)]
-fn held_kept<E: SlotEntry>(slot: &E::Slot, low: u64, high: u64) -> Option<u64>
+fn number_within(hash: u64, low: u64, high: u64) -> usize
     requires { low ≤ high }
-    ensures { filled (result ∷ []) ≡ within low high (map E.key (filled (E.held slot.now ∷ []))) }
+    ensures number { result ≡ length (within low high (hash ∷ [])) }
+    ensures small { result ≤ 1 }
 {
-    if !E::is_within(slot, low, high) {
-        return None;
+    // What is less than `low` wraps beyond all from `low` to `high`.
+    (hash.wrapping_sub(low) <= high - low) as usize
+}
+
+/// How many slots are gone through at once.
+const BLOCK: usize = 64;
+
+/// Gathers the hashes from `low` to `high` of a few slots in front of `found`. Answers how many have come, and how many hashes are
+/// less than `low`. No branch depends on a hash.
+fn gather_few<E: SlotEntry>(
+    found: &mut [u64],
+    slots: &[E::Slot],
+    low: u64,
+    high: u64,
+) -> (usize, usize)
+    requires ordered { low ≤ high }
+    requires far { high < greatest }
+    requires room { length slots.now ≤ length found.old }
+    ensures size { length found.new ≡ length found.old }
+    ensures few { result.0 ≤ length slots.now }
+    ensures gathered { take result.0 found.new ≡ within low high (map E.key (filled (map E.held slots.now))) }
+    ensures below { result.1 ≡ rank hash_key (map E.key (filled (map E.held slots.now))) low }
+{
+    let mut count = 0;
+    let mut less = 0;
+    'gather_each: for at in 0..slots.len() {
+        let hash = E::hash_or_greatest(&slots[at]);
+        found[count] = hash;
+        count += number_within(hash, low, high);
+        less += number_less(hash, low);
     }
-    // It isn't free, so that isn't asked again.
-    Some(hash_or_zero::<E>(slot))
+    (count, less)
+}
+
+/// Makes a list at least so long, with zeros at its end.
+fn lengthen<A: Allocator>(list: &mut Vec<u64, A>, least: usize) -> Result<(), AllocError>
+    ensures long { OnOk result (least ≤ length list.new.items) }
+    ensures front { OnOk result (take (length list.old.items) list.new.items ≡ list.old.items) }
+{
+    if list.len() < least {
+        list.resize(least, 0)?;
+    }
+    Ok(())
 }
 
 /// Gathers the hashes from `low` to `high` in the slots and `also`, if that is one, and counts those that are less than `low`.
-/// Whether a hash is less takes no branch.
+/// `room` hashes may come before it asks for memory again.
 fn gather_window<E: SlotEntry, A: Allocator>(
     hashes: &mut Vec<u64, A>,
+    room: usize,
     also: Option<u64>,
     slots: &[E::Slot],
     low: u64,
     high: u64,
 ) -> Result<usize, AllocError>
     requires ordered { low ≤ high }
+    requires far { high < greatest }
     requires none { hashes.old.items ≡ [] }
     requires fits { length (filled (also ∷ []) ++ map E.key (filled (map E.held slots.now))) < 2 ^ 64 }
     ensures gathered { OnOk result (hashes.new.items ≡ within low high (filled (also ∷ []) ++ map E.key (filled (map E.held slots.now)))) }
@@ -164,13 +206,19 @@ fn gather_window<E: SlotEntry, A: Allocator>(
             hashes.push(first)?;
         }
     }
+    let mut count = hashes.len();
     let mut less = 0usize;
-    'gather_each: for slot in slots {
-        less += number_below::<E>(slot, low);
-        if let Some(kept) = held_kept::<E>(slot, low, high) {
-            hashes.push(kept)?;
-        }
+    lengthen(hashes, room)?;
+    let mut left = slots;
+    'gather_blocks: while !left.is_empty() {
+        let (block, behind) = left.split_at(left.len().min(BLOCK));
+        lengthen(hashes, count + block.len())?;
+        let (kept, smaller) = gather_few::<E>(&mut hashes[count..], block, low, high);
+        count += kept;
+        less += smaller;
+        left = behind;
     }
+    hashes.truncate(count);
     match also {
         None => Ok(less),
         Some(hash) => Ok(less + number_less(hash, low)),
@@ -231,10 +279,11 @@ pub fn hash_of_rank<E: SlotEntry, A: Allocator + Drop>(
         rank_from: 0,
         rank_to: count,
     };
-    let mut hashes = Vec::with_capacity(alloc, window_room(count))?;
+    let room = window_room(count);
+    let mut hashes = Vec::with_capacity(alloc, room)?;
     'aim: for _ in 0..TRIES {
         let (low, high) = expected_bounds(span, rank);
-        let below = gather_window::<E, A>(&mut hashes, also, slots, low, high)?;
+        let below = gather_window::<E, A>(&mut hashes, room, also, slots, low, high)?;
         if below <= rank && rank - below < hashes.len() {
             return Ok(nth_hash(&mut hashes, rank - below));
         }

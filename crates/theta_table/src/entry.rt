@@ -105,10 +105,8 @@ impl SlotEntry for ThetaEntry {
     }
 
     #[inline(always)]
-    fn is_within(slot: &ThetaEntry, low: u64, high: u64) -> bool {
-        // Less 1, a free slot's 0 is the greatest number, beyond all from `least` to `high` - 1.
-        let least = low.saturating_sub(1);
-        slot.hash.wrapping_sub(1).wrapping_sub(least) < high - least
+    fn hash_or_greatest(slot: &ThetaEntry) -> u64 {
+        if slot.hash == 0 { u64::MAX } else { slot.hash }
     }
 
     #[inline(always)]
@@ -222,11 +220,13 @@ impl<S: Drop> SlotEntry for TupleEntry<S> {
     }
 
     #[inline(always)]
-    fn is_within(slot: &Option<TupleEntry<S>>, low: u64, high: u64) -> bool {
-        match slot {
-            None => false,
-            Some(entry) => entry.hash.wrapping_sub(low) <= high - low,
-        }
+    fn hash_or_greatest(slot: &Option<TupleEntry<S>>) -> u64 {
+        // By way of a reference: compiled, a number would be read behind a branch.
+        let hash = match slot {
+            None => &u64::MAX,
+            Some(entry) => &entry.hash,
+        };
+        *hash
     }
 
     #[inline(always)]
