@@ -1,13 +1,15 @@
 -- Hashes of a window, and ranks among them.
-use Rattle.std.proofs.Common.{◌≡◌, ℕ, ◌+◌, ◌-◌, ◌<◌, ◌≤◌, true, false, not, cond, eqb, ltb, ◌&&◌, IsSome, List, [], ◌∷◌, ◌++◌, length, map, Option, Some, None, inl, inr, refl, ap, arith}
-use Rattle.std.specs.Prelude.{unwrap_or}
+use Rattle.std.proofs.Common.{◌≡◌, ℕ, suc, ◌+◌, ◌-◌, ◌<◌, ◌≤◌, true, false, not, cond, eqb, ltb, ◌&&◌, IsSome, List, [], ◌∷◌, ◌++◌, length, map, set, take, drop, Option, Some, None, inl, inr, refl, length-append, append_assoc, sym, ap, subst, ◌∙◌, arith}
+use Rattle.std.proofs.Math.Seq.{take-suc-set, take-append-add}
+use Rattle.std.proofs.lemmas.List.{take-set, take-take, take-append-le, length-take, length-take-le, map-append, append-nil}
 use Rattle.std.specs.Option.{option_map}
 use Rattle.std.proofs.lemmas.Bool.{cases_lt}
 use Rattle.std.proofs.lemmas.Bool.Decides.{nat_tests}
 use Rattle.theta_laws.specs.Entries.{hash_key}
 use Rattle.theta_laws.specs.Maps.{IsApart, rank, entry_at}
-use Rattle.theta_slots.specs.Layout.{filled, holds_within}
+use Rattle.theta_slots.specs.Layout.{filled, greatest, hash_or_greatest}
 use Rattle.theta_slots.specs.Rank.{HasRank, within}
+use Rattle.theta_slots.proofs.Held.{two_parts}
 use Rattle.theta_slots.proofs.Moves.{count-append, count-cons}
 
 -- just `before` of these hashes are less than low, and the one with k smaller ones is from low to high
@@ -19,6 +21,18 @@ pub record IsWindow (hashes : List ℕ) (low high before k : ℕ) : Type 0 where
 -- ---- one hash more
 pub rank-append : (xs ys : List ℕ) (h : ℕ) → rank hash_key (xs ++ ys) h ≡ rank hash_key xs h + rank hash_key ys h
 rank-append xs ys h = count-append (λ x. ltb x h) xs ys
+
+-- no more are less than h than there are
+pub rank_few : (xs : List ℕ) (h : ℕ) → rank hash_key xs h ≤ length xs
+rank_few [] h = omega arith
+rank_few (x ∷ xs) h = let rest = rank_few xs h in let more = count-cons (λ y. ltb y h) x xs in elim (cases_lt x h) [
+  | inl lt ↦ let is : ltb x h ≡ true = grind (arith, nat_tests) in let one : rank hash_key (x ∷ []) h ≡ 1 = rw is refl in omega (arith, rest, more, one)
+  | inr ge ↦ let is : ltb x h ≡ false = grind (arith, nat_tests) in let none : rank hash_key (x ∷ []) h ≡ 0 = rw is refl in omega (arith, rest, more, none)
+]
+
+-- the hashes in the first n slots, and those in the others
+pub hashes_parts : {S X : Type 0} (key : X → ℕ) (held : S → Option X) (slots : List S) (n : ℕ) → map key (filled (map held slots)) ≡ map key (filled (map held (take n slots))) ++ map key (filled (map held (drop n slots)))
+hashes_parts key held slots n = ap (map key) (two_parts held slots n) ∙ map-append key (filled (map held (take n slots))) (filled (map held (drop n slots)))
 
 module _ (low high : ℕ) where
   pub within-append : (xs ys : List ℕ) → within low high (xs ++ ys) ≡ within low high xs ++ within low high ys
@@ -114,15 +128,46 @@ module _ (low high : ℕ) where
         ranked = omega (arith, rank_parts xs h there.from there.to, is.counted, is.from, ranked.ranked);
       }
 
--- what a slot holds that is from low to high
+-- a free slot counts as the greatest number, which is in no window
 module _ {X : Type 0} (key : X → ℕ) (low high : ℕ) where
-  pub held_kept : (o : Option X) (h : ℕ) → holds_within key low high o ≡ true → h ≡ unwrap_or (option_map key o) 0 → h ∷ [] ≡ within low high (map key (filled (o ∷ [])))
-  held_kept None h is same = absurd (cc)
-  held_kept (Some x) h is same = rw (is, same) refl
+  pub within_slot : (o : Option X) (h : ℕ) → h ≡ hash_or_greatest key o → high < greatest → within low high (h ∷ []) ≡ within low high (map key (filled (o ∷ [])))
+  within_slot None h is far =
+      let beyond : ltb high h ≡ true = grind (arith, nat_tests) in
+      elim (ltb h low) as (λ b. cond (not b && not (ltb high h)) (h ∷ []) [] ≡ []) [ true ↦ refl | false ↦ rw beyond refl ]
+  within_slot (Some x) h is far = rw is refl
 
-  pub none_kept : (o : Option X) → holds_within key low high o ≡ false → [] ≡ within low high (map key (filled (o ∷ [])))
-  none_kept None is = refl
-  none_kept (Some x) is = rw is refl
+  pub rank_slot : (o : Option X) (h : ℕ) → h ≡ hash_or_greatest key o → low ≤ high → high < greatest → rank hash_key (h ∷ []) low ≡ rank hash_key (map key (filled (o ∷ []))) low
+  rank_slot None h is ordered far = let up : ltb h low ≡ false = grind (arith, nat_tests) in rw up refl
+  rank_slot (Some x) h is ordered far = rw is refl
+
+-- a hash more, in front of a list where it is from low to high
+pub kept_next : (low high : ℕ) (found : List ℕ) (count h : ℕ) → count < length found → take (count + length (within low high (h ∷ []))) (set found count h) ≡ take count found ++ within low high (h ∷ [])
+kept_next low high found count h lt =
+    let none : take (count + 0) (set found count h) ≡ take count found ++ [] =
+    let here : count ≡ count + 0 = omega arith in
+    subst (λ (n : ℕ). take n (set found count h) ≡ take count found ++ []) here (take-set found count h ∙ sym (append-nil (take count found))) in
+    let one : take (count + 1) (set found count h) ≡ take count found ++ h ∷ [] =
+    let next : suc count ≡ count + 1 = omega arith in
+    subst (λ (n : ℕ). take n (set found count h) ≡ take count found ++ h ∷ []) next (take-suc-set found count h lt) in
+    elim (not (ltb h low) && not (ltb high h)) as (λ b. take (count + length (cond b (h ∷ []) [])) (set found count h) ≡ take count found ++ cond b (h ∷ []) []) [ true ↦ one | false ↦ none ]
+
+-- what came into a part of a list, behind what stood in front of it
+module _ {S : Type 0} (xs found post end : List S) (count kept n : ℕ) (inside : count ≤ length xs) (few : kept ≤ length found) (room : count + kept ≤ n) where
+  abbrev pub written : List S
+  written = take n ((take count xs ++ (found ++ post)) ++ end)
+
+  pub part_kept : take (count + kept) written ≡ take count xs ++ take kept found
+  part_kept =
+      let long : length (take count xs) ≡ count = length-take-le count xs inside in
+      take-take (count + kept) n ((take count xs ++ (found ++ post)) ++ end) room
+      ∙ ap (take (count + kept)) (append_assoc (take count xs) (found ++ post) end ∙ ap (λ zs. take count xs ++ zs) (append_assoc found post end))
+      ∙ subst (λ (m : ℕ). take (m + kept) (take count xs ++ (found ++ (post ++ end))) ≡ take count xs ++ take kept (found ++ (post ++ end))) long (take-append-add (take count xs) (found ++ (post ++ end)) kept)
+      ∙ ap (λ zs. take count xs ++ zs) (take-append-le kept found (post ++ end) few)
+
+  pub part_long : count + kept ≤ length written
+  part_long =
+      let a = ap length part_kept ∙ length-append (take count xs) (take kept found) in
+      omega (arith, a, length-take-le count xs inside, length-take-le kept found few, length-take (count + kept) written)
 
 -- the hash of what a slot holds
 pub key_held : {X : Type 0} (key : X → ℕ) (o : Option X) → filled (option_map key o ∷ []) ≡ map key (filled (o ∷ []))
