@@ -105,15 +105,22 @@ fn expected_end<E: SlotEntry>(slots: &[E::Slot], theta: u64) -> u64 {
     end.saturating_add(end / SAMPLE as u64)
 }
 
-/// How many hashes there is room for at least, unless all are fewer.
+/// How many hashes there is room for at least, unless there are fewer slots.
 const LEAST_ROOM: usize = 1024;
 
-/// Room for the hashes of a window among `count`: for twice as many as are to be expected, and at most for all.
-fn window_room(count: usize) -> usize
-    ensures { result ≤ count }
+/// How many slots are gone through at once.
+const BLOCK: usize = 64;
+
+/// Room for the hashes of a window among `count` in `size` slots: for twice as many as are to be expected and a block of slots, and
+/// at most for all and one more.
+fn window_room(count: usize, size: usize) -> usize
+    ensures { result ≤ size + 1 }
 {
     let twice = ((FAR_DOWN + FAR_UP) as usize).saturating_mul(count.isqrt());
-    twice.max(LEAST_ROOM).min(count)
+    twice
+        .max(LEAST_ROOM)
+        .saturating_add(BLOCK)
+        .min(size.saturating_add(1))
 }
 
 /// A hash, where it is from `low` to `high`.
@@ -142,9 +149,6 @@ fn number_within(hash: u64, low: u64, high: u64) -> usize
     // What is less than `low` wraps beyond all from `low` to `high`.
     (hash.wrapping_sub(low) <= high - low) as usize
 }
-
-/// How many slots are gone through at once.
-const BLOCK: usize = 64;
 
 /// Gathers the hashes from `low` to `high` of a few slots in front of `found`. Answers how many have come, and how many hashes are
 /// less than `low`. No branch depends on a hash.
@@ -258,8 +262,8 @@ fn nth_hash<A: Allocator + Drop>(hashes: &mut Vec<u64, A>, rank: usize) -> u64
 /// The hash that has just `rank` smaller ones among those in the slots and `also`, if that is one. They are `count`, and
 /// differ.
 ///
-/// Where they are spread evenly below `theta`, of 64 bits, it asks for memory for few of them, and otherwise for up to all;
-/// what it answers is the same. It fails only where that memory ran out. The memory is given back before it answers.
+/// Where they are spread evenly below `theta`, of 64 bits, it asks for memory for few of them, and otherwise for up to as many as
+/// there are slots and one; what it answers is the same. It fails only where that memory ran out. The memory is given back before it answers.
 pub fn hash_of_rank<E: SlotEntry, A: Allocator + Drop>(
     alloc: A,
     also: Option<u64>,
@@ -279,7 +283,7 @@ pub fn hash_of_rank<E: SlotEntry, A: Allocator + Drop>(
         rank_from: 0,
         rank_to: count,
     };
-    let room = window_room(count);
+    let room = window_room(count, slots.len());
     let mut hashes = Vec::with_capacity(alloc, room)?;
     'aim: for _ in 0..TRIES {
         let (low, high) = expected_bounds(span, rank);
