@@ -37,7 +37,7 @@ const WORD: usize = 8;
 
 /// Whether slots are at most one word each. No clause speaks of memory: it chooses between two ways to the same answer.
 #[inline(always)]
-pub fn are_words<T>(slots: &[T]) -> bool {
+pub(crate) fn are_words<T>(slots: &[T]) -> bool {
     size_of_val(slots) / WORD <= slots.len()
 }
 

@@ -18,7 +18,6 @@ mod slots;
 
 pub use count::Count;
 pub use entry::SlotEntry;
-pub use gathering::are_words;
 pub use lookup::leave_out_held;
 pub use relaying::{keep_below, put_kept};
 pub use selection::hash_of_rank;

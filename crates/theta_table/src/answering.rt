@@ -9,16 +9,16 @@ ghost use Rattle.theta_slots.specs.Layout.{filled};
 ghost use Rattle.theta_laws.specs.Refusal.{Refuses};
 ghost use Rattle.theta_laws.specs.Cuts.{IsRetained};
 
-use crate::iter::{Marked, SketchHashTableIter, first_in};
+use crate::iter::{Marked, first_in};
 use sketch_base::Error;
 use std::alloc::{AllocError, Allocator};
 use theta_compact::{CompactSketchState, is_answer_ordered};
 use theta_laws::SketchEntry;
-use theta_slots::{SlotEntry, are_words, hash_of_rank};
+use theta_slots::{SlotEntry, hash_of_rank};
 
-/// Clones of the entries below a theta, in the order of slots that tell by one comparison what is below it: no branch depends on
-/// what a slot holds.
-fn words_below<'a, E: SlotEntry + Clone + 'a, A: Allocator>(
+/// Clones of the entries below a theta, in the order of the slots, with room for `room` of them from the start. No branch depends
+/// on what a slot holds.
+fn entries_below<'a, E: SlotEntry + Clone + 'a, A: Allocator>(
     alloc: A,
     slots: &'a [E::Slot],
     theta: u64,
@@ -38,56 +38,6 @@ fn words_below<'a, E: SlotEntry + Clone + 'a, A: Allocator>(
         left = behind;
     }
     Ok(clones)
-}
-
-/// Appends a clone of an entry, where its hash is below theta.
-#[inline(always)]
-fn append_below<E: SlotEntry + Clone, A: Allocator>(
-    entries: &mut Vec<E, A>,
-    entry: &E,
-    theta: u64,
-) -> Result<(), AllocError>
-    requires clones_equal { ClonesEqual E.is_clone }
-    ensures ok { OnOk result (entries.new.items ≡ entries.old.items ++ below E.key (entry.now ∷ []) theta) }
-{
-    if entry.hash() < theta {
-        entries.push(entry.clone()?)?;
-    }
-    Ok(())
-}
-
-/// Clones of those of some entries that are below a theta, in their order, with room for `room` of them from the start.
-fn clones_below<'a, E: SlotEntry + Clone + 'a, A: Allocator>(
-    alloc: A,
-    entries: SketchHashTableIter<'a, E>,
-    theta: u64,
-    room: usize,
-) -> Result<Vec<E, A>, AllocError>
-    requires clones_equal { ClonesEqual E.is_clone }
-    ensures listed { IfOk result (λ v. v.items ≡ below E.key entries.entry theta) }
-{
-    let mut left = entries;
-    let mut clones = Vec::with_capacity(alloc, room)?;
-    'clone_each: while let Some(entry) = left.next() {
-        append_below(&mut clones, entry, theta)?;
-    }
-    Ok(clones)
-}
-
-/// Clones of the entries below a theta, in the order of the slots, with room for `room` of them from the start.
-fn entries_below<'a, E: SlotEntry + Clone + 'a, A: Allocator>(
-    alloc: A,
-    slots: &'a [E::Slot],
-    theta: u64,
-    room: usize,
-) -> Result<Vec<E, A>, AllocError>
-    requires clones_equal { ClonesEqual E.is_clone }
-    ensures listed { IfOk result (λ v. v.items ≡ below E.key (filled (map E.held slots.now)) theta) }
-{
-    if are_words(slots) {
-        return words_below::<E, A>(alloc, slots, theta, room);
-    }
-    clones_below(alloc, SketchHashTableIter::<E>::over(slots), theta, room)
 }
 
 /// Entries of different hashes, ascending.

@@ -1,7 +1,7 @@
 use Rattle.std.proofs.Common.{rules, ◌≡◌, ◌++◌, None, sym, ap, ◌∙◌}
 use Rattle.std.proofs.lemmas.List.{append-nil}
 use Rattle.theta_table.proofs.Marks.{filled-under}
-use Rattle.theta_table.proofs.answering.words_below.Goals as goal
+use Rattle.theta_table.proofs.answering.entries_below.Goals as goal
 
 pub returns : goal.returns
 returns g c =

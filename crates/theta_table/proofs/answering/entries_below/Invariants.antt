@@ -1,7 +1,7 @@
 use Rattle.std.proofs.Common.{◌≡◌, ◌++◌, Some, map, length}
 use Rattle.theta_slots.specs.Layout.{filled}
 use Rattle.theta_table.specs.Marks.{AreMarked, under}
-use Rattle.theta_table.proofs.answering.words_below.Given as goal
+use Rattle.theta_table.proofs.answering.entries_below.Given as goal
 
 -- the clones so far, and of what is left the entries below theta, are all
 abbrev pub invariant-clone_each : goal.invariant-clone_each
