@@ -213,10 +213,7 @@ impl<S: Drop> SlotEntry for TupleEntry<S> {
 
     #[inline(always)]
     fn is_below(slot: &Option<TupleEntry<S>>, bound: u64) -> bool {
-        match slot {
-            None => false,
-            Some(entry) => entry.hash < bound,
-        }
+        Self::hash_or_greatest(slot) < bound
     }
 
     #[inline(always)]

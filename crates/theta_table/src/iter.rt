@@ -71,12 +71,12 @@ impl<'a, E: SlotEntry> SketchHashTableIter<'a, E> {
 /// Of how many slots marks are made at once.
 const BLOCK: usize = 64;
 
-/// Whether a slot holds an entry below theta. It takes no branch on what a slot holds.
+/// Whether a slot holds an entry below theta.
 #[inline(always)]
 fn holds_below<E: SlotEntry>(slot: &E::Slot, theta: u64) -> bool
     ensures { MatchOption (E.held slot.now) (result ≡ false) (λ x. result ≡ nat_lt (E.key x) theta) }
 {
-    E::hash_or_greatest(slot) < theta
+    E::is_below(slot, theta)
 }
 
 /// 1 for a slot that holds an entry, below the bound if there is one, and otherwise 0.
