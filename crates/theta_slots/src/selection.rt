@@ -1,7 +1,7 @@
 //! The hash of a rank among those in slots.
 //!
 //! Hashes are spread evenly below the theta of a table, so that arithmetic tells about where the one of a rank is. One pass
-//! gathers the hashes within a narrow window around that place, and counts those below it.
+//! gathers the hashes within a narrow window around that place, and counts those below it, without a branch on any of them.
 //!
 //! Hashes that came in ascending lists are spread otherwise, so that a window may miss the rank. What it counted then tells on
 //! which side the hash is, and among how many, and the next window is aimed there. Where some windows have missed a last pass
@@ -263,7 +263,8 @@ fn nth_hash<A: Allocator + Drop>(hashes: &mut Vec<u64, A>, rank: usize) -> u64
 /// differ.
 ///
 /// Where they are spread evenly below `theta`, of 64 bits, it asks for memory for few of them, and otherwise for up to as many as
-/// there are slots and one; what it answers is the same. It fails only where that memory ran out. The memory is given back before it answers.
+/// there are slots and one; what it answers is the same. It fails only where that memory ran out. The memory is given back before
+/// it answers.
 pub fn hash_of_rank<E: SlotEntry, A: Allocator + Drop>(
     alloc: A,
     also: Option<u64>,

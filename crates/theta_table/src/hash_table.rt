@@ -357,7 +357,8 @@ impl<E: SlotEntry + Drop, A: Allocator + Clone> SketchHashTable<E, A> {
         ensures seldom { (self.new.counts.rebuilds ≡ self.old.counts.rebuilds) ⊎ (7 * 2 ^ self.old.map.lg_nom < 8 * (self.old.counts.fresh + 1)) }
         ensures looked { is_screened hash self.old.map.kept.theta ≡ false → self.old.counts.looks < self.new.counts.looks }
     {
-        if hash == 0 || hash >= self.theta {
+        // Once many have come most are at least theta, so that is asked first.
+        if hash >= self.theta || hash == 0 {
             return Ok(false);
         }
         let place = seek::<E>(&self.slots, self.lg_cur_size, hash, &mut self.counts.looks);

@@ -12,26 +12,26 @@ use Rattle.theta_table.proofs.Slotted.{slotted_next, slotted_count, filled_over,
 use Rattle.theta_laws.proofs.insertions.Cases.{or_left, or_right, IsRetained-with_entry, IsRetained-rebuilt, screened_case, is_screened_true}
 use Rattle.theta_table.proofs.Upserts.{at_entry, at_free}
 use Rattle.theta_table.proofs.hash_table.SketchHashTable.upsert_entry.Goals as goal
-use Rattle.theta_table.proofs.hash_table.SketchHashTable.upsert_entry.Goals.{then-hash-eq0-via-then-hash-eq0, then-hash-eq0-via-else-hash-eq0+then-hash-self}
+use Rattle.theta_table.proofs.hash_table.SketchHashTable.upsert_entry.Goals.{then-hash-self-via-then-hash-self, then-hash-self-via-else-hash-self+then-hash-eq0}
 
-pub returns-then-hash-eq0-clause-ok : goal.returns-then-hash-eq0-clause-ok
-returns-then-hash-eq0-clause-ok g c =
+pub returns-then-hash-self-clause-ok : goal.returns-then-hash-self-clause-ok
+returns-then-hash-self-clause-ok g c =
     let s : is_screened c.args.hash c.self.inside.theta ≡ true =
-    is_screened_true _ _ (elim c.then-hash-eq0.branch [ then-hash-eq0-via-then-hash-eq0 w ↦ inl w.if-hash-eq0.true | then-hash-eq0-via-else-hash-eq0+then-hash-self w ↦ inr w.if-hash-self.true ]) in
+    is_screened_true _ _ (elim c.then-hash-self.branch [ then-hash-self-via-then-hash-self w ↦ inr w.if-hash-self.true | then-hash-self-via-else-hash-self+then-hash-eq0 w ↦ inl w.if-hash-eq0.true ]) in
     let case = screened_case g.E.SketchEntry.key (2 ^ c.self.inside.lg_nom_size) c.args.hash (g.S.UpsertStep.means c.args.step) (record { entries = map_of g.E.SketchEntry.key (filled (map g.E.SlotEntry.held c.self.inside.slots.items)); theta = c.self.inside.theta }) s in
     rw (← c.self.view_is) (sym case.creates_is)
 
-pub returns-then-hash-eq0-clause-after : goal.returns-then-hash-eq0-clause-after
-returns-then-hash-eq0-clause-after g c =
+pub returns-then-hash-self-clause-after : goal.returns-then-hash-self-clause-after
+returns-then-hash-self-clause-after g c =
     let s : is_screened c.args.hash c.self.inside.theta ≡ true =
-    is_screened_true _ _ (elim c.then-hash-eq0.branch [ then-hash-eq0-via-then-hash-eq0 w ↦ inl w.if-hash-eq0.true | then-hash-eq0-via-else-hash-eq0+then-hash-self w ↦ inr w.if-hash-self.true ]) in
+    is_screened_true _ _ (elim c.then-hash-self.branch [ then-hash-self-via-then-hash-self w ↦ inr w.if-hash-self.true | then-hash-self-via-else-hash-self+then-hash-eq0 w ↦ inl w.if-hash-eq0.true ]) in
     let case = screened_case g.E.SketchEntry.key (2 ^ c.self.inside.lg_nom_size) c.args.hash (g.S.UpsertStep.means c.args.step) (record { entries = map_of g.E.SketchEntry.key (filled (map g.E.SlotEntry.held c.self.inside.slots.items)); theta = c.self.inside.theta }) s in
     rw (← c.self.view_is) (rw case.after_is refl)
 
-pub returns-then-hash-eq0-clause-refused : goal.returns-then-hash-eq0-clause-refused
-returns-then-hash-eq0-clause-refused g c =
+pub returns-then-hash-self-clause-refused : goal.returns-then-hash-self-clause-refused
+returns-then-hash-self-clause-refused g c =
     let s : is_screened c.args.hash c.self.inside.theta ≡ true =
-    is_screened_true _ _ (elim c.then-hash-eq0.branch [ then-hash-eq0-via-then-hash-eq0 w ↦ inl w.if-hash-eq0.true | then-hash-eq0-via-else-hash-eq0+then-hash-self w ↦ inr w.if-hash-self.true ]) in
+    is_screened_true _ _ (elim c.then-hash-self.branch [ then-hash-self-via-then-hash-self w ↦ inr w.if-hash-self.true | then-hash-self-via-else-hash-self+then-hash-eq0 w ↦ inl w.if-hash-eq0.true ]) in
     let case = screened_case g.E.SketchEntry.key (2 ^ c.self.inside.lg_nom_size) c.args.hash (g.S.UpsertStep.means c.args.step) (record { entries = map_of g.E.SketchEntry.key (filled (map g.E.SlotEntry.held c.self.inside.slots.items)); theta = c.self.inside.theta }) s in
     rw (← c.self.view_is) case.refusal_is
 
@@ -265,10 +265,10 @@ returns-in_ok-settled-in-Some-clause-looks g c =
     let many = slotted_count g.E.SketchEntry.key _ c.self.inside.lg_cur_size _ c.self.inside.count slots c.self.invariant.slotted in
     rw (← c.self.view_is) (omega (arith, found.looks, many, c.self.invariant.slotted.counted, c.put_entry.ensures.looks))
 
-pub returns-then-hash-eq0-clause-memory : goal.returns-then-hash-eq0-clause-memory
-returns-then-hash-eq0-clause-memory g c =
+pub returns-then-hash-self-clause-memory : goal.returns-then-hash-self-clause-memory
+returns-then-hash-self-clause-memory g c =
     let s : is_screened c.args.hash c.self.inside.theta ≡ true =
-    is_screened_true _ _ (elim c.then-hash-eq0.branch [ then-hash-eq0-via-then-hash-eq0 w ↦ inl w.if-hash-eq0.true | then-hash-eq0-via-else-hash-eq0+then-hash-self w ↦ inr w.if-hash-self.true ]) in
+    is_screened_true _ _ (elim c.then-hash-self.branch [ then-hash-self-via-then-hash-self w ↦ inr w.if-hash-self.true | then-hash-self-via-else-hash-self+then-hash-eq0 w ↦ inl w.if-hash-eq0.true ]) in
     let case = screened_case g.E.SketchEntry.key (2 ^ c.self.inside.lg_nom_size) c.args.hash (g.S.UpsertStep.means c.args.step) (record { entries = map_of g.E.SketchEntry.key (filled (map g.E.SlotEntry.held c.self.inside.slots.items)); theta = c.self.inside.theta }) s in
     rw (← c.self.view_is) (λ low. case.refusal_is)
 
@@ -353,10 +353,10 @@ returns-in_ok-settled-in-Some-clause-seldom g c =
     let is = ticked_seldom lg nom c.lg_value.result count (record c.self.inside.counts { looks = c.seek-place.new.looks }) sized it.fits was in
     rw (← c.self.view_is) (rw (← ap (λ d. d.rebuilds) c.in_ok-settled-in-Some.ensures.ticked) at is)
 
-pub returns-then-hash-eq0-clause-looked : goal.returns-then-hash-eq0-clause-looked
-returns-then-hash-eq0-clause-looked g c =
+pub returns-then-hash-self-clause-looked : goal.returns-then-hash-self-clause-looked
+returns-then-hash-self-clause-looked g c =
     let s : is_screened c.args.hash c.self.inside.theta ≡ true =
-    is_screened_true _ _ (elim c.then-hash-eq0.branch [ then-hash-eq0-via-then-hash-eq0 w ↦ inl w.if-hash-eq0.true | then-hash-eq0-via-else-hash-eq0+then-hash-self w ↦ inr w.if-hash-self.true ]) in
+    is_screened_true _ _ (elim c.then-hash-self.branch [ then-hash-self-via-then-hash-self w ↦ inr w.if-hash-self.true | then-hash-self-via-else-hash-self+then-hash-eq0 w ↦ inl w.if-hash-eq0.true ]) in
     rw (← c.self.view_is) (λ passes. absurd (cc))
 
 pub returns-in_err-write_at-clause-looked : goal.returns-in_err-write_at-clause-looked
