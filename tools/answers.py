@@ -68,9 +68,24 @@ def minus(first, second):
 def settings(words):
     """A node's nominal entries and its start."""
     lg_k, start = int(words[0]), MAX if words[1] == "max" else int(words[1])
-    if not 5 <= lg_k <= 26 or not 1 <= start <= MAX:
+    if not 4 <= lg_k <= 26 or not 1 <= start <= MAX:
         sys.exit(print("error argument") or 1)
     return 2**lg_k, start
+
+
+def union(words, lines):
+    """The value of a union of so many parts; a line `lower` is a part that lowers its nominal entries."""
+    k, start = settings(words)
+    parts = []
+    for _ in range(int(words[2])):
+        if lines[0].startswith("lower "):
+            fewer = 2 ** int(lines.pop(0).split(" ")[1])
+            if not 2**4 <= fewer <= k:
+                sys.exit(print("error argument") or 1)
+            k = fewer
+        else:
+            parts.append(value(lines))
+    return unite(k, start, parts)
 
 
 def value(lines):
@@ -80,8 +95,7 @@ def value(lines):
         k, start = settings(words)
         return leaf(k, start, [lines.pop(0).split(" ") for _ in range(int(words[2]))])
     if node == "union":
-        k, start = settings(words)
-        return unite(k, start, [value(lines) for _ in range(int(words[2]))])
+        return union(words, lines)
     if node == "meet":
         return meet([value(lines) for _ in range(int(words[0]))])
     if node == "minus":

@@ -21,7 +21,7 @@ use Rattle.line_sketches.proofs.DefaultSeed.{default_seed}
 use Rattle.distinct.specs.Seeds.{AreSeeded}
 
 -- a size in range
-pub sized : (lg_k : ℕ) → 5 ≤ lg_k → lg_k ≤ 26 → table_refusal lg_k MAX_THETA DEFAULT_UPDATE_SEED ≡ None
+pub sized : (lg_k : ℕ) → 4 ≤ lg_k → lg_k ≤ 26 → table_refusal lg_k MAX_THETA DEFAULT_UPDATE_SEED ≡ None
 sized lg_k low high = grind (arith, nat_tests, default_seed)
 
 read_of : (refusal : Option ErrorKind) (e : ErrorKind) → refusal ≡ None → IsUnread refusal (Refused e) → e ≡ OutOfMemory

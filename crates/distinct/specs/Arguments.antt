@@ -45,7 +45,7 @@ with_flag told option =
 -- what is told behind an option and its value: a later one of the same option counts
 abbrev pub with_value : Told → (option value : List ℕ) → Result Told Fault
 with_value told option value =
-    if bytes_eq option (codes "--lg-k") then option_map_or (λ n. Ok (record told { lg_k = n })) (number_of 5 26 value) (Err wrong_size) else
+    if bytes_eq option (codes "--lg-k") then option_map_or (λ n. Ok (record told { lg_k = n })) (number_of 4 26 value) (Err wrong_size) else
     if bytes_eq option (codes "--field") then option_map_or (λ n. Ok (record told { field = Some n })) (number_of 1 4294967295 value) (Err wrong_field) else
     if bytes_eq option (codes "--separator") then option_map_or (λ b. Ok (record told { separator = b })) (byte_of value) (Err wrong_separator) else
     Ok (record told { output = Some value })

@@ -10,14 +10,10 @@ ghost use Rattle.distinct.specs.Words.{command_of, has_option, is_help, is_optio
 use crate::failure::Failure;
 use crate::options::Options;
 use lines::Key;
+use theta_core::{MAX_LG_K, MIN_LG_K};
 
 /// The binary logarithm of a sketch's nominal entries, where none is told.
 const DEFAULT_LG_K: u8 = 12;
-
-/// The least and the greatest that may be told.
-const MIN_LG_K: u8 = 5;
-
-const MAX_LG_K: u8 = 26;
 
 /// What stands between fields, where nothing is told.
 const TAB: u8 = b'\t';

@@ -21,7 +21,7 @@ pub enum Failure {
     UnknownOption(String),
     /// An option that takes a value stands last.
     NoValue(String),
-    /// `--lg-k` is not followed by a number from 5 to 26.
+    /// `--lg-k` is not followed by a number from 4 to 26.
     WrongSize,
     /// `--field` is not followed by a number from 1 on.
     WrongField,
@@ -101,7 +101,7 @@ impl fmt::Display for Failure {
                 Escaped(option)
             ),
             Failure::NoValue(option) => write!(f, "{}: a value has to follow", Escaped(option)),
-            Failure::WrongSize => write!(f, "--lg-k takes a number from 5 to 26"),
+            Failure::WrongSize => write!(f, "--lg-k takes a number from 4 to 26"),
             Failure::WrongField => write!(f, "--field takes a number from 1 on"),
             Failure::WrongSeparator => write!(f, "--separator takes one byte"),
             Failure::NoFiles => write!(f, "which images? (try --help)"),

@@ -28,7 +28,7 @@ wrong arguments.
 const COUNT: &str = "\
 distinct count [OPTION..] [FILE..]: how many distinct lines the files have together, about
 
-  --lg-k N        keep 2^N hashes, N from 5 to 26; 12 if not told, which is a standard error of
+  --lg-k N        keep 2^N hashes, N from 4 to 26; 12 if not told, which is a standard error of
                   1.6 percent
   --field N       a line's key is its field N, as cut has it: a line without a separator is
                   its own key, and one of fewer fields has the empty key
@@ -40,7 +40,7 @@ distinct count [OPTION..] [FILE..]: how many distinct lines the files have toget
 const SKETCH: &str = "\
 distinct sketch [OPTION..] [FILE..]: writes the sketch of the files' lines as an image
 
-  --lg-k N        keep 2^N hashes, N from 5 to 26; 12 if not told
+  --lg-k N        keep 2^N hashes, N from 4 to 26; 12 if not told
   --field N       a line's key is its field N, as cut has it
   --separator C   what stands between fields, one byte; a tab if not told
   --hex           the image in hexadecimal, on a line

@@ -214,7 +214,7 @@ fn combine_files(
 
 /// The image of the union of images. It fails where memory was refused, a file can't be read, or an image is none.
 fn union_image(rt: &HostRuntime, lg_k: u8, images: &mut Images<'_>) -> Result<Vec<u8>, Failure>
-    requires low { 5 ≤ lg_k }
+    requires low { 4 ≤ lg_k }
     requires high { lg_k ≤ 26 }
     ensures { IfErr result IsOfImages }
 {

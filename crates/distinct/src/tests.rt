@@ -78,7 +78,7 @@ fn tells_each_failure(rt: HostRuntime) -> Result<(), Fail> {
             "-a\\nb: no such option (try --help)",
         ),
         (Kind::NoValue, 2, "it: a value has to follow"),
-        (Kind::WrongSize, 2, "--lg-k takes a number from 5 to 26"),
+        (Kind::WrongSize, 2, "--lg-k takes a number from 4 to 26"),
         (Kind::WrongField, 2, "--field takes a number from 1 on"),
         (Kind::WrongSeparator, 2, "--separator takes one byte"),
         (Kind::NoFiles, 2, "which images? (try --help)"),

@@ -21,7 +21,7 @@ use theta_sketches::{CompactThetaSketch, ThetaSketch, ThetaSketchBuilder};
 /// Why lines or images were not taken in.
 #[derive(Debug, Drop)]
 pub enum Unread {
-    /// Memory was refused (`OutOfMemory`), an `lg_k` isn't from 5 to 26, or a sketch is of another seed (`InvalidArgument`), or
+    /// Memory was refused (`OutOfMemory`), an `lg_k` isn't from 4 to 26, or a sketch is of another seed (`InvalidArgument`), or
     /// a source is no image (`InvalidData`).
     Refused(Error),
     /// A source failed, or couldn't be opened.
@@ -56,7 +56,7 @@ pub trait Watch {
     fn saw<A: Allocator>(&mut self, bytes: usize, lines: u64, sketch: &ThetaSketch<A>);
 }
 
-/// A new sketch of 2^`lg_k` nominal entries. Refused with `InvalidArgument` for an `lg_k` that isn't from 5 to 26, and with
+/// A new sketch of 2^`lg_k` nominal entries. Refused with `InvalidArgument` for an `lg_k` that isn't from 4 to 26, and with
 /// `OutOfMemory`.
 pub fn new_sketch<A: Allocator + Drop>(alloc: A, lg_k: u8) -> Result<ThetaSketch<A>, Error>
     ensures new { IfOk result (λ s. held s ≡ new_held lg_k) }
@@ -201,7 +201,7 @@ pub fn finished<A: Allocator + Clone>(
     sketch.compact(true)
 }
 
-/// The sketch of all lines that a reader has left. Refused with `InvalidArgument` for an `lg_k` that isn't from 5 to 26, before
+/// The sketch of all lines that a reader has left. Refused with `InvalidArgument` for an `lg_k` that isn't from 4 to 26, before
 /// anything is read, and with `OutOfMemory`; a source that failed tells its error, which is never that a read was interrupted.
 ///
 /// `block` has at least one byte, and a read asks for as many as it has; what stands in it before is not read.

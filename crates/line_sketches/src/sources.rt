@@ -75,7 +75,7 @@ pub fn add_sources<A: Allocator + Clone, B: Allocator + Clone + Drop, S: Sources
 }
 
 /// The sketch of the lines of all texts, each text's by themselves. Refused with `InvalidArgument` for an `lg_k` that isn't from
-/// 5 to 26, before anything is read, and with `OutOfMemory`; a source that failed, or couldn't be opened, tells its error.
+/// 4 to 26, before anything is read, and with `OutOfMemory`; a source that failed, or couldn't be opened, tells its error.
 pub fn sketch_sources<A: Allocator + Clone + Drop, S: Sources, W: Watch>(
     alloc: A,
     key: Key,

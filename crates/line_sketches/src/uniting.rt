@@ -95,7 +95,7 @@ fn united_image<A: Allocator + Clone + Drop>(union: &ThetaUnion<A>) -> Result<Ve
 /// is empty or ends by an LF, it is the image of the texts one behind the other, byte for byte. An image doesn't tell the
 /// `lg_k` that it was made with.
 ///
-/// Refused with `InvalidArgument` for an `lg_k` that isn't from 5 to 26, before anything is read; with `InvalidData` only where
+/// Refused with `InvalidArgument` for an `lg_k` that isn't from 4 to 26, before anything is read; with `InvalidData` only where
 /// some source is no image of a theta sketch of the default seed; and with `OutOfMemory`. A source that failed, or couldn't be
 /// opened, tells its error.
 pub fn unite_images<A: Allocator + Clone + Drop, S: Sources>(

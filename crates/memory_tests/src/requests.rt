@@ -209,6 +209,12 @@ fn attempt_update<'a>(
     (kind, is_refused)
 }
 
+/// A union's theta and how many hashes it retains.
+fn shown_by<'a>(union: &ThetaUnion<&'a Heap>) -> Result<(u64, usize), Error> {
+    let answer = union.to_sketch(true)?;
+    Ok((answer.theta64(), answer.num_retained()))
+}
+
 /// A union's theta and how many hashes it has, once it is reset and updated.
 fn told_anew<'a>(
     union: &mut ThetaUnion<&'a Heap>,
@@ -216,8 +222,7 @@ fn told_anew<'a>(
 ) -> Result<(u64, usize), Error> {
     union.reset();
     union.update(view)?;
-    let answer = union.to_sketch(true)?;
-    Ok((answer.theta64(), answer.num_retained()))
+    shown_by(union)
 }
 
 /// Why an update is refused; and, where memory was, why the next update and the next answer are, and what the union tells anew.
@@ -308,6 +313,55 @@ fn refused_answers_leave_a_union_as_it_was(rt: HostRuntime) -> Result<(), Fail> 
             break;
         }
         assert_eq!(rt; told.0, Err(ErrorKind::OutOfMemory), "at {refused}");
+    }
+    Ok(())
+}
+
+/// A union of 2^7 nominal entries that has taken in the hashes 1 to 90.
+fn wide_union<'a>(alloc: Global, heap: &'a Heap) -> Result<ThetaUnion<&'a Heap>, Error> {
+    let mut union = ThetaUnionBuilder::default().lg_k(7).build(heap)?;
+    let first = sketch_of(alloc, 9001, 1, 45)?;
+    union.update(first.as_view())?;
+    let second = sketch_of(alloc, 9001, 46, 90)?;
+    union.update(second.as_view())?;
+    Ok(union)
+}
+
+/// How a call to lower a union ended, whether it made the request that was to be refused, and what the union shows right after
+/// it, after the same call again, and after a reset and one sketch.
+type Lowered = (Option<ErrorKind>, bool, [(u64, usize); 3]);
+
+/// Lowers a union with one request refused.
+fn lowered(alloc: Global, heap: &Heap, refused: u64) -> Result<Lowered, Error> {
+    let mut union = wide_union(alloc, heap)?;
+    heap.restart(Refusal::Only(refused));
+    let kind = kind_of(union.lower_lg_k(5));
+    let is_refused = heap.seen() > refused;
+    heap.restart(Refusal::Never);
+    let after = shown_by(&union)?;
+    union.lower_lg_k(5)?;
+    let again = shown_by(&union)?;
+    let sketch = sketch_of(alloc, 9001, 1, 45)?;
+    let anew = told_anew(&mut union, sketch.as_view())?;
+    Ok((kind, is_refused, [after, again, anew]))
+}
+
+#[test]
+fn refused_lowering_leaves_a_union_as_it_was(rt: HostRuntime) -> Result<(), Fail> {
+    let heap = Refusing::new(rt.alloc());
+    let few = (33, 32);
+    let whole = (9223372036854775807, 90);
+    for refused in 0..u64::MAX {
+        let (kind, is_refused, shown) = lowered(rt.alloc(), &heap, refused)?;
+        if !is_refused {
+            assert_eq!(rt; (refused > 1, kind, shown), (true, None, [few, few, few]));
+            break;
+        }
+        assert_eq!(rt;
+            (kind, shown),
+            (Some(ErrorKind::OutOfMemory), [whole, few, few]),
+            "at {refused}"
+        );
     }
     Ok(())
 }

@@ -100,6 +100,7 @@ impl Inputs {
 enum Call {
     Update(Input),
     Answer(bool),
+    Lower(u8),
     Tell,
     Reset,
 }
@@ -147,6 +148,7 @@ fn call_union<'a>(
     match call {
         Call::Update(input) => kind_of(union.update(inputs.view(input))),
         Call::Answer(ordered) => kind_of(union.to_sketch(ordered)),
+        Call::Lower(lg_k) => kind_of(union.lower_lg_k(lg_k)),
         Call::Tell => {
             let _size = union.estimated_size();
             None
@@ -190,8 +192,15 @@ fn assert_unions_ask_for_nothing(
         (Before::Filled, Call::Update(Input::Compact), None),
         (Before::Filled, Call::Update(Input::OtherEmpty), None),
         (Before::Filled, Call::Update(Input::Other), INVALID),
+        (Before::Nothing, Call::Lower(5), None),
+        (Before::Filled, Call::Lower(5), None),
+        (Before::Filled, Call::Lower(3), INVALID),
+        (Before::Filled, Call::Lower(6), INVALID),
         (Before::Filled, Call::Tell, None),
         (Before::Filled, Call::Reset, None),
+        (Before::Failure, Call::Lower(5), FAILED),
+        (Before::Failure, Call::Lower(4), FAILED),
+        (Before::Failure, Call::Lower(3), FAILED),
         (Before::Failure, Call::Update(Input::Empty), FAILED),
         (Before::Failure, Call::Update(Input::Filled), FAILED),
         (Before::Failure, Call::Answer(false), FAILED),
@@ -243,7 +252,7 @@ fn call_intersection<'a>(
     match call {
         Call::Update(input) => kind_of(intersection.update(inputs.view(input))),
         Call::Answer(ordered) => kind_of(intersection.to_sketch(ordered)),
-        Call::Tell | Call::Reset => {
+        Call::Lower(_) | Call::Tell | Call::Reset => {
             let _told = (intersection.has_result(), intersection.estimated_size());
             None
         }

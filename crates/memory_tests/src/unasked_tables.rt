@@ -196,7 +196,7 @@ fn constructors_ask_for_nothing(rt: HostRuntime) {
     heap.restart(Refusal::From(0));
     let refused = Some(ErrorKind::InvalidArgument);
     let cases = [
-        (Constructor::Table(4, 1, 9001), refused),
+        (Constructor::Table(3, 1, 9001), refused),
         (Constructor::Table(27, 1, 9001), refused),
         (Constructor::Table(5, 0, 9001), refused),
         (Constructor::Table(5, 9223372036854775808, 9001), refused),

@@ -16,18 +16,19 @@ ghost use Rattle.plan_evaluation.specs.Refused.{RefusedFor, IsPlanRefused, Marks
 
 use crate::evaluated::Evaluated;
 use crate::family::SketchFamily;
-use plan_text::{Plan, Step};
+use plan_text::{Plan, Step, UnionPart};
 use sketch_base::Error;
 use std::alloc::Allocator;
 use theta_core::{MAX_THETA, MIN_LG_K};
 
 /// What a node of a plan comes to: a leaf as it is, any other node ordered exactly where that is asked, where it orders itself,
 /// where it is empty, and where it has one entry at the greatest theta. An operator is built first; then it takes
-/// in its parts one by one, a leaf as it is, any other node compacted, in whatever order.
+/// in its parts one by one, a leaf as it is, any other node compacted, in whatever order. A `Lower` among a union's parts lowers
+/// its nominal entries at that place.
 ///
-/// Refused with `InvalidArgument` where the seed hash is 0, some node's `lg_k` isn't from 5 to 26 or its start isn't from 1 to
-/// `MAX_THETA`; with `OutOfMemory`; and with `Policy` only where a beginning of some leaf's steps, or of the parts of some union
-/// or intersection, folds to a refusal.
+/// Refused with `InvalidArgument` if the seed hash is 0, if some node's `lg_k` isn't from 4 to 26 or its start isn't from 1 to
+/// `MAX_THETA`, or if a `Lower` isn't from 4 to the least `lg_k` before it in its union; with `OutOfMemory`; and with `Policy`
+/// only if a beginning of some leaf's steps, or of the parts of some union or intersection, folds to a refusal.
 pub fn evaluate<F: SketchFamily<A>, A: Allocator + Clone, B: Allocator>(
     family: &F,
     alloc: &A,
@@ -48,8 +49,13 @@ pub fn evaluate<F: SketchFamily<A>, A: Allocator + Clone, B: Allocator>(
         Plan::Union { lg_k, start, parts } => {
             let mut union = family.new_union(alloc.clone()?, *lg_k, *start, seed)?;
             'parts: for part in parts.as_slice() {
-                let sketch = evaluate(family, alloc, part, seed, false)?;
-                family.join(&mut union, &sketch)?;
+                match part {
+                    UnionPart::Of(united) => {
+                        let sketch = evaluate(family, alloc, united, seed, false)?;
+                        family.join(&mut union, &sketch)?;
+                    }
+                    UnionPart::Lower(fewer) => family.lower(&mut union, *fewer)?,
+                }
             }
             let answer = family.joined(&union, ordered)?;
             Ok(Evaluated::Compact(answer))

@@ -8,9 +8,10 @@ ghost use Rattle.theta_laws.specs.Folds.{unmarked_value};
 ghost use Rattle.theta_laws.specs.Insertion.{after_upsert, upsert_refusal};
 ghost use Rattle.theta_laws.specs.Operators.{meet_next, minus};
 ghost use Rattle.theta_laws.specs.Refusal.{Refuses};
+ghost use Rattle.theta_laws.specs.Values.{cut_value};
 ghost use Rattle.theta_family.specs.Updatable.{sketch_value};
 ghost use Rattle.theta_operators.specs.Intersection.{new_intersection, seed_refusal, IsAnswerIfAny};
-ghost use Rattle.theta_operators.specs.Union.{empty_union, union_value};
+ghost use Rattle.theta_operators.specs.Union.{empty_union, union_value, lower_refusal};
 ghost use Rattle.plan_values.specs.Family.{IsFamily, folds_of};
 ghost use Rattle.plan_evaluation.specs.Came.{came, IsFoldAnswer, Joins};
 ghost use Rattle.plan_evaluation.specs.Refused.{RefusedFor, HoldsMore, MarksJoined, MarksMet};
@@ -75,7 +76,7 @@ pub trait SketchFamily<A: Allocator> {
 
     ghost made_intersection: { Self → Self.Intersection → Type 0 };
 
-    /// A new sketch. Refused with `InvalidArgument` for an `lg_k` that isn't from 5 to 26, a `start` that isn't from 1 to
+    /// A new sketch. Refused with `InvalidArgument` for an `lg_k` that isn't from 4 to 26, a `start` that isn't from 1 to
     /// `MAX_THETA` or a seed whose seed hash is 0, and with `OutOfMemory`.
     fn new_sketch(&self, alloc: A, lg_k: u8, start: u64, seed: u64) -> Result<Self::Sketch, Error>
         ensures own { IfOk result (made_sketch self.now) }
@@ -113,7 +114,7 @@ pub trait SketchFamily<A: Allocator> {
         ensures ok { IfOk result (λ c. IsAnswer (rules self.now).key (sketch_value (state sketch.now)) (state sketch.now).map.seed_hash ordered (listed c)) }
         ensures refused { Refuses result None true };
 
-    /// A new union. Refused with `InvalidArgument` for an `lg_k` that isn't from 5 to 26, a `start` that isn't from 1 to
+    /// A new union. Refused with `InvalidArgument` for an `lg_k` that isn't from 4 to 26, a `start` that isn't from 1 to
     /// `MAX_THETA` or a seed whose seed hash is 0, and with `OutOfMemory`.
     fn new_union(&self, alloc: A, lg_k: u8, start: u64, seed: u64) -> Result<Self::Union, Error>
         ensures own { IfOk result (made_union self.now) }
@@ -136,6 +137,17 @@ pub trait SketchFamily<A: Allocator> {
         ensures made_with { OnOk result (united union.new ≡ record (united union.old) { empty = (united union.new).empty; held = (united union.new).held }) }
         ensures holds { OnOk result (HoldsMore (folds_of (rules self.now) (refuses self.now)) (holds self.now union.old) (holds self.now union.new) (came (rules self.now).key state listed part.now).value) }
         ensures refused { IfErr result (λ e. RefusedFor e strict (MarksJoined (folds_of (rules self.now) (refuses self.now)) (holds self.now union.old) (came (rules self.now).key state listed part.now).value)) };
+
+    /// Lowers the nominal entries of a union that has not failed. Refused with `InvalidArgument` if `lg_k` isn't from 4 to the
+    /// union's, and with `OutOfMemory`; what the union holds then is unspecified.
+    fn lower(&self, union: &mut Self::Union, lg_k: u8) -> Result<(), Error>
+        requires own { made_union self.now union.old }
+        requires at_work { (united union.old).failed ≡ false }
+        ensures still { made_union self.now union.new }
+        ensures cuts { OnOk result (union_value (rules self.now).key (united union.new) ≡ cut_value (rules self.now).key (2 ^ lg_k) (union_value (rules self.now).key (united union.old))) }
+        ensures made_with { OnOk result (united union.new ≡ record (united union.old) { held = (united union.new).held; lg_k = lg_k }) }
+        ensures holds { OnOk result ((whole : List (Fold Self.Entry)) → holds self.now union.old whole → holds self.now union.new whole) }
+        ensures refused { Refuses result (lower_refusal (united union.old) lg_k) true };
 
     /// The value of a union that has not failed. Refused with `OutOfMemory` alone.
     fn joined(&self, union: &Self::Union, ordered: bool) -> Result<Self::Compact, Error>

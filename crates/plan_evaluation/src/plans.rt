@@ -39,13 +39,14 @@ use tuple_sketches::{
 /// The sketch of a plan under a seed, ordered. Its value is the plan's: it retains all of the whole streams' map below its
 /// theta, and where it is empty that map has no keys.
 ///
-/// Where the plan merges leaves of one start, of nominal entries no fewer than those of the union at its root, with no union
-/// that starts below them, and some leaf is updated, the value is the k-minimum of the hashes from 1 on that were added after
-/// the leaves' last resets, whatever the order and grouping and whether parts go through images. Where the plan is a leaf
-/// that isn't empty and whose last step is a trim, it is the k-minimum of those that were added to it.
+/// If the plan merges leaves of one start, the value is the k-minimum of the hashes from 1 on that were added after the leaves'
+/// last resets, whatever the order and grouping and whether parts go through images. The premises: the root is a union, perhaps
+/// behind images; every leaf and every other union has at least its nominal entries, a union's being the least that it is lowered
+/// to; no union starts below the leaves; and some leaf is updated. If the plan is a leaf that isn't empty and whose last step is
+/// a trim, the value is the k-minimum of the hashes that were added to it.
 ///
-/// Refused with `InvalidArgument` where the seed hash is 0 or some node's `lg_k` is outside 5 to 26 or its start outside
-/// 1 to `MAX_THETA`, and with `OutOfMemory`.
+/// Refused with `InvalidArgument` if the seed hash is 0, if some node's `lg_k` is outside 4 to 26 or its start outside 1 to
+/// `MAX_THETA`, or if a union is lowered to what is outside 4 to its least `lg_k` so far; and with `OutOfMemory`.
 pub fn evaluate_theta<A: Allocator + Clone, B: Allocator>(
     alloc: A,
     plan: &Plan<(), B>,
@@ -70,10 +71,11 @@ pub fn evaluate_theta<A: Allocator + Clone, B: Allocator>(
 /// Where the plan is a leaf that isn't empty and whose last step is a trim, they are the k-minimum of those that were added
 /// to it.
 ///
-/// Refused with `InvalidArgument` where the seed hash is 0 or some node's `lg_k` is outside 5 to 26 or its start outside 1
-/// to `MAX_THETA`; with `OutOfMemory`, also where a summary refuses to be written to an image; and with `Policy` only where
-/// a beginning of some leaf's steps, or of the parts of some union or intersection, folds to a refusal at some key. The
-/// first refusal ends the evaluation. A caller knows that clones of summaries equal their originals.
+/// Refused with `InvalidArgument` if the seed hash is 0, if some node's `lg_k` is outside 4 to 26 or its start outside 1 to
+/// `MAX_THETA`, or if a union is lowered to what is outside 4 to its least `lg_k` so far; with `OutOfMemory`, also if a summary
+/// refuses to be written to an image; and with `Policy` only if a beginning of some leaf's steps, or of the parts of some union
+/// or intersection, folds to a refusal at some key. The first refusal ends the evaluation. Clones of summaries must equal their
+/// originals.
 pub fn evaluate_tuple<
     S: Clone + TupleSummaryValue<A>,
     U: Copy + Drop,

@@ -1,13 +1,13 @@
 //! Reading a plan, node by node.
 ghost use Rattle.std.specs.Prelude.{◌≡◌, ◌∷◌, Some, None, MatchOption, IfOk};
-ghost use Rattle.plan_text.specs.Reading.{says, first_of, Gives, command_in, node_in, step_in, first_as, step_at, many, node_at, plan_at};
+ghost use Rattle.plan_text.specs.Reading.{says, first_of, lower_first, Gives, command_in, node_in, step_in, first_as, step_at, many, part_at, node_at, plan_at};
 
 use crate::boxed::Boxed;
 use crate::command::{Family, Form};
 use crate::fault::ReadError;
 use crate::items::Items;
 use crate::line::{Line, NodeLine, StepLine, line_of, plain_add};
-use crate::plan::{Plan, Step};
+use crate::plan::{Plan, Step, UnionPart};
 use crate::step_value::{StepValue, step_of};
 use crate::text::next_line;
 use std::alloc::{AllocError, Allocator};
@@ -30,7 +30,7 @@ pub fn command_line(text: &[u8]) -> Result<((Family, Form), &[u8]), ReadError<'_
     };
     match line {
         Line::Command(family, form) => Ok(((family, form), rest)),
-        Line::Node(_) | Line::Step(_) => Err(ReadError::Syntax(text)),
+        Line::Node(_) | Line::Step(_) | Line::Lower(_) => Err(ReadError::Syntax(text)),
     }
 }
 
@@ -43,7 +43,7 @@ fn node_line(text: &[u8]) -> Result<(NodeLine, &[u8]), ReadError<'_>>
     };
     match line {
         Line::Node(node) => Ok((node, rest)),
-        Line::Command(_, _) | Line::Step(_) => Err(ReadError::Syntax(text)),
+        Line::Command(_, _) | Line::Step(_) | Line::Lower(_) => Err(ReadError::Syntax(text)),
     }
 }
 
@@ -68,7 +68,7 @@ fn any_step_line(text: &[u8]) -> Result<(StepLine, &[u8]), ReadError<'_>>
     };
     match line {
         Line::Step(step) => Ok((step, rest)),
-        Line::Command(_, _) | Line::Node(_) => Err(ReadError::Syntax(text)),
+        Line::Command(_, _) | Line::Node(_) | Line::Lower(_) => Err(ReadError::Syntax(text)),
     }
 }
 
@@ -102,6 +102,17 @@ fn steps<'a, V: StepValue, A: Allocator + Clone>(
     Ok((steps, rest))
 }
 
+/// The logarithm to which the first line lowers a union's nominal entries, and the text after it; none for any other line.
+fn lower_line(text: &[u8]) -> Option<(u8, &[u8])>
+    ensures { MatchOption result (lower_first (says text.now) ≡ None) (λ x. lower_first (says text.now) ≡ Some (x.0, says x.1.now)) }
+{
+    let (line, rest) = next(text)?;
+    match line {
+        Line::Lower(lg_k) => Some((lg_k, rest)),
+        Line::Command(_, _) | Line::Node(_) | Line::Step(_) => None,
+    }
+}
+
 /// A plan in memory of its own.
 fn boxed<V: StepValue, A: Allocator + Clone>(
     alloc: &A,
@@ -127,6 +138,44 @@ fn parts<'a, V: StepValue, A: Allocator + Clone>(
     let mut rest = text;
     for _ in 0..count {
         let (part, after) = plan::<V, A>(alloc, levels, rest)?;
+        parts.push(part)?;
+        rest = after;
+    }
+    Ok((parts, rest))
+}
+
+/// A part of a union: a line that lowers its nominal entries, or a plan of at most `levels` levels; and the text after it.
+#[cycle(nodes)]
+fn union_part<'a, V: StepValue, A: Allocator + Clone>(
+    alloc: &A,
+    levels: u8,
+    text: &'a [u8],
+) -> Result<(UnionPart<Plan<V, A>>, &'a [u8]), ReadError<'a>>
+    ensures { Gives (λ x. (x.0, says x.1.now)) result (part_at (plan_at V.as_value levels) (says text.now)) }
+{
+    match lower_line(text) {
+        Some((lg_k, rest)) => Ok((UnionPart::Lower(lg_k), rest)),
+        None => {
+            let (united, after) = plan::<V, A>(alloc, levels, text)?;
+            Ok((UnionPart::Of(united), after))
+        }
+    }
+}
+
+/// `count` parts of a union, and the text after them.
+#[cycle(nodes)]
+fn union_parts<'a, V: StepValue, A: Allocator + Clone>(
+    alloc: &A,
+    levels: u8,
+    count: u32,
+    text: &'a [u8],
+) -> Result<(Vec<UnionPart<Plan<V, A>>, A>, &'a [u8]), ReadError<'a>>
+    ensures { Gives (λ x. (x.0.items, says x.1.now)) result (many (part_at (plan_at V.as_value levels)) count (says text.now)) }
+{
+    let mut parts = Vec::new(alloc.clone()?);
+    let mut rest = text;
+    for _ in 0..count {
+        let (part, after) = union_part::<V, A>(alloc, levels, rest)?;
         parts.push(part)?;
         rest = after;
     }
@@ -166,7 +215,7 @@ fn node<'a, V: StepValue, A: Allocator + Clone>(
             Ok((Plan::Leaf { lg_k, start, steps }, after))
         }
         NodeLine::Union { lg_k, start, count } => {
-            let (joined, after) = parts::<V, A>(alloc, levels, count, text)?;
+            let (joined, after) = union_parts::<V, A>(alloc, levels, count, text)?;
             let parts = Items::from_vec(joined);
             Ok((Plan::Union { lg_k, start, parts }, after))
         }

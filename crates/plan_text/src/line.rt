@@ -18,6 +18,8 @@ pub enum Line {
     Node(NodeLine),
     /// A step of a leaf.
     Step(StepLine),
+    /// Lowers a union's nominal entries to 2 to the power of this.
+    Lower(u8),
 }
 
 /// A line that begins a node. Each number and count is what the line spells, also where no sketch
@@ -26,7 +28,7 @@ pub enum Line {
 pub enum NodeLine {
     /// A leaf, with `count` steps on the lines after it.
     Leaf { lg_k: u8, start: u64, count: u32 },
-    /// A union, with `count` plans on the lines after it.
+    /// A union, with `count` parts on the lines after it: plans, and lines that lower its nominal entries.
     Union { lg_k: u8, start: u64, count: u32 },
     /// An intersection, with `count` plans on the lines after it, at least one.
     Meet { count: u32 },
@@ -202,6 +204,10 @@ fn two_words(first: &[u8], second: &[u8]) -> Option<Line>
             return None;
         }
         return Some(Line::Node(NodeLine::Meet { count }));
+    }
+    if first == b"lower".as_slice() {
+        let lg_k = u8::try_from(number(second)?).ok()?;
+        return Some(Line::Lower(lg_k));
     }
     None
 }

@@ -5,24 +5,37 @@ use crate::items::Items;
 use std::alloc::{Allocator, Global};
 pub use theta_laws::LeafStep as Step;
 
+/// A part of a union of P.
+#[derive(Drop)]
+pub enum UnionPart<P> {
+    /// What is united.
+    Of(P),
+    /// Lowers the union's nominal entries from here on to 2 to the power of this: from 4 to the least before it in its union, or
+    /// the evaluation is refused.
+    Lower(u8),
+}
+
+/// A part of a union: a plan, or a lowering of the union's nominal entries.
+pub type Part<V, A = Global> = UnionPart<Plan<V, A>>;
+
 /// What is evaluated.
 #[derive(Drop)]
 pub enum Plan<V, A: Allocator = Global> {
     /// A sketch that is updated step by step.
     Leaf {
-        /// The binary logarithm of the nominal number of entries; from 5 to 26, or it is refused.
+        /// The binary logarithm of the nominal number of entries; from 4 to 26, or it is refused.
         lg_k: u8,
         /// The starting theta; from 1 to `MAX_THETA`, or it is refused.
         start: u64,
         steps: Items<Step<V>, A>,
     },
-    /// The union of its parts, in their order.
+    /// The union of the plans among its parts, in their order.
     Union {
-        /// The binary logarithm of the nominal number of entries; from 5 to 26, or it is refused.
+        /// The binary logarithm of the nominal number of entries at first; from 4 to 26, or it is refused.
         lg_k: u8,
         /// The starting theta; from 1 to `MAX_THETA`, or it is refused.
         start: u64,
-        parts: Items<Plan<V, A>, A>,
+        parts: Items<UnionPart<Plan<V, A>>, A>,
     },
     /// The intersection of its parts, in their order.
     Meet {

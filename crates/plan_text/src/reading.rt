@@ -58,8 +58,8 @@ fn line_number(text: &[u8], rest: &[u8]) -> u64
 
 /// The command that a text spells, or the text's first fault. Nothing is evaluated.
 ///
-/// Lines end with LF, which the last may lack; words are separated by one space. The text is gone
-/// through once, and once more for the line of a fault; no line is copied.
+/// Lines end with LF, which the last may lack; words are separated by one space. The text is read from its beginning to its end,
+/// the first line of each part of a union twice, and once more to number the line of a fault; no line is copied.
 ///
 /// # Errors
 ///

@@ -1,22 +1,24 @@
 -- What a plan is worth.
-use Rattle.std.specs.Prelude.{ℕ, ◌^◌, ◌&&◌, Bool, is_none, if◌then◌else◌, Option, Some, None}
+use Rattle.std.specs.Prelude.{ℕ, ◌^◌, ◌&&◌, nat_le, Bool, true, List, [], ◌∷◌, is_none, if◌then◌else◌, Option, Some, None}
 use Rattle.std.specs.List.{list_all}
 use Rattle.sketch_base.specs.declared.error.ErrorKind.{ErrorKind}
 use Rattle.sketch_base.specs.declared.error.ErrorKind.TheVariants.{InvalidArgument}
+use Rattle.theta_laws.specs.declared.TheConstants.{MIN_LG_K}
 use Rattle.theta_operators.specs.Intersection.{seed_refusal}
 use Rattle.theta_laws.specs.Leaf.{leaf}
-use Rattle.theta_laws.specs.Operators.{unite, meet, minus}
+use Rattle.theta_laws.specs.Operators.{least, unite, meet, minus}
 use Rattle.theta_laws.specs.Values.{Sketch}
 use Rattle.theta_table.specs.HashTable.{table_refusal}
+use Rattle.plan_text.specs.Parts.{plans_of, lowers_of}
 use Rattle.plan_text.specs.declared.plan.Plan.{Plan}
 use Rattle.plan_text.specs.declared.plan.Plan.TheOpen.{Plan-F}
 use Rattle.plan_text.specs.declared.plan.Plan.TheFolds.{fold-Plan}
 use Rattle.plan_values.specs.Family.{Family, hashes}
 
--- the value of a node: of a leaf by its steps, of an operator by the values of its parts, and of what is written and read its own
+-- the value of a node: of a leaf by its steps, of an operator by the values of its parts, a union with the least nominal entries that it is lowered to, and of what is written and read its own
 abbrev pub node_value : {X V Z : Type 0} → Family X V → Plan-F V Z (Sketch X) → Sketch X
 node_value f (Plan-F.Leaf lg_k start steps) = leaf f.key f.step_of (2 ^ lg_k) start steps
-node_value f (Plan-F.Union lg_k start parts) = unite f.key f.merges (2 ^ lg_k) start parts
+node_value f (Plan-F.Union lg_k start parts) = unite f.key f.merges (2 ^ least lg_k (lowers_of parts)) start (plans_of parts)
 node_value f (Plan-F.Meet parts) = meet f.key f.merges parts
 node_value f (Plan-F.Minus first second) = minus f.key f.key first second
 node_value f (Plan-F.Via ordered part) = part
@@ -37,10 +39,15 @@ may_be_built lg_k start seed = is_none (table_refusal lg_k start seed)
 abbrev pub may_have_seed : (seed : ℕ) → Bool
 may_have_seed seed = is_none (seed_refusal seed)
 
--- whether every node of a plan may be built with its settings under a seed
+-- whether a union of this `lg_k` may be lowered to these, one after the other: each from the least that a sketch may have to the one before it, the first to the union's own
+abbrev pub may_be_lowered : (lg_k : ℕ) → List ℕ → Bool
+may_be_lowered lg_k [] = true
+may_be_lowered lg_k (l ∷ ls) = (nat_le MIN_LG_K l && nat_le l lg_k) && may_be_lowered l ls
+
+-- whether every node of a plan may be built with its settings under a seed, and every union lowered as its parts say
 abbrev pub node_fits : {V Z : Type 0} → (seed : ℕ) → Plan-F V Z Bool → Bool
 node_fits seed (Plan-F.Leaf lg_k start steps) = may_be_built lg_k start seed
-node_fits seed (Plan-F.Union lg_k start parts) = may_be_built lg_k start seed && list_all (λ fits. fits) parts
+node_fits seed (Plan-F.Union lg_k start parts) = may_be_built lg_k start seed && (may_be_lowered lg_k (lowers_of parts) && list_all (λ fits. fits) (plans_of parts))
 node_fits seed (Plan-F.Meet parts) = may_have_seed seed && list_all (λ fits. fits) parts
 node_fits seed (Plan-F.Minus first second) = may_have_seed seed && (first && second)
 node_fits seed (Plan-F.Via ordered part) = part
@@ -48,6 +55,6 @@ node_fits seed (Plan-F.Via ordered part) = part
 abbrev pub fits : {V Z : Type 0} → (seed : ℕ) → Plan V Z → Bool
 fits {V} {Z} seed = fold-Plan V Z Bool (node_fits seed)
 
--- what the evaluation of a plan is refused with: a node that no sketch may have, or a seed
+-- what the evaluation of a plan is refused with: settings that no sketch may have, a union that may not be lowered so, or a seed
 abbrev pub plan_refusal : {V Z : Type 0} → (seed : ℕ) → Plan V Z → Option ErrorKind
 plan_refusal seed plan = if fits seed plan then None else Some InvalidArgument

@@ -140,9 +140,9 @@ fn settings_are_refused(rt: HostRuntime) {
     assert_eq!(rt; refused, Some(50541));
     let refusal = Some(ErrorKind::InvalidArgument);
     let cases = [
-        (5, 1, 9001, None),
+        (4, 1, 9001, None),
         (26, 9223372036854775807, 9001, None),
-        (4, 1, 9001, refusal),
+        (3, 1, 9001, refusal),
         (27, 1, 9001, refusal),
         (5, 0, 9001, refusal),
         (5, 9223372036854775808, 9001, refusal),

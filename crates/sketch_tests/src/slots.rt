@@ -5,7 +5,7 @@ use sketch_base::Error;
 use std::alloc::{AllocError, Global};
 use std::process::Abort;
 use std::test::Fail;
-use theta_core::{MAX_THETA, ResizeFactor, ThetaHashTable, starting_sub_multiple};
+use theta_core::{MAX_THETA, MIN_LG_K, ResizeFactor, ThetaHashTable, starting_sub_multiple};
 use theta_sketches::{ThetaSketch, ThetaSketchBuilder, ThetaUnionBuilder};
 
 /// How many slots a table has, its capacity threshold, how many entries, and theta.
@@ -39,14 +39,18 @@ fn shown_after(
     let mut table = ThetaHashTable::new(alloc, lg_k, factor, MAX_THETA, 9001)?;
     insert_up_to(&mut table, last)?;
     let before = shown(&table);
-    if table.lg_nom_size() >= 5 {
+    if table.lg_nom_size() >= MIN_LG_K {
         table.reset();
     }
     Ok((before, shown(&table)))
 }
 
 /// The nominal logarithm, the resize factor, and how many slots a table starts with, and its capacity threshold there.
-const STARTS: [(u8, ResizeFactor, usize, usize); 16] = [
+const STARTS: [(u8, ResizeFactor, usize, usize); 20] = [
+    (4, ResizeFactor::X1, 32, 30),
+    (4, ResizeFactor::X2, 32, 30),
+    (4, ResizeFactor::X4, 32, 30),
+    (4, ResizeFactor::X8, 32, 30),
     (5, ResizeFactor::X1, 64, 60),
     (5, ResizeFactor::X2, 32, 16),
     (5, ResizeFactor::X4, 64, 60),
@@ -82,7 +86,13 @@ type Row = (u8, ResizeFactor, u64, Shown);
 
 #[test]
 fn tables_grow_and_are_rebuilt(rt: HostRuntime) -> Result<(), Fail> {
-    let rows: [Row; 34] = [
+    let rows: [Row; 40] = [
+        (4, ResizeFactor::X2, 30, (32, 30, 30, MAX_THETA)),
+        (4, ResizeFactor::X8, 30, (32, 30, 30, MAX_THETA)),
+        (4, ResizeFactor::X1, 31, (32, 30, 16, 17)),
+        (4, ResizeFactor::X2, 31, (32, 30, 16, 17)),
+        (4, ResizeFactor::X4, 31, (32, 30, 16, 17)),
+        (4, ResizeFactor::X8, 31, (32, 30, 16, 17)),
         (7, ResizeFactor::X2, 0, (32, 16, 0, MAX_THETA)),
         (7, ResizeFactor::X2, 16, (32, 16, 16, MAX_THETA)),
         (7, ResizeFactor::X2, 17, (64, 32, 17, MAX_THETA)),

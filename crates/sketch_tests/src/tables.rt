@@ -1,4 +1,4 @@
-//! Tables of 32 nominal entries.
+//! Tables of 16 and of 32 nominal entries.
 
 use crate::common::numbers;
 use sketch_base::{Error, ErrorKind, compute_seed_hash};
@@ -16,11 +16,12 @@ const FACTORS: [ResizeFactor; 4] = [
 /// A table that was given the hashes from 1 to the last, or from the last to 1.
 fn table_of(
     alloc: Global,
+    lg_k: u8,
     factor: ResizeFactor,
     last: u64,
     descend: bool,
 ) -> Result<ThetaHashTable, Error> {
-    let mut table = ThetaHashTable::new(alloc, 5, factor, MAX_THETA, 9001)?;
+    let mut table = ThetaHashTable::new(alloc, lg_k, factor, MAX_THETA, 9001)?;
     for number in 1..=last {
         let hash = if descend { last - number + 1 } else { number };
         if table.has_room() {
@@ -40,12 +41,13 @@ fn value_of(alloc: Global, table: &ThetaHashTable) -> Result<(u64, Vec<u64>), Al
     Ok((table.retention_theta(), hashes))
 }
 
-/// The hashes are from 1 to the last: the last, whether they descend, whether a trim follows, theta, and the last that is kept.
-type Row = (u64, bool, bool, u64, u64);
+/// The hashes are from 1 to the last: the nominal logarithm, the last, whether they descend, whether a trim follows, theta, and the
+/// last that is kept.
+type Row = (u8, u64, bool, bool, u64, u64);
 
 fn value_in(alloc: Global, factor: ResizeFactor, row: Row) -> Result<(u64, Vec<u64>), Error> {
-    let (last, descend, trim, ..) = row;
-    let mut table = table_of(alloc, factor, last, descend)?;
+    let (lg_k, last, descend, trim, ..) = row;
+    let mut table = table_of(alloc, lg_k, factor, last, descend)?;
     if trim {
         table.trim()?;
     }
@@ -54,17 +56,21 @@ fn value_in(alloc: Global, factor: ResizeFactor, row: Row) -> Result<(u64, Vec<u
 
 #[test]
 fn tables_keep_the_least(rt: HostRuntime) -> Result<(), Fail> {
-    let rows: [Row; 5] = [
-        (60, false, false, MAX_THETA, 60),
-        (61, false, false, 33, 32),
-        (62, true, false, 34, 33),
-        (62, true, true, 33, 32),
-        (32, false, true, MAX_THETA, 32),
+    let rows: [Row; 9] = [
+        (5, 60, false, false, MAX_THETA, 60),
+        (5, 61, false, false, 33, 32),
+        (5, 62, true, false, 34, 33),
+        (5, 62, true, true, 33, 32),
+        (5, 32, false, true, MAX_THETA, 32),
+        (4, 30, false, false, MAX_THETA, 30),
+        (4, 31, false, false, 17, 16),
+        (4, 32, true, false, 18, 17),
+        (4, 32, true, true, 17, 16),
     ];
     for factor in FACTORS {
         for row in rows {
             let value = value_in(rt.alloc(), factor, row)?;
-            let wanted = (row.3, numbers(rt.alloc(), 1, row.4)?);
+            let wanted = (row.4, numbers(rt.alloc(), 1, row.5)?);
             assert_eq!(rt; value, wanted, "of {row:?}, {factor:?}");
         }
     }
@@ -90,7 +96,7 @@ fn told(alloc: Global, state: &CompactSketchState<ThetaEntry>) -> Result<Told, A
 
 /// The state of a table that was given the hashes from 61 to 1.
 fn state_of(alloc: Global, ordered: bool) -> Result<CompactSketchState<ThetaEntry>, Error> {
-    let table = table_of(alloc, ResizeFactor::X8, 61, true)?;
+    let table = table_of(alloc, 5, ResizeFactor::X8, 61, true)?;
     if table.num_retained() < 4294967296 {
         return table.to_non_empty_compact_state(ordered);
     }

@@ -17,13 +17,14 @@ const FACTORS: [ResizeFactor; 4] = [
 /// The replies of a run, and then the table's count, theta and hashes, ascending.
 type Told = (Vec<TableReply>, (usize, u64, Vec<u64>));
 
-/// What the table in slots tells, of 32 nominal entries.
+/// The run over the table in slots.
 fn told_in_slots(
     alloc: Global,
+    lg_k: u8,
     factor: ResizeFactor,
     commands: &[TableCommand],
 ) -> Result<Told, Error> {
-    let mut table = ThetaHashTable::new(alloc, 5, factor, MAX_THETA, 9001)?;
+    let mut table = ThetaHashTable::new(alloc, lg_k, factor, MAX_THETA, 9001)?;
     let replies = run_table(alloc, &mut table, commands)?;
     let mut hashes = Vec::new(alloc);
     for entry in table.iter_entries() {
@@ -34,13 +35,14 @@ fn told_in_slots(
     Ok((replies, value))
 }
 
-/// What the plain table tells, of 32 nominal entries.
+/// The run over the plain table.
 fn told_in_a_list(
     alloc: Global,
+    lg_k: u8,
     factor: ResizeFactor,
     commands: &[TableCommand],
 ) -> Result<Told, Error> {
-    let mut table: PlainTable<ThetaEntry> = PlainTable::new(alloc, 5, factor, MAX_THETA, 9001)?;
+    let mut table: PlainTable<ThetaEntry> = PlainTable::new(alloc, lg_k, factor, MAX_THETA, 9001)?;
     let replies = run_table(alloc, &mut table, commands)?;
     let mut hashes = Vec::new(alloc);
     for entry in table.entries() {
@@ -91,9 +93,9 @@ fn tables_reply_at_a_rebuild(rt: HostRuntime) -> Result<(), Fail> {
             replies_at_a_rebuild(rt.alloc())?,
             (0, MAX_THETA, Vec::new(rt.alloc())),
         );
-        let in_slots = told_in_slots(rt.alloc(), factor, &commands)?;
+        let in_slots = told_in_slots(rt.alloc(), 5, factor, &commands)?;
         assert_eq!(rt; in_slots, wanted, "in slots, {factor:?}");
-        let in_a_list = told_in_a_list(rt.alloc(), factor, &commands)?;
+        let in_a_list = told_in_a_list(rt.alloc(), 5, factor, &commands)?;
         assert_eq!(rt; in_a_list, wanted, "in a list, {factor:?}");
     }
     Ok(())
@@ -131,11 +133,11 @@ fn random_commands(
 #[test]
 fn tables_reply_alike(rt: HostRuntime) -> Result<(), Fail> {
     let mut seed = FIRST_SEED;
-    for limit in [50, 400, MAX_THETA, u64::MAX] {
+    for (lg_k, limit) in [(5, 50), (5, 400), (5, MAX_THETA), (5, u64::MAX), (4, 200)] {
         for factor in FACTORS {
             let commands = random_commands(rt.alloc(), seed, 1000, limit)?;
-            let in_slots = told_in_slots(rt.alloc(), factor, &commands)?;
-            let in_a_list = told_in_a_list(rt.alloc(), factor, &commands)?;
+            let in_slots = told_in_slots(rt.alloc(), lg_k, factor, &commands)?;
+            let in_a_list = told_in_a_list(rt.alloc(), lg_k, factor, &commands)?;
             assert_eq!(rt;
                 in_slots,
                 in_a_list,

@@ -41,7 +41,7 @@ impl Default for Settings {
 }
 
 impl Settings {
-    /// With 2^`lg_k` nominal entries; a sketch or a union may have `lg_k` from 5 to 26.
+    /// With 2^`lg_k` nominal entries; a sketch or a union may have `lg_k` from 4 to 26.
     pub fn with_lg_k(mut self, lg_k: u8) -> Self
         ensures { result ≡ record self { lg_k = lg_k } }
     {

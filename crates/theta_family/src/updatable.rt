@@ -121,7 +121,7 @@ impl<E: SlotEntry, A: Allocator> UpdatableState<E, A> {
         estimate_decimal(self.estimate_fraction(), places)
     }
 
-    /// The binary logarithm of its nominal entries, from 5 to 26.
+    /// The binary logarithm of its nominal entries, from 4 to 26.
     pub fn lg_k(&self) -> u8
         ensures { result ≡ self.now.map.lg_nom }
     {

@@ -1,5 +1,5 @@
 -- Unions.
-use Rattle.std.specs.Prelude.{ℕ, ◌≡◌, ◌==◌, ◌<◌, ◌≤◌, ◌^◌, ◌⊎◌, Bool, true, false, if◌then◌else◌, Option, Some, None, List, map, min}
+use Rattle.std.specs.Prelude.{ℕ, ◌≡◌, ◌==◌, ◌<◌, ◌≤◌, ◌^◌, ◌⊎◌, ◌&&◌, not, nat_le, nat_lt, Bool, true, false, if◌then◌else◌, Option, Some, None, List, map, min}
 use Rattle.sketch_base.specs.declared.error.ErrorKind.{ErrorKind}
 use Rattle.sketch_base.specs.declared.error.ErrorKind.TheVariants.{InvalidArgument, Failed, OutOfMemory, Policy}
 use Rattle.theta_laws.specs.declared.TheConstants.{MIN_LG_K, MAX_LG_K}
@@ -49,6 +49,18 @@ update_refusal u s = if u.failed then Some Failed else if s.empty then None else
 -- what a union that has failed answers
 abbrev pub failure : Bool → Option ErrorKind
 failure failed = if failed then Some Failed else None
+
+-- what lowering a union's nominal entries is refused with: a failed union refuses every `lg_k`, any other all but those from the least to its own
+abbrev pub lower_refusal : {X P : Type 0} → Union X P → (lg_k : ℕ) → Option ErrorKind
+lower_refusal u lg_k = if u.failed then Some Failed else if nat_le MIN_LG_K lg_k && nat_le lg_k u.lg_k then None else Some InvalidArgument
+
+-- whether lowering takes memory: only to fewer nominal entries, if they are not refused
+abbrev pub lower_allocates : {X P : Type 0} → Union X P → (lg_k : ℕ) → Bool
+lower_allocates u lg_k = not u.failed && (nat_le MIN_LG_K lg_k && nat_lt lg_k u.lg_k)
+
+-- a union with fewer nominal entries: it holds what it held, cut to those. With its own it is unchanged
+abbrev pub lowered : {X P : Type 0} → (X → ℕ) → (lg_k : ℕ) → Union X P → Union X P
+lowered key lg_k u = if lg_k == u.lg_k then u else record u { held = cut key (2 ^ lg_k) u.held.entries u.held.theta; lg_k = lg_k }
 
 -- a nonempty input joined: the union holds all of the joined map below some lawful theta, and no mark of a refusal
 pub record IsJoined {X P : Type 0} (key : X → ℕ) (merges : X → X → X) (refuses : X → X → Bool) (old new : Union X P) (theta : ℕ) (entries : List X) : Type 0 where

@@ -1,5 +1,5 @@
 //! Unions.
-ghost use Rattle.std.specs.Prelude.{◌≡◌, ◌^◌, [], ◌∷◌, true, false, not, None, IfOk, IfErr, OnOk, MatchOption};
+ghost use Rattle.std.specs.Prelude.{◌≡◌, ◌^◌, [], ◌∷◌, true, false, not, None, IfOk, IfErr, OnOk, OnErr, MatchOption};
 ghost use Rattle.sketch_base.specs.Seed.{seed_hash};
 ghost use Rattle.theta_compact.specs.CompactState.{IsAnswer};
 ghost use Rattle.theta_laws.specs.Operators.{unite};
@@ -7,8 +7,9 @@ ghost use Rattle.theta_laws.specs.Refusal.{Refuses};
 ghost use Rattle.theta_laws.specs.Folds.{fold_key, fold_merges, unmarked_value};
 ghost use Rattle.theta_laws.specs.Cuts.{IsRetained};
 ghost use Rattle.theta_table.specs.HashTable.{table_refusal};
-ghost use Rattle.theta_operators.specs.Union.{Union, empty_union, union_value, update_refusal, failure, IsUnion, IsJoined, IsBroken};
+ghost use Rattle.theta_operators.specs.Union.{Union, empty_union, union_value, update_refusal, lower_refusal, lower_allocates, lowered, failure, IsUnion, IsJoined, IsBroken};
 ghost use Rattle.theta_laws.specs.Shown.{shown_value};
+ghost use Rattle.theta_laws.specs.Values.{cut_value};
 ghost use Rattle.theta_laws.specs.Entries.{ClonesEqual};
 
 use crate::merge::merge_entries;
@@ -17,6 +18,7 @@ use sketch_base::{Error, ErrorKind};
 use std::alloc::{Allocator, Global};
 use std::marker::Model;
 use theta_compact::CompactSketchState;
+use theta_laws::MIN_LG_K;
 use theta_policies::UnionMergePolicy;
 use theta_table::{ResizeFactor, SketchHashTable, SlotEntry};
 
@@ -48,7 +50,7 @@ impl<E: SlotEntry, P, A: Allocator> Model for UnionState<E, P, A> {
 }
 
 impl<E: SlotEntry + Drop, P: Drop, A: Allocator + Drop> UnionState<E, P, A> {
-    /// A union of 2^`lg_k` nominal entries, with `lg_k` from 5 to 26, and a starting theta from 1 to `MAX_THETA`.
+    /// A union of 2^`lg_k` nominal entries, with `lg_k` from 4 to 26, and a starting theta from 1 to `MAX_THETA`.
     ///
     /// Refused with `InvalidArgument` outside these ranges, and for a seed whose seed hash is 0; with `OutOfMemory` where
     /// memory is.
@@ -131,6 +133,39 @@ impl<E: SlotEntry + Clone, P: UnionMergePolicy<E> + Drop, A: Allocator + Clone> 
                 Ok(())
             }
         }
+    }
+
+    /// Lowers the nominal entries to 2^`lg_k`, at least 2^4 and no more than now. The union's value is cut to those, later updates
+    /// and answers keep no more, and so do those after a `reset`. An empty union stays empty. Its own `lg_k` changes nothing and
+    /// takes no memory.
+    ///
+    /// Refused, in this order, with `Failed` if the union has failed, with `InvalidArgument` if `lg_k` isn't from 4 to its own,
+    /// and with `OutOfMemory`; the union is unchanged: a new table is made aside.
+    pub fn lower_lg_k(&mut self, lg_k: u8) -> Result<(), Error>
+        requires clones_equal { ClonesEqual E.is_clone }
+        ensures after { OnOk result (self.new ≡ lowered E.key lg_k self.old) }
+        ensures value { OnOk result (union_value E.key self.new ≡ cut_value E.key (2 ^ lg_k) (union_value E.key self.old)) }
+        ensures err { OnErr result (self.new ≡ self.old) }
+        ensures refused { Refuses result (lower_refusal self.old lg_k) (lower_allocates self.old lg_k) }
+        ensures sound { IsUnion self.old }
+        ensures held { IsRetained E.key self.old.held }
+    {
+        // Called for its clause: the table's entries ascend.
+        let _ = self.table.retention_theta();
+        if self.failed {
+            return Err(Error::new(ErrorKind::Failed));
+        }
+        let own = self.table.lg_nom_size();
+        if lg_k < MIN_LG_K || lg_k > own {
+            return Err(Error::new(ErrorKind::InvalidArgument));
+        }
+        if lg_k == own {
+            return Ok(());
+        }
+        let smaller = self.table.to_smaller_table(lg_k, self.theta)?;
+        self.theta = smaller.retention_theta();
+        self.table = smaller;
+        Ok(())
     }
 
     /// How many bytes the slots of its table take, free ones too.

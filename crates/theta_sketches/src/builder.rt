@@ -41,7 +41,7 @@ impl Default for ThetaSketchBuilder {
 }
 
 impl ThetaSketchBuilder {
-    /// With 2^`lg_k` nominal entries; `build` wants `lg_k` from 5 to 26.
+    /// With 2^`lg_k` nominal entries; `build` wants `lg_k` from 4 to 26.
     pub fn lg_k(mut self, lg_k: u8) -> Self
         ensures { result ≡ record self { lg_k = lg_k } }
     {
@@ -111,7 +111,7 @@ impl Default for ThetaUnionBuilder {
 }
 
 impl ThetaUnionBuilder {
-    /// With 2^`lg_k` nominal entries; `build` wants `lg_k` from 5 to 26.
+    /// With 2^`lg_k` nominal entries; `build` wants `lg_k` from 4 to 26.
     pub fn lg_k(mut self, lg_k: u8) -> Self
         ensures { result ≡ record self { lg_k = lg_k } }
     {

@@ -108,7 +108,7 @@ impl<A: Allocator> ThetaSketch<A> {
         self.state.estimate_decimal(places)
     }
 
-    /// The binary logarithm of its nominal entries, from 5 to 26.
+    /// The binary logarithm of its nominal entries, from 4 to 26.
     pub fn lg_k(&self) -> u8
         ensures { result ≡ self.now.map.lg_nom }
     {

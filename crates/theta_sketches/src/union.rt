@@ -1,5 +1,5 @@
 //! Unions of theta sketches.
-ghost use Rattle.std.specs.Prelude.{◌≡◌, ◌^◌, [], ◌∷◌, true, false, not, None, IfOk, IfErr, OnOk, MatchOption};
+ghost use Rattle.std.specs.Prelude.{◌≡◌, ◌^◌, [], ◌∷◌, true, false, not, None, IfOk, IfErr, OnOk, OnErr, MatchOption};
 ghost use Rattle.sketch_base.specs.Seed.{seed_hash};
 ghost use Rattle.sketch_base.specs.declared.error.ErrorKind.TheVariants.{OutOfMemory};
 ghost use Rattle.theta_compact.specs.CompactState.{IsAnswer};
@@ -8,8 +8,9 @@ ghost use Rattle.theta_laws.specs.Operators.{unite};
 ghost use Rattle.theta_laws.specs.Refusal.{Refuses};
 ghost use Rattle.theta_table.specs.HashTable.{table_refusal};
 ghost use Rattle.theta_laws.specs.Cuts.{IsRetained};
-ghost use Rattle.theta_operators.specs.Union.{Union, empty_union, union_value, update_refusal, failure, IsUnion, IsJoined};
+ghost use Rattle.theta_operators.specs.Union.{Union, empty_union, union_value, update_refusal, lower_refusal, lower_allocates, lowered, failure, IsUnion, IsJoined};
 ghost use Rattle.theta_laws.specs.Shown.{shown_value};
+ghost use Rattle.theta_laws.specs.Values.{cut_value};
 ghost use Rattle.theta_sketches.specs.View.{view_shows, view_lends};
 
 use crate::compact_sketch::CompactThetaSketch;
@@ -92,6 +93,23 @@ impl<A: Allocator + Clone> ThetaUnion<A> {
     {
         let state = self.state.to_compact_sketch_state(ordered)?;
         Ok(CompactThetaSketch::of_state(state))
+    }
+
+    /// Lowers the nominal entries to 2^`lg_k`, at least 2^4 and no more than now. The union's value is cut to those, later updates
+    /// and answers keep no more, and so do those after a `reset`. An empty union stays empty. Its own `lg_k` changes nothing and
+    /// takes no memory.
+    ///
+    /// Refused, in this order, with `Failed` if the union has failed, with `InvalidArgument` if `lg_k` isn't from 4 to its own,
+    /// and with `OutOfMemory`; the union is unchanged.
+    pub fn lower_lg_k(&mut self, lg_k: u8) -> Result<(), Error>
+        ensures after { OnOk result (self.new ≡ lowered hash_key lg_k self.old) }
+        ensures value { OnOk result (union_value hash_key self.new ≡ cut_value hash_key (2 ^ lg_k) (union_value hash_key self.old)) }
+        ensures err { OnErr result (self.new ≡ self.old) }
+        ensures refused { Refuses result (lower_refusal self.old lg_k) (lower_allocates self.old lg_k) }
+        ensures sound { IsUnion self.old }
+        ensures held { IsRetained hash_key self.old.held }
+    {
+        self.state.lower_lg_k(lg_k)
     }
 
     /// How many bytes the slots of its table take, free ones too: eight a slot, of which there are 32 to 2^(`lg_k` + 1).

@@ -16,7 +16,7 @@ ghost use Rattle.theta_table.specs.Entry.{tuple_key, entry_step};
 ghost use Rattle.theta_table.specs.declared.hash_table.TheConstants.{BLOCK};
 ghost use Rattle.theta_laws.specs.Insertion.{is_screened, after_upsert, IsRedundant, LeavesOut, creates, upsert_refusal, upsert_allocates};
 
-use crate::answering::{cut_theta, state_below};
+use crate::answering::{cut_theta, entries_below, state_below};
 use crate::clearing::{clear_slots, operator_slots};
 use crate::entry::{ThetaEntry, TupleEntry};
 use crate::insertion::{
@@ -25,13 +25,14 @@ use crate::insertion::{
 };
 use crate::iter::SketchHashTableIter;
 use crate::resize_factor::ResizeFactor;
+use crate::smaller::filled;
 use crate::step::{EntryStep, PutStep, UpsertStep};
 use sketch_base::{Error, ErrorKind, MurmurHash3X64128, compute_seed_hash};
 use std::alloc::{Allocator, Global};
 use std::hash::{Hash, Hasher};
 use std::marker::{Model, PhantomData};
 use theta_compact::CompactSketchState;
-use theta_laws::{MAX_LG_K, MAX_THETA, MIN_LG_K};
+use theta_laws::{MAX_LG_K, MAX_THETA, MIN_LG_K, MIN_LG_SLOTS};
 use theta_slots::{Count, SlotEntry, free_slots, leave_out_held, seek};
 
 /// The entries of a sketch below its theta. Contracts see them as a map, ascending by hash, and the theta.
@@ -76,7 +77,7 @@ impl<E: SlotEntry, A: Allocator> Model for SketchHashTable<E, A> {
 }
 
 impl<E: SlotEntry, A: Allocator> SketchHashTable<E, A> {
-    /// An empty table of 2^`lg_nom_size` nominal entries, with `lg_nom_size` from 5 to 26, and a starting theta from 1 to `MAX_THETA`.
+    /// An empty table of 2^`lg_nom_size` nominal entries, with `lg_nom_size` from 4 to 26, and a starting theta from 1 to `MAX_THETA`.
     ///
     /// Refused with `InvalidArgument` outside these ranges, and for a seed whose seed hash is 0; with `OutOfMemory` where
     /// memory is. The resize factor, by which the slots grow, has no effect on what the table answers.
@@ -91,7 +92,7 @@ impl<E: SlotEntry, A: Allocator> SketchHashTable<E, A> {
         A: Drop,
         ensures made { IfOk result (λ t. t.map ≡ empty_table lg_nom_size starting_theta seed) }
         ensures refused { Refuses result (table_refusal lg_nom_size starting_theta seed) true }
-        ensures sized { IfOk result (λ t. t.layout.lg_cur ≡ sub_multiple (lg_nom_size + 1) MIN_LG_K (lg_of resize_factor)) }
+        ensures sized { IfOk result (λ t. t.layout.lg_cur ≡ sub_multiple (lg_nom_size + 1) MIN_LG_SLOTS (lg_of resize_factor)) }
         ensures grows { IfOk result (λ t. t.layout.grow ≡ lg_of resize_factor) }
         ensures nothing_done { IfOk result (λ t. t.counts ≡ nothing_done) }
     {
@@ -224,7 +225,9 @@ impl<E: SlotEntry, A: Allocator> SketchHashTable<E, A> {
         requires low { 0 < retention_theta }
         requires high { retention_theta ≤ MAX_THETA }
         requires above { AllByRecursion (λ x. E.key x < retention_theta) self.old.map.kept.entries }
-        ensures { self.new.map ≡ record self.old.map { kept = record self.old.map.kept { theta = retention_theta } } }
+        ensures after { self.new.map ≡ record self.old.map { kept = record self.old.map.kept { theta = retention_theta } } }
+        ensures layout { self.new.layout ≡ self.old.layout }
+        ensures counts { self.new.counts ≡ self.old.counts }
     {
         self.theta = retention_theta;
     }
@@ -297,11 +300,11 @@ impl<E: SlotEntry, A: Allocator> SketchHashTable<E, A> {
 
 impl<E: SlotEntry, A: Allocator> SketchHashTable<E, A> {
     /// Removes all entries, and takes the starting theta and the starting size back. It takes no memory. The table is one of
-    /// a sketch, whose nominal logarithm is at least 5.
+    /// a sketch, whose nominal logarithm is at least 4.
     pub fn reset(&mut self)
         requires of_sketch { MIN_LG_K ≤ self.old.map.lg_nom }
         ensures after { self.new.map ≡ after_reset self.old.map }
-        ensures size { self.new.layout.lg_cur ≡ sub_multiple (self.old.map.lg_nom + 1) MIN_LG_K self.old.layout.grow }
+        ensures size { self.new.layout.lg_cur ≡ sub_multiple (self.old.map.lg_nom + 1) MIN_LG_SLOTS self.old.layout.grow }
         ensures grows { self.new.layout.grow ≡ self.old.layout.grow }
         ensures nothing_done { self.new.counts ≡ nothing_done }
     {
@@ -473,6 +476,39 @@ impl<E: SlotEntry + Clone, A: Allocator + Clone> SketchHashTable<E, A> {
             ordered,
         )?;
         Ok(state)
+    }
+}
+
+impl<E: SlotEntry + Clone, A: Allocator + Clone> SketchHashTable<E, A> {
+    /// A table of 2^`lg_nom_size` nominal entries, from 2^4 to its own number, with the resize factor, starting theta and seed of
+    /// this one. It retains what this one retains below a theta, from 1 to this table's, cut to so many. This table is unchanged.
+    /// The memory comes from clones of its allocator. Refused with `OutOfMemory` alone.
+    pub fn to_smaller_table(&self, lg_nom_size: u8, theta: u64) -> Result<Self, Error>
+        requires clones_equal { ClonesEqual E.is_clone }
+        requires of_sketch { MIN_LG_K ≤ lg_nom_size }
+        requires small { lg_nom_size ≤ MAX_LG_K }
+        requires fewer { lg_nom_size ≤ self.now.map.lg_nom }
+        requires low { 0 < theta }
+        requires high { theta ≤ self.now.map.kept.theta }
+        ensures made { IfOk result (λ t. t.map ≡ record self.now.map { kept = cut E.key (2 ^ lg_nom_size) self.now.map.kept.entries theta; lg_nom = lg_nom_size }) }
+        ensures grows { IfOk result (λ t. t.layout.grow ≡ self.now.layout.grow) }
+        ensures refused { Refuses result None true }
+    {
+        let fewer = nominal_size(lg_nom_size);
+        let spare = self.slots.allocator().clone()?;
+        let before = self.theta;
+        let lesser = cut_theta::<E, A>(spare, &self.slots, self.count, fewer, before, theta)?;
+        let aside = self.slots.allocator().clone()?;
+        let room = self.count.min(fewer);
+        let kept = entries_below::<E, A>(aside, &self.slots, lesser, room)?;
+        let alloc = self.slots.allocator().clone()?;
+        let grow = self.resize_factor;
+        let start = self.starting_theta;
+        let seed = self.seed;
+        let mut smaller = SketchHashTable::new(alloc, lg_nom_size, grow, start, seed)?;
+        smaller.set_retention_theta(lesser);
+        let table = filled(smaller, kept)?;
+        Ok(table)
     }
 }
 

@@ -10,7 +10,7 @@ use std::alloc::Allocator;
 use theta_laws::MIN_LG_K;
 use theta_table::{PutStep, ThetaEntry};
 
-/// Runs commands in turn over a table of a sketch, whose nominal logarithm is at least 5, and answers the reply to each,
+/// Runs commands in turn over a table of a sketch, whose nominal logarithm is at least 4, and answers the reply to each,
 /// in memory of `alloc`. Replies and what the table then retains are functions of what it retained, whatever table it is.
 ///
 /// Refused with `OutOfMemory` alone, and not without commands. Then the table stands as after the first so many of the

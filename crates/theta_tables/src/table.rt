@@ -47,7 +47,7 @@ pub trait ThetaTable<E: SketchEntry> {
         ensures refused { Refuses result None (nat_lt (2 ^ (map self.old).lg_nom) (length (map self.old).kept.entries)) };
 
     /// Removes all entries, and takes the starting theta back. It takes no memory. The table is one of a sketch, whose
-    /// nominal logarithm is at least 5.
+    /// nominal logarithm is at least 4.
     fn reset(&mut self)
         requires of_sketch { MIN_LG_K ≤ (map self.old).lg_nom }
         ensures { map self.new ≡ after_reset (map self.old) };

@@ -103,7 +103,7 @@ impl<P: SummaryPolicy, A: Allocator> TupleSketch<P, A> {
         self.state.estimate_decimal(places)
     }
 
-    /// The binary logarithm of its nominal entries, from 5 to 26.
+    /// The binary logarithm of its nominal entries, from 4 to 26.
     pub fn lg_k(&self) -> u8
         ensures { result ≡ self.now.state.map.lg_nom }
     {

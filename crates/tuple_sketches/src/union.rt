@@ -1,5 +1,5 @@
 //! Unions of tuple sketches.
-ghost use Rattle.std.specs.Prelude.{◌≡◌, ◌^◌, [], ◌∷◌, true, false, not, None, IfOk, IfErr, OnOk, MatchOption};
+ghost use Rattle.std.specs.Prelude.{◌≡◌, ◌^◌, [], ◌∷◌, true, false, not, None, IfOk, IfErr, OnOk, OnErr, MatchOption};
 ghost use Rattle.sketch_base.specs.Seed.{seed_hash};
 ghost use Rattle.theta_compact.specs.CompactState.{IsAnswer};
 ghost use Rattle.theta_table.specs.Entry.{tuple_key};
@@ -10,8 +10,9 @@ ghost use Rattle.theta_laws.specs.Folds.{fold_key, fold_merges, unmarked_value};
 ghost use Rattle.theta_laws.specs.Operators.{unite};
 ghost use Rattle.theta_laws.specs.Refusal.{Refuses};
 ghost use Rattle.theta_laws.specs.Shown.{shown_value};
+ghost use Rattle.theta_laws.specs.Values.{cut_value};
 ghost use Rattle.theta_policies.specs.Summaries.{combined, combine_refused};
-ghost use Rattle.theta_operators.specs.Union.{empty_union, union_value, update_refusal, failure, IsUnion, IsJoined, IsBroken};
+ghost use Rattle.theta_operators.specs.Union.{empty_union, union_value, update_refusal, lower_refusal, lower_allocates, lowered, failure, IsUnion, IsJoined, IsBroken};
 ghost use Rattle.theta_family.specs.View.{shows, lends};
 
 use crate::compact_sketch::CompactTupleSketch;
@@ -95,6 +96,27 @@ impl<P: SummaryCombinePolicy + Drop, A: Allocator + Clone> TupleUnion<P, A> {
     {
         let state = self.state.to_compact_sketch_state(ordered)?;
         Ok(CompactTupleSketch::of_state(state))
+    }
+
+    /// Lowers the nominal entries to 2^`lg_k`, at least 2^4 and no more than now. The union's value is cut to those, later updates
+    /// and answers keep no more, and so do those after a `reset`. An empty union stays empty. Its own `lg_k` changes nothing and
+    /// takes no memory.
+    ///
+    /// Refused, in this order, with `Failed` if the union has failed, with `InvalidArgument` if `lg_k` isn't from 4 to its own,
+    /// and with `OutOfMemory`; the union is unchanged. No policy is called. Clones of summaries must equal their
+    /// originals.
+    pub fn lower_lg_k(&mut self, lg_k: u8) -> Result<(), Error>
+    where
+        P::Summary: Clone,
+        requires clones_equal { ClonesEqual P.Summary.is_clone }
+        ensures after { OnOk result (self.new.state ≡ lowered tuple_key lg_k self.old.state) }
+        ensures value { OnOk result (union_value tuple_key self.new.state ≡ cut_value tuple_key (2 ^ lg_k) (union_value tuple_key self.old.state)) }
+        ensures err { OnErr result (self.new.state ≡ self.old.state) }
+        ensures refused { Refuses result (lower_refusal self.old.state lg_k) (lower_allocates self.old.state lg_k) }
+        ensures sound { IsUnion self.old.state }
+        ensures held { IsRetained tuple_key self.old.state.held }
+    {
+        self.state.lower_lg_k(lg_k)
     }
 
     /// How many bytes the slots of its table take, free ones too, without what summaries hold elsewhere. There are 32 to

@@ -29,7 +29,7 @@ impl<P> TupleUnionBuilder<P> {
         TupleUnionBuilder { settings, policy }
     }
 
-    /// With 2^`lg_k` nominal entries; `build` wants `lg_k` from 5 to 26.
+    /// With 2^`lg_k` nominal entries; `build` wants `lg_k` from 4 to 26.
     pub fn lg_k(mut self, lg_k: u8) -> Self
         ensures { result ≡ record self { settings = record self.settings { lg_k = lg_k } } }
     {

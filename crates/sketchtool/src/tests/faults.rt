@@ -6,7 +6,7 @@ use std::alloc::{AllocError, Global};
 use std::test::Fail;
 
 /// Faults, each the whole answer with status 1.
-const FAULTS: [(&str, &str); 61] = [
+const FAULTS: [(&str, &str); 63] = [
     ("", "error 1 syntax\n"),
     ("\n", "error 1 syntax\n"),
     ("theta show\r\n", "error 1 syntax\n"),
@@ -67,8 +67,10 @@ const FAULTS: [(&str, &str); 61] = [
     ),
     ("theta show\nleaf 5 max 4294967295\n", "error 3 syntax\n"),
     ("theta show\nunion 5 max 4294967295\n", "error 3 syntax\n"),
-    ("theta show\nunion 5 max 1\nlower 5\n", "error 3 syntax\n"),
-    ("theta show\nleaf 4 max 1\n", "error 3 syntax\n"),
+    ("theta show\nmeet 1\nlower 5\n", "error 3 syntax\n"),
+    ("theta show\nleaf 5 max 1\nlower 5\n", "error 3 syntax\n"),
+    ("theta show\nunion 5 max 1\nlower 256\n", "error 3 syntax\n"),
+    ("theta show\nleaf 3 max 1\n", "error 3 syntax\n"),
     (
         "theta show\nleaf 5 max 1\nleaf 5 max 0\n",
         "error 3 syntax\n",
@@ -107,7 +109,7 @@ const FAULTS: [(&str, &str); 61] = [
 ];
 
 /// Texts that spell a command.
-const SPELLED: [&str; 13] = [
+const SPELLED: [&str; 14] = [
     "theta show\nleaf 5 max 2\nadd 7\nadd 3\n",
     "theta show\nleaf 5 max 0",
     "theta show\nleaf 0 0 0\n",
@@ -116,6 +118,7 @@ const SPELLED: [&str; 13] = [
     "theta show\nleaf 5 max 1\nadd 00000000000000000007\n",
     "theta show\nleaf 5 max 3\nadd 0\ntrim\nreset\n",
     "theta show\nunion 5 max 0\n",
+    "theta show\nunion 6 max 2\nlower 5\nlower 255\n",
     "theta show\nunion 5 1000 2\nleaf 5 max 1\nadd 2000\nunion 6 max 1\nleaf 7 max 0\n",
     "theta image\nvia unordered\nmeet 1\nminus\nleaf 5 max 0\nvia ordered\nleaf 5 max 0\n",
     "tuple show\nleaf 5 max 2\nadd 7 1\nadd 3 18446744073709551615\n",
@@ -124,13 +127,15 @@ const SPELLED: [&str; 13] = [
 ];
 
 /// Plans that no sketch may be built with.
-const ARGUMENTS: [&str; 11] = [
-    "leaf 4 max 0\n",
+const ARGUMENTS: [&str; 13] = [
+    "leaf 3 max 0\n",
     "leaf 27 max 0\n",
     "leaf 255 max 0\n",
     "leaf 5 0 0\n",
     "leaf 5 9223372036854775808 0\n",
-    "union 4 max 0\n",
+    "union 3 max 0\n",
+    "union 5 max 1\nlower 3\n",
+    "union 6 max 2\nlower 5\nlower 6\n",
     "union 5 0 0\n",
     "union 5 max 2\nleaf 5 max 0\nleaf 27 max 0\n",
     "meet 2\nleaf 5 max 0\nleaf 27 max 0\n",
@@ -188,6 +193,12 @@ fn limits_levels(rt: HostRuntime) -> Result<(), Fail> {
             "union 5 max 1\n",
             "leaf 5 max 1\nleaf 5 max 0\n",
             "error 66 syntax\n",
+        ),
+        (
+            63,
+            "union 5 max 1\n",
+            "union 5 max 2\nlower 5\nleaf 5 max 0\n",
+            "error 67 limit\n",
         ),
         (64, "via ordered\n", "leaf 5 max 0\n", "error 66 limit\n"),
         (64, "meet 1\n", "minus\n", "error 66 limit\n"),

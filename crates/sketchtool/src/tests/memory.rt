@@ -26,11 +26,11 @@ fn counted<F: Fn(&Heap) -> Result<usize, Error>>(
 }
 
 /// Up to which number a leaf has the odd ones or the even ones.
-const LAST: u64 = 80;
+const LAST: u64 = 200;
 
 /// The lines of a leaf of the numbers of one remainder modulo 2.
 fn put_leaf(text: &mut String, remainder: u64) -> Result<(), AllocError> {
-    text.push_str("leaf 5 max 40\n")?;
+    text.push_str("leaf 5 max 100\n")?;
     for hash in 1..=LAST {
         if hash % 2 == remainder {
             writeln!(text, "add {hash}")?;
@@ -163,7 +163,7 @@ fn asks_for_memory_of_tuples_as_by_hand(rt: HostRuntime) -> Result<(), Fail> {
 }
 
 /// Commands with their answers.
-const ANSWERED: [(&str, &str); 4] = [
+const ANSWERED: [(&str, &str); 5] = [
     (
         "theta show\nunion 5 max 2\nvia unordered\nleaf 5 max 2\nadd 9\nadd 7\nleaf 5 max 1\nadd 8\n",
         "empty no\ntheta 9223372036854775807\ncount 3\n7\n8\n9\n",
@@ -175,6 +175,10 @@ const ANSWERED: [(&str, &str); 4] = [
     (
         "tuple show\nunion 5 max 2\nvia unordered\nleaf 5 max 2\nadd 9 1\nadd 7 2\nleaf 5 max 1\nadd 9 3\n",
         "empty no\ntheta 9223372036854775807\ncount 2\n7 2\n9 4\n",
+    ),
+    (
+        "theta show\nunion 6 max 2\nleaf 5 max 2\nadd 9\nadd 7\nlower 5\n",
+        "empty no\ntheta 9223372036854775807\ncount 2\n7\n9\n",
     ),
     // The difference of an intersection, of the image of a union and a leaf, and a leaf.
     (

@@ -12,7 +12,7 @@ returns-then-held-eq0-clause-met g c =
     let refuses = g.P.IntersectionMergePolicy.refuses c.args.policy.now in
     let was = c.args.table.now.map.kept in
     let theta : c.min-lesser.result ≡ min was.theta c.args.theta = c.min-lesser.ensures ∙ ap (λ (t : ℕ). min t c.args.theta) c.retention_theta.ensures.theta in
-    rw (c.set_retention_theta.ensures, theta)
+    rw (c.set_retention_theta.ensures.after, theta)
     (met_nothing key merges refuses was (g.S.EntrySketch.listing c.args.sketch) c.args.theta (sym c.num_retained-held.ensures ∙ c.if-held-eq0.true))
 
 pub returns-clause-met : goal.returns-clause-met
