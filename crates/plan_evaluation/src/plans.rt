@@ -15,7 +15,8 @@ ghost use Rattle.theta_table.specs.Entry.{tuple_key};
 ghost use Rattle.theta_table.specs.declared.entry.TupleEntry.{TupleEntry};
 ghost use Rattle.plan_text.specs.declared.plan.Plan.TheVariants as plans;
 ghost use Rattle.plan_values.specs.AddedValues.{added_values, total};
-ghost use Rattle.plan_values.specs.Family.{folds_of, tuple_folds};
+ghost use Rattle.plan_values.specs.Family.{folds_of, hashes, tuple_folds};
+ghost use Rattle.plan_values.specs.LawfulLeaf.{IsLawfulLeaf};
 ghost use Rattle.plan_values.specs.MergePlan.{only_unites, IsMergePlan};
 ghost use Rattle.plan_values.specs.Refusals.{may_refuse};
 ghost use Rattle.plan_values.specs.Value.{value_in, value_of, plan_refusal};
@@ -55,6 +56,7 @@ pub fn evaluate_theta<A: Allocator + Clone, B: Allocator>(
     ensures value { IfOk result (λ s. s ≡ ordered_sketch (value_of plan.now) (seed_hash seed)) }
     ensures whole { OnOk result (IsAllBelow hash_key (value_of plan.now) (whole_of plan.now)) }
     ensures merged { (lg_k start : ℕ) → IsMergePlan lg_k start plan.now → OnOk result (value_of plan.now ≡ NonEmpty (kmin (2 ^ lg_k) (whole_of plan.now) start)) }
+    ensures lawful { OnOk result (IsLawfulLeaf hashes plan.now) }
     ensures trimmed { (lg_k start : ℕ) (steps : List (LeafStep (Unit {0}))) → plan.now ≡ plans.Leaf lg_k start (steps ++ Trim ∷ []) → is_updated steps false ≡ true → OnOk result (value_of plan.now ≡ NonEmpty (kmin (2 ^ lg_k) (added steps) start)) }
     ensures refused { Refuses result (plan_refusal seed plan.now) true }
 {
@@ -95,6 +97,7 @@ pub fn evaluate_tuple<
     ensures whole { let f = tuple_folds (P.creates update_policy) (P.updates update_policy) (Q.combines combine_policy) in OnOk result (IsAllBelow f.key (value_in f plan.now) (whole_in f plan.now)) }
     ensures merged { (lg_k start : ℕ) → IsMergePlan lg_k start plan.now → let f = tuple_folds (P.creates update_policy) (P.updates update_policy) (Q.combines combine_policy) in OnOk result (value_in f plan.now ≡ NonEmpty (cut f.key (2 ^ lg_k) (whole_in f plan.now) start)) }
     ensures kmin { (lg_k start : ℕ) → IsMergePlan lg_k start plan.now → IfOk result (HasKeys tuple_key (kmin (2 ^ lg_k) (whole_hashes plan.now) start)) }
+    ensures lawful { let f = tuple_folds (P.creates update_policy) (P.updates update_policy) (Q.combines combine_policy) in OnOk result (IsLawfulLeaf f plan.now) }
     ensures trimmed { (lg_k start : ℕ) (steps : List (LeafStep U)) → plan.now ≡ plans.Leaf lg_k start (steps ++ Trim ∷ []) → is_updated steps false ≡ true → let f = tuple_folds (P.creates update_policy) (P.updates update_policy) (Q.combines combine_policy) in OnOk result (value_in f plan.now ≡ NonEmpty (cut f.key (2 ^ lg_k) (whole f.key f.step_of steps) start)) }
     ensures trimmed_kmin { (lg_k start : ℕ) (steps : List (LeafStep U)) → plan.now ≡ plans.Leaf lg_k start (steps ++ Trim ∷ []) → is_updated steps false ≡ true → IfOk result (HasKeys tuple_key (kmin (2 ^ lg_k) (added steps) start)) }
     ensures accepted { OnOk result (plan_refusal seed plan.now ≡ None) }
@@ -124,6 +127,7 @@ pub fn evaluate_sums<
     ensures whole { let f = tuple_folds (Some S.ZERO) S.sums S.sums in OnOk result (IsAllBelow f.key (value_in f plan.now) (whole_in f plan.now)) }
     ensures merged { (lg_k start : ℕ) → IsMergePlan lg_k start plan.now → let f = tuple_folds (Some S.ZERO) S.sums S.sums in OnOk result (value_in f plan.now ≡ NonEmpty (cut f.key (2 ^ lg_k) (whole_in f plan.now) start)) }
     ensures kmin { (lg_k start : ℕ) → IsMergePlan lg_k start plan.now → IfOk result (HasKeys tuple_key (kmin (2 ^ lg_k) (whole_hashes plan.now) start)) }
+    ensures lawful { let f = tuple_folds (Some S.ZERO) S.sums S.sums in OnOk result (IsLawfulLeaf f plan.now) }
     ensures trimmed { (lg_k start : ℕ) (steps : List (LeafStep S)) → plan.now ≡ plans.Leaf lg_k start (steps ++ Trim ∷ []) → is_updated steps false ≡ true → let f = tuple_folds (Some S.ZERO) S.sums S.sums in OnOk result (value_in f plan.now ≡ NonEmpty (cut f.key (2 ^ lg_k) (whole f.key f.step_of steps) start)) }
     ensures trimmed_kmin { (lg_k start : ℕ) (steps : List (LeafStep S)) → plan.now ≡ plans.Leaf lg_k start (steps ++ Trim ∷ []) → is_updated steps false ≡ true → IfOk result (HasKeys tuple_key (kmin (2 ^ lg_k) (added steps) start)) }
     ensures sums { only_unites plan.now ≡ true → IfOk result (λ s. (h : ℕ) (e : TupleEntry S) → entry_at tuple_key s.entries h ≡ Some e → S.whole e.summary ≡ total (map S.whole (added_values h plan.now))) }

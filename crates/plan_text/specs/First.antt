@@ -1,10 +1,10 @@
 -- The fault of a text is the first one, measured by what is spelled without a limit on levels.
-use Rattle.std.specs.Prelude.{◌≡◌, ◌↔◌, ℕ, suc, ◌≤◌, List, [], ◌∷◌, ◌++◌, length, Option, Some, None}
+use Rattle.std.specs.Prelude.{◌≡◌, ◌↔◌, ℕ, suc, ◌≤◌, ◌<◌, List, [], ◌∷◌, ◌++◌, length, Option, Some, None}
 use Rattle.std.specs.declared.alloc.Global.{Global}
 use Rattle.plan_text.specs.declared.line.Line.{Line}
 use Rattle.plan_text.specs.declared.command.Command.{Command}
 use Rattle.plan_text.specs.Reading.{Said, Stop, syntax, limit}
-use Rattle.plan_text.specs.Spelling.{Say, Spells}
+use Rattle.plan_text.specs.Spelling.{Say, Spells, command_levels}
 use Rattle.plan_text.specs.Faults.{a_command, fault_at, fault_of}
 
 -- these lines are a command's, of any number of levels
@@ -34,6 +34,20 @@ FrontBegins = (front rest : Said) (fault : Stop) → left_at fault ≤ length re
 abbrev pub DeepBegins : Type 0
 DeepBegins = (front : Said) (deep : Option Line) (rest : Said) → HasFault (front ++ deep ∷ rest) (limit (suc (length rest)))
     → (more : Said) × IsSpelled (front ++ deep ∷ more)
+
+-- every command that begins with the lines up to a node of one level too many has more than 64 levels
+abbrev pub DeepIsDeep : Type 0
+DeepIsDeep = (front : Said) (deep : Option Line) (rest more : Said) (command : Command Global)
+    → HasFault (front ++ deep ∷ rest) (limit (suc (length rest))) → Say (front ++ deep ∷ more) command → 64 < command_levels command
+
+-- the lines before a fault have none, whatever follows them
+abbrev pub FrontIsFaultless : Type 0
+FrontIsFaultless = (front rest more : Said) (fault other : Stop) → left_at fault ≤ length rest → HasFault (front ++ rest) fault
+    → HasFault (front ++ more) other → left_at other ≤ length more
+
+-- a text spells at most one command
+abbrev pub SpellsOne : Type 0
+SpellsOne = (text : List ℕ) (first second : Command Global) → Spells text first → Spells text second → first ≡ second
 
 -- lines after which one is missing are not spelled as they are, but begin something spelled
 abbrev pub MissingBegins : Type 0

@@ -1,6 +1,7 @@
 pub mod Family
 pub mod Value
 pub mod WholeStreams
+pub mod LawfulLeaf
 pub mod Refusals
 pub mod Outcome
 pub mod MergePlan

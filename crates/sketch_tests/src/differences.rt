@@ -1,10 +1,10 @@
 //! Differences of sketches.
 
-use crate::common::{Value, compact_of, kind_of, sketch_of, value_between, value_of};
+use crate::common::{Value, compact_of, kind_of, numbers, sketch_of, value_between, value_of};
 use sketch_base::{Error, ErrorKind};
 use std::alloc::{AllocError, Global};
 use std::test::Fail;
-use theta_core::MAX_THETA;
+use theta_core::{MAX_THETA, SketchEntry, a_not_b};
 use theta_sketches::{ThetaANotB, ThetaSketch, ThetaSketchBuilder, ThetaSketchView};
 
 /// The emptiness, theta and hashes, ascending, of what is left of one view without another's hashes, and whether it is ordered.
@@ -16,6 +16,29 @@ fn left_of(
 ) -> Result<(Value, bool), Error> {
     let answer = ThetaANotB::default()?.compute(alloc, a, b, asked)?;
     Ok((value_of(alloc, &answer)?, answer.is_ordered()))
+}
+
+/// The hashes of a difference whose second sketch is read by its hashes alone.
+fn left_by_hashes(
+    alloc: Global,
+    a: ThetaSketchView<'_>,
+    b: ThetaSketchView<'_>,
+) -> Result<Vec<u64>, Error> {
+    let state = a_not_b::compute(alloc, 0x93cc, a, b, true)?;
+    let mut hashes = Vec::new(alloc);
+    for entry in state.retained_entries() {
+        hashes.push(entry.hash())?;
+    }
+    Ok(hashes)
+}
+
+#[test]
+fn differences_need_hashes_alone(rt: HostRuntime) -> Result<(), Fail> {
+    let a = compact_of(rt.alloc(), 1, 9, true)?;
+    let b = compact_of(rt.alloc(), 4, 20, true)?;
+    let left = left_by_hashes(rt.alloc(), a.as_view(), b.as_view())?;
+    assert_eq!(rt; left, numbers(rt.alloc(), 1, 3)?);
+    Ok(())
 }
 
 /// What is left of a view without the hashes from a first to a last, lent by a sketch or by its ordered compact form.

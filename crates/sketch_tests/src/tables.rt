@@ -4,7 +4,9 @@ use crate::common::numbers;
 use sketch_base::{Error, ErrorKind, compute_seed_hash};
 use std::alloc::{AllocError, Global};
 use std::test::Fail;
-use theta_core::{CompactSketchState, MAX_THETA, ResizeFactor, ThetaEntry, ThetaHashTable};
+use theta_core::{
+    CompactSketchState, MAX_THETA, MIN_LG_K, ResizeFactor, ThetaEntry, ThetaHashTable,
+};
 
 const FACTORS: [ResizeFactor; 4] = [
     ResizeFactor::X1,
@@ -151,5 +153,26 @@ fn few_slots_have_little_room(rt: HostRuntime) -> Result<(), Fail> {
     }
     let wanted = (1000, numbers(rt.alloc(), 1, 7)?);
     assert_eq!(rt; value_of(rt.alloc(), &table)?, wanted);
+    Ok(())
+}
+
+#[test]
+fn a_reset_keeps_all_slots_of_an_operators_table(rt: HostRuntime) -> Result<(), Fail> {
+    let seed_hash = compute_seed_hash(9001, ErrorKind::InvalidArgument)?;
+    let mut table = ThetaHashTable::for_set_operation(rt.alloc(), 8, 7, 1000, 9001, seed_hash)?;
+    if table.has_room() {
+        table.try_insert_hash(9)?;
+    }
+    let before = (table.num_retained(), table.retention_theta());
+    assert_eq!(rt; before, (1, 1000));
+    if table.lg_nom_size() >= MIN_LG_K {
+        table.reset();
+    }
+    let after = (table.num_retained(), table.retention_theta());
+    assert_eq!(rt; after, (0, MAX_THETA));
+    assert_eq!(rt;
+        (table.estimated_size(), table.capacity_threshold()),
+        (2048, 240)
+    );
     Ok(())
 }

@@ -7,6 +7,7 @@ mod memory;
 mod merges;
 mod running;
 mod tuples;
+mod worked;
 
 use crate::run::run;
 use plan_text::{Command, Plan, read_plan};

@@ -1,5 +1,6 @@
 //! Differences: what of one sketch another lacks.
 ghost use Rattle.std.specs.Prelude.{◌≡◌, ◌+◌, ◌<◌, ◌≤◌, ◌==◌, ◌&&◌, ◌||◌, ◌++◌, if◌then◌else◌, true, false, None, is_none, nat_lt, length, map, take, IfOk, OnOk};
+ghost use Rattle.std.specs.Option.{ForSome};
 ghost use Rattle.theta_compact.specs.CompactState.{IsAnswer, IsCompactOf, shown_of, is_answer_ordered};
 ghost use Rattle.theta_laws.specs.Maps.{IsAscending, IsApart, below, entry_at, map_of};
 ghost use Rattle.theta_operators.specs.ANotB.{difference_refusal};
@@ -26,7 +27,7 @@ use theta_table::{SketchHashTable, ThetaEntry};
 ///
 /// Refused with `InvalidArgument` where `a` isn't empty and it, or a `b` that isn't empty, has another seed hash than
 /// `seed_hash`; with `OutOfMemory` where memory is. The inputs stay as they are.
-pub fn compute<S: EntrySketch, T: EntrySketch, A: Allocator + Clone>(
+pub fn compute<S: EntrySketch, T: KeySketch, A: Allocator + Clone>(
     alloc: A,
     seed_hash: u16,
     a: S,
@@ -36,6 +37,44 @@ pub fn compute<S: EntrySketch, T: EntrySketch, A: Allocator + Clone>(
 where
     S::Entry: Clone,
     requires clones_equal { ClonesEqual S.Entry.is_clone }
+    ensures ok { IfOk result (IsAnswer S.Entry.key (minus S.Entry.key hash_key (shown_value S.Entry.key (S.shown a) (S.listing a)) (shown_value hash_key (T.shown b) (T.shown b).hashes)) (S.shown a).seed_hash (ordered || (S.shown a).ordered)) }
+    ensures refused { Refuses result (difference_refusal seed_hash (S.shown a) (T.shown b)) true }
+{
+    subtract::<S, T, ThetaEntry, A>(alloc, seed_hash, a, b, None, ordered)
+}
+
+/// The same difference of a `b` that lends its entries. It is faster than `compute` if both are compact and ordered: then
+/// it reads both side by side and builds no table.
+pub fn compute_with_entries<S: EntrySketch, T: EntrySketch, A: Allocator + Clone>(
+    alloc: A,
+    seed_hash: u16,
+    a: S,
+    b: T,
+    ordered: bool,
+) -> Result<CompactSketchState<S::Entry, A>, Error>
+where
+    S::Entry: Clone,
+    requires clones_equal { ClonesEqual S.Entry.is_clone }
+    ensures ok { IfOk result (IsAnswer S.Entry.key (minus S.Entry.key hash_key (shown_value S.Entry.key (S.shown a) (S.listing a)) (shown_value hash_key (T.shown b) (T.shown b).hashes)) (S.shown a).seed_hash (ordered || (S.shown a).ordered)) }
+    ensures refused { Refuses result (difference_refusal seed_hash (S.shown a) (T.shown b)) true }
+{
+    let others = b.entries();
+    subtract::<S, T, T::Entry, A>(alloc, seed_hash, a, b, others.as_slice(), ordered)
+}
+
+/// The difference of two sketches, of which the second may have its entries in a slice, in the order of its hashes.
+fn subtract<S: EntrySketch, T: KeySketch, F: SketchEntry, A: Allocator + Clone>(
+    alloc: A,
+    seed_hash: u16,
+    a: S,
+    b: T,
+    others: Option<&[F]>,
+    ordered: bool,
+) -> Result<CompactSketchState<S::Entry, A>, Error>
+where
+    S::Entry: Clone,
+    requires clones_equal { ClonesEqual S.Entry.is_clone }
+    requires others { ForSome others (λ entries. map F.key entries.now ≡ (T.shown b).hashes) }
     ensures ok { IfOk result (IsAnswer S.Entry.key (minus S.Entry.key hash_key (shown_value S.Entry.key (S.shown a) (S.listing a)) (shown_value hash_key (T.shown b) (T.shown b).hashes)) (S.shown a).seed_hash (ordered || (S.shown a).ordered)) }
     ensures refused { Refuses result (difference_refusal seed_hash (S.shown a) (T.shown b)) true }
 {
@@ -52,19 +91,20 @@ where
             if own != seed_hash {
                 return Err(Error::new(ErrorKind::InvalidArgument));
             }
-            difference(alloc, seed_hash, a, theta, in_order, b, ordered)
+            difference(alloc, seed_hash, a, theta, in_order, b, others, ordered)
         }
     }
 }
 
 /// The difference of a sketch that isn't empty, of this seed hash and theta, and any other.
-fn difference<S: EntrySketch, T: EntrySketch, A: Allocator + Clone>(
+fn difference<S: EntrySketch, T: KeySketch, F: SketchEntry, A: Allocator + Clone>(
     alloc: A,
     seed_hash: u16,
     a: S,
     a_theta: u64,
     a_ordered: bool,
     b: T,
+    others: Option<&[F]>,
     asked: bool,
 ) -> Result<CompactSketchState<S::Entry, A>, Error>
 where
@@ -75,6 +115,7 @@ where
     requires of_seed { (S.shown a).seed_hash ≡ seed_hash }
     requires of_theta { (S.shown a).theta ≡ a_theta }
     requires in_order { (S.shown a).ordered ≡ a_ordered }
+    requires others { ForSome others (λ entries. map F.key entries.now ≡ (T.shown b).hashes) }
     ensures ok { IfOk result (IsAnswer S.Entry.key (minus S.Entry.key hash_key (shown_value S.Entry.key (S.shown a) (S.listing a)) (shown_value hash_key (T.shown b) (T.shown b).hashes)) (S.shown a).seed_hash (asked || (S.shown a).ordered)) }
     ensures refused { Refuses result (difference_refusal seed_hash (S.shown a) (T.shown b)) true }
 {
@@ -94,7 +135,7 @@ where
             }
             let theta = a_theta.min(b_theta);
             let spare = alloc.clone()?;
-            let kept = kept_entries(alloc, a, a_ordered, b, b_ordered, b_count, theta)?;
+            let kept = kept_entries(alloc, a, a_ordered, b, b_ordered, b_count, others, theta)?;
             if leaves_nothing(kept.len(), theta) {
                 return Ok(CompactSketchState::empty(spare, seed_hash));
             }
@@ -111,13 +152,14 @@ fn leaves_nothing(count: usize, theta: u64) -> bool
 }
 
 /// Clones of the entries below a theta whose hashes another sketch, of `b_count` hashes, lacks, in their order.
-fn kept_entries<S: EntrySketch, T: EntrySketch, A: Allocator + Clone>(
+fn kept_entries<S: EntrySketch, T: KeySketch, F: SketchEntry, A: Allocator + Clone>(
     alloc: A,
     a: S,
     a_ordered: bool,
     b: T,
     b_ordered: bool,
     b_count: usize,
+    others: Option<&[F]>,
     theta: u64,
 ) -> Result<Vec<S::Entry, A>, Error>
 where
@@ -127,13 +169,15 @@ where
     requires b_in_order { (T.shown b).ordered ≡ b_ordered }
     requires theta_low { 0 < theta }
     requires theta_high { theta ≤ MAX_THETA }
+    requires b_sound { IsShown (T.shown b) }
+    requires others { ForSome others (λ entries. map F.key entries.now ≡ (T.shown b).hashes) }
     ensures listed { IfOk result (λ _. map S.Entry.key (S.listing a) ≡ (S.shown a).hashes) }
     ensures ok { IfOk result (λ v. v.items ≡ lacking S.Entry.key hash_key (below S.Entry.key (S.listing a) theta) (T.shown b).hashes) }
     ensures refused { Refuses result None true }
 {
     if a_ordered && b_ordered {
-        let (lent, others) = (a.entries(), b.entries());
-        if let (Some(entries), Some(hashes)) = (lent.as_slice(), others.as_slice()) {
+        let lent = a.entries();
+        if let (Some(entries), Some(hashes)) = (lent.as_slice(), others) {
             return lacking_by_scan(alloc, entries, hashes, theta);
         }
     }

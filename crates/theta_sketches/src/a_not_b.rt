@@ -82,7 +82,7 @@ impl ThetaANotB {
         ensures ok { IfOk result (IsAnswer hash_key (minus hash_key hash_key (shown_value hash_key (view_shows a.entry) (view_lends a.entry)) (shown_value hash_key (view_shows b.entry) (view_lends b.entry))) (view_shows a.entry).seed_hash (ordered || (view_shows a.entry).ordered)) }
         ensures refused { Refuses result (difference_refusal self.now (view_shows a.entry) (view_shows b.entry)) true }
     {
-        let state = a_not_b::compute(alloc, self.seed_hash, a, b, ordered)?;
+        let state = a_not_b::compute_with_entries(alloc, self.seed_hash, a, b, ordered)?;
         Ok(CompactThetaSketch::of_state(state))
     }
 }

@@ -64,7 +64,7 @@ where
     intersection.update(view)
 }
 
-/// The difference of two views: `a_not_b::compute`.
+/// The difference of two views: `a_not_b::compute_with_entries`.
 pub(crate) fn difference_of<
     'v,
     'w,
@@ -87,5 +87,5 @@ where
     ensures ok { IfOk result (IsAnswer E.key (minus E.key hash_key (shown_value E.key (shows E.key a.entry) (lends a.entry)) (shown_value hash_key (shows F.key b.entry) (shows F.key b.entry).hashes)) (shows E.key a.entry).seed_hash (ordered || (shows E.key a.entry).ordered)) }
     ensures refused { Refuses result (difference_refusal seed_hash (shows E.key a.entry) (shows F.key b.entry)) true }
 {
-    a_not_b::compute(alloc, seed_hash, a, b, ordered)
+    a_not_b::compute_with_entries(alloc, seed_hash, a, b, ordered)
 }

@@ -4,6 +4,7 @@
 
 #[cfg(test)]
 mod borrowed;
+mod calls;
 #[cfg(test)]
 mod common;
 #[cfg(test)]

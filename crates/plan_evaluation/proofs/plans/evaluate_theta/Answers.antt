@@ -2,6 +2,8 @@ use Rattle.std.proofs.lemmas.Result.{on_ok_weaker}
 use Rattle.sketch_base.specs.Seed.{seed_hash}
 use Rattle.theta_laws.specs.Folds.{never}
 use Rattle.plan_values.specs.Family.{hashes, folds_of}
+use Rattle.plan_values.proofs.KnownFamilies.{hashes_keep}
+use Rattle.plan_values.proofs.TrimmedLeaf.{lawful_leaf}
 use Rattle.plan_values.proofs.ThetaPlans.{whole_kept, merge_kept, value_trimmed}
 use Rattle.plan_evaluation.proofs.evaluation.OrderedSketches.{theta_sketch, refused_settings}
 use Rattle.plan_evaluation.proofs.plans.evaluate_theta.Goals as goal
@@ -14,6 +16,9 @@ returns-clause-whole g c = on_ok_weaker c.ordered.result (λ accepted. whole_kep
 
 pub returns-clause-merged : goal.returns-clause-merged
 returns-clause-merged g c = λ lg_k start merge. on_ok_weaker c.ordered.result (λ accepted. merge_kept c.args.seed c.args.plan.now accepted lg_k start merge) c.ordered.ensures.accepted
+
+pub returns-clause-lawful : goal.returns-clause-lawful
+returns-clause-lawful g c = on_ok_weaker c.ordered.result (lawful_leaf hashes hashes_keep c.args.seed c.args.plan.now) c.ordered.ensures.accepted
 
 pub returns-clause-trimmed : goal.returns-clause-trimmed
 returns-clause-trimmed g c = λ lg_k start steps is updated. on_ok_weaker c.ordered.result (value_trimmed c.args.seed lg_k start steps c.args.plan.now is updated) c.ordered.ensures.accepted

@@ -11,7 +11,7 @@ use Rattle.plan_values.proofs.AddedValues.{merges_unite}
 use Rattle.plan_values.proofs.KnownFamilies.{tuple_folds_keep}
 use Rattle.plan_values.proofs.MergePlans.{merge_plan}
 use Rattle.plan_values.proofs.Samples.{sampled}
-use Rattle.plan_values.proofs.TrimmedLeaf.{trimmed_plan}
+use Rattle.plan_values.proofs.TrimmedLeaf.{lawful_leaf, trimmed_plan}
 use Rattle.plan_evaluation.proofs.evaluation.MergedSketches.{merged_keys}
 use Rattle.plan_evaluation.proofs.evaluation.OrderedSketches.{refused_policy}
 use Rattle.plan_evaluation.proofs.plans.evaluate_tuple.Goals as goal
@@ -43,6 +43,13 @@ returns-clause-kmin g c = λ lg_k start merge.
     (tuple_keys creates updates combines c.args.plan.now (merges_unite _ lg_k start c.args.plan.now merge.below_it))
     (on_ok_weaker c.ordered.result (λ accepted. merge_plan f (tuple_folds_keep creates updates combines) c.args.seed c.args.plan.now accepted lg_k start merge) c.ordered.ensures.accepted)
     (rw (c.new-family.ensures.updates, c.new-family.ensures.combines) at c.ordered.ensures.value)
+
+pub returns-clause-lawful : goal.returns-clause-lawful
+returns-clause-lawful g c =
+    let creates = g.P.SummaryPolicy.creates c.args.update_policy in
+    let updates = g.P.SummaryUpdatePolicy.updates c.args.update_policy in
+    let combines = g.Q.SummaryCombinePolicy.combines c.args.combine_policy in
+    on_ok_weaker c.ordered.result (lawful_leaf (tuple_folds creates updates combines) (tuple_folds_keep creates updates combines) c.args.seed c.args.plan.now) c.ordered.ensures.accepted
 
 pub returns-clause-trimmed : goal.returns-clause-trimmed
 returns-clause-trimmed g c = λ lg_k start steps is updated.

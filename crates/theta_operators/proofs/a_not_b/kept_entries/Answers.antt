@@ -1,4 +1,4 @@
-use Rattle.std.proofs.Common.{◌≡◌, ◌∙◌}
+use Rattle.std.proofs.Common.{◌≡◌, ◌∙◌, map}
 use Rattle.std.proofs.lemmas.Result.{IfOk-weaker}
 use Rattle.theta_laws.proofs.maps.MapsOfLists.{ascending-from_map}
 use Rattle.theta_operators.proofs.LackingEntries.{kept_by_map, kept_of_hashes}
@@ -18,14 +18,13 @@ lacking_by_scan-requires-clause-ascending g c =
 
 pub lacking_by_scan-requires-clause-others_ascend : goal.lacking_by_scan-requires-clause-others_ascend
 lacking_by_scan-requires-clause-others_ascend g c =
-    let key = g.T.Entry.SketchEntry.key in
-    let all : c.in-Some-Some.hashes.now ≡ g.T.EntrySketch.listing c.args.b = c.in-Some-Some.ensures'.left ∙ c.entries-others.ensures.all in
-    rw all (ascending-from_map key (g.T.EntrySketch.listing c.args.b) (rw c.entries-others.ensures.hashes (c.entries-others.ensures.sound.ascending (c.requires.b_in_order ∙ c.if-b_ordered.true))))
+    let others_are : map g.F.SketchEntry.key c.in-Some-Some.hashes.now ≡ (g.T.KeySketch.shown c.args.b).hashes = c.requires.others c.in-Some-Some.hashes c.in-Some-Some.is-1 in
+    ascending-from_map g.F.SketchEntry.key c.in-Some-Some.hashes.now (rw others_are (c.requires.b_sound.ascending (c.requires.b_in_order ∙ c.if-b_ordered.true)))
 
 pub returns-in-Some-Some-clause-ok : goal.returns-in-Some-Some-clause-ok
 returns-in-Some-Some-clause-ok g c =
     let key = g.S.Entry.SketchEntry.key in
-    let other = g.T.Entry.SketchEntry.key in
+    let other = g.F.SketchEntry.key in
     let all : c.in-Some-Some.entries.now ≡ g.S.EntrySketch.listing c.args.a = c.in-Some-Some.ensures.left ∙ c.entries-lent.ensures.all in
-    let others_all : c.in-Some-Some.hashes.now ≡ g.T.EntrySketch.listing c.args.b = c.in-Some-Some.ensures'.left ∙ c.entries-others.ensures.all in
-    IfOk-weaker c.lacking_by_scan.result _ _ (λ v e. e ∙ rw (all, others_all, ← c.entries-others.ensures.hashes) (kept_of_hashes key other c.args.theta (g.S.EntrySketch.listing c.args.a) (g.T.EntrySketch.listing c.args.b))) c.lacking_by_scan.ensures.ok
+    let others_are : map other c.in-Some-Some.hashes.now ≡ (g.T.KeySketch.shown c.args.b).hashes = c.requires.others c.in-Some-Some.hashes c.in-Some-Some.is-1 in
+    IfOk-weaker c.lacking_by_scan.result _ _ (λ v e. e ∙ rw (all, ← others_are) (kept_of_hashes key other c.args.theta (g.S.EntrySketch.listing c.args.a) c.in-Some-Some.hashes.now)) c.lacking_by_scan.ensures.ok
