@@ -1,13 +1,13 @@
 //! Differences: what of one sketch another lacks.
 ghost use Rattle.std.specs.Prelude.{◌≡◌, ◌+◌, ◌<◌, ◌≤◌, ◌==◌, ◌&&◌, ◌||◌, ◌++◌, if◌then◌else◌, true, false, None, is_none, nat_lt, length, map, take, IfOk, OnOk};
 ghost use Rattle.std.specs.Option.{ForSome};
-ghost use Rattle.theta_compact.specs.CompactState.{IsAnswer, IsCompactOf, shown_of, is_answer_ordered};
+ghost use Rattle.theta_compact.specs.CompactState.{IsCompactOf, shown_of, is_answer_ordered};
 ghost use Rattle.theta_laws.specs.Maps.{IsAscending, IsApart, below, entry_at, map_of};
-ghost use Rattle.theta_operators.specs.ANotB.{difference_refusal};
+ghost use Rattle.theta_operators.specs.ANotB.{difference_refusal, IsDifference};
 ghost use Rattle.theta_laws.specs.Entries.{hash_key, ClonesEqual};
-ghost use Rattle.theta_laws.specs.Operators.{lacking, minus};
+ghost use Rattle.theta_laws.specs.Operators.{lacking};
 ghost use Rattle.theta_laws.specs.Refusal.{Refuses};
-ghost use Rattle.theta_laws.specs.Shown.{IsShown, shown_value};
+ghost use Rattle.theta_laws.specs.Shown.{IsShown};
 
 use crate::merge::is_past;
 use crate::share::{cloned_entries, table_of};
@@ -37,7 +37,7 @@ pub fn compute<S: EntrySketch, T: KeySketch, A: Allocator + Clone>(
 where
     S::Entry: Clone,
     requires clones_equal { ClonesEqual S.Entry.is_clone }
-    ensures ok { IfOk result (IsAnswer S.Entry.key (minus S.Entry.key hash_key (shown_value S.Entry.key (S.shown a) (S.listing a)) (shown_value hash_key (T.shown b) (T.shown b).hashes)) (S.shown a).seed_hash (ordered || (S.shown a).ordered)) }
+    ensures ok { IfOk result (IsDifference S.Entry.key (S.shown a) (S.listing a) (T.shown b) ordered) }
     ensures refused { Refuses result (difference_refusal seed_hash (S.shown a) (T.shown b)) true }
 {
     subtract::<S, T, ThetaEntry, A>(alloc, seed_hash, a, b, None, ordered)
@@ -55,7 +55,7 @@ pub fn compute_with_entries<S: EntrySketch, T: EntrySketch, A: Allocator + Clone
 where
     S::Entry: Clone,
     requires clones_equal { ClonesEqual S.Entry.is_clone }
-    ensures ok { IfOk result (IsAnswer S.Entry.key (minus S.Entry.key hash_key (shown_value S.Entry.key (S.shown a) (S.listing a)) (shown_value hash_key (T.shown b) (T.shown b).hashes)) (S.shown a).seed_hash (ordered || (S.shown a).ordered)) }
+    ensures ok { IfOk result (IsDifference S.Entry.key (S.shown a) (S.listing a) (T.shown b) ordered) }
     ensures refused { Refuses result (difference_refusal seed_hash (S.shown a) (T.shown b)) true }
 {
     let others = b.entries();
@@ -75,7 +75,7 @@ where
     S::Entry: Clone,
     requires clones_equal { ClonesEqual S.Entry.is_clone }
     requires others { ForSome others (λ entries. map F.key entries.now ≡ (T.shown b).hashes) }
-    ensures ok { IfOk result (IsAnswer S.Entry.key (minus S.Entry.key hash_key (shown_value S.Entry.key (S.shown a) (S.listing a)) (shown_value hash_key (T.shown b) (T.shown b).hashes)) (S.shown a).seed_hash (ordered || (S.shown a).ordered)) }
+    ensures ok { IfOk result (IsDifference S.Entry.key (S.shown a) (S.listing a) (T.shown b) ordered) }
     ensures refused { Refuses result (difference_refusal seed_hash (S.shown a) (T.shown b)) true }
 {
     match a.metadata() {
@@ -116,7 +116,7 @@ where
     requires of_theta { (S.shown a).theta ≡ a_theta }
     requires in_order { (S.shown a).ordered ≡ a_ordered }
     requires others { ForSome others (λ entries. map F.key entries.now ≡ (T.shown b).hashes) }
-    ensures ok { IfOk result (IsAnswer S.Entry.key (minus S.Entry.key hash_key (shown_value S.Entry.key (S.shown a) (S.listing a)) (shown_value hash_key (T.shown b) (T.shown b).hashes)) (S.shown a).seed_hash (asked || (S.shown a).ordered)) }
+    ensures ok { IfOk result (IsDifference S.Entry.key (S.shown a) (S.listing a) (T.shown b) asked) }
     ensures refused { Refuses result (difference_refusal seed_hash (S.shown a) (T.shown b)) true }
 {
     match b.metadata() {
