@@ -4,6 +4,7 @@
 
 #[cfg(test)]
 mod borrowed;
+#[cfg(test)]
 mod calls;
 #[cfg(test)]
 mod common;
