@@ -1,4 +1,4 @@
-//! The audience of the README's second example.
+//! The audience of the library's second example (docs/LIBRARY.md).
 
 use crate::common::{add, ascending};
 use sketch_base::Error;

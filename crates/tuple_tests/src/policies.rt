@@ -31,7 +31,7 @@ impl SummaryUpdatePolicy<u64> for Greatest {
     }
 }
 
-/// The slowest call of each page, of the README.
+/// The slowest call of each page, as in docs/LIBRARY.md.
 fn slowest(alloc: Global, calls: &[(&str, u64)]) -> Result<TupleSketch<Greatest>, Error> {
     let mut sketch = TupleSketchBuilder::new(Greatest).build(alloc)?;
     for (page, millis) in calls {
