@@ -1,5 +1,5 @@
 -- Which failure comes where.
-use Rattle.std.specs.Prelude.{ℕ, ◌≡◌, ◌-◌, ⊤, List, codes, string_bytes, if◌then◌else◌}
+use Rattle.std.specs.Prelude.{ℕ, ◌≡◌, ◌==◌, ◌&&◌, ◌-◌, ⊤, Bool, true, false, List, codes, string_bytes, if◌then◌else◌}
 use Rattle.std.specs.Option.{option_map_or}
 use Rattle.std.specs.Str.{bytes_eq}
 use Rattle.lines.specs.declared.key.Key.{Key}
@@ -11,13 +11,14 @@ use Rattle.distinct.specs.declared.arguments.Command.TheVariants.{Count, Sketch,
 use Rattle.distinct.specs.declared.arguments.Operator.{Operator}
 use Rattle.distinct.specs.declared.arguments.Operator.TheVariants.{Minus}
 use Rattle.distinct.specs.declared.failure.Failure.{Failure}
-use Rattle.distinct.specs.declared.failure.Failure.TheVariants.{NoFiles, NotTwo, Memory, Unreadable, NoSketch, NotWritten}
+use Rattle.distinct.specs.declared.failure.Failure.TheVariants.{NoFiles, NotTwo, Memory, Unreadable, NoSketch, NoLine, NotWritten}
 
 -- the exit status: 1 where memory, a file or an output fails, 2 where the arguments are wrong
 abbrev pub status_of : Failure → ℕ
 status_of Memory = 1
 status_of (Unreadable name error) = 1
 status_of (NoSketch name line) = 1
+status_of (NoLine name) = 1
 status_of (NotWritten name error) = 1
 status_of _ = 2
 
@@ -31,11 +32,12 @@ TellsUnreadable name error Memory = ⊤
 TellsUnreadable name error (Unreadable told reason) = (string_bytes told ≡ name) × (reason ≡ error)
 TellsUnreadable name error _ = ⊥
 
--- memory was refused, or the file of this name, or this line of it, is no image
-abbrev pub TellsNoSketch : (name : List ℕ) → (line : ℕ) → Failure → Type 0
-TellsNoSketch name line Memory = ⊤
-TellsNoSketch name line (NoSketch told number) = (string_bytes told ≡ name) × (number ≡ line)
-TellsNoSketch name line _ = ⊥
+-- memory was refused, or the file of this name is no image, or this line of it is none, or it is to have lines and has none
+abbrev pub TellsNoSketch : (name : List ℕ) → (hex : Bool) → (line : ℕ) → Failure → Type 0
+TellsNoSketch name hex line Memory = ⊤
+TellsNoSketch name hex line (NoSketch told number) = (string_bytes told ≡ name) × (number ≡ line) × ((hex && line == 0) ≡ false)
+TellsNoSketch name hex line (NoLine told) = (string_bytes told ≡ name) × ((hex && line == 0) ≡ true)
+TellsNoSketch name hex line _ = ⊥
 
 -- memory was refused, or the output of this name failed, for this reason
 abbrev pub TellsNotWritten : (name : List ℕ) → Error → Failure → Type 0
@@ -52,6 +54,7 @@ IsOfReading _ = ⊥
 -- .. or it is no image
 abbrev pub IsOfImages : Failure → Type 0
 IsOfImages (NoSketch name line) = ⊤
+IsOfImages (NoLine name) = ⊤
 IsOfImages failure = IsOfReading failure
 
 -- memory was refused, or an output failed

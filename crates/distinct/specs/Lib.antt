@@ -4,3 +4,5 @@ pub mod Arguments
 pub mod Faults
 pub mod Failures
 pub mod Seeds
+pub mod Images
+pub mod Answers

@@ -37,6 +37,8 @@ pub enum Failure {
     Unreadable(String, io::Error),
     /// A file is no image, or its line of this number, from 1; 0 where lines are not told apart.
     NoSketch(String, u64),
+    /// A file that has an image in each line has no line.
+    NoLine(String),
     /// An output failed: standard output, or the file of this name.
     NotWritten(String, io::Error),
 }
@@ -50,6 +52,7 @@ impl Failure {
             Failure::Memory => 1,
             Failure::Unreadable(_, _) => 1,
             Failure::NoSketch(_, _) => 1,
+            Failure::NoLine(_) => 1,
             Failure::NotWritten(_, _) => 1,
             _ => 2,
         }
@@ -118,6 +121,7 @@ impl fmt::Display for Failure {
                 "{}: line {line} is not the image of one theta sketch, or cut short, or of another seed",
                 Escaped(name)
             ),
+            Failure::NoLine(name) => write!(f, "{}: has no line, and so no image", Escaped(name)),
             Failure::NotWritten(name, error) => write!(f, "{}: {error}", Escaped(name)),
         }
     }

@@ -1,15 +1,19 @@
 //! The images that files have: a file is one and nothing else, or each of its lines is one in hexadecimal, blanks around it
 //! aside.
-ghost use Rattle.std.specs.Prelude.{◌≡◌, None};
+ghost use Rattle.std.specs.Prelude.{◌≡◌, Some, IfOk};
+ghost use Rattle.line_sketches.specs.Sources.{GivesNext};
+ghost use Rattle.distinct.specs.Images.{images_left};
 ghost use Rattle.distinct.specs.Failures.{called, IsOfImages, TellsNoSketch};
 
 use crate::failure::Failure;
-use crate::inputs::{Input, Inputs};
+use crate::inputs::Inputs;
 use line_sketches::{Sources, read_hex};
+use std::alloc::Global;
 use std::io;
 use std::io::{BufRead, BufReader, Cursor, ErrorKind, Read};
 
-/// How many bytes an image has that begins so, as its preamble tells: 0 where they are too few to tell.
+/// How many bytes an image has that begins so, as its preamble tells: 0 where they are too few to tell. One of no hashes has
+/// eight, whatever its preamble announces.
 fn told_length(bytes: &[u8]) -> usize {
     let [longs, version, _, _, _, flags, _, _, rest @ ..] = bytes else {
         return 0;
@@ -22,7 +26,7 @@ fn told_length(bytes: &[u8]) -> usize {
     match (*version, *longs) {
         (1, _) => 24 + 8 * count,
         (2, 1) => 8,
-        (3, longs) if is_empty => 8 * longs as usize,
+        (3, _) if is_empty => 8,
         (3, 1) => 16,
         (_, longs) => 8 * longs as usize + 8 * count,
     }
@@ -39,19 +43,22 @@ fn check_alone(bytes: &[u8]) -> io::Result<()> {
 
 /// The images of files, one after another.
 #[derive(Drop)]
-pub struct Images<'a> {
-    rt: &'a HostRuntime,
-    inputs: Inputs<'a>,
+pub struct Images<'a, S: Sources> {
+    alloc: Global,
+    inputs: Inputs<'a, S>,
     hex: bool,
-    open: Option<BufReader<Input>>,
+    open: Option<BufReader<S::Source>>,
     line: u64,
 }
 
-impl<'a> Images<'a> {
-    pub fn new(rt: &'a HostRuntime, names: &'a [String], hex: bool) -> Images<'a> {
+impl<'a, S: Sources> Images<'a, S> {
+    pub fn new(alloc: Global, inputs: Inputs<'a, S>, hex: bool) -> Images<'a, S>
+        ensures inputs { result.inputs ≡ inputs.entry }
+        ensures hex { result.hex ≡ hex }
+    {
         Images {
-            rt,
-            inputs: Inputs::named(rt, names),
+            alloc,
+            inputs,
             hex,
             open: None,
             line: 0,
@@ -65,28 +72,36 @@ impl<'a> Images<'a> {
         self.inputs.name()
     }
 
-    /// Why there is no image: the file can't be read.
+    /// Why there is no image: the file can't be read, or what was read is none.
     pub fn unreadable(&self, error: io::Error) -> Failure
         ensures { IsOfImages result }
     {
         if error.kind() == ErrorKind::InvalidData {
             return self.no_sketch();
         }
-        self.inputs.unreadable(error)
+        self.inputs.unreadable(self.alloc, error)
     }
 
-    /// Why there is no image: it was read, and is none.
+    /// Why there is no image: it was read, and is none, or there is no line.
     pub fn no_sketch(&self) -> Failure
-        ensures { TellsNoSketch (called self.now.inputs.current.now) self.now.line result }
+        ensures { TellsNoSketch (called self.now.inputs.current.now) self.now.hex self.now.line result }
     {
-        match String::from_str(self.rt.alloc(), self.name()) {
-            Ok(name) => Failure::NoSketch(name, self.line),
+        match String::from_str(self.alloc, self.name()) {
+            Ok(name) => {
+                if self.hex && self.line == 0 {
+                    Failure::NoLine(name)
+                } else {
+                    Failure::NoSketch(name, self.line)
+                }
+            }
             Err(_) => Failure::Memory,
         }
     }
 
     /// The next image, or `None` at the end.
-    pub fn next_image(&mut self) -> io::Result<Option<Vec<u8>>> {
+    pub fn next_image(&mut self) -> io::Result<Option<Vec<u8>>>
+        ensures { IfOk result (GivesNext (λ v. Some v.items) (images_left self.old.hex (S.texts self.old.inputs.sources)) (images_left self.new.hex (S.texts self.new.inputs.sources))) }
+    {
         if self.hex {
             self.next_line()
         } else {
@@ -95,26 +110,33 @@ impl<'a> Images<'a> {
     }
 
     /// All that the next file has.
-    fn next_whole(&mut self) -> io::Result<Option<Vec<u8>>> {
+    fn next_whole(&mut self) -> io::Result<Option<Vec<u8>>>
+        ensures next { IfOk result (GivesNext (λ v. Some v.items) (S.texts self.old.inputs.sources) (S.texts self.new.inputs.sources)) }
+        ensures hex { self.new.hex ≡ self.old.hex }
+    {
         let Some(mut input) = self.inputs.next_source()? else {
             return Ok(None);
         };
-        let mut image = Vec::new(self.rt.alloc());
+        let mut image = Vec::new(self.alloc);
         input.read_to_end(&mut image)?;
         check_alone(&image)?;
         Ok(Some(image))
     }
 
-    /// The bytes of the next line of the files.
+    /// The bytes of the next line of the files, each of which has one at least: of one that has none, a part that failed would
+    /// be passed over.
     fn next_line(&mut self) -> io::Result<Option<Vec<u8>>> {
         for _ in 0..u64::MAX {
             if let Some(image) = self.line_of_open()? {
                 return Ok(Some(image));
             }
+            if self.open.is_some() && self.line == 0 {
+                return Err(io::Error::from(ErrorKind::InvalidData));
+            }
             let Some(input) = self.inputs.next_source()? else {
                 return Ok(None);
             };
-            self.open = Some(BufReader::new(self.rt.alloc(), input)?);
+            self.open = Some(BufReader::new(self.alloc, input)?);
             self.line = 0;
         }
         Ok(None)
@@ -125,13 +147,13 @@ impl<'a> Images<'a> {
         let Some(reader) = &mut self.open else {
             return Ok(None);
         };
-        let mut line = Vec::new(self.rt.alloc());
+        let mut line = Vec::new(self.alloc);
         let count = reader.read_until(b'\n', &mut line)?;
         if count == 0 {
             return Ok(None);
         }
         self.line = self.line.saturating_add(1);
-        match read_hex(self.rt.alloc(), line.trim_ascii())? {
+        match read_hex(self.alloc, line.trim_ascii())? {
             Some(image) => {
                 check_alone(&image)?;
                 Ok(Some(image))
@@ -141,10 +163,10 @@ impl<'a> Images<'a> {
     }
 }
 
-impl<'a> Sources for Images<'a> {
+impl<'a, S: Sources> Sources for Images<'a, S> {
     type Source = Cursor<Vec<u8>>;
 
-    ghost texts = { λ _. None };
+    ghost texts = { λ s. images_left s.hex (S.texts s.inputs.sources) };
 
     fn next_source(&mut self) -> io::Result<Option<Cursor<Vec<u8>>>> {
         match self.next_image()? {

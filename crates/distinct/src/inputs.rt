@@ -4,6 +4,7 @@ ghost use Rattle.distinct.specs.Failures.{called, TellsUnreadable};
 
 use crate::failure::Failure;
 use line_sketches::Sources;
+use std::alloc::Global;
 use std::fs::File;
 use std::io::{IsTerminal, Read};
 use std::rt::Stdin;
@@ -28,6 +29,13 @@ impl Read for Input {
 /// How messages call standard input.
 const STANDARD_INPUT: &str = "standard input";
 
+/// How messages call a file of this name.
+pub fn called(name: &str) -> &str
+    ensures { result.now ≡ called name.now }
+{
+    if name == "-" { STANDARD_INPUT } else { name }
+}
+
 /// The input of a name, which is standard input for `-`.
 fn open(rt: &HostRuntime, name: &str) -> io::Result<Input> {
     if name == "-" {
@@ -36,60 +44,28 @@ fn open(rt: &HostRuntime, name: &str) -> io::Result<Input> {
     Ok(Input::File(fs::open(rt, name)?))
 }
 
-/// Files that are opened in turn, or standard input where none is named.
+/// Files that are opened in turn.
 #[derive(Drop)]
-pub struct Inputs<'a> {
+pub struct Files<'a> {
     rt: &'a HostRuntime,
-    current: &'a str,
-    begun: bool,
+    is_standard: bool,
     left: &'a [String],
 }
 
-impl<'a> Inputs<'a> {
-    pub fn new(rt: &'a HostRuntime, names: &'a [String]) -> Inputs<'a> {
-        Inputs {
+impl<'a> Files<'a> {
+    /// The files of these names; where none is named, standard input or nothing.
+    pub fn named(rt: &'a HostRuntime, names: &'a [String], or_standard: bool) -> Files<'a> {
+        Files {
             rt,
-            current: "-",
-            begun: !names.is_empty(),
+            is_standard: or_standard && names.is_empty(),
             left: names,
-        }
-    }
-
-    /// Files alone, and nothing where none is named.
-    pub fn named(rt: &'a HostRuntime, names: &'a [String]) -> Inputs<'a> {
-        Inputs {
-            rt,
-            current: "-",
-            begun: true,
-            left: names,
-        }
-    }
-
-    /// The name of the file that was opened last, as messages call it.
-    pub fn name(&self) -> &'a str
-        ensures { result.now ≡ called self.now.current.now }
-    {
-        if self.current == "-" {
-            STANDARD_INPUT
-        } else {
-            self.current
-        }
-    }
-
-    /// Why the file that was opened last is not read.
-    pub fn unreadable(&self, error: io::Error) -> Failure
-        ensures { TellsUnreadable (called self.now.current.now) error result }
-    {
-        match String::from_str(self.rt.alloc(), self.name()) {
-            Ok(name) => Failure::Unreadable(name, error),
-            Err(_) => Failure::Memory,
         }
     }
 
     /// The next name.
     fn next_name(&mut self) -> Option<&'a str> {
-        if !self.begun {
-            self.begun = true;
+        if self.is_standard {
+            self.is_standard = false;
             return Some("-");
         }
         let (name, others) = self.left.split_first()?;
@@ -98,7 +74,7 @@ impl<'a> Inputs<'a> {
     }
 }
 
-impl<'a> Sources for Inputs<'a> {
+impl<'a> Sources for Files<'a> {
     type Source = Input;
 
     ghost texts = { λ _. None };
@@ -107,7 +83,6 @@ impl<'a> Sources for Inputs<'a> {
         let Some(name) = self.next_name() else {
             return Ok(None);
         };
-        self.current = name;
         let input = open(self.rt, name)?;
         if name == "-" && self.rt.stdin().is_terminal() {
             let _ = eprintln!(self.rt;
@@ -115,5 +90,57 @@ impl<'a> Sources for Inputs<'a> {
             );
         }
         Ok(Some(input))
+    }
+}
+
+/// Sources, and the names that messages call them by.
+#[derive(Drop)]
+pub struct Inputs<'a, S: Sources> {
+    sources: S,
+    current: &'a str,
+    left: &'a [String],
+}
+
+impl<'a, S: Sources> Inputs<'a, S> {
+    /// Sources of these names; standard input has none.
+    pub fn new(sources: S, names: &'a [String]) -> Inputs<'a, S>
+        ensures { result.sources ≡ sources }
+    {
+        Inputs {
+            sources,
+            current: "-",
+            left: names,
+        }
+    }
+
+    /// The name of the source that was opened last, as messages call it.
+    pub fn name(&self) -> &'a str
+        ensures { result.now ≡ called self.now.current.now }
+    {
+        called(self.current)
+    }
+
+    /// Why the source that was opened last is not read.
+    pub fn unreadable(&self, alloc: Global, error: io::Error) -> Failure
+        ensures { TellsUnreadable (called self.now.current.now) error result }
+    {
+        match String::from_str(alloc, self.name()) {
+            Ok(name) => Failure::Unreadable(name, error),
+            Err(_) => Failure::Memory,
+        }
+    }
+}
+
+impl<'a, S: Sources> Sources for Inputs<'a, S> {
+    type Source = S::Source;
+
+    ghost texts = { λ s. S.texts s.sources };
+
+    fn next_source(&mut self) -> io::Result<Option<S::Source>> {
+        if let Some((name, others)) = self.left.split_first() {
+            self.current = name.as_str();
+            self.left = others;
+        }
+        self.sources.next_source()
     }
 }

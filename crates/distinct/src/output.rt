@@ -1,49 +1,32 @@
 //! Where answers go.
-ghost use Rattle.std.specs.Prelude.{IfErr};
+ghost use Rattle.std.specs.Prelude.{OnOk, IfErr};
+ghost use Rattle.std.specs.Io.KnownBytes.{Appends};
 ghost use Rattle.distinct.specs.Failures.{IsOfWriting, TellsNotWritten};
 
 use crate::failure::Failure;
-use line_sketches::hex_line;
+use std::alloc::Global;
 use std::fs::File;
 use std::io::{ErrorKind, Write};
 use std::{fs, io};
 
-/// Writes to standard output.
-pub fn print(rt: &HostRuntime, bytes: &[u8]) -> Result<(), Failure>
-    ensures { IfErr result IsOfWriting }
+/// Writes bytes to a writer that messages call so.
+pub fn put<W: Write>(alloc: Global, writer: &mut W, name: &str, bytes: &[u8]) -> Result<(), Failure>
+    ensures written { OnOk result (Appends (W.contents writer.old) (W.contents writer.new) bytes.now) }
+    ensures failed { IfErr result IsOfWriting }
 {
-    match rt.stdout().write_all(bytes) {
+    match writer.write_all(bytes) {
         Ok(()) => Ok(()),
-        Err(error) => Err(not_written(rt, "standard output", error)),
+        Err(error) => Err(not_written(alloc, name, error)),
     }
 }
 
-/// Writes an image, as it is or in hexadecimal, to standard output or to a file.
-pub fn put_image(
-    rt: &HostRuntime,
-    hex: bool,
-    output: Option<&str>,
-    image: &[u8],
-) -> Result<(), Failure>
+/// Writes a file, or to a device or a pipe of this name.
+pub fn put_file(rt: &HostRuntime, name: &str, bytes: &[u8]) -> Result<(), Failure>
     ensures { IfErr result IsOfWriting }
 {
-    if hex {
-        let line = hex_line(rt.alloc(), image)?;
-        put(rt, output, line.as_slice())
-    } else {
-        put(rt, output, image)
-    }
-}
-
-fn put(rt: &HostRuntime, output: Option<&str>, bytes: &[u8]) -> Result<(), Failure>
-    ensures { IfErr result IsOfWriting }
-{
-    match output {
-        None => print(rt, bytes),
-        Some(name) => match put_file(rt, name, bytes) {
-            Ok(()) => Ok(()),
-            Err(error) => Err(not_written(rt, name, error)),
-        },
+    match write_file(rt, name, bytes) {
+        Ok(()) => Ok(()),
+        Err(error) => Err(not_written(rt.alloc(), name, error)),
     }
 }
 
@@ -56,7 +39,7 @@ fn is_special(rt: &HostRuntime, name: &str) -> bool {
 }
 
 /// Writes a file, all or nothing: first a new one beside it, which then takes its name. Its permissions stay, if it stood there.
-fn put_file(rt: &HostRuntime, name: &str, bytes: &[u8]) -> io::Result<()> {
+fn write_file(rt: &HostRuntime, name: &str, bytes: &[u8]) -> io::Result<()> {
     if is_special(rt, name) {
         return fs::write(rt, name, bytes);
     }
@@ -102,10 +85,10 @@ fn put_beside(
 }
 
 /// The failure of an output of this name, for this reason.
-fn not_written(rt: &HostRuntime, name: &str, error: io::Error) -> Failure
+fn not_written(alloc: Global, name: &str, error: io::Error) -> Failure
     ensures { TellsNotWritten name.now error result }
 {
-    match String::from_str(rt.alloc(), name) {
+    match String::from_str(alloc, name) {
         Ok(name) => Failure::NotWritten(name, error),
         Err(_) => Failure::Memory,
     }

@@ -7,6 +7,10 @@ use std::alloc::{AllocError, Global};
 use std::io::{Error, ErrorKind};
 use std::test::Fail;
 
+/// A word with controls that a terminal takes as commands: an escape sequence, a bell, a carriage return, a delete, and the
+/// controls of one character that stand for an escape sequence's first two.
+const CONTROLS: &str = "a\u{1b}[31mb\u{7}\r\u{7f}\u{9b}2J\u{90}\u{e9}";
+
 /// Each kind of failure.
 #[derive(Clone, Copy, Debug)]
 enum Kind {
@@ -25,7 +29,10 @@ enum Kind {
     Unreadable,
     NoSketch,
     NoSketchOnLine,
+    NoLine,
     NotWritten,
+    WordOfControls,
+    NameOfControls,
 }
 
 fn failure_of(alloc: Global, kind: Kind) -> Result<Failure, AllocError> {
@@ -46,6 +53,9 @@ fn failure_of(alloc: Global, kind: Kind) -> Result<Failure, AllocError> {
         Kind::Unreadable => Failure::Unreadable(name, Error::from(ErrorKind::NotFound)),
         Kind::NoSketch => Failure::NoSketch(name, 0),
         Kind::NoSketchOnLine => Failure::NoSketch(name, 7),
+        Kind::NoLine => Failure::NoLine(name),
+        Kind::WordOfControls => Failure::UnknownCommand(String::from_str(alloc, CONTROLS)?),
+        Kind::NameOfControls => Failure::NoLine(String::from_str(alloc, CONTROLS)?),
         Kind::NotWritten => Failure::NotWritten(name, Error::from(ErrorKind::StorageFull)),
     })
 }
@@ -94,6 +104,17 @@ fn tells_each_failure(rt: HostRuntime) -> Result<(), Fail> {
             Kind::NoSketchOnLine,
             1,
             "it: line 7 is not the image of one theta sketch, or cut short, or of another seed",
+        ),
+        (Kind::NoLine, 1, "it: has no line, and so no image"),
+        (
+            Kind::WordOfControls,
+            2,
+            "a\\u{1b}[31mb\\u{7}\\r\\u{7f}\\u{9b}2J\\u{90}\u{e9}: not one of count, sketch, union, meet, minus and show (try --help)",
+        ),
+        (
+            Kind::NameOfControls,
+            1,
+            "a\\u{1b}[31mb\\u{7}\\r\\u{7f}\\u{9b}2J\\u{90}\u{e9}: has no line, and so no image",
         ),
         (Kind::NotWritten, 1, "it: no storage space"),
     ] {

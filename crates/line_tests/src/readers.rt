@@ -24,13 +24,14 @@ impl Watch for Counter {
     }
 }
 
-/// A reader that gives its text in pieces of so many bytes at most, is interrupted once, and then ends or fails.
+/// A reader that gives its text in pieces of so many bytes at most, is interrupted once before them, and fails once behind them,
+/// if it is to, before it ends.
 #[derive(Drop)]
 struct Pieces<'a> {
     text: &'a [u8],
     piece: usize,
     interrupted: bool,
-    fails: bool,
+    failure: Option<ErrorKind>,
 }
 
 impl Read for Pieces<'_> {
@@ -42,10 +43,16 @@ impl Read for Pieces<'_> {
         let count = self.piece.min(buf.len()).min(self.text.len());
         buf[..count].copy_from_slice(&self.text[..count]);
         self.text = &self.text[count..];
-        if count == 0 && self.fails {
-            return Err(Error::from(ErrorKind::BrokenPipe));
+        match self.failure {
+            Some(kind) => {
+                if count == 0 {
+                    self.failure = None;
+                    return Err(Error::from(kind));
+                }
+                Ok(count)
+            }
+            None => Ok(count),
         }
-        Ok(count)
     }
 }
 
@@ -57,13 +64,13 @@ fn image_in_pieces(
     text: &[u8],
     piece: usize,
     size: usize,
-    fails: bool,
+    failure: Option<ErrorKind>,
 ) -> io::Result<(Vec<u8>, u64, usize)> {
     let mut reader = Pieces {
         text,
         piece,
         interrupted: false,
-        fails,
+        failure,
     };
     let mut counter = Counter { lines: 0, bytes: 0 };
     let mut block = vec![in alloc; 0u8; size.max(1)]?;
@@ -107,7 +114,7 @@ fn reads_in_pieces(rt: HostRuntime) -> Result<(), Fail> {
         (33, 64),
         (1000, 1000),
     ] {
-        let said = image_in_pieces(rt.alloc(), Key::Line, TEXT, piece, size, false)?;
+        let said = image_in_pieces(rt.alloc(), Key::Line, TEXT, piece, size, None)?;
         let told = (said.0.as_slice(), said.1, said.2);
         assert_eq!(rt; told, (IMAGE, 5, TEXT.len()), "in {piece}");
     }
@@ -119,7 +126,7 @@ fn takes_fields(rt: HostRuntime) -> Result<(), Fail> {
     for (number, image) in [(1, FIRST), (2, SECOND)] {
         for (piece, size) in [(1, 64), (3, 2), (1000, 1000)] {
             let key = Key::Field(number - 1, b',');
-            let said = image_in_pieces(rt.alloc(), key, LOG, piece, size, false)?;
+            let said = image_in_pieces(rt.alloc(), key, LOG, piece, size, None)?;
             assert_eq!(rt; said.0.as_slice(), image, "in {piece}");
         }
     }
@@ -129,24 +136,26 @@ fn takes_fields(rt: HostRuntime) -> Result<(), Fail> {
 #[test]
 fn fails_with_a_read(rt: HostRuntime) -> Result<(), Fail> {
     for (piece, size) in [(1, 1), (7, 5), (1000, 1000)] {
-        let said = image_in_pieces(rt.alloc(), Key::Line, TEXT, piece, size, true)?;
+        let pipe = Some(ErrorKind::BrokenPipe);
+        let said = image_in_pieces(rt.alloc(), Key::Line, TEXT, piece, size, pipe)?;
         assert_eq!(rt; said.0.len(), 0, "in {piece}");
     }
     Ok(())
 }
 
-/// The image in hexadecimal of what a sketch has after a reader of such pieces has failed, and the kind of its failure.
+/// The image in hexadecimal of what a sketch has after a reader of such pieces has failed so, and the kind of the failure.
 fn kept_after_failure(
     alloc: Global,
     text: &[u8],
     piece: usize,
     size: usize,
+    kind: ErrorKind,
 ) -> Result<(Vec<u8>, Option<ErrorKind>), Unread> {
     let mut reader = Pieces {
         text,
         piece,
         interrupted: false,
-        fails: true,
+        failure: Some(kind),
     };
     let mut counter = Counter { lines: 0, bytes: 0 };
     let mut block = vec![in alloc; 0u8; size.max(1)]?;
@@ -170,14 +179,70 @@ fn kept_after_failure(
 #[test]
 fn keeps_lines_before_a_failure(rt: HostRuntime) -> Result<(), Fail> {
     let cut = b"ann\nbob\nann\nzo";
-    let whole = image_in_pieces(rt.alloc(), Key::Line, b"ann\nbob\n", 1000, 1000, false)?;
+    let whole = image_in_pieces(rt.alloc(), Key::Line, b"ann\nbob\n", 1000, 1000, None)?;
     for (piece, size) in [(1, 1), (5, 3), (1000, 1000)] {
-        match kept_after_failure(rt.alloc(), cut, piece, size) {
+        match kept_after_failure(rt.alloc(), cut, piece, size, ErrorKind::BrokenPipe) {
             Ok((image, failed)) => {
                 assert_eq!(rt; failed, Some(ErrorKind::BrokenPipe), "in {piece}");
                 assert_eq!(rt; image.as_slice(), whole.0.as_slice(), "in {piece}");
             }
             Err(_) => assert!(rt; false, "in {piece}"),
+        }
+    }
+    Ok(())
+}
+
+/// Each kind of failure but an interruption.
+const LASTING: [ErrorKind; 40] = [
+    ErrorKind::NotFound,
+    ErrorKind::PermissionDenied,
+    ErrorKind::ConnectionRefused,
+    ErrorKind::ConnectionReset,
+    ErrorKind::HostUnreachable,
+    ErrorKind::NetworkUnreachable,
+    ErrorKind::ConnectionAborted,
+    ErrorKind::NotConnected,
+    ErrorKind::AddrInUse,
+    ErrorKind::AddrNotAvailable,
+    ErrorKind::NetworkDown,
+    ErrorKind::BrokenPipe,
+    ErrorKind::AlreadyExists,
+    ErrorKind::WouldBlock,
+    ErrorKind::NotADirectory,
+    ErrorKind::IsADirectory,
+    ErrorKind::DirectoryNotEmpty,
+    ErrorKind::ReadOnlyFilesystem,
+    ErrorKind::FilesystemLoop,
+    ErrorKind::StaleNetworkFileHandle,
+    ErrorKind::InvalidInput,
+    ErrorKind::InvalidData,
+    ErrorKind::TimedOut,
+    ErrorKind::WriteZero,
+    ErrorKind::StorageFull,
+    ErrorKind::NotSeekable,
+    ErrorKind::QuotaExceeded,
+    ErrorKind::FileTooLarge,
+    ErrorKind::ResourceBusy,
+    ErrorKind::ExecutableFileBusy,
+    ErrorKind::Deadlock,
+    ErrorKind::CrossesDevices,
+    ErrorKind::TooManyLinks,
+    ErrorKind::InvalidFilename,
+    ErrorKind::ArgumentListTooLong,
+    ErrorKind::Unsupported,
+    ErrorKind::UnexpectedEof,
+    ErrorKind::OutOfMemory,
+    ErrorKind::InProgress,
+    ErrorKind::Other,
+];
+
+/// Each failure but an interruption ends the call, whatever the reader would give later.
+#[test]
+fn ends_with_each_failure(rt: HostRuntime) -> Result<(), Fail> {
+    for kind in LASTING {
+        match kept_after_failure(rt.alloc(), b"ann\nbob", 5, 3, kind) {
+            Ok((_, failed)) => assert_eq!(rt; failed, Some(kind)),
+            Err(_) => assert!(rt; false, "{kind:?}"),
         }
     }
     Ok(())

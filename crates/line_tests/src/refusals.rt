@@ -313,7 +313,7 @@ fn tells_of_sources(rt: HostRuntime) -> Result<(), Fail> {
     let size = Told::Refused(ErrorKind::InvalidArgument);
     let image = Told::Refused(ErrorKind::InvalidData);
     for (lg_k, failure, missing, unites, wanted) in [
-        (5, None, None, false, (Told::Answered, 2)),
+        (4, None, None, false, (Told::Answered, 2)),
         (26, None, None, false, (Told::Answered, 2)),
         (
             12,
@@ -336,9 +336,9 @@ fn tells_of_sources(rt: HostRuntime) -> Result<(), Fail> {
             false,
             (Told::Failed(io::ErrorKind::NotFound), 2),
         ),
-        (4, pipe, None, false, (size, 0)),
+        (3, pipe, None, false, (size, 0)),
         (27, pipe, None, false, (size, 0)),
-        (4, pipe, None, true, (size, 0)),
+        (3, pipe, None, true, (size, 0)),
         (27, pipe, None, true, (size, 0)),
         (12, None, None, true, (image, 1)),
     ] {

@@ -25,6 +25,8 @@ impl<S: CheckedSum> SummaryPolicy for DefaultUpdatePolicy<S> {
 
     ghost creates = { λ p. Some S.ZERO };
 
+    ghost takes_memory = { λ p. false };
+
     /// The summary 0. Never refused.
     fn create(&self) -> Result<S, Error>
         ensures created { IfOk result (λ summary. Some S.ZERO ≡ Some summary) }

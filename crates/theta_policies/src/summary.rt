@@ -1,5 +1,5 @@
 //! How summaries come about, take in values and are combined.
-ghost use Rattle.std.specs.Prelude.{◌≡◌, Option, Some, true, is_none, MatchResult, IfOk};
+ghost use Rattle.std.specs.Prelude.{◌≡◌, Bool, Option, Some, true, is_none, MatchResult, IfOk};
 ghost use Rattle.theta_laws.specs.Refusal.{Refuses, policy_refusal};
 
 use crate::merge_policy::{IntersectionMergePolicy, UnionMergePolicy};
@@ -14,10 +14,14 @@ pub trait SummaryPolicy {
     /// The summary that it creates; none where it refuses.
     ghost creates: { Self → Option Self.Summary };
 
-    /// The summary of a key that has no value yet. Refused with `Policy` where it names none, or with `OutOfMemory`.
+    /// Whether it may take memory to create a summary or to take a value into one.
+    ghost takes_memory: { Self → Bool };
+
+    /// The summary of a key that has no value yet. Refused with `Policy` if it names none, and with `OutOfMemory` only if it
+    /// may take memory.
     fn create(&self) -> Result<Self::Summary, Error>
         ensures created { IfOk result (λ summary. creates self.now ≡ Some summary) }
-        ensures refused { Refuses result (policy_refusal (is_none (creates self.now))) true };
+        ensures refused { Refuses result (policy_refusal (is_none (creates self.now))) (takes_memory self.now) };
 }
 
 /// How a summary takes in a value.
@@ -25,11 +29,11 @@ pub trait SummaryUpdatePolicy<U>: SummaryPolicy {
     /// What it makes of a summary and a value; none where it refuses.
     ghost updates: { Self → Self.Summary → U → Option Self.Summary };
 
-    /// Takes a value into a summary. Refused with `Policy` where it names none, or with `OutOfMemory`; then the summary is as
-    /// it was.
+    /// Takes a value into a summary. Refused with `Policy` if it names none, and with `OutOfMemory` only if it may take
+    /// memory; then the summary is as it was.
     fn update(&self, summary: &mut Self::Summary, value: U) -> Result<(), Error>
         ensures updated { MatchResult result (λ _. updates self.now summary.old value ≡ Some summary.new) (λ _. summary.new ≡ summary.old) }
-        ensures refused { Refuses result (policy_refusal (is_none (updates self.now summary.old value))) true };
+        ensures refused { Refuses result (policy_refusal (is_none (updates self.now summary.old value))) (Self.takes_memory self.now) };
 }
 
 /// How two summaries of one key are combined.

@@ -60,7 +60,7 @@ where
     ensures laid_out { IsLaidOut E.key lg (map E.held slots.new) }
     ensures map { map_of E.key (filled (map E.held slots.new)) ≡ below E.key (map_of E.key (filled (map E.held slots.old))) theta }
     ensures placed { placed.new ≡ placed.old + count_by (λ x. nat_lt (E.key x) theta) (filled (map E.held slots.old)) }
-    ensures looked { looks.old ≤ looks.new }
+    ensures looked { looks.old + (placed.new - placed.old) ≤ looks.new }
     ensures looks { 2 * looks.new ≤ 2 * looks.old + (placed.new - placed.old) * (placed.new - placed.old + 1) }
 {
     let mut gathered = others;
@@ -100,7 +100,7 @@ pub(crate) fn put_gathered<E: SlotEntry + Drop, A: Allocator + Clone>(
     ensures placed { OnOk result (placed.new ≡ placed.old + length (filled (map E.held slots.new.items))) }
     ensures err { OnErr result (slots.new.items ≡ slots.old.items) }
     ensures placed_err { OnErr result (placed.new ≡ placed.old) }
-    ensures looked { looks.old ≤ looks.new }
+    ensures looked { looks.old + (placed.new - placed.old) ≤ looks.new }
     ensures looks { 2 * looks.new ≤ 2 * looks.old + (placed.new - placed.old) * (placed.new - placed.old + 1) }
 {
     let others = E::free_slots(slots.allocator().clone()?, kept + 1)?;

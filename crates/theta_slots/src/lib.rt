@@ -21,4 +21,4 @@ pub use entry::SlotEntry;
 pub use lookup::leave_out_held;
 pub use relaying::{keep_below, put_kept};
 pub use selection::hash_of_rank;
-pub use slots::{Place, free_slots, put_spread, seek};
+pub use slots::{Place, STRIDE_MASK, free_slots, put_spread, seek};

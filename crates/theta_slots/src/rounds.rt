@@ -84,7 +84,7 @@ fn settle<E: SlotEntry>(
     ensures all { (q : ℕ) → times E.key q (filled (map E.held slots.new)) ≡ times E.key q (filled (map E.held left.old)) + times E.key q (filled (map E.held slots.old)) }
     ensures count { length (filled (map E.held slots.new)) ≡ length (filled (map E.held left.old)) + length (filled (map E.held slots.old)) }
     ensures placed { placed.new ≡ placed.old + length (filled (map E.held left.old)) }
-    ensures looked { looks.old ≤ looks.new }
+    ensures looked { looks.old + (placed.new - placed.old) ≤ looks.new }
     ensures looks { 2 * looks.new + length (filled (map E.held slots.old)) * (length (filled (map E.held slots.old)) + 1) ≤ 2 * looks.old + length (filled (map E.held slots.new)) * (length (filled (map E.held slots.new)) + 1) }
 {
     let mut count = left.len();
@@ -132,7 +132,7 @@ pub(crate) fn settle_all<E: SlotEntry, A: Allocator>(
     ensures laid_out { IsLaidOut E.key lg (map E.held slots.new) }
     ensures map { map_of E.key (filled (map E.held slots.new)) ≡ map_of E.key (filled (map E.held left.old.items)) }
     ensures placed { placed.new ≡ placed.old + length (filled (map E.held left.old.items)) }
-    ensures looked { looks.old ≤ looks.new }
+    ensures looked { looks.old + (placed.new - placed.old) ≤ looks.new }
     ensures looks { 2 * looks.new ≤ 2 * looks.old + (placed.new - placed.old) * (placed.new - placed.old + 1) }
 {
     'parts: loop {

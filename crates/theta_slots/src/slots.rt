@@ -56,6 +56,9 @@ fn slot_among(number: usize, size: usize, lg: u8) -> usize
     number & (size - 1)
 }
 
+/// The bits of a hash, above its low lg bits, that choose the stride of its path.
+pub const STRIDE_MASK: u64 = 127;
+
 /// How far the path of a hash goes at each step.
 #[inline(always)]
 pub(crate) fn stride_of(hash: u64, lg: u8) -> usize
@@ -63,7 +66,7 @@ pub(crate) fn stride_of(hash: u64, lg: u8) -> usize
     ensures value { result ≡ stride hash lg }
     ensures small { result < 256 }
 {
-    (2 * ((hash >> lg) & 127) + 1) as usize
+    (2 * ((hash >> lg) & STRIDE_MASK) + 1) as usize
 }
 
 /// Where a search for a hash ends: at its entry, or else at the first free slot of its path. One of the 2^`lg` slots is free.
@@ -175,7 +178,7 @@ pub(crate) fn spread<E: SlotEntry, A: Allocator>(
     ensures laid_out { IsLaidOut E.key lg (map E.held slots.new) }
     ensures map { map_of E.key (filled (map E.held slots.new)) ≡ below E.key (map_of E.key (filled (map E.held from.old.items))) theta }
     ensures placed { placed.new ≡ placed.old + count_by (λ x. nat_lt (E.key x) theta) (filled (map E.held from.old.items)) }
-    ensures looked { looks.old ≤ looks.new }
+    ensures looked { looks.old + (placed.new - placed.old) ≤ looks.new }
     ensures looks { 2 * looks.new ≤ 2 * looks.old + (placed.new - placed.old) * (placed.new - placed.old + 1) }
 {
     while let Some(slot) = from.pop() {
@@ -236,7 +239,7 @@ pub fn put_spread<E: SlotEntry + Drop, A: Allocator + Clone>(
     ensures placed { OnOk result (placed.new ≡ placed.old + length (filled (map E.held slots.new.items))) }
     ensures err { OnErr result (slots.new.items ≡ slots.old.items) }
     ensures placed_err { OnErr result (placed.new ≡ placed.old) }
-    ensures looked { looks.old ≤ looks.new }
+    ensures looked { looks.old + (placed.new - placed.old) ≤ looks.new }
     ensures looks { 2 * looks.new ≤ 2 * looks.old + (placed.new - placed.old) * (placed.new - placed.old + 1) }
 {
     let mut others = free_slots::<E, A>(slots.allocator().clone()?, new_lg)?;

@@ -1,17 +1,17 @@
 //! The table of retained entries.
-ghost use Rattle.std.specs.Prelude.{◌≡◌, ◌==◌, ◌⊎◌, ◌&&◌, if◌then◌else◌, ℕ, ◌+◌, ◌-◌, ◌*◌, ◌<◌, ◌≤◌, ◌^◌, not, true, false, None, nat_lt, length, take, IfOk, OnOk, OnErr, IsTrue};
+ghost use Rattle.std.specs.Prelude.{◌≡◌, ◌==◌, ◌⊎◌, ◌&&◌, if◌then◌else◌, ℕ, ◌+◌, ◌-◌, ◌*◌, ◌<◌, ◌≤◌, ◌^◌, [], not, true, false, None, nat_lt, length, take, IfOk, IsOk, OnOk, OnErr, IsTrue};
 ghost use Rattle.std.specs.List.{AllByRecursion, concat};
 ghost use Rattle.std.specs.Option.{ForSome, option_copied};
 ghost use Rattle.sketch_base.specs.Seed.{hash_of};
 ghost use Rattle.theta_compact.specs.CompactState.{IsCompactOf};
-ghost use Rattle.theta_laws.specs.Maps.{entry_at, IsLent};
+ghost use Rattle.theta_laws.specs.Maps.{entry_at, map_of, IsLent};
 ghost use Rattle.theta_laws.specs.Cuts.{cut, none_below};
 ghost use Rattle.theta_laws.specs.Entries.{hash_key, hash_step, ClonesEqual};
 ghost use Rattle.theta_laws.specs.Parts.{StopsAt};
 ghost use Rattle.theta_laws.specs.Refusal.{Refuses};
 ghost use Rattle.theta_table.specs.HashTable.{MapTable, Table, IsTable, IsSized, IsSeedHash, empty_table, set_table, after_reset, table_refusal, after_hashes, lg_size_for, whole_log, has_room, may_insert, threshold, sub_multiple, slots_of_operator, nothing_done, ticked, size_after};
 ghost use Rattle.theta_table.specs.ResizeFactor.{lg_of};
-ghost use Rattle.theta_slots.specs.Layout.{IsLaidOut};
+ghost use Rattle.theta_slots.specs.Layout.{filled, IsLaidOut};
 ghost use Rattle.theta_table.specs.Entry.{tuple_key, entry_step};
 ghost use Rattle.theta_table.specs.declared.hash_table.TheConstants.{BLOCK};
 ghost use Rattle.theta_laws.specs.Insertion.{is_screened, after_upsert, IsRedundant, LeavesOut, creates, upsert_refusal, upsert_allocates};
@@ -40,8 +40,8 @@ use theta_slots::{Count, SlotEntry, free_slots, leave_out_held, seek};
 /// With k the nominal entries, 2 to the power of its nominal logarithm and at least 8, an insertion that makes the
 /// entries more than 15k/8 lowers theta to the (k+1)th smallest hash, and exactly the k below it stay.
 ///
-/// It keeps its entries in slots by open addressing, at most 2k of them. What it counts of its work, only contracts see; of
-/// insertions, those of `upsert_entry` alone tell it.
+/// It keeps its entries in slots by open addressing, at most 2k of them. Only contracts see what it counts of its work; of many
+/// hashes at once (`insert_hashes`) they say only that no look is forgotten.
 #[derive(Drop)]
 pub struct SketchHashTable<E: SlotEntry, A: Allocator = Global> {
     lg_cur_size: u8,
@@ -145,6 +145,8 @@ impl<E: SlotEntry, A: Allocator> SketchHashTable<E, A> {
         ensures refused { Refuses result None (not (lg_cur_size == 0)) }
         ensures slots { IfOk result (λ t. length t.layout.slots ≡ slots_of_operator lg_cur_size) }
         ensures nothing_done { IfOk result (λ t. t.counts ≡ nothing_done) }
+        ensures size { IfOk result (λ t. t.layout.lg_cur ≡ lg_cur_size) }
+        ensures fixed { IfOk result (λ t. t.layout.grow ≡ 0) }
     {
         let slots = operator_slots::<E, A>(alloc, lg_cur_size)?;
         Ok(SketchHashTable {
@@ -188,6 +190,10 @@ impl<E: SlotEntry, A: Allocator> SketchHashTable<E, A> {
         ensures slots { self.now.map.has_slots ≡ true → self.now.layout.lg_cur ≤ self.now.map.lg_nom + 1 }
         ensures rebuilds { 7 * 2 ^ self.now.map.lg_nom * self.now.counts.rebuilds ≤ 8 * self.now.counts.inserted }
         ensures placed { self.now.counts.trims ≡ 0 → self.now.counts.placed ≤ 3 * self.now.counts.inserted }
+        ensures listed { self.now.lends ≡ filled self.now.layout.slots }
+        ensures held { self.now.map.kept.entries ≡ map_of E.key (filled self.now.layout.slots) }
+        ensures free { self.now.map.has_slots ≡ true → length self.now.map.kept.entries < length self.now.layout.slots }
+        ensures slotless { self.now.map.has_slots ≡ false → self.now.layout.slots ≡ [] }
     {
         self.threshold
     }
@@ -358,7 +364,10 @@ impl<E: SlotEntry + Drop, A: Allocator + Clone> SketchHashTable<E, A> {
         ensures sized { IfOk result (λ created. self.new.layout.lg_cur ≡ if created then size_after self.old.layout.lg_cur self.old.map.lg_nom self.old.layout.grow (length self.old.map.kept.entries) else self.old.layout.lg_cur) }
         ensures grows { self.new.layout.grow ≡ self.old.layout.grow }
         ensures seldom { (self.new.counts.rebuilds ≡ self.old.counts.rebuilds) ⊎ (7 * 2 ^ self.old.map.lg_nom < 8 * (self.old.counts.fresh + 1)) }
-        ensures looked { is_screened hash self.old.map.kept.theta ≡ false → self.old.counts.looks < self.new.counts.looks }
+        ensures looked { is_screened hash self.old.map.kept.theta ≡ false → self.old.counts.looks + (self.new.counts.placed - self.old.counts.placed) < self.new.counts.looks }
+        ensures looks_kept { self.old.counts.looks ≤ self.new.counts.looks }
+        ensures screened { is_screened hash self.old.map.kept.theta ≡ true → self.new.counts ≡ self.old.counts }
+        ensures layout_err { OnErr result (self.new.layout ≡ self.old.layout) }
     {
         // Once many have come most are at least theta, so that is asked first.
         if hash >= self.theta || hash == 0 {
@@ -405,6 +414,9 @@ impl<E: SlotEntry + Drop, A: Allocator + Clone> SketchHashTable<E, A> {
         ensures ticked { OnOk result (self.new.counts ≡ if nat_lt (2 ^ self.old.map.lg_nom) (length self.old.map.kept.entries) then record self.old.counts { placed = self.old.counts.placed + 2 ^ self.old.map.lg_nom; trims = self.old.counts.trims + 1 } else self.old.counts) }
         ensures sized { self.new.layout.lg_cur ≡ self.old.layout.lg_cur }
         ensures grows { self.new.layout.grow ≡ self.old.layout.grow }
+        ensures looks_kept { self.old.counts.looks ≤ self.new.counts.looks }
+        ensures counts_err { OnErr result (self.new.counts ≡ self.old.counts) }
+        ensures layout_err { OnErr result (self.new.layout ≡ self.old.layout) }
     {
         let nominal = nominal_size(self.lg_nom_size);
         let has_slots = self.has_slots;
@@ -525,6 +537,16 @@ impl<A: Allocator + Clone> SketchHashTable<ThetaEntry, A> {
         ensures after { let h = hash_of self.old.map.seed (concat (T.hash_input value)) in OnOk result (self.new.map ≡ record self.old.map { kept = after_upsert hash_key (2 ^ self.old.map.lg_nom) h (hash_step h) self.old.map.kept }) }
         ensures err { OnErr result (self.new.map ≡ self.old.map) }
         ensures refused { let h = hash_of self.old.map.seed (concat (T.hash_input value)) in Refuses result None (upsert_allocates hash_key h (hash_step h) self.old.map.kept) }
+        ensures memory { length self.old.map.kept.entries < threshold self.old.layout.lg_cur self.old.map.lg_nom → IsOk result }
+        ensures ticked { IfOk result (λ created. self.new.counts ≡ record (if created then ticked self.old.layout.lg_cur self.old.map.lg_nom (length self.old.map.kept.entries) self.old.counts else self.old.counts) { looks = self.new.counts.looks }) }
+        ensures unticked { OnErr result (self.new.counts ≡ record self.old.counts { looks = self.new.counts.looks }) }
+        ensures sized { IfOk result (λ created. self.new.layout.lg_cur ≡ if created then size_after self.old.layout.lg_cur self.old.map.lg_nom self.old.layout.grow (length self.old.map.kept.entries) else self.old.layout.lg_cur) }
+        ensures grows { self.new.layout.grow ≡ self.old.layout.grow }
+        ensures looks { 2 * self.new.counts.looks ≤ 2 * (self.old.counts.looks + length self.old.map.kept.entries + 1) + (self.new.counts.placed - self.old.counts.placed) * (self.new.counts.placed - self.old.counts.placed + 1) }
+        ensures looked { let h = hash_of self.old.map.seed (concat (T.hash_input value)) in is_screened h self.old.map.kept.theta ≡ false → self.old.counts.looks + (self.new.counts.placed - self.old.counts.placed) < self.new.counts.looks }
+        ensures looks_kept { self.old.counts.looks ≤ self.new.counts.looks }
+        ensures screened { let h = hash_of self.old.map.seed (concat (T.hash_input value)) in is_screened h self.old.map.kept.theta ≡ true → self.new.counts ≡ self.old.counts }
+        ensures layout_err { OnErr result (self.new.layout ≡ self.old.layout) }
     {
         let hash = self.hash(value);
         self.try_insert_hash(hash)
@@ -541,6 +563,16 @@ impl<A: Allocator + Clone> SketchHashTable<ThetaEntry, A> {
         ensures after { OnOk result (self.new.map ≡ record self.old.map { kept = after_upsert hash_key (2 ^ self.old.map.lg_nom) hash (hash_step hash) self.old.map.kept }) }
         ensures err { OnErr result (self.new.map ≡ self.old.map) }
         ensures refused { Refuses result None (upsert_allocates hash_key hash (hash_step hash) self.old.map.kept) }
+        ensures memory { length self.old.map.kept.entries < threshold self.old.layout.lg_cur self.old.map.lg_nom → IsOk result }
+        ensures ticked { IfOk result (λ created. self.new.counts ≡ record (if created then ticked self.old.layout.lg_cur self.old.map.lg_nom (length self.old.map.kept.entries) self.old.counts else self.old.counts) { looks = self.new.counts.looks }) }
+        ensures unticked { OnErr result (self.new.counts ≡ record self.old.counts { looks = self.new.counts.looks }) }
+        ensures sized { IfOk result (λ created. self.new.layout.lg_cur ≡ if created then size_after self.old.layout.lg_cur self.old.map.lg_nom self.old.layout.grow (length self.old.map.kept.entries) else self.old.layout.lg_cur) }
+        ensures grows { self.new.layout.grow ≡ self.old.layout.grow }
+        ensures looks { 2 * self.new.counts.looks ≤ 2 * (self.old.counts.looks + length self.old.map.kept.entries + 1) + (self.new.counts.placed - self.old.counts.placed) * (self.new.counts.placed - self.old.counts.placed + 1) }
+        ensures looked { is_screened hash self.old.map.kept.theta ≡ false → self.old.counts.looks + (self.new.counts.placed - self.old.counts.placed) < self.new.counts.looks }
+        ensures looks_kept { self.old.counts.looks ≤ self.new.counts.looks }
+        ensures screened { is_screened hash self.old.map.kept.theta ≡ true → self.new.counts ≡ self.old.counts }
+        ensures layout_err { OnErr result (self.new.layout ≡ self.old.layout) }
     {
         self.upsert_entry(hash, PutStep::new(ThetaEntry { hash }))
     }
@@ -558,6 +590,7 @@ impl<A: Allocator + Clone> SketchHashTable<ThetaEntry, A> {
         ensures after { OnOk result (self.new.map ≡ after_hashes hashes.now self.old.map) }
         ensures err { OnErr result (StopsAt hashes.now (λ front hash. (self.new.map ≡ after_hashes front self.old.map) × IsTrue (upsert_allocates hash_key hash (hash_step hash) self.new.map.kept))) }
         ensures refused { Refuses result None true }
+        ensures looks_kept { self.old.counts.looks ≤ self.new.counts.looks }
     {
         let mut rest = hashes;
         'each_block: while !rest.is_empty() {
@@ -575,6 +608,7 @@ impl<A: Allocator + Clone> SketchHashTable<ThetaEntry, A> {
         ensures after { OnOk result (self.new.map ≡ after_hashes hashes.now self.old.map) }
         ensures err { OnErr result (StopsAt hashes.now (λ front hash. (self.new.map ≡ after_hashes front self.old.map) × IsTrue (upsert_allocates hash_key hash (hash_step hash) self.new.map.kept))) }
         ensures refused { Refuses result None true }
+        ensures looks_kept { self.old.counts.looks ≤ self.new.counts.looks }
     {
         let mut block = [0u64; BLOCK];
         let left = self.take_unfound(hashes, &mut block);
@@ -600,6 +634,7 @@ impl<A: Allocator + Clone> SketchHashTable<ThetaEntry, A> {
         ensures after { OnOk result (self.new.map ≡ after_hashes hashes.now self.old.map) }
         ensures err { OnErr result (StopsAt hashes.now (λ front hash. (self.new.map ≡ after_hashes front self.old.map) × IsTrue (upsert_allocates hash_key hash (hash_step hash) self.new.map.kept))) }
         ensures refused { Refuses result None true }
+        ensures looks_kept { self.old.counts.looks ≤ self.new.counts.looks }
     {
         'each: for hash in hashes {
             self.try_insert_hash(*hash)?;
@@ -638,6 +673,16 @@ impl<S: Drop, A: Allocator + Clone> SketchHashTable<TupleEntry<S>, A> {
         ensures after { let h = hash_of self.old.map.seed (concat (T.hash_input key)) in OnOk result (self.new.map ≡ record self.old.map { kept = after_upsert tuple_key (2 ^ self.old.map.lg_nom) h (entry_step h (U.means step)) self.old.map.kept }) }
         ensures err { OnErr result (self.new.map ≡ self.old.map) }
         ensures refused { let h = hash_of self.old.map.seed (concat (T.hash_input key)) in Refuses result (upsert_refusal tuple_key h (entry_step h (U.means step)) self.old.map.kept) (upsert_allocates tuple_key h (entry_step h (U.means step)) self.old.map.kept) }
+        ensures memory { let h = hash_of self.old.map.seed (concat (T.hash_input key)) in length self.old.map.kept.entries < threshold self.old.layout.lg_cur self.old.map.lg_nom → Refuses result (upsert_refusal tuple_key h (entry_step h (U.means step)) self.old.map.kept) (not (is_screened h self.old.map.kept.theta) && (U.means step).allocates) }
+        ensures ticked { IfOk result (λ created. self.new.counts ≡ record (if created then ticked self.old.layout.lg_cur self.old.map.lg_nom (length self.old.map.kept.entries) self.old.counts else self.old.counts) { looks = self.new.counts.looks }) }
+        ensures unticked { OnErr result (self.new.counts ≡ record self.old.counts { looks = self.new.counts.looks }) }
+        ensures sized { IfOk result (λ created. self.new.layout.lg_cur ≡ if created then size_after self.old.layout.lg_cur self.old.map.lg_nom self.old.layout.grow (length self.old.map.kept.entries) else self.old.layout.lg_cur) }
+        ensures grows { self.new.layout.grow ≡ self.old.layout.grow }
+        ensures looks { 2 * self.new.counts.looks ≤ 2 * (self.old.counts.looks + length self.old.map.kept.entries + 1) + (self.new.counts.placed - self.old.counts.placed) * (self.new.counts.placed - self.old.counts.placed + 1) }
+        ensures looked { let h = hash_of self.old.map.seed (concat (T.hash_input key)) in is_screened h self.old.map.kept.theta ≡ false → self.old.counts.looks + (self.new.counts.placed - self.old.counts.placed) < self.new.counts.looks }
+        ensures looks_kept { self.old.counts.looks ≤ self.new.counts.looks }
+        ensures screened { let h = hash_of self.old.map.seed (concat (T.hash_input key)) in is_screened h self.old.map.kept.theta ≡ true → self.new.counts ≡ self.old.counts }
+        ensures layout_err { OnErr result (self.new.layout ≡ self.old.layout) }
     {
         let hash = self.hash(key);
         self.try_insert_hash(hash, step)
@@ -659,6 +704,16 @@ impl<S: Drop, A: Allocator + Clone> SketchHashTable<TupleEntry<S>, A> {
         ensures after { OnOk result (self.new.map ≡ record self.old.map { kept = after_upsert tuple_key (2 ^ self.old.map.lg_nom) hash (entry_step hash (U.means step)) self.old.map.kept }) }
         ensures err { OnErr result (self.new.map ≡ self.old.map) }
         ensures refused { Refuses result (upsert_refusal tuple_key hash (entry_step hash (U.means step)) self.old.map.kept) (upsert_allocates tuple_key hash (entry_step hash (U.means step)) self.old.map.kept) }
+        ensures memory { length self.old.map.kept.entries < threshold self.old.layout.lg_cur self.old.map.lg_nom → Refuses result (upsert_refusal tuple_key hash (entry_step hash (U.means step)) self.old.map.kept) (not (is_screened hash self.old.map.kept.theta) && (U.means step).allocates) }
+        ensures ticked { IfOk result (λ created. self.new.counts ≡ record (if created then ticked self.old.layout.lg_cur self.old.map.lg_nom (length self.old.map.kept.entries) self.old.counts else self.old.counts) { looks = self.new.counts.looks }) }
+        ensures unticked { OnErr result (self.new.counts ≡ record self.old.counts { looks = self.new.counts.looks }) }
+        ensures sized { IfOk result (λ created. self.new.layout.lg_cur ≡ if created then size_after self.old.layout.lg_cur self.old.map.lg_nom self.old.layout.grow (length self.old.map.kept.entries) else self.old.layout.lg_cur) }
+        ensures grows { self.new.layout.grow ≡ self.old.layout.grow }
+        ensures looks { 2 * self.new.counts.looks ≤ 2 * (self.old.counts.looks + length self.old.map.kept.entries + 1) + (self.new.counts.placed - self.old.counts.placed) * (self.new.counts.placed - self.old.counts.placed + 1) }
+        ensures looked { is_screened hash self.old.map.kept.theta ≡ false → self.old.counts.looks + (self.new.counts.placed - self.old.counts.placed) < self.new.counts.looks }
+        ensures looks_kept { self.old.counts.looks ≤ self.new.counts.looks }
+        ensures screened { is_screened hash self.old.map.kept.theta ≡ true → self.new.counts ≡ self.old.counts }
+        ensures layout_err { OnErr result (self.new.layout ≡ self.old.layout) }
     {
         self.upsert_entry(hash, EntryStep::new(hash, step))
     }

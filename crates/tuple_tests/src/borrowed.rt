@@ -1,5 +1,5 @@
 //! Summaries that borrow: their type has a lifetime, and so has that of a sketch that owns them.
-ghost use Rattle.std.specs.Prelude.{Some};
+ghost use Rattle.std.specs.Prelude.{Some, false};
 
 use std::alloc::Global;
 use std::test::Fail;
@@ -18,6 +18,8 @@ impl<'a> SummaryPolicy for LastWord<'a> {
     type Summary = &'a str;
 
     ghost creates = { λ policy. Some policy.first };
+
+    ghost takes_memory = { λ policy. false };
 
     fn create(&self) -> Result<&'a str, Error> {
         Ok(self.first)

@@ -1,5 +1,5 @@
 //! How often operators call a policy.
-ghost use Rattle.std.specs.Prelude.{Some};
+ghost use Rattle.std.specs.Prelude.{Some, false};
 
 use crate::common::Sums;
 use std::alloc::Global;
@@ -20,6 +20,8 @@ impl<'a> SummaryPolicy for Counting<'a> {
     type Summary = u64;
 
     ghost creates = { λ policy. Some 0 };
+
+    ghost takes_memory = { λ policy. false };
 
     fn create(&self) -> Result<u64, Error> {
         Ok(0)

@@ -1,5 +1,5 @@
 //! Unions, intersections and differences of tuple sketches.
-ghost use Rattle.std.specs.Prelude.{◌≡◌, ◌+◌, ◌*◌, ◌^◌, Some, None, nat_lt, if◌then◌else◌};
+ghost use Rattle.std.specs.Prelude.{◌≡◌, ◌+◌, ◌*◌, ◌^◌, Some, None, false, nat_lt, if◌then◌else◌};
 
 use crate::common::{Sums, ascending, kind_of, total};
 use std::alloc::{AllocError, Global};
@@ -39,6 +39,8 @@ impl SummaryPolicy for Digits {
     type Summary = u64;
 
     ghost creates = { λ policy. Some 0 };
+
+    ghost takes_memory = { λ policy. false };
 
     fn create(&self) -> Result<u64, Error> {
         Ok(0)

@@ -1,5 +1,5 @@
 //! Policies of the tests' own.
-ghost use Rattle.std.specs.Prelude.{Some, None, max, nat_lt, if◌then◌else◌};
+ghost use Rattle.std.specs.Prelude.{Some, None, false, max, nat_lt, if◌then◌else◌};
 
 use crate::common::kind_of;
 use std::alloc::Global;
@@ -16,6 +16,8 @@ impl SummaryPolicy for Greatest {
     type Summary = u64;
 
     ghost creates = { λ policy. Some 0 };
+
+    ghost takes_memory = { λ policy. false };
 
     fn create(&self) -> Result<u64, Error> {
         Ok(0)
@@ -74,6 +76,8 @@ impl SummaryPolicy for Countdown {
     type Summary = u64;
 
     ghost creates = { λ policy. if nat_lt 0 policy.start then Some policy.start else None };
+
+    ghost takes_memory = { λ policy. false };
 
     fn create(&self) -> Result<u64, Error> {
         if 0 < self.start {

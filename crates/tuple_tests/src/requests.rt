@@ -1,5 +1,5 @@
 //! A policy that takes memory, and calls whose requests for memory are refused, one after another.
-ghost use Rattle.std.specs.Prelude.{◌≡◌, Some, [], ◌∷◌, ◌++◌};
+ghost use Rattle.std.specs.Prelude.{◌≡◌, Some, true, [], ◌∷◌, ◌++◌};
 
 use crate::common::{Heap, kind_of};
 use refuse::{Refusal, Refusing};
@@ -47,6 +47,8 @@ impl<A: Allocator + Clone + Drop> SummaryPolicy for Listing<A> {
     type Summary = Values<A>;
 
     ghost creates = { λ policy. Some [] };
+
+    ghost takes_memory = { λ policy. true };
 
     fn create(&self) -> Result<Values<A>, Error> {
         let alloc = self.alloc.clone()?;

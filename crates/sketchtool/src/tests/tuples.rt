@@ -1,5 +1,5 @@
 //! Plans of tuples: the order in which summaries are combined, and summaries that can't be written.
-ghost use Rattle.std.specs.Prelude.{◌+◌, ◌*◌, ◌^◌, Some, None, nat_lt, if◌then◌else◌};
+ghost use Rattle.std.specs.Prelude.{◌+◌, ◌*◌, ◌^◌, Some, None, false, nat_lt, if◌then◌else◌};
 
 use super::{answer_to_text, tuple_plan};
 use plan_evaluation::evaluate_tuple;
@@ -17,6 +17,8 @@ impl SummaryPolicy for Digits {
     type Summary = u64;
 
     ghost creates = { λ policy. Some 0 };
+
+    ghost takes_memory = { λ policy. false };
 
     fn create(&self) -> Result<u64, Error> {
         Ok(0)
@@ -113,6 +115,8 @@ impl SummaryPolicy for Marks {
     type Summary = Unwritable;
 
     ghost creates = { λ policy. Some (record {}) };
+
+    ghost takes_memory = { λ policy. false };
 
     fn create(&self) -> Result<Unwritable, Error> {
         Ok(Unwritable)

@@ -56,3 +56,6 @@ returns-then-are_words-clause-placed g c =
     let held = g.E.SlotEntry.held in
     let gathered = front_gathered key held c.args.slots.now c.take_below-count.new.others c.args.others.items c.truncate.new.self.items c.args.others.len c.take_below-count.result c.args.theta (omega (arith, c.take_below-count.ensures.size_others, c.deref_mut.ensures.len)) c.truncate.ensures.items c.take_below-count.ensures.taken in
     c.settle_all.ensures.placed ∙ ap (λ xs. c.args.placed.now + length xs) gathered ∙ ap (λ (n : ℕ). c.args.placed.now + n) (length-below key (filled (map held c.args.slots.now)) c.args.theta)
+
+pub returns-then-are_words-clause-looked : goal.returns-then-are_words-clause-looked
+returns-then-are_words-clause-looked g c = c.settle_all.ensures.looked

@@ -39,3 +39,6 @@ returns-clause-placed g c =
     let moved = rw (c.deref_mut.ensures.value, written) at c.relay.ensures.map in
     let placed = rw (c.deref_mut.ensures.value, written) at c.relay.ensures.placed in
     rw whole (placed ∙ ap (λ (n : ℕ). c.args.placed.now + n) (moved_count key c.args.lg c.args.lg c.args.theta (set slots c.args.at (Some c.args.entry)) (map held after) laid c.relay.ensures.laid_out moved))
+
+pub returns-clause-looked : goal.returns-clause-looked
+returns-clause-looked g c = c.relay.ensures.looked

@@ -133,3 +133,6 @@ returns-clause-placed g c =
     let slots = map held c.pass.slots in
     let passed : IsPassed c.pass.marks slots (length slots) = λ p lt. i.6 p (omega (arith, lt, length-held held c.pass.slots, c.pass-test.false)) in
     i.2 ∙ ap (λ (n : ℕ). c.args.placed.now + n) (relay_count g.E.SketchEntry.key c.args.lg c.args.theta (map held c.args.slots.now) c.pass.marks slots i.0 i.1 passed i.5)
+
+pub returns-clause-looked : goal.returns-clause-looked
+returns-clause-looked g c = omega (arith, c.pass.invariant.2, c.pass.invariant.4)

@@ -75,6 +75,17 @@ returns-then-count-eq0-clause-placed g c =
     let is : IsInRound key c.args.lg (left ++ begun) [] [] (map held c.rounds.slots) (length begun) c.rounds.round i.0 i.1 = rw none at i.5 in
     omega (arith, i.2, is.counted, length-append left begun)
 
+pub returns-then-count-eq0-clause-looked : goal.returns-then-count-eq0-clause-looked
+returns-then-count-eq0-clause-looked g c =
+    let key = g.E.SketchEntry.key in
+    let held = g.E.SlotEntry.held in
+    let i = c.rounds.invariant in
+    let left = filled (map held c.args.left.now) in
+    let begun = filled (map held c.args.slots.now) in
+    let none : in_front held c.rounds.count c.rounds.left ≡ [] = ap (λ (n : ℕ). in_front held n c.rounds.left) c.if-count-eq0.true ∙ front_none held c.rounds.left in
+    let is : IsInRound key c.args.lg (left ++ begun) [] [] (map held c.rounds.slots) (length begun) c.rounds.round i.0 i.1 = rw none at i.5 in
+    omega (arith, i.2, i.3, is.counted, length-append left begun)
+
 pub returns-then-count-eq0-clause-looks : goal.returns-then-count-eq0-clause-looks
 returns-then-count-eq0-clause-looks g c =
     let key = g.E.SketchEntry.key in

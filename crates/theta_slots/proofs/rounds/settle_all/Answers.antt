@@ -29,6 +29,9 @@ returns-then-count-eq0-clause-map g c =
     let is : IsInRound key c.args.lg whole [] [] slots 0 0 i.0 0 = subst (λ xs. IsInRound key c.args.lg whole [] (filled (map held xs)) slots 0 0 i.0 0) none i.4 in
     settled_map key c.args.lg whole slots 0 0 i.0 0 is
 
+pub returns-then-count-eq0-clause-looked : goal.returns-then-count-eq0-clause-looked
+returns-then-count-eq0-clause-looked g c = omega (arith, c.parts.invariant.1, c.parts.invariant.2)
+
 pub settle-requires-clause-once : goal.settle-requires-clause-once
 settle-requires-clause-once g c =
     let key = g.E.SketchEntry.key in
@@ -73,7 +76,7 @@ parts-preserved g c =
     rw left_is (
       length (filled after),
       omega (arith, i.1, was.all_put, count, placed),
-      omega (arith, i.2, c.settle.ensures.looked),
+      omega (arith, i.2, c.settle.ensures.looked, was.all_put, count, placed),
       looks_part c.settle.new.looks c.parts.looks c.args.looks.now (length (filled after)) (length (filled slots)) i.0 was.all_put c.settle.ensures.looks i.3,
       part_settled key c.args.lg whole front part slots after i.0 is c.settle.ensures.laid_out found all count,
     )

@@ -8,7 +8,7 @@ abbrev pub invariant-parts : goal.invariant-parts
 invariant-parts g l =
     let key = g.E.SketchEntry.key in
     let held = g.E.SlotEntry.held in
-    (put : ℕ) × (l.placed ≡ l.initial.placed + put) × (l.initial.looks ≤ l.looks) × (2 * l.looks ≤ 2 * l.initial.looks + put * (put + 1))
+    (put : ℕ) × (l.placed ≡ l.initial.placed + put) × (l.initial.looks + put ≤ l.looks) × (2 * l.looks ≤ 2 * l.initial.looks + put * (put + 1))
     × IsInRound key l.lg (filled (map held l.initial.left.items)) [] (filled (map held l.left.items)) (map held l.slots) 0 0 put 0
 
 -- what waits

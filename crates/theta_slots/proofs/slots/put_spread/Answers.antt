@@ -34,3 +34,6 @@ returns-clause-placed g c =
     let placed = rw written at c.spread.ensures.placed in
     let whole : take c.in_ok-others.others.len (c.spread.new.slots ++ drop (length c.spread.new.slots) c.in_ok-others.others.items) ≡ c.spread.new.slots = search (rules, places) in
     rw whole (placed ∙ ap (λ (n : ℕ). c.args.placed.now + n) (moved_count key c.args.lg c.args.new_lg c.args.theta (set slots c.args.at (Some c.args.entry)) (map held c.spread.new.slots) laid c.spread.ensures.laid_out moved))
+
+pub returns-clause-looked : goal.returns-clause-looked
+returns-clause-looked g c = c.spread.ensures.looked

@@ -69,6 +69,9 @@ returns-clause-map g c =
     let popped : c.loop-slot.from.items ≡ [] = grind (arith, c.in_default.ensures.items, c.in_default.ensures.variant, c.in_default.not-Some) in
     ends g.E.SketchEntry.key c.args.lg c.args.theta (map held c.args.from.now.items) (map held c.loop-slot.from.items) (map held c.loop-slot.slots) i.0 i.1 (ap (λ xs. filled (map held xs)) popped) i.4
 
+pub returns-clause-looked : goal.returns-clause-looked
+returns-clause-looked g c = omega (arith, c.loop-slot.invariant.2, c.loop-slot.invariant.5)
+
 pub put_slot-requires-clause-room : goal.put_slot-requires-clause-room
 put_slot-requires-clause-room g c =
     let key = g.E.SketchEntry.key in

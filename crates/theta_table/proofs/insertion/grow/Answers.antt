@@ -44,3 +44,6 @@ returns-clause-ticked g c =
     let many : length (filled after) ≡ c.args.sizes.count + 1 =
     omega (arith, c.requires.place.counted, joined_count key c.args.sizes.lg_cur c.args.at c.args.entry slots c.requires.place.laid_out inside c.requires.place.free c.requires.place.on_path, ap length (returns-clause-after g c), length-map_of key c.min-lg_cur.result after c.in_ok-put_spread.ensures.laid_out) in
     rw (c.tick.ensures, c.tick-2.ensures, c.in_ok-put_spread.ensures.placed, many) refl
+
+pub returns-clause-looked : goal.returns-clause-looked
+returns-clause-looked g c = c.in_ok-put_spread.ensures.looked

@@ -51,3 +51,6 @@ returns-clause-count g c =
 pub returns-clause-ticked : goal.returns-clause-ticked
 returns-clause-ticked g c =
     rw (c.tick.ensures, c.tick-2.ensures, c.new.ensures, c.in_ok-put_kept.ensures.placed, returns-clause-count g c) refl
+
+pub returns-clause-looked : goal.returns-clause-looked
+returns-clause-looked g c = c.in_ok-put_kept.ensures.looked

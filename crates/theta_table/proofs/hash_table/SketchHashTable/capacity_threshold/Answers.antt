@@ -17,3 +17,9 @@ returns-clause-rebuilds g c = rw (← c.self.view_is) (rebuilds_few _ _ _ _ c.se
 
 pub returns-clause-placed : goal.returns-clause-placed
 returns-clause-placed g c = rw (← c.self.view_is) (placed_few _ _ _ _ c.self.invariant.counted)
+
+pub returns-clause-free : goal.returns-clause-free
+returns-clause-free g c = rw (← c.self.view_is) (λ has. omega (arith, slotted_count g.E.SketchEntry.key _ _ _ _ _ c.self.invariant.slotted, (c.self.invariant.slotted.sized has).room, (c.self.invariant.slotted.laid_out has).size))
+
+pub returns-clause-slotless : goal.returns-clause-slotless
+returns-clause-slotless g c = rw (← c.self.view_is) (λ lacks. c.self.invariant.slotted.without lacks)

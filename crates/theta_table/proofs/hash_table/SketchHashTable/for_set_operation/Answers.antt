@@ -1,4 +1,4 @@
-use Rattle.std.proofs.Common.{map, ◌∙◌}
+use Rattle.std.proofs.Common.{map, refl, ◌∙◌}
 use Rattle.theta_slots.proofs.Held.{length-held}
 use Rattle.theta_table.proofs.Counting.{counted_nothing}
 use Rattle.theta_table.proofs.Slotted.{slotted_operator}
@@ -15,3 +15,6 @@ invariant_of-result g c =
       bounded = c.threshold_of.ensures ∙ operator_threshold c.args.lg_cur_size c.args.lg_nom_size c.requires.sized;
       counted = rw c.nothing.ensures (counted_nothing c.args.lg_cur_size c.args.lg_nom_size);
     }
+
+pub returns-clause-fixed : goal.returns-clause-fixed
+returns-clause-fixed g c = refl

@@ -362,22 +362,22 @@ returns-then-hash-self-clause-looked g c =
 pub returns-in_err-write_at-clause-looked : goal.returns-in_err-write_at-clause-looked
 returns-in_err-write_at-clause-looked g c =
     let found = rw c.deref.ensures.value at c.seek-place.ensures in
-    rw (← c.self.view_is) (λ _. found.looked)
+    rw (← c.self.view_is) (λ _. omega (arith, found.looked))
 
 pub returns-then-not-place-clause-looked : goal.returns-then-not-place-clause-looked
 returns-then-not-place-clause-looked g c =
     let found = rw c.deref.ensures.value at c.seek-place.ensures in
-    rw (← c.self.view_is) (λ _. found.looked)
+    rw (← c.self.view_is) (λ _. omega (arith, found.looked))
 
 pub returns-in_err-absent-clause-looked : goal.returns-in_err-absent-clause-looked
 returns-in_err-absent-clause-looked g c =
     let found = rw c.deref.ensures.value at c.seek-place.ensures in
-    rw (← c.self.view_is) (λ _. found.looked)
+    rw (← c.self.view_is) (λ _. omega (arith, found.looked))
 
 pub returns-in-None-clause-looked : goal.returns-in-None-clause-looked
 returns-in-None-clause-looked g c =
     let found = rw c.deref.ensures.value at c.seek-place.ensures in
-    rw (← c.self.view_is) (λ _. found.looked)
+    rw (← c.self.view_is) (λ _. omega (arith, found.looked))
 
 pub returns-in_err-settled-in-Some-clause-looked : goal.returns-in_err-settled-in-Some-clause-looked
 returns-in_err-settled-in-Some-clause-looked g c =
@@ -388,3 +388,9 @@ pub returns-in_ok-settled-in-Some-clause-looked : goal.returns-in_ok-settled-in-
 returns-in_ok-settled-in-Some-clause-looked g c =
     let found = rw c.deref.ensures.value at c.seek-place.ensures in
     rw (← c.self.view_is) (λ _. omega (arith, found.looked, c.put_entry.ensures.looked))
+
+pub returns-then-hash-self-clause-looks_kept : goal.returns-then-hash-self-clause-looks_kept
+returns-then-hash-self-clause-looks_kept g c = rw (← c.self.view_is) (omega arith)
+
+pub returns-then-hash-self-clause-screened : goal.returns-then-hash-self-clause-screened
+returns-then-hash-self-clause-screened g c = rw (← c.self.view_is) (λ _. refl)

@@ -1,0 +1,85 @@
+-- Images that are read one after another.
+use Rattle.std.proofs.Common.{◌≡◌, ℕ, List, [], ◌∷◌, ◌++◌, length, map, Option, Some, None, refl, sym, ap, subst, ◌∙◌, append_assoc, append-nil, arith}
+use Rattle.std.specs.Prelude.{IfSome}
+use Rattle.sketch_base.specs.Seed.{seed_hash}
+use Rattle.sketch_base.specs.declared.seed.TheConstants.{DEFAULT_UPDATE_SEED}
+use Rattle.theta_compact.specs.CompactState.{Compact}
+use Rattle.theta_sketches.specs.Image.{Reads}
+use Rattle.line_sketches.specs.Sources.{Continues}
+use Rattle.line_sketches.specs.Shards.{AreRead}
+use Rattle.distinct.specs.Answers.{IsShown}
+use Rattle.distinct.specs.Failures.{called}
+use Rattle.distinct.specs.Images.{ReadsFirst, ReadsNext}
+use Rattle.distinct.specs.Numbers.{shown_line}
+
+-- sketches of all images
+are_read-more : (images : List (List ℕ)) (sketches : List (Compact ℕ)) (image : List ℕ) (s : Compact ℕ) → AreRead images sketches → Reads image (seed_hash DEFAULT_UPDATE_SEED) s → AreRead (images ++ image ∷ []) (sketches ++ s ∷ [])
+are_read-more [] [] image s all one = (one, tt)
+are_read-more [] (t ∷ ts) image s all one = absurd all
+are_read-more (i ∷ is) [] image s all one = absurd all
+are_read-more (i ∷ is) (t ∷ ts) image s all one = (all.0, are_read-more is ts image s all.1 one)
+
+one_read : (all taken left : List (List ℕ)) (sketches : List (Compact ℕ)) (s : Compact ℕ) (new : Option (List (List ℕ))) → all ≡ taken ++ left → AreRead taken sketches → ReadsFirst left s new → Continues (Some all) new (λ is. AreRead is (sketches ++ s ∷ []))
+one_read all taken left sketches s new parted read first =
+    subst (λ (o : Option (List (List ℕ))). Continues (Some all) o (λ is. AreRead is (sketches ++ s ∷ []))) (sym first.leaves) (
+      taken ++ first.image ∷ [],
+      parted ∙ ap (λ is. taken ++ is) first.parted ∙ sym (append_assoc taken (first.image ∷ []) first.images_behind),
+      are_read-more taken sketches first.image s read first.reads,
+    )
+
+pub reads_more : (old now new : Option (List (List ℕ))) (o : Option (Compact ℕ)) (s : Compact ℕ) (sketches : List (Compact ℕ)) → Continues old now (λ is. AreRead is sketches) → ReadsNext now new o → o ≡ Some s → Continues old new (λ is. AreRead is (sketches ++ s ∷ []))
+reads_more None now new o s sketches so_far next is = tt
+reads_more (Some all) None new o s sketches so_far next is = absurd so_far
+reads_more (Some all) (Some left) new o s sketches so_far next is = one_read all so_far.0 left sketches s new so_far.1 so_far.2 (subst (ReadsNext (Some left) new) is next)
+
+-- ---- lines on images
+
+-- lines so far, and then those of what is left, are all lines
+abbrev pub ShowsOn : (old : Option (List (List ℕ))) (names : List (List ℕ)) (shown : List ℕ) (now : Option (List (List ℕ))) (left : List (List ℕ)) → Type 0
+ShowsOn None names shown now left = Unit {0}
+ShowsOn (Some all) names shown None left = ⊥
+ShowsOn (Some all) names shown (Some images) left = (rest : List ℕ) → IsShown left images rest → IsShown names all (shown ++ rest)
+
+pub shows_itself : (old : Option (List (List ℕ))) (names : List (List ℕ)) → ShowsOn old names [] old names
+shows_itself None names = tt
+shows_itself (Some all) names = λ rest is. is
+
+one_shown : (all names : List (List ℕ)) (shown : List ℕ) (images : List (List ℕ)) (name : List ℕ) (others : List (List ℕ)) (s : Compact ℕ) (new : Option (List (List ℕ))) →
+    ((rest : List ℕ) → IsShown (name ∷ others) images rest → IsShown names all (shown ++ rest)) → ReadsFirst images s new → ShowsOn (Some all) names (shown ++ shown_line (called name) s) new others
+one_shown all names shown images name others s new so_far first =
+    subst (λ (o : Option (List (List ℕ))). ShowsOn (Some all) names (shown ++ shown_line (called name) s) o others) (sym first.leaves) (λ rest is.
+    subst (IsShown names all) (sym (append_assoc shown (shown_line (called name) s) rest))
+    (so_far (shown_line (called name) s ++ rest) (subst (λ (l : List (List ℕ)). IsShown (name ∷ others) l (shown_line (called name) s ++ rest)) (sym first.parted) (s, rest, first.reads, refl, is))))
+
+pub shows_more : (old : Option (List (List ℕ))) (names : List (List ℕ)) (shown : List ℕ) (now : Option (List (List ℕ))) (left : List (List ℕ)) (name : List ℕ) (others : List (List ℕ)) (o : Option (Compact ℕ)) (s : Compact ℕ) (new : Option (List (List ℕ))) →
+    ShowsOn old names shown now left → left ≡ name ∷ others → ReadsNext now new o → o ≡ Some s → ShowsOn old names (shown ++ shown_line (called name) s) new others
+shows_more None names shown now left name others o s new so_far parted next is = tt
+shows_more (Some all) names shown None left name others o s new so_far parted next is = absurd so_far
+shows_more (Some all) names shown (Some images) left name others o s new so_far parted next is =
+    one_shown all names shown images name others s new (subst (λ (l : List (List ℕ)). (rest : List ℕ) → IsShown l images rest → IsShown names all (shown ++ rest)) parted so_far) (subst (ReadsNext (Some images) new) is next)
+
+none_left : (left : List (List ℕ)) → IsShown left [] []
+none_left [] = refl
+none_left (name ∷ left) = refl
+
+pub shows_all : (old : Option (List (List ℕ))) (names : List (List ℕ)) (shown : List ℕ) (now : Option (List (List ℕ))) (left : List (List ℕ)) (o : Option (Compact ℕ)) (new : Option (List (List ℕ))) →
+    ShowsOn old names shown now left → ReadsNext now new o → o ≡ None → IfSome old (λ all. IsShown names all shown)
+shows_all None names shown now left o new so_far next is = tt
+shows_all (Some all) names shown None left o new so_far next is = absurd so_far
+shows_all (Some all) names shown (Some images) left o new so_far next is =
+    let none : images ≡ [] = subst (ReadsNext (Some images) new) is next in
+    subst (IsShown names all) (append-nil shown) (so_far [] (subst (λ (l : List (List ℕ)). IsShown left l []) (sym none) (none_left left)))
+
+pub shows_named : (old : Option (List (List ℕ))) (names : List (List ℕ)) (shown : List ℕ) (now : Option (List (List ℕ))) (left : List (List ℕ)) → ShowsOn old names shown now left → left ≡ [] → IfSome old (λ all. IsShown names all shown)
+shows_named None names shown now left so_far none = tt
+shows_named (Some all) names shown None left so_far none = absurd so_far
+shows_named (Some all) names shown (Some images) left so_far none =
+    subst (IsShown names all) (append-nil shown) (so_far [] (subst (λ (l : List (List ℕ)). IsShown l images []) (sym none) refl))
+
+pub none_read : (o : Option (Compact ℕ)) → ((s : Compact ℕ) → o ≡ Some s → ⊥) → o ≡ None
+none_read None none = refl
+none_read (Some s) none = absurd (none s refl)
+
+pub nothing_named : {T : Type 0} (f : T → List ℕ) (xs : List T) → length xs ≡ 0 → map f xs ≡ []
+nothing_named f [] none = refl
+nothing_named f (x ∷ xs) none = absurd (omega arith)

@@ -1,0 +1,24 @@
+use Rattle.std.proofs.Common.{◌≡◌, ℕ, List, Option, sym, subst}
+use Rattle.std.specs.Prelude.{IfSome}
+use Rattle.sketch_base.specs.Seed.{seed_hash}
+use Rattle.sketch_base.specs.declared.seed.TheConstants.{DEFAULT_UPDATE_SEED}
+use Rattle.theta_compact.specs.CompactState.{Compact}
+use Rattle.line_sketches.specs.Shards.{AreRead}
+use Rattle.line_sketches.specs.Sources.{Continues}
+use Rattle.distinct.specs.Images.{images_left}
+use Rattle.distinct.specs.Seeds.{AreSeeded}
+use Rattle.distinct.proofs.NextImages.{reads_more}
+use Rattle.distinct.proofs.OnlyMemory.{seeded-more}
+use Rattle.distinct.proofs.answer.all_sketches.Goals as goal
+
+pub loop-preserved : goal.loop-preserved
+loop-preserved g c =
+    let old = images_left c.args.images.now.hex (g.S.Sources.texts c.args.images.now.inputs.sources) in
+    let now = images_left c.loop.images.hex (g.S.Sources.texts c.loop.images.inputs.sources) in
+    let new = images_left c.next_sketch.new.images.hex (g.S.Sources.texts c.next_sketch.new.images.inputs.sources) in
+    let seed : c.in-Some.sketch.seed_hash ≡ seed_hash DEFAULT_UPDATE_SEED = subst (λ (o : Option (Compact ℕ)). IfSome o (λ s. s.seed_hash ≡ seed_hash DEFAULT_UPDATE_SEED)) c.in-Some.is c.in_ok-sketch.ensures.seeded in
+    record {
+      seeded = subst AreSeeded (sym c.in_ok-push-in-Some.ensures.items) (seeded-more c.loop.sketches.items c.in-Some.sketch c.loop.invariant.seeded seed);
+      read = subst (λ (items : List (Compact ℕ)). Continues old new (λ taken. AreRead taken items)) (sym c.in_ok-push-in-Some.ensures.items)
+          (reads_more old now new _ c.in-Some.sketch c.loop.sketches.items c.loop.invariant.read c.in_ok-sketch.ensures.reads c.in-Some.is);
+    }

@@ -1,9 +1,0 @@
-use Rattle.std.proofs.Common.{None}
-use Rattle.sketch_base.specs.declared.seed.TheConstants.{DEFAULT_UPDATE_SEED}
-use Rattle.theta_laws.specs.declared.TheConstants.{MAX_THETA}
-use Rattle.theta_table.specs.HashTable.{table_refusal}
-use Rattle.distinct.proofs.OnlyMemory.{sized, unite_kind}
-use Rattle.distinct.proofs.union_image.Goals as goal
-
-pub refused-requires : goal.refused-requires
-refused-requires c = unite_kind (table_refusal c.args.lg_k MAX_THETA DEFAULT_UPDATE_SEED) None c.in-Err-Refused.field-0 c.in-Err-Refused.error (sized c.args.lg_k c.requires.low c.requires.high) c.in-Err-Refused.field-0-is c.in-Err-Refused.ensures.refused

@@ -1,0 +1,330 @@
+//! What commands answer, over sources and a writer.
+ghost use Rattle.std.specs.Prelude.{◌≡◌, ◌≤◌, ◌⊎◌, List, map, length, string_bytes, OnOk, IfOk, IfErr, IfSome};
+ghost use Rattle.sketch_base.specs.Seed.{seed_hash};
+ghost use Rattle.sketch_base.specs.declared.error.ErrorKind.TheVariants.{OutOfMemory, InvalidData};
+ghost use Rattle.sketch_base.specs.declared.seed.TheConstants.{DEFAULT_UPDATE_SEED};
+ghost use Rattle.theta_compact.specs.CompactState.{compact_value};
+ghost use Rattle.theta_laws.specs.Entries.{hash_key, first_hash};
+ghost use Rattle.theta_laws.specs.Operators.{meet, minus};
+ghost use Rattle.theta_sketches.specs.Image.{written};
+ghost use Rattle.line_sketches.specs.Keys.{ordered_sketch};
+ghost use Rattle.line_sketches.specs.Shards.{values_of_sketches, AreRead};
+ghost use Rattle.line_sketches.specs.Unions.{IsUnitedImage};
+ghost use Rattle.distinct.specs.Answers.{sketch_told, in_form, IsCombinedOf, IsShown, IsShownOf, IsAnswer, Writes};
+ghost use Rattle.distinct.specs.Images.{images_left, ReadsNext};
+ghost use Rattle.distinct.specs.Faults.{told_of};
+ghost use Rattle.distinct.specs.Failures.{status_of, called, IsOfReading, IsOfImages, IsOfCombining, IsOfCommand, TellsNoSketch};
+ghost use Rattle.distinct.specs.Seeds.{AreSeeded};
+ghost use Rattle.distinct.specs.declared.failure.Failure.TheVariants as failure;
+
+use crate::arguments::{Command, Operator};
+use crate::estimate;
+use crate::failure::{Failure, out_of_memory};
+use crate::images::Images;
+use crate::inputs::{Inputs, called};
+use crate::options::Options;
+use crate::output::put;
+use line_sketches::{
+    Sources, Unread, Watch, hex_line, image_of, lacked, met, read_image, sketch_sources,
+    unite_images,
+};
+use sketch_base::{Error, ErrorKind};
+use std::alloc::Global;
+use std::io::Write;
+use theta_sketches::CompactThetaSketch;
+
+/// Answers a command of the files that sources give, and of these names: writes what it asks for, whole, and nothing else. It
+/// fails with `NoFiles` and `NotTwo` where too few images are named, or not two, and else where memory, a file, what is in it,
+/// or the writer is at fault.
+pub fn answer<S: Sources + Drop, W: Watch, O: Write>(
+    alloc: Global,
+    command: Command,
+    options: &Options<'_>,
+    files: &[String],
+    sources: S,
+    watch: &mut W,
+    writer: &mut O,
+) -> Result<(), Failure>
+    ensures answered { IfSome (S.texts sources) (λ texts. OnOk result (Writes command (told_of options.now) (map (λ name. string_bytes name) files.now) texts (O.contents writer.old) (O.contents writer.new))) }
+    ensures failed { IfErr result (IsOfCommand command (length files.now)) }
+{
+    let bytes = answer_of(alloc, command, options, files, sources, watch)?;
+    put(alloc, writer, "standard output", bytes.as_slice())
+}
+
+/// What a command writes.
+fn answer_of<S: Sources + Drop, W: Watch>(
+    alloc: Global,
+    command: Command,
+    options: &Options<'_>,
+    files: &[String],
+    sources: S,
+    watch: &mut W,
+) -> Result<Vec<u8>, Failure>
+    ensures answer { IfSome (S.texts sources) (λ texts. IfOk result (λ v. IsAnswer command (told_of options.now) (map (λ name. string_bytes name) files.now) texts v.items)) }
+    ensures failed { IfErr result (IsOfCommand command (length files.now)) }
+{
+    let inputs = Inputs::new(sources, files);
+    match command {
+        Command::Count => {
+            let counted = sketch_inputs(alloc, options, inputs, watch)?;
+            let text = estimate::count_line(alloc, &counted)?;
+            Ok(text.into_bytes())
+        }
+        Command::Sketch => {
+            let sketch = sketch_inputs(alloc, options, inputs, watch)?;
+            image_in_form(alloc, options.hex, &sketch)
+        }
+        Command::Combine(operator) => {
+            if files.is_empty() {
+                return Err(Failure::NoFiles);
+            }
+            let count = files.len();
+            let combined = combine_inputs(alloc, options, count, inputs, operator)?;
+            in_form(alloc, options.hex, combined)
+        }
+        Command::Show => {
+            if files.is_empty() {
+                return Err(Failure::NoFiles);
+            }
+            show_inputs(alloc, options, files, inputs)
+        }
+    }
+}
+
+/// An image as it is written: its bytes, or a line of their hexadecimal digits.
+fn in_form(alloc: Global, hex: bool, image: Vec<u8>) -> Result<Vec<u8>, Failure>
+    ensures form { IfOk result (λ v. v.items ≡ in_form hex image.items) }
+    ensures memory { IfErr result (λ f. f ≡ failure.Memory) }
+{
+    if hex {
+        Ok(hex_line(alloc, image.as_slice())?)
+    } else {
+        Ok(image)
+    }
+}
+
+/// The image of a sketch as it is written.
+fn image_in_form(alloc: Global, hex: bool, sketch: &CompactThetaSketch) -> Result<Vec<u8>, Failure>
+    ensures form { IfOk result (λ v. v.items ≡ in_form hex (written sketch.now)) }
+    ensures memory { IfErr result (λ f. f ≡ failure.Memory) }
+{
+    let image = image_to_put(sketch)?;
+    in_form(alloc, hex, image)
+}
+
+/// The sketch of the lines of all sources in turn. It fails where memory was refused or a source can't be read.
+fn sketch_inputs<S: Sources + Drop, W: Watch>(
+    alloc: Global,
+    options: &Options<'_>,
+    inputs: Inputs<'_, S>,
+    watch: &mut W,
+) -> Result<CompactThetaSketch, Failure>
+    ensures sketch { IfSome (S.texts inputs.entry.sources) (λ texts. IfOk result (λ s. s ≡ sketch_told (told_of options.now) texts)) }
+    ensures failed { IfErr result IsOfReading }
+{
+    let mut inputs = inputs;
+    match sketch_sources(alloc, options.key(), options.lg_k, &mut inputs, watch) {
+        Ok(sketch) => Ok(sketch),
+        Err(Unread::Failed(error)) => Err(inputs.unreadable(alloc, error)),
+        Err(Unread::Refused(error)) => Err(out_of_memory(error)),
+    }
+}
+
+/// The image of a sketch. It fails where memory was refused.
+fn image_to_put(sketch: &CompactThetaSketch) -> Result<Vec<u8>, Failure>
+    ensures image { IfOk result (λ v. v.items ≡ written sketch.now) }
+    ensures memory { IfErr result (λ f. f ≡ failure.Memory) }
+{
+    match image_of(sketch) {
+        Ok(image) => Ok(image),
+        Err(error) => Err(out_of_memory(error)),
+    }
+}
+
+/// Why an image was not taken in.
+fn refused<S: Sources>(images: &Images<'_, S>, error: Error) -> Failure
+    requires { (error ≡ OutOfMemory) ⊎ (error ≡ InvalidData) }
+    ensures memory { error ≡ OutOfMemory → result ≡ failure.Memory }
+    ensures data { error ≡ InvalidData → TellsNoSketch (called images.now.inputs.current.now) images.now.hex images.now.line result }
+    ensures of_images { IsOfImages result }
+{
+    if error.kind() == ErrorKind::InvalidData {
+        images.no_sketch()
+    } else {
+        out_of_memory(error)
+    }
+}
+
+/// The sketch of the next image, of the default seed, or `None` at the end. It fails where memory was refused, a file can't be
+/// read, or an image is none.
+fn next_sketch<S: Sources>(
+    alloc: Global,
+    images: &mut Images<'_, S>,
+) -> Result<Option<CompactThetaSketch>, Failure>
+    ensures seeded { IfOk result (λ next. IfSome next (λ s. s.seed_hash ≡ seed_hash DEFAULT_UPDATE_SEED)) }
+    ensures reads { IfOk result (ReadsNext (images_left images.old.hex (S.texts images.old.inputs.sources)) (images_left images.new.hex (S.texts images.new.inputs.sources))) }
+    ensures failed { IfErr result IsOfImages }
+{
+    match images.next_image() {
+        Ok(Some(image)) => match read_image(alloc, image.as_slice()) {
+            Ok(sketch) => Ok(Some(sketch)),
+            Err(error) => Err(refused(images, error)),
+        },
+        Ok(None) => Ok(None),
+        Err(error) => Err(images.unreadable(error)),
+    }
+}
+
+/// A line on each image.
+fn show_inputs<S: Sources + Drop>(
+    alloc: Global,
+    options: &Options<'_>,
+    files: &[String],
+    inputs: Inputs<'_, S>,
+) -> Result<Vec<u8>, Failure>
+    ensures shown { IfSome (S.texts inputs.entry.sources) (λ texts. IfOk result (λ v. IsShownOf options.now.hex (map (λ name. string_bytes name) files.now) texts v.items)) }
+    ensures failed { IfErr result IsOfImages }
+{
+    let mut images = Images::new(alloc, inputs, options.hex);
+    if options.hex {
+        show_lines(alloc, &mut images)
+    } else {
+        show_files(alloc, files, &mut images)
+    }
+}
+
+/// A line on each line's image.
+fn show_lines<S: Sources>(alloc: Global, images: &mut Images<'_, S>) -> Result<Vec<u8>, Failure>
+    ensures { IfErr result IsOfImages }
+{
+    let mut shown = Vec::new(alloc);
+    for _ in 0..u64::MAX {
+        let Some(sketch) = next_sketch(alloc, images)? else {
+            return Ok(shown);
+        };
+        let text = estimate::shown_line(alloc, images.name(), &sketch)?;
+        shown.extend_from_slice(text.as_bytes())?;
+    }
+    Err(Failure::Memory)
+}
+
+/// A line on each file's image, under the file's name.
+fn show_files<S: Sources>(
+    alloc: Global,
+    files: &[String],
+    images: &mut Images<'_, S>,
+) -> Result<Vec<u8>, Failure>
+    ensures shown { IfSome (images_left images.old.hex (S.texts images.old.inputs.sources)) (λ all. IfOk result (λ v. IsShown (map (λ name. string_bytes name) files.now) all v.items)) }
+    ensures failed { IfErr result IsOfImages }
+{
+    let mut shown = Vec::new(alloc);
+    let mut left = files;
+    while let Some((file, others)) = left.split_first() {
+        let Some(sketch) = next_sketch(alloc, images)? else {
+            return Ok(shown);
+        };
+        let text = estimate::shown_line(alloc, called(file.as_str()), &sketch)?;
+        shown.extend_from_slice(text.as_bytes())?;
+        left = others;
+    }
+    Ok(shown)
+}
+
+/// The image that an operator makes of the images of so many files.
+fn combine_inputs<S: Sources + Drop>(
+    alloc: Global,
+    options: &Options<'_>,
+    count: usize,
+    inputs: Inputs<'_, S>,
+    operator: Operator,
+) -> Result<Vec<u8>, Failure>
+    ensures combined { IfSome (S.texts inputs.entry.sources) (λ texts. IfOk result (λ v. IsCombinedOf options.now.hex operator options.now.lg_k texts v.items)) }
+    ensures failed { IfErr result (IsOfCombining operator) }
+{
+    let mut images = Images::new(alloc, inputs, options.hex);
+    match operator {
+        Operator::Union => union_image(alloc, options.lg_k, &mut images),
+        Operator::Meet => {
+            let sketches = all_sketches(alloc, &mut images)?;
+            meet_image(alloc, sketches.as_slice())
+        }
+        Operator::Minus => {
+            if !options.hex && count != 2 {
+                return Err(Failure::NotTwo);
+            }
+            let sketches = all_sketches(alloc, &mut images)?;
+            match sketches.as_slice() {
+                [first, second] => minus_image(alloc, first, second),
+                _ => Err(Failure::NotTwo),
+            }
+        }
+    }
+}
+
+/// The image of the union of images. It fails where memory was refused, a file can't be read, or an image is none.
+fn union_image<S: Sources>(
+    alloc: Global,
+    lg_k: u8,
+    images: &mut Images<'_, S>,
+) -> Result<Vec<u8>, Failure>
+    requires low { 4 ≤ lg_k }
+    requires high { lg_k ≤ 26 }
+    ensures united { IfSome (images_left images.old.hex (S.texts images.old.inputs.sources)) (λ all. IfOk result (λ v. IsUnitedImage lg_k all v.items)) }
+    ensures failed { IfErr result IsOfImages }
+{
+    match unite_images(alloc, lg_k, images) {
+        Ok(image) => Ok(image),
+        Err(Unread::Failed(error)) => Err(images.unreadable(error)),
+        Err(Unread::Refused(error)) => Err(refused(images, error)),
+    }
+}
+
+/// The image of what sketches of the default seed share. It fails where memory was refused.
+fn meet_image(alloc: Global, sketches: &[CompactThetaSketch]) -> Result<Vec<u8>, Failure>
+    requires { AreSeeded sketches.now }
+    ensures image { IfOk result (λ v. v.items ≡ written (ordered_sketch (meet hash_key first_hash (values_of_sketches sketches.now)))) }
+    ensures memory { IfErr result (λ f. f ≡ failure.Memory) }
+{
+    match met(alloc, sketches) {
+        Ok(sketch) => image_to_put(&sketch),
+        Err(error) => Err(out_of_memory(error)),
+    }
+}
+
+/// The image of what the first of two sketches of the default seed has and the second lacks. It fails where memory was refused.
+fn minus_image(
+    alloc: Global,
+    first: &CompactThetaSketch,
+    second: &CompactThetaSketch,
+) -> Result<Vec<u8>, Failure>
+    requires first { first.now.seed_hash ≡ seed_hash DEFAULT_UPDATE_SEED }
+    requires second { second.now.seed_hash ≡ seed_hash DEFAULT_UPDATE_SEED }
+    ensures image { IfOk result (λ v. v.items ≡ written (ordered_sketch (minus hash_key hash_key (compact_value hash_key first.now) (compact_value hash_key second.now)))) }
+    ensures memory { IfErr result (λ f. f ≡ failure.Memory) }
+{
+    match lacked(alloc, first, second) {
+        Ok(sketch) => image_to_put(&sketch),
+        Err(error) => Err(out_of_memory(error)),
+    }
+}
+
+/// The sketches of all images, each of the default seed. It fails where memory was refused, a file can't be read, or an image
+/// is none.
+fn all_sketches<S: Sources>(
+    alloc: Global,
+    images: &mut Images<'_, S>,
+) -> Result<Vec<CompactThetaSketch>, Failure>
+    ensures seeded { IfOk result (λ v. AreSeeded v.items) }
+    ensures read { IfSome (images_left images.old.hex (S.texts images.old.inputs.sources)) (λ all. IfOk result (λ v. AreRead all v.items)) }
+    ensures failed { IfErr result IsOfImages }
+{
+    let mut sketches = Vec::new(alloc);
+    for _ in 0..u64::MAX {
+        match next_sketch(alloc, images)? {
+            Some(sketch) => sketches.push(sketch)?,
+            None => return Ok(sketches),
+        }
+    }
+    Err(Failure::Memory)
+}
