@@ -21,7 +21,7 @@ use Rattle.distinct.specs.declared.arguments.Command.TheVariants.{Count, Sketch,
 use Rattle.distinct.specs.declared.arguments.Operator.{Operator}
 use Rattle.distinct.specs.declared.arguments.Operator.TheVariants.{Union, Meet, Minus}
 
--- the sketch of the lines of all texts, each text's by themselves, by the key and of the size that options tell
+-- the sketch of the lines of all texts, each text cut into lines by itself, by the key and of the size of the options
 abbrev pub sketch_told : Told → (texts : List (List ℕ)) → Compact ℕ
 sketch_told told texts = ordered_sketch (value_of_lines (key_told told) told.lg_k (lines_of_all texts))
 
@@ -39,7 +39,7 @@ IsCombined Union lg_k images out = IsUnitedImage lg_k images out
 IsCombined Meet lg_k images out = (sketches : List (Compact ℕ)) × AreRead images sketches × (out ≡ written (ordered_sketch (meet hash_key first_hash (values_of_sketches sketches))))
 IsCombined Minus lg_k images out = (first second : Compact ℕ) × AreRead images (first ∷ second ∷ []) × (out ≡ written (ordered_sketch (minus hash_key hash_key (compact_value hash_key first) (compact_value hash_key second))))
 
--- the same of files that are images; of files that have images in their lines no clause tells
+-- the same of files that are images; unspecified of files that have an image in each line
 abbrev pub IsCombinedOf : (hex : Bool) → Operator → (lg_k : ℕ) → (texts : List (List ℕ)) → List ℕ → Type 0
 IsCombinedOf true operator lg_k texts out = ⊤
 IsCombinedOf false operator lg_k texts out = IsCombined operator lg_k texts out
@@ -50,7 +50,7 @@ IsShown [] images out = out ≡ []
 IsShown (name ∷ names) [] out = out ≡ []
 IsShown (name ∷ names) (image ∷ images) out = (s : Compact ℕ) × (rest : List ℕ) × Reads image (seed_hash DEFAULT_UPDATE_SEED) s × (out ≡ shown_line (called name) s ++ rest) × IsShown names images rest
 
--- the same of files that are images; of files that have images in their lines no clause tells
+-- the same of files that are images; unspecified of files that have an image in each line
 abbrev pub IsShownOf : (hex : Bool) → (names texts : List (List ℕ)) → List ℕ → Type 0
 IsShownOf true names texts out = ⊤
 IsShownOf false names texts out = IsShown names texts out

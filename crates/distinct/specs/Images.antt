@@ -5,7 +5,7 @@ use Rattle.sketch_base.specs.declared.seed.TheConstants.{DEFAULT_UPDATE_SEED}
 use Rattle.theta_compact.specs.CompactState.{Compact}
 use Rattle.theta_sketches.specs.Image.{Reads}
 
--- the images that are left of files whose texts are left: those texts. Of files that have an image in each line no clause tells.
+-- the images that are left of files whose texts are left: those texts. Unspecified of files that have an image in each line.
 abbrev pub images_left : (hex : Bool) → Option (List (List ℕ)) → Option (List (List ℕ))
 images_left hex texts = if hex then None else texts
 
