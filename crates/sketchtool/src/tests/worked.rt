@@ -8,11 +8,13 @@ use std::test::Fail;
 #[derive(Clone, Copy, Debug)]
 enum Piece {
     Lines(&'static str),
-    /// A line `add` for each hash from a first to a last, so many apart.
-    Adds(u64, u64, usize),
+    /// A line `add` for each hash from a first to a last.
+    Adds(u64, u64),
+    /// The same for the even ones of these.
+    EvenAdds(u64, u64),
 }
 
-use Piece::{Adds, Lines};
+use Piece::{Adds, EvenAdds, Lines};
 
 /// Plans in pieces, and what they answer.
 const WORKED: [(&[Piece], &str); 15] = [
@@ -67,11 +69,11 @@ const WORKED: [(&[Piece], &str); 15] = [
     (
         &[
             Lines("theta show\nminus\nunion 5 max 2\nleaf 5 max 40\n"),
-            Adds(1, 40, 1),
+            Adds(1, 40),
             Lines("leaf 5 max 40\n"),
-            Adds(21, 60, 1),
+            Adds(21, 60),
             Lines("leaf 5 max 20\n"),
-            Adds(2, 40, 2),
+            EvenAdds(2, 40),
         ],
         "empty no\ntheta 33\ncount 16\n1\n3\n5\n7\n9\n11\n13\n15\n17\n19\n21\n23\n25\n27\n29\n31\n",
     ),
@@ -79,7 +81,7 @@ const WORKED: [(&[Piece], &str); 15] = [
     (
         &[
             Lines("theta show\nunion 6 max 1\nleaf 5 max 41\n"),
-            Adds(1, 40, 1),
+            Adds(1, 40),
             Lines("trim\n"),
         ],
         "empty no\ntheta 33\ncount 32\n1\n2\n3\n4\n5\n6\n7\n8\n9\n10\n11\n12\n13\n14\n15\n16\n17\n18\n19\n20\n21\n22\n23\n24\n25\n26\n27\n28\n29\n30\n31\n32\n",
@@ -87,7 +89,7 @@ const WORKED: [(&[Piece], &str); 15] = [
     (
         &[
             Lines("theta show\nunion 5 max 1\nunion 5 10 1\nleaf 5 max 40\n"),
-            Adds(1, 40, 1),
+            Adds(1, 40),
         ],
         "empty no\ntheta 10\ncount 9\n1\n2\n3\n4\n5\n6\n7\n8\n9\n",
     ),
@@ -95,14 +97,14 @@ const WORKED: [(&[Piece], &str); 15] = [
     (
         &[
             Lines("theta show\nunion 5 max 1\nunion 4 max 1\nleaf 5 max 20\n"),
-            Adds(1, 20, 1),
+            Adds(1, 20),
         ],
         "empty no\ntheta 17\ncount 16\n1\n2\n3\n4\n5\n6\n7\n8\n9\n10\n11\n12\n13\n14\n15\n16\n",
     ),
     (
         &[
             Lines("theta show\nunion 5 max 2\nleaf 5 max 20\n"),
-            Adds(1, 20, 1),
+            Adds(1, 20),
             Lines("lower 4\n"),
         ],
         "empty no\ntheta 17\ncount 16\n1\n2\n3\n4\n5\n6\n7\n8\n9\n10\n11\n12\n13\n14\n15\n16\n",
@@ -114,9 +116,16 @@ fn text_of(alloc: Global, pieces: &[Piece]) -> Result<String, AllocError> {
     for piece in pieces {
         match *piece {
             Lines(lines) => text.push_str(lines)?,
-            Adds(first, last, step) => {
-                for hash in (first..=last).step_by(step) {
+            Adds(first, last) => {
+                for hash in first..=last {
                     writeln!(text, "add {hash}")?;
+                }
+            }
+            EvenAdds(first, last) => {
+                for hash in first..=last {
+                    if hash % 2 == 0 {
+                        writeln!(text, "add {hash}")?;
+                    }
                 }
             }
         }
