@@ -17,7 +17,7 @@ mod selection;
 mod slots;
 
 pub use count::Count;
-pub use entry::SlotEntry;
+pub use entry::{PathEntry, SlotEntry};
 pub use lookup::leave_out_held;
 pub use relaying::{keep_below, put_kept};
 pub use selection::hash_of_rank;

@@ -9,7 +9,7 @@ ghost use Rattle.theta_slots.specs.Probe.{probe};
 ghost use Rattle.theta_slots.specs.Rounds.{times};
 
 use crate::count::Count;
-use crate::entry::SlotEntry;
+use crate::entry::{PathEntry, SlotEntry};
 use crate::slots::{hash_in, slot_after, slot_of};
 use std::alloc::Allocator;
 use std::mem;
@@ -30,7 +30,7 @@ fn exchanged_if<T>(is_exchanged: bool, first: T, second: T) -> (T, T)
 /// Puts an entry into a slot if that is free. Answers whether it was, and what waits then: nothing, or the entry. It is one
 /// look.
 #[inline(always)]
-fn put_if_free<E: SlotEntry>(
+fn put_if_free<E: PathEntry>(
     slots: &mut [E::Slot],
     at: usize,
     entry: E::Slot,
@@ -42,9 +42,8 @@ fn put_if_free<E: SlotEntry>(
     ensures waits { E.held result.1 ≡ if result.0 then None else E.held entry }
     ensures looks { looks.new ≡ looks.old + 1 }
 {
-    looks.tick();
+    let is_free = E::look(&slots[at], looks).is_none();
     let held = mem::replace(&mut slots[at], E::free_slot());
-    let is_free = E::in_slot(&held).is_none();
     let (stands, waits) = exchanged_if(is_free, held, entry);
     slots[at] = stands;
     (is_free, waits)

@@ -8,7 +8,7 @@ ghost use Rattle.theta_slots.specs.Layout.{filled, slot, is_other, IsOnPath, IsL
 ghost use Rattle.theta_slots.specs.Probe.{probe, stride};
 
 use crate::count::Count;
-use crate::entry::SlotEntry;
+use crate::entry::{PathEntry, SlotEntry};
 use std::alloc::{AllocError, Allocator};
 
 /// Where a search for a hash ended.
@@ -22,7 +22,7 @@ pub struct Place {
 
 /// The entry that a slot holds, if it holds one. Each look of a search is one call.
 #[inline(always)]
-fn look_at<'a, E: SlotEntry + 'a>(
+fn look_at<'a, E: PathEntry + 'a>(
     slots: &'a [E::Slot],
     at: usize,
     looks: &mut Count,
@@ -31,8 +31,7 @@ fn look_at<'a, E: SlotEntry + 'a>(
     ensures holds { option_copied result ≡ slot (map E.held slots.now) at }
     ensures looks { looks.new ≡ looks.old + 1 }
 {
-    looks.tick();
-    E::in_slot(&slots[at])
+    E::look(&slots[at], looks)
 }
 
 /// What is left of a number in so many slots.
@@ -73,7 +72,7 @@ pub(crate) fn stride_of(hash: u64, lg: u8) -> usize
 ///
 /// Each look at a slot is counted in `looks`: from 1 to one more than the slots that are taken.
 #[inline(always)]
-pub fn seek<E: SlotEntry>(slots: &[E::Slot], lg: u8, hash: u64, looks: &mut Count) -> Place
+pub fn seek<E: PathEntry>(slots: &[E::Slot], lg: u8, hash: u64, looks: &mut Count) -> Place
     requires small { lg < 40 }
     requires size { length slots.now ≡ 2 ^ lg }
     requires room { length (filled (map E.held slots.now)) < 2 ^ lg }
@@ -141,7 +140,7 @@ pub(crate) fn number_below<E: SlotEntry>(slot: &E::Slot, bound: u64) -> usize
 
 /// Puts a slot's entry of this hash where a search for the hash ends.
 #[inline(always)]
-fn put_slot<E: SlotEntry>(
+fn put_slot<E: PathEntry>(
     slots: &mut [E::Slot],
     lg: u8,
     filled_slot: E::Slot,
@@ -192,7 +191,7 @@ pub(crate) fn spread<E: SlotEntry, A: Allocator>(
 }
 
 /// 2^`lg` free slots, in one request for memory. It fails only where memory ran out.
-pub fn free_slots<E: SlotEntry, A: Allocator + Drop>(
+pub fn free_slots<E: PathEntry, A: Allocator + Drop>(
     alloc: A,
     lg: u8,
 ) -> Result<Vec<E::Slot, A>, AllocError>

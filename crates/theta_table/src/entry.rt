@@ -6,7 +6,7 @@ ghost use Rattle.theta_table.specs.LentSummary.{lends_summary};
 use std::alloc::{AllocError, Allocator};
 use std::marker::Model;
 use theta_laws::{MAX_THETA, SketchEntry};
-use theta_slots::SlotEntry;
+use theta_slots::{Count, PathEntry, SlotEntry};
 
 /// The entry of a theta sketch: a hash alone. Contracts see it as its hash.
 #[derive(Debug, Clone, Copy)]
@@ -61,7 +61,7 @@ impl SketchEntry for ThetaEntry {
     }
 }
 
-impl SlotEntry for ThetaEntry {
+impl PathEntry for ThetaEntry {
     ghost use Rattle.theta_slots.specs.HashSlots.{hash_held};
 
     /// Its hash, and 0 in a free slot.
@@ -88,6 +88,14 @@ impl SlotEntry for ThetaEntry {
         self
     }
 
+    #[inline(always)]
+    fn look<'a>(slot: &'a ThetaEntry, looks: &mut Count) -> Option<&'a ThetaEntry> {
+        looks.tick();
+        Self::in_slot(slot)
+    }
+}
+
+impl SlotEntry for ThetaEntry {
     #[inline(always)]
     fn from_slot(slot: ThetaEntry) -> Option<ThetaEntry> {
         if slot.hash == 0 { None } else { Some(slot) }
@@ -177,7 +185,7 @@ impl<S> SketchEntry for TupleEntry<S> {
     }
 }
 
-impl<S: Drop> SlotEntry for TupleEntry<S> {
+impl<S: Drop> PathEntry for TupleEntry<S> {
     type Slot = Option<TupleEntry<S>>;
 
     ghost held = { λ slot. slot };
@@ -201,6 +209,14 @@ impl<S: Drop> SlotEntry for TupleEntry<S> {
         Some(self)
     }
 
+    #[inline(always)]
+    fn look<'a>(slot: &'a Option<TupleEntry<S>>, looks: &mut Count) -> Option<&'a TupleEntry<S>> {
+        looks.tick();
+        Self::in_slot(slot)
+    }
+}
+
+impl<S: Drop> SlotEntry for TupleEntry<S> {
     #[inline(always)]
     fn from_slot(slot: Option<TupleEntry<S>>) -> Option<TupleEntry<S>> {
         slot

@@ -10,7 +10,7 @@ use Rattle.theta_slots.proofs.gathering.put_gathered.Goals as goal
 
 pub gather-requires-clause-laid_out : goal.gather-requires-clause-laid_out
 gather-requires-clause-laid_out g c =
-    let held = g.E.SlotEntry.held in
+    let held = g.E.PathEntry.held in
     let slots = map held c.args.slots.now.items in
     let low : c.args.at < length slots = omega (arith, c.requires.inside, length-held held c.args.slots.now.items) in
     rw (c.deref_mut.ensures.value, map-set held c.args.slots.now.items c.args.at c.into_slot.result, c.into_slot.ensures)
@@ -19,7 +19,7 @@ gather-requires-clause-laid_out g c =
 pub returns-clause-map : goal.returns-clause-map
 returns-clause-map g c =
     let key = g.E.SketchEntry.key in
-    let held = g.E.SlotEntry.held in
+    let held = g.E.PathEntry.held in
     let slots = map held c.args.slots.now.items in
     let after = c.gather.new.slots in
     let low : c.args.at < length slots = omega (arith, c.requires.inside, length-held held c.args.slots.now.items) in
@@ -31,7 +31,7 @@ returns-clause-map g c =
 pub returns-clause-placed : goal.returns-clause-placed
 returns-clause-placed g c =
     let key = g.E.SketchEntry.key in
-    let held = g.E.SlotEntry.held in
+    let held = g.E.PathEntry.held in
     let slots = map held c.args.slots.now.items in
     let after = c.gather.new.slots in
     let low : c.args.at < length slots = omega (arith, c.requires.inside, length-held held c.args.slots.now.items) in
@@ -45,7 +45,7 @@ returns-clause-placed g c =
 pub gather-requires-clause-room : goal.gather-requires-clause-room
 gather-requires-clause-room g c =
     let key = g.E.SketchEntry.key in
-    let held = g.E.SlotEntry.held in
+    let held = g.E.PathEntry.held in
     let slots = map held c.args.slots.now.items in
     let whole = set slots c.args.at (Some c.args.entry) in
     let low : c.args.at < length slots = omega (arith, c.requires.inside, length-held held c.args.slots.now.items) in

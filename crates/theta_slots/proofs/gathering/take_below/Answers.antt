@@ -10,7 +10,7 @@ use Rattle.theta_slots.proofs.gathering.take_below.Goals as goal
 pub take_each-preserved : goal.take_each-preserved
 take_each-preserved g c =
     let key = g.E.SketchEntry.key in
-    let held = g.E.SlotEntry.held in
+    let held = g.E.PathEntry.held in
     let was = c.take_each.invariant in
     let slots = c.take_each.slots in
     let others = c.take_each.others in
@@ -37,17 +37,17 @@ take_each-preserved g c =
 pub offset_bounds-others-count : goal.offset_bounds-others-count
 offset_bounds-others-count g c =
     let was = c.take_each.invariant in
-    let inside : c.take_each.count < length c.take_each.others = omega (arith, was.number, was.long, c.requires.room, part_few g.E.SketchEntry.key g.E.SlotEntry.held c.args.slots.now c.take_each.at c.args.theta) in
+    let inside : c.take_each.count < length c.take_each.others = omega (arith, was.number, was.long, c.requires.room, part_few g.E.SketchEntry.key g.E.PathEntry.held c.args.slots.now c.take_each.at c.args.theta) in
     search (rules, inside)
 
 pub bounds-others-count : goal.bounds-others-count
 bounds-others-count g c =
     let was = c.take_each.invariant in
-    omega (arith, was.number, was.long, c.requires.room, part_few g.E.SketchEntry.key g.E.SlotEntry.held c.args.slots.now c.take_each.at c.args.theta)
+    omega (arith, was.number, was.long, c.requires.room, part_few g.E.SketchEntry.key g.E.PathEntry.held c.args.slots.now c.take_each.at c.args.theta)
 
 pub returns-clause-number : goal.returns-clause-number
 returns-clause-number g c =
     let key = g.E.SketchEntry.key in
-    let held = g.E.SlotEntry.held in
+    let held = g.E.PathEntry.held in
     let was = c.take_each.invariant in
     was.number ∙ ap (λ xs. length (below key (filled (map held xs)) c.args.theta)) (take_all c.take_each.at c.args.slots.now (omega (arith, was.size, c.take_each-test.false)))

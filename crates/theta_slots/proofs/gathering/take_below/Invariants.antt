@@ -7,7 +7,7 @@ use Rattle.theta_slots.proofs.gathering.take_below.Given as goal
 abbrev pub invariant-take_each : goal.invariant-take_each
 invariant-take_each g l =
     let key = g.E.SketchEntry.key in
-    let held = g.E.SlotEntry.held in
+    let held = g.E.PathEntry.held in
     record {
       size : length l.slots ≡ length l.initial.slots;
       long : length l.others ≡ length l.initial.others;

@@ -5,4 +5,4 @@ use Rattle.theta_slots.proofs.lookup.leave_out_held.Given as goal
 
 -- what is left so far
 abbrev pub invariant-round : goal.invariant-round
-invariant-round g l = IsLeft g.E.SketchEntry.key (filled (map g.E.SlotEntry.held l.slots)) l.theta l.fn.hashes l.hashes l.left
+invariant-round g l = IsLeft g.E.SketchEntry.key (filled (map g.E.PathEntry.held l.slots)) l.theta l.fn.hashes l.hashes l.left

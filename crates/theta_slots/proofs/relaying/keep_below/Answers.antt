@@ -6,7 +6,7 @@ use Rattle.theta_slots.proofs.relaying.keep_below.Goals as goal
 pub returns-clause-placed : goal.returns-clause-placed
 returns-clause-placed g c =
     let key = g.E.SketchEntry.key in
-    let held = g.E.SlotEntry.held in
+    let held = g.E.PathEntry.held in
     let after = c.relay.new.slots in
     let whole : take c.args.slots.now.len (after ++ drop (length after) c.args.slots.now.items) ≡ after = search (rules, places) in
     let placed = rw c.deref_mut.ensures.value at c.relay.ensures.placed in

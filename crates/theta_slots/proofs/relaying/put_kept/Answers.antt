@@ -8,7 +8,7 @@ use Rattle.theta_slots.proofs.relaying.put_kept.Goals as goal
 
 pub relay-requires-clause-laid_out : goal.relay-requires-clause-laid_out
 relay-requires-clause-laid_out g c =
-    let held = g.E.SlotEntry.held in
+    let held = g.E.PathEntry.held in
     let slots = map held c.args.slots.now.items in
     let low : c.args.at < length slots = omega (arith, c.requires.inside, length-held held c.args.slots.now.items) in
     rw (c.deref_mut.ensures.value, map-set held c.args.slots.now.items c.args.at c.into_slot.result, c.into_slot.ensures)
@@ -17,7 +17,7 @@ relay-requires-clause-laid_out g c =
 pub returns-clause-map : goal.returns-clause-map
 returns-clause-map g c =
     let key = g.E.SketchEntry.key in
-    let held = g.E.SlotEntry.held in
+    let held = g.E.PathEntry.held in
     let slots = map held c.args.slots.now.items in
     let after = c.relay.new.slots in
     let low : c.args.at < length slots = omega (arith, c.requires.inside, length-held held c.args.slots.now.items) in
@@ -29,7 +29,7 @@ returns-clause-map g c =
 pub returns-clause-placed : goal.returns-clause-placed
 returns-clause-placed g c =
     let key = g.E.SketchEntry.key in
-    let held = g.E.SlotEntry.held in
+    let held = g.E.PathEntry.held in
     let slots = map held c.args.slots.now.items in
     let after = c.relay.new.slots in
     let low : c.args.at < length slots = omega (arith, c.requires.inside, length-held held c.args.slots.now.items) in

@@ -9,13 +9,13 @@ use Rattle.theta_slots.proofs.relaying.relay.Goals.{then-not-marks-at+in_default
 
 pub pass-init : goal.pass-init
 pass-init g c =
-    let whole = map g.E.SlotEntry.held c.args.slots.now in
+    let whole = map g.E.PathEntry.held c.args.slots.now in
     (0, 0, omega arith, omega arith, omega arith, rw c.requires.unmarked (relay_starts g.E.SketchEntry.key c.args.lg c.args.theta whole c.requires.laid_out), λ p lt. absurd (omega (arith, lt)))
 
 pub place-init : goal.place-init
 place-init g c =
     let key = g.E.SketchEntry.key in
-    let held = g.E.SlotEntry.held in
+    let held = g.E.PathEntry.held in
     let whole = map held c.args.slots.now in
     let s = c.pass.slots in
     let slots = map held s in
@@ -38,7 +38,7 @@ place-init g c =
 pub first_unmarked-first-requires-clause-room : goal.first_unmarked-first-requires-clause-room
 first_unmarked-first-requires-clause-room g c =
     let key = g.E.SketchEntry.key in
-    let held = g.E.SlotEntry.held in
+    let held = g.E.PathEntry.held in
     let whole = map held c.args.slots.now in
     let slots = map held c.place.slots in
     let i = c.place.invariant in
@@ -50,7 +50,7 @@ first_unmarked-first-requires-clause-room g c =
 pub place-smaller : goal.place-smaller
 place-smaller g c =
     let key = g.E.SketchEntry.key in
-    let held = g.E.SlotEntry.held in
+    let held = g.E.PathEntry.held in
     let whole = map held c.args.slots.now in
     let s = c.place.slots in
     let slots = map held s in
@@ -67,7 +67,7 @@ place-smaller g c =
 pub place-preserved : goal.place-preserved
 place-preserved g c =
     let key = g.E.SketchEntry.key in
-    let held = g.E.SlotEntry.held in
+    let held = g.E.PathEntry.held in
     let whole = map held c.args.slots.now in
     let s = c.place.slots in
     let slots = map held s in
@@ -94,7 +94,7 @@ place-preserved g c =
 pub pass-preserved : goal.pass-preserved
 pass-preserved g c =
     let key = g.E.SketchEntry.key in
-    let held = g.E.SlotEntry.held in
+    let held = g.E.PathEntry.held in
     let whole = map held c.args.slots.now in
     elim c.if-not-marks-at.branch [
       | then-not-marks-at+in_default w ↦
@@ -112,7 +112,7 @@ pass-preserved g c =
 
 pub returns-clause-laid_out : goal.returns-clause-laid_out
 returns-clause-laid_out g c =
-    let held = g.E.SlotEntry.held in
+    let held = g.E.PathEntry.held in
     let i = c.pass.invariant in
     let slots = map held c.pass.slots in
     let passed : IsPassed c.pass.marks slots (length slots) = λ p lt. i.6 p (omega (arith, lt, length-held held c.pass.slots, c.pass-test.false)) in
@@ -120,7 +120,7 @@ returns-clause-laid_out g c =
 
 pub returns-clause-map : goal.returns-clause-map
 returns-clause-map g c =
-    let held = g.E.SlotEntry.held in
+    let held = g.E.PathEntry.held in
     let i = c.pass.invariant in
     let slots = map held c.pass.slots in
     let passed : IsPassed c.pass.marks slots (length slots) = λ p lt. i.6 p (omega (arith, lt, length-held held c.pass.slots, c.pass-test.false)) in
@@ -128,7 +128,7 @@ returns-clause-map g c =
 
 pub returns-clause-placed : goal.returns-clause-placed
 returns-clause-placed g c =
-    let held = g.E.SlotEntry.held in
+    let held = g.E.PathEntry.held in
     let i = c.pass.invariant in
     let slots = map held c.pass.slots in
     let passed : IsPassed c.pass.marks slots (length slots) = λ p lt. i.6 p (omega (arith, lt, length-held held c.pass.slots, c.pass-test.false)) in

@@ -14,7 +14,7 @@ use Rattle.theta_slots.proofs.rounds.settle.Goals.{in-Some+then-is_settled, in-S
 pub rounds-init : goal.rounds-init
 rounds-init g c =
     let key = g.E.SketchEntry.key in
-    let held = g.E.SlotEntry.held in
+    let held = g.E.PathEntry.held in
     let left = c.args.left.now in
     let slots = map held c.args.slots.now in
     let begun : ℕ = length (filled slots) in
@@ -34,7 +34,7 @@ rounds-init g c =
 pub returns-then-count-eq0-clause-found : goal.returns-then-count-eq0-clause-found
 returns-then-count-eq0-clause-found g c =
     let key = g.E.SketchEntry.key in
-    let held = g.E.SlotEntry.held in
+    let held = g.E.PathEntry.held in
     let i = c.rounds.invariant in
     let whole = filled (map held c.args.left.now) ++ filled (map held c.args.slots.now) in
     let slots = map held c.rounds.slots in
@@ -45,7 +45,7 @@ returns-then-count-eq0-clause-found g c =
 pub returns-then-count-eq0-clause-all : goal.returns-then-count-eq0-clause-all
 returns-then-count-eq0-clause-all g c =
     let key = g.E.SketchEntry.key in
-    let held = g.E.SlotEntry.held in
+    let held = g.E.PathEntry.held in
     let i = c.rounds.invariant in
     let left = filled (map held c.args.left.now) in
     let begun = filled (map held c.args.slots.now) in
@@ -56,7 +56,7 @@ returns-then-count-eq0-clause-all g c =
 pub returns-then-count-eq0-clause-count : goal.returns-then-count-eq0-clause-count
 returns-then-count-eq0-clause-count g c =
     let key = g.E.SketchEntry.key in
-    let held = g.E.SlotEntry.held in
+    let held = g.E.PathEntry.held in
     let i = c.rounds.invariant in
     let left = filled (map held c.args.left.now) in
     let begun = filled (map held c.args.slots.now) in
@@ -67,7 +67,7 @@ returns-then-count-eq0-clause-count g c =
 pub returns-then-count-eq0-clause-placed : goal.returns-then-count-eq0-clause-placed
 returns-then-count-eq0-clause-placed g c =
     let key = g.E.SketchEntry.key in
-    let held = g.E.SlotEntry.held in
+    let held = g.E.PathEntry.held in
     let i = c.rounds.invariant in
     let left = filled (map held c.args.left.now) in
     let begun = filled (map held c.args.slots.now) in
@@ -78,7 +78,7 @@ returns-then-count-eq0-clause-placed g c =
 pub returns-then-count-eq0-clause-looked : goal.returns-then-count-eq0-clause-looked
 returns-then-count-eq0-clause-looked g c =
     let key = g.E.SketchEntry.key in
-    let held = g.E.SlotEntry.held in
+    let held = g.E.PathEntry.held in
     let i = c.rounds.invariant in
     let left = filled (map held c.args.left.now) in
     let begun = filled (map held c.args.slots.now) in
@@ -89,7 +89,7 @@ returns-then-count-eq0-clause-looked g c =
 pub returns-then-count-eq0-clause-looks : goal.returns-then-count-eq0-clause-looks
 returns-then-count-eq0-clause-looks g c =
     let key = g.E.SketchEntry.key in
-    let held = g.E.SlotEntry.held in
+    let held = g.E.PathEntry.held in
     let i = c.rounds.invariant in
     let none : in_front held c.rounds.count c.rounds.left ≡ [] = ap (λ (n : ℕ). in_front held n c.rounds.left) c.if-count-eq0.true ∙ front_none held c.rounds.left in
     looks_end c.rounds.looks c.args.looks.now i.1 c.rounds.round (length (in_front held c.rounds.count c.rounds.left)) i.0 (length (filled (map held c.rounds.slots))) (length (filled (map held c.args.slots.now))) i.4 (ap length none) i.5.looked_few i.5.all_put
@@ -101,19 +101,19 @@ slot_in_round-next-requires-clause-few g c =
 
 pub put_if_free-is_settled-requires : goal.put_if_free-is_settled-requires
 put_if_free-is_settled-requires g c =
-    let held = g.E.SlotEntry.held in
+    let held = g.E.PathEntry.held in
     omega (arith, c.slot_in_round-next.ensures.below, c.look_on.invariant.5.laid_out.size, length-held held c.look_on.slots)
 
 pub look_on-init : goal.look_on-init
 look_on-init g c =
-    let held = g.E.SlotEntry.held in
+    let held = g.E.PathEntry.held in
     let i = c.rounds.invariant in
     rw (front_none held c.rounds.left, front_is held c.rounds.left c.rounds.count) (i.0, i.1, i.2, i.3, i.4, i.5, refl, omega arith, refl)
 
 pub look_on-preserved : goal.look_on-preserved
 look_on-preserved g c =
     let key = g.E.SketchEntry.key in
-    let held = g.E.SlotEntry.held in
+    let held = g.E.PathEntry.held in
     let i = c.look_on.invariant in
     let lg : ℕ = c.args.lg in
     let begun = filled (map held c.args.slots.now) in
@@ -199,7 +199,7 @@ look_on-preserved g c =
 pub rounds-preserved : goal.rounds-preserved
 rounds-preserved g c =
     let key = g.E.SketchEntry.key in
-    let held = g.E.SlotEntry.held in
+    let held = g.E.PathEntry.held in
     let i = c.look_on.invariant in
     let lg : ℕ = c.args.lg in
     let begun = filled (map held c.args.slots.now) in

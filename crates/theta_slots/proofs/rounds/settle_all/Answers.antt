@@ -13,7 +13,7 @@ use Rattle.theta_slots.proofs.rounds.settle_all.Goals as goal
 pub parts-init : goal.parts-init
 parts-init g c =
     let key = g.E.SketchEntry.key in
-    let held = g.E.SlotEntry.held in
+    let held = g.E.PathEntry.held in
     let left = filled (map held c.args.left.now.items) in
     let slots = map held c.args.slots.now in
     (0, omega arith, omega arith, omega arith, all_wait key c.args.lg left slots (laid_out_empty key c.args.lg slots (length-held held c.args.slots.now ∙ c.requires.size) c.requires.free) c.requires.free (λ q. apart_once key left q c.requires.apart))
@@ -21,7 +21,7 @@ parts-init g c =
 pub returns-then-count-eq0-clause-map : goal.returns-then-count-eq0-clause-map
 returns-then-count-eq0-clause-map g c =
     let key = g.E.SketchEntry.key in
-    let held = g.E.SlotEntry.held in
+    let held = g.E.PathEntry.held in
     let i = c.parts.invariant in
     let whole = filled (map held c.args.left.now.items) in
     let slots = map held c.parts.slots in
@@ -35,7 +35,7 @@ returns-then-count-eq0-clause-looked g c = omega (arith, c.parts.invariant.1, c.
 pub settle-requires-clause-once : goal.settle-requires-clause-once
 settle-requires-clause-once g c =
     let key = g.E.SketchEntry.key in
-    let held = g.E.SlotEntry.held in
+    let held = g.E.PathEntry.held in
     let i = c.parts.invariant in
     let now = c.deref_mut.result.now in
     let from : ℕ = c.saturating_sub-from.result in
@@ -45,7 +45,7 @@ settle-requires-clause-once g c =
 
 pub settle-requires-clause-room : goal.settle-requires-clause-room
 settle-requires-clause-room g c =
-    let held = g.E.SlotEntry.held in
+    let held = g.E.PathEntry.held in
     let i = c.parts.invariant in
     let now = c.deref_mut.result.now in
     let from : ℕ = c.saturating_sub-from.result in
@@ -56,7 +56,7 @@ settle-requires-clause-room g c =
 pub parts-preserved : goal.parts-preserved
 parts-preserved g c =
     let key = g.E.SketchEntry.key in
-    let held = g.E.SlotEntry.held in
+    let held = g.E.PathEntry.held in
     let i = c.parts.invariant in
     let was = i.4 in
     let whole = filled (map held c.args.left.now.items) in

@@ -9,7 +9,7 @@ use Rattle.theta_slots.proofs.selection.gather_all.Goals.{in-Some-hash_in+in_ok-
 pub gather_each-preserved : goal.gather_each-preserved
 gather_each-preserved g c =
     let key = g.E.SketchEntry.key in
-    let held = g.E.SlotEntry.held in
+    let held = g.E.PathEntry.held in
     let slots = c.args.slots.now in
     let i : ℕ = c.gather_each.slot-index in
     let s = c.slot-item.result in

@@ -9,7 +9,7 @@ use Rattle.theta_slots.proofs.selection.gather_few.Goals as goal
 pub gather_each-preserved : goal.gather_each-preserved
 gather_each-preserved g c =
     let key = g.E.SketchEntry.key in
-    let held = g.E.SlotEntry.held in
+    let held = g.E.PathEntry.held in
     let slots = c.args.slots.now in
     let low : ℕ = c.args.low in
     let high : ℕ = c.args.high in

@@ -8,7 +8,7 @@ use Rattle.theta_slots.proofs.selection.gather_few.Given as goal
 -- of the hashes so far: those of the window, and how many are less
 abbrev pub invariant-gather_each : goal.invariant-gather_each
 invariant-gather_each g l =
-    let seen = map g.E.SketchEntry.key (filled (map g.E.SlotEntry.held (take l.at l.slots))) in
+    let seen = map g.E.SketchEntry.key (filled (map g.E.PathEntry.held (take l.at l.slots))) in
     record {
       long : length l.found ≡ length l.initial.found;
       few : l.count ≤ l.at;

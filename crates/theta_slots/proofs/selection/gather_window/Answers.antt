@@ -10,7 +10,7 @@ use Rattle.theta_slots.proofs.selection.gather_window.Goals as goal
 pub overflow_add-less : goal.overflow_add-less
 overflow_add-less g c =
     let key = g.E.SketchEntry.key in
-    let held = g.E.SlotEntry.held in
+    let held = g.E.PathEntry.held in
     let low : ℕ = c.args.low in
     let n : ℕ = c.min.result in
     let left = c.gather_blocks.left.now in
@@ -26,7 +26,7 @@ overflow_add-less g c =
 pub gather_blocks-preserved : goal.gather_blocks-preserved
 gather_blocks-preserved g c =
     let key = g.E.SketchEntry.key in
-    let held = g.E.SlotEntry.held in
+    let held = g.E.PathEntry.held in
     let low : ℕ = c.args.low in
     let high : ℕ = c.args.high in
     let was = c.gather_blocks.invariant in

@@ -8,8 +8,8 @@ use Rattle.theta_slots.proofs.selection.gather_window.Given as goal
 -- the hashes that came, and those of the slots that are left, are all
 abbrev pub invariant-gather_blocks : goal.invariant-gather_blocks
 invariant-gather_blocks g l =
-    let behind = map g.E.SketchEntry.key (filled (map g.E.SlotEntry.held l.left)) in
-    let all = map g.E.SketchEntry.key (filled (map g.E.SlotEntry.held l.slots)) in
+    let behind = map g.E.SketchEntry.key (filled (map g.E.PathEntry.held l.left)) in
+    let all = map g.E.SketchEntry.key (filled (map g.E.PathEntry.held l.slots)) in
     record {
       short : l.count ≤ length l.hashes.items;
       gathered : take l.count l.hashes.items ++ within l.low l.high behind ≡ within l.low l.high (filled (l.fn.also ∷ []) ++ all);

@@ -6,12 +6,12 @@ use Rattle.theta_slots.proofs.selection.hash_of_rank.Goals as goal
 
 pub nth_hash-requires-clause-apart : goal.nth_hash-requires-clause-apart
 nth_hash-requires-clause-apart g c =
-    let all : List ℕ = filled (c.args.also ∷ []) ++ map g.E.SketchEntry.key (filled (map g.E.SlotEntry.held c.args.slots.now)) in
+    let all : List ℕ = filled (c.args.also ∷ []) ++ map g.E.SketchEntry.key (filled (map g.E.PathEntry.held c.args.slots.now)) in
     rw c.in_ok-below.ensures.gathered (apart_within c.expected_bounds-low.result.0 c.expected_bounds-low.result.1 all c.requires.apart)
 
 pub returns-then-rank-below : goal.returns-then-rank-below
 returns-then-rank-below g c =
-    let all : List ℕ = filled (c.args.also ∷ []) ++ map g.E.SketchEntry.key (filled (map g.E.SlotEntry.held c.args.slots.now)) in
+    let all : List ℕ = filled (c.args.also ∷ []) ++ map g.E.SketchEntry.key (filled (map g.E.PathEntry.held c.args.slots.now)) in
     let low : ℕ = c.expected_bounds-low.result.0 in
     let high : ℕ = c.expected_bounds-low.result.1 in
     let gathered : c.gather_window.new.hashes.items ≡ within low high all = c.in_ok-below.ensures.gathered in

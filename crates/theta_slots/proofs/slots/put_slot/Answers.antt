@@ -5,12 +5,12 @@ use Rattle.theta_slots.proofs.Layouts.{laid_out_put, put_found, filled_more}
 use Rattle.theta_slots.proofs.slots.put_slot.Goals as goal
 
 pub seek-place-requires-clause-size : goal.seek-place-requires-clause-size
-seek-place-requires-clause-size g c = sym (length-held g.E.SlotEntry.held c.args.slots.now) ∙ c.requires.laid_out.size
+seek-place-requires-clause-size g c = sym (length-held g.E.PathEntry.held c.args.slots.now) ∙ c.requires.laid_out.size
 
 pub returns-clause-laid_out : goal.returns-clause-laid_out
 returns-clause-laid_out g c =
     let key = g.E.SketchEntry.key in
-    let held = g.E.SlotEntry.held in
+    let held = g.E.PathEntry.held in
     let one = some_of key (held c.args.filled_slot) c.args.hash c.requires.holds in
     let slots = map held c.args.slots.now in
     let at : ℕ = c.seek-place.result.at in
@@ -22,7 +22,7 @@ returns-clause-laid_out g c =
 pub returns-clause-found : goal.returns-clause-found
 returns-clause-found g c =
     let key = g.E.SketchEntry.key in
-    let held = g.E.SlotEntry.held in
+    let held = g.E.PathEntry.held in
     let one = some_of key (held c.args.filled_slot) c.args.hash c.requires.holds in
     let slots = map held c.args.slots.now in
     let at : ℕ = c.seek-place.result.at in
@@ -33,6 +33,6 @@ returns-clause-found g c =
 
 pub returns-clause-count : goal.returns-clause-count
 returns-clause-count g c =
-    let held = g.E.SlotEntry.held in
+    let held = g.E.PathEntry.held in
     let one = some_of g.E.SketchEntry.key (held c.args.filled_slot) c.args.hash c.requires.holds in
     rw (map-set held c.args.slots.now c.seek-place.result.at c.args.filled_slot, one.1) (filled_more (map held c.args.slots.now) c.seek-place.result.at one.0)

@@ -8,7 +8,7 @@ use Rattle.theta_slots.proofs.slots.put_spread.Goals as goal
 
 pub spread-requires-clause-room : goal.spread-requires-clause-room
 spread-requires-clause-room g c =
-    let held = g.E.SlotEntry.held in
+    let held = g.E.PathEntry.held in
     let slots = map held c.args.slots.now.items in
     rw (map-set held c.args.slots.now.items c.args.at c.into_slot.result, c.into_slot.ensures)
     (omega (arith, c.requires.room, filled_new slots c.args.at c.args.entry (omega (arith, c.requires.inside, length-held held c.args.slots.now.items)) c.requires.free))
@@ -16,7 +16,7 @@ spread-requires-clause-room g c =
 pub returns-clause-map : goal.returns-clause-map
 returns-clause-map g c =
     let key = g.E.SketchEntry.key in
-    let held = g.E.SlotEntry.held in
+    let held = g.E.PathEntry.held in
     let slots = map held c.args.slots.now.items in
     let joins = put_joins key c.args.lg c.args.at c.args.entry slots c.requires.laid_out (omega (arith, c.requires.inside, length-held held c.args.slots.now.items)) c.requires.on_path (ap (is_other key (key c.args.entry)) c.requires.free) in
     let whole : take c.in_ok-others.others.len (c.spread.new.slots ++ drop (length c.spread.new.slots) c.in_ok-others.others.items) ≡ c.spread.new.slots = search (rules, places) in
@@ -25,7 +25,7 @@ returns-clause-map g c =
 pub returns-clause-placed : goal.returns-clause-placed
 returns-clause-placed g c =
     let key = g.E.SketchEntry.key in
-    let held = g.E.SlotEntry.held in
+    let held = g.E.PathEntry.held in
     let slots = map held c.args.slots.now.items in
     let low : c.args.at < length slots = omega (arith, c.requires.inside, length-held held c.args.slots.now.items) in
     let laid = laid_out_new key c.args.lg slots c.args.at c.args.entry c.requires.laid_out low c.requires.free c.requires.on_path in

@@ -6,7 +6,7 @@ use Rattle.theta_slots.proofs.slots.seek.Given as goal
 -- so many slots were looked at, and have other hashes
 abbrev pub invariant-look : goal.invariant-look
 invariant-look g l =
-    (n : ℕ) × (l.looks ≡ l.initial.looks + n) × (l.at ≡ probe l.hash l.lg n) × (n ≤ 2 ^ l.lg) × HasOthers g.E.SketchEntry.key l.lg (map g.E.SlotEntry.held l.slots) l.hash n
+    (n : ℕ) × (l.looks ≡ l.initial.looks + n) × (l.at ≡ probe l.hash l.lg n) × (n ≤ 2 ^ l.lg) × HasOthers g.E.SketchEntry.key l.lg (map g.E.PathEntry.held l.slots) l.hash n
 
 -- the slots not looked at
 abbrev pub decreases-look : goal.decreases-look

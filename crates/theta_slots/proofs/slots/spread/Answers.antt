@@ -9,13 +9,13 @@ use Rattle.theta_slots.proofs.slots.spread.Goals as goal
 
 pub loop-slot-init : goal.loop-slot-init
 loop-slot-init g c =
-    let held = g.E.SlotEntry.held in
+    let held = g.E.PathEntry.held in
     (0, 0, omega arith, omega arith, starts g.E.SketchEntry.key c.args.lg c.args.theta (map held c.args.from.now.items) (map held c.args.slots.now) (length-held held c.args.slots.now ∙ c.requires.size) c.requires.free, omega arith)
 
 pub loop-slot-preserved-then-hash-theta : goal.loop-slot-preserved-then-hash-theta
 loop-slot-preserved-then-hash-theta g c =
     let key = g.E.SketchEntry.key in
-    let held = g.E.SlotEntry.held in
+    let held = g.E.PathEntry.held in
     let i = c.loop-slot.invariant in
     let s = c.in-Some.slot in
     let told = sym c.hash_in.ensures ∙ c.in-Some-hash_in.is in
@@ -39,7 +39,7 @@ loop-slot-preserved-then-hash-theta g c =
 pub loop-slot-preserved-else-hash-theta : goal.loop-slot-preserved-else-hash-theta
 loop-slot-preserved-else-hash-theta g c =
     let key = g.E.SketchEntry.key in
-    let held = g.E.SlotEntry.held in
+    let held = g.E.PathEntry.held in
     let i = c.loop-slot.invariant in
     let s = c.in-Some.slot in
     let told = sym c.hash_in.ensures ∙ c.in-Some-hash_in.is in
@@ -53,7 +53,7 @@ loop-slot-preserved-else-hash-theta g c =
 pub loop-slot-preserved : goal.loop-slot-preserved
 loop-slot-preserved g c =
     let key = g.E.SketchEntry.key in
-    let held = g.E.SlotEntry.held in
+    let held = g.E.PathEntry.held in
     let i = c.loop-slot.invariant in
     let s = c.in-Some.slot in
     let rest = map held c.pop.new.self.items in
@@ -64,7 +64,7 @@ loop-slot-preserved g c =
 
 pub returns-clause-map : goal.returns-clause-map
 returns-clause-map g c =
-    let held = g.E.SlotEntry.held in
+    let held = g.E.PathEntry.held in
     let i = c.loop-slot.invariant in
     let popped : c.loop-slot.from.items ≡ [] = grind (arith, c.in_default.ensures.items, c.in_default.ensures.variant, c.in_default.not-Some) in
     ends g.E.SketchEntry.key c.args.lg c.args.theta (map held c.args.from.now.items) (map held c.loop-slot.from.items) (map held c.loop-slot.slots) i.0 i.1 (ap (λ xs. filled (map held xs)) popped) i.4
@@ -75,7 +75,7 @@ returns-clause-looked g c = omega (arith, c.loop-slot.invariant.2, c.loop-slot.i
 pub put_slot-requires-clause-room : goal.put_slot-requires-clause-room
 put_slot-requires-clause-room g c =
     let key = g.E.SketchEntry.key in
-    let held = g.E.SlotEntry.held in
+    let held = g.E.PathEntry.held in
     let i = c.loop-slot.invariant in
     let s = c.in-Some.slot in
     let told = sym c.hash_in.ensures ∙ c.in-Some-hash_in.is in

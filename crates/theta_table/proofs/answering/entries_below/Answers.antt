@@ -7,4 +7,4 @@ pub returns : goal.returns
 returns g c =
     let none : c.first_in.result.0 ≡ None = search rules in
     let told = ap (λ xs. c.clone_each.clones.items ++ xs) (sym (c.first_in.ensures.none none)) ∙ c.clone_each.invariant.told in
-    record { listed = sym (append-nil c.clone_each.clones.items) ∙ told ∙ filled-under g.E.SketchEntry.key g.E.SlotEntry.held c.args.theta c.args.slots.now }
+    record { listed = sym (append-nil c.clone_each.clones.items) ∙ told ∙ filled-under g.E.SketchEntry.key g.E.PathEntry.held c.args.theta c.args.slots.now }

@@ -4,4 +4,4 @@ use Rattle.theta_table.proofs.clearing.clear_slots.Given as goal
 
 -- the slots so far are free
 abbrev pub invariant-free_each : goal.invariant-free_each
-invariant-free_each g l = (length l.slots.items ≡ l.size) × (filled (map g.E.SlotEntry.held (take l.at l.slots.items)) ≡ [])
+invariant-free_each g l = (length l.slots.items ≡ l.size) × (filled (map g.E.PathEntry.held (take l.at l.slots.items)) ≡ [])

@@ -26,7 +26,7 @@ threshold_of-requires g c = omega (arith, c.min-lg_cur.ensures, c.requires.place
 pub returns-clause-after : goal.returns-clause-after
 returns-clause-after g c =
     let key = g.E.SketchEntry.key in
-    let m = map_of key (filled (map g.E.SlotEntry.held c.args.slots.now.items)) in
+    let m = map_of key (filled (map g.E.PathEntry.held c.args.slots.now.items)) in
     c.in_ok-put_spread.ensures.map ∙ below_all key (with_entry key m c.args.entry) c.args.sizes.theta (each-with_entry key (λ y. key y < c.args.sizes.theta) m c.args.entry c.requires.place.below_theta c.requires.place.low)
 
 pub returns-clause-same : goal.returns-clause-same
@@ -37,7 +37,7 @@ returns-clause-same g c =
 pub returns-clause-ticked : goal.returns-clause-ticked
 returns-clause-ticked g c =
     let key = g.E.SketchEntry.key in
-    let held = g.E.SlotEntry.held in
+    let held = g.E.PathEntry.held in
     let slots = map held c.args.slots.now.items in
     let after = map held c.put_spread.new.slots.items in
     let inside : c.args.at < length slots = omega (arith, c.requires.inside, length-held held c.args.slots.now.items) in

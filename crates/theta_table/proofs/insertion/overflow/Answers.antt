@@ -20,7 +20,7 @@ rebuild-requires-clause-large g c =
 pub returns-then-full-clause-counted : goal.returns-then-full-clause-counted
 returns-then-full-clause-counted g c =
     let key = g.E.SketchEntry.key in
-    let held = g.E.SlotEntry.held in
+    let held = g.E.PathEntry.held in
     let slots = map held c.args.slots.now.items in
     let after = map held c.grow.new.slots.items in
     let s = c.args.sizes in
@@ -31,7 +31,7 @@ returns-then-full-clause-counted g c =
 pub returns-then-full-clause-after : goal.returns-then-full-clause-after
 returns-then-full-clause-after g c =
     let key = g.E.SketchEntry.key in
-    let held = g.E.SlotEntry.held in
+    let held = g.E.PathEntry.held in
     let slots = map held c.args.slots.now.items in
     let s = c.args.sizes in
     let inside : c.args.at < length slots = omega (arith, c.requires.inside, length-held held c.args.slots.now.items) in

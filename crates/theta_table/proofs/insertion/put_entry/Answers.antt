@@ -10,14 +10,14 @@ use Rattle.theta_table.proofs.insertion.put_entry.Goals as goal
 pub returns-then-more-sizes-clause-laid_out : goal.returns-then-more-sizes-clause-laid_out
 returns-then-more-sizes-clause-laid_out g c =
     let key = g.E.SketchEntry.key in
-    let held = g.E.SlotEntry.held in
+    let held = g.E.PathEntry.held in
     let slots = map held c.args.slots.now.items in
     rw (map-set held c.args.slots.now.items c.args.at c.into_slot.result, c.into_slot.ensures)
     (laid_out_new key c.args.sizes.lg_cur slots c.args.at c.args.entry c.requires.place.laid_out (omega (arith, c.requires.inside, length-held held c.args.slots.now.items)) c.requires.place.free c.requires.place.on_path)
 
 pub returns-then-more-sizes-clause-counted : goal.returns-then-more-sizes-clause-counted
 returns-then-more-sizes-clause-counted g c =
-    let held = g.E.SlotEntry.held in
+    let held = g.E.PathEntry.held in
     let slots = map held c.args.slots.now.items in
     rw (map-set held c.args.slots.now.items c.args.at c.into_slot.result, c.into_slot.ensures)
     (omega (arith, c.requires.place.counted, filled_new slots c.args.at c.args.entry (omega (arith, c.requires.inside, length-held held c.args.slots.now.items)) c.requires.place.free))
@@ -25,7 +25,7 @@ returns-then-more-sizes-clause-counted g c =
 pub returns-then-more-sizes-clause-after : goal.returns-then-more-sizes-clause-after
 returns-then-more-sizes-clause-after g c =
     let key = g.E.SketchEntry.key in
-    let held = g.E.SlotEntry.held in
+    let held = g.E.PathEntry.held in
     let slots = map held c.args.slots.now.items in
     let s = c.args.sizes in
     let inside : c.args.at < length slots = omega (arith, c.requires.inside, length-held held c.args.slots.now.items) in

@@ -5,7 +5,7 @@ use Rattle.theta_table.proofs.insertion.write_at.Goals as goal
 
 pub returns-in-Some-clause-ok : goal.returns-in-Some-clause-ok
 returns-in-Some-clause-ok g c =
-    let held = g.E.SlotEntry.held in
+    let held = g.E.PathEntry.held in
     let slots = c.args.slots.now in
     let at : ℕ = c.args.at in
     let here : slot (map held slots) at ≡ Some c.in-Some.entry =
@@ -15,7 +15,7 @@ returns-in-Some-clause-ok g c =
 
 pub returns-in-Some-clause-err : goal.returns-in-Some-clause-err
 returns-in-Some-clause-err g c =
-    let held = g.E.SlotEntry.held in
+    let held = g.E.PathEntry.held in
     let slots = c.args.slots.now in
     let at : ℕ = c.args.at in
     let here : slot (map held slots) at ≡ Some c.in-Some.entry =

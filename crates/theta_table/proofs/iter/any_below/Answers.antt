@@ -7,7 +7,7 @@ use Rattle.theta_table.proofs.iter.any_below.Goals as goal
 pub test_each-preserved : goal.test_each-preserved
 test_each-preserved g c =
     let key = g.E.SketchEntry.key in
-    let held = g.E.SlotEntry.held in
+    let held = g.E.PathEntry.held in
     let block = c.args.block.now in
     let i : ℕ = c.test_each.slot-index in
     let s = c.slot-item.result in
@@ -17,4 +17,4 @@ test_each-preserved g c =
 
 pub returns : goal.returns
 returns g c = λ none.
-    rw (sym (take_whole g.E.SlotEntry.held c.args.block.now c.test_each.slot-index c.test_each-test.false)) (c.test_each.invariant none)
+    rw (sym (take_whole g.E.PathEntry.held c.args.block.now c.test_each.slot-index c.test_each-test.false)) (c.test_each.invariant none)

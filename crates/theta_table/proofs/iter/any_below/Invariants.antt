@@ -5,4 +5,4 @@ use Rattle.theta_table.proofs.iter.any_below.Given as goal
 
 -- none so far holds an entry below theta, where none was found
 abbrev pub invariant-test_each : goal.invariant-test_each
-invariant-test_each g l = l.any ≡ false → NoneBelow g.E.SketchEntry.key l.theta (filled (map g.E.SlotEntry.held (take l.slot-index l.block)))
+invariant-test_each g l = l.any ≡ false → NoneBelow g.E.SketchEntry.key l.theta (filled (map g.E.PathEntry.held (take l.slot-index l.block)))

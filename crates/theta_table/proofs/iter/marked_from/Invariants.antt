@@ -5,7 +5,7 @@ use Rattle.theta_table.proofs.iter.marked_from.Given as goal
 
 -- what was passed holds nothing under the bound
 abbrev pub invariant-pass_blocks : goal.invariant-pass_blocks
-invariant-pass_blocks g l = filled (map (under g.E.SketchEntry.key l.bound g.E.SlotEntry.held) l.left) ≡ filled (map (under g.E.SketchEntry.key l.bound g.E.SlotEntry.held) l.slots)
+invariant-pass_blocks g l = filled (map (under g.E.SketchEntry.key l.bound g.E.PathEntry.held) l.left) ≡ filled (map (under g.E.SketchEntry.key l.bound g.E.PathEntry.held) l.slots)
 
 -- the slots that are left
 abbrev pub decreases-pass_blocks : goal.decreases-pass_blocks

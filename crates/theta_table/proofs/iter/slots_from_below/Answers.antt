@@ -9,7 +9,7 @@ use Rattle.theta_table.proofs.iter.slots_from_below.Goals as goal
 pub pass_blocks-preserved : goal.pass_blocks-preserved
 pass_blocks-preserved g c =
     let key = g.E.SketchEntry.key in
-    let held = g.E.SlotEntry.held in
+    let held = g.E.PathEntry.held in
     let left = c.pass_blocks.left.now in
     let block = c.split_at.result.0.now in
     let after = c.split_at.result.1.now in

@@ -7,7 +7,7 @@ use Rattle.theta_table.proofs.iter.slots_from_below.Given as goal
 abbrev pub invariant-pass_each : goal.invariant-pass_each
 invariant-pass_each g l =
     let key = g.E.SketchEntry.key in
-    let held = g.E.SlotEntry.held in
+    let held = g.E.PathEntry.held in
     from_below key l.theta (filled (map held l.left)) ≡ from_below key l.theta (filled (map held l.slots))
 
 -- the slots that are left
@@ -18,7 +18,7 @@ decreases-pass_each g l = length l.left
 abbrev pub invariant-pass_blocks : goal.invariant-pass_blocks
 invariant-pass_blocks g l =
     let key = g.E.SketchEntry.key in
-    let held = g.E.SlotEntry.held in
+    let held = g.E.PathEntry.held in
     from_below key l.theta (filled (map held l.left)) ≡ from_below key l.theta (filled (map held l.slots))
 
 -- the slots that are left

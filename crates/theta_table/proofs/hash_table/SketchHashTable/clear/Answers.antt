@@ -6,7 +6,7 @@ use Rattle.theta_table.proofs.hash_table.SketchHashTable.clear.Goals as goal
 
 pub invariant_of-self : goal.invariant_of-self
 invariant_of-self g c =
-    let held = g.E.SlotEntry.held in
+    let held = g.E.PathEntry.held in
     let slots = c.self.inside.slots.items in
     let after = c.clear_slots.new.slots.items in
     let same : length after ≡ length slots = search rules in

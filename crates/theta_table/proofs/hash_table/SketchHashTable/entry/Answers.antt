@@ -9,11 +9,11 @@ pub returns-then-not-has_slots : goal.returns-then-not-has_slots
 returns-then-not-has_slots g c = rw (← c.self.view_is) (sym (ap (λ s. entry_at g.E.SketchEntry.key (map_of g.E.SketchEntry.key (filled s)) c.args.hash) (c.self.invariant.slotted.without c.if-not-has_slots.true)))
 
 pub seek-place-requires-clause-size : goal.seek-place-requires-clause-size
-seek-place-requires-clause-size g c = rw c.deref.ensures.value (sym (length-held g.E.SlotEntry.held c.self.inside.slots.items) ∙ (c.self.invariant.slotted.laid_out c.if-not-has_slots.false).size)
+seek-place-requires-clause-size g c = rw c.deref.ensures.value (sym (length-held g.E.PathEntry.held c.self.inside.slots.items) ∙ (c.self.invariant.slotted.laid_out c.if-not-has_slots.false).size)
 
 pub returns : goal.returns
 returns g c =
-    let held = g.E.SlotEntry.held in
+    let held = g.E.PathEntry.held in
     let found = rw c.deref.ensures.value at c.seek-place.ensures in
     let slots = map held c.self.inside.slots.items in
     rw (← c.self.view_is)

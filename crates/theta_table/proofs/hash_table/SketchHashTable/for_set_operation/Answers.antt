@@ -7,7 +7,7 @@ use Rattle.theta_table.proofs.hash_table.SketchHashTable.for_set_operation.Goals
 
 pub invariant_of-result : goal.invariant_of-result
 invariant_of-result g c =
-    let held = g.E.SlotEntry.held in
+    let held = g.E.PathEntry.held in
     let slots = c.in_ok-slots.slots.items in
     record {
       slotted = slotted_operator g.E.SketchEntry.key c.args.lg_cur_size c.args.lg_nom_size c.args.retention_theta c.args.seed c.args.seed_hash (map held slots) c.requires.sized c.requires.size_high c.requires.theta_low c.requires.theta_high c.requires.of_seed

@@ -6,7 +6,7 @@ use Rattle.theta_table.proofs.hash_table.SketchHashTable.new.Goals as goal
 
 pub invariant_of-result : goal.invariant_of-result
 invariant_of-result g c =
-    let held = g.E.SlotEntry.held in
+    let held = g.E.PathEntry.held in
     record {
       slotted = slotted_new g.E.SketchEntry.key c.args.lg_nom_size c.args.starting_theta c.args.seed c.in_ok-seed_hash.seed_hash c.args.starting_theta c.starting_size-lg_cur_size.result _ (map held c.in_ok-slots.slots.items)
           c.in_ok-slots.ensures.free (length-held held c.in_ok-slots.slots.items ∙ c.in_ok-slots.ensures.size) (rw c.lg_value.ensures at c.starting_size-lg_cur_size.ensures.sized) (omega arith) (omega arith)

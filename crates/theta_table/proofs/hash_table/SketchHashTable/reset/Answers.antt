@@ -7,14 +7,14 @@ use Rattle.theta_table.proofs.hash_table.SketchHashTable.reset.Goals as goal
 pub clear_slots-requires : goal.clear_slots-requires
 clear_slots-requires g c =
     let key = g.E.SketchEntry.key in
-    let held = g.E.SlotEntry.held in
+    let held = g.E.PathEntry.held in
     let least = at_least_starting key _ c.self.inside.lg_cur_size _ c.self.inside.count (map held c.self.inside.slots.items) c.self.invariant.slotted (rw (← c.self.view_is) at c.requires.of_sketch) in
     rw (c.nominal_size.ensures.power, c.starting_size-lg_cur_size.ensures.value, c.lg_value.ensures, ← length-held held c.self.inside.slots.items) least.1
 
 pub invariant_of-self : goal.invariant_of-self
 invariant_of-self g c =
     let key = g.E.SketchEntry.key in
-    let held = g.E.SlotEntry.held in
+    let held = g.E.PathEntry.held in
     let after = c.clear_slots.new.slots.items in
     let least = at_least_starting key _ c.self.inside.lg_cur_size _ c.self.inside.count (map held c.self.inside.slots.items) c.self.invariant.slotted (rw (← c.self.view_is) at c.requires.of_sketch) in
     let made = c.self.invariant.slotted.table.made in

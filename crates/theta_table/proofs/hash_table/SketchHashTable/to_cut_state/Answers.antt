@@ -19,13 +19,13 @@ state_below-requires-clause-apart g c = rw c.deref-2.ensures.value (slotted_lend
 pub state_below-requires-clause-sound : goal.state_below-requires-clause-sound
 state_below-requires-clause-sound g c =
     let kept = c.self.invariant.slotted.table.kept in
-    let m = map_of g.E.SketchEntry.key (filled (map g.E.SlotEntry.held c.self.inside.slots.items)) in
+    let m = map_of g.E.SketchEntry.key (filled (map g.E.PathEntry.held c.self.inside.slots.items)) in
     rw c.deref-2.ensures.value (IsRetained-below g.E.SketchEntry.key m c.self.inside.theta c.in_ok-lesser.lesser kept c.in_ok-lesser.ensures.low (omega (arith, c.in_ok-lesser.ensures.high, rw (← c.self.view_is) at c.requires.high)))
 
 pub state_below-requires-clause-few : goal.state_below-requires-clause-few
 state_below-requires-clause-few g c =
     let key = g.E.SketchEntry.key in
-    let m = map_of key (filled (map g.E.SlotEntry.held c.self.inside.slots.items)) in
+    let m = map_of key (filled (map g.E.PathEntry.held c.self.inside.slots.items)) in
     let k : ℕ = c.nominal_size-nominal.result in
     let is_cut : cut key k m c.args.theta ≡ retained key m c.in_ok-lesser.lesser = rw c.deref.ensures.value at c.in_ok-lesser.ensures.cut in
     let few = length-cut key k m c.args.theta c.self.invariant.slotted.table.kept.ascending in
@@ -35,6 +35,6 @@ state_below-requires-clause-few g c =
 pub returns-clause-ok : goal.returns-clause-ok
 returns-clause-ok g c =
     let key = g.E.SketchEntry.key in
-    let m = map_of key (filled (map g.E.SlotEntry.held c.self.inside.slots.items)) in
+    let m = map_of key (filled (map g.E.PathEntry.held c.self.inside.slots.items)) in
     let is_cut : cut key c.nominal_size-nominal.result m c.args.theta ≡ retained key m c.in_ok-lesser.lesser = rw c.deref.ensures.value at c.in_ok-lesser.ensures.cut in
     rw (← c.self.view_is, ← c.nominal_size-nominal.ensures.power, is_cut) (rw c.deref-2.ensures.value at c.in_ok-state.ensures.ok)

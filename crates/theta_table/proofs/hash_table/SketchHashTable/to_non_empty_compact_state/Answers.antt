@@ -12,15 +12,15 @@ state_below-requires-clause-apart g c = rw c.deref.ensures.value (slotted_lends 
 pub state_below-requires-clause-sound : goal.state_below-requires-clause-sound
 state_below-requires-clause-sound g c =
     let kept = c.self.invariant.slotted.table.kept in
-    let m = map_of g.E.SketchEntry.key (filled (map g.E.SlotEntry.held c.self.inside.slots.items)) in
+    let m = map_of g.E.SketchEntry.key (filled (map g.E.PathEntry.held c.self.inside.slots.items)) in
     rw c.deref.ensures.value (IsRetained-below g.E.SketchEntry.key m c.self.inside.theta c.self.inside.theta kept kept.theta_low (omega arith))
 
 pub state_below-requires-clause-few : goal.state_below-requires-clause-few
 state_below-requires-clause-few g c =
-    let m = map_of g.E.SketchEntry.key (filled (map g.E.SlotEntry.held c.self.inside.slots.items)) in
+    let m = map_of g.E.SketchEntry.key (filled (map g.E.PathEntry.held c.self.inside.slots.items)) in
     rw (c.deref.ensures.value, below_all g.E.SketchEntry.key m c.self.inside.theta c.self.invariant.slotted.table.kept.below_theta) (rw (← c.self.view_is) at c.requires.count_fits)
 
 pub returns-clause-ok : goal.returns-clause-ok
 returns-clause-ok g c =
-    let m = map_of g.E.SketchEntry.key (filled (map g.E.SlotEntry.held c.self.inside.slots.items)) in
+    let m = map_of g.E.SketchEntry.key (filled (map g.E.PathEntry.held c.self.inside.slots.items)) in
     rw (← c.self.view_is) (rw (c.deref.ensures.value, below_all g.E.SketchEntry.key m c.self.inside.theta c.self.invariant.slotted.table.kept.below_theta) at c.in_ok-state.ensures.ok)

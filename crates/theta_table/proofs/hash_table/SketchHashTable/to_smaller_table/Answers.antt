@@ -31,7 +31,7 @@ cut_theta-requires-clause-nonzero g c = rw c.deref.ensures.value c.self.invarian
 pub filled-requires-clause-apart : goal.filled-requires-clause-apart
 filled-requires-clause-apart g c =
     let key = g.E.SketchEntry.key in
-    let xs = filled (map g.E.SlotEntry.held c.self.inside.slots.items) in
+    let xs = filled (map g.E.PathEntry.held c.self.inside.slots.items) in
     let lesser : ℕ = c.in_ok-lesser.lesser in
     let fit = fits_smaller key xs (slotted_lends key _ _ _ _ _ c.self.invariant.slotted).apart c.args.lg_nom_size c.nominal_size-fewer.result c.self.inside.theta c.args.theta lesser c.self.invariant.slotted.table.kept c.in_ok-lesser.ensures.low (omega (arith, c.in_ok-lesser.ensures.high, rw (← c.self.view_is) at c.requires.high)) c.requires.small c.nominal_size-fewer.ensures.power (rw c.deref.ensures.value at c.in_ok-lesser.ensures.cut) in
     let listed : c.in_ok-kept.kept.items ≡ below key xs lesser = rw c.deref-2.ensures.value at c.in_ok-kept.ensures.listed in
@@ -40,7 +40,7 @@ filled-requires-clause-apart g c =
 pub filled-requires-clause-nonzero : goal.filled-requires-clause-nonzero
 filled-requires-clause-nonzero g c =
     let key = g.E.SketchEntry.key in
-    let xs = filled (map g.E.SlotEntry.held c.self.inside.slots.items) in
+    let xs = filled (map g.E.PathEntry.held c.self.inside.slots.items) in
     let lesser : ℕ = c.in_ok-lesser.lesser in
     let fit = fits_smaller key xs (slotted_lends key _ _ _ _ _ c.self.invariant.slotted).apart c.args.lg_nom_size c.nominal_size-fewer.result c.self.inside.theta c.args.theta lesser c.self.invariant.slotted.table.kept c.in_ok-lesser.ensures.low (omega (arith, c.in_ok-lesser.ensures.high, rw (← c.self.view_is) at c.requires.high)) c.requires.small c.nominal_size-fewer.ensures.power (rw c.deref.ensures.value at c.in_ok-lesser.ensures.cut) in
     let listed : c.in_ok-kept.kept.items ≡ below key xs lesser = rw c.deref-2.ensures.value at c.in_ok-kept.ensures.listed in
@@ -49,7 +49,7 @@ filled-requires-clause-nonzero g c =
 pub filled-requires-clause-below_theta : goal.filled-requires-clause-below_theta
 filled-requires-clause-below_theta g c =
     let key = g.E.SketchEntry.key in
-    let xs = filled (map g.E.SlotEntry.held c.self.inside.slots.items) in
+    let xs = filled (map g.E.PathEntry.held c.self.inside.slots.items) in
     let lesser : ℕ = c.in_ok-lesser.lesser in
     let fit = fits_smaller key xs (slotted_lends key _ _ _ _ _ c.self.invariant.slotted).apart c.args.lg_nom_size c.nominal_size-fewer.result c.self.inside.theta c.args.theta lesser c.self.invariant.slotted.table.kept c.in_ok-lesser.ensures.low (omega (arith, c.in_ok-lesser.ensures.high, rw (← c.self.view_is) at c.requires.high)) c.requires.small c.nominal_size-fewer.ensures.power (rw c.deref.ensures.value at c.in_ok-lesser.ensures.cut) in
     let listed : c.in_ok-kept.kept.items ≡ below key xs lesser = rw c.deref-2.ensures.value at c.in_ok-kept.ensures.listed in
@@ -58,7 +58,7 @@ filled-requires-clause-below_theta g c =
 pub filled-requires-clause-few : goal.filled-requires-clause-few
 filled-requires-clause-few g c =
     let key = g.E.SketchEntry.key in
-    let xs = filled (map g.E.SlotEntry.held c.self.inside.slots.items) in
+    let xs = filled (map g.E.PathEntry.held c.self.inside.slots.items) in
     let lesser : ℕ = c.in_ok-lesser.lesser in
     let fit = fits_smaller key xs (slotted_lends key _ _ _ _ _ c.self.invariant.slotted).apart c.args.lg_nom_size c.nominal_size-fewer.result c.self.inside.theta c.args.theta lesser c.self.invariant.slotted.table.kept c.in_ok-lesser.ensures.low (omega (arith, c.in_ok-lesser.ensures.high, rw (← c.self.view_is) at c.requires.high)) c.requires.small c.nominal_size-fewer.ensures.power (rw c.deref.ensures.value at c.in_ok-lesser.ensures.cut) in
     let listed : c.in_ok-kept.kept.items ≡ below key xs lesser = rw c.deref-2.ensures.value at c.in_ok-kept.ensures.listed in
@@ -67,7 +67,7 @@ filled-requires-clause-few g c =
 pub returns-clause-made : goal.returns-clause-made
 returns-clause-made g c =
     let key = g.E.SketchEntry.key in
-    let xs = filled (map g.E.SlotEntry.held c.self.inside.slots.items) in
+    let xs = filled (map g.E.PathEntry.held c.self.inside.slots.items) in
     let lesser : ℕ = c.in_ok-lesser.lesser in
     let fit = fits_smaller key xs (slotted_lends key _ _ _ _ _ c.self.invariant.slotted).apart c.args.lg_nom_size c.nominal_size-fewer.result c.self.inside.theta c.args.theta lesser c.self.invariant.slotted.table.kept c.in_ok-lesser.ensures.low (omega (arith, c.in_ok-lesser.ensures.high, rw (← c.self.view_is) at c.requires.high)) c.requires.small c.nominal_size-fewer.ensures.power (rw c.deref.ensures.value at c.in_ok-lesser.ensures.cut) in
     let listed : c.in_ok-kept.kept.items ≡ below key xs lesser = rw c.deref-2.ensures.value at c.in_ok-kept.ensures.listed in

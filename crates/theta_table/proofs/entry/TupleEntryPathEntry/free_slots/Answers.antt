@@ -4,7 +4,7 @@ use Rattle.std.proofs.lemmas.Fn.{chained_keeps}
 use Rattle.std.proofs.lemmas.List.{map-append}
 use Rattle.theta_slots.specs.Layout.{filled}
 use Rattle.theta_slots.proofs.Layouts.{filled-append}
-use Rattle.theta_table.proofs.entry.TupleEntrySlotEntry.free_slots.Goals as goal
+use Rattle.theta_table.proofs.entry.TupleEntryPathEntry.free_slots.Goals as goal
 
 -- a slot more, which holds nothing
 more_free : {X : Type 0} (slots : List (Option X)) (o : Option X) → o ≡ None → filled (map (λ s. s) slots) ≡ [] → filled (map (λ s. s) (slots ++ o ∷ [])) ≡ []
