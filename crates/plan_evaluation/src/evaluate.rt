@@ -135,7 +135,7 @@ fn updated<F: SketchFamily<A>, A: Allocator + Clone>(
     ensures value { let f = folds_of (F.rules family.now) (F.refuses family.now) in IfOk result (λ s. unmarked_value (sketch_value (F.state s)) ≡ leaf f.key f.step_of (2 ^ lg_k) start steps.now) }
     ensures seed { IfOk result (λ s. (F.state s).map.seed_hash ≡ seed_hash seed) }
     ensures accepted { OnOk result (table_refusal lg_k start seed ≡ None) }
-    ensures refused { IfErr result (λ e. (table_refusal lg_k start seed ≡ Some e) ⊎ RefusedFor e F.strict (IsTrue (steps_marked (folds_of (F.rules family.now) (F.refuses family.now)) steps.now))) }
+    ensures refused { IfErr result (λ e. (table_refusal lg_k start seed ≡ Some e) ⊎ RefusedFor e F.strict ((table_refusal lg_k start seed ≡ None) × IsTrue (steps_marked (folds_of (F.rules family.now) (F.refuses family.now)) steps.now))) }
 {
     let mut sketch = family.new_sketch(alloc.clone()?, lg_k, start, seed)?;
     'steps: for step in steps {
