@@ -28,7 +28,8 @@ use theta_core::{MAX_THETA, MIN_LG_K};
 ///
 /// Refused with `InvalidArgument` if the seed hash is 0, if some node's `lg_k` isn't from 4 to 26 or its start isn't from 1 to
 /// `MAX_THETA`, or if a `Lower` isn't from 4 to the least `lg_k` before it in its union; with `OutOfMemory`; and with `Policy`
-/// only if a beginning of some leaf's steps, or of the parts of some union or intersection, folds to a refusal.
+/// only if a beginning of some leaf's steps, or of the parts of some union or intersection, folds to a refusal, and no setting
+/// that comes before it in the order of work is out of range.
 pub fn evaluate<F: SketchFamily<A>, A: Allocator + Clone, B: Allocator>(
     family: &F,
     alloc: &A,
@@ -71,8 +72,10 @@ pub fn evaluate<F: SketchFamily<A>, A: Allocator + Clone, B: Allocator>(
         }
         Plan::Minus(first, second) => {
             let difference = family.new_difference(seed)?;
-            let a = evaluate(family, alloc, first.get(), seed, false)?;
-            let b = evaluate(family, alloc, second.get(), seed, false)?;
+            let one = first.get();
+            let two = second.get();
+            let a = evaluate(family, alloc, one, seed, false)?;
+            let b = evaluate(family, alloc, two, seed, false)?;
             let answer = family.lacking(&difference, alloc.clone()?, &a, &b, ordered)?;
             Ok(Evaluated::Compact(answer))
         }

@@ -76,8 +76,8 @@ pub fn evaluate_theta<A: Allocator + Clone, B: Allocator>(
 /// Refused with `InvalidArgument` if the seed hash is 0, if some node's `lg_k` is outside 4 to 26 or its start outside 1 to
 /// `MAX_THETA`, or if a union is lowered to what is outside 4 to its least `lg_k` so far; with `OutOfMemory`, also if a summary
 /// refuses to be written to an image; and with `Policy` only if a beginning of some leaf's steps, or of the parts of some union
-/// or intersection, folds to a refusal at some key. The first refusal ends the evaluation. Clones of summaries must equal their
-/// originals.
+/// or intersection, folds to a refusal at some key, and no setting that comes before it in the order of work is out of range. The
+/// first refusal ends the evaluation. Clones of summaries must equal their originals.
 pub fn evaluate_tuple<
     S: Clone + TupleSummaryValue<A>,
     U: Copy + Drop,
