@@ -37,6 +37,7 @@ MarksMet {X} f (Some u) v = (whole come : List (Fold X)) → IsAllBelow f.key u 
 abbrev pub MarksStepped : {X V : Type 0} → (f : Family (Fold X) V) → Retained (Fold X) → LeafStep V → Type 0
 MarksStepped {X} f kept step = (whole : List (Fold X)) → kept.theta ≤ MAX_THETA → kept.entries ≡ below f.key whole kept.theta → has_mark (whole_step f.key f.step_of step whole) ≡ true
 
--- what the evaluation of a plan is refused with: its settings, want of memory, or a policy that a mark in some whole map speaks of
+-- what the evaluation of a plan is refused with: its settings, want of memory, or a policy that a mark in some whole map speaks of,
+-- before the first setting out of range
 abbrev pub IsPlanRefused : {X V Z : Type 0} → (f : Family (Fold X) V) → (strict : Bool) → (seed : ℕ) → Plan V Z → ErrorKind → Type 0
-IsPlanRefused f strict seed p e = (plan_refusal seed p ≡ Some e) ⊎ RefusedFor e strict (IsTrue (may_refuse f p))
+IsPlanRefused f strict seed p e = (plan_refusal seed p ≡ Some e) ⊎ RefusedFor e strict (IsTrue (may_refuse f seed p))

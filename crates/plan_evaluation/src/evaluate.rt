@@ -28,7 +28,8 @@ use theta_core::{MAX_THETA, MIN_LG_K};
 ///
 /// Refused with `InvalidArgument` if the seed hash is 0, if some node's `lg_k` isn't from 4 to 26 or its start isn't from 1 to
 /// `MAX_THETA`, or if a `Lower` isn't from 4 to the least `lg_k` before it in its union; with `OutOfMemory`; and with `Policy`
-/// only if a beginning of some leaf's steps, or of the parts of some union or intersection, folds to a refusal.
+/// only if a beginning of some leaf's steps, or of the parts of some union or intersection, folds to a refusal, and no setting
+/// that comes before it in the order of work is out of range.
 pub fn evaluate<F: SketchFamily<A>, A: Allocator + Clone, B: Allocator>(
     family: &F,
     alloc: &A,
@@ -71,8 +72,10 @@ pub fn evaluate<F: SketchFamily<A>, A: Allocator + Clone, B: Allocator>(
         }
         Plan::Minus(first, second) => {
             let difference = family.new_difference(seed)?;
-            let a = evaluate(family, alloc, first.get(), seed, false)?;
-            let b = evaluate(family, alloc, second.get(), seed, false)?;
+            let one = first.get();
+            let two = second.get();
+            let a = evaluate(family, alloc, one, seed, false)?;
+            let b = evaluate(family, alloc, two, seed, false)?;
             let answer = family.lacking(&difference, alloc.clone()?, &a, &b, ordered)?;
             Ok(Evaluated::Compact(answer))
         }
@@ -135,7 +138,7 @@ fn updated<F: SketchFamily<A>, A: Allocator + Clone>(
     ensures value { let f = folds_of (F.rules family.now) (F.refuses family.now) in IfOk result (λ s. unmarked_value (sketch_value (F.state s)) ≡ leaf f.key f.step_of (2 ^ lg_k) start steps.now) }
     ensures seed { IfOk result (λ s. (F.state s).map.seed_hash ≡ seed_hash seed) }
     ensures accepted { OnOk result (table_refusal lg_k start seed ≡ None) }
-    ensures refused { IfErr result (λ e. (table_refusal lg_k start seed ≡ Some e) ⊎ RefusedFor e F.strict (IsTrue (steps_marked (folds_of (F.rules family.now) (F.refuses family.now)) steps.now))) }
+    ensures refused { IfErr result (λ e. (table_refusal lg_k start seed ≡ Some e) ⊎ RefusedFor e F.strict ((table_refusal lg_k start seed ≡ None) × IsTrue (steps_marked (folds_of (F.rules family.now) (F.refuses family.now)) steps.now))) }
 {
     let mut sketch = family.new_sketch(alloc.clone()?, lg_k, start, seed)?;
     'steps: for step in steps {

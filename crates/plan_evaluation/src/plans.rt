@@ -76,8 +76,8 @@ pub fn evaluate_theta<A: Allocator + Clone, B: Allocator>(
 /// Refused with `InvalidArgument` if the seed hash is 0, if some node's `lg_k` is outside 4 to 26 or its start outside 1 to
 /// `MAX_THETA`, or if a union is lowered to what is outside 4 to its least `lg_k` so far; with `OutOfMemory`, also if a summary
 /// refuses to be written to an image; and with `Policy` only if a beginning of some leaf's steps, or of the parts of some union
-/// or intersection, folds to a refusal at some key. The first refusal ends the evaluation. Clones of summaries must equal their
-/// originals.
+/// or intersection, folds to a refusal at some key, and no setting that comes before it in the order of work is out of range. The
+/// first refusal ends the evaluation. Clones of summaries must equal their originals.
 pub fn evaluate_tuple<
     S: Clone + TupleSummaryValue<A>,
     U: Copy + Drop,
@@ -101,7 +101,7 @@ pub fn evaluate_tuple<
     ensures trimmed { (lg_k start : ℕ) (steps : List (LeafStep U)) → plan.now ≡ plans.Leaf lg_k start (steps ++ Trim ∷ []) → is_updated steps false ≡ true → let f = tuple_folds (P.creates update_policy) (P.updates update_policy) (Q.combines combine_policy) in OnOk result (value_in f plan.now ≡ NonEmpty (cut f.key (2 ^ lg_k) (whole f.key f.step_of steps) start)) }
     ensures trimmed_kmin { (lg_k start : ℕ) (steps : List (LeafStep U)) → plan.now ≡ plans.Leaf lg_k start (steps ++ Trim ∷ []) → is_updated steps false ≡ true → IfOk result (HasKeys tuple_key (kmin (2 ^ lg_k) (added steps) start)) }
     ensures accepted { OnOk result (plan_refusal seed plan.now ≡ None) }
-    ensures refused { let f = tuple_folds (P.creates update_policy) (P.updates update_policy) (Q.combines combine_policy) in IfErr result (λ e. (plan_refusal seed plan.now ≡ Some e) ⊎ ((e ≡ OutOfMemory) ⊎ ((e ≡ Policy) × (may_refuse f plan.now ≡ true)))) }
+    ensures refused { let f = tuple_folds (P.creates update_policy) (P.updates update_policy) (Q.combines combine_policy) in IfErr result (λ e. (plan_refusal seed plan.now ≡ Some e) ⊎ ((e ≡ OutOfMemory) ⊎ ((e ≡ Policy) × (may_refuse f seed plan.now ≡ true)))) }
 {
     let family = TupleFamily::new(update_policy, combine_policy);
     ordered(&family, &alloc, plan, seed)
@@ -132,7 +132,7 @@ pub fn evaluate_sums<
     ensures trimmed_kmin { (lg_k start : ℕ) (steps : List (LeafStep S)) → plan.now ≡ plans.Leaf lg_k start (steps ++ Trim ∷ []) → is_updated steps false ≡ true → IfOk result (HasKeys tuple_key (kmin (2 ^ lg_k) (added steps) start)) }
     ensures sums { only_unites plan.now ≡ true → IfOk result (λ s. (h : ℕ) (e : TupleEntry S) → entry_at tuple_key s.entries h ≡ Some e → S.whole e.summary ≡ total (map S.whole (added_values h plan.now))) }
     ensures accepted { OnOk result (plan_refusal seed plan.now ≡ None) }
-    ensures refused { IfErr result (λ e. (plan_refusal seed plan.now ≡ Some e) ⊎ ((e ≡ OutOfMemory) ⊎ ((e ≡ Policy) × (may_refuse (tuple_folds (Some S.ZERO) S.sums S.sums) plan.now ≡ true)))) }
+    ensures refused { IfErr result (λ e. (plan_refusal seed plan.now ≡ Some e) ⊎ ((e ≡ OutOfMemory) ⊎ ((e ≡ Policy) × (may_refuse (tuple_folds (Some S.ZERO) S.sums S.sums) seed plan.now ≡ true)))) }
 {
     let updates = DefaultUpdatePolicy::<S>::default();
     let unions = DefaultUnionPolicy::<S>::default();

@@ -128,7 +128,7 @@ command_refusal (Tuple form plan) = plan_refusal DEFAULT_UPDATE_SEED plan
 -- whether a policy may refuse the evaluation of a command's plan: theta sketches have none that does
 abbrev pub may_break : {Z : Type 0} → Command Z → Bool
 may_break (Theta form plan) = false
-may_break (Tuple form plan) = may_refuse sums plan
+may_break (Tuple form plan) = may_refuse sums DEFAULT_UPDATE_SEED plan
 
 -- the status and the text that may answer an input: what answers its command, an evaluation refused for an argument or by a
 -- policy, the first fault of the input, or want of memory

@@ -42,7 +42,7 @@ module _ {X V Z : Type 0} (f : Family (Fold X) V) (seed : ℕ) (p : Plan V Z) wh
   refused_settings (Err e) accepted (inr (inr policy)) = absurd (let no = policy.1 in cc)
 
   -- and another also for its policies
-  pub refused_policy : {T : Type 0} (r : Result T ErrorKind) → IfErr r (IsPlanRefused f true seed p) → IfErr r (λ e. (plan_refusal seed p ≡ Some e) ⊎ ((e ≡ OutOfMemory) ⊎ ((e ≡ Policy) × (may_refuse f p ≡ true))))
+  pub refused_policy : {T : Type 0} (r : Result T ErrorKind) → IfErr r (IsPlanRefused f true seed p) → IfErr r (λ e. (plan_refusal seed p ≡ Some e) ⊎ ((e ≡ OutOfMemory) ⊎ ((e ≡ Policy) × (may_refuse f seed p ≡ true))))
   refused_policy (Ok x) refused = tt
   refused_policy (Err e) (inl r) = inl r
   refused_policy (Err e) (inr (inl memory)) = inr (inl memory)

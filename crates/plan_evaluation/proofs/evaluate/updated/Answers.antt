@@ -19,9 +19,12 @@ returns-in_err-apply-clause-refused g c =
     let lawful = folds_keep rules refuses (g.met.F.SketchFamily.keeps c.args.family.now) in
     let i = c.steps.step-index in
     rw (p.1, p.2) (inr (for_other _ g.F.SketchFamily.strict
-    (λ marks. begins (λ begun. has_mark (whole f.key f.step_of begun)) c.args.steps.now (i + 1)
-    (refused_marks f lawful c.args.lg_k c.args.start c.args.seed c.args.steps.now i c.step-item.result c.steps-test.true (g.F.SketchFamily.state c.steps.sketch).map.kept
-    (start_fits c.args.lg_k c.args.start c.args.seed c.in_ok-sketch.ensures.refused) c.steps.invariant.kept (rw c.step-item.is at marks)))
+    (λ marks. (
+      c.in_ok-sketch.ensures.refused,
+      begins (λ begun. has_mark (whole f.key f.step_of begun)) c.args.steps.now (i + 1)
+          (refused_marks f lawful c.args.lg_k c.args.start c.args.seed c.args.steps.now i c.step-item.result c.steps-test.true (g.F.SketchFamily.state c.steps.sketch).map.kept
+          (start_fits c.args.lg_k c.args.start c.args.seed c.in_ok-sketch.ensures.refused) c.steps.invariant.kept (rw c.step-item.is at marks)),
+    ))
     c.in_err-apply.ensures.refused))
 
 pub steps-preserved : goal.steps-preserved

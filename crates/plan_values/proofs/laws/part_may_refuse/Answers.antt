@@ -2,10 +2,10 @@ use Rattle.plan_values.proofs.Marks.{minus_first_marks, minus_second_marks, via_
 use Rattle.plan_values.proofs.laws.part_may_refuse.Goals as goal
 
 pub returns-clause-first : goal.returns-clause-first
-returns-clause-first g c = λ f first second marked. minus_first_marks _ f first second marked
+returns-clause-first g c = λ f seed first second seeded marked. minus_first_marks _ f seed first second seeded marked
 
 pub returns-clause-second : goal.returns-clause-second
-returns-clause-second g c = λ f first second marked. minus_second_marks _ f first second marked
+returns-clause-second g c = λ f seed first second seeded fit marked. minus_second_marks _ f seed first second seeded fit marked
 
 pub returns-clause-via : goal.returns-clause-via
-returns-clause-via g c = λ f ordered part marked. via_marks _ f ordered part marked
+returns-clause-via g c = λ f seed ordered part marked. via_marks _ f seed ordered part marked
