@@ -143,10 +143,7 @@ fn reads_negative_summaries(rt: HostRuntime) -> Result<(), Fail> {
 }
 
 /// Reads each true beginning of the bytes that a text spells, and wants a refusal.
-fn assert_beginnings_refused<S>(
-    rt: &(impl Abort + AllocGlobal),
-    text: &str,
-) -> Result<(), Error>
+fn assert_beginnings_refused<S>(rt: &(impl Abort + AllocGlobal), text: &str) -> Result<(), Error>
 where
     S: TupleSummaryValue<Global> + Copy + PartialEq + Debug,
 {
