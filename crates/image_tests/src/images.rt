@@ -177,6 +177,11 @@ fn reads_crafted_images(rt: HostRuntime) -> Result<(), Fail> {
             Reading::Filled(true, EXACT, &[2]),
         ),
         (
+            "two hashes as version 2",
+            "02 02 03 00 00 1a cc 93 02 00 00 00 00 00 00 00 07 00 00 00 00 00 00 00 09 00 00 00 00 00 00 00",
+            Reading::Filled(true, EXACT, &[7, 9]),
+        ),
+        (
             "two hashes as three preamble longs",
             "03 03 03 00 00 1a cc 93 02 00 00 00 00 00 00 00 07 00 00 00 00 00 00 00 09 00 00 00 00 00 00 00",
             Reading::Refused,

@@ -2,6 +2,7 @@ use crate::tuple_readings::{TupleReading, read, read_text, wanted};
 use sketch_base::{Error, ErrorKind, compute_seed_hash};
 use sketch_tests::common::bytes_of;
 use std::alloc::{AllocGlobal, Global};
+use std::fmt::Debug;
 use std::process::Abort;
 use std::test::Fail;
 use theta_core::MAX_THETA;
@@ -141,11 +142,14 @@ fn reads_negative_summaries(rt: HostRuntime) -> Result<(), Fail> {
     Ok(())
 }
 
-/// Reads each true beginning of the bytes that a text tells, and wants a refusal.
-fn assert_beginnings_refused(rt: &(impl Abort + AllocGlobal), text: &str) -> Result<(), Error> {
+/// Reads each true beginning of the bytes that a text spells, and wants a refusal.
+fn assert_beginnings_refused<S>(rt: &(impl Abort + AllocGlobal), text: &str) -> Result<(), Error>
+where
+    S: TupleSummaryValue<Global> + Copy + PartialEq + Debug,
+{
     let bytes = bytes_of(rt.alloc(), text)?;
     for size in 0..bytes.len() {
-        let told = read::<u64>(rt.alloc(), &bytes[..size])?;
+        let told = read::<S>(rt.alloc(), &bytes[..size])?;
         assert_eq!(rt;
             told,
             wanted(rt.alloc(), TupleReading::Refused)?,
@@ -158,8 +162,9 @@ fn assert_beginnings_refused(rt: &(impl Abort + AllocGlobal), text: &str) -> Res
 #[test]
 fn refuses_beginnings_of_tuple_images(rt: HostRuntime) -> Result<(), Fail> {
     for text in [EMPTY, SINGLE, BELOW] {
-        assert_beginnings_refused(&rt, text)?;
+        assert_beginnings_refused::<u64>(&rt, text)?;
     }
+    assert_beginnings_refused::<i32>(&rt, NEGATIVE)?;
     Ok(())
 }
 

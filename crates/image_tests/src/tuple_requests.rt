@@ -1,5 +1,5 @@
-//! How often reading and writing images of tuple sketches asks for memory: reading never for more entries than the bytes could
-//! hold, and writing once.
+//! How often reading and writing images of tuple sketches asks for memory, and for how many bytes: reading never for more entries
+//! than the bytes could hold, and writing once.
 use refuse::{Refusal, Refusing};
 use sketch_base::{Error, ErrorKind};
 use sketch_tests::common::{Heap, bytes_of, kind_of};
@@ -12,33 +12,37 @@ const REFUSED: Option<ErrorKind> = Some(ErrorKind::InvalidData);
 const DESCENDING: &str =
     "02 03 09 01 00 0a cc 93 02 00 00 00 00 00 00 00 09 00 00 00 00 00 00 00 02 00 00 00 00 00 00 00 07 00 00 00 00 00 00 00 01 00 00 00 00 00 00 00";
 
-// How often the reading of the bytes that a text tells asks for memory, and why it is refused.
-fn asked(alloc: Global, heap: &Heap, text: &str) -> Result<(u64, Option<ErrorKind>), AllocError> {
+// How often the reading of the bytes that a text spells asks for memory, for how many bytes in all, and why it is refused.
+fn asked(
+    alloc: Global,
+    heap: &Heap,
+    text: &str,
+) -> Result<(u64, u64, Option<ErrorKind>), AllocError> {
     let image = bytes_of(alloc, text)?;
     heap.restart(Refusal::Never);
     let kind = kind_of(CompactTupleSketch::<u64, &Heap>::deserialize(heap, &image));
-    Ok((heap.seen(), kind))
+    Ok((heap.seen(), heap.bytes(), kind))
 }
 
 #[test]
 fn readings_of_tuples_ask_for_little(rt: HostRuntime) -> Result<(), Fail> {
     let heap = Refusing::new(rt.alloc());
-    // An image, how often its reading asks for memory, and why it is refused.
+    // An image, and what its reading asks for: 16 bytes for each entry, and eight more where the hashes don't ascend.
     let cases = [
-        ("01 03 09 01 00 1e 00 00", (0, None)),
+        ("01 03 09 01 00 1e 00 00", (0, 0, None)),
         (
             "02 03 09 01 00 1a cc 93 ff ff ff ff 00 00 00 00 05 00 00 00 00 00 00 00 07 00 00 00 00 00 00 00",
-            (0, REFUSED),
+            (0, 0, REFUSED),
         ),
         (
             "02 03 09 01 00 1a cc 93 03 00 00 00 00 00 00 00 05 00 00 00 00 00 00 00 07 00 00 00 00 00 00 00",
-            (0, REFUSED),
+            (0, 0, REFUSED),
         ),
         (
             "02 03 09 01 00 1a cc 93 01 00 00 00 00 00 00 00 05 00 00 00 00 00 00 00 07 00 00 00 00 00 00 00",
-            (1, None),
+            (1, 16, None),
         ),
-        (DESCENDING, (2, None)),
+        (DESCENDING, (2, 2 * 24, None)),
     ];
     for (text, wanted) in cases {
         assert_eq!(rt; asked(rt.alloc(), &heap, text)?, wanted, "{text}");
@@ -46,20 +50,25 @@ fn readings_of_tuples_ask_for_little(rt: HostRuntime) -> Result<(), Fail> {
     Ok(())
 }
 
-// How often the writing of what is read of the bytes asks for memory, and how many bytes come of it.
-fn written(alloc: Global, heap: &Heap, text: &str) -> Result<(u64, usize), Error> {
+// How often the writing of what is read of the bytes asks for memory, for how many bytes in all, and how many it writes.
+fn written(alloc: Global, heap: &Heap, text: &str) -> Result<(u64, u64, usize), Error> {
     let image = bytes_of(alloc, text)?;
     let sketch = CompactTupleSketch::<u64, &Heap>::deserialize(heap, &image)?;
     heap.restart(Refusal::Never);
     let size = sketch.serialize()?.len();
-    Ok((heap.seen(), size))
+    Ok((heap.seen(), heap.bytes(), size))
 }
 
 #[test]
 fn writings_of_tuples_ask_once(rt: HostRuntime) -> Result<(), Fail> {
     let heap = Refusing::new(rt.alloc());
-    for (text, size) in [("01 03 09 01 00 1e 00 00", 8), (DESCENDING, 48)] {
-        assert_eq!(rt; written(rt.alloc(), &heap, text)?, (1, size), "{text}");
+    // An image, for how many bytes its writing asks, a preamble of 24 and 16 for each entry, and how many it has.
+    for (text, asked, size) in [
+        ("01 03 09 01 00 1e 00 00", 24, 8),
+        (DESCENDING, 24 + 2 * 16, 48),
+    ] {
+        let told = written(rt.alloc(), &heap, text)?;
+        assert_eq!(rt; told, (1, asked, size), "{text}");
     }
     Ok(())
 }

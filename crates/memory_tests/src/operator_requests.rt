@@ -65,7 +65,8 @@ fn assert_unchanged<'a>(
     refused: u64,
 ) -> Result<(), Error> {
     let now = make(alloc, intersection, Call::Answer(true))?;
-    assert_eq!(rt; &now, before, "at {refused}");
+    let told = (intersection.has_result(), &now);
+    assert_eq!(rt; told, (before.is_some(), before), "at {refused}");
     Ok(())
 }
 

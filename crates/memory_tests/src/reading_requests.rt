@@ -1,4 +1,4 @@
-//! How often reading an image asks for memory: never for more entries than the bytes could hold.
+//! How often reading an image asks for memory, and for how many bytes: never for more entries than the bytes could hold.
 
 use refuse::{Refusal, Refusing};
 use sketch_base::{Error, ErrorKind};
@@ -9,11 +9,13 @@ use theta_core::image::{Layout, Preamble, read_behind};
 use theta_core::{MAX_THETA, ThetaEntry};
 use theta_sketches::CompactThetaSketch;
 
-/// How often a reading asks for memory, and why it is refused.
-fn asked(heap: &Heap, bytes: &[u8]) -> (u64, Option<ErrorKind>) {
+/// How often a reading asks for memory, for how many bytes in all, and why it is refused.
+type Asked = (u64, u64, Option<ErrorKind>);
+
+fn asked(heap: &Heap, bytes: &[u8]) -> Asked {
     heap.restart(Refusal::Never);
     let kind = kind_of(CompactThetaSketch::deserialize(heap, bytes));
-    (heap.seen(), kind)
+    (heap.seen(), heap.bytes(), kind)
 }
 
 const REFUSED: Option<ErrorKind> = Some(ErrorKind::InvalidData);
@@ -54,14 +56,14 @@ fn add_two(image: &mut Vec<u8>) -> Result<(), AllocError> {
     image.extend_from_slice(&9u64.to_le_bytes())
 }
 
-/// How often the reading of an image of two hashes that lacks so many bytes asks for memory, and why it is refused.
+/// What the reading of an image of two hashes that lacks so many bytes asks for.
 fn asked_of_two(
     alloc: Global,
     heap: &Heap,
     layout: (&str, &str),
     count: u32,
     lacking: usize,
-) -> Result<(u64, Option<ErrorKind>), AllocError> {
+) -> Result<Asked, AllocError> {
     let image = image_of_two(alloc, layout, count)?;
     Ok(asked(heap, &image[..image.len().saturating_sub(lacking)]))
 }
@@ -69,16 +71,15 @@ fn asked_of_two(
 #[test]
 fn counts_too_great_ask_for_nothing(rt: HostRuntime) -> Result<(), Fail> {
     let heap = Refusing::new(rt.alloc());
-    // The count that an image of two hashes tells, how many bytes it lacks, how often its reading asks for memory, and why it is
-    // refused.
+    // The count in an image of two hashes, how many bytes it lacks, and what its reading asks for: eight bytes for each hash.
     let cases = [
-        (0, 0, (0, None)),
-        (1, 0, (1, None)),
-        (2, 0, (1, None)),
-        (3, 0, (0, REFUSED)),
-        (16, 0, (0, REFUSED)),
-        (u32::MAX, 0, (0, REFUSED)),
-        (2, 1, (0, REFUSED)),
+        (0, 0, (0, 0, None)),
+        (1, 0, (1, 8, None)),
+        (2, 0, (1, 16, None)),
+        (3, 0, (0, 0, REFUSED)),
+        (16, 0, (0, 0, REFUSED)),
+        (u32::MAX, 0, (0, 0, REFUSED)),
+        (2, 1, (0, 0, REFUSED)),
     ];
     for layout in LAYOUTS {
         for (count, lacking, wanted) in cases {
@@ -89,12 +90,8 @@ fn counts_too_great_ask_for_nothing(rt: HostRuntime) -> Result<(), Fail> {
     Ok(())
 }
 
-/// How often the reading of the bytes that a text tells asks for memory, and why it is refused.
-fn asked_of_text(
-    alloc: Global,
-    heap: &Heap,
-    text: &str,
-) -> Result<(u64, Option<ErrorKind>), AllocError> {
+/// What the reading of the bytes that a text spells asks for.
+fn asked_of_text(alloc: Global, heap: &Heap, text: &str) -> Result<Asked, AllocError> {
     let image = bytes_of(alloc, text)?;
     Ok(asked(heap, &image))
 }
@@ -102,25 +99,30 @@ fn asked_of_text(
 #[test]
 fn readings_ask_for_little(rt: HostRuntime) -> Result<(), Fail> {
     let heap = Refusing::new(rt.alloc());
-    // An image, how often its reading asks for memory, and why it is refused: once for the entries, and once more for their
-    // hashes where these do not ascend.
+    // An image, and what its reading asks for: once for the entries, and once more for their hashes where these do not ascend.
     let cases = [
-        ("", (0, REFUSED)),
-        ("01 03 03 00 00 1e 00 00", (0, None)),
-        ("01 03 03 00 00 1a cc 93", (0, REFUSED)),
-        ("01 03 03 00 00 1a cc 93 05 00 00 00 00 00 00 00", (1, None)),
+        ("", (0, 0, REFUSED)),
+        ("01 03 03 00 00 1e 00 00", (0, 0, None)),
+        ("01 03 03 00 00 1a cc 93", (0, 0, REFUSED)),
+        (
+            "01 03 03 00 00 1a cc 93 05 00 00 00 00 00 00 00",
+            (1, 8, None),
+        ),
         (
             "01 03 03 00 00 1a cd 93 05 00 00 00 00 00 00 00",
-            (0, REFUSED),
+            (0, 0, REFUSED),
         ),
-        ("02 02 03 00 00 00 34 12 00 00 00 00 00 00 00 00", (0, None)),
+        (
+            "02 02 03 00 00 00 34 12 00 00 00 00 00 00 00 00",
+            (0, 0, None),
+        ),
         (
             "02 03 03 00 00 0a cc 93 02 00 00 00 00 00 00 00 09 00 00 00 00 00 00 00 07 00 00 00 00 00 00 00",
-            (2, None),
+            (2, 32, None),
         ),
         (
             "02 03 03 00 00 1a cc 93 02 00 00 00 00 00 00 00 09 00 00 00 00 00 00 00 07 00 00 00 00 00 00 00",
-            (1, REFUSED),
+            (1, 16, REFUSED),
         ),
     ];
     for (text, wanted) in cases {

@@ -65,20 +65,23 @@ fn shown<'a>(alloc: Global, sketch: &ThetaSketch<&'a Heap>) -> Result<Value, All
     Ok((sketch.is_empty(), sketch.theta64(), hashes))
 }
 
-/// Makes a call with one request refused. Tells what it answered, and whether it came to that request.
+/// How often a call asks for memory, and for how many bytes in all.
+type Asked = (u64, u64);
+
+/// Makes a call with one request refused. Returns its answer, and what it asked for.
 fn attempt<'a>(
     heap: &'a Heap,
     sketch: &mut ThetaSketch<&'a Heap>,
     call: Call,
     refused: u64,
-) -> (Result<usize, ErrorKind>, bool) {
+) -> (Result<usize, ErrorKind>, Asked) {
     heap.restart(Refusal::Only(refused));
     let answer = make(heap, sketch, call);
-    let is_refused = heap.seen() > refused;
+    let asked = (heap.seen(), heap.bytes());
     heap.restart(Refusal::Never);
     match answer {
-        Ok(size) => (Ok(size), is_refused),
-        Err(error) => (Err(error.kind()), is_refused),
+        Ok(size) => (Ok(size), asked),
+        Err(error) => (Err(error.kind()), asked),
     }
 }
 
@@ -95,18 +98,18 @@ fn assert_shown<'a>(
 }
 
 /// Makes a call with its first, its second and each later request refused, until none was. Each time the sketch has to be
-/// as before. Tells how many were refused, and what the call answered in the end.
+/// as before. Returns what the call asks for if nothing is refused, and its answer then.
 fn in_turn<'a>(
     rt: &impl Abort,
     heap: &'a Heap,
     sketch: &mut ThetaSketch<&'a Heap>,
     call: Call,
-) -> Result<(u64, Result<usize, ErrorKind>), Error> {
+) -> Result<(Asked, Result<usize, ErrorKind>), Error> {
     let before = shown(*heap.inner(), sketch)?;
     for refused in 0..u64::MAX {
-        let (answer, is_refused) = attempt(heap, sketch, call, refused);
-        if !is_refused {
-            return Ok((refused, answer));
+        let (answer, asked) = attempt(heap, sketch, call, refused);
+        if asked.0 <= refused {
+            return Ok((asked, answer));
         }
         assert_eq!(rt; answer, Err(ErrorKind::OutOfMemory), "{call:?}");
         assert_shown(rt, heap, sketch, &before, call)?;
@@ -114,34 +117,35 @@ fn in_turn<'a>(
     Err(Error::new(ErrorKind::Failed))
 }
 
-/// How many requests are refused while a sketch is updated with the hashes from 100 to 1.
+/// What a sketch asks for in all while it is updated with hashes.
 fn update_in_turn<'a>(
     rt: &impl Abort,
     heap: &'a Heap,
     sketch: &mut ThetaSketch<&'a Heap>,
-) -> Result<u64, Error> {
-    let mut refusals: u64 = 0;
-    for number in 1..=100u64 {
-        let call = Call::Update(101u64.wrapping_sub(number));
-        let (refused, answer) = in_turn(rt, heap, sketch, call)?;
+    hashes: &[u64],
+) -> Result<Asked, Error> {
+    let mut all: Asked = (0, 0);
+    for hash in hashes {
+        let call = Call::Update(*hash);
+        let (asked, answer) = in_turn(rt, heap, sketch, call)?;
         assert!(rt; answer.is_ok(), "{call:?}");
-        refusals = refusals.saturating_add(refused);
+        all = (all.0.saturating_add(asked.0), all.1.saturating_add(asked.1));
     }
-    Ok(refusals)
+    Ok(all)
 }
 
-/// The call, how often it asks for memory at least and at most, how much it answers, and theta after it.
-type Row = (Call, u64, u64, usize, u64);
+/// The call, what it asks for, how much it answers, and theta after it.
+type Row = (Call, Asked, usize, u64);
 
 fn assert_in_turn<'a>(
     rt: &impl Abort,
     heap: &'a Heap,
     sketch: &mut ThetaSketch<&'a Heap>,
-    (call, least, most, size, theta): Row,
+    (call, wanted, size, theta): Row,
 ) -> Result<(), Error> {
-    let (refused, answer) = in_turn(rt, heap, sketch, call)?;
-    assert!(rt; refused >= least && refused <= most, "{call:?}");
-    assert_eq!(rt; (answer, sketch.theta64()), (Ok(size), theta), "{call:?}");
+    let (asked, answer) = in_turn(rt, heap, sketch, call)?;
+    let told = (asked, answer, sketch.theta64());
+    assert_eq!(rt; told, (wanted, Ok(size), theta), "{call:?}");
     Ok(())
 }
 
@@ -157,28 +161,40 @@ fn assert_holds<'a>(
     Ok(())
 }
 
+// A hash has eight bytes, in a slot, in a compact form, and in an image behind a preamble of 24. Those from 1 on are in ascending
+// slots, so a reading asks for no more than the hashes.
 #[test]
 fn refused_calls_change_nothing(rt: HostRuntime) -> Result<(), Fail> {
     let heap = Refusing::new(rt.alloc());
     let mut sketch = ThetaSketchBuilder::default().lg_k(5).build(&heap)?;
-    assert!(rt; update_in_turn(&rt, &heap, &mut sketch)? > 0);
+    let mut hashes = numbers(rt.alloc(), 1, 100)?;
+    // The 61st hash has the sketch select among 64 slots and gather 32 hashes.
+    let rebuild = (65 + 33) * 8;
+    let ascending = update_in_turn(&rt, &heap, &mut sketch, &hashes[..61])?;
+    assert_eq!(rt; ascending, (2, rebuild));
+    assert_holds(&rt, &heap, &sketch, 32)?;
+    sketch.reset();
+    hashes.reverse();
+    // The 61st hash, and again the 90th.
+    let descending = update_in_turn(&rt, &heap, &mut sketch, &hashes)?;
+    assert_eq!(rt; descending, (4, 2 * rebuild));
     let rows: [Row; 9] = [
-        (Call::Update(0), 0, 0, 42, 43),
-        (Call::Update(1), 0, 0, 42, 43),
-        (Call::Compact(false), 1, u64::MAX, 42, 43),
-        (Call::Compact(true), 1, u64::MAX, 42, 43),
-        (Call::Image, 2, u64::MAX, 360, 43),
-        (Call::Read, 3, u64::MAX, 42, 43),
-        (Call::Trim, 0, u64::MAX, 32, 33),
-        (Call::Trim, 0, 0, 32, 33),
-        (Call::Image, 2, u64::MAX, 280, 33),
+        (Call::Update(0), (0, 0), 42, 43),
+        (Call::Update(1), (0, 0), 42, 43),
+        (Call::Compact(false), (1, 42 * 8), 42, 43),
+        (Call::Compact(true), (1, 42 * 8), 42, 43),
+        (Call::Image, (2, 42 * 8 + 360), 360, 43),
+        (Call::Read, (3, 42 * 8 + 360 + 42 * 8), 42, 43),
+        (Call::Trim, (2, 65 * 8 + 64), 32, 33),
+        (Call::Trim, (0, 0), 32, 33),
+        (Call::Image, (2, 32 * 8 + 280), 280, 33),
     ];
     for row in rows {
         assert_in_turn(&rt, &heap, &mut sketch, row)?;
     }
     assert_holds(&rt, &heap, &sketch, 32)?;
     let told = in_turn(&rt, &heap, &mut sketch, Call::Reset)?;
-    assert_eq!(rt; (told, sketch.is_empty()), ((0, Ok(0)), true));
+    assert_eq!(rt; (told, sketch.is_empty()), (((0, 0), Ok(0)), true));
     Ok(())
 }
 
@@ -287,29 +303,30 @@ fn hashes_of<'a>(
     }
 }
 
-/// Asks a union for its answer with one request refused. Tells the hashes or the refusal, and whether it came to that request.
+/// Calls for a union's answer with one request refused. Returns the hashes or the refusal, and what the call asked for.
 fn answered<'a>(
     alloc: Global,
     heap: &'a Heap,
     union: &ThetaUnion<&'a Heap>,
     refused: u64,
-) -> Result<(Result<Vec<u64>, ErrorKind>, bool), AllocError> {
+) -> Result<(Result<Vec<u64>, ErrorKind>, Asked), AllocError> {
     heap.restart(Refusal::Only(refused));
     let answer = union.to_sketch(true);
-    let is_refused = heap.seen() > refused;
+    let asked = (heap.seen(), heap.bytes());
     heap.restart(Refusal::Never);
-    Ok((hashes_of(alloc, answer)?, is_refused))
+    Ok((hashes_of(alloc, answer)?, asked))
 }
 
+// An answer that is cut asks for hashes to select from, as many as there are slots and one, and for those that it has.
 #[test]
 fn refused_answers_leave_a_union_as_it_was(rt: HostRuntime) -> Result<(), Fail> {
     let heap = Refusing::new(rt.alloc());
     let union = union_of_45(rt.alloc(), &heap)?;
     for refused in 0..u64::MAX {
         let told = answered(rt.alloc(), &heap, &union, refused)?;
-        if !told.1 {
-            assert!(rt; refused > 0);
-            assert_eq!(rt; told.0, Ok(numbers(rt.alloc(), 1, 32)?));
+        if told.1.0 <= refused {
+            let wanted = (Ok(numbers(rt.alloc(), 1, 32)?), (2, (65 + 32) * 8));
+            assert_eq!(rt; told, wanted);
             break;
         }
         assert_eq!(rt; told.0, Err(ErrorKind::OutOfMemory), "at {refused}");
@@ -327,34 +344,36 @@ fn wide_union<'a>(alloc: Global, heap: &'a Heap) -> Result<ThetaUnion<&'a Heap>,
     Ok(union)
 }
 
-/// How a call to lower a union ended, whether it made the request that was to be refused, and what the union shows right after
-/// it, after the same call again, and after a reset and one sketch.
-type Lowered = (Option<ErrorKind>, bool, [(u64, usize); 3]);
+/// How a call to lower a union ended, what it asked for, and what the union shows right after it, after the same call again, and
+/// after a reset and one sketch.
+type Lowered = (Option<ErrorKind>, Asked, [(u64, usize); 3]);
 
 /// Lowers a union with one request refused.
 fn lowered(alloc: Global, heap: &Heap, refused: u64) -> Result<Lowered, Error> {
     let mut union = wide_union(alloc, heap)?;
     heap.restart(Refusal::Only(refused));
     let kind = kind_of(union.lower_lg_k(5));
-    let is_refused = heap.seen() > refused;
+    let asked = (heap.seen(), heap.bytes());
     heap.restart(Refusal::Never);
     let after = shown_by(&union)?;
     union.lower_lg_k(5)?;
     let again = shown_by(&union)?;
     let sketch = sketch_of(alloc, 9001, 1, 45)?;
     let anew = told_anew(&mut union, sketch.as_view())?;
-    Ok((kind, is_refused, [after, again, anew]))
+    Ok((kind, asked, [after, again, anew]))
 }
 
+// A smaller table asks for hashes to select from, as many as there are slots and one, for those that stay, and for 64 slots.
 #[test]
 fn refused_lowering_leaves_a_union_as_it_was(rt: HostRuntime) -> Result<(), Fail> {
     let heap = Refusing::new(rt.alloc());
     let few = (33, 32);
     let whole = (9223372036854775807, 90);
     for refused in 0..u64::MAX {
-        let (kind, is_refused, shown) = lowered(rt.alloc(), &heap, refused)?;
-        if !is_refused {
-            assert_eq!(rt; (refused > 1, kind, shown), (true, None, [few, few, few]));
+        let (kind, asked, shown) = lowered(rt.alloc(), &heap, refused)?;
+        if asked.0 <= refused {
+            let wanted = (None, (3, (257 + 32 + 64) * 8), [few, few, few]);
+            assert_eq!(rt; (kind, asked, shown), wanted);
             break;
         }
         assert_eq!(rt;

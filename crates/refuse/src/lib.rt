@@ -1,4 +1,4 @@
-//! An allocator for tests: it counts the requests for memory and refuses those that a test names.
+//! An allocator for tests: it counts the requests for memory and their bytes, and refuses those that a test names.
 //!
 //! What it grants it takes from another allocator, to which it gives each block back. A test passes it by
 //! reference, so that it can ask for the count and name other requests while the memory is in use.
@@ -18,18 +18,20 @@ pub enum Refusal {
     From(u64),
 }
 
-/// How many requests were seen, and which of them are refused.
+/// How many requests were seen, for how many bytes in all, and which of them are refused.
 #[derive(Drop)]
 struct Requests {
     seen: Cell<u64>,
+    bytes: Cell<u64>,
     refusal: Cell<Refusal>,
 }
 
 impl Requests {
-    /// Counts a request, and answers whether it is granted.
-    fn grants(&self) -> bool {
+    /// Counts a request for `size` bytes, and answers whether it is granted.
+    fn grants(&self, size: usize) -> bool {
         let request = self.seen.get();
         self.seen.set(request.saturating_add(1));
+        self.bytes.set(self.bytes.get().saturating_add(size as u64));
         match self.refusal.get() {
             Refusal::Never => true,
             Refusal::Only(refused) => request != refused,
@@ -54,14 +56,16 @@ impl<B: Allocator> Refusing<B> {
             inner,
             requests: Requests {
                 seen: Cell::new(0),
+                bytes: Cell::new(0),
                 refusal: Cell::new(Refusal::Never),
             },
         }
     }
 
-    /// Counts requests from 0 again, and from here on refuses those of `refusal`.
+    /// Counts requests and bytes from 0 again, and from here on refuses those of `refusal`.
     pub fn restart(&self, refusal: Refusal) {
         self.requests.seen.set(0);
+        self.requests.bytes.set(0);
         self.requests.refusal.set(refusal);
     }
 
@@ -74,13 +78,19 @@ impl<B: Allocator> Refusing<B> {
     pub fn seen(&self) -> u64 {
         self.requests.seen.get()
     }
+
+    /// For how many bytes the requests since the last `restart` were in all, refused ones included; `u64::MAX` if they were for
+    /// more. A block that is made larger or smaller counts with its new size.
+    pub fn bytes(&self) -> u64 {
+        self.requests.bytes.get()
+    }
 }
 
 unsafe impl<B: Allocator> Allocator for Refusing<B> {
     ghost dealloc_token = { λ heap ty ptr. B.dealloc_token heap.inner ty ptr };
 
     fn allocate(&self, size: usize, align: usize) -> Result<*mut u8, AllocError> {
-        if self.requests.grants() {
+        if self.requests.grants(size) {
             return self.inner.allocate(size, align);
         }
         Err(AllocError)

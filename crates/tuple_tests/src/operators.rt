@@ -210,13 +210,28 @@ fn summaries_are_combined_in_order(rt: HostRuntime) -> Result<(), Fail> {
 
 const MOST: Pairs = &[(5, u64::MAX), (7, 1)];
 
+const EACH: Pairs = &[(2, 1), (5, 1), (7, 1)];
+
 #[test]
 fn a_refused_sum_ends_a_union_and_leaves_an_intersection(rt: HostRuntime) -> Result<(), Fail> {
     let refusal = Some(ErrorKind::Policy);
     let sums = DefaultUnionPolicy::<u64>::default();
-    assert_eq!(rt; united(rt.alloc(), sums, &[MOST, ONE])?, (refusal, None));
-    let left = (refusal, listed(rt.alloc(), MOST)?);
-    assert_eq!(rt; met(rt.alloc(), sums, &[MOST, ONE])?, left);
+    // What is held, with a greatest sum at the first, a middle and the last key of what comes in.
+    let rows: [(Pairs, Pairs); 4] = [
+        (MOST, ONE),
+        (&[(2, u64::MAX), (5, 1), (7, 1)], EACH),
+        (&[(2, 1), (5, u64::MAX), (7, 1)], EACH),
+        (&[(2, 1), (5, 1), (7, u64::MAX)], EACH),
+    ];
+    for (held, part) in rows {
+        let told = united(rt.alloc(), sums, &[held, part])?;
+        assert_eq!(rt; told, (refusal, None), "of {held:?}");
+        let left = (refusal, listed(rt.alloc(), held)?);
+        assert_eq!(rt; met(rt.alloc(), sums, &[held, part])?, left, "of {held:?}");
+    }
+    // The intersection goes on from what it held.
+    let goes_on = met(rt.alloc(), sums, &[MOST, EACH, &[(7, 2)]])?;
+    assert_eq!(rt; goes_on, (None, listed(rt.alloc(), &[(7, 3)])?));
     Ok(())
 }
 
@@ -344,7 +359,7 @@ fn a_failed_union_refuses_all_until_its_reset(rt: HostRuntime) -> Result<(), Fai
     union.reset();
     assert_eq!(rt; answered(&union), (Some(true), None));
     assert_eq!(rt; joined(rt.alloc(), &mut union, ONE)?, None);
-    assert_eq!(rt; answered(&union), (Some(false), None));
+    assert_eq!(rt; of_union(rt.alloc(), &union)?, listed(rt.alloc(), ONE)?);
     Ok(())
 }
 

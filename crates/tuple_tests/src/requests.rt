@@ -1,15 +1,15 @@
 //! A policy that takes memory, and calls whose requests for memory are refused, one after another.
 ghost use Rattle.std.specs.Prelude.{◌≡◌, Some, true, [], ◌∷◌, ◌++◌};
 
-use crate::common::{Heap, kind_of};
+use crate::common::{Heap, ascending, kind_of};
 use refuse::{Refusal, Refusing};
 use std::alloc::{AllocError, Allocator, Global};
 use std::marker::Model;
 use std::process::Abort;
 use std::test::Fail;
 use tuple_sketches::{
-    DefaultUpdatePolicy, Error, ErrorKind, MAX_THETA, SummaryPolicy, SummaryUpdatePolicy,
-    TupleEntry, TupleSketch, TupleSketchBuilder,
+    DefaultUpdatePolicy, Error, ErrorKind, MAX_THETA, ResizeFactor, SummaryPolicy,
+    SummaryUpdatePolicy, TupleEntry, TupleSketch, TupleSketchBuilder,
 };
 
 /// The values that a key was seen with, in their order.
@@ -315,4 +315,84 @@ fn builds_are_refused(rt: HostRuntime) {
         }
         assert_eq!(rt; kind, Some(ErrorKind::OutOfMemory), "at {refused}");
     }
+}
+
+/// A sketch of sums in memory whose requests are counted.
+type Sums<'a> = TupleSketch<DefaultUpdatePolicy<u64>, &'a Heap>;
+
+/// A sketch of all its slots, with `count` spread hashes, and the next hash.
+fn filled_sums<'a>(heap: &'a Heap, lg_k: u8, count: u64) -> Result<(Sums<'a>, u64), Error> {
+    let builder = TupleSketchBuilder::new(DefaultUpdatePolicy::<u64>::default());
+    let builder = builder.lg_k(lg_k);
+    let mut sketch = builder.resize_factor(ResizeFactor::X1).build(heap)?;
+    let mut hash = 0u64;
+    for _update in 0..=count {
+        sketch.update_hash(hash, 1)?;
+        hash = hash.wrapping_add(5700357409661599241) & 0x7fff_ffff_ffff_ffff;
+    }
+    Ok((sketch, hash))
+}
+
+/// Updates a sketch with its requests refused in turn, until none was. Each time the sketch has to be as before. Returns how often
+/// the update asks for memory, and for how many bytes in all.
+fn asked_by_update<'a>(
+    rt: &impl Abort,
+    heap: &'a Heap,
+    sketch: &mut Sums<'a>,
+    hash: u64,
+) -> Result<(u64, u64), Error> {
+    let before = ascending(*heap.inner(), sketch.iter())?;
+    for refused in 0..u64::MAX {
+        heap.restart(Refusal::Only(refused));
+        let kind = kind_of(sketch.update_hash(hash, 1));
+        let asked = (heap.seen(), heap.bytes());
+        heap.restart(Refusal::Never);
+        if asked.0 <= refused {
+            assert_eq!(rt; kind, None);
+            return Ok(asked);
+        }
+        assert_eq!(rt; kind, Some(ErrorKind::OutOfMemory), "at {refused}");
+        assert!(rt;
+            ascending(*heap.inner(), sketch.iter())? == before,
+            "at {refused}"
+        );
+    }
+    Err(Error::new(ErrorKind::Failed))
+}
+
+/// What a rebuild of so many sums asks for, and how many there are then.
+fn rebuilt(
+    rt: &impl Abort,
+    heap: &Heap,
+    lg_k: u8,
+    count: u64,
+) -> Result<((u64, u64), usize), Error> {
+    let (mut sketch, next) = filled_sums(heap, lg_k, count)?;
+    let asked = asked_by_update(rt, heap, &mut sketch, next)?;
+    Ok((asked, sketch.num_retained()))
+}
+
+/// How many bytes a slot of a sum takes: a hash, a sum, and a word for whether they are there.
+const SLOT: u64 = 24;
+
+// It asks for a slot for each entry that it keeps and one more, or for a byte a slot where there are more than 2^16; and for hashes
+// to select from, of eight bytes: as many as there are few slots and one, and at most a sixteenth of many.
+#[test]
+fn rebuilds_of_sums_ask_for_little(rt: HostRuntime) -> Result<(), Fail> {
+    let heap = Refusing::new(rt.alloc());
+    // The logarithm of k, how many entries come before the rebuild, the bytes to lay out slots anew, and the most to select.
+    let rows = [
+        (5, 60, 33 * SLOT, 65 * 8),
+        (15, 61_440, 32_769 * SLOT, 32_768),
+        (16, 122_880, 131_072, 65_536),
+    ];
+    for (lg_k, count, layout, most) in rows {
+        let ((requests, bytes), kept) = rebuilt(&rt, &heap, lg_k, count)?;
+        assert_eq!(rt; (requests, kept), (2, 1 << lg_k), "of 2^{lg_k}");
+        assert!(rt;
+            layout < bytes && bytes <= layout + most,
+            "{bytes} of 2^{lg_k}"
+        );
+    }
+    Ok(())
 }

@@ -61,8 +61,9 @@ fn sums_are_kept(rt: HostRuntime) -> Result<(), Fail> {
 fn signed_sums_are_kept(rt: HostRuntime) -> Result<(), Fail> {
     let refused = Some(ErrorKind::Policy);
     // Two values, why the second is refused, and the sum.
-    let rows: [([i32; 2], Option<ErrorKind>, i32); 5] = [
+    let rows: [([i32; 2], Option<ErrorKind>, i32); 6] = [
         ([-5, 2], None, -3),
+        ([-2147483648, 2147483647], None, -1),
         ([2147483646, 1], None, 2147483647),
         ([2147483647, 1], refused, 2147483647),
         ([-2147483647, -1], None, -2147483648),

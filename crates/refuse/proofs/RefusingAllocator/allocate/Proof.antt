@@ -97,7 +97,7 @@ module _ (Z : Al) {M : Type 1} {𝓤 : Ura M} (𝓛 : Logic 𝓤) (at_mem : Memo
         let h : Z.row.Denot = r.now.inner in
         let p : ℕ × ℕ = (r.ref_ptr.0, r.ref_ptr.1 + up (align (α Z)) 0) in
         let c : ℕ × ℕ = (r.ref_ptr.0, r.ref_ptr.1 + up 8 (up (align (α Z)) 0 + size (α Z))) in
-        let x : (Grants 𝓛 at_mem run).Ghost = at_grants 𝓛 at_mem run κ q c r.now.requests in
+        let x : (Grants 𝓛 at_mem run).Ghost = at_grants 𝓛 at_mem run κ q c r.now.requests n in
         let y : (Takes Z 𝓛 at_mem run).Ghost = at_takes Z 𝓛 at_mem run κ q p h n a τ in
         let Said : Type 0 = (capped (size τ) ≡ n) × (capped (align τ) ≡ a) in
         qed 𝓛 (((‵ (flft κ q) ⊛ ‵ (flft ρ s) ⊛ ‵ ftrue) ⊛ ‵ (owns (types_at (ended Z).signature.params at_entry.0.0) at_entry.0.3 at_entry.0.4)) ∷ (raw (fact 𝓤 (ρ ⊑ Z.row.lives)) ⊛ raw (fact 𝓤 Said)) ∷ []) ∵
@@ -107,9 +107,9 @@ module _ (Z : Al) {M : Type 1} {𝓤 : Ura M} (𝓛 : Logic 𝓤) (at_mem : Memo
         enter ! 𝓣.C 𝓣.Λ (body Z) vs Post $ alloc_all ! (λ l. let E : Env 𝓤 H = env (body Z).locals l in
         pass_all ! refl ((tt, tt), ((tt, record { fits = fn }), ((tt, record { fits = fa }), tt))) $
         sets ! (addr ! (through ! refl (fld ! refl (stop !)))) refl (tt, tt) $
-        use2 𝓛 (raw ((Grants 𝓛 at_mem run).pre x)) (Grants-goes 𝓛 at_mem run κ q c r.now.requests) $
-        calls_at ! (fm_of 𝓤 H 𝓛.laws 𝓣) (Grants 𝓛 at_mem run) grants x (and_then ! (get ! refl) (no_more !)) (λ u.
-        use1 𝓛 (later (some (λ (z : Bool). given (u ≡ vbool z) (‵ (flft κ q))))) (Grants-gives 𝓛 at_mem run κ q c r.now.requests u) $ await ! tt $ pick ! (λ z. learn ! (λ eu.
+        use2 𝓛 (raw ((Grants 𝓛 at_mem run).pre x)) (Grants-goes 𝓛 at_mem run κ q c r.now.requests n fn) $
+        calls_at ! (fm_of 𝓤 H 𝓛.laws 𝓣) (Grants 𝓛 at_mem run) grants x (and_then ! (get ! refl) (and_then ! (get ! refl) (no_more !))) (λ u.
+        use1 𝓛 (later (some (λ (z : Bool). given (u ≡ vbool z) (‵ (flft κ q))))) (Grants-gives 𝓛 at_mem run κ q c r.now.requests n u) $ await ! tt $ pick ! (λ z. learn ! (λ eu.
         lands_as ! eu refl (tt, tt) $ move ! (1 ∷ []) $
         first ! $ branches ! (get ! refl)
         (λ t. sets ! (addr ! (through ! refl (fld ! refl (stop !)))) refl (tt, tt) $
