@@ -263,21 +263,20 @@ def start_of(chance):
     return chance.choice((b"max", b"max", b"max", b"%d" % chance.choice((1, 8, 50, 2**62, MAX_THETA))))
 
 
-def step_lines(chance, is_tuple, span):
-    """A line of a step."""
-    step = chance.choice((b"add",) * 12 + (b"trim", b"reset"))
-    if step != b"add":
-        return [step]
+def step_line(chance, is_tuple, span, seldom):
+    """The line of a step: once in `seldom` steps one that adds nothing."""
+    if chance.random() * seldom < 1:
+        return chance.choice((b"trim", b"reset"))
     hash = chance.randrange(1, span)
     amount = chance.choice((0, 1, 7, 7, 2**32, 2**60, 2**63)) if chance.random() < 0.5 else chance.randrange(100)
-    return [b"add %d" % hash + (b" %d" % amount if is_tuple else b"")]
+    return b"add %d" % hash + (b" %d" % amount if is_tuple else b"")
 
 
 def leaf_lines(chance, is_tuple):
     """The lines of a leaf, which may be past its threshold."""
-    count = chance.choice((0, 1, 2, 3, 4, 5, 6, 7, 8, 40, 40, 70))
+    count = chance.choice((0, 1, 2, 3, 4, 5, 6, 7, 8, 31, 40, 70))
     span = chance.choice((10, 100, 100, 2**62))
-    steps = [line for _ in range(count) for line in step_lines(chance, is_tuple, span)]
+    steps = [step_line(chance, is_tuple, span, 6 if count < 30 else 60) for _ in range(count)]
     return [b"leaf %d %s %d" % (chance.choice((4, 4, 5, 12)), start_of(chance), count), *steps]
 
 
@@ -293,7 +292,7 @@ def plan_lines(chance, is_tuple, depth):
     head = {"union": b"union %d %s %d" % (least, start_of(chance), count), "meet": b"meet %d" % count, "minus": b"minus"}[node]
     for _ in range(count):
         if node == "union" and chance.random() < 0.2:
-            least = chance.randint(4, least)
+            least = chance.randint(3, 6) if chance.random() < 0.3 else chance.randint(4, max(4, least))
             parts.append(b"lower %d" % least)
         else:
             parts += plan_lines(chance, is_tuple, depth - 1)
