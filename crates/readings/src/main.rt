@@ -42,14 +42,23 @@ fn put_line(text: &mut String, alloc: Global, line: &[u8]) -> Result<(), AllocEr
     text.push('\n')
 }
 
+/// The answers to all lines of an input; what stands behind its last LF has none.
+fn answers_to(alloc: Global, input: &[u8]) -> Result<String, AllocError> {
+    let mut text = String::new(alloc);
+    let mut rest = input;
+    for _ in 0..input.len() {
+        let Some((line, behind)) = cut_line(rest) else {
+            break;
+        };
+        put_line(&mut text, alloc, line)?;
+        rest = behind;
+    }
+    Ok(text)
+}
+
 fn main(rt: HostRuntime) -> io::Result<()> {
     let mut input = Vec::new(rt.alloc());
     rt.stdin().read_to_end(&mut input)?;
-    let mut text = String::new(rt.alloc());
-    let mut rest = input.as_slice();
-    while let Some((line, behind)) = cut_line(rest) {
-        put_line(&mut text, rt.alloc(), line)?;
-        rest = behind;
-    }
+    let text = answers_to(rt.alloc(), &input)?;
     rt.stdout().write_all(text.as_bytes())
 }
