@@ -1,0 +1,258 @@
+"""A second reader of images, written from docs/FORMATS.md alone, and images that are damaged by chance for it.
+
+`answer(kind, image)` is the line that crates/readings prints for an image: kind is `theta`, or the type of a tuple sketch's
+summaries. `damaged(chance)` is a kind and an image; `chance` is a random.Random.
+"""
+import struct
+
+MAX_THETA = 2**63 - 1
+SEED_HASH = 0x93CC
+REFUSED = "refused data"
+SUMMARIES = {"u32": "<I", "i32": "<i", "u64": "<Q", "i64": "<q"}
+EMPTY, ORDERED = 4, 16
+
+
+class Refused(Exception):
+    """The image is refused."""
+
+
+def number(image, place, size):
+    """The number that some bytes spell, the lowest first."""
+    if len(image) < place + size:
+        raise Refused
+    return int.from_bytes(image[place : place + size], "little")
+
+
+def entries_at(kind, image, place, count):
+    """So many entries from a place on: a hash, and a summary as text, which a theta sketch lacks."""
+    size = 8 if kind == "theta" else 8 + struct.calcsize(SUMMARIES[kind])
+    if len(image) < place + size * count:
+        raise Refused
+    for start in range(place, place + size * count, size):
+        hash = number(image, start, 8)
+        if kind == "theta":
+            yield hash, str(hash)
+        else:
+            (summary,) = struct.unpack_from(SUMMARIES[kind], image, start + 8)
+            yield hash, f"{hash}:{summary}"
+
+
+def shown(held, theta, ordered, texts):
+    """A sketch's line."""
+    return " ".join([held, str(theta), str(SEED_HASH), "ordered" if ordered else "unordered", *texts])
+
+
+def sketch(kind, image, place, count, theta, ordered):
+    """The line of a sketch that isn't empty, whose entries begin at a place."""
+    if not 1 <= theta <= MAX_THETA:
+        raise Refused
+    entries = list(entries_at(kind, image, place, count))
+    hashes = [hash for hash, _ in entries]
+    if any(not 1 <= hash < theta for hash in hashes) or len(set(hashes)) < count:
+        raise Refused
+    if ordered and hashes != sorted(hashes):
+        raise Refused
+    return shown("filled", theta, ordered, [text for _, text in entries])
+
+
+def flagged(kind, image, longs):
+    """What version 3 of theta sketches is read as, and both versions of tuple sketches."""
+    flags = number(image, 5, 1)
+    if flags & EMPTY:
+        return shown("empty", MAX_THETA, True, [])
+    if number(image, 6, 2) != SEED_HASH:
+        raise Refused
+    count = 1 if longs == 1 else number(image, 8, 4)
+    theta = number(image, 16, 8) if longs == 3 else MAX_THETA
+    return sketch(kind, image, 8 * longs, count, theta, flags & ORDERED != 0)
+
+
+def unflagged(image, version, longs):
+    """What versions 1 and 2 of theta sketches are read as."""
+    if version == 1:
+        longs = 3
+    if len(image) < 8 * longs:
+        raise Refused
+    count = 0 if longs == 1 else number(image, 8, 4)
+    theta = number(image, 16, 8) if longs == 3 else MAX_THETA
+    if count == 0 and theta == MAX_THETA:
+        return shown("empty", MAX_THETA, True, [])
+    if version == 2 and number(image, 6, 2) != SEED_HASH:
+        raise Refused
+    return sketch("theta", image, 8 * longs, count, theta, True)
+
+
+def read(kind, image):
+    """The line of the sketch that an image is read as."""
+    if len(image) < 8:
+        raise Refused
+    longs, version, family, sketch_type = image[:4]
+    if not 1 <= longs <= 3:
+        raise Refused
+    if kind != "theta":
+        if family != 9 or version not in (1, 3) or sketch_type not in (1, 5):
+            raise Refused
+        return flagged(kind, image, longs)
+    if family != 3 or version not in (1, 2, 3):
+        raise Refused
+    return flagged(kind, image, longs) if version == 3 else unflagged(image, version, longs)
+
+
+def answer(kind, image):
+    """The line that answers an image."""
+    try:
+        return read(kind, image)
+    except Refused:
+        return REFUSED
+
+
+def written(chance, kind):
+    """A well-formed image of a kind, and where its entries begin."""
+    version = chance.choice((3, 3, 3, 1, 2) if kind == "theta" else (3, 3, 1))
+    longs = chance.choice((1, 2, 2, 3, 3, 3))
+    if kind == "theta" and version == 1:
+        longs = 3
+    count = 1 if longs == 1 else chance.choice((0, 1, 2, 3, 4, 5, 8))
+    if kind == "theta" and version == 2 and longs == 1:
+        count = 0
+    theta = chance.choice((MAX_THETA, 1000, chance.randint(100, MAX_THETA))) if longs == 3 else MAX_THETA
+    hashes = chance.sample(range(1, min(theta, chance.choice((100, 2**40, 2**62)))), count)
+    ordered = chance.random() < 0.7 or (kind == "theta" and version < 3)
+    if ordered:
+        hashes.sort()
+    flags = ORDERED * ordered + 10 + (EMPTY if chance.random() < 0.05 else 0)
+    family, sketch_type = (3, 0) if kind == "theta" else (9, chance.choice((1, 5)))
+    head = struct.pack("<BBBBBBH", longs, version, family, sketch_type, 0, flags, SEED_HASH)
+    head += struct.pack("<II", count, 0) * (longs > 1) + struct.pack("<Q", theta) * (longs > 2)
+    rest = b""
+    for hash in hashes:
+        rest += struct.pack("<Q", hash)
+        if kind != "theta":
+            rest += chance.randbytes(struct.calcsize(SUMMARIES[kind]))
+    return bytearray(head + rest), len(head)
+
+
+def put(image, place, new):
+    """Writes bytes over those at a place, as far as there are any."""
+    for at, byte in enumerate(new, place):
+        if at < len(image):
+            image[at] = byte
+
+
+def flip_bit(chance, kind, image, begin):
+    if image:
+        image[chance.randrange(len(image))] ^= 1 << chance.randrange(8)
+
+
+def flip_head(chance, kind, image, begin):
+    if image:
+        image[chance.randrange(min(len(image), 24))] ^= 1 << chance.randrange(8)
+
+
+def change_byte(chance, kind, image, begin):
+    if image:
+        image[chance.randrange(len(image))] = chance.randrange(256)
+
+
+def cut(chance, kind, image, begin):
+    del image[chance.choice((len(image) - 1, len(image) - 8, chance.randrange(len(image) + 1))) :]
+
+
+def lengthen(chance, kind, image, begin):
+    image += chance.randbytes(chance.choice((1, 4, 8, 12, 16, 24)))
+
+
+def change_count(chance, kind, image, begin):
+    count = int.from_bytes(image[8:12], "little")
+    new = chance.choice((count - 1, count + 1, 0, 1, 2, 2**31, 2**32 - 1, 2**29, chance.randrange(2**32)))
+    put(image, 8, struct.pack("<I", new % 2**32))
+
+
+def change_unused(chance, kind, image, begin):
+    put(image, chance.choice((3, 4, 12, 13, 14, 15)), chance.randbytes(1))
+
+
+def change_theta(chance, kind, image, begin):
+    last = int.from_bytes(image[-8:], "little")
+    near = (0, 1, 2, MAX_THETA - 1, MAX_THETA, MAX_THETA + 1, 2**64 - 1, last, (last + 1) % 2**64, chance.randrange(2**64))
+    put(image, 16, struct.pack("<Q", chance.choice(near)))
+
+
+def change_flags(chance, kind, image, begin):
+    put(image, 5, bytes([chance.choice((0, 4, 10, 16, 20, 26, 30, 14, chance.randrange(256)))]))
+
+
+def change_version(chance, kind, image, begin):
+    put(image, 1, bytes([chance.choice((0, 1, 2, 3, 4, chance.randrange(256)))]))
+
+
+def change_longs(chance, kind, image, begin):
+    put(image, 0, bytes([chance.choice((0, 1, 2, 3, 4, 63, 65, 66, 67, 255))]))
+
+
+def change_family(chance, kind, image, begin):
+    put(image, 2, bytes([chance.choice((3, 9, chance.randrange(256)))]))
+
+
+def change_type(chance, kind, image, begin):
+    put(image, 3, bytes([chance.choice((0, 1, 5, 5, chance.randrange(256)))]))
+
+
+def change_seed_hash(chance, kind, image, begin):
+    put(image, 6, chance.choice((b"\0\0", b"\x93\xcc", b"\xcc\x93", chance.randbytes(2))))
+
+
+def change_hash(chance, kind, image, begin):
+    """Another hash in an entry's place: one of another entry, a neighbour of it, or a bound."""
+    size = 8 if kind == "theta" else 8 + struct.calcsize(SUMMARIES[kind])
+    places = range(begin, len(image) - 7, size)
+    if places:
+        other = int.from_bytes(image[(start := chance.choice(places)) : start + 8], "little")
+        new = chance.choice((other, other, other + 1, 0, 1, MAX_THETA, MAX_THETA - 1, 2**63, 2**64 - 1))
+        put(image, chance.choice(places), struct.pack("<Q", new % 2**64))
+
+
+def exchange(chance, kind, image, begin):
+    """Two entries exchanged."""
+    size = 8 if kind == "theta" else 8 + struct.calcsize(SUMMARIES[kind])
+    places = range(begin, len(image) - size + 1, size)
+    if len(places) > 1:
+        first, second = chance.sample(places, 2)
+        one, two = image[first : first + size], image[second : second + size]
+        put(image, first, two)
+        put(image, second, one)
+
+
+def insert_bytes(chance, kind, image, begin):
+    place = chance.choice((8, 16, 24, len(image), chance.randrange(len(image) + 1)))
+    image[place:place] = chance.randbytes(chance.choice((1, 4, 8)))
+
+
+def remove_bytes(chance, kind, image, begin):
+    place = chance.choice((0, 8, 16, chance.randrange(len(image) + 1)))
+    del image[place : place + chance.choice((1, 4, 8))]
+
+
+def join(chance, kind, image, begin):
+    """Two images joined, the first whole or cut."""
+    other, _ = written(chance, chance.choice((kind, "theta", "u64")))
+    if chance.random() < 0.5:
+        cut(chance, kind, image, begin)
+    image += other
+
+
+DAMAGES = (
+    flip_bit, flip_head, change_byte, cut, lengthen, change_count, change_unused, change_theta, change_flags, change_version, change_longs,
+    change_family, change_type, change_seed_hash, change_hash, exchange, insert_bytes, remove_bytes, join,
+)
+
+
+def damaged(chance):
+    """A kind of reader, and the image for it: well-formed but for up to three damages."""
+    kind = chance.choice(("theta", "theta", "theta", "u32", "i32", "u64", "i64"))
+    image, begin = written(chance, kind)
+    for _ in range(chance.choice((0, 1, 1, 1, 1, 2, 2, 3))):
+        chance.choice(DAMAGES)(chance, kind, image, begin)
+    if kind != "theta" and chance.random() < 0.1:
+        kind = chance.choice((*SUMMARIES, "theta"))
+    return kind, bytes(image)

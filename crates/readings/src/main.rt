@@ -1,0 +1,64 @@
+//! Prints, for each line of standard input, what a reader of this project makes of the bytes in it.
+//!
+//! A line is the name of a reader, a space, and bytes in hexadecimal. `theta`, `u32`, `i32`, `u64` and `i64` read an image,
+//! of a theta sketch or of a tuple sketch with summaries of that type; `plan` reads and evaluates the text of a plan. The
+//! answer is one line: a sketch, or one word that says why there is none, behind it the line of a fault. `checks/` compares
+//! these lines with those of readers that share no code with this project.
+#![tactic(auto)]
+
+mod images;
+mod plans;
+
+use line_sketches::read_hex;
+use lines::{cut_at, cut_line};
+use std::alloc::{AllocError, Global};
+use std::io::{self, Read, Write};
+
+/// Puts what the reader of this name makes of the bytes.
+fn put_answer(
+    text: &mut String,
+    alloc: Global,
+    name: &[u8],
+    bytes: &[u8],
+) -> Result<(), AllocError> {
+    match name {
+        b"theta" => images::put_theta(text, alloc, bytes),
+        b"u32" => images::put_tuple::<u32>(text, alloc, bytes),
+        b"i32" => images::put_tuple::<i32>(text, alloc, bytes),
+        b"u64" => images::put_tuple::<u64>(text, alloc, bytes),
+        b"i64" => images::put_tuple::<i64>(text, alloc, bytes),
+        b"plan" => plans::put_plan(text, alloc, bytes),
+        _ => text.push_str("unread"),
+    }
+}
+
+/// Puts the answer to a line.
+fn put_line(text: &mut String, alloc: Global, line: &[u8]) -> Result<(), AllocError> {
+    if let Some((name, digits)) = cut_at(line, b' ') {
+        if let Some(bytes) = read_hex(alloc, digits)? {
+            put_answer(text, alloc, name, &bytes)?;
+        }
+    }
+    text.push('\n')
+}
+
+/// The answers to all lines of an input; what stands behind its last LF has none.
+fn answers_to(alloc: Global, input: &[u8]) -> Result<String, AllocError> {
+    let mut text = String::new(alloc);
+    let mut rest = input;
+    for _ in 0..input.len() {
+        let Some((line, behind)) = cut_line(rest) else {
+            break;
+        };
+        put_line(&mut text, alloc, line)?;
+        rest = behind;
+    }
+    Ok(text)
+}
+
+fn main(rt: HostRuntime) -> io::Result<()> {
+    let mut input = Vec::new(rt.alloc());
+    rt.stdin().read_to_end(&mut input)?;
+    let text = answers_to(rt.alloc(), &input)?;
+    rt.stdout().write_all(text.as_bytes())
+}
