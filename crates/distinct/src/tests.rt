@@ -1,11 +1,19 @@
 //! Tests of what the program tells: messages with their statuses, and help.
 
+ghost use Rattle.std.specs.Prelude.{◌≡◌, map, IfOk};
+ghost use Rattle.distinct.specs.Answers.{count_line, sketch_told};
+ghost use Rattle.distinct.specs.Faults.{told_of};
+
+use crate::answer::answer;
 use crate::arguments::{Command, Operator, Topic, has_option};
 use crate::failure::Failure;
 use crate::help::text_of;
-use std::alloc::{AllocError, Global};
+use crate::options::Options;
+use line_sketches::{Texts, Watch};
+use std::alloc::{AllocError, Allocator, Global};
 use std::io::{Error, ErrorKind};
 use std::test::Fail;
+use theta_sketches::ThetaSketch;
 
 /// A word with controls that a terminal takes as commands: an escape sequence, a bell, a carriage return, a delete, and the
 /// controls of one character that stand for an escape sequence's first two.
@@ -158,4 +166,53 @@ fn helps_with_each_option(rt: HostRuntime) {
             assert_eq!(rt; told, has_option(command, option), "{command:?} {option}");
         }
     }
+}
+
+/// Looks on, and does nothing.
+#[derive(Drop)]
+struct Quiet {}
+
+impl Watch for Quiet {
+    fn saw<A: Allocator>(&mut self, _bytes: usize, _lines: u64, _sketch: &ThetaSketch<A>) {}
+}
+
+/// What `count` writes of texts in memory.
+fn count_of(alloc: Global, options: &Options<'_>, texts: &[Vec<u8>]) -> Result<Vec<u8>, Failure>
+    ensures counted { IfOk result (λ v. v.items ≡ count_line (sketch_told (told_of options.now) (map (λ text. text.items) texts.now))) }
+{
+    let mut bytes = Vec::new(alloc);
+    let mut watch = Quiet {};
+    answer(
+        alloc,
+        Command::Count,
+        options,
+        &[],
+        Texts::new(texts),
+        &mut watch,
+        &mut bytes,
+    )?;
+    Ok(bytes)
+}
+
+/// Each text is cut into lines by itself, and repeats count once.
+#[test]
+fn counts_texts(rt: HostRuntime) -> Result<(), Fail> {
+    let options = Options {
+        lg_k: 5,
+        field: None,
+        separator: b'\t',
+        hex: false,
+        progress: false,
+        output: None,
+    };
+    let mut texts = Vec::new(rt.alloc());
+    for text in ["a\nb", "b\na\nc\n", "", "b"] {
+        texts.push(Vec::from_clones(rt.alloc(), text.as_bytes())?)?;
+    }
+    let counted = match count_of(rt.alloc(), &options, texts.as_slice()) {
+        Ok(bytes) => bytes,
+        Err(_) => Vec::new(rt.alloc()),
+    };
+    assert_eq!(rt; counted.as_slice(), b"3\n".as_slice());
+    Ok(())
 }

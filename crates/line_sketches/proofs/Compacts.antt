@@ -1,5 +1,6 @@
 -- Ordered sketches of lines keep the laws of compact sketches, and their images are read as them.
-use Rattle.std.proofs.Common.{◌≡◌, ℕ, ◌^◌, ◌<◌, ◌≤◌, true, false, cond, List, [], ◌∷◌, length, Some, None, refl, ap, subst, ◌∙◌, arith}
+use Rattle.std.proofs.Common.{◌≡◌, ℕ, ◌^◌, ◌<◌, ◌≤◌, true, false, cond, List, [], ◌∷◌, ◌++◌, length, map, Some, None, refl, sym, ap, subst, ◌∙◌, arith, append_assoc, append-nil}
+use Rattle.std.proofs.lemmas.List.{map-append}
 use Rattle.std.specs.List.{AllByRecursion, concat}
 use Rattle.std.specs.Option.{option_map_or}
 use Rattle.std.proofs.lemmas.Bool.Decides.{nat_tests}
@@ -19,12 +20,12 @@ use Rattle.theta_compact.specs.CompactState.{Compact, IsCompact}
 use Rattle.theta_compact.proofs.LawsOfShown.{IsShown-retained, IsShown-none}
 use Rattle.theta_sketches.specs.Image.{written}
 use Rattle.lines.specs.Keys.{line_hash}
-use Rattle.lines.specs.Lines.{lines_of, AreWhole}
+use Rattle.lines.specs.Lines.{lines_of, lines_of_all, AreWhole}
 use Rattle.lines.specs.declared.key.Key.{Key}
-use Rattle.line_sketches.specs.Keys.{adds, key_set, value_of_lines, ordered_sketch, image_of_text}
+use Rattle.line_sketches.specs.Keys.{adds, key_set, value_of_lines, ordered_sketch, image_of_text, image_of_lines, HaveSameLines}
 use Rattle.line_sketches.specs.Shards.{united, values_of_sketches, AreRead, sketches_of_texts, images_of_texts}
 use Rattle.line_sketches.specs.Unions.{IsUnitedImage}
-use Rattle.line_sketches.proofs.Shards.{sample, united_texts}
+use Rattle.line_sketches.proofs.Shards.{sample, united_texts, united_lines_apart, same_value}
 use Rattle.line_sketches.proofs.Rereads.{ReadsOne, ReadsAgain, reads_it, values_read}
 
 module _ (key : Key) where
@@ -93,3 +94,37 @@ module _ (one : ReadsOne) (again : ReadsAgain) (key : Key) (lg_k : ℕ) (small :
   pub united_whole : (texts images : List (List ℕ)) (bytes : List ℕ) → AreWhole texts → images ≡ images_of_texts key lg_k texts → IsUnitedImage lg_k images bytes → bytes ≡ image_of_text key lg_k (concat texts)
   united_whole texts images bytes whole are image =
       texts_united texts image.0 bytes whole (subst (λ (is : List (List ℕ)). AreRead is image.0) are image.1) image.2
+
+  lines_united : (texts : List (List ℕ)) (sketches : List (Compact ℕ)) (bytes : List ℕ) → AreRead (images_of_texts key lg_k texts) sketches → bytes ≡ written (ordered_sketch (united lg_k (values_of_sketches sketches))) →
+      bytes ≡ image_of_lines key lg_k (lines_of_all texts)
+  lines_united texts sketches bytes read is =
+      is ∙ ap (λ v. written (ordered_sketch v)) (ap (united lg_k) (values_read key one lg_k (images_of_texts key lg_k texts) sketches texts (are_written texts sketches read) read) ∙ united_lines_apart key lg_k texts)
+
+  -- the union of the images of texts is the image of all their lines, in any order
+  pub united_apart : (texts lines images : List (List ℕ)) (bytes : List ℕ) → HaveSameLines (lines_of_all texts) lines → images ≡ images_of_texts key lg_k texts → IsUnitedImage lg_k images bytes → bytes ≡ image_of_lines key lg_k lines
+  united_apart texts lines images bytes same are image =
+      lines_united texts image.0 bytes (subst (λ (is : List (List ℕ)). AreRead is image.0) are image.1) image.2
+      ∙ ap (λ v. written (ordered_sketch v)) (same_value key lg_k (lines_of_all texts) lines same)
+
+-- ---- images made one by one
+
+module _ {V : Type 0} (items : V → List ℕ) (key : Key) (lg_k : ℕ) where
+  -- an image more
+  pub text_more : (images now : List V) (image text : V) (left others : List V) (all : List (List ℕ)) → map items images ++ images_of_texts key lg_k (map items left) ≡ all → left ≡ text ∷ others →
+      items image ≡ image_of_text key lg_k (items text) → now ≡ images ++ image ∷ [] → map items now ++ images_of_texts key lg_k (map items others) ≡ all
+  text_more images now image text left others all before parted is pushed =
+      ap (λ (vs : List V). map items vs ++ images_of_texts key lg_k (map items others)) pushed
+      ∙ ap (λ ts. ts ++ images_of_texts key lg_k (map items others)) (map-append items images (image ∷ []))
+      ∙ append_assoc (map items images) (items image ∷ []) (images_of_texts key lg_k (map items others))
+      ∙ ap (λ (i : List ℕ). map items images ++ i ∷ images_of_texts key lg_k (map items others)) is
+      ∙ ap (λ (vs : List V). map items images ++ images_of_texts key lg_k (map items vs)) (sym parted)
+      ∙ before
+
+  nothing_left : (left : List V) → length left ≡ 0 → images_of_texts key lg_k (map items left) ≡ []
+  nothing_left [] none = refl
+  nothing_left (v ∷ left) none = absurd (omega arith)
+
+  -- all images
+  pub texts_made : (images left sources : List V) (all : List (List ℕ)) → map items images ++ images_of_texts key lg_k (map items left) ≡ all → length left ≡ 0 → sources ≡ images → map items sources ≡ all
+  texts_made images left sources all before none are =
+      ap (map items) are ∙ sym (append-nil (map items images)) ∙ ap (λ ts. map items images ++ ts) (sym (nothing_left left none)) ∙ before

@@ -1,5 +1,6 @@
 -- Texts that are sketched apart, and united.
-use Rattle.std.proofs.Common.{◌≡◌, ℕ, ◌^◌, Bool, true, false, cond, eqb, List, [], ◌∷◌, ◌++◌, map, filter, Option, Some, None, refl, sym, ap, ◌∙◌, arith, append_assoc, append-nil}
+use Rattle.std.proofs.Common.{◌≡◌, ℕ, ◌^◌, Bool, true, false, cond, eqb, List, [], ◌∷◌, ◌++◌, map, filter, Option, Some, None, inl, inr, refl, sym, subst, ap, ◌∙◌, arith, append_assoc, append-nil}
+use Rattle.std.proofs.lemmas.Bool.Decides.{nat_tests}
 use Rattle.std.specs.List.{onto_first, concat}
 use Rattle.std.specs.Option.{option_map_or}
 use Rattle.theta_laws.specs.Maps.{IsAscending, entry_at, with_entry}
@@ -10,16 +11,17 @@ use Rattle.theta_laws.specs.declared.leaf.LeafStep.TheVariants.{Add, Trim}
 use Rattle.theta_laws.specs.Leaf.{whole_from, whole_step, hash_step_of, kmin}
 use Rattle.theta_laws.specs.Operators.{join, joined, joined_all, nonempties, unite_nonempty}
 use Rattle.theta_laws.specs.Samples.{IsSample, AreSamples, IsLawfulValue, AreLawful}
-use Rattle.theta_laws.specs.Values.{Sketch, NonEmpty}
+use Rattle.theta_laws.specs.Values.{Sketch, Empty, NonEmpty}
 use Rattle.theta_laws.specs.declared.TheConstants.{MAX_THETA}
 use Rattle.theta_laws.proofs.maps.Ascending.{ascending-nil}
 use Rattle.theta_laws.proofs.insertions.Leaves.{leaf-sample, leaf-lawful, hash_keeps}
 use Rattle.theta_laws.proofs.operators.JoinedMaps.{either, entry_at-join, ascending-joined}
 use Rattle.theta_laws.proofs.maps.LookUps.{same_map}
+use Rattle.theta_laws.proofs.cuts.WithinWholeMaps.{found_key}
 use Rattle.theta_laws.proofs.operators.Samples.{union_lawful}
-use Rattle.lines.specs.Lines.{lines_of, IsWhole, nothing, ended, AreWhole}
+use Rattle.lines.specs.Lines.{lines_of, lines_of_all, IsWhole, nothing, ended, AreWhole}
 use Rattle.lines.specs.Keys.{line_hash}
-use Rattle.line_sketches.specs.Keys.{adds, key_set, value_of_lines}
+use Rattle.line_sketches.specs.Keys.{adds, key_set, value_of_lines, IsAmong, HaveSameLines}
 use Rattle.line_sketches.specs.Shards.{united, values_of_texts}
 use Rattle.line_sketches.proofs.Worth.{value_is_leaf}
 use Rattle.lines.specs.declared.key.Key.{Key}
@@ -177,3 +179,91 @@ module _ (key : Key) where
   pub united_texts : (lg_k : ℕ) (texts : List (List ℕ)) → AreWhole texts → united lg_k (values_of_texts key lg_k texts) ≡ value_of_lines key lg_k (lines_of (concat texts))
   united_texts lg_k texts whole =
       ap (united lg_k) (values_map lg_k texts) ∙ united_lines lg_k (map lines_of texts) ∙ ap (value_of_lines key lg_k) (sym (lines_concat texts whole))
+
+  -- ---- texts of which each is cut into lines by itself
+
+  lines_apart : (texts : List (List ℕ)) → all_lines (map lines_of texts) ≡ lines_of_all texts
+  lines_apart [] = refl
+  lines_apart (text ∷ texts) = ap (λ ls. lines_of text ++ ls) (lines_apart texts)
+
+  pub united_lines_apart : (lg_k : ℕ) (texts : List (List ℕ)) → united lg_k (values_of_texts key lg_k texts) ≡ value_of_lines key lg_k (lines_of_all texts)
+  united_lines_apart lg_k texts =
+      ap (united lg_k) (values_map lg_k texts) ∙ united_lines lg_k (map lines_of texts) ∙ ap (value_of_lines key lg_k) (lines_apart texts)
+
+  -- ---- the same lines, in any order
+
+  equal_by : (a b : ℕ) → eqb a b ≡ true → a ≡ b
+  equal_by a b e = grind (arith, nat_tests)
+
+  itself : (a : ℕ) → eqb a a ≡ true
+  itself a = grind (arith, nat_tests)
+
+  set_look : (lines : List (List ℕ)) (q : ℕ) → entry_at hash_key (key_set key lines) q ≡ entry_at hash_key (hashes lines) q
+  set_look lines q = ap (λ (w : List ℕ). entry_at hash_key w q) (whole-joined lines []) ∙ look (hashes lines) [] q ∙ either_none (entry_at hash_key (hashes lines) q)
+
+  carried_first : (h : ℕ) (hs : List ℕ) → is_carried h ≡ true → entry_at hash_key (cond (is_carried h) (h ∷ hs) hs) h ≡ Some h
+  carried_first h hs carried = ap (λ b. entry_at hash_key (cond b (h ∷ hs) hs) h) carried ∙ ap (λ b. cond b (Some h) (entry_at hash_key hs h)) (itself h)
+
+  carried_later : (h q : ℕ) (hs : List ℕ) → entry_at hash_key hs q ≡ Some q → entry_at hash_key (cond (is_carried h) (h ∷ hs) hs) q ≡ Some q
+  carried_later h q hs found =
+      elim (is_carried h) as (λ b. entry_at hash_key (cond b (h ∷ hs) hs) q ≡ Some q) [
+        | true ↦ (elim (eqb h q) as (λ b. eqb h q ≡ b → cond b (Some h) (entry_at hash_key hs q) ≡ Some q) [
+          | true ↦ λ e. ap (λ (x : ℕ). Some x) (equal_by h q e)
+          | false ↦ λ e. found
+        ]) refl
+        | false ↦ found
+      ]
+
+  -- the hash of a line, if a sketch may retain it, is found among those of lines
+  look_line : (lines : List (List ℕ)) (line : List ℕ) → IsAmong line lines → is_carried (line_hash key line) ≡ true → entry_at hash_key (hashes lines) (line_hash key line) ≡ Some (line_hash key line)
+  look_line [] line among carried = absurd among
+  look_line (other ∷ lines) line among carried =
+      elim among [
+        | inl same ↦ subst (λ (l : List ℕ). entry_at hash_key (hashes (l ∷ lines)) (line_hash key line) ≡ Some (line_hash key line)) same (carried_first (line_hash key line) (hashes lines) carried)
+        | inr later ↦ carried_later (line_hash key other) (line_hash key line) (hashes lines) (look_line lines line later carried)
+      ]
+
+  -- a hash that is found is that of a line
+  abbrev IsFound : List (List ℕ) → ℕ → Type 0
+  IsFound lines q = (line : List ℕ) × IsAmong line lines × (line_hash key line ≡ q) × (is_carried q ≡ true)
+
+  found_later : (other : List ℕ) (lines : List (List ℕ)) (q : ℕ) → IsFound lines q → IsFound (other ∷ lines) q
+  found_later other lines q found = (found.0, inr found.1, found.2, found.3)
+
+  found_line : (lines : List (List ℕ)) (q e : ℕ) → entry_at hash_key (hashes lines) q ≡ Some e → IsFound lines q
+  found_line [] q e found = absurd (cc)
+  found_line (other ∷ lines) q e found =
+      (elim (is_carried (line_hash key other)) as (λ b. is_carried (line_hash key other) ≡ b → entry_at hash_key (cond b (line_hash key other ∷ hashes lines) (hashes lines)) q ≡ Some e → IsFound (other ∷ lines) q) [
+        | true ↦ λ carried f. (elim (eqb (line_hash key other) q) as (λ b. eqb (line_hash key other) q ≡ b → cond b (Some (line_hash key other)) (entry_at hash_key (hashes lines) q) ≡ Some e → IsFound (other ∷ lines) q) [
+          | true ↦ λ same g. let is : line_hash key other ≡ q = equal_by (line_hash key other) q same in (other, inl refl, is, subst (λ (h : ℕ). is_carried h ≡ true) is carried)
+          | false ↦ λ same g. found_later other lines q (found_line lines q e g)
+        ]) refl f
+        | false ↦ λ carried f. found_later other lines q (found_line lines q e f)
+      ]) refl found
+
+  found_too : (xs ys : List (List ℕ)) → ((line : List ℕ) → IsAmong line xs → IsAmong line ys) → (q e : ℕ) → entry_at hash_key (hashes xs) q ≡ Some e → entry_at hash_key (hashes ys) q ≡ Some q
+  found_too xs ys each q e found =
+      let f = found_line xs q e found in
+      subst (λ (h : ℕ). entry_at hash_key (hashes ys) h ≡ Some h) f.2 (look_line ys f.0 (each f.0 f.1) (subst (λ (h : ℕ). is_carried h ≡ true) (sym f.2) f.3))
+
+  same_look : (xs ys : List (List ℕ)) → HaveSameLines xs ys → (q : ℕ) → entry_at hash_key (hashes xs) q ≡ entry_at hash_key (hashes ys) q
+  same_look xs ys same q =
+      (elim (entry_at hash_key (hashes xs) q) as (λ o. entry_at hash_key (hashes xs) q ≡ o → o ≡ entry_at hash_key (hashes ys) q) [
+        | Some e ↦ λ found. ap (λ (x : ℕ). Some x) (found_key hash_key (hashes xs) q e found) ∙ sym (found_too xs ys same.0 q e found)
+        | None ↦ λ none. (elim (entry_at hash_key (hashes ys) q) as (λ p. entry_at hash_key (hashes ys) q ≡ p → None ≡ p) [
+          | Some e ↦ λ found. absurd (let some : entry_at hash_key (hashes xs) q ≡ Some q = found_too ys xs same.1 q e found in cc)
+          | None ↦ λ found. refl
+        ]) refl
+      ]) refl
+
+  set_up : (lines : List (List ℕ)) → IsAscending hash_key (key_set key lines)
+  set_up lines = subst (IsAscending hash_key) (sym (whole-joined lines [])) (up (hashes lines) [] (ascending-nil hash_key))
+
+  same_keys : (xs ys : List (List ℕ)) → HaveSameLines xs ys → key_set key xs ≡ key_set key ys
+  same_keys xs ys same = same_map hash_key (key_set key xs) (key_set key ys) (set_up xs) (set_up ys) (λ q. set_look xs q ∙ same_look xs ys same q ∙ sym (set_look ys q))
+
+  pub same_value : (lg_k : ℕ) (xs ys : List (List ℕ)) → HaveSameLines xs ys → value_of_lines key lg_k xs ≡ value_of_lines key lg_k ys
+  same_value lg_k [] [] same = refl
+  same_value lg_k [] (y ∷ ys) same = absurd (same.1 y (inl refl))
+  same_value lg_k (x ∷ xs) [] same = absurd (same.0 x (inl refl))
+  same_value lg_k (x ∷ xs) (y ∷ ys) same = ap (λ keys. NonEmpty (kmin (2 ^ lg_k) keys MAX_THETA)) (same_keys (x ∷ xs) (y ∷ ys) same)

@@ -1,5 +1,5 @@
 -- The hashes of lines, and the sketch of them.
-use Rattle.std.specs.Prelude.{ℕ, ◌^◌, Bool, true, false, List, [], ◌∷◌, map}
+use Rattle.std.specs.Prelude.{ℕ, ◌≡◌, ◌⊎◌, ◌^◌, Bool, true, false, List, [], ◌∷◌, map}
 use Rattle.sketch_base.specs.Seed.{seed_hash}
 use Rattle.sketch_base.specs.declared.seed.TheConstants.{DEFAULT_UPDATE_SEED}
 use Rattle.theta_compact.specs.CompactState.{Compact, empty_compact}
@@ -34,6 +34,19 @@ value_of_lines key lg_k (line ∷ lines) = NonEmpty (kmin (2 ^ lg_k) (key_set ke
 abbrev pub ordered_sketch : Sketch ℕ → Compact ℕ
 ordered_sketch Empty = empty_compact (seed_hash DEFAULT_UPDATE_SEED)
 ordered_sketch (NonEmpty v) = record { empty = false; entries = v.entries; theta = v.theta; seed_hash = seed_hash DEFAULT_UPDATE_SEED; ordered = true }
+
+-- a line is among lines
+abbrev pub IsAmong : (line : List ℕ) → List (List ℕ) → Type 0
+IsAmong line [] = ⊥
+IsAmong line (other ∷ lines) = (line ≡ other) ⊎ IsAmong line lines
+
+-- the same lines are in both, in any order, and each any number of times
+abbrev pub HaveSameLines : (lines others : List (List ℕ)) → Type 0
+HaveSameLines lines others = ((line : List ℕ) → IsAmong line lines → IsAmong line others) × ((line : List ℕ) → IsAmong line others → IsAmong line lines)
+
+-- the image of lines
+abbrev pub image_of_lines : Key → (lg_k : ℕ) → List (List ℕ) → List ℕ
+image_of_lines key lg_k lines = written (ordered_sketch (value_of_lines key lg_k lines))
 
 -- the image of a text's lines
 abbrev pub image_of_text : Key → (lg_k : ℕ) → List ℕ → List ℕ

@@ -7,8 +7,10 @@ use Rattle.theta_laws.specs.declared.TheConstants.{MAX_THETA}
 use Rattle.theta_operators.specs.Union.{Union, empty_union, union_value}
 use Rattle.theta_compact.specs.CompactState.{Compact}
 use Rattle.theta_sketches.specs.Image.{written}
-use Rattle.line_sketches.specs.Keys.{ordered_sketch}
-use Rattle.line_sketches.specs.Shards.{united, values_of_sketches, AreRead}
+use Rattle.lines.specs.Lines.{lines_of_all}
+use Rattle.lines.specs.declared.key.Key.{Key}
+use Rattle.line_sketches.specs.Keys.{ordered_sketch, image_of_lines, HaveSameLines}
+use Rattle.line_sketches.specs.Shards.{united, values_of_sketches, AreRead, images_of_texts}
 
 -- a union takes in images: it hasn't failed, and its sketches are of the default seed
 pub record IsReady {P : Type 0} (u : Union ℕ P) : Type 0 where
@@ -25,3 +27,8 @@ pub record HasUnited {P : Type 0} (lg_k : ℕ) (images : List (List ℕ)) (u : U
 -- the image of the union of the sketches that images are read as
 abbrev pub IsUnitedImage : (lg_k : ℕ) → (images : List (List ℕ)) → List ℕ → Type 0
 IsUnitedImage lg_k images bytes = (sketches : List (Compact ℕ)) × AreRead images sketches × (bytes ≡ written (ordered_sketch (united lg_k (values_of_sketches sketches))))
+
+-- of images of texts that were sketched apart, by one key and with this lg_k, it is the image of all their lines, in any order of them
+abbrev pub UnitesTexts : (lg_k : ℕ) → (images : List (List ℕ)) → List ℕ → Type 0
+UnitesTexts lg_k images bytes =
+    (key : Key) (texts lines : List (List ℕ)) → images ≡ images_of_texts key lg_k texts → HaveSameLines (lines_of_all texts) lines → bytes ≡ image_of_lines key lg_k lines

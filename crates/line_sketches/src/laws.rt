@@ -1,7 +1,7 @@
 //! Laws of the definitions, each the contract of a function that does nothing.
 ghost use Rattle.std.specs.Prelude.{◌≡◌, ℕ, List};
 ghost use Rattle.std.specs.List.{concat};
-ghost use Rattle.line_sketches.specs.Keys.{value_of_lines, ordered_sketch, image_of_text};
+ghost use Rattle.line_sketches.specs.Keys.{value_of_lines, ordered_sketch, image_of_text, HaveSameLines};
 ghost use Rattle.lines.specs.Lines.{lines_of, AreWhole};
 ghost use Rattle.lines.specs.declared.key.Key.{Key};
 ghost use Rattle.theta_compact.specs.CompactState.{Compact};
@@ -23,3 +23,8 @@ pub fn images_unite()
 {
     one_reading();
 }
+
+/// Lines are worth the same in any order, and if some are there more than once.
+pub fn lines_in_any_order()
+    ensures { (key : Key) (lg_k : ℕ) (lines others : List (List ℕ)) → HaveSameLines lines others → value_of_lines key lg_k lines ≡ value_of_lines key lg_k others }
+{}

@@ -22,5 +22,5 @@ mod uniting;
 pub use hex::{hex_line, read_hex};
 pub use images::{image_of, lacked, met, read_image};
 pub use sketching::{Unread, Watch, add_lines, finished, new_sketch, sketch_lines};
-pub use sources::{BLOCK, Sources, add_sources, sketch_sources};
-pub use uniting::unite_images;
+pub use sources::{BLOCK, Sources, Texts, add_sources, sketch_sources};
+pub use uniting::{image_of_texts, unite_images};

@@ -1,5 +1,5 @@
 //! Texts, each behind a reader of its own, one after another.
-ghost use Rattle.std.specs.Prelude.{◌≡◌, ℕ, List, Option, None, IfOk, OnOk, IfSome};
+ghost use Rattle.std.specs.Prelude.{◌≡◌, ℕ, List, Option, None, Some, map, IfOk, OnOk, IfSome};
 ghost use Rattle.lines.specs.Lines.{lines_of, lines_of_all};
 ghost use Rattle.line_sketches.specs.Keys.{held, with_lines, value_of_lines, ordered_sketch};
 ghost use Rattle.line_sketches.specs.Sources.{GivesNext};
@@ -11,7 +11,7 @@ ghost use Rattle.theta_table.specs.HashTable.{table_refusal};
 use crate::sketching::{Unread, Watch, add_lines, finished, new_sketch};
 use lines::Key;
 use sketch_base::Error;
-use std::alloc::{AllocError, Allocator};
+use std::alloc::{AllocError, Allocator, Global};
 use std::io;
 use std::io::Read;
 use theta_sketches::{CompactThetaSketch, ThetaSketch};
@@ -31,6 +31,35 @@ pub trait Sources {
     /// is not said.
     fn next_source(&mut self) -> io::Result<Option<Self::Source>>
         ensures { IfOk result (GivesNext Self.Source.remaining (texts self.old) (texts self.new)) };
+}
+
+/// Texts in memory, one after another.
+#[derive(Drop)]
+pub struct Texts<'a, A: Allocator = Global> {
+    left: &'a [Vec<u8, A>],
+}
+
+impl<'a, A: Allocator> Texts<'a, A> {
+    /// These texts, in their order.
+    pub fn new(texts: &'a [Vec<u8, A>]) -> Texts<'a, A>
+        ensures { result.left.now ≡ texts.now }
+    {
+        Texts { left: texts }
+    }
+}
+
+impl<'a, A: Allocator> Sources for Texts<'a, A> {
+    type Source = &'a [u8];
+
+    ghost texts = { λ s. Some (map (λ text. text.items) s.left.now) };
+
+    fn next_source(&mut self) -> io::Result<Option<&'a [u8]>> {
+        let Some((first, others)) = self.left.split_first() else {
+            return Ok(None);
+        };
+        self.left = others;
+        Ok(Some(first.as_slice()))
+    }
 }
 
 /// Takes in the lines of one text.

@@ -1,11 +1,11 @@
 //! Images that are united one after another, and what their union is the image of.
-ghost use Rattle.std.specs.Prelude.{◌≡◌, ◌++◌, ◌∷◌, ℕ, List, [], true, None, IfOk, IfErr, OnOk, IfSome};
+ghost use Rattle.std.specs.Prelude.{◌≡◌, ◌++◌, ◌∷◌, ℕ, List, [], map, true, None, IfOk, IfErr, OnOk, IfSome};
 ghost use Rattle.std.specs.List.{concat};
-ghost use Rattle.lines.specs.Lines.{AreWhole};
+ghost use Rattle.lines.specs.Lines.{lines_of_all, AreWhole};
 ghost use Rattle.lines.specs.declared.key.Key.{Key};
-ghost use Rattle.line_sketches.specs.Keys.{image_of_text};
+ghost use Rattle.line_sketches.specs.Keys.{image_of_text, image_of_lines, HaveSameLines};
 ghost use Rattle.line_sketches.specs.Shards.{images_of_texts};
-ghost use Rattle.line_sketches.specs.Unions.{HasUnited, IsReady, IsUnitedImage};
+ghost use Rattle.line_sketches.specs.Unions.{HasUnited, IsReady, IsUnitedImage, UnitesTexts};
 ghost use Rattle.line_sketches.specs.Refusals.{IsImageRefusal, IsImagesRefusal, IsUniteRefusal};
 ghost use Rattle.sketch_base.specs.Seed.{seed_hash};
 ghost use Rattle.sketch_base.specs.declared.seed.TheConstants.{DEFAULT_UPDATE_SEED};
@@ -16,11 +16,13 @@ ghost use Rattle.theta_sketches.specs.Image.{IsReadable};
 ghost use Rattle.theta_table.specs.HashTable.{table_refusal};
 
 use crate::images::{image_of, new_union, read_image};
-use crate::sketching::Unread;
-use crate::sources::Sources;
+use crate::sketching::{Unread, Watch};
+use crate::sources::{Sources, Texts, sketch_sources};
+use lines::Key;
 use sketch_base::Error;
-use std::alloc::{AllocError, Allocator};
+use std::alloc::{AllocError, Allocator, Global};
 use std::io::Read;
+use std::slice::from_ref;
 use theta_sketches::ThetaUnion;
 use theta_sketches::laws::{one_reading, read_again};
 
@@ -91,9 +93,9 @@ fn united_image<A: Allocator + Clone + Drop>(union: &ThetaUnion<A>) -> Result<Ve
 
 /// The image of the union of images, each behind a reader of its own.
 ///
-/// Where the images are those of texts that were sketched apart, by one key and with this `lg_k`, and each text but the last
-/// is empty or ends by an LF, it is the image of the texts one behind the other, byte for byte. An image doesn't tell the
-/// `lg_k` that it was made with.
+/// If the images are those of texts that were sketched apart, by one key and with this `lg_k`, it is the image of all their
+/// lines, byte for byte, in whatever order the images are. If each text but the last is empty or ends by an LF, it is the image
+/// of the texts one behind the other too. An image doesn't show the key and the `lg_k` that it was made with.
 ///
 /// Refused with `InvalidArgument` for an `lg_k` that isn't from 4 to 26, before anything is read; with `InvalidData` only where
 /// some source is no image of a theta sketch of the default seed; and with `OutOfMemory`. A source that failed, or couldn't be
@@ -105,6 +107,7 @@ pub fn unite_images<A: Allocator + Clone + Drop, S: Sources>(
 ) -> Result<Vec<u8, A>, Unread>
     ensures united { IfSome (S.texts images.old) (λ all. IfOk result (λ v. IsUnitedImage lg_k all v.items)) }
     ensures whole { IfSome (S.texts images.old) (λ all. (key : Key) (texts : List (List ℕ)) → AreWhole texts → all ≡ images_of_texts key lg_k texts → IfOk result (λ v. v.items ≡ image_of_text key lg_k (concat texts))) }
+    ensures apart { IfSome (S.texts images.old) (λ all. IfOk result (λ v. UnitesTexts lg_k all v.items)) }
     ensures accepted { OnOk result (table_refusal lg_k MAX_THETA DEFAULT_UPDATE_SEED ≡ None) }
     ensures refused { IfErr result (IsUniteRefusal (table_refusal lg_k MAX_THETA DEFAULT_UPDATE_SEED) (S.texts images.old)) }
 {
@@ -113,4 +116,45 @@ pub fn unite_images<A: Allocator + Clone + Drop, S: Sources>(
     let mut union = new_union(alloc.clone()?, lg_k)?;
     add_images(&mut union, alloc, images)?;
     Ok(united_image(&union)?)
+}
+
+/// The image of the lines of one text.
+fn image_of_text<W: Watch>(
+    alloc: Global,
+    key: Key,
+    lg_k: u8,
+    text: &Vec<u8>,
+    watch: &mut W,
+) -> Result<Vec<u8>, Unread>
+    ensures image { IfOk result (λ v. v.items ≡ image_of_text key lg_k text.now.items) }
+{
+    let mut sources = Texts::new(from_ref(text));
+    let sketch = sketch_sources(alloc, key, lg_k, &mut sources, watch)?;
+    Ok(image_of(&sketch)?)
+}
+
+/// The image of all lines of texts in memory, each text cut into lines by itself: each is sketched apart, and their images are
+/// united. It depends on no order of the texts or of their lines, and on no repeats.
+///
+/// `lg_k` is from 4 to 26. An error is that it isn't, or that memory was refused; no clause says so.
+pub fn image_of_texts<W: Watch>(
+    alloc: Global,
+    key: Key,
+    lg_k: u8,
+    texts: &[Vec<u8>],
+    watch: &mut W,
+) -> Result<Vec<u8>, Unread>
+    ensures image { (lines : List (List ℕ)) → HaveSameLines (lines_of_all (map (λ text. text.items) texts.now)) lines → IfOk result (λ v. v.items ≡ image_of_lines key lg_k lines) }
+{
+    let mut images = Vec::new(alloc);
+    let mut left = texts;
+    while let Some((text, others)) = left.split_first() {
+        let image = image_of_text(alloc, key, lg_k, text, watch)?;
+        if let Err(error) = images.push(image) {
+            return Err(Unread::from(AllocError::from(error)));
+        }
+        left = others;
+    }
+    let mut sources = Texts::new(images.as_slice());
+    unite_images(alloc, lg_k, &mut sources)
 }

@@ -1,32 +1,10 @@
 //! Texts that are split over parts in many ways, sketched apart and united.
-ghost use Rattle.std.specs.Prelude.{None};
-
 use crate::readers::Counter;
-use line_sketches::{Sources, image_of, sketch_sources, unite_images};
+use line_sketches::{Texts, image_of, image_of_texts, sketch_sources, unite_images};
 use lines::{Key, cut_line};
 use std::alloc::Global;
 use std::io;
 use std::test::Fail;
-
-/// Texts in memory, one after another.
-#[derive(Drop)]
-struct Parts<'a> {
-    left: &'a [Vec<u8>],
-}
-
-impl<'a> Sources for Parts<'a> {
-    type Source = &'a [u8];
-
-    ghost texts = { λ _. None };
-
-    fn next_source(&mut self) -> io::Result<Option<&'a [u8]>> {
-        let Some((first, others)) = self.left.split_first() else {
-            return Ok(None);
-        };
-        self.left = others;
-        Ok(Some(first.as_slice()))
-    }
-}
 
 /// 300 lines, of which 200 are distinct, and a last one without an LF.
 fn text(alloc: Global) -> io::Result<String> {
@@ -65,10 +43,10 @@ fn parts_of(alloc: Global, text: &[u8], every: u32) -> io::Result<Vec<Vec<u8>>> 
     Ok(parts)
 }
 
-/// The image of the lines of texts.
-fn image_of_texts(alloc: Global, texts: &[Vec<u8>]) -> io::Result<Vec<u8>> {
+/// The image of the lines of texts, in one sketch.
+fn image_at_once(alloc: Global, texts: &[Vec<u8>]) -> io::Result<Vec<u8>> {
     let mut counter = Counter { lines: 0, bytes: 0 };
-    let mut parts = Parts { left: texts };
+    let mut parts = Texts::new(texts);
     match sketch_sources(alloc, Key::Line, 5, &mut parts, &mut counter) {
         Ok(sketch) => match image_of(&sketch) {
             Ok(image) => Ok(image),
@@ -82,18 +60,25 @@ fn image_of_texts(alloc: Global, texts: &[Vec<u8>]) -> io::Result<Vec<u8>> {
 fn united(alloc: Global, texts: &[Vec<u8>], reversed: bool) -> io::Result<Vec<u8>> {
     let mut images = Vec::new(alloc);
     for i in 0..texts.len() {
-        let image = image_of_texts(alloc, &texts[i..i + 1])?;
+        let image = image_at_once(alloc, &texts[i..i + 1])?;
         images.push(image)?;
     }
     if reversed {
         images.reverse();
     }
-    let mut parts = Parts {
-        left: images.as_slice(),
-    };
+    let mut parts = Texts::new(images.as_slice());
     match unite_images(alloc, 5, &mut parts) {
         Ok(image) => Ok(image),
         Err(_) => Ok(Vec::new(alloc)),
+    }
+}
+
+/// The same by one call, whose contract has what the image is.
+fn united_by_one_call(alloc: Global, texts: &[Vec<u8>]) -> Vec<u8> {
+    let mut counter = Counter { lines: 0, bytes: 0 };
+    match image_of_texts(alloc, Key::Line, 5, texts, &mut counter) {
+        Ok(image) => image,
+        Err(_) => Vec::new(alloc),
     }
 }
 
@@ -101,7 +86,7 @@ fn united(alloc: Global, texts: &[Vec<u8>], reversed: bool) -> io::Result<Vec<u8
 fn parts_unite(rt: HostRuntime) -> Result<(), Fail> {
     let text = text(rt.alloc())?;
     let all = parts_of(rt.alloc(), text.as_bytes(), 1000)?;
-    let whole = image_of_texts(rt.alloc(), all.as_slice())?;
+    let whole = image_at_once(rt.alloc(), all.as_slice())?;
     assert_eq!(rt; whole.len(), 24 + 8 * 32);
     for (every, reversed) in [
         (1, false),
@@ -113,6 +98,12 @@ fn parts_unite(rt: HostRuntime) -> Result<(), Fail> {
         let parts = parts_of(rt.alloc(), text.as_bytes(), every)?;
         let image = united(rt.alloc(), parts.as_slice(), reversed)?;
         assert_eq!(rt; image.as_slice(), whole.as_slice(), "every {every}");
+        let made = united_by_one_call(rt.alloc(), parts.as_slice());
+        assert_eq!(rt;
+            made.as_slice(),
+            whole.as_slice(),
+            "every {every}, by one call"
+        );
     }
     Ok(())
 }
