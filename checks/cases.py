@@ -1,5 +1,5 @@
 #!/usr/bin/env python3
-"""Unpacks the cases of examples/*.cases: tools/cases.py FOLDER writes each as FOLDER/FILE_NAME, its plan, and FOLDER/FILE_NAME.stdout,
+"""Unpacks the cases of examples/*.cases: checks/cases.py FOLDER writes each as FOLDER/FILE_NAME, its plan, and FOLDER/FILE_NAME.stdout,
 what the plan comes to.
 
 A case is a line NAME | PLAN | ANSWER. In both texts:

@@ -1,5 +1,5 @@
 #!/usr/bin/env python3
-"""What a plan comes to, read from docs/SPECIFICATION.md alone: tools/answers.py < PLAN prints the answer.
+"""What a plan comes to, read from docs/SPECIFICATION.md alone: checks/answers.py < PLAN prints the answer.
 
 It shares no code with the program, and holds a leaf's whole list of steps. It tells no fault but `error argument`, and
 knows theta plans alone.
