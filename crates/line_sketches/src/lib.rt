@@ -1,7 +1,7 @@
 //! Theta sketches of lines: from readers, to images and back, and united, met and taken from one another.
 //!
-//! The promise is `unite_images`: the images of texts that were sketched apart come, united, to the image of the texts one
-//! behind the other, byte for byte.
+//! The promise is `unite_images`: the images of texts that were sketched apart unite to the image of all their lines, byte for
+//! byte, in any order. `image_of_texts` does both, of texts in memory.
 //!
 //! The sketch of the lines of a reader, and its image as text:
 //!
