@@ -167,13 +167,14 @@ fn assert_holds<'a>(
 fn refused_calls_change_nothing(rt: HostRuntime) -> Result<(), Fail> {
     let heap = Refusing::new(rt.alloc());
     let mut sketch = ThetaSketchBuilder::default().lg_k(5).build(&heap)?;
-    let mut hashes = numbers(rt.alloc(), 1, 100)?;
     // The 61st hash has the sketch select among 64 slots and gather 32 hashes.
     let rebuild = (65 + 33) * 8;
-    let ascending = update_in_turn(&rt, &heap, &mut sketch, &hashes[..61])?;
+    let mut hashes = numbers(rt.alloc(), 1, 61)?;
+    let ascending = update_in_turn(&rt, &heap, &mut sketch, &hashes)?;
     assert_eq!(rt; ascending, (2, rebuild));
     assert_holds(&rt, &heap, &sketch, 32)?;
     sketch.reset();
+    hashes = numbers(rt.alloc(), 1, 100)?;
     hashes.reverse();
     // The 61st hash, and again the 90th.
     let descending = update_in_turn(&rt, &heap, &mut sketch, &hashes)?;

@@ -121,7 +121,7 @@ fn boxed<V: StepValue, A: Allocator + Clone>(
     ensures { IfOk result (λ b. b ≡ plan) }
 {
     let held = Box::new(alloc.clone()?, plan)?;
-    Ok(Boxed::from_box(held))
+    Ok(Boxed::of_fewer(held))
 }
 
 /// `count` plans of at most `levels` levels, and the text after them.
@@ -211,17 +211,17 @@ fn node<'a, V: StepValue, A: Allocator + Clone>(
     match line {
         NodeLine::Leaf { lg_k, start, count } => {
             let (steps, after) = steps::<V, A>(alloc, count, text)?;
-            let steps = Items::from_vec(steps);
+            let steps = Items::from_steps(steps);
             Ok((Plan::Leaf { lg_k, start, steps }, after))
         }
         NodeLine::Union { lg_k, start, count } => {
             let (joined, after) = union_parts::<V, A>(alloc, levels, count, text)?;
-            let parts = Items::from_vec(joined);
+            let parts = Items::of_fewer(joined);
             Ok((Plan::Union { lg_k, start, parts }, after))
         }
         NodeLine::Meet { count } => {
             let (met, after) = parts::<V, A>(alloc, levels, count, text)?;
-            let parts = Items::from_vec(met);
+            let parts = Items::of_fewer(met);
             Ok((Plan::Meet { parts }, after))
         }
         NodeLine::Minus => {

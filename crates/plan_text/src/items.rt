@@ -1,14 +1,21 @@
 //! A list of items, for the fields of a plan.
-ghost use Rattle.std.specs.Prelude.{◌≡◌};
+ghost use Rattle.std.specs.Prelude.{◌≡◌, MatchResult};
+ghost use Rattle.sketch_base.specs.declared.error.ErrorKind.TheVariants.{InvalidArgument};
 
+use crate::levels::{Levels, MAX_LEVELS};
+use sketch_base::{Error, ErrorKind};
 use std::alloc::{Allocator, Global};
 use std::marker::Model;
+use theta_laws::LeafStep;
 
 /// A vector that contracts see as the list of its items, so that two plans are equal where they
-/// have equal steps and parts. It is made of a `Vec` and gives it back, and takes no memory.
+/// have equal steps and parts. It is made of a `Vec` and gives it back, and takes no memory. It knows how many levels its
+/// items have: at most 63.
 #[derive(Drop)]
 pub struct Items<T, A: Allocator = Global> {
     items: Vec<T, A>,
+    /// The levels of the item that has most; 0 if there is none.
+    levels: u8,
 }
 
 impl<T, A: Allocator> Model for Items<T, A> {
@@ -22,19 +29,70 @@ impl<T, A: Allocator> Model for Items<T, A> {
     ghost view = { λ it. it.items.items };
 }
 
-impl<T, A: Allocator> Items<T, A> {
-    /// The items of a vector.
-    pub fn from_vec(items: Vec<T, A>) -> Items<T, A>
-        ensures { result ≡ items.items }
+/// The levels of the item that has most; 0 if there is none.
+fn greatest_levels<T: Levels>(items: &[T]) -> u8 {
+    let mut greatest = 0;
+    for item in items {
+        greatest = greatest.max(item.levels());
+    }
+    greatest
+}
+
+impl<T: Levels + Drop, A: Allocator> Items<T, A> {
+    /// The parts of a plan, looked at one by one. If one has `MAX_LEVELS` levels, all are refused, and dropped.
+    ///
+    /// # Errors
+    ///
+    /// `InvalidArgument` if a part has as many levels as a plan may have, since a plan that holds it would have one more.
+    pub fn from_parts(parts: Vec<T, A>) -> Result<Items<T, A>, Error>
+        ensures { MatchResult result (λ it. it ≡ parts.items) (λ e. e ≡ InvalidArgument) }
     {
-        Items { items }
+        let levels = greatest_levels(parts.as_slice());
+        if levels < MAX_LEVELS {
+            Ok(Items {
+                items: parts,
+                levels,
+            })
+        } else {
+            Err(Error::new(ErrorKind::InvalidArgument))
+        }
+    }
+
+    /// The same, of parts that have fewer than `MAX_LEVELS` levels.
+    pub(crate) fn of_fewer(parts: Vec<T, A>) -> Items<T, A>
+        ensures { result ≡ parts.items }
+    {
+        let levels = greatest_levels(parts.as_slice());
+        Items {
+            items: parts,
+            levels,
+        }
+    }
+}
+
+impl<V, A: Allocator> Items<LeafStep<V>, A> {
+    /// The steps of a leaf, which have no levels.
+    pub fn from_steps(steps: Vec<LeafStep<V>, A>) -> Items<LeafStep<V>, A>
+        ensures { result ≡ steps.items }
+    {
+        Items {
+            items: steps,
+            levels: 0,
+        }
+    }
+}
+
+impl<T, A: Allocator> Items<T, A> {
+    /// The levels of the item that has most; 0 if there is none.
+    pub(crate) fn held_levels(&self) -> u8 {
+        self.levels
     }
 
     /// A vector of the items.
     pub fn into_vec(self) -> Vec<T, A>
         ensures { result.items ≡ self }
     {
-        let Items { items } = self;
+        let Items { items, levels: _ } = self;
         items
     }
 

@@ -9,13 +9,11 @@ ghost use Rattle.plan_text.specs.declared.command.Command.{Command as Commands};
 use crate::command::{Command, Family};
 use crate::descent::{command_line, plan};
 use crate::fault::{Fault, ReadError};
+use crate::levels::MAX_LEVELS;
 use crate::plan::Plan;
 use crate::step_value::StepValue;
 use crate::text::line_count;
 use std::alloc::Allocator;
-
-/// How many levels a plan has at most.
-const LEVELS: u8 = 64;
 
 /// A plan, with nothing after it.
 fn whole_plan<'a, V: StepValue, A: Allocator + Clone>(
@@ -24,7 +22,7 @@ fn whole_plan<'a, V: StepValue, A: Allocator + Clone>(
 ) -> Result<Plan<V, A>, ReadError<'a>>
     ensures { Gives (λ x. x) result (whole_at V.as_value (says text.now)) }
 {
-    let (plan, rest) = plan::<V, A>(alloc, LEVELS, text)?;
+    let (plan, rest) = plan::<V, A>(alloc, MAX_LEVELS, text)?;
     if rest.is_empty() {
         Ok(plan)
     } else {

@@ -3,6 +3,7 @@
 
 mod fakes;
 mod faults;
+mod levels;
 mod memory;
 mod merges;
 mod running;

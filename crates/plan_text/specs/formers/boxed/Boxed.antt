@@ -1,6 +1,7 @@
 -- `Boxed` as a type through which another reaches itself, as a plan does through its operands: its
--- value is what it holds, whatever the allocator.
+-- value is what it holds, whatever the allocator and the number of levels.
 use mathlib.Core.Path.{refl}
+use Prim.Native.Nat.{ℕ}
 use mathlib.Core.Former.{Former, this, const, pair, via}
 use base.Stored.{gnil}
 use base.Fml.{ftrue}
@@ -28,10 +29,10 @@ the_former held A = held
 abbrev pub the_weighed : {held : Former {0}} → Weighed held → (A : Type 0) → Weighed (the_former held A)
 the_weighed weighed A = weighed
 
--- the one field, a box: its place, its allocator and what it holds
+-- the fields, a box (its place, its allocator and what it holds) and a number of levels
 abbrev field : Type 0 → Former {0}
-field A = via (pair (const (Ptr × A)) this) (λ X. Inside X A) (λ X b. ((b.held.ptr, b.held.alloc), b.held.value))
-    (λ X v. record { held = record { ptr = v.0.0; alloc = v.0.1; value = v.1 } }) (λ X b. refl) (λ X v. refl)
+field A = via (pair (pair (const (Ptr × A)) this) (const ℕ)) (λ X. Inside X A) (λ X b. (((b.held.ptr, b.held.alloc), b.held.value), b.levels))
+    (λ X v. record { held = record { ptr = v.0.0.0; alloc = v.0.0.1; value = v.0.1 }; levels = v.1 }) (λ X b. refl) (λ X v. refl)
 
 abbrev holding : {A X Y : Type 0} → Box X A → Y → Box Y A
 holding b y = record { ptr = b.ptr; alloc = b.alloc; value = y }
@@ -55,7 +56,8 @@ module _ (A : RattleType) (G : Ghosts A.Denot) (R S : RattleType) (h : R.Denot �
   the_places alike = view_places (field A.Denot) this (λ X. view X A.Denot G) (λ X Y k b. refl) (λ X b. refl) R.Denot S.Denot h (at R).coded (at S).coded
       (invariant R.Denot A.Denot G) (invariant S.Denot A.Denot G) (λ b p q. refl) (λ b p q. refl) (λ b e. tt) (λ b e. tt)
       (over (inside.the_row R A G)) (over (inside.the_row S A G))
-      (struct_places (inside.the_type R A G) (inside.the_type S A G) ((λ b. holding b (h b.value)), tt) _ (λ b. refl) refl (laid _ _ _ (box_places alike), tt))
+      (struct_places (inside.the_type R A G) (inside.the_type S A G) ((λ b. holding b (h b.value)), (λ n. n, tt)) _ (λ b. refl) refl
+      (laid _ _ _ (box_places alike), ((refl, (λ n. refl, λ n. refl)), tt)))
 
   pub the_codes_placed : Recodes R S h → Recodes (at R) (at S) ((the_former this A.Denot).map R.Denot S.Denot h)
   the_codes_placed same item = same item

@@ -1,8 +1,9 @@
 -- `Items` as a type through which another reaches itself, as a plan does through its parts: its
--- value is the list of what it holds, whatever the allocator.
+-- value is the list of what it holds, whatever the allocator and the number of levels.
 use mathlib.Core.Path.{◌≡◌, refl, sym}
 use mathlib.Core.List.{List, []}
-use mathlib.Core.Former.{Former, this, list, via, children}
+use Prim.Native.Nat.{ℕ}
+use mathlib.Core.Former.{Former, this, const, list, pair, via, children}
 use base.Stored.{code_map}
 use denote.RattleType.{RattleType}
 use denote.HoleLaws.{Alike}
@@ -34,9 +35,10 @@ the_items A X items = items
 pub the_items_listed : (A X : Type 0) (items : List X) → listed _ (children (the_former this A) X items) ≡ the_items A X items
 the_items_listed A X items = list-listed X items
 
--- the one field, a vector
+-- the fields, a vector and a number of levels
 abbrev field : Type 0 → Former {0}
-field A = via (vec.the_former this A) (λ X. Inside X A) (λ X it. it.items) (λ X v. record { items = v }) (λ X it. refl) (λ X v. refl)
+field A = via (pair (vec.the_former this A) (const ℕ)) (λ X. Inside X A) (λ X it. (it.items, it.levels)) (λ X v. record { items = v.0; levels = v.1 })
+    (λ X it. refl) (λ X v. refl)
 
 module _ (A : RattleType) (G : Ghosts A.Denot) (R S : RattleType) (h : R.Denot → S.Denot) where
   abbrev at : RattleType → RattleType
@@ -46,7 +48,8 @@ module _ (A : RattleType) (G : Ghosts A.Denot) (R S : RattleType) (h : R.Denot �
   the_places alike = view_places (field A.Denot) (list this) (λ X. view X A.Denot G) (λ X Y k it. refl) (λ X it. refl) R.Denot S.Denot h (at R).coded (at S).coded
       (invariant R.Denot A.Denot G) (invariant S.Denot A.Denot G) (λ it p q. refl) (λ it p q. refl) (λ it e. tt) (λ it e. tt)
       (over (inside.the_row R A G)) (over (inside.the_row S A G))
-      (struct_places (inside.the_type R A G) (inside.the_type S A G) (vec.mapped h, tt) _ (λ it. refl) refl (laid _ _ _ (vec.the_places A G R S h alike), tt))
+      (struct_places (inside.the_type R A G) (inside.the_type S A G) (vec.mapped h, (λ n. n, tt)) _ (λ it. refl) refl
+      (laid _ _ _ (vec.the_places A G R S h alike), ((refl, (λ n. refl, λ n. refl)), tt)))
 
   pub the_codes_placed : Recodes R S h → Recodes (at R) (at S) ((the_former this A.Denot).map R.Denot S.Denot h)
   the_codes_placed same items = sym (code_map R.coded.code S.coded.code h (λ x. sym (same x)) items)

@@ -1,0 +1,36 @@
+//! How many levels a plan has.
+
+use crate::plan::{Plan, UnionPart};
+use std::alloc::Allocator;
+
+/// How many levels a plan has at most, whether it is read or built.
+pub const MAX_LEVELS: u8 = 64;
+
+/// What has levels.
+pub trait Levels {
+    /// The number of levels, from 0 to `MAX_LEVELS`, in constant time: 1 for a leaf, one more than the part that has most for
+    /// any other plan, and 0 for what is no plan.
+    fn levels(&self) -> u8;
+}
+
+impl<V, A: Allocator> Levels for Plan<V, A> {
+    fn levels(&self) -> u8 {
+        let held = match self {
+            Plan::Leaf { .. } => 0,
+            Plan::Union { parts, .. } => parts.held_levels(),
+            Plan::Meet { parts } => parts.held_levels(),
+            Plan::Minus(first, second) => first.held_levels().max(second.held_levels()),
+            Plan::Via { part, .. } => part.held_levels(),
+        };
+        held.saturating_add(1)
+    }
+}
+
+impl<P: Levels> Levels for UnionPart<P> {
+    fn levels(&self) -> u8 {
+        match self {
+            UnionPart::Of(plan) => plan.levels(),
+            UnionPart::Lower(_) => 0,
+        }
+    }
+}
