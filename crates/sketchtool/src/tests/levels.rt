@@ -93,8 +93,8 @@ fn evaluated(alloc: Global, node: Node, count: u8) -> Result<(u8, usize), Error>
 
 /// Why there is no such plan.
 fn refusal(alloc: Global, node: Node, count: u8) -> Option<ErrorKind> {
-    match nested(alloc, node, count) {
-        Ok(_) => None,
+    match evaluated(alloc, node, count) {
+        Ok(_answer) => None,
         Err(error) => Some(error.kind()),
     }
 }
