@@ -1,4 +1,5 @@
 pub mod Digits
+mod ImageLines
 pub mod Askings
 pub mod OnlyMemory
 pub mod NextImages

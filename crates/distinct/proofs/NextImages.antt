@@ -23,7 +23,7 @@ one_read : (all taken left : List (List ℕ)) (sketches : List (Compact ℕ)) (s
 one_read all taken left sketches s new parted read first =
     subst (λ (o : Option (List (List ℕ))). Continues (Some all) o (λ is. AreRead is (sketches ++ s ∷ []))) (sym first.leaves) (
       taken ++ first.image ∷ [],
-      parted ∙ ap (λ is. taken ++ is) first.parted ∙ sym (append_assoc taken (first.image ∷ []) first.images_behind),
+      parted ∙ ap (λ is. taken ++ is) first.parted ∙ sym (append_assoc taken (first.image ∷ []) first.images_after),
       are_read-more taken sketches first.image s read first.reads,
     )
 

@@ -15,6 +15,7 @@ use Rattle.line_sketches.specs.Shards.{values_of_sketches, AreRead}
 use Rattle.line_sketches.specs.Unions.{IsUnitedImage}
 use Rattle.distinct.specs.Arguments.{Told}
 use Rattle.distinct.specs.Failures.{called, key_told}
+use Rattle.distinct.specs.Images.{images_of}
 use Rattle.distinct.specs.Numbers.{nearest, shown_line}
 use Rattle.distinct.specs.declared.arguments.Command.{Command}
 use Rattle.distinct.specs.declared.arguments.Command.TheVariants.{Count, Sketch, Combine, Show}
@@ -39,10 +40,9 @@ IsCombined Union lg_k images out = IsUnitedImage lg_k images out
 IsCombined Meet lg_k images out = (sketches : List (Compact ℕ)) × AreRead images sketches × (out ≡ written (ordered_sketch (meet hash_key first_hash (values_of_sketches sketches))))
 IsCombined Minus lg_k images out = (first second : Compact ℕ) × AreRead images (first ∷ second ∷ []) × (out ≡ written (ordered_sketch (minus hash_key hash_key (compact_value hash_key first) (compact_value hash_key second))))
 
--- the same of files that are images; unspecified of files that have an image in each line
+-- the same of the images of files
 abbrev pub IsCombinedOf : (hex : Bool) → Operator → (lg_k : ℕ) → (texts : List (List ℕ)) → List ℕ → Type 0
-IsCombinedOf true operator lg_k texts out = ⊤
-IsCombinedOf false operator lg_k texts out = IsCombined operator lg_k texts out
+IsCombinedOf hex operator lg_k texts out = IsCombined operator lg_k (images_of hex texts) out
 
 -- lines on images, one behind the other, each under its file's name
 abbrev pub IsShown : (names images : List (List ℕ)) → List ℕ → Type 0

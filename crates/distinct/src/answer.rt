@@ -11,7 +11,7 @@ ghost use Rattle.line_sketches.specs.Keys.{ordered_sketch};
 ghost use Rattle.line_sketches.specs.Shards.{values_of_sketches, AreRead};
 ghost use Rattle.line_sketches.specs.Unions.{IsUnitedImage};
 ghost use Rattle.distinct.specs.Answers.{sketch_told, in_form, IsCombinedOf, IsShown, IsShownOf, IsAnswer, Writes};
-ghost use Rattle.distinct.specs.Images.{images_left, ReadsNext};
+ghost use Rattle.distinct.specs.Images.{images_left, open_text, ReadsNext};
 ghost use Rattle.distinct.specs.Faults.{told_of};
 ghost use Rattle.distinct.specs.Failures.{status_of, called, IsOfReading, IsOfImages, IsOfCombining, IsOfCommand, TellsNoSketch};
 ghost use Rattle.distinct.specs.Seeds.{AreSeeded};
@@ -163,7 +163,7 @@ fn next_sketch<S: Sources>(
     images: &mut Images<'_, S>,
 ) -> Result<Option<CompactThetaSketch>, Failure>
     ensures seeded { IfOk result (λ next. IfSome next (λ s. s.seed_hash ≡ seed_hash DEFAULT_UPDATE_SEED)) }
-    ensures reads { IfOk result (ReadsNext (images_left images.old.hex (S.texts images.old.inputs.sources)) (images_left images.new.hex (S.texts images.new.inputs.sources))) }
+    ensures reads { IfOk result (ReadsNext (images_left images.old.hex (open_text S.Source.remaining images.old.«open») images.old.line (S.texts images.old.inputs.sources)) (images_left images.new.hex (open_text S.Source.remaining images.new.«open») images.new.line (S.texts images.new.inputs.sources))) }
     ensures failed { IfErr result IsOfImages }
 {
     match images.next_image() {
@@ -215,7 +215,7 @@ fn show_files<S: Sources>(
     files: &[String],
     images: &mut Images<'_, S>,
 ) -> Result<Vec<u8>, Failure>
-    ensures shown { IfSome (images_left images.old.hex (S.texts images.old.inputs.sources)) (λ all. IfOk result (λ v. IsShown (map (λ name. string_bytes name) files.now) all v.items)) }
+    ensures shown { IfSome (images_left images.old.hex (open_text S.Source.remaining images.old.«open») images.old.line (S.texts images.old.inputs.sources)) (λ all. IfOk result (λ v. IsShown (map (λ name. string_bytes name) files.now) all v.items)) }
     ensures failed { IfErr result IsOfImages }
 {
     let mut shown = Vec::new(alloc);
@@ -270,7 +270,7 @@ fn union_image<S: Sources>(
 ) -> Result<Vec<u8>, Failure>
     requires low { 4 ≤ lg_k }
     requires high { lg_k ≤ 26 }
-    ensures united { IfSome (images_left images.old.hex (S.texts images.old.inputs.sources)) (λ all. IfOk result (λ v. IsUnitedImage lg_k all v.items)) }
+    ensures united { IfSome (images_left images.old.hex (open_text S.Source.remaining images.old.«open») images.old.line (S.texts images.old.inputs.sources)) (λ all. IfOk result (λ v. IsUnitedImage lg_k all v.items)) }
     ensures failed { IfErr result IsOfImages }
 {
     match unite_images(alloc, lg_k, images) {
@@ -316,7 +316,7 @@ fn all_sketches<S: Sources>(
     images: &mut Images<'_, S>,
 ) -> Result<Vec<CompactThetaSketch>, Failure>
     ensures seeded { IfOk result (λ v. AreSeeded v.items) }
-    ensures read { IfSome (images_left images.old.hex (S.texts images.old.inputs.sources)) (λ all. IfOk result (λ v. AreRead all v.items)) }
+    ensures read { IfSome (images_left images.old.hex (open_text S.Source.remaining images.old.«open») images.old.line (S.texts images.old.inputs.sources)) (λ all. IfOk result (λ v. AreRead all v.items)) }
     ensures failed { IfErr result IsOfImages }
 {
     let mut sketches = Vec::new(alloc);

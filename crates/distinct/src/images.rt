@@ -1,8 +1,9 @@
 //! The images that files have: a file is one and nothing else, or each of its lines is one in hexadecimal, blanks around it
 //! aside.
-ghost use Rattle.std.specs.Prelude.{◌≡◌, Some, IfOk};
+ghost use Rattle.std.specs.Prelude.{◌≡◌, true, Some, None, IfOk};
+ghost use Rattle.std.specs.Io.Buffered.{reader_remaining};
 ghost use Rattle.line_sketches.specs.Sources.{GivesNext};
-ghost use Rattle.distinct.specs.Images.{images_left};
+ghost use Rattle.distinct.specs.Images.{images_left, open_text, GivesOrCloses};
 ghost use Rattle.distinct.specs.Failures.{called, IsOfImages, TellsNoSketch};
 
 use crate::failure::Failure;
@@ -55,6 +56,7 @@ impl<'a, S: Sources> Images<'a, S> {
     pub fn new(alloc: Global, inputs: Inputs<'a, S>, hex: bool) -> Images<'a, S>
         ensures inputs { result.inputs ≡ inputs.entry }
         ensures hex { result.hex ≡ hex }
+        ensures closed { result.«open» ≡ None }
     {
         Images {
             alloc,
@@ -100,7 +102,7 @@ impl<'a, S: Sources> Images<'a, S> {
 
     /// The next image, or `None` at the end.
     pub fn next_image(&mut self) -> io::Result<Option<Vec<u8>>>
-        ensures { IfOk result (GivesNext (λ v. Some v.items) (images_left self.old.hex (S.texts self.old.inputs.sources)) (images_left self.new.hex (S.texts self.new.inputs.sources))) }
+        ensures { IfOk result (GivesNext (λ v. Some v.items) (images_left self.old.hex (open_text S.Source.remaining self.old.«open») self.old.line (S.texts self.old.inputs.sources)) (images_left self.new.hex (open_text S.Source.remaining self.new.«open») self.new.line (S.texts self.new.inputs.sources))) }
     {
         if self.hex {
             self.next_line()
@@ -123,15 +125,17 @@ impl<'a, S: Sources> Images<'a, S> {
         Ok(Some(image))
     }
 
-    /// The bytes of the next line of the files, each of which has one at least: of one that has none, a part that failed would
-    /// be passed over.
-    fn next_line(&mut self) -> io::Result<Option<Vec<u8>>> {
-        for _ in 0..u64::MAX {
+    /// The image in the next line of the files, each of which has one at least: a file without a line is refused, since the part
+    /// that it was to hold would be missing.
+    fn next_line(&mut self) -> io::Result<Option<Vec<u8>>>
+        requires lines { self.old.hex ≡ true }
+        ensures next { IfOk result (GivesNext (λ v. Some v.items)
+            (images_left self.old.hex (open_text S.Source.remaining self.old.«open») self.old.line (S.texts self.old.inputs.sources))
+            (images_left self.new.hex (open_text S.Source.remaining self.new.«open») self.new.line (S.texts self.new.inputs.sources))) }
+    {
+        'files: for _ in 0..u64::MAX {
             if let Some(image) = self.line_of_open()? {
                 return Ok(Some(image));
-            }
-            if self.open.is_some() && self.line == 0 {
-                return Err(io::Error::from(ErrorKind::InvalidData));
             }
             let Some(input) = self.inputs.next_source()? else {
                 return Ok(None);
@@ -139,17 +143,28 @@ impl<'a, S: Sources> Images<'a, S> {
             self.open = Some(BufReader::new(self.alloc, input)?);
             self.line = 0;
         }
-        Ok(None)
+        Err(io::Error::from(ErrorKind::Other))
     }
 
-    /// The bytes of the next line of the file that is open.
-    fn line_of_open(&mut self) -> io::Result<Option<Vec<u8>>> {
+    /// The image in the next line of the file that is open. At its end the file is closed.
+    fn line_of_open(&mut self) -> io::Result<Option<Vec<u8>>>
+        requires lines { self.old.hex ≡ true }
+        ensures hex { self.new.hex ≡ self.old.hex }
+        ensures next { IfOk result (GivesOrCloses (λ v. v.items)
+            (images_left self.old.hex (open_text S.Source.remaining self.old.«open») self.old.line (S.texts self.old.inputs.sources))
+            (images_left self.new.hex (open_text S.Source.remaining self.new.«open») self.new.line (S.texts self.new.inputs.sources))
+            self.new.«open») }
+    {
         let Some(reader) = &mut self.open else {
             return Ok(None);
         };
         let mut line = Vec::new(self.alloc);
         let count = reader.read_until(b'\n', &mut line)?;
         if count == 0 {
+            if self.line == 0 {
+                return Err(io::Error::from(ErrorKind::InvalidData));
+            }
+            self.open = None;
             return Ok(None);
         }
         self.line = self.line.saturating_add(1);
@@ -166,7 +181,7 @@ impl<'a, S: Sources> Images<'a, S> {
 impl<'a, S: Sources> Sources for Images<'a, S> {
     type Source = Cursor<Vec<u8>>;
 
-    ghost texts = { λ s. images_left s.hex (S.texts s.inputs.sources) };
+    ghost texts = { λ s. images_left s.hex (open_text S.Source.remaining s.«open») s.line (S.texts s.inputs.sources) };
 
     fn next_source(&mut self) -> io::Result<Option<Cursor<Vec<u8>>>> {
         match self.next_image()? {
