@@ -7,7 +7,7 @@ use Rattle.theta_compact.specs.CompactState.{Compact}
 use Rattle.theta_sketches.specs.Image.{Reads}
 use Rattle.line_sketches.specs.Sources.{Continues}
 use Rattle.line_sketches.specs.Shards.{AreRead}
-use Rattle.distinct.specs.Answers.{IsShown}
+use Rattle.distinct.specs.Answers.{IsShown, AreShown}
 use Rattle.distinct.specs.Failures.{called}
 use Rattle.distinct.specs.Images.{ReadsFirst, ReadsNext}
 use Rattle.distinct.specs.Numbers.{shown_line}
@@ -83,3 +83,36 @@ none_read (Some s) none = absurd (none s refl)
 pub nothing_named : {T : Type 0} (f : T → List ℕ) (xs : List T) → length xs ≡ 0 → map f xs ≡ []
 nothing_named f [] none = refl
 nothing_named f (x ∷ xs) none = absurd (omega arith)
+
+-- ---- lines on images under any names
+
+-- lines so far, and then those of what is left, are all lines
+abbrev pub ShowMore : (old : Option (List (List ℕ))) (shown : List ℕ) (now : Option (List (List ℕ))) → Type 0
+ShowMore None shown now = Unit {0}
+ShowMore (Some all) shown None = ⊥
+ShowMore (Some all) shown (Some images) = (rest : List ℕ) → AreShown images rest → AreShown all (shown ++ rest)
+
+pub show_itself : (old : Option (List (List ℕ))) → ShowMore old [] old
+show_itself None = tt
+show_itself (Some all) = λ rest is. is
+
+line_shown : (all : List (List ℕ)) (shown : List ℕ) (images : List (List ℕ)) (name : List ℕ) (s : Compact ℕ) (new : Option (List (List ℕ))) →
+    ((rest : List ℕ) → AreShown images rest → AreShown all (shown ++ rest)) → ReadsFirst images s new → ShowMore (Some all) (shown ++ shown_line name s) new
+line_shown all shown images name s new so_far first =
+    subst (λ (o : Option (List (List ℕ))). ShowMore (Some all) (shown ++ shown_line name s) o) (sym first.leaves) (λ rest is.
+    subst (AreShown all) (sym (append_assoc shown (shown_line name s) rest))
+    (so_far (shown_line name s ++ rest) (subst (λ (l : List (List ℕ)). AreShown l (shown_line name s ++ rest)) (sym first.parted) (name, s, rest, first.reads, refl, is))))
+
+pub line_more : (old : Option (List (List ℕ))) (shown : List ℕ) (now : Option (List (List ℕ))) (name : List ℕ) (o : Option (Compact ℕ)) (s : Compact ℕ) (new : Option (List (List ℕ))) →
+    ShowMore old shown now → ReadsNext now new o → o ≡ Some s → ShowMore old (shown ++ shown_line name s) new
+line_more None shown now name o s new so_far next is = tt
+line_more (Some all) shown None name o s new so_far next is = absurd so_far
+line_more (Some all) shown (Some images) name o s new so_far next is = line_shown all shown images name s new so_far (subst (ReadsNext (Some images) new) is next)
+
+pub lines_all : (old : Option (List (List ℕ))) (shown : List ℕ) (now : Option (List (List ℕ))) (o : Option (Compact ℕ)) (new : Option (List (List ℕ))) →
+    ShowMore old shown now → ReadsNext now new o → o ≡ None → IfSome old (λ all. AreShown all shown)
+lines_all None shown now o new so_far next is = tt
+lines_all (Some all) shown None o new so_far next is = absurd so_far
+lines_all (Some all) shown (Some images) o new so_far next is =
+    let none : images ≡ [] = subst (ReadsNext (Some images) new) is next in
+    subst (AreShown all) (append-nil shown) (so_far [] (subst (λ (l : List (List ℕ)). AreShown l []) (sym none) refl))

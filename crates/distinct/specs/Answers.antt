@@ -50,9 +50,14 @@ IsShown [] images out = out ≡ []
 IsShown (name ∷ names) [] out = out ≡ []
 IsShown (name ∷ names) (image ∷ images) out = (s : Compact ℕ) × (rest : List ℕ) × Reads image (seed_hash DEFAULT_UPDATE_SEED) s × (out ≡ shown_line (called name) s ++ rest) × IsShown names images rest
 
--- the same of files that are images; unspecified of files that have an image in each line
+-- lines on images, one behind the other, each under some name
+abbrev pub AreShown : (images : List (List ℕ)) → List ℕ → Type 0
+AreShown [] out = out ≡ []
+AreShown (image ∷ images) out = (name : List ℕ) × (s : Compact ℕ) × (rest : List ℕ) × Reads image (seed_hash DEFAULT_UPDATE_SEED) s × (out ≡ shown_line name s ++ rest) × AreShown images rest
+
+-- lines on the images of files: under their names where the files are images, and under unspecified names where their lines are
 abbrev pub IsShownOf : (hex : Bool) → (names texts : List (List ℕ)) → List ℕ → Type 0
-IsShownOf true names texts out = ⊤
+IsShownOf true names texts out = AreShown (images_of true texts) out
 IsShownOf false names texts out = IsShown names texts out
 
 -- what a command writes, of files of these names and texts

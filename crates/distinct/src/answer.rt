@@ -10,7 +10,7 @@ ghost use Rattle.theta_sketches.specs.Image.{written};
 ghost use Rattle.line_sketches.specs.Keys.{ordered_sketch};
 ghost use Rattle.line_sketches.specs.Shards.{values_of_sketches, AreRead};
 ghost use Rattle.line_sketches.specs.Unions.{IsUnitedImage};
-ghost use Rattle.distinct.specs.Answers.{sketch_told, in_form, IsCombinedOf, IsShown, IsShownOf, IsAnswer, Writes};
+ghost use Rattle.distinct.specs.Answers.{sketch_told, in_form, IsCombinedOf, IsShown, AreShown, IsShownOf, IsAnswer, Writes};
 ghost use Rattle.distinct.specs.Images.{images_left, open_text, ReadsNext};
 ghost use Rattle.distinct.specs.Faults.{told_of};
 ghost use Rattle.distinct.specs.Failures.{status_of, called, IsOfReading, IsOfImages, IsOfCombining, IsOfCommand, TellsNoSketch};
@@ -196,7 +196,9 @@ fn show_inputs<S: Sources + Drop>(
 
 /// A line on each line's image.
 fn show_lines<S: Sources>(alloc: Global, images: &mut Images<'_, S>) -> Result<Vec<u8>, Failure>
-    ensures { IfErr result IsOfImages }
+    ensures shown { IfSome (images_left images.old.hex (open_text S.Source.remaining images.old.«open») images.old.line (S.texts images.old.inputs.sources))
+        (λ all. IfOk result (λ v. AreShown all v.items)) }
+    ensures failed { IfErr result IsOfImages }
 {
     let mut shown = Vec::new(alloc);
     for _ in 0..u64::MAX {
