@@ -1,4 +1,4 @@
-"""A second reader of images, written from docs/FORMATS.md alone, and images that are damaged by chance for it.
+"""A second reader of images, written from docs/FORMATS.md, and images that are damaged by chance for it.
 
 `answer(kind, image)` is the line that crates/readings prints for an image: kind is `theta`, or the type of a tuple sketch's
 summaries. `damaged(chance)` is a kind and an image; `chance` is a random.Random.
