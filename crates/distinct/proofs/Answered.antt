@@ -1,7 +1,7 @@
 -- What a command's answer comes to.
 use Rattle.std.proofs.Common.{◌≡◌, ℕ, List, Option, Some, None, sym, ap, subst, ◌∙◌}
 use Rattle.std.specs.Prelude.{IfSome, IfOk, Result, Ok, Err}
-use Rattle.theta_compact.specs.CompactState.{Compact}
+use Rattle.core_compact.specs.CompactState.{Compact}
 use Rattle.theta_sketches.specs.Image.{written}
 use Rattle.distinct.specs.Answers.{sketch_told, in_form, IsAnswer}
 use Rattle.distinct.specs.Arguments.{Told}

@@ -6,13 +6,13 @@ use Rattle.sketch_base.specs.Seed.{seed_hash}
 use Rattle.sketch_base.specs.declared.error.ErrorKind.{ErrorKind}
 use Rattle.sketch_base.specs.declared.error.ErrorKind.TheVariants.{OutOfMemory, InvalidArgument, InvalidData}
 use Rattle.sketch_base.specs.declared.seed.TheConstants.{DEFAULT_UPDATE_SEED}
-use Rattle.theta_compact.specs.CompactState.{Compact, compact_value}
-use Rattle.theta_laws.specs.Entries.{hash_key, first_hash}
-use Rattle.theta_laws.specs.Operators.{meet_next}
-use Rattle.theta_laws.specs.Values.{Sketch}
-use Rattle.theta_laws.specs.declared.TheConstants.{MAX_THETA}
-use Rattle.theta_operators.specs.Intersection.{is_settled}
-use Rattle.theta_table.specs.HashTable.{table_refusal}
+use Rattle.core_compact.specs.CompactState.{Compact, compact_value}
+use Rattle.core_laws.specs.Entries.{hash_key, first_hash}
+use Rattle.core_laws.specs.Operators.{meet_next}
+use Rattle.core_laws.specs.Values.{Sketch}
+use Rattle.core_laws.specs.declared.TheConstants.{MAX_THETA}
+use Rattle.core_operators.specs.Intersection.{is_settled}
+use Rattle.core_laws.specs.Settings.{settings_refusal}
 use Rattle.line_sketches.specs.Meeting.{or_later, meet_refusal}
 use Rattle.line_sketches.specs.Refusals.{IsUnread, IsUniteRefusal}
 use Rattle.line_sketches.specs.declared.sketching.Unread.{Unread}
@@ -21,7 +21,7 @@ use Rattle.line_sketches.proofs.DefaultSeed.{default_seed}
 use Rattle.distinct.specs.Seeds.{AreSeeded}
 
 -- a size in range
-pub sized : (lg_k : ℕ) → 4 ≤ lg_k → lg_k ≤ 26 → table_refusal lg_k MAX_THETA DEFAULT_UPDATE_SEED ≡ None
+pub sized : (lg_k : ℕ) → 4 ≤ lg_k → lg_k ≤ 26 → settings_refusal lg_k MAX_THETA DEFAULT_UPDATE_SEED ≡ None
 sized lg_k low high = grind (arith, nat_tests, default_seed)
 
 read_of : (refusal : Option ErrorKind) (e : ErrorKind) → refusal ≡ None → IsUnread refusal (Refused e) → e ≡ OutOfMemory

@@ -1,10 +1,10 @@
 -- What a command writes, by the texts that its files have.
 use Rattle.std.specs.Prelude.{ℕ, ◌≡◌, ◌++◌, ⊤, Bool, true, false, List, [], ◌∷◌, Option, decimal, codes, if◌then◌else◌}
 use Rattle.std.specs.Io.KnownBytes.{Appends}
-use Rattle.theta_compact.specs.CompactState.{Compact, compact_value}
-use Rattle.theta_family.specs.Fraction.{compact_fraction}
-use Rattle.theta_laws.specs.Entries.{hash_key, first_hash}
-use Rattle.theta_laws.specs.Operators.{meet, minus}
+use Rattle.core_compact.specs.CompactState.{Compact, compact_value}
+use Rattle.core_state.specs.Fraction.{compact_fraction}
+use Rattle.core_laws.specs.Entries.{hash_key, first_hash}
+use Rattle.core_laws.specs.Operators.{meet, minus}
 use Rattle.theta_sketches.specs.Image.{Reads, written}
 use Rattle.sketch_base.specs.Seed.{seed_hash}
 use Rattle.sketch_base.specs.declared.seed.TheConstants.{DEFAULT_UPDATE_SEED}

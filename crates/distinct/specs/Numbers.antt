@@ -1,8 +1,8 @@
 -- Fractions as whole numbers.
 use Rattle.std.specs.Prelude.{ℕ, ◌+◌, ◌*◌, ◌/◌, ◌&&◌, ◌++◌, not, nat_lt, List, length, decimal, codes, if◌then◌else◌}
-use Rattle.theta_family.specs.Fraction.{compact_fraction}
-use Rattle.theta_laws.specs.declared.TheConstants.{MAX_THETA}
-use Rattle.theta_compact.specs.CompactState.{Compact}
+use Rattle.core_state.specs.Fraction.{compact_fraction}
+use Rattle.core_laws.specs.declared.TheConstants.{MAX_THETA}
+use Rattle.core_compact.specs.CompactState.{Compact}
 
 -- the nearest whole number to a fraction, a half upwards
 abbrev pub nearest : (over under : ℕ) → ℕ

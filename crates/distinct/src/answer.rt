@@ -3,9 +3,9 @@ ghost use Rattle.std.specs.Prelude.{◌≡◌, ◌≤◌, ◌⊎◌, List, map, 
 ghost use Rattle.sketch_base.specs.Seed.{seed_hash};
 ghost use Rattle.sketch_base.specs.declared.error.ErrorKind.TheVariants.{OutOfMemory, InvalidData};
 ghost use Rattle.sketch_base.specs.declared.seed.TheConstants.{DEFAULT_UPDATE_SEED};
-ghost use Rattle.theta_compact.specs.CompactState.{compact_value};
-ghost use Rattle.theta_laws.specs.Entries.{hash_key, first_hash};
-ghost use Rattle.theta_laws.specs.Operators.{meet, minus};
+ghost use Rattle.core_compact.specs.CompactState.{compact_value};
+ghost use Rattle.core_laws.specs.Entries.{hash_key, first_hash};
+ghost use Rattle.core_laws.specs.Operators.{meet, minus};
 ghost use Rattle.theta_sketches.specs.Image.{written};
 ghost use Rattle.line_sketches.specs.Keys.{ordered_sketch};
 ghost use Rattle.line_sketches.specs.Shards.{values_of_sketches, AreRead};

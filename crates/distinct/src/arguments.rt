@@ -9,8 +9,8 @@ ghost use Rattle.distinct.specs.Words.{command_of, has_option, is_help, is_optio
 
 use crate::failure::Failure;
 use crate::options::Options;
+use core_laws::{MAX_LG_K, MIN_LG_K};
 use lines::Key;
-use theta_core::{MAX_LG_K, MIN_LG_K};
 
 /// The binary logarithm of a sketch's nominal entries, where none is told.
 const DEFAULT_LG_K: u8 = 12;

@@ -1,8 +1,8 @@
 //! What is told of a sketch, as text.
 ghost use Rattle.std.specs.Prelude.{◌≡◌, ◌<◌, ◌*◌, ◌^◌, ◌++◌, IfOk, string_bytes, decimal, codes};
-ghost use Rattle.theta_family.specs.Fraction.{compact_fraction};
-ghost use Rattle.theta_family.specs.Updatable.{sketch_value};
-ghost use Rattle.theta_laws.specs.Values.{fraction_of};
+ghost use Rattle.core_state.specs.Fraction.{compact_fraction};
+ghost use Rattle.core_state.specs.Updatable.{sketch_value};
+ghost use Rattle.core_laws.specs.Values.{fraction_of};
 ghost use Rattle.distinct.specs.Numbers.{nearest, kind_of, shown_line};
 
 use std::alloc::{AllocError, Allocator};

@@ -7,17 +7,17 @@ use Rattle.std.proofs.lemmas.Bool.Decides.{nat_tests}
 use Rattle.std.proofs.Math.Pow.{pow_mono}
 use Rattle.sketch_base.specs.Seed.{seed_hash}
 use Rattle.sketch_base.specs.declared.seed.TheConstants.{DEFAULT_UPDATE_SEED}
-use Rattle.theta_laws.specs.Cuts.{IsRetained, cut}
-use Rattle.theta_laws.specs.Entries.{hash_key, hash_step, is_carried}
-use Rattle.theta_laws.specs.Insertion.{whole_upsert}
-use Rattle.theta_laws.specs.Leaf.{whole_from, hash_step_of}
-use Rattle.theta_laws.specs.Maps.{entry_at, with_entry}
-use Rattle.theta_laws.specs.declared.TheConstants.{MAX_THETA}
-use Rattle.theta_laws.proofs.insertions.Cases.{IsRetained-cut, length-cut}
-use Rattle.theta_laws.proofs.maps.Ascending.{each-with_entry}
-use Rattle.theta_laws.proofs.cuts.WithinWholeMaps.{found_key}
-use Rattle.theta_compact.specs.CompactState.{Compact, IsCompact}
-use Rattle.theta_compact.proofs.LawsOfShown.{IsShown-retained, IsShown-none}
+use Rattle.core_laws.specs.Cuts.{IsRetained, cut}
+use Rattle.core_laws.specs.Entries.{hash_key, hash_step, is_carried}
+use Rattle.core_laws.specs.Insertion.{whole_upsert}
+use Rattle.core_laws.specs.Leaf.{whole_from, hash_step_of}
+use Rattle.core_laws.specs.Maps.{entry_at, with_entry}
+use Rattle.core_laws.specs.declared.TheConstants.{MAX_THETA}
+use Rattle.core_laws.proofs.insertions.Cases.{IsRetained-cut, length-cut}
+use Rattle.core_laws.proofs.maps.Ascending.{each-with_entry}
+use Rattle.core_laws.proofs.cuts.WithinWholeMaps.{found_key}
+use Rattle.core_compact.specs.CompactState.{Compact, IsCompact}
+use Rattle.core_compact.proofs.LawsOfShown.{IsShown-retained, IsShown-none}
 use Rattle.theta_sketches.specs.Image.{written}
 use Rattle.lines.specs.Keys.{line_hash}
 use Rattle.lines.specs.Lines.{lines_of, lines_of_all, AreWhole}

@@ -3,13 +3,13 @@ use Rattle.std.proofs.Common.{◌≡◌, ◌<◌, Bool, true, Option, Some, None
 use Rattle.std.specs.Prelude.{◌⊎◌, IsTrue}
 use Rattle.sketch_base.specs.declared.error.ErrorKind.{ErrorKind}
 use Rattle.sketch_base.specs.declared.error.ErrorKind.TheVariants.{OutOfMemory}
-use Rattle.theta_laws.specs.Refusal.{Refuses}
+use Rattle.core_laws.specs.Refusal.{Refuses}
 use Rattle.sketch_base.specs.Murmur.{murmur, finished, avalanche, after_blocks, mixed_1, mixed_2, word}
 use Rattle.sketch_base.specs.Seed.{seed_hash}
 use Rattle.sketch_base.specs.declared.seed.TheConstants.{DEFAULT_UPDATE_SEED}
-use Rattle.theta_laws.specs.declared.TheConstants.{MAX_THETA, MIN_LG_K}
-use Rattle.theta_operators.specs.Intersection.{seed_refusal}
-use Rattle.theta_table.specs.HashTable.{table_refusal}
+use Rattle.core_laws.specs.declared.TheConstants.{MAX_THETA, MIN_LG_K}
+use Rattle.core_operators.specs.Intersection.{seed_refusal}
+use Rattle.core_laws.specs.Settings.{settings_refusal}
 use Rattle.std.proofs.lemmas.Bool.Decides.{nat_tests}
 
 pub default_seed : seed_hash DEFAULT_UPDATE_SEED ≡ 37836
@@ -22,7 +22,7 @@ seeded = omega (arith, default_seed)
 pub seed_accepted : seed_refusal DEFAULT_UPDATE_SEED ≡ None
 seed_accepted = grind (arith, nat_tests, default_seed)
 
-pub least_size_accepted : table_refusal MIN_LG_K MAX_THETA DEFAULT_UPDATE_SEED ≡ None
+pub least_size_accepted : settings_refusal MIN_LG_K MAX_THETA DEFAULT_UPDATE_SEED ≡ None
 least_size_accepted = grind (arith, nat_tests, default_seed)
 
 -- what isn't refused is refused only where memory is

@@ -5,12 +5,12 @@ use Rattle.std.proofs.lemmas.List.{map_more}
 use Rattle.sketch_base.specs.Seed.{seed_hash}
 use Rattle.sketch_base.specs.declared.seed.TheConstants.{DEFAULT_UPDATE_SEED}
 use Rattle.sketch_base.specs.declared.error.ErrorKind.{ErrorKind}
-use Rattle.theta_laws.specs.Entries.{hash_key, first_hash}
-use Rattle.theta_laws.specs.Operators.{meet, meet_next}
-use Rattle.theta_laws.specs.Values.{Sketch, Empty}
-use Rattle.theta_laws.proofs.operators.Meets.{meet_of_meet}
-use Rattle.theta_operators.specs.Intersection.{IsAnswerIfAny}
-use Rattle.theta_compact.specs.CompactState.{Compact, compact_value}
+use Rattle.core_laws.specs.Entries.{hash_key, first_hash}
+use Rattle.core_laws.specs.Operators.{meet, meet_next}
+use Rattle.core_laws.specs.Values.{Sketch, Empty}
+use Rattle.core_laws.proofs.operators.Meets.{meet_of_meet}
+use Rattle.core_operators.specs.Intersection.{IsAnswerIfAny}
+use Rattle.core_compact.specs.CompactState.{Compact, compact_value}
 use Rattle.line_sketches.specs.Keys.{ordered_sketch}
 use Rattle.line_sketches.specs.Meeting.{come_to, met_of}
 use Rattle.line_sketches.specs.Shards.{values_of_sketches}

@@ -7,16 +7,16 @@ use Rattle.sketch_base.specs.Seed.{seed_hash}
 use Rattle.sketch_base.specs.declared.error.ErrorKind.{ErrorKind}
 use Rattle.sketch_base.specs.declared.error.ErrorKind.TheVariants.{OutOfMemory, InvalidArgument, Failed}
 use Rattle.sketch_base.specs.declared.seed.TheConstants.{DEFAULT_UPDATE_SEED}
-use Rattle.theta_compact.specs.CompactState.{Compact, compact_value, shown_of}
-use Rattle.theta_images.specs.Entry.{SpellsHash}
-use Rattle.theta_images.specs.declared.preamble.Preamble.{Preamble}
-use Rattle.theta_images.specs.Read.{ReadsFlagged, empty_image, single_image, exact_image, estimating_image}
-use Rattle.theta_laws.specs.Entries.{hash_key, first_hash}
-use Rattle.theta_laws.specs.Operators.{meet_next}
-use Rattle.theta_laws.specs.Shown.{Shown}
-use Rattle.theta_laws.specs.Values.{Sketch}
-use Rattle.theta_operators.specs.Intersection.{Intersection, is_settled, intersect_refusal}
-use Rattle.theta_operators.specs.Union.{Union, update_refusal}
+use Rattle.core_compact.specs.CompactState.{Compact, compact_value, shown_of}
+use Rattle.core_images.specs.Entry.{SpellsHash}
+use Rattle.core_images.specs.declared.preamble.Preamble.{Preamble}
+use Rattle.core_images.specs.Read.{ReadsFlagged, empty_image, single_image, exact_image, estimating_image}
+use Rattle.core_laws.specs.Entries.{hash_key, first_hash}
+use Rattle.core_laws.specs.Operators.{meet_next}
+use Rattle.core_laws.specs.Shown.{Shown}
+use Rattle.core_laws.specs.Values.{Sketch}
+use Rattle.core_operators.specs.Intersection.{Intersection, is_settled, intersect_refusal}
+use Rattle.core_operators.specs.Union.{Union, update_refusal}
 use Rattle.theta_sketches.specs.Image.{Reads, ReadsUnflagged, vacant_image, filled_image, version_3, version_2_empty, version_2_exact, version_2_estimating, version_1}
 use Rattle.line_sketches.specs.Meeting.{one_refusal, or_later, meet_refusal}
 use Rattle.line_sketches.specs.Refusals.{IsNoImage, HasNoImage, IsImageRefusal, IsImagesRefusal}

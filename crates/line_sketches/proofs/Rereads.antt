@@ -3,14 +3,14 @@ use Rattle.std.proofs.Common.{◌≡◌, ℕ, List, [], ◌∷◌, ◌++◌, ◌
 use Rattle.std.proofs.lemmas.List.{append-nil}
 use Rattle.sketch_base.specs.Seed.{seed_hash}
 use Rattle.sketch_base.specs.declared.seed.TheConstants.{DEFAULT_UPDATE_SEED}
-use Rattle.theta_compact.specs.CompactState.{Compact, IsCompact, compact_value}
-use Rattle.theta_laws.specs.Maps.{IsAscending}
-use Rattle.theta_laws.specs.Cuts.{Retained}
-use Rattle.theta_laws.specs.Entries.{hash_key}
-use Rattle.theta_laws.specs.Samples.{IsSample}
-use Rattle.theta_laws.specs.Values.{NonEmpty}
-use Rattle.theta_laws.proofs.maps.Ascending.{ascending-filter}
-use Rattle.theta_table.proofs.OtherOrders.{map_of-ascending}
+use Rattle.core_compact.specs.CompactState.{Compact, IsCompact, compact_value}
+use Rattle.core_laws.specs.Maps.{IsAscending}
+use Rattle.core_laws.specs.Cuts.{Retained}
+use Rattle.core_laws.specs.Entries.{hash_key}
+use Rattle.core_laws.specs.Samples.{IsSample}
+use Rattle.core_laws.specs.Values.{NonEmpty}
+use Rattle.core_laws.proofs.maps.Ascending.{ascending-filter}
+use Rattle.core_table.proofs.OtherOrders.{map_of-ascending}
 use Rattle.theta_sketches.specs.Image.{Reads, written}
 use Rattle.lines.specs.Lines.{lines_of}
 use Rattle.line_sketches.specs.Keys.{key_set, value_of_lines, ordered_sketch}

@@ -3,22 +3,22 @@ use Rattle.std.proofs.Common.{◌≡◌, ℕ, ◌^◌, Bool, true, false, cond, 
 use Rattle.std.proofs.lemmas.Bool.Decides.{nat_tests}
 use Rattle.std.specs.List.{onto_first, concat}
 use Rattle.std.specs.Option.{option_map_or}
-use Rattle.theta_laws.specs.Maps.{IsAscending, entry_at, with_entry}
-use Rattle.theta_laws.specs.Entries.{hash_key, hash_step, first_hash, is_carried}
-use Rattle.theta_laws.specs.Insertion.{whole_upsert}
-use Rattle.theta_laws.specs.declared.leaf.LeafStep.{LeafStep}
-use Rattle.theta_laws.specs.declared.leaf.LeafStep.TheVariants.{Add, Trim}
-use Rattle.theta_laws.specs.Leaf.{whole_from, whole_step, hash_step_of, kmin}
-use Rattle.theta_laws.specs.Operators.{join, joined, joined_all, nonempties, unite_nonempty}
-use Rattle.theta_laws.specs.Samples.{IsSample, AreSamples, IsLawfulValue, AreLawful}
-use Rattle.theta_laws.specs.Values.{Sketch, Empty, NonEmpty}
-use Rattle.theta_laws.specs.declared.TheConstants.{MAX_THETA}
-use Rattle.theta_laws.proofs.maps.Ascending.{ascending-nil}
-use Rattle.theta_laws.proofs.insertions.Leaves.{leaf-sample, leaf-lawful, hash_keeps}
-use Rattle.theta_laws.proofs.operators.JoinedMaps.{either, entry_at-join, ascending-joined}
-use Rattle.theta_laws.proofs.maps.LookUps.{same_map}
-use Rattle.theta_laws.proofs.cuts.WithinWholeMaps.{found_key}
-use Rattle.theta_laws.proofs.operators.Samples.{union_lawful}
+use Rattle.core_laws.specs.Maps.{IsAscending, entry_at, with_entry}
+use Rattle.core_laws.specs.Entries.{hash_key, hash_step, first_hash, is_carried}
+use Rattle.core_laws.specs.Insertion.{whole_upsert}
+use Rattle.core_laws.specs.declared.leaf.LeafStep.{LeafStep}
+use Rattle.core_laws.specs.declared.leaf.LeafStep.TheVariants.{Add, Trim}
+use Rattle.core_laws.specs.Leaf.{whole_from, whole_step, hash_step_of, kmin}
+use Rattle.core_laws.specs.Operators.{join, joined, joined_all, nonempties, unite_nonempty}
+use Rattle.core_laws.specs.Samples.{IsSample, AreSamples, IsLawfulValue, AreLawful}
+use Rattle.core_laws.specs.Values.{Sketch, Empty, NonEmpty}
+use Rattle.core_laws.specs.declared.TheConstants.{MAX_THETA}
+use Rattle.core_laws.proofs.maps.Ascending.{ascending-nil}
+use Rattle.core_laws.proofs.insertions.Leaves.{leaf-sample, leaf-lawful, hash_keeps}
+use Rattle.core_laws.proofs.operators.JoinedMaps.{either, entry_at-join, ascending-joined}
+use Rattle.core_laws.proofs.maps.LookUps.{same_map}
+use Rattle.core_laws.proofs.cuts.WithinWholeMaps.{found_key}
+use Rattle.core_laws.proofs.operators.Samples.{union_lawful}
 use Rattle.lines.specs.Lines.{lines_of, lines_of_all, IsWhole, nothing, ended, AreWhole}
 use Rattle.lines.specs.Keys.{line_hash}
 use Rattle.line_sketches.specs.Keys.{adds, key_set, value_of_lines, IsAmong, HaveSameLines}

@@ -3,10 +3,10 @@ use Rattle.std.proofs.Common.{◌≡◌, ℕ, suc, ◌+◌, ◌<◌, ◌^◌, Bo
 use Rattle.std.specs.Prelude.{◌&&◌, ◌==◌}
 use Rattle.std.proofs.lemmas.Bool.Decides.{nat_tests}
 use Rattle.std.proofs.lemmas.List.{map-append, take_more_set}
-use Rattle.theta_laws.specs.Entries.{hash_key, hash_step}
-use Rattle.theta_table.specs.HashTable.{MapTable, after_hashes}
-use Rattle.theta_laws.specs.Insertion.{after_upsert}
-use Rattle.theta_family.specs.Updatable.{Updatable}
+use Rattle.core_laws.specs.Entries.{hash_key, hash_step}
+use Rattle.core_table.specs.HashTable.{MapTable, after_hashes}
+use Rattle.core_laws.specs.Insertion.{after_upsert}
+use Rattle.core_state.specs.Updatable.{Updatable}
 use Rattle.lines.specs.Lines.{lines_of, lines_after, Lacks}
 use Rattle.lines.specs.Keys.{line_hash}
 use Rattle.line_sketches.specs.Keys.{Held, held, with_line, with_lines}

@@ -1,19 +1,19 @@
 -- Sketches that are handed to a union one by one.
 use Rattle.std.proofs.Common.{◌≡◌, ℕ, ◌^◌, ◌≤◌, true, false, cond, List, [], ◌∷◌, ◌++◌, None, arith, refl, sym, ap, ◌∙◌}
-use Rattle.theta_compact.specs.CompactState.{Compact, compact_value}
-use Rattle.theta_laws.specs.Maps.{map_of}
-use Rattle.theta_laws.specs.Entries.{hash_key, first_hash}
-use Rattle.theta_laws.specs.Operators.{unite, unite_nonempty}
-use Rattle.theta_laws.specs.Values.{Sketch, Empty, NonEmpty}
-use Rattle.theta_operators.specs.Union.{Union, union_value, empty_union}
-use Rattle.theta_laws.specs.Shown.{Shown, shown_value}
-use Rattle.theta_laws.proofs.operators.Unions.{nonempties-more, union_of_union}
+use Rattle.core_compact.specs.CompactState.{Compact, compact_value}
+use Rattle.core_laws.specs.Maps.{map_of}
+use Rattle.core_laws.specs.Entries.{hash_key, first_hash}
+use Rattle.core_laws.specs.Operators.{unite, unite_nonempty}
+use Rattle.core_laws.specs.Values.{Sketch, Empty, NonEmpty}
+use Rattle.core_operators.specs.Union.{Union, union_value, empty_union}
+use Rattle.core_laws.specs.Shown.{Shown, shown_value}
+use Rattle.core_laws.proofs.operators.Unions.{nonempties-more, union_of_union}
 use Rattle.std.proofs.lemmas.Bool.Decides.{nat_tests}
 use Rattle.sketch_base.specs.Seed.{seed_hash}
 use Rattle.sketch_base.specs.declared.seed.TheConstants.{DEFAULT_UPDATE_SEED}
-use Rattle.theta_laws.specs.declared.TheConstants.{MAX_THETA}
+use Rattle.core_laws.specs.declared.TheConstants.{MAX_THETA}
 use Rattle.theta_sketches.specs.Image.{Reads}
-use Rattle.theta_table.specs.HashTable.{table_refusal}
+use Rattle.core_laws.specs.Settings.{settings_refusal}
 use Rattle.line_sketches.specs.Shards.{values_of_sketches, AreRead}
 use Rattle.line_sketches.specs.Unions.{HasUnited}
 
@@ -87,5 +87,5 @@ nothing_united {P} lg_k u is =
     }
 
 -- what a union may be made with
-pub size_small : (lg_k : ℕ) → table_refusal lg_k MAX_THETA DEFAULT_UPDATE_SEED ≡ None → lg_k ≤ 26
+pub size_small : (lg_k : ℕ) → settings_refusal lg_k MAX_THETA DEFAULT_UPDATE_SEED ≡ None → lg_k ≤ 26
 size_small lg_k is = grind (arith, nat_tests)

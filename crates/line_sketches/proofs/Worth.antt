@@ -4,19 +4,19 @@ use Rattle.std.specs.Prelude.{not, IfOk}
 use Rattle.sketch_base.specs.Seed.{seed_hash}
 use Rattle.sketch_base.specs.declared.error.ErrorKind.{ErrorKind}
 use Rattle.sketch_base.specs.declared.seed.TheConstants.{DEFAULT_UPDATE_SEED}
-use Rattle.theta_compact.specs.CompactState.{Compact, IsAnswer, empty_compact}
-use Rattle.theta_laws.specs.Cuts.{Retained, cut}
-use Rattle.theta_laws.specs.Entries.{hash_key, hash_step}
-use Rattle.theta_laws.specs.declared.leaf.LeafStep.{LeafStep}
-use Rattle.theta_laws.specs.declared.leaf.LeafStep.TheVariants.{Trim}
-use Rattle.theta_laws.specs.Leaf.{leaf, leaf_from, is_updated, hash_step_of}
-use Rattle.theta_laws.specs.Values.{Sketch, Empty, NonEmpty}
-use Rattle.theta_laws.specs.Cuts.{none_below}
-use Rattle.theta_table.specs.HashTable.{empty_table}
-use Rattle.theta_laws.specs.Insertion.{after_upsert}
-use Rattle.theta_family.specs.Updatable.{Updatable, sketch_value}
-use Rattle.theta_laws.specs.declared.TheConstants.{MAX_THETA}
-use Rattle.theta_laws.proofs.insertions.Leaves.{is_updated-append, leaf_from-append, trimmed, hash_keeps}
+use Rattle.core_compact.specs.CompactState.{Compact, IsAnswer, empty_compact}
+use Rattle.core_laws.specs.Cuts.{Retained, cut}
+use Rattle.core_laws.specs.Entries.{hash_key, hash_step}
+use Rattle.core_laws.specs.declared.leaf.LeafStep.{LeafStep}
+use Rattle.core_laws.specs.declared.leaf.LeafStep.TheVariants.{Trim}
+use Rattle.core_laws.specs.Leaf.{leaf, leaf_from, is_updated, hash_step_of}
+use Rattle.core_laws.specs.Values.{Sketch, Empty, NonEmpty}
+use Rattle.core_laws.specs.Cuts.{none_below}
+use Rattle.core_table.specs.HashTable.{empty_table}
+use Rattle.core_laws.specs.Insertion.{after_upsert}
+use Rattle.core_state.specs.Updatable.{Updatable, sketch_value}
+use Rattle.core_laws.specs.declared.TheConstants.{MAX_THETA}
+use Rattle.core_laws.proofs.insertions.Leaves.{is_updated-append, leaf_from-append, trimmed, hash_keeps}
 use Rattle.lines.specs.Keys.{line_hash}
 use Rattle.line_sketches.specs.Keys.{Held, held, new_held, with_lines, adds, value_of_lines, ordered_sketch}
 use Rattle.lines.specs.declared.key.Key.{Key}

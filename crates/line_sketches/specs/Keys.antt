@@ -2,16 +2,16 @@
 use Rattle.std.specs.Prelude.{ℕ, ◌≡◌, ◌⊎◌, ◌^◌, Bool, true, false, List, [], ◌∷◌, map}
 use Rattle.sketch_base.specs.Seed.{seed_hash}
 use Rattle.sketch_base.specs.declared.seed.TheConstants.{DEFAULT_UPDATE_SEED}
-use Rattle.theta_compact.specs.CompactState.{Compact, empty_compact}
-use Rattle.theta_laws.specs.Entries.{hash_step, hash_key}
-use Rattle.theta_laws.specs.declared.leaf.LeafStep.{LeafStep}
-use Rattle.theta_laws.specs.declared.leaf.LeafStep.TheVariants.{Add}
-use Rattle.theta_laws.specs.Leaf.{added, kmin}
-use Rattle.theta_laws.specs.Values.{Sketch, Empty, NonEmpty}
-use Rattle.theta_table.specs.HashTable.{MapTable, empty_table}
-use Rattle.theta_laws.specs.Insertion.{after_upsert}
-use Rattle.theta_family.specs.Updatable.{Updatable}
-use Rattle.theta_laws.specs.declared.TheConstants.{MAX_THETA}
+use Rattle.core_compact.specs.CompactState.{Compact, empty_compact}
+use Rattle.core_laws.specs.Entries.{hash_step, hash_key}
+use Rattle.core_laws.specs.declared.leaf.LeafStep.{LeafStep}
+use Rattle.core_laws.specs.declared.leaf.LeafStep.TheVariants.{Add}
+use Rattle.core_laws.specs.Leaf.{added, kmin}
+use Rattle.core_laws.specs.Values.{Sketch, Empty, NonEmpty}
+use Rattle.core_table.specs.HashTable.{MapTable, empty_table}
+use Rattle.core_laws.specs.Insertion.{after_upsert}
+use Rattle.core_state.specs.Updatable.{Updatable}
+use Rattle.core_laws.specs.declared.TheConstants.{MAX_THETA}
 use Rattle.theta_sketches.specs.Image.{written}
 use Rattle.lines.specs.Keys.{line_hash}
 use Rattle.lines.specs.Lines.{lines_of}

@@ -4,12 +4,12 @@ use Rattle.sketch_base.specs.Seed.{seed_hash}
 use Rattle.sketch_base.specs.declared.error.ErrorKind.{ErrorKind}
 use Rattle.sketch_base.specs.declared.error.ErrorKind.TheVariants.{InvalidArgument}
 use Rattle.sketch_base.specs.declared.seed.TheConstants.{DEFAULT_UPDATE_SEED}
-use Rattle.theta_compact.specs.CompactState.{Compact, compact_value, shown_of}
-use Rattle.theta_operators.specs.ANotB.{difference_refusal}
-use Rattle.theta_operators.specs.Intersection.{is_settled}
-use Rattle.theta_laws.specs.Entries.{hash_key, first_hash}
-use Rattle.theta_laws.specs.Operators.{meet, meet_next}
-use Rattle.theta_laws.specs.Values.{Sketch, Empty}
+use Rattle.core_compact.specs.CompactState.{Compact, compact_value, shown_of}
+use Rattle.core_operators.specs.ANotB.{difference_refusal}
+use Rattle.core_operators.specs.Intersection.{is_settled}
+use Rattle.core_laws.specs.Entries.{hash_key, first_hash}
+use Rattle.core_laws.specs.Operators.{meet, meet_next}
+use Rattle.core_laws.specs.Values.{Sketch, Empty}
 
 -- what an intersection has come to: Empty before its first sketch
 abbrev pub come_to : Option (Sketch ℕ) → Sketch ℕ

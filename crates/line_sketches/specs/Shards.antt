@@ -2,11 +2,11 @@
 use Rattle.std.specs.Prelude.{ℕ, ◌^◌, ⊤, List, [], ◌∷◌, map}
 use Rattle.sketch_base.specs.Seed.{seed_hash}
 use Rattle.sketch_base.specs.declared.seed.TheConstants.{DEFAULT_UPDATE_SEED}
-use Rattle.theta_compact.specs.CompactState.{Compact, compact_value}
-use Rattle.theta_laws.specs.Entries.{hash_key, first_hash}
-use Rattle.theta_laws.specs.Operators.{unite}
-use Rattle.theta_laws.specs.Values.{Sketch}
-use Rattle.theta_laws.specs.declared.TheConstants.{MAX_THETA}
+use Rattle.core_compact.specs.CompactState.{Compact, compact_value}
+use Rattle.core_laws.specs.Entries.{hash_key, first_hash}
+use Rattle.core_laws.specs.Operators.{unite}
+use Rattle.core_laws.specs.Values.{Sketch}
+use Rattle.core_laws.specs.declared.TheConstants.{MAX_THETA}
 use Rattle.theta_sketches.specs.Image.{Reads}
 use Rattle.lines.specs.Lines.{lines_of}
 use Rattle.lines.specs.declared.key.Key.{Key}

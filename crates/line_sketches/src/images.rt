@@ -2,24 +2,24 @@
 ghost use Rattle.std.specs.Prelude.{◌≡◌, true, None, IfOk, IfErr};
 ghost use Rattle.sketch_base.specs.Seed.{seed_hash};
 ghost use Rattle.sketch_base.specs.declared.seed.TheConstants.{DEFAULT_UPDATE_SEED};
-ghost use Rattle.theta_compact.specs.CompactState.{compact_value};
-ghost use Rattle.theta_laws.specs.Entries.{hash_key, first_hash};
-ghost use Rattle.theta_laws.specs.Operators.{meet, minus};
-ghost use Rattle.theta_laws.specs.Refusal.{Refuses};
-ghost use Rattle.theta_laws.specs.Values.{Empty};
-ghost use Rattle.theta_laws.specs.declared.TheConstants.{MAX_THETA};
-ghost use Rattle.theta_operators.specs.Union.{empty_union};
+ghost use Rattle.core_compact.specs.CompactState.{compact_value};
+ghost use Rattle.core_laws.specs.Entries.{hash_key, first_hash};
+ghost use Rattle.core_laws.specs.Operators.{meet, minus};
+ghost use Rattle.core_laws.specs.Refusal.{Refuses};
+ghost use Rattle.core_laws.specs.Values.{Empty};
+ghost use Rattle.core_laws.specs.declared.TheConstants.{MAX_THETA};
+ghost use Rattle.core_operators.specs.Union.{empty_union};
 ghost use Rattle.theta_sketches.specs.Image.{Reads, IsReadable, written};
-ghost use Rattle.theta_table.specs.HashTable.{table_refusal};
+ghost use Rattle.core_laws.specs.Settings.{settings_refusal};
 ghost use Rattle.line_sketches.specs.Keys.{ordered_sketch};
 ghost use Rattle.line_sketches.specs.Shards.{values_of_sketches};
 ghost use Rattle.line_sketches.specs.Meeting.{come_to, meet_refusal, lack_refusal};
-ghost use Rattle.theta_images.specs.Read.{IsRefused};
+ghost use Rattle.core_images.specs.Read.{IsRefused};
 
 use crate::sketching::{finished, new_sketch};
+use core_laws::MIN_LG_K;
 use sketch_base::{DEFAULT_UPDATE_SEED, Error};
 use std::alloc::Allocator;
-use theta_core::MIN_LG_K;
 use theta_sketches::laws::read_again;
 use theta_sketches::{
     CompactThetaSketch, ThetaANotB, ThetaIntersection, ThetaUnion, ThetaUnionBuilder,
@@ -54,7 +54,7 @@ pub fn image_of<A: Allocator + Clone + Drop>(
 /// A new union of 2^`lg_k` nominal entries.
 pub(crate) fn new_union<A: Allocator + Drop>(alloc: A, lg_k: u8) -> Result<ThetaUnion<A>, Error>
     ensures made { IfOk result (λ u. u ≡ empty_union lg_k MAX_THETA (seed_hash DEFAULT_UPDATE_SEED) u.policy) }
-    ensures refused { Refuses result (table_refusal lg_k MAX_THETA DEFAULT_UPDATE_SEED) true }
+    ensures refused { Refuses result (settings_refusal lg_k MAX_THETA DEFAULT_UPDATE_SEED) true }
 {
     ThetaUnionBuilder::default().lg_k(lg_k).build(alloc)
 }

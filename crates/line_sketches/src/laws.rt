@@ -4,7 +4,7 @@ ghost use Rattle.std.specs.List.{concat};
 ghost use Rattle.line_sketches.specs.Keys.{value_of_lines, ordered_sketch, image_of_text, HaveSameLines};
 ghost use Rattle.lines.specs.Lines.{lines_of, AreWhole};
 ghost use Rattle.lines.specs.declared.key.Key.{Key};
-ghost use Rattle.theta_compact.specs.CompactState.{Compact};
+ghost use Rattle.core_compact.specs.CompactState.{Compact};
 ghost use Rattle.theta_sketches.specs.Image.{written};
 ghost use Rattle.line_sketches.specs.Shards.{united, values_of_texts, values_of_sketches, sketches_of_texts, AreRead};
 

@@ -1,9 +1,9 @@
 //! Sketches of the lines that a reader has.
 ghost use Rattle.std.specs.Prelude.{◌≡◌, ◌+◌, ◌<◌, ◌≤◌, ℕ, List, [], length, take, IfOk, IfErr, OnOk, IfSome, None, true};
 ghost use Rattle.sketch_base.specs.declared.seed.TheConstants.{DEFAULT_UPDATE_SEED};
-ghost use Rattle.theta_laws.specs.Refusal.{Refuses};
-ghost use Rattle.theta_table.specs.HashTable.{table_refusal};
-ghost use Rattle.theta_laws.specs.declared.TheConstants.{MAX_THETA};
+ghost use Rattle.core_laws.specs.Refusal.{Refuses};
+ghost use Rattle.core_laws.specs.Settings.{settings_refusal};
+ghost use Rattle.core_laws.specs.declared.TheConstants.{MAX_THETA};
 ghost use Rattle.lines.specs.Lines.{lines_of, lines_after, Lacks};
 ghost use Rattle.lines.specs.Open.{IsOpen};
 ghost use Rattle.lines.specs.declared.key.Key.{Key};
@@ -60,7 +60,7 @@ pub trait Watch {
 /// `OutOfMemory`.
 pub fn new_sketch<A: Allocator + Drop>(alloc: A, lg_k: u8) -> Result<ThetaSketch<A>, Error>
     ensures new { IfOk result (λ s. held s ≡ new_held lg_k) }
-    ensures refused { Refuses result (table_refusal lg_k MAX_THETA DEFAULT_UPDATE_SEED) true }
+    ensures refused { Refuses result (settings_refusal lg_k MAX_THETA DEFAULT_UPDATE_SEED) true }
 {
     ThetaSketchBuilder::default().lg_k(lg_k).build(alloc)
 }
@@ -215,7 +215,7 @@ pub fn sketch_lines<A: Allocator + Clone + Drop, R: Read, W: Watch>(
 ) -> Result<CompactThetaSketch<A>, Unread>
     requires room { 0 < length block.old }
     ensures sketch { IfSome (R.remaining reader.old) (λ text. IfOk result (λ s. s ≡ ordered_sketch (value_of_lines key lg_k (lines_of text)))) }
-    ensures refused { RefusesRead result (table_refusal lg_k MAX_THETA DEFAULT_UPDATE_SEED) }
+    ensures refused { RefusesRead result (settings_refusal lg_k MAX_THETA DEFAULT_UPDATE_SEED) }
     ensures retried { IfErr result IsLasting }
 {
     let mut sketch = new_sketch(alloc, lg_k)?;

@@ -5,8 +5,8 @@ ghost use Rattle.line_sketches.specs.Keys.{held, with_lines, value_of_lines, ord
 ghost use Rattle.line_sketches.specs.Sources.{GivesNext};
 ghost use Rattle.line_sketches.specs.Refusals.{RefusesRead};
 ghost use Rattle.sketch_base.specs.declared.seed.TheConstants.{DEFAULT_UPDATE_SEED};
-ghost use Rattle.theta_laws.specs.declared.TheConstants.{MAX_THETA};
-ghost use Rattle.theta_table.specs.HashTable.{table_refusal};
+ghost use Rattle.core_laws.specs.declared.TheConstants.{MAX_THETA};
+ghost use Rattle.core_laws.specs.Settings.{settings_refusal};
 
 use crate::sketching::{Unread, Watch, add_lines, finished, new_sketch};
 use lines::Key;
@@ -113,7 +113,7 @@ pub fn sketch_sources<A: Allocator + Clone + Drop, S: Sources, W: Watch>(
     watch: &mut W,
 ) -> Result<CompactThetaSketch<A>, Unread>
     ensures sketch { IfSome (S.texts sources.old) (λ texts. IfOk result (λ s. s ≡ ordered_sketch (value_of_lines key lg_k (lines_of_all texts)))) }
-    ensures refused { RefusesRead result (table_refusal lg_k MAX_THETA DEFAULT_UPDATE_SEED) }
+    ensures refused { RefusesRead result (settings_refusal lg_k MAX_THETA DEFAULT_UPDATE_SEED) }
 {
     let mut sketch = new_sketch(alloc.clone()?, lg_k)?;
     add_sources(&mut sketch, alloc, key, sources, watch)?;

@@ -9,11 +9,11 @@ ghost use Rattle.line_sketches.specs.Unions.{HasUnited, IsReady, IsUnitedImage, 
 ghost use Rattle.line_sketches.specs.Refusals.{IsImageRefusal, IsImagesRefusal, IsUniteRefusal};
 ghost use Rattle.sketch_base.specs.Seed.{seed_hash};
 ghost use Rattle.sketch_base.specs.declared.seed.TheConstants.{DEFAULT_UPDATE_SEED};
-ghost use Rattle.theta_images.specs.Read.{IsRefused};
-ghost use Rattle.theta_laws.specs.Refusal.{Refuses};
-ghost use Rattle.theta_laws.specs.declared.TheConstants.{MAX_THETA};
+ghost use Rattle.core_images.specs.Read.{IsRefused};
+ghost use Rattle.core_laws.specs.Refusal.{Refuses};
+ghost use Rattle.core_laws.specs.declared.TheConstants.{MAX_THETA};
 ghost use Rattle.theta_sketches.specs.Image.{IsReadable};
-ghost use Rattle.theta_table.specs.HashTable.{table_refusal};
+ghost use Rattle.core_laws.specs.Settings.{settings_refusal};
 
 use crate::images::{image_of, new_union, read_image};
 use crate::sketching::{Unread, Watch};
@@ -108,8 +108,8 @@ pub fn unite_images<A: Allocator + Clone + Drop, S: Sources>(
     ensures united { IfSome (S.texts images.old) (λ all. IfOk result (λ v. IsUnitedImage lg_k all v.items)) }
     ensures whole { IfSome (S.texts images.old) (λ all. (key : Key) (texts : List (List ℕ)) → AreWhole texts → all ≡ images_of_texts key lg_k texts → IfOk result (λ v. v.items ≡ image_of_text key lg_k (concat texts))) }
     ensures apart { IfSome (S.texts images.old) (λ all. IfOk result (λ v. UnitesTexts lg_k all v.items)) }
-    ensures accepted { OnOk result (table_refusal lg_k MAX_THETA DEFAULT_UPDATE_SEED ≡ None) }
-    ensures refused { IfErr result (IsUniteRefusal (table_refusal lg_k MAX_THETA DEFAULT_UPDATE_SEED) (S.texts images.old)) }
+    ensures accepted { OnOk result (settings_refusal lg_k MAX_THETA DEFAULT_UPDATE_SEED ≡ None) }
+    ensures refused { IfErr result (IsUniteRefusal (settings_refusal lg_k MAX_THETA DEFAULT_UPDATE_SEED) (S.texts images.old)) }
 {
     one_reading();
     read_again();

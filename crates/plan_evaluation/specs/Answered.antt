@@ -1,9 +1,9 @@
 -- What a plan is evaluated to: one ordered sketch.
 use Rattle.std.specs.Prelude.{ℕ, ◌≡◌, true, false, map}
-use Rattle.theta_compact.specs.CompactState.{Compact, empty_compact, compact_value}
-use Rattle.theta_laws.specs.Cuts.{Retained}
-use Rattle.theta_laws.specs.Folds.{Fold, unmarked_value}
-use Rattle.theta_laws.specs.Values.{Sketch, Empty, NonEmpty}
+use Rattle.core_compact.specs.CompactState.{Compact, empty_compact, compact_value}
+use Rattle.core_laws.specs.Cuts.{Retained}
+use Rattle.core_laws.specs.Folds.{Fold, unmarked_value}
+use Rattle.core_laws.specs.Values.{Sketch, Empty, NonEmpty}
 
 -- the ordered sketch of a value
 abbrev pub ordered_sketch : {X : Type 0} → Sketch X → (seed_hash : ℕ) → Compact X

@@ -1,11 +1,11 @@
 -- What a node of a plan comes to, in any family: a leaf that an operator sees as it is, or a compact sketch.
 use Rattle.std.specs.Prelude.{ℕ, ◌≡◌, ◌||◌, ◌^◌, Bool, true, false, [], ◌∷◌, Option, Some, None}
-use Rattle.theta_compact.specs.CompactState.{Compact as State, IsAnswer, compact_value}
-use Rattle.theta_laws.specs.Folds.{Fold, unmarked_value}
-use Rattle.theta_laws.specs.Operators.{unite}
-use Rattle.theta_laws.specs.Values.{Sketch, Empty, NonEmpty}
-use Rattle.theta_family.specs.Updatable.{Updatable, sketch_value}
-use Rattle.theta_operators.specs.Union.{Union, union_value}
+use Rattle.core_compact.specs.CompactState.{Compact as State, IsAnswer, compact_value}
+use Rattle.core_laws.specs.Folds.{Fold, unmarked_value}
+use Rattle.core_laws.specs.Operators.{unite}
+use Rattle.core_laws.specs.Values.{Sketch, Empty, NonEmpty}
+use Rattle.core_state.specs.Updatable.{Updatable, sketch_value}
+use Rattle.core_operators.specs.Union.{Union, union_value}
 use Rattle.plan_text.specs.declared.plan.Plan.{Plan}
 use Rattle.plan_values.specs.Family.{Family}
 use Rattle.plan_values.specs.Outcome.{is_leaf, orders_itself}

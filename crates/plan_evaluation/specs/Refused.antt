@@ -2,15 +2,15 @@
 use Rattle.std.specs.Prelude.{ℕ, ◌≡◌, ◌≤◌, ◌⊎◌, Bool, true, IsTrue, List, Option, Some, None}
 use Rattle.sketch_base.specs.declared.error.ErrorKind.{ErrorKind}
 use Rattle.sketch_base.specs.declared.error.ErrorKind.TheVariants.{OutOfMemory, Policy}
-use Rattle.theta_laws.specs.Folds.{Fold, has_mark}
-use Rattle.theta_laws.specs.declared.TheConstants.{MAX_THETA}
-use Rattle.theta_laws.specs.Cuts.{Retained}
-use Rattle.theta_laws.specs.Leaf.{whole_step}
-use Rattle.theta_laws.specs.declared.leaf.LeafStep.{LeafStep}
-use Rattle.theta_laws.specs.Maps.{IsAscending, below}
-use Rattle.theta_laws.specs.Operators.{joined, common}
-use Rattle.theta_laws.specs.Samples.{IsAllBelow}
-use Rattle.theta_laws.specs.Values.{Sketch}
+use Rattle.core_laws.specs.Folds.{Fold, has_mark}
+use Rattle.core_laws.specs.declared.TheConstants.{MAX_THETA}
+use Rattle.core_laws.specs.Cuts.{Retained}
+use Rattle.core_laws.specs.Leaf.{whole_step}
+use Rattle.core_laws.specs.declared.leaf.LeafStep.{LeafStep}
+use Rattle.core_laws.specs.Maps.{IsAscending, below}
+use Rattle.core_laws.specs.Operators.{joined, common}
+use Rattle.core_laws.specs.Samples.{IsAllBelow}
+use Rattle.core_laws.specs.Values.{Sketch}
 use Rattle.plan_text.specs.declared.plan.Plan.{Plan}
 use Rattle.plan_values.specs.Family.{Family}
 use Rattle.plan_values.specs.Refusals.{may_refuse}

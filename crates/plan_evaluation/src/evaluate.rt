@@ -1,13 +1,13 @@
 //! One evaluation for every family of sketches.
 ghost use Rattle.std.specs.Prelude.{◌≡◌, ◌<◌, ◌^◌, ◌||◌, ◌⊎◌, ℕ, Bool, IsTrue, true, false, not, None, Some, IfOk, IfErr, OnOk};
 ghost use Rattle.sketch_base.specs.Seed.{seed_hash};
-ghost use Rattle.theta_compact.specs.CompactState.{IsAnswer};
-ghost use Rattle.theta_table.specs.HashTable.{table_refusal};
-ghost use Rattle.theta_laws.specs.Folds.{Fold, unmarked, unmarked_value};
-ghost use Rattle.theta_laws.specs.Leaf.{leaf, leaf_step, updated_step};
-ghost use Rattle.theta_laws.specs.Refusal.{Refuses};
-ghost use Rattle.theta_laws.specs.Values.{Sketch};
-ghost use Rattle.theta_family.specs.Updatable.{sketch_value};
+ghost use Rattle.core_compact.specs.CompactState.{IsAnswer};
+ghost use Rattle.core_laws.specs.Settings.{settings_refusal};
+ghost use Rattle.core_laws.specs.Folds.{Fold, unmarked, unmarked_value};
+ghost use Rattle.core_laws.specs.Leaf.{leaf, leaf_step, updated_step};
+ghost use Rattle.core_laws.specs.Refusal.{Refuses};
+ghost use Rattle.core_laws.specs.Values.{Sketch};
+ghost use Rattle.core_state.specs.Updatable.{sketch_value};
 ghost use Rattle.plan_values.specs.Family.{folds_of};
 ghost use Rattle.plan_values.specs.Refusals.{steps_marked};
 ghost use Rattle.plan_values.specs.Value.{plan_refusal};
@@ -16,10 +16,10 @@ ghost use Rattle.plan_evaluation.specs.Refused.{RefusedFor, IsPlanRefused, Marks
 
 use crate::evaluated::Evaluated;
 use crate::family::SketchFamily;
+use core_laws::{MAX_THETA, MIN_LG_K};
 use plan_text::{Plan, Step, UnionPart};
 use sketch_base::Error;
 use std::alloc::Allocator;
-use theta_core::{MAX_THETA, MIN_LG_K};
 
 /// What a node of a plan comes to: a leaf as it is, any other node ordered exactly where that is asked, where it orders itself,
 /// where it is empty, and where it has one entry at the greatest theta. An operator is built first; then it takes
@@ -137,8 +137,8 @@ fn updated<F: SketchFamily<A>, A: Allocator + Clone>(
 ) -> Result<F::Sketch, Error>
     ensures value { let f = folds_of (F.rules family.now) (F.refuses family.now) in IfOk result (λ s. unmarked_value (sketch_value (F.state s)) ≡ leaf f.key f.step_of (2 ^ lg_k) start steps.now) }
     ensures seed { IfOk result (λ s. (F.state s).map.seed_hash ≡ seed_hash seed) }
-    ensures accepted { OnOk result (table_refusal lg_k start seed ≡ None) }
-    ensures refused { IfErr result (λ e. (table_refusal lg_k start seed ≡ Some e) ⊎ RefusedFor e F.strict ((table_refusal lg_k start seed ≡ None) × IsTrue (steps_marked (folds_of (F.rules family.now) (F.refuses family.now)) steps.now))) }
+    ensures accepted { OnOk result (settings_refusal lg_k start seed ≡ None) }
+    ensures refused { IfErr result (λ e. (settings_refusal lg_k start seed ≡ Some e) ⊎ RefusedFor e F.strict ((settings_refusal lg_k start seed ≡ None) × IsTrue (steps_marked (folds_of (F.rules family.now) (F.refuses family.now)) steps.now))) }
 {
     let mut sketch = family.new_sketch(alloc.clone()?, lg_k, start, seed)?;
     'steps: for step in steps {

@@ -1,25 +1,26 @@
 //! What plans need of a family of sketches.
 ghost use Rattle.std.specs.Prelude.{◌≡◌, ◌<◌, ◌||◌, ◌^◌, true, false, not, None, Some, [], IfOk, IfErr, OnOk, option_map};
 ghost use Rattle.sketch_base.specs.Seed.{seed_hash};
-ghost use Rattle.theta_compact.specs.CompactState.{IsAnswer};
-ghost use Rattle.theta_table.specs.HashTable.{empty_table, after_reset, table_refusal};
-ghost use Rattle.theta_laws.specs.Cuts.{cut};
-ghost use Rattle.theta_laws.specs.Folds.{unmarked_value};
-ghost use Rattle.theta_laws.specs.Insertion.{after_upsert, upsert_refusal};
-ghost use Rattle.theta_laws.specs.Operators.{meet_next, minus};
-ghost use Rattle.theta_laws.specs.Refusal.{Refuses};
-ghost use Rattle.theta_laws.specs.Values.{cut_value};
-ghost use Rattle.theta_family.specs.Updatable.{sketch_value};
-ghost use Rattle.theta_operators.specs.Intersection.{new_intersection, seed_refusal, IsAnswerIfAny};
-ghost use Rattle.theta_operators.specs.Union.{empty_union, union_value, lower_refusal};
+ghost use Rattle.core_compact.specs.CompactState.{IsAnswer};
+ghost use Rattle.core_laws.specs.Settings.{settings_refusal};
+ghost use Rattle.core_table.specs.HashTable.{empty_table, after_reset};
+ghost use Rattle.core_laws.specs.Cuts.{cut};
+ghost use Rattle.core_laws.specs.Folds.{unmarked_value};
+ghost use Rattle.core_laws.specs.Insertion.{after_upsert, upsert_refusal};
+ghost use Rattle.core_laws.specs.Operators.{meet_next, minus};
+ghost use Rattle.core_laws.specs.Refusal.{Refuses};
+ghost use Rattle.core_laws.specs.Values.{cut_value};
+ghost use Rattle.core_state.specs.Updatable.{sketch_value};
+ghost use Rattle.core_operators.specs.Intersection.{new_intersection, seed_refusal, IsAnswerIfAny};
+ghost use Rattle.core_operators.specs.Union.{empty_union, union_value, lower_refusal};
 ghost use Rattle.plan_values.specs.Family.{IsFamily, folds_of};
 ghost use Rattle.plan_evaluation.specs.Came.{came, IsFoldAnswer, Joins};
 ghost use Rattle.plan_evaluation.specs.Refused.{RefusedFor, HoldsMore, MarksJoined, MarksMet};
 
 use crate::evaluated::Evaluated;
+use core_laws::SketchEntry;
 use sketch_base::Error;
 use std::alloc::Allocator;
-use theta_core::SketchEntry;
 
 /// A family of sketches and its operators, by their public calls. Its contracts are those of the calls, told of any family:
 /// values are told in folds, of which nothing here is a mark.
@@ -40,11 +41,11 @@ pub trait SketchFamily<A: Allocator> {
     type Difference: Drop;
 
     ghost use Rattle.std.specs.Prelude.{ℕ, Bool, List};
-    ghost use Rattle.theta_laws.specs.Folds.{Fold};
-    ghost use Rattle.theta_compact.specs.CompactState.{Compact as State};
-    ghost use Rattle.theta_family.specs.Updatable.{Updatable};
-    ghost use Rattle.theta_operators.specs.Union.{Union as Unions};
-    ghost use Rattle.theta_operators.specs.Intersection.{Intersection as Intersections};
+    ghost use Rattle.core_laws.specs.Folds.{Fold};
+    ghost use Rattle.core_compact.specs.CompactState.{Compact as State};
+    ghost use Rattle.core_state.specs.Updatable.{Updatable};
+    ghost use Rattle.core_operators.specs.Union.{Union as Unions};
+    ghost use Rattle.core_operators.specs.Intersection.{Intersection as Intersections};
     ghost use Rattle.plan_values.specs.Family.{Family as Families};
 
     /// Its keys, merges and steps, and the merges that it refuses.
@@ -82,7 +83,7 @@ pub trait SketchFamily<A: Allocator> {
         ensures own { IfOk result (made_sketch self.now) }
         ensures empty { IfOk result (λ s. (state s).empty ≡ true) }
         ensures made { IfOk result (λ s. (state s).map ≡ empty_table lg_k start seed) }
-        ensures refused { Refuses result (table_refusal lg_k start seed) true };
+        ensures refused { Refuses result (settings_refusal lg_k start seed) true };
 
     /// Adds a value at a hash. Refused with `OutOfMemory`, or with `Policy` where the family's rules refuse the value there; then
     /// nothing is said of what the sketch holds.
@@ -120,7 +121,7 @@ pub trait SketchFamily<A: Allocator> {
         ensures own { IfOk result (made_union self.now) }
         ensures made { IfOk result (λ u. united u ≡ empty_union lg_k start (seed_hash seed) tt) }
         ensures holds { IfOk result (λ u. holds self.now u []) }
-        ensures refused { Refuses result (table_refusal lg_k start seed) true };
+        ensures refused { Refuses result (settings_refusal lg_k start seed) true };
 
     /// Hands a part of the union's seed over to a union that has not failed. Refused with `OutOfMemory`, or with `Policy` where
     /// the whole maps of the union and the part, joined, have a mark; then nothing is said of what the union holds.

@@ -3,10 +3,10 @@ ghost use Rattle.std.specs.Prelude.{◌≡◌, MatchResult};
 ghost use Rattle.sketch_base.specs.declared.error.ErrorKind.TheVariants.{InvalidArgument};
 
 use crate::levels::{Levels, MAX_LEVELS};
+use core_laws::LeafStep;
 use sketch_base::{Error, ErrorKind};
 use std::alloc::{Allocator, Global};
 use std::marker::Model;
-use theta_laws::LeafStep;
 
 /// A vector that contracts see as the list of its items, so that two plans are equal where they
 /// have equal steps and parts. It is made of a `Vec` and gives it back, and takes no memory. It knows how many levels its

@@ -7,7 +7,7 @@ ghost use Rattle.plan_text.specs.Lines.{form_of, order_of, said, said_one, said_
 
 use crate::command::{Family, Form};
 use crate::text::cut;
-use theta_laws::MAX_THETA;
+use core_laws::MAX_THETA;
 
 /// A line that the text may have.
 #[derive(Clone, Copy)]

@@ -2,8 +2,8 @@
 
 use crate::boxed::Boxed;
 use crate::items::Items;
+pub use core_laws::LeafStep as Step;
 use std::alloc::{Allocator, Global};
-pub use theta_laws::LeafStep as Step;
 
 /// A part of a union of P.
 #[derive(Drop)]

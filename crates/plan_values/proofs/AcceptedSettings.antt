@@ -3,8 +3,8 @@ use Rattle.std.proofs.Common.{◌≡◌, ℕ, ◌≤◌, Bool, true, false, cond
 use Rattle.std.specs.Prelude.{◌&&◌, nat_le, is_none}
 use Rattle.std.proofs.lemmas.Bool.Decides.{nat_tests}
 use Rattle.sketch_base.specs.declared.error.ErrorKind.TheVariants.{InvalidArgument}
-use Rattle.theta_laws.specs.declared.TheConstants.{MAX_THETA}
-use Rattle.theta_table.specs.HashTable.{table_refusal}
+use Rattle.core_laws.specs.declared.TheConstants.{MAX_THETA}
+use Rattle.core_laws.specs.Settings.{settings_refusal}
 
 pub accepted : (c : Bool) → cond c None (Some InvalidArgument) ≡ None → c ≡ true
 accepted true e = refl
@@ -21,7 +21,7 @@ and_right false b e = absurd (cc)
 pub at_most : (a b : ℕ) → nat_le a b ≡ true → a ≤ b
 at_most a b e = grind (arith, nat_tests)
 
-pub start_fits : (lg_k start seed : ℕ) → table_refusal lg_k start seed ≡ None → start ≤ MAX_THETA
+pub start_fits : (lg_k start seed : ℕ) → settings_refusal lg_k start seed ≡ None → start ≤ MAX_THETA
 start_fits lg_k start seed fits = at_most start MAX_THETA (and_right _ _ (and_left _ _ (accepted _ fits)))
 
 nothing : {X : Type 0} (o : Option X) → is_none o ≡ true → o ≡ None
@@ -29,5 +29,5 @@ nothing None e = refl
 nothing (Some x) e = absurd (cc)
 
 -- a node that may be built
-pub built : (lg_k start seed : ℕ) → is_none (table_refusal lg_k start seed) ≡ true → table_refusal lg_k start seed ≡ None
-built lg_k start seed e = nothing (table_refusal lg_k start seed) e
+pub built : (lg_k start seed : ℕ) → is_none (settings_refusal lg_k start seed) ≡ true → settings_refusal lg_k start seed ≡ None
+built lg_k start seed e = nothing (settings_refusal lg_k start seed) e

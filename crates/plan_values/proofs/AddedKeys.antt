@@ -1,14 +1,14 @@
 -- The keys of a merge's whole map are the hashes that were added.
 use Rattle.std.proofs.Common.{◌≡◌, ℕ, true, false, is_some, Option, Some, None, List, map, refl, sym, ap, ◌∙◌}
 use Rattle.std.specs.Option.{option_map}
-use Rattle.theta_laws.specs.Entries.{hash_key, is_carried}
-use Rattle.theta_laws.specs.Leaf.{whole, added}
-use Rattle.theta_laws.specs.Maps.{entry_at}
-use Rattle.theta_laws.specs.declared.leaf.LeafStep.{LeafStep}
-use Rattle.theta_laws.proofs.cuts.WithinWholeMaps.{found_key}
-use Rattle.theta_laws.proofs.maps.LookUps.{same_map}
-use Rattle.theta_laws.proofs.maps.MappedEntries.{entry_at-map}
-use Rattle.theta_laws.proofs.maps.MapsOfLists.{ascending-map}
+use Rattle.core_laws.specs.Entries.{hash_key, is_carried}
+use Rattle.core_laws.specs.Leaf.{whole, added}
+use Rattle.core_laws.specs.Maps.{entry_at}
+use Rattle.core_laws.specs.declared.leaf.LeafStep.{LeafStep}
+use Rattle.core_laws.proofs.cuts.WithinWholeMaps.{found_key}
+use Rattle.core_laws.proofs.maps.LookUps.{same_map}
+use Rattle.core_laws.proofs.maps.MappedEntries.{entry_at-map}
+use Rattle.core_laws.proofs.maps.MapsOfLists.{ascending-map}
 use Rattle.plan_text.specs.declared.plan.Plan.{Plan}
 use Rattle.plan_text.specs.declared.plan.Plan.TheVariants as plan
 use Rattle.plan_values.specs.Family.{Family, IsFamily, hashes, tuple_folds}

@@ -3,13 +3,13 @@ use Rattle.std.proofs.Common.{◌≡◌, ℕ, false, Option, Some, None, is_none
 use Rattle.std.specs.Prelude.{ℤ, if◌then◌else◌}
 use Rattle.std.specs.Option.{option_map, option_map_or}
 use Rattle.std.proofs.Math.IntN.{+ℤ_comm}
-use Rattle.theta_laws.specs.Commuting.{Commutes}
-use Rattle.theta_laws.specs.Folds.{fold_key}
-use Rattle.theta_laws.proofs.operators.SummariesAlike.{folds_commute}
-use Rattle.theta_policies.specs.Sums.{is_within, sum_within}
-use Rattle.theta_policies.specs.Summaries.{combined, combine_refused}
-use Rattle.theta_table.specs.Entry.{tuple_key, tuple_of, with_summary}
-use Rattle.theta_table.specs.declared.entry.TupleEntry.{TupleEntry}
+use Rattle.core_laws.specs.Commuting.{Commutes}
+use Rattle.core_laws.specs.Folds.{fold_key}
+use Rattle.core_laws.proofs.operators.SummariesAlike.{folds_commute}
+use Rattle.core_policies.specs.Sums.{is_within, sum_within}
+use Rattle.core_policies.specs.Summaries.{combined, combine_refused}
+use Rattle.core_slots.specs.Entry.{tuple_key, tuple_of, with_summary}
+use Rattle.core_slots.specs.declared.entry.TupleEntry.{TupleEntry}
 use Rattle.plan_values.specs.Family.{tuple_folds}
 
 some_same : (a b : ℤ) → ◌≡◌ {A = Option ℤ} (Some a) (Some b) → a ≡ b

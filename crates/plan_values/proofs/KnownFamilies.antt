@@ -1,10 +1,10 @@
 -- The families whose steps and merges keep hashes: hashes, folds of a family that does, and tuples.
 use Rattle.std.proofs.Common.{Bool, Option}
-use Rattle.theta_laws.proofs.insertions.FoldedSteps.{folded-keeps}
-use Rattle.theta_laws.proofs.insertions.Leaves.{hash_keeps}
-use Rattle.theta_laws.proofs.insertions.Unmarked.{fold_keeps}
-use Rattle.theta_policies.specs.Summaries.{combined-keeps, combine_refused}
-use Rattle.theta_policies.proofs.FoldedValues.{updates-keep}
+use Rattle.core_laws.proofs.insertions.FoldedSteps.{folded-keeps}
+use Rattle.core_laws.proofs.insertions.Leaves.{hash_keeps}
+use Rattle.core_laws.proofs.insertions.Unmarked.{fold_keeps}
+use Rattle.core_policies.specs.Summaries.{combined-keeps, combine_refused}
+use Rattle.core_policies.proofs.FoldedValues.{updates-keep}
 use Rattle.plan_values.specs.Family.{Family, IsFamily, hashes, folds_of, tuples, tuple_folds}
 
 pub hashes_keep : {V : Type 0} → IsFamily (hashes {V = V})

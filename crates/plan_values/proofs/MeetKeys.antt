@@ -4,12 +4,12 @@ use Rattle.std.specs.Prelude.{IsPermutation}
 use Rattle.std.specs.List.{list_all, AllByRecursion}
 use Rattle.std.proofs.lemmas.Bool.Decides.{nat_tests}
 use Rattle.std.proofs.lemmas.List.Sorted.{IsPermutation-map}
-use Rattle.theta_laws.specs.KeysOfValues.{keys_of, IsBelowTheta}
-use Rattle.theta_laws.specs.Maps.{below}
-use Rattle.theta_laws.specs.Samples.{IsSample, AreSamples}
-use Rattle.theta_laws.specs.Values.{Sketch, Empty, NonEmpty, IsAscendingValue}
-use Rattle.theta_laws.proofs.maps.Ascending.{ascending-filter, each-passes}
-use Rattle.theta_laws.proofs.operators.SharedKeys.{permuted_keys}
+use Rattle.core_laws.specs.KeysOfValues.{keys_of, IsBelowTheta}
+use Rattle.core_laws.specs.Maps.{below}
+use Rattle.core_laws.specs.Samples.{IsSample, AreSamples}
+use Rattle.core_laws.specs.Values.{Sketch, Empty, NonEmpty, IsAscendingValue}
+use Rattle.core_laws.proofs.maps.Ascending.{ascending-filter, each-passes}
+use Rattle.core_laws.proofs.operators.SharedKeys.{permuted_keys}
 use Rattle.plan_text.specs.declared.plan.Plan.{Plan}
 use Rattle.plan_text.specs.declared.plan.Plan.TheVariants as plan
 use Rattle.plan_values.specs.Family.{Family, IsFamily}

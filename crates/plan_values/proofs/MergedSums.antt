@@ -5,21 +5,21 @@ use Rattle.std.specs.Option.{option_map, option_map_or, option_and_then}
 use Rattle.std.proofs.lemmas.Bool.{true≢false}
 use Rattle.std.proofs.lemmas.List.{append-nil}
 use Rattle.std.proofs.Math.IntN.{+ℤ_assoc, +ℤ_idl, +ℤ_idr}
-use Rattle.theta_laws.specs.Cuts.{Retained}
-use Rattle.theta_laws.specs.Entries.{hash_key, is_carried}
-use Rattle.theta_laws.specs.Folds.{Fold, Value, Refused, fold_key, fold_merges, unmarked_value}
-use Rattle.theta_laws.specs.Maps.{below, entry_at}
-use Rattle.theta_laws.specs.Refusal.{policy_refusal}
-use Rattle.theta_laws.specs.Samples.{IsSample}
-use Rattle.theta_laws.specs.Values.{NonEmpty}
-use Rattle.theta_laws.proofs.maps.LookUps.{entry_at-below}
-use Rattle.theta_laws.proofs.maps.MappedEntries.{entry_at-map}
-use Rattle.theta_laws.proofs.operators.JoinedMaps.{either}
-use Rattle.theta_policies.specs.Sums.{is_within, sum_within}
-use Rattle.theta_policies.specs.Summaries.{first_summary, after_values, fold_of, fold_at, values_at, combined, combine_refused}
-use Rattle.theta_policies.proofs.FoldedValues.{folded-values}
-use Rattle.theta_table.specs.Entry.{tuple_key, tuple_of, with_summary}
-use Rattle.theta_table.specs.declared.entry.TupleEntry.{TupleEntry}
+use Rattle.core_laws.specs.Cuts.{Retained}
+use Rattle.core_laws.specs.Entries.{hash_key, is_carried}
+use Rattle.core_laws.specs.Folds.{Fold, Value, Refused, fold_key, fold_merges, unmarked_value}
+use Rattle.core_laws.specs.Maps.{below, entry_at}
+use Rattle.core_laws.specs.Refusal.{policy_refusal}
+use Rattle.core_laws.specs.Samples.{IsSample}
+use Rattle.core_laws.specs.Values.{NonEmpty}
+use Rattle.core_laws.proofs.maps.LookUps.{entry_at-below}
+use Rattle.core_laws.proofs.maps.MappedEntries.{entry_at-map}
+use Rattle.core_laws.proofs.operators.JoinedMaps.{either}
+use Rattle.core_policies.specs.Sums.{is_within, sum_within}
+use Rattle.core_policies.specs.Summaries.{first_summary, after_values, fold_of, fold_at, values_at, combined, combine_refused}
+use Rattle.core_policies.proofs.FoldedValues.{folded-values}
+use Rattle.core_slots.specs.Entry.{tuple_key, tuple_of, with_summary}
+use Rattle.core_slots.specs.declared.entry.TupleEntry.{TupleEntry}
 use Rattle.plan_text.specs.declared.plan.Plan.{Plan}
 use Rattle.plan_values.specs.AddedValues.{added_values, total}
 use Rattle.plan_values.specs.Family.{Family, hashes, tuple_folds}

@@ -1,11 +1,11 @@
 -- Theta plans that are accepted: all of their whole streams below their theta, and the k least where they merge or are trimmed.
 use Rattle.std.proofs.Common.{◌≡◌, ℕ, ◌^◌, true, false, List, [], ◌∷◌, ◌++◌, None}
-use Rattle.theta_laws.specs.Entries.{hash_key}
-use Rattle.theta_laws.specs.Leaf.{is_updated, added, kmin}
-use Rattle.theta_laws.specs.Samples.{IsAllBelow}
-use Rattle.theta_laws.specs.Values.{NonEmpty}
-use Rattle.theta_laws.specs.declared.leaf.LeafStep.{LeafStep}
-use Rattle.theta_laws.specs.declared.leaf.LeafStep.TheVariants.{Trim}
+use Rattle.core_laws.specs.Entries.{hash_key}
+use Rattle.core_laws.specs.Leaf.{is_updated, added, kmin}
+use Rattle.core_laws.specs.Samples.{IsAllBelow}
+use Rattle.core_laws.specs.Values.{NonEmpty}
+use Rattle.core_laws.specs.declared.leaf.LeafStep.{LeafStep}
+use Rattle.core_laws.specs.declared.leaf.LeafStep.TheVariants.{Trim}
 use Rattle.plan_text.specs.declared.plan.Plan.{Plan}
 use Rattle.plan_text.specs.declared.plan.Plan.TheVariants as plan
 use Rattle.plan_values.specs.Family.{hashes}

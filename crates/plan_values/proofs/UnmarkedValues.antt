@@ -4,22 +4,22 @@ use Rattle.std.specs.Prelude.{◌&&◌, is_none}
 use Rattle.std.specs.Option.{option_map, option_map_or}
 use Rattle.std.proofs.lemmas.List.{length-map}
 use Rattle.sketch_base.specs.declared.error.ErrorKind.{ErrorKind}
-use Rattle.theta_laws.specs.declared.TheConstants.{MAX_THETA}
-use Rattle.theta_laws.specs.Cuts.{Retained, cut, retained, none_below}
-use Rattle.theta_laws.specs.Maps.{entry_at, with_entry}
-use Rattle.theta_laws.specs.Folds.{Fold, Value, Refused, fold_key, fold_merges, unmarked, unmarked_value, never, folded_of, fold_writes, fold_makes}
-use Rattle.theta_laws.specs.Entries.{is_carried}
-use Rattle.theta_laws.specs.Insertion.{whole_upsert}
-use Rattle.theta_laws.specs.Samples.{common_all}
-use Rattle.theta_laws.specs.Leaf.{leaf, leaf_from, leaf_step, is_updated, whole, whole_from, whole_step}
-use Rattle.theta_laws.specs.Operators.{join, joined, joined_all, least, nonempties, unite, unite_nonempty, common, shared, is_disjoint, meet, meet_from, lacking, unless_nothing, minus}
-use Rattle.theta_laws.specs.Step.{Step}
-use Rattle.theta_laws.specs.Values.{Sketch, Empty, NonEmpty}
-use Rattle.theta_laws.specs.declared.leaf.LeafStep.{LeafStep}
-use Rattle.theta_laws.specs.declared.leaf.LeafStep.TheVariants.{Add, Trim, Reset}
-use Rattle.theta_laws.proofs.insertions.Cases.{never_refused}
-use Rattle.theta_laws.proofs.insertions.FoldedSteps.{unmarked-step}
-use Rattle.theta_laws.proofs.maps.MappedEntries.{below-map, entry_at-map, with_entry-map, cut-map}
+use Rattle.core_laws.specs.declared.TheConstants.{MAX_THETA}
+use Rattle.core_laws.specs.Cuts.{Retained, cut, retained, none_below}
+use Rattle.core_laws.specs.Maps.{entry_at, with_entry}
+use Rattle.core_laws.specs.Folds.{Fold, Value, Refused, fold_key, fold_merges, unmarked, unmarked_value, never, folded_of, fold_writes, fold_makes}
+use Rattle.core_laws.specs.Entries.{is_carried}
+use Rattle.core_laws.specs.Insertion.{whole_upsert}
+use Rattle.core_laws.specs.Samples.{common_all}
+use Rattle.core_laws.specs.Leaf.{leaf, leaf_from, leaf_step, is_updated, whole, whole_from, whole_step}
+use Rattle.core_laws.specs.Operators.{join, joined, joined_all, least, nonempties, unite, unite_nonempty, common, shared, is_disjoint, meet, meet_from, lacking, unless_nothing, minus}
+use Rattle.core_laws.specs.Step.{Step}
+use Rattle.core_laws.specs.Values.{Sketch, Empty, NonEmpty}
+use Rattle.core_laws.specs.declared.leaf.LeafStep.{LeafStep}
+use Rattle.core_laws.specs.declared.leaf.LeafStep.TheVariants.{Add, Trim, Reset}
+use Rattle.core_laws.proofs.insertions.Cases.{never_refused}
+use Rattle.core_laws.proofs.insertions.FoldedSteps.{unmarked-step}
+use Rattle.core_laws.proofs.maps.MappedEntries.{below-map, entry_at-map, with_entry-map, cut-map}
 
 module _ {X : Type 0} where
   abbrev entries_in : List (Fold X) → List X

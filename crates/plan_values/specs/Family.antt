@@ -1,13 +1,13 @@
 -- A family of sketches as definitions see it: what its entries are keyed by, how operators merge them, and the step that an
 -- update stands for.
 use Rattle.std.specs.Prelude.{ℕ, Bool, Option}
-use Rattle.theta_laws.specs.Entries.{hash_key, first_hash, KeepsKey}
-use Rattle.theta_laws.specs.Folds.{Fold, fold_key, fold_merges, folded_of}
-use Rattle.theta_laws.specs.Leaf.{KeepsHashes, hash_step_of}
-use Rattle.theta_laws.specs.Step.{Step}
-use Rattle.theta_policies.specs.Summaries.{update_step, combined, combine_refused}
-use Rattle.theta_table.specs.Entry.{tuple_key}
-use Rattle.theta_table.specs.declared.entry.TupleEntry.{TupleEntry}
+use Rattle.core_laws.specs.Entries.{hash_key, first_hash, KeepsKey}
+use Rattle.core_laws.specs.Folds.{Fold, fold_key, fold_merges, folded_of}
+use Rattle.core_laws.specs.Leaf.{KeepsHashes, hash_step_of}
+use Rattle.core_laws.specs.Step.{Step}
+use Rattle.core_policies.specs.Summaries.{update_step, combined, combine_refused}
+use Rattle.core_slots.specs.Entry.{tuple_key}
+use Rattle.core_slots.specs.declared.entry.TupleEntry.{TupleEntry}
 
 -- the entries X of a family, whose updates carry values of V
 pub record Family (X V : Type 0) : Type 0 where

@@ -1,7 +1,7 @@
 -- The theta of a leaf.
 use Rattle.std.specs.Prelude.{◌≡◌, ℕ, ◌^◌, List}
-use Rattle.theta_laws.specs.Samples.{IsLawfulValue}
-use Rattle.theta_laws.specs.declared.leaf.LeafStep.{LeafStep}
+use Rattle.core_laws.specs.Samples.{IsLawfulValue}
+use Rattle.core_laws.specs.declared.leaf.LeafStep.{LeafStep}
 use Rattle.plan_text.specs.declared.plan.Plan.{Plan}
 use Rattle.plan_text.specs.declared.plan.Plan.TheVariants as plan
 use Rattle.plan_values.specs.Family.{Family}

@@ -3,12 +3,12 @@ use Rattle.std.specs.Prelude.{ℕ, ◌^◌, ◌&&◌, nat_le, Bool, true, List, 
 use Rattle.std.specs.List.{list_all}
 use Rattle.sketch_base.specs.declared.error.ErrorKind.{ErrorKind}
 use Rattle.sketch_base.specs.declared.error.ErrorKind.TheVariants.{InvalidArgument}
-use Rattle.theta_laws.specs.declared.TheConstants.{MIN_LG_K}
-use Rattle.theta_operators.specs.Intersection.{seed_refusal}
-use Rattle.theta_laws.specs.Leaf.{leaf}
-use Rattle.theta_laws.specs.Operators.{least, unite, meet, minus}
-use Rattle.theta_laws.specs.Values.{Sketch}
-use Rattle.theta_table.specs.HashTable.{table_refusal}
+use Rattle.core_laws.specs.declared.TheConstants.{MIN_LG_K}
+use Rattle.core_operators.specs.Intersection.{seed_refusal}
+use Rattle.core_laws.specs.Leaf.{leaf}
+use Rattle.core_laws.specs.Operators.{least, unite, meet, minus}
+use Rattle.core_laws.specs.Values.{Sketch}
+use Rattle.core_laws.specs.Settings.{settings_refusal}
 use Rattle.plan_text.specs.Parts.{plans_of, lowers_of}
 use Rattle.plan_text.specs.declared.plan.Plan.{Plan}
 use Rattle.plan_text.specs.declared.plan.Plan.TheOpen.{Plan-F}
@@ -33,7 +33,7 @@ value_of = value_in hashes
 
 -- whether a sketch or a union may be built with these settings
 abbrev pub may_be_built : (lg_k start seed : ℕ) → Bool
-may_be_built lg_k start seed = is_none (table_refusal lg_k start seed)
+may_be_built lg_k start seed = is_none (settings_refusal lg_k start seed)
 
 -- whether an operator of no settings may be built
 abbrev pub may_have_seed : (seed : ℕ) → Bool

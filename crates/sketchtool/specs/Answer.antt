@@ -6,12 +6,12 @@ use Rattle.sketch_base.specs.Seed.{seed_hash}
 use Rattle.sketch_base.specs.declared.seed.TheConstants.{DEFAULT_UPDATE_SEED}
 use Rattle.sketch_base.specs.declared.error.ErrorKind.{ErrorKind}
 use Rattle.sketch_base.specs.declared.error.ErrorKind.TheVariants.{InvalidArgument, Policy}
-use Rattle.theta_laws.specs.declared.TheConstants.{MAX_THETA}
-use Rattle.theta_laws.specs.Folds.{Fold, unmarked_value}
-use Rattle.theta_laws.specs.Values.{Sketch, Empty, NonEmpty}
-use Rattle.theta_compact.specs.CompactState.{Compact}
-use Rattle.theta_table.specs.declared.entry.TupleEntry.{TupleEntry}
-use Rattle.theta_policies.specs.Sums.{unsigned_sum}
+use Rattle.core_laws.specs.declared.TheConstants.{MAX_THETA}
+use Rattle.core_laws.specs.Folds.{Fold, unmarked_value}
+use Rattle.core_laws.specs.Values.{Sketch, Empty, NonEmpty}
+use Rattle.core_compact.specs.CompactState.{Compact}
+use Rattle.core_slots.specs.declared.entry.TupleEntry.{TupleEntry}
+use Rattle.core_policies.specs.Sums.{unsigned_sum}
 use Rattle.plan_text.specs.declared.command.Command.{Command}
 use Rattle.plan_text.specs.declared.command.Command.TheVariants.{Theta, Tuple}
 use Rattle.plan_text.specs.declared.command.Form.{Form}

@@ -1,14 +1,16 @@
 //! The text that answers an input.
 ghost use Rattle.std.specs.Prelude.{◌≡◌, ◌++◌, Some, OnOk, IfOk, string_bytes};
 ghost use Rattle.plan_text.specs.declared.command.Command.TheVariants.{Theta, Tuple};
-ghost use Rattle.theta_family.specs.View.{shows, lends};
+ghost use Rattle.core_state.specs.View.{shows, lends};
 ghost use Rattle.sketchtool.specs.Answer.{Texts, Answers, AnswersCommand, theta_texts, tuple_texts, shown_head, shown_text, hex_byte, hex_line, sketch_text, fault_line, refusal_line};
 
+use core_operators::EntrySketch;
+use core_slots::{SlotEntry, ThetaEntry, TupleEntry};
+use core_state::SketchView;
 use plan_evaluation::{evaluate_sums, evaluate_theta};
 use plan_text::{Command, Fault, Form, Plan, read_plan};
 use sketch_base::{DEFAULT_UPDATE_SEED, Error, ErrorKind};
 use std::alloc::{AllocError, Allocator};
-use theta_core::{EntrySketch, SketchView, SlotEntry, ThetaEntry, TupleEntry};
 use theta_sketches::CompactThetaSketch;
 use tuple_sketches::CompactTupleSketch;
 

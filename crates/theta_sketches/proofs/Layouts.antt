@@ -2,16 +2,16 @@
 use Rattle.std.proofs.Common.{◌≡◌, ℕ, ◌*◌, ◌<◌, ◌≤◌, ◌⊎◌, Bool, true, false, cond, not, List, length, slice_index, Option, Some, None, refl, ◌∙◌, inl, inr, arith, le-ltb, eqb-true, subst, ltb, leb, eqb, ◌&&◌, ◌||◌}
 use Rattle.std.proofs.lemmas.Bool.Decides.{nat_tests}
 use Rattle.std.proofs.lemmas.Bool.{cases_eq}
-use Rattle.theta_compact.specs.CompactState.{Compact}
-use Rattle.theta_laws.specs.Entries.{hash_key}
-use Rattle.theta_images.specs.Preamble.{Begins, announced, seed_hash_at, count_at, theta_at, admitted, flagged_layout, IsWholeLayout}
-use Rattle.theta_images.specs.Entry.{SpellsHash}
-use Rattle.theta_images.specs.Read.{LeavesOpen}
-use Rattle.theta_laws.specs.declared.TheConstants.{MAX_THETA}
-use Rattle.theta_images.specs.declared.preamble.Layout.{Layout}
-use Rattle.theta_images.specs.declared.preamble.Layout.TheVariants.{Empty, Filled}
-use Rattle.theta_images.specs.declared.preamble.Preamble.{Preamble}
-use Rattle.theta_images.proofs.Layouts.{along, chosen, admitted_to, flagged_from, flagged_to, either_whole, admitted_whole, flagged_whole}
+use Rattle.core_compact.specs.CompactState.{Compact}
+use Rattle.core_laws.specs.Entries.{hash_key}
+use Rattle.core_images.specs.Preamble.{Begins, announced, seed_hash_at, count_at, theta_at, admitted, flagged_layout, IsWholeLayout}
+use Rattle.core_images.specs.Entry.{SpellsHash}
+use Rattle.core_images.specs.Read.{LeavesOpen}
+use Rattle.core_laws.specs.declared.TheConstants.{MAX_THETA}
+use Rattle.core_images.specs.declared.preamble.Layout.{Layout}
+use Rattle.core_images.specs.declared.preamble.Layout.TheVariants.{Empty, Filled}
+use Rattle.core_images.specs.declared.preamble.Preamble.{Preamble}
+use Rattle.core_images.proofs.Layouts.{along, chosen, admitted_to, flagged_from, flagged_to, either_whole, admitted_whole, flagged_whole}
 use Rattle.theta_sketches.specs.Image.{SpellsSketch, version_3, version_2_empty, version_2_exact, version_2_estimating, version_1, ReadsUnflagged, vacant_image, filled_image, is_vacant}
 use Rattle.theta_sketches.specs.ImageLayout.{theta_layout, unflagged_layout, version_1_layout, version_2_layout}
 

@@ -1,14 +1,14 @@
 -- Images of theta sketches: which bytes are read as which sketch, and which are written.
 use Rattle.std.specs.Prelude.{ℕ, ◌≡◌, ◌≤◌, ◌<◌, ◌==◌, ◌&&◌, Bool, true, false, List, length}
 use Rattle.std.specs.Int.{w64, to_le_bytes}
-use Rattle.theta_compact.specs.CompactState.{Compact, empty_compact}
-use Rattle.theta_laws.specs.Entries.{hash_key}
-use Rattle.theta_images.specs.Preamble.{Begins, announced, seed_hash_at, count_at, theta_at}
-use Rattle.theta_images.specs.Read.{ReadsFlagged}
-use Rattle.theta_images.specs.Write.{written_image}
-use Rattle.theta_images.specs.Entry.{HasEntries, state_behind, SpellsHash}
-use Rattle.theta_laws.specs.declared.TheConstants.{MAX_THETA}
-use Rattle.theta_images.specs.declared.preamble.Preamble.{Preamble}
+use Rattle.core_compact.specs.CompactState.{Compact, empty_compact}
+use Rattle.core_laws.specs.Entries.{hash_key}
+use Rattle.core_images.specs.Preamble.{Begins, announced, seed_hash_at, count_at, theta_at}
+use Rattle.core_images.specs.Read.{ReadsFlagged}
+use Rattle.core_images.specs.Write.{written_image}
+use Rattle.core_images.specs.Entry.{HasEntries, state_behind, SpellsHash}
+use Rattle.core_laws.specs.declared.TheConstants.{MAX_THETA}
+use Rattle.core_images.specs.declared.preamble.Preamble.{Preamble}
 
 -- a preamble of no entries at the greatest theta: where there are no flags, it is of the empty sketch
 abbrev pub is_vacant : Preamble → Bool

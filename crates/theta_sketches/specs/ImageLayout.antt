@@ -1,10 +1,10 @@
 -- Reading the bytes before the entries of a theta image in one way: what the cases of the relation come to.
 use Rattle.std.specs.Prelude.{ℕ, ◌*◌, ◌==◌, ◌&&◌, ◌||◌, not, nat_lt, nat_le, true, List, length, slice_index, Option, Some, None, if◌then◌else◌}
-use Rattle.theta_images.specs.Preamble.{announced, seed_hash_at, count_at, theta_at, admitted, flagged_layout}
-use Rattle.theta_laws.specs.declared.TheConstants.{MAX_THETA}
-use Rattle.theta_images.specs.declared.preamble.Layout.{Layout}
-use Rattle.theta_images.specs.declared.preamble.Layout.TheVariants.{Empty}
-use Rattle.theta_images.specs.declared.preamble.Preamble.{Preamble}
+use Rattle.core_images.specs.Preamble.{announced, seed_hash_at, count_at, theta_at, admitted, flagged_layout}
+use Rattle.core_laws.specs.declared.TheConstants.{MAX_THETA}
+use Rattle.core_images.specs.declared.preamble.Layout.{Layout}
+use Rattle.core_images.specs.declared.preamble.Layout.TheVariants.{Empty}
+use Rattle.core_images.specs.declared.preamble.Preamble.{Preamble}
 use Rattle.theta_sketches.specs.Image.{is_vacant}
 
 -- versions 1 and 2, behind a preamble

@@ -1,10 +1,10 @@
 -- What views of theta sketches show.
 use Rattle.std.specs.Prelude.{ℕ, List}
-use Rattle.theta_laws.specs.Entries.{hash_key}
-use Rattle.theta_operators.specs.Iter.{Lending}
-use Rattle.theta_laws.specs.Shown.{Shown}
-use Rattle.theta_family.specs.declared.view.SketchView.{SketchView}
-use Rattle.theta_family.specs.View.{shows, lending, lends}
+use Rattle.core_laws.specs.Entries.{hash_key}
+use Rattle.core_operators.specs.Iter.{Lending}
+use Rattle.core_laws.specs.Shown.{Shown}
+use Rattle.core_state.specs.declared.view.SketchView.{SketchView}
+use Rattle.core_state.specs.View.{shows, lending, lends}
 
 -- what the sketch behind a view shows
 abbrev pub view_shows : {Z S : Type 0} → SketchView ℕ Z S → Shown

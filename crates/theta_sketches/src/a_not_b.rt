@@ -1,21 +1,21 @@
 //! Differences of theta sketches.
 ghost use Rattle.std.specs.Prelude.{◌≡◌, ◌||◌, true, false, IfOk};
 ghost use Rattle.sketch_base.specs.Seed.{seed_hash};
-ghost use Rattle.theta_compact.specs.CompactState.{IsAnswer};
-ghost use Rattle.theta_operators.specs.ANotB.{difference_refusal};
-ghost use Rattle.theta_laws.specs.Entries.{hash_key};
-ghost use Rattle.theta_operators.specs.Intersection.{seed_refusal};
-ghost use Rattle.theta_laws.specs.Operators.{minus};
-ghost use Rattle.theta_laws.specs.Refusal.{Refuses};
-ghost use Rattle.theta_laws.specs.Shown.{shown_value};
+ghost use Rattle.core_compact.specs.CompactState.{IsAnswer};
+ghost use Rattle.core_operators.specs.ANotB.{difference_refusal};
+ghost use Rattle.core_laws.specs.Entries.{hash_key};
+ghost use Rattle.core_operators.specs.Intersection.{seed_refusal};
+ghost use Rattle.core_laws.specs.Operators.{minus};
+ghost use Rattle.core_laws.specs.Refusal.{Refuses};
+ghost use Rattle.core_laws.specs.Shown.{shown_value};
 ghost use Rattle.theta_sketches.specs.View.{view_shows, view_lends};
 
 use crate::compact_sketch::CompactThetaSketch;
 use crate::view::ThetaSketchView;
+use core_operators::a_not_b;
 use sketch_base::{DEFAULT_UPDATE_SEED, Error, ErrorKind, compute_seed_hash};
 use std::alloc::Allocator;
 use std::marker::Model;
-use theta_core::a_not_b;
 
 /// The difference of theta sketches of one seed: the hashes of the one that the other lacks. Contracts see the seed's hash.
 /// The crate's comment has an example.

@@ -1,18 +1,19 @@
 //! Builders of theta sketches and unions.
 ghost use Rattle.std.specs.Prelude.{◌≡◌, true, IfOk};
 ghost use Rattle.sketch_base.specs.Seed.{seed_hash};
-ghost use Rattle.theta_laws.specs.Refusal.{Refuses};
-ghost use Rattle.theta_family.specs.Settings.{default_settings};
-ghost use Rattle.theta_table.specs.HashTable.{empty_table, table_refusal};
-ghost use Rattle.theta_operators.specs.Union.{empty_union};
+ghost use Rattle.core_laws.specs.Refusal.{Refuses};
+ghost use Rattle.core_state.specs.Settings.{default_settings};
+ghost use Rattle.core_laws.specs.Settings.{settings_refusal};
+ghost use Rattle.core_table.specs.HashTable.{empty_table};
+ghost use Rattle.core_operators.specs.Union.{empty_union};
 
 use crate::sketch::ThetaSketch;
 use crate::union::ThetaUnion;
+use core_state::Settings;
+use core_table::ResizeFactor;
 use sketch_base::Error;
 use std::alloc::Allocator;
 use std::marker::Model;
-use theta_core::ResizeFactor;
-use theta_family::Settings;
 
 /// Builds a theta sketch. Nothing is checked before `build`. The crate's comment has an example.
 #[derive(Debug, Drop)]
@@ -21,7 +22,7 @@ pub struct ThetaSketchBuilder {
 }
 
 impl Model for ThetaSketchBuilder {
-    ghost use Rattle.theta_family.specs.Settings.{Settings};
+    ghost use Rattle.core_state.specs.Settings.{Settings};
 
     ghost Value = { Settings };
 
@@ -78,7 +79,7 @@ impl ThetaSketchBuilder {
     pub fn build<A: Allocator + Drop>(self, alloc: A) -> Result<ThetaSketch<A>, Error>
         ensures empty { IfOk result (λ s. s.empty ≡ true) }
         ensures made { IfOk result (λ s. s.map ≡ empty_table self.lg_k self.starting_theta self.seed) }
-        ensures refused { Refuses result (table_refusal self.lg_k self.starting_theta self.seed) true }
+        ensures refused { Refuses result (settings_refusal self.lg_k self.starting_theta self.seed) true }
     {
         ThetaSketch::new(alloc, self.settings)
     }
@@ -91,7 +92,7 @@ pub struct ThetaUnionBuilder {
 }
 
 impl Model for ThetaUnionBuilder {
-    ghost use Rattle.theta_family.specs.Settings.{Settings};
+    ghost use Rattle.core_state.specs.Settings.{Settings};
 
     ghost Value = { Settings };
 
@@ -147,7 +148,7 @@ impl ThetaUnionBuilder {
     /// `OutOfMemory`.
     pub fn build<A: Allocator + Drop>(self, alloc: A) -> Result<ThetaUnion<A>, Error>
         ensures made { IfOk result (λ u. u ≡ empty_union self.lg_k self.starting_theta (seed_hash self.seed) u.policy) }
-        ensures refused { Refuses result (table_refusal self.lg_k self.starting_theta self.seed) true }
+        ensures refused { Refuses result (settings_refusal self.lg_k self.starting_theta self.seed) true }
     {
         ThetaUnion::new(alloc, self.settings)
     }

@@ -1,19 +1,22 @@
 //! Theta sketches that no longer change.
 ghost use Rattle.std.specs.Prelude.{◌≡◌, ◌≤◌, ◌&&◌, true, not, nat_lt, None, length, IfOk};
-ghost use Rattle.theta_compact.specs.CompactState.{IsCompact, shown_of, compact_value};
-ghost use Rattle.theta_laws.specs.Entries.{hash_key};
-ghost use Rattle.theta_laws.specs.Refusal.{Refuses};
-ghost use Rattle.theta_laws.specs.Shown.{shown_value};
-ghost use Rattle.theta_family.specs.Fraction.{decimal_of, compact_fraction};
-ghost use Rattle.theta_family.specs.declared.fraction.TheConstants.{MAX_PLACES};
+ghost use Rattle.core_compact.specs.CompactState.{IsCompact, shown_of, compact_value};
+ghost use Rattle.core_laws.specs.Entries.{hash_key};
+ghost use Rattle.core_laws.specs.Refusal.{Refuses};
+ghost use Rattle.core_laws.specs.Shown.{shown_value};
+ghost use Rattle.core_state.specs.Fraction.{decimal_of, compact_fraction};
+ghost use Rattle.core_state.specs.declared.fraction.TheConstants.{MAX_PLACES};
 ghost use Rattle.theta_sketches.specs.View.{view_shows, view_lends};
 
 use crate::view::ThetaSketchView;
+use core_compact::CompactSketchState;
+use core_laws::MAX_THETA;
+use core_operators::EntryIter;
+use core_slots::ThetaEntry;
+use core_state::{Decimal, MAX_PLACES, ThetaSketchIter, compact_decimal, compact_fraction};
 use sketch_base::Error;
 use std::alloc::{Allocator, Global};
 use std::marker::Model;
-use theta_core::{CompactSketchState, EntryIter, MAX_THETA, ThetaEntry};
-use theta_family::{Decimal, MAX_PLACES, ThetaSketchIter, compact_decimal, compact_fraction};
 
 /// A theta sketch that no longer changes: its hashes in a list, with its theta. Contracts see a record of these. The crate's
 /// comment has an example.
@@ -24,7 +27,7 @@ pub struct CompactThetaSketch<A: Allocator = Global> {
 
 impl<A: Allocator> Model for CompactThetaSketch<A> {
     ghost use Rattle.std.specs.Prelude.{ℕ};
-    ghost use Rattle.theta_compact.specs.CompactState.{Compact};
+    ghost use Rattle.core_compact.specs.CompactState.{Compact};
 
     ghost Value = { Compact ℕ };
 

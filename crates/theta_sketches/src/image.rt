@@ -4,19 +4,19 @@
 ghost use Rattle.std.specs.Prelude.{◌≡◌, ◌≤◌, None, true, length, IfOk, IfErr};
 ghost use Rattle.sketch_base.specs.Seed.{seed_hash};
 ghost use Rattle.sketch_base.specs.declared.seed.TheConstants.{DEFAULT_UPDATE_SEED};
-ghost use Rattle.theta_images.specs.Read.{IsRefused};
-ghost use Rattle.theta_laws.specs.Refusal.{Refuses};
+ghost use Rattle.core_images.specs.Read.{IsRefused};
+ghost use Rattle.core_laws.specs.Refusal.{Refuses};
 ghost use Rattle.theta_sketches.specs.Image.{Reads, IsReadable, written};
 ghost use Rattle.theta_sketches.specs.ImageLayout.{unflagged_layout, version_1_layout, version_2_layout, theta_layout};
 
 use crate::compact_sketch::CompactThetaSketch;
-use sketch_base::{DEFAULT_UPDATE_SEED, Error, ErrorKind, Family, compute_seed_hash};
-use std::alloc::Allocator;
-use theta_core::MAX_THETA;
-use theta_core::image::{
+use core_images::{
     Layout, Preamble, admitted, announced, count_at, flagged_layout, read_behind, seed_hash_at,
     theta_at, write_image,
 };
+use core_laws::MAX_THETA;
+use sketch_base::{DEFAULT_UPDATE_SEED, Error, ErrorKind, Family, compute_seed_hash};
+use std::alloc::Allocator;
 
 /// What stands behind a preamble of version 1 or 2, which has no flags: nothing of an empty sketch, else its hashes under the
 /// told seed hash, or `None` where that is another than the reader's or the preamble is none that may stand there.

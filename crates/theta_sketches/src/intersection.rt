@@ -3,20 +3,22 @@ ghost use Rattle.std.specs.Prelude.{◌≡◌, Some, None, true, false, is_some,
 ghost use Rattle.sketch_base.specs.Seed.{seed_hash};
 ghost use Rattle.sketch_base.specs.declared.error.ErrorKind.TheVariants.{OutOfMemory};
 ghost use Rattle.sketch_base.specs.declared.seed.TheConstants.{DEFAULT_UPDATE_SEED};
-ghost use Rattle.theta_laws.specs.Entries.{hash_key, first_hash};
-ghost use Rattle.theta_operators.specs.Intersection.{Intersection, new_intersection, seed_refusal, intersect_refusal, is_settled, IsAnswerIfAny, IsIntersection, held_of};
-ghost use Rattle.theta_laws.specs.Operators.{meet_next};
-ghost use Rattle.theta_laws.specs.Cuts.{IsRetained};
-ghost use Rattle.theta_laws.specs.Refusal.{Refuses};
-ghost use Rattle.theta_laws.specs.Shown.{shown_value};
+ghost use Rattle.core_laws.specs.Entries.{hash_key, first_hash};
+ghost use Rattle.core_operators.specs.Intersection.{Intersection, new_intersection, seed_refusal, intersect_refusal, is_settled, IsAnswerIfAny, IsIntersection, held_of};
+ghost use Rattle.core_laws.specs.Operators.{meet_next};
+ghost use Rattle.core_laws.specs.Cuts.{IsRetained};
+ghost use Rattle.core_laws.specs.Refusal.{Refuses};
+ghost use Rattle.core_laws.specs.Shown.{shown_value};
 ghost use Rattle.theta_sketches.specs.View.{view_shows, view_lends};
 
 use crate::compact_sketch::CompactThetaSketch;
 use crate::view::ThetaSketchView;
+use core_operators::IntersectionState;
+use core_policies::IntersectionMergePolicy;
+use core_slots::ThetaEntry;
 use sketch_base::{DEFAULT_UPDATE_SEED, Error};
 use std::alloc::{Allocator, Global};
 use std::marker::Model;
-use theta_core::{IntersectionMergePolicy, IntersectionState, ThetaEntry};
 
 /// An intersection's policy that changes nothing: entries are hashes alone, so the one that is held stays.
 #[derive(Debug, Clone, Copy)]
@@ -46,7 +48,7 @@ pub struct ThetaIntersection<A: Allocator = Global> {
 
 impl<A: Allocator> Model for ThetaIntersection<A> {
     ghost use Rattle.std.specs.Prelude.{ℕ};
-    ghost use Rattle.theta_operators.specs.Intersection.{Intersection};
+    ghost use Rattle.core_operators.specs.Intersection.{Intersection};
     ghost use Rattle.theta_sketches.specs.declared.intersection.NoopIntersectionPolicy.{NoopIntersectionPolicy};
 
     ghost Value = { Intersection ℕ NoopIntersectionPolicy };

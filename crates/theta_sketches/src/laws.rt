@@ -1,7 +1,7 @@
 //! Laws of the definitions, which no sketch takes part in.
 ghost use Rattle.std.specs.Prelude.{◌≡◌, ℕ, List, ◌<◌, ◌^◌, ◌++◌};
-ghost use Rattle.theta_compact.specs.CompactState.{Compact, IsCompact};
-ghost use Rattle.theta_laws.specs.Entries.{hash_key};
+ghost use Rattle.core_compact.specs.CompactState.{Compact, IsCompact};
+ghost use Rattle.core_laws.specs.Entries.{hash_key};
 ghost use Rattle.theta_sketches.specs.Image.{Reads, written};
 
 /// Bytes are read as one sketch at most.

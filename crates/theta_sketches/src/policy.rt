@@ -1,9 +1,10 @@
 //! How theta operators combine entries: they are hashes alone, so the first stays.
 ghost use Rattle.std.specs.Prelude.{false};
-ghost use Rattle.theta_laws.specs.Entries.{first_hash};
+ghost use Rattle.core_laws.specs.Entries.{first_hash};
 
+use core_policies::UnionMergePolicy;
+use core_slots::ThetaEntry;
 use sketch_base::Error;
-use theta_core::{ThetaEntry, UnionMergePolicy};
 
 /// A union's policy that changes nothing.
 #[derive(Debug, Clone, Copy)]

@@ -2,29 +2,31 @@
 ghost use Rattle.std.specs.Prelude.{◌≡◌, ◌≤◌, ◌==◌, ◌&&◌, ◌^◌, true, false, not, nat_lt, None, length, IfOk, OnOk, OnErr, IsTrue, is_some};
 ghost use Rattle.std.specs.List.{concat};
 ghost use Rattle.sketch_base.specs.Seed.{hash_of};
-ghost use Rattle.theta_compact.specs.CompactState.{IsAnswer};
-ghost use Rattle.theta_laws.specs.Cuts.{cut};
-ghost use Rattle.theta_laws.specs.Entries.{hash_key, hash_step};
-ghost use Rattle.theta_laws.specs.Parts.{StopsAt};
-ghost use Rattle.theta_laws.specs.Refusal.{Refuses};
-ghost use Rattle.theta_table.specs.HashTable.{IsTable, empty_table, after_reset, after_hashes, table_refusal};
-ghost use Rattle.theta_laws.specs.Maps.{IsLent};
-ghost use Rattle.theta_laws.specs.Insertion.{after_upsert, upsert_allocates};
-ghost use Rattle.theta_family.specs.Updatable.{IsUpdatable, sketch_value, sketch_shows};
-ghost use Rattle.theta_laws.specs.Values.{theta_of, count_of, fraction_of};
-ghost use Rattle.theta_laws.specs.Shown.{IsShown, shown_value};
-ghost use Rattle.theta_family.specs.Fraction.{decimal_of};
-ghost use Rattle.theta_family.specs.declared.fraction.TheConstants.{MAX_PLACES};
+ghost use Rattle.core_compact.specs.CompactState.{IsAnswer};
+ghost use Rattle.core_laws.specs.Cuts.{cut};
+ghost use Rattle.core_laws.specs.Entries.{hash_key, hash_step};
+ghost use Rattle.core_laws.specs.Parts.{StopsAt};
+ghost use Rattle.core_laws.specs.Refusal.{Refuses};
+ghost use Rattle.core_laws.specs.Settings.{settings_refusal};
+ghost use Rattle.core_table.specs.HashTable.{IsTable, empty_table, after_reset, after_hashes};
+ghost use Rattle.core_laws.specs.Maps.{IsLent};
+ghost use Rattle.core_laws.specs.Insertion.{after_upsert, upsert_allocates};
+ghost use Rattle.core_state.specs.Updatable.{IsUpdatable, sketch_value, sketch_shows};
+ghost use Rattle.core_laws.specs.Values.{theta_of, count_of, fraction_of};
+ghost use Rattle.core_laws.specs.Shown.{IsShown, shown_value};
+ghost use Rattle.core_state.specs.Fraction.{decimal_of};
+ghost use Rattle.core_state.specs.declared.fraction.TheConstants.{MAX_PLACES};
 ghost use Rattle.theta_sketches.specs.View.{view_shows, view_lends};
 
 use crate::compact_sketch::CompactThetaSketch;
 use crate::view::ThetaSketchView;
+use core_laws::MAX_THETA;
+use core_slots::ThetaEntry;
+use core_state::{Decimal, MAX_PLACES, Settings, ThetaSketchIter, UpdatableState};
 use sketch_base::Error;
 use std::alloc::{Allocator, Global};
 use std::hash::Hash;
 use std::marker::Model;
-use theta_core::{MAX_THETA, ThetaEntry};
-use theta_family::{Decimal, MAX_PLACES, Settings, ThetaSketchIter, UpdatableState};
 
 /// A theta sketch that takes updates. Its value is Empty until the first one is accepted. The crate's comment has an example.
 #[derive(Drop)]
@@ -34,7 +36,7 @@ pub struct ThetaSketch<A: Allocator = Global> {
 
 impl<A: Allocator> Model for ThetaSketch<A> {
     ghost use Rattle.std.specs.Prelude.{ℕ};
-    ghost use Rattle.theta_family.specs.Updatable.{Updatable};
+    ghost use Rattle.core_state.specs.Updatable.{Updatable};
 
     ghost Value = { Updatable ℕ };
 
@@ -47,7 +49,7 @@ impl<A: Allocator> ThetaSketch<A> {
         A: Drop,
         ensures empty { IfOk result (λ s. s.empty ≡ true) }
         ensures made { IfOk result (λ s. s.map ≡ empty_table settings.lg_k settings.starting_theta settings.seed) }
-        ensures refused { Refuses result (table_refusal settings.lg_k settings.starting_theta settings.seed) true }
+        ensures refused { Refuses result (settings_refusal settings.lg_k settings.starting_theta settings.seed) true }
     {
         let state = UpdatableState::new(alloc, settings)?;
         Ok(ThetaSketch { state })

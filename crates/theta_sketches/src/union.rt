@@ -2,25 +2,26 @@
 ghost use Rattle.std.specs.Prelude.{◌≡◌, ◌^◌, [], ◌∷◌, true, false, not, None, IfOk, IfErr, OnOk, OnErr, MatchOption};
 ghost use Rattle.sketch_base.specs.Seed.{seed_hash};
 ghost use Rattle.sketch_base.specs.declared.error.ErrorKind.TheVariants.{OutOfMemory};
-ghost use Rattle.theta_compact.specs.CompactState.{IsAnswer};
-ghost use Rattle.theta_laws.specs.Entries.{hash_key, first_hash};
-ghost use Rattle.theta_laws.specs.Operators.{unite};
-ghost use Rattle.theta_laws.specs.Refusal.{Refuses};
-ghost use Rattle.theta_table.specs.HashTable.{table_refusal};
-ghost use Rattle.theta_laws.specs.Cuts.{IsRetained};
-ghost use Rattle.theta_operators.specs.Union.{Union, empty_union, union_value, update_refusal, lower_refusal, lower_allocates, lowered, failure, IsUnion, IsJoined};
-ghost use Rattle.theta_laws.specs.Shown.{shown_value};
-ghost use Rattle.theta_laws.specs.Values.{cut_value};
+ghost use Rattle.core_compact.specs.CompactState.{IsAnswer};
+ghost use Rattle.core_laws.specs.Entries.{hash_key, first_hash};
+ghost use Rattle.core_laws.specs.Operators.{unite};
+ghost use Rattle.core_laws.specs.Refusal.{Refuses};
+ghost use Rattle.core_laws.specs.Settings.{settings_refusal};
+ghost use Rattle.core_laws.specs.Cuts.{IsRetained};
+ghost use Rattle.core_operators.specs.Union.{Union, empty_union, union_value, update_refusal, lower_refusal, lower_allocates, lowered, failure, IsUnion, IsJoined};
+ghost use Rattle.core_laws.specs.Shown.{shown_value};
+ghost use Rattle.core_laws.specs.Values.{cut_value};
 ghost use Rattle.theta_sketches.specs.View.{view_shows, view_lends};
 
 use crate::compact_sketch::CompactThetaSketch;
 use crate::policy::NoopUnionPolicy;
 use crate::view::ThetaSketchView;
+use core_operators::UnionState;
+use core_slots::ThetaEntry;
+use core_state::Settings;
 use sketch_base::Error;
 use std::alloc::{Allocator, Global};
 use std::marker::Model;
-use theta_core::{ThetaEntry, UnionState};
-use theta_family::Settings;
 
 /// A union of theta sketches that are handed over one by one.
 ///
@@ -34,7 +35,7 @@ pub struct ThetaUnion<A: Allocator = Global> {
 
 impl<A: Allocator> Model for ThetaUnion<A> {
     ghost use Rattle.std.specs.Prelude.{ℕ};
-    ghost use Rattle.theta_operators.specs.Union.{Union};
+    ghost use Rattle.core_operators.specs.Union.{Union};
     ghost use Rattle.theta_sketches.specs.declared.policy.NoopUnionPolicy.{NoopUnionPolicy};
 
     ghost Value = { Union ℕ NoopUnionPolicy };
@@ -45,7 +46,7 @@ impl<A: Allocator> Model for ThetaUnion<A> {
 impl<A: Allocator + Drop> ThetaUnion<A> {
     pub(crate) fn new(alloc: A, settings: Settings) -> Result<Self, Error>
         ensures made { IfOk result (λ u. u ≡ empty_union settings.lg_k settings.starting_theta (seed_hash settings.seed) (record {})) }
-        ensures refused { Refuses result (table_refusal settings.lg_k settings.starting_theta settings.seed) true }
+        ensures refused { Refuses result (settings_refusal settings.lg_k settings.starting_theta settings.seed) true }
     {
         let state = UnionState::new(
             alloc,

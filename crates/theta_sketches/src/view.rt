@@ -1,16 +1,16 @@
 //! Read-only views of theta sketches, which operators take.
 ghost use Rattle.std.specs.Prelude.{◌≡◌};
-ghost use Rattle.theta_compact.specs.CompactState.{compact_value, shown_of};
-ghost use Rattle.theta_laws.specs.Entries.{hash_key};
-ghost use Rattle.theta_family.specs.Updatable.{sketch_shows, sketch_value};
-ghost use Rattle.theta_laws.specs.Shown.{shown_value};
+ghost use Rattle.core_compact.specs.CompactState.{compact_value, shown_of};
+ghost use Rattle.core_laws.specs.Entries.{hash_key};
+ghost use Rattle.core_state.specs.Updatable.{sketch_shows, sketch_value};
+ghost use Rattle.core_laws.specs.Shown.{shown_value};
 ghost use Rattle.theta_sketches.specs.View.{view_shows, view_lends};
 
 use crate::compact_sketch::CompactThetaSketch;
 use crate::sketch::ThetaSketch;
+use core_slots::ThetaEntry;
+use core_state::SketchView;
 use std::alloc::{Allocator, Global};
-use theta_core::ThetaEntry;
-use theta_family::SketchView;
 
 /// A view of a mutable or a compact theta sketch. A mutable one is seen as not ordered. The crate's comment has an example.
 pub type ThetaSketchView<'a, A = Global> = SketchView<'a, ThetaEntry, A>;

@@ -1,8 +1,8 @@
 -- Commands one by one: what is retained, and what is replied, after one more.
 use Rattle.std.proofs.Common.{◌≡◌, ℕ, ◌^◌, ◌<◌, ◌+◌, List, [], ◌∷◌, ◌++◌, length, get_or, take, refl, sym, ap, ◌∙◌}
 use Rattle.std.proofs.lemmas.List.{take_more}
-use Rattle.theta_laws.specs.Cuts.{Retained}
-use Rattle.theta_table.specs.HashTable.{MapTable}
+use Rattle.core_laws.specs.Cuts.{Retained}
+use Rattle.core_table.specs.HashTable.{MapTable}
 use Rattle.theta_tables.specs.declared.command.TableCommand.{TableCommand}
 use Rattle.theta_tables.specs.declared.command.TableReply.{TableReply}
 use Rattle.theta_tables.specs.Commands.{after_command, after_commands, reply, replies}

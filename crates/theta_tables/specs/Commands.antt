@@ -1,10 +1,10 @@
 -- What commands make of a table of hashes, and what is replied to them.
 use Rattle.std.specs.Prelude.{ℕ, ◌≡◌, ◌≤◌, ◌^◌, List, [], ◌∷◌, length, take, is_some}
-use Rattle.theta_laws.specs.Cuts.{Retained, cut, none_below}
-use Rattle.theta_laws.specs.Entries.{hash_key, hash_step}
-use Rattle.theta_laws.specs.Insertion.{after_upsert, creates}
-use Rattle.theta_laws.specs.Maps.{entry_at}
-use Rattle.theta_table.specs.HashTable.{MapTable}
+use Rattle.core_laws.specs.Cuts.{Retained, cut, none_below}
+use Rattle.core_laws.specs.Entries.{hash_key, hash_step}
+use Rattle.core_laws.specs.Insertion.{after_upsert, creates}
+use Rattle.core_laws.specs.Maps.{entry_at}
+use Rattle.core_table.specs.HashTable.{MapTable}
 use Rattle.theta_tables.specs.declared.command.TableCommand.{TableCommand}
 use Rattle.theta_tables.specs.declared.command.TableCommand.TheVariants.{Insert, Find, Trim, Reset}
 use Rattle.theta_tables.specs.declared.command.TableReply.{TableReply}

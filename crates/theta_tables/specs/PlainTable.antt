@@ -1,7 +1,7 @@
 -- What holds of plain tables.
 use Rattle.std.specs.Prelude.{ℕ, ◌≤◌}
-use Rattle.theta_laws.specs.declared.TheConstants.{MIN_LG_K}
-use Rattle.theta_table.specs.HashTable.{MapTable, IsTable}
+use Rattle.core_laws.specs.declared.TheConstants.{MIN_LG_K}
+use Rattle.core_table.specs.HashTable.{MapTable, IsTable}
 
 -- it is the table of a sketch
 pub record IsPlain {X : Type 0} (key : X → ℕ) (t : MapTable X) : Type 0 where

@@ -4,7 +4,11 @@
 
 mod command;
 mod plain_table;
+#[cfg(test)]
+mod refusals;
 mod run;
+#[cfg(test)]
+mod runs;
 mod table;
 
 pub use command::{TableCommand, TableReply};

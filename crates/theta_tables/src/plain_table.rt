@@ -1,19 +1,21 @@
 //! The table that keeps its entries in a list.
 ghost use Rattle.std.specs.Prelude.{◌≡◌, ◌+◌, ◌-◌, ◌*◌, ◌/◌, ◌<◌, ◌≤◌, ◌^◌, false, IfOk, IfErr, OnErr};
 ghost use Rattle.std.specs.List.{AllByRecursion};
-ghost use Rattle.theta_laws.specs.Maps.{IsAscending, with_entry};
-ghost use Rattle.theta_laws.specs.Cuts.{cut, IsRetained};
-ghost use Rattle.theta_laws.specs.Insertion.{rebuilt};
-ghost use Rattle.theta_laws.specs.Places.{IsAt, IsGapFor};
-ghost use Rattle.theta_laws.specs.Refusal.{Refuses};
-ghost use Rattle.theta_table.specs.HashTable.{MapTable, empty_table, table_refusal};
+ghost use Rattle.core_laws.specs.Maps.{IsAscending, with_entry};
+ghost use Rattle.core_laws.specs.Cuts.{cut, IsRetained};
+ghost use Rattle.core_laws.specs.Insertion.{rebuilt};
+ghost use Rattle.core_laws.specs.Places.{IsAt, IsGapFor};
+ghost use Rattle.core_laws.specs.Refusal.{Refuses};
+ghost use Rattle.core_laws.specs.Settings.{settings_refusal};
+ghost use Rattle.core_table.specs.HashTable.{MapTable, empty_table};
 
 use crate::table::ThetaTable;
+use core_laws::{MAX_LG_K, MAX_THETA, MIN_LG_K, SketchEntry};
+use core_slots::UpsertStep;
+use core_table::ResizeFactor;
 use sketch_base::{Error, ErrorKind, compute_seed_hash};
 use std::alloc::{AllocError, Allocator, Global};
 use std::marker::Model;
-use theta_laws::{MAX_LG_K, MAX_THETA, MIN_LG_K, SketchEntry};
-use theta_table::{ResizeFactor, UpsertStep};
 
 /// The entries of a sketch below its theta, in a list that ascends by hash. Contracts see what they see of the table in slots.
 ///
@@ -30,7 +32,7 @@ pub struct PlainTable<E: SketchEntry, A: Allocator = Global> {
 
 impl<E: SketchEntry, A: Allocator> Model for PlainTable<E, A> {
     ghost use Rattle.std.specs.Prelude.{true};
-    ghost use Rattle.theta_table.specs.HashTable.{MapTable};
+    ghost use Rattle.core_table.specs.HashTable.{MapTable};
     ghost use Rattle.theta_tables.specs.PlainTable.{IsPlain};
 
     ghost Value = { MapTable E };
@@ -55,7 +57,7 @@ impl<E: SketchEntry, A: Allocator> PlainTable<E, A> {
     where
         A: Drop,
         ensures made { IfOk result (λ t. t ≡ empty_table lg_nom_size starting_theta seed) }
-        ensures refused { Refuses result (table_refusal lg_nom_size starting_theta seed) false }
+        ensures refused { Refuses result (settings_refusal lg_nom_size starting_theta seed) false }
     {
         let size_fits = MIN_LG_K <= lg_nom_size && lg_nom_size <= MAX_LG_K;
         if !size_fits || starting_theta == 0 || starting_theta > MAX_THETA {

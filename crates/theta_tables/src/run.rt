@@ -1,14 +1,14 @@
 //! Runs of commands over a table.
 ghost use Rattle.std.specs.Prelude.{◌≡◌, ◌≤◌, ◌^◌, None, true, nat_lt, length, IfOk, OnOk, OnErr};
-ghost use Rattle.theta_laws.specs.Refusal.{Refuses};
+ghost use Rattle.core_laws.specs.Refusal.{Refuses};
 ghost use Rattle.theta_tables.specs.Commands.{after_command, after_commands, done, reply, replies, IsAfterBeginning};
 
 use crate::command::{TableCommand, TableReply};
 use crate::table::ThetaTable;
+use core_laws::MIN_LG_K;
+use core_slots::{PutStep, ThetaEntry};
 use sketch_base::Error;
 use std::alloc::Allocator;
-use theta_laws::MIN_LG_K;
-use theta_table::{PutStep, ThetaEntry};
 
 /// Runs commands in turn over a table of a sketch, whose nominal logarithm is at least 4, and answers the reply to each,
 /// in memory of `alloc`. Replies and what the table then retains are functions of what it retained, whatever table it is.

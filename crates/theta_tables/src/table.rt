@@ -1,16 +1,17 @@
 //! What is promised of a table, whatever it keeps its entries in.
 ghost use Rattle.std.specs.Prelude.{◌≡◌, ◌≤◌, ◌^◌, None, nat_lt, length, IfOk, OnOk, OnErr, IsTrue};
 ghost use Rattle.std.specs.Option.{ForSome, option_copied};
-ghost use Rattle.theta_laws.specs.Maps.{entry_at};
-ghost use Rattle.theta_laws.specs.Cuts.{cut};
-ghost use Rattle.theta_laws.specs.Insertion.{after_upsert, creates, upsert_refusal, upsert_allocates};
-ghost use Rattle.theta_laws.specs.Refusal.{Refuses};
-ghost use Rattle.theta_table.specs.HashTable.{MapTable, IsTable, after_reset, has_room, may_insert};
+ghost use Rattle.core_laws.specs.Maps.{entry_at};
+ghost use Rattle.core_laws.specs.Cuts.{cut};
+ghost use Rattle.core_laws.specs.Insertion.{after_upsert, creates, upsert_refusal, upsert_allocates};
+ghost use Rattle.core_laws.specs.Refusal.{Refuses};
+ghost use Rattle.core_table.specs.HashTable.{MapTable, IsTable, after_reset, has_room, may_insert};
 
+use core_laws::{MIN_LG_K, SketchEntry};
+use core_slots::{SlotEntry, UpsertStep};
+use core_table::SketchHashTable;
 use sketch_base::Error;
 use std::alloc::Allocator;
-use theta_laws::{MIN_LG_K, SketchEntry};
-use theta_table::{SketchHashTable, SlotEntry, UpsertStep};
 
 /// A table of the entries that a sketch retains below its theta. Contracts see it as a map, ascending by hash, and the theta.
 ///

@@ -2,14 +2,14 @@
 use Rattle.std.proofs.Common.{◌≡◌, ℕ, ◌≤◌, ◌⊎◌, Bool, true, false, cond, not, List, length, slice_index, Option, None, refl, inl, inr, arith, ltb, leb, eqb, ◌&&◌, ◌||◌}
 use Rattle.std.proofs.lemmas.Bool.Decides.{nat_tests}
 use Rattle.std.proofs.lemmas.Bool.{cases_eq}
-use Rattle.theta_compact.specs.CompactState.{Compact}
-use Rattle.theta_table.specs.Entry.{tuple_key}
-use Rattle.theta_table.specs.declared.entry.TupleEntry.{TupleEntry}
-use Rattle.theta_images.specs.Preamble.{flagged_layout, IsWholeLayout}
-use Rattle.theta_images.specs.Read.{LeavesOpen}
-use Rattle.theta_images.specs.Summary.{SpellsTuple}
-use Rattle.theta_images.specs.declared.preamble.Layout.{Layout}
-use Rattle.theta_images.proofs.Layouts.{along, chosen, flagged_from, flagged_to, either_whole, flagged_whole}
+use Rattle.core_compact.specs.CompactState.{Compact}
+use Rattle.core_slots.specs.Entry.{tuple_key}
+use Rattle.core_slots.specs.declared.entry.TupleEntry.{TupleEntry}
+use Rattle.core_images.specs.Preamble.{flagged_layout, IsWholeLayout}
+use Rattle.core_images.specs.Read.{LeavesOpen}
+use Rattle.core_images.specs.Summary.{SpellsTuple}
+use Rattle.core_images.specs.declared.preamble.Layout.{Layout}
+use Rattle.core_images.proofs.Layouts.{along, chosen, flagged_from, flagged_to, either_whole, flagged_whole}
 use Rattle.tuple_sketches.specs.Image.{SpellsSketch, IsVersion, IsSketchType}
 use Rattle.tuple_sketches.specs.ImageLayout.{tuple_layout, is_version, is_sketch_type}
 

@@ -1,13 +1,13 @@
 -- Images of tuple sketches: which bytes are read as which sketch, and which are written. How summaries are spelled is a parameter.
 use Rattle.std.specs.Prelude.{ℕ, ◌≡◌, ◌<◌, ◌⊎◌, List, slice_index}
 use Rattle.std.specs.List.{AllByRecursion}
-use Rattle.theta_compact.specs.CompactState.{Compact}
-use Rattle.theta_table.specs.Entry.{tuple_key}
-use Rattle.theta_table.specs.declared.entry.TupleEntry.{TupleEntry}
-use Rattle.theta_images.specs.Preamble.{Begins}
-use Rattle.theta_images.specs.Read.{ReadsFlagged}
-use Rattle.theta_images.specs.Summary.{SpellsTuple, is_tuple_value, tuple_text}
-use Rattle.theta_images.specs.Write.{written_image}
+use Rattle.core_compact.specs.CompactState.{Compact}
+use Rattle.core_slots.specs.Entry.{tuple_key}
+use Rattle.core_slots.specs.declared.entry.TupleEntry.{TupleEntry}
+use Rattle.core_images.specs.Preamble.{Begins}
+use Rattle.core_images.specs.Read.{ReadsFlagged}
+use Rattle.core_images.specs.Summary.{SpellsTuple, is_tuple_value, tuple_text}
+use Rattle.core_images.specs.Write.{written_image}
 
 -- the versions that are read
 abbrev pub IsVersion : ℕ → Type 0

@@ -1,7 +1,7 @@
 -- Reading the bytes before the entries of a tuple image in one way.
 use Rattle.std.specs.Prelude.{ℕ, ◌==◌, ◌&&◌, ◌||◌, Bool, not, nat_lt, nat_le, List, length, slice_index, Option, None, if◌then◌else◌}
-use Rattle.theta_images.specs.Preamble.{flagged_layout}
-use Rattle.theta_images.specs.declared.preamble.Layout.{Layout}
+use Rattle.core_images.specs.Preamble.{flagged_layout}
+use Rattle.core_images.specs.declared.preamble.Layout.{Layout}
 
 -- whether this version is read
 abbrev pub is_version : ℕ → Bool

@@ -2,15 +2,15 @@
 ghost use Rattle.std.specs.Prelude.{◌≡◌, ◌||◌, true, false, IfOk};
 ghost use Rattle.sketch_base.specs.Seed.{seed_hash};
 ghost use Rattle.sketch_base.specs.declared.seed.TheConstants.{DEFAULT_UPDATE_SEED};
-ghost use Rattle.theta_compact.specs.CompactState.{IsAnswer};
-ghost use Rattle.theta_table.specs.Entry.{tuple_key};
-ghost use Rattle.theta_laws.specs.Entries.{ClonesEqual, hash_key};
-ghost use Rattle.theta_laws.specs.Operators.{minus};
-ghost use Rattle.theta_laws.specs.Refusal.{Refuses};
-ghost use Rattle.theta_laws.specs.Shown.{shown_value};
-ghost use Rattle.theta_operators.specs.ANotB.{difference_refusal};
-ghost use Rattle.theta_operators.specs.Intersection.{seed_refusal};
-ghost use Rattle.theta_family.specs.View.{shows, lends};
+ghost use Rattle.core_compact.specs.CompactState.{IsAnswer};
+ghost use Rattle.core_slots.specs.Entry.{tuple_key};
+ghost use Rattle.core_laws.specs.Entries.{ClonesEqual, hash_key};
+ghost use Rattle.core_laws.specs.Operators.{minus};
+ghost use Rattle.core_laws.specs.Refusal.{Refuses};
+ghost use Rattle.core_laws.specs.Shown.{shown_value};
+ghost use Rattle.core_operators.specs.ANotB.{difference_refusal};
+ghost use Rattle.core_operators.specs.Intersection.{seed_refusal};
+ghost use Rattle.core_state.specs.View.{shows, lends};
 
 use crate::compact_sketch::CompactTupleSketch;
 use crate::operands::difference_of;

@@ -1,14 +1,16 @@
 //! Builders of tuple sketches.
 ghost use Rattle.std.specs.Prelude.{◌≡◌, true, IfOk};
-ghost use Rattle.theta_laws.specs.Refusal.{Refuses};
-ghost use Rattle.theta_family.specs.Settings.{default_settings};
-ghost use Rattle.theta_table.specs.HashTable.{empty_table, table_refusal};
+ghost use Rattle.core_laws.specs.Refusal.{Refuses};
+ghost use Rattle.core_state.specs.Settings.{default_settings};
+ghost use Rattle.core_laws.specs.Settings.{settings_refusal};
+ghost use Rattle.core_table.specs.HashTable.{empty_table};
 
 use crate::sketch::TupleSketch;
+use core_policies::SummaryPolicy;
+use core_state::Settings;
+use core_table::ResizeFactor;
 use sketch_base::Error;
 use std::alloc::Allocator;
-use theta_core::{ResizeFactor, SummaryPolicy};
-use theta_family::Settings;
 
 /// Builds a tuple sketch under a policy. Nothing is checked before `build`. The crate's comment has an example.
 #[derive(Debug, Drop)]
@@ -66,7 +68,7 @@ impl<P: SummaryPolicy + Drop> TupleSketchBuilder<P> {
         ensures empty { IfOk result (λ s. s.state.empty ≡ true) }
         ensures made { IfOk result (λ s. s.state.map ≡ empty_table self.settings.lg_k self.settings.starting_theta self.settings.seed) }
         ensures policy { IfOk result (λ s. s.policy ≡ self.policy) }
-        ensures refused { Refuses result (table_refusal self.settings.lg_k self.settings.starting_theta self.settings.seed) true }
+        ensures refused { Refuses result (settings_refusal self.settings.lg_k self.settings.starting_theta self.settings.seed) true }
     {
         let TupleSketchBuilder { settings, policy } = self;
         TupleSketch::new(alloc, settings, policy)

@@ -1,20 +1,23 @@
 //! Tuple sketches that no longer change.
 ghost use Rattle.std.specs.Prelude.{◌≡◌, ◌≤◌, ◌&&◌, true, not, nat_lt, None, length, IfOk};
-ghost use Rattle.theta_compact.specs.CompactState.{IsCompact, shown_of, compact_value};
-ghost use Rattle.theta_laws.specs.Entries.{ClonesEqual};
-ghost use Rattle.theta_laws.specs.Refusal.{Refuses};
-ghost use Rattle.theta_laws.specs.Shown.{shown_value};
-ghost use Rattle.theta_family.specs.Fraction.{decimal_of, compact_fraction};
-ghost use Rattle.theta_family.specs.View.{shows, lends};
-ghost use Rattle.theta_family.specs.declared.fraction.TheConstants.{MAX_PLACES};
-ghost use Rattle.theta_table.specs.Entry.{tuple_key};
+ghost use Rattle.core_compact.specs.CompactState.{IsCompact, shown_of, compact_value};
+ghost use Rattle.core_laws.specs.Entries.{ClonesEqual};
+ghost use Rattle.core_laws.specs.Refusal.{Refuses};
+ghost use Rattle.core_laws.specs.Shown.{shown_value};
+ghost use Rattle.core_state.specs.Fraction.{decimal_of, compact_fraction};
+ghost use Rattle.core_state.specs.View.{shows, lends};
+ghost use Rattle.core_state.specs.declared.fraction.TheConstants.{MAX_PLACES};
+ghost use Rattle.core_slots.specs.Entry.{tuple_key};
 
 use crate::view::{TupleSketchIter, TupleSketchView};
+use core_compact::CompactSketchState;
+use core_laws::MAX_THETA;
+use core_operators::EntryIter;
+use core_slots::TupleEntry;
+use core_state::{Decimal, MAX_PLACES, compact_decimal, compact_fraction};
 use sketch_base::Error;
 use std::alloc::{Allocator, Global};
 use std::marker::Model;
-use theta_core::{CompactSketchState, EntryIter, MAX_THETA, TupleEntry};
-use theta_family::{Decimal, MAX_PLACES, compact_decimal, compact_fraction};
 
 /// A tuple sketch that no longer changes: its entries in a list, with its theta. Contracts see a record of these.
 /// The crate's comment has an example.
@@ -24,8 +27,8 @@ pub struct CompactTupleSketch<S: Drop, A: Allocator = Global> {
 }
 
 impl<S: Drop, A: Allocator> Model for CompactTupleSketch<S, A> {
-    ghost use Rattle.theta_compact.specs.CompactState.{Compact};
-    ghost use Rattle.theta_table.specs.declared.entry.TupleEntry.{TupleEntry};
+    ghost use Rattle.core_compact.specs.CompactState.{Compact};
+    ghost use Rattle.core_slots.specs.declared.entry.TupleEntry.{TupleEntry};
 
     ghost Value = { Compact (TupleEntry S) };
 

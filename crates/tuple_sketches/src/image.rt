@@ -6,17 +6,19 @@ ghost use Rattle.std.specs.Prelude.{◌≡◌, ◌≤◌, ◌+◌, ◌-◌, ◌^
 ghost use Rattle.std.specs.List.{flat_map};
 ghost use Rattle.sketch_base.specs.Seed.{seed_hash};
 ghost use Rattle.sketch_base.specs.declared.seed.TheConstants.{DEFAULT_UPDATE_SEED};
-ghost use Rattle.theta_images.specs.Read.{IsRefused};
-ghost use Rattle.theta_images.specs.Summary.{tuple_text};
-ghost use Rattle.theta_laws.specs.Refusal.{Refuses};
+ghost use Rattle.core_images.specs.Read.{IsRefused};
+ghost use Rattle.core_images.specs.Summary.{tuple_text};
+ghost use Rattle.core_laws.specs.Refusal.{Refuses};
 ghost use Rattle.tuple_sketches.specs.Image.{Reads, IsReadable, HasValues, written};
 ghost use Rattle.tuple_sketches.specs.ImageLayout.{is_version, is_sketch_type, tuple_layout};
 
 use crate::compact_sketch::CompactTupleSketch;
+use core_images::{
+    Layout, TupleSummaryValue, flagged_layout, read_behind, write_image_with_capacity,
+};
+use core_slots::TupleEntry;
 use sketch_base::{DEFAULT_UPDATE_SEED, Error, ErrorKind, Family, compute_seed_hash};
 use std::alloc::Allocator;
-use theta_core::image::{Layout, flagged_layout, read_behind, write_image_with_capacity};
-use theta_core::{TupleEntry, TupleSummaryValue};
 
 /// The version of images as they are written, byte 1 of an image.
 pub const SERIAL_VERSION: u8 = 3;

@@ -2,20 +2,22 @@
 ghost use Rattle.std.specs.Prelude.{◌≡◌, None, true, false, is_some, IfOk, IfErr, OnOk, MatchOption};
 ghost use Rattle.sketch_base.specs.Seed.{seed_hash};
 ghost use Rattle.sketch_base.specs.declared.seed.TheConstants.{DEFAULT_UPDATE_SEED};
-ghost use Rattle.theta_table.specs.Entry.{tuple_key};
-ghost use Rattle.theta_laws.specs.Cuts.{IsRetained};
-ghost use Rattle.theta_laws.specs.Entries.{ClonesEqual};
-ghost use Rattle.theta_laws.specs.Refusal.{Refuses};
-ghost use Rattle.theta_policies.specs.Summaries.{combined, combine_refused};
-ghost use Rattle.theta_operators.specs.Intersection.{new_intersection, seed_refusal, intersect_refusal, IsAnswerIfAny, IsIntersection, IsMet, IsCutShort, held_of};
-ghost use Rattle.theta_family.specs.View.{shows, lends};
+ghost use Rattle.core_slots.specs.Entry.{tuple_key};
+ghost use Rattle.core_laws.specs.Cuts.{IsRetained};
+ghost use Rattle.core_laws.specs.Entries.{ClonesEqual};
+ghost use Rattle.core_laws.specs.Refusal.{Refuses};
+ghost use Rattle.core_policies.specs.Summaries.{combined, combine_refused};
+ghost use Rattle.core_operators.specs.Intersection.{new_intersection, seed_refusal, intersect_refusal, IsAnswerIfAny, IsIntersection, IsMet, IsCutShort, held_of};
+ghost use Rattle.core_state.specs.View.{shows, lends};
 
 use crate::compact_sketch::CompactTupleSketch;
 use crate::operands::meet_view;
 use crate::view::TupleSketchView;
+use core_operators::IntersectionState;
+use core_policies::{SummaryCombinePolicy, SummaryPolicy};
+use core_slots::TupleEntry;
 use sketch_base::{DEFAULT_UPDATE_SEED, Error};
 use std::alloc::{Allocator, Global};
-use theta_core::{IntersectionState, SummaryCombinePolicy, SummaryPolicy, TupleEntry};
 
 /// An intersection of tuple sketches that are handed over one by one.
 ///

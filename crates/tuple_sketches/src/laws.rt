@@ -2,24 +2,25 @@
 //! and those of images.
 ghost use Rattle.std.specs.Prelude.{◌≡◌, ℕ, ◌<◌, ◌≤◌, ◌^◌, List, ◌++◌, ◌∷◌, [], None, Option, Some, map, true, false};
 ghost use Rattle.sketch_base.specs.declared.error.ErrorKind.{ErrorKind};
-ghost use Rattle.theta_laws.specs.Cuts.{Retained, cut};
-ghost use Rattle.theta_laws.specs.Folds.{Fold, Value, fold_key, folded_of, has_mark, unmarked};
-ghost use Rattle.theta_laws.specs.Insertion.{after_upsert, upsert_refusal, whole_upsert};
-ghost use Rattle.theta_laws.specs.Leaf.{KeepsHashes, is_updated, leaf, whole};
-ghost use Rattle.theta_laws.specs.declared.leaf.LeafStep.{LeafStep};
-ghost use Rattle.theta_laws.specs.declared.leaf.LeafStep.TheVariants.{Trim};
-ghost use Rattle.theta_laws.specs.Maps.{below};
-ghost use Rattle.theta_laws.specs.Samples.{IsLawfulValue, IsSample};
-ghost use Rattle.theta_laws.specs.Values.{NonEmpty};
-ghost use Rattle.theta_table.specs.declared.entry.TupleEntry.{TupleEntry};
-ghost use Rattle.theta_policies.specs.Summaries.{update_step};
-ghost use Rattle.theta_compact.specs.CompactState.{Compact, IsCompact, empty_compact};
-ghost use Rattle.theta_table.specs.Entry.{tuple_key};
+ghost use Rattle.core_laws.specs.Cuts.{Retained, cut};
+ghost use Rattle.core_laws.specs.Folds.{Fold, Value, fold_key, folded_of, has_mark, unmarked};
+ghost use Rattle.core_laws.specs.Insertion.{after_upsert, upsert_refusal, whole_upsert};
+ghost use Rattle.core_laws.specs.Leaf.{KeepsHashes, is_updated, leaf, whole};
+ghost use Rattle.core_laws.specs.declared.leaf.LeafStep.{LeafStep};
+ghost use Rattle.core_laws.specs.declared.leaf.LeafStep.TheVariants.{Trim};
+ghost use Rattle.core_laws.specs.Maps.{below};
+ghost use Rattle.core_laws.specs.Samples.{IsLawfulValue, IsSample};
+ghost use Rattle.core_laws.specs.Values.{NonEmpty};
+ghost use Rattle.core_slots.specs.declared.entry.TupleEntry.{TupleEntry};
+ghost use Rattle.core_policies.specs.Summaries.{update_step};
+ghost use Rattle.core_compact.specs.CompactState.{Compact, IsCompact, empty_compact};
+ghost use Rattle.core_slots.specs.Entry.{tuple_key};
 ghost use Rattle.tuple_sketches.specs.Image.{Reads, HasValues, written};
 ghost use Rattle.tuple_sketches.specs.declared.image.TheConstants.{EMPTY_SKETCH_BYTES};
 
+use core_images::TupleSummaryValue;
+use core_laws::MAX_THETA;
 use std::alloc::Allocator;
-use theta_core::{MAX_THETA, TupleSummaryValue};
 
 /// Updates of folds keep hashes, as updates of entries do.
 pub fn folded_updates_keep_hashes<S, U>()

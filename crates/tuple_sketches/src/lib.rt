@@ -66,17 +66,21 @@ mod view;
 pub use a_not_b::TupleANotB;
 pub use builder::TupleSketchBuilder;
 pub use compact_sketch::CompactTupleSketch;
+pub use core_images::TupleSummaryValue;
+pub use core_laws::MAX_THETA;
+pub use core_policies::{
+    CheckedSum, DefaultUnionPolicy, DefaultUpdatePolicy, SummaryCombinePolicy, SummaryPolicy,
+    SummaryUpdatePolicy,
+};
+pub use core_slots::TupleEntry;
+pub use core_state::{Decimal, MAX_PLACES, estimate_decimal};
+pub use core_table::ResizeFactor;
 pub use image::{
     EMPTY_SKETCH_BYTES, SERIAL_VERSION, SERIAL_VERSION_LEGACY, SKETCH_TYPE, SKETCH_TYPE_LEGACY,
 };
 pub use intersection::TupleIntersection;
 pub use sketch::TupleSketch;
 pub use sketch_base::{DEFAULT_UPDATE_SEED, Error, ErrorKind, MurmurHash3X64128};
-pub use theta_core::{
-    CheckedSum, DefaultUnionPolicy, DefaultUpdatePolicy, MAX_THETA, ResizeFactor,
-    SummaryCombinePolicy, SummaryPolicy, SummaryUpdatePolicy, TupleEntry, TupleSummaryValue,
-};
-pub use theta_family::{Decimal, MAX_PLACES, estimate_decimal};
 pub use union::TupleUnion;
 pub use union_builder::TupleUnionBuilder;
 pub use view::{TupleSketchIter, TupleSketchView};

@@ -1,25 +1,25 @@
 //! The operators' calls, handed views of any entries. The borrow checker takes a view there whose entries are a type
 //! parameter, and none whose entries are tuples.
 ghost use Rattle.std.specs.Prelude.{◌≡◌, ◌||◌, ◌^◌, [], ◌∷◌, true, false, None, IfOk, IfErr, OnOk, MatchOption};
-ghost use Rattle.theta_compact.specs.CompactState.{IsAnswer};
-ghost use Rattle.theta_laws.specs.Cuts.{IsRetained};
-ghost use Rattle.theta_laws.specs.Entries.{ClonesEqual, hash_key};
-ghost use Rattle.theta_laws.specs.Folds.{fold_key, fold_merges, unmarked_value};
-ghost use Rattle.theta_laws.specs.Operators.{minus, unite};
-ghost use Rattle.theta_laws.specs.Refusal.{Refuses};
-ghost use Rattle.theta_laws.specs.Shown.{shown_value};
-ghost use Rattle.theta_operators.specs.ANotB.{difference_refusal};
-ghost use Rattle.theta_operators.specs.Intersection.{intersect_refusal, IsIntersection, IsMet, IsCutShort, held_of};
-ghost use Rattle.theta_operators.specs.Union.{union_value, update_refusal, IsUnion, IsJoined, IsBroken};
-ghost use Rattle.theta_family.specs.View.{shows, lends};
+ghost use Rattle.core_compact.specs.CompactState.{IsAnswer};
+ghost use Rattle.core_laws.specs.Cuts.{IsRetained};
+ghost use Rattle.core_laws.specs.Entries.{ClonesEqual, hash_key};
+ghost use Rattle.core_laws.specs.Folds.{fold_key, fold_merges, unmarked_value};
+ghost use Rattle.core_laws.specs.Operators.{minus, unite};
+ghost use Rattle.core_laws.specs.Refusal.{Refuses};
+ghost use Rattle.core_laws.specs.Shown.{shown_value};
+ghost use Rattle.core_operators.specs.ANotB.{difference_refusal};
+ghost use Rattle.core_operators.specs.Intersection.{intersect_refusal, IsIntersection, IsMet, IsCutShort, held_of};
+ghost use Rattle.core_operators.specs.Union.{union_value, update_refusal, IsUnion, IsJoined, IsBroken};
+ghost use Rattle.core_state.specs.View.{shows, lends};
 
+use core_compact::CompactSketchState;
+use core_operators::{IntersectionState, UnionState, a_not_b};
+use core_policies::{IntersectionMergePolicy, UnionMergePolicy};
+use core_slots::SlotEntry;
+use core_state::SketchView;
 use sketch_base::Error;
 use std::alloc::Allocator;
-use theta_core::{
-    CompactSketchState, IntersectionMergePolicy, IntersectionState, SlotEntry, UnionMergePolicy,
-    UnionState, a_not_b,
-};
-use theta_family::SketchView;
 
 /// Joins a view to a union: `UnionState::update`.
 pub(crate) fn join_view<

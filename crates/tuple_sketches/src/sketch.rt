@@ -2,29 +2,32 @@
 ghost use Rattle.std.specs.Prelude.{◌≡◌, ◌≤◌, ◌&&◌, ◌^◌, true, false, not, nat_lt, None, length, IfOk, OnOk, OnErr};
 ghost use Rattle.std.specs.List.{concat};
 ghost use Rattle.sketch_base.specs.Seed.{hash_of};
-ghost use Rattle.theta_compact.specs.CompactState.{IsAnswer};
-ghost use Rattle.theta_laws.specs.Cuts.{cut};
-ghost use Rattle.theta_laws.specs.Entries.{ClonesEqual};
-ghost use Rattle.theta_laws.specs.Refusal.{Refuses};
-ghost use Rattle.theta_table.specs.HashTable.{empty_table, after_reset, table_refusal};
-ghost use Rattle.theta_laws.specs.Maps.{IsLent};
-ghost use Rattle.theta_laws.specs.Insertion.{after_upsert, upsert_refusal, upsert_allocates};
-ghost use Rattle.theta_family.specs.Updatable.{sketch_value, sketch_shows};
-ghost use Rattle.theta_family.specs.View.{shows, lends};
-ghost use Rattle.theta_laws.specs.Values.{theta_of, count_of, fraction_of};
-ghost use Rattle.theta_laws.specs.Shown.{IsShown, shown_value};
-ghost use Rattle.theta_family.specs.Fraction.{decimal_of};
-ghost use Rattle.theta_family.specs.declared.fraction.TheConstants.{MAX_PLACES};
-ghost use Rattle.theta_policies.specs.Summaries.{update_step};
-ghost use Rattle.theta_table.specs.Entry.{tuple_key};
+ghost use Rattle.core_compact.specs.CompactState.{IsAnswer};
+ghost use Rattle.core_laws.specs.Cuts.{cut};
+ghost use Rattle.core_laws.specs.Entries.{ClonesEqual};
+ghost use Rattle.core_laws.specs.Refusal.{Refuses};
+ghost use Rattle.core_laws.specs.Settings.{settings_refusal};
+ghost use Rattle.core_table.specs.HashTable.{empty_table, after_reset};
+ghost use Rattle.core_laws.specs.Maps.{IsLent};
+ghost use Rattle.core_laws.specs.Insertion.{after_upsert, upsert_refusal, upsert_allocates};
+ghost use Rattle.core_state.specs.Updatable.{sketch_value, sketch_shows};
+ghost use Rattle.core_state.specs.View.{shows, lends};
+ghost use Rattle.core_laws.specs.Values.{theta_of, count_of, fraction_of};
+ghost use Rattle.core_laws.specs.Shown.{IsShown, shown_value};
+ghost use Rattle.core_state.specs.Fraction.{decimal_of};
+ghost use Rattle.core_state.specs.declared.fraction.TheConstants.{MAX_PLACES};
+ghost use Rattle.core_policies.specs.Summaries.{update_step};
+ghost use Rattle.core_slots.specs.Entry.{tuple_key};
 
 use crate::compact_sketch::CompactTupleSketch;
 use crate::view::{TupleSketchIter, TupleSketchView};
+use core_laws::MAX_THETA;
+use core_policies::{SummaryPolicy, SummaryUpdatePolicy, UpdateStep};
+use core_slots::TupleEntry;
+use core_state::{Decimal, MAX_PLACES, Settings, UpdatableState};
 use sketch_base::Error;
 use std::alloc::{Allocator, Global};
 use std::hash::Hash;
-use theta_core::{MAX_THETA, SummaryPolicy, SummaryUpdatePolicy, TupleEntry, UpdateStep};
-use theta_family::{Decimal, MAX_PLACES, Settings, UpdatableState};
 
 /// A tuple sketch that takes updates: beside each hash it keeps a summary of the values that came with it, as its policy
 /// makes and updates them. Its value is Empty until the first update is accepted. The crate's comment has an example.
@@ -42,7 +45,7 @@ impl<P: SummaryPolicy, A: Allocator> TupleSketch<P, A> {
         ensures empty { IfOk result (λ s. s.state.empty ≡ true) }
         ensures made { IfOk result (λ s. s.state.map ≡ empty_table settings.lg_k settings.starting_theta settings.seed) }
         ensures policy { IfOk result (λ s. s.policy ≡ policy) }
-        ensures refused { Refuses result (table_refusal settings.lg_k settings.starting_theta settings.seed) true }
+        ensures refused { Refuses result (settings_refusal settings.lg_k settings.starting_theta settings.seed) true }
     {
         let state = UpdatableState::new(alloc, settings)?;
         Ok(TupleSketch { state, policy })

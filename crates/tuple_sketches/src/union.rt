@@ -1,27 +1,29 @@
 //! Unions of tuple sketches.
 ghost use Rattle.std.specs.Prelude.{◌≡◌, ◌^◌, [], ◌∷◌, true, false, not, None, IfOk, IfErr, OnOk, OnErr, MatchOption};
 ghost use Rattle.sketch_base.specs.Seed.{seed_hash};
-ghost use Rattle.theta_compact.specs.CompactState.{IsAnswer};
-ghost use Rattle.theta_table.specs.Entry.{tuple_key};
-ghost use Rattle.theta_table.specs.HashTable.{table_refusal};
-ghost use Rattle.theta_laws.specs.Cuts.{IsRetained};
-ghost use Rattle.theta_laws.specs.Entries.{ClonesEqual};
-ghost use Rattle.theta_laws.specs.Folds.{fold_key, fold_merges, unmarked_value};
-ghost use Rattle.theta_laws.specs.Operators.{unite};
-ghost use Rattle.theta_laws.specs.Refusal.{Refuses};
-ghost use Rattle.theta_laws.specs.Shown.{shown_value};
-ghost use Rattle.theta_laws.specs.Values.{cut_value};
-ghost use Rattle.theta_policies.specs.Summaries.{combined, combine_refused};
-ghost use Rattle.theta_operators.specs.Union.{empty_union, union_value, update_refusal, lower_refusal, lower_allocates, lowered, failure, IsUnion, IsJoined, IsBroken};
-ghost use Rattle.theta_family.specs.View.{shows, lends};
+ghost use Rattle.core_compact.specs.CompactState.{IsAnswer};
+ghost use Rattle.core_slots.specs.Entry.{tuple_key};
+ghost use Rattle.core_laws.specs.Settings.{settings_refusal};
+ghost use Rattle.core_laws.specs.Cuts.{IsRetained};
+ghost use Rattle.core_laws.specs.Entries.{ClonesEqual};
+ghost use Rattle.core_laws.specs.Folds.{fold_key, fold_merges, unmarked_value};
+ghost use Rattle.core_laws.specs.Operators.{unite};
+ghost use Rattle.core_laws.specs.Refusal.{Refuses};
+ghost use Rattle.core_laws.specs.Shown.{shown_value};
+ghost use Rattle.core_laws.specs.Values.{cut_value};
+ghost use Rattle.core_policies.specs.Summaries.{combined, combine_refused};
+ghost use Rattle.core_operators.specs.Union.{empty_union, union_value, update_refusal, lower_refusal, lower_allocates, lowered, failure, IsUnion, IsJoined, IsBroken};
+ghost use Rattle.core_state.specs.View.{shows, lends};
 
 use crate::compact_sketch::CompactTupleSketch;
 use crate::operands::join_view;
 use crate::view::TupleSketchView;
+use core_operators::UnionState;
+use core_policies::{SummaryCombinePolicy, SummaryPolicy};
+use core_slots::TupleEntry;
+use core_state::Settings;
 use sketch_base::Error;
 use std::alloc::{Allocator, Global};
-use theta_core::{SummaryCombinePolicy, SummaryPolicy, TupleEntry, UnionState};
-use theta_family::Settings;
 
 /// A union of tuple sketches that are handed over one by one.
 ///
@@ -37,7 +39,7 @@ pub struct TupleUnion<P: SummaryPolicy, A: Allocator = Global> {
 impl<P: SummaryPolicy + Drop, A: Allocator + Drop> TupleUnion<P, A> {
     pub(crate) fn new(alloc: A, settings: Settings, policy: P) -> Result<Self, Error>
         ensures made { IfOk result (λ u. u.state ≡ empty_union settings.lg_k settings.starting_theta (seed_hash settings.seed) policy) }
-        ensures refused { Refuses result (table_refusal settings.lg_k settings.starting_theta settings.seed) true }
+        ensures refused { Refuses result (settings_refusal settings.lg_k settings.starting_theta settings.seed) true }
     {
         let state = UnionState::new(
             alloc,

@@ -1,16 +1,17 @@
 //! Builders of tuple unions.
 ghost use Rattle.std.specs.Prelude.{◌≡◌, true, IfOk};
 ghost use Rattle.sketch_base.specs.Seed.{seed_hash};
-ghost use Rattle.theta_laws.specs.Refusal.{Refuses};
-ghost use Rattle.theta_family.specs.Settings.{default_settings};
-ghost use Rattle.theta_operators.specs.Union.{empty_union};
-ghost use Rattle.theta_table.specs.HashTable.{table_refusal};
+ghost use Rattle.core_laws.specs.Refusal.{Refuses};
+ghost use Rattle.core_state.specs.Settings.{default_settings};
+ghost use Rattle.core_operators.specs.Union.{empty_union};
+ghost use Rattle.core_laws.specs.Settings.{settings_refusal};
 
 use crate::union::TupleUnion;
+use core_policies::SummaryPolicy;
+use core_state::Settings;
+use core_table::ResizeFactor;
 use sketch_base::Error;
 use std::alloc::Allocator;
-use theta_core::{ResizeFactor, SummaryPolicy};
-use theta_family::Settings;
 
 /// Builds a tuple union, whose policy combines the summaries of a key that its inputs share. Nothing is checked before
 /// `build`. The crate's comment has an example.
@@ -67,7 +68,7 @@ impl<P: SummaryPolicy + Drop> TupleUnionBuilder<P> {
     /// `OutOfMemory`.
     pub fn build<A: Allocator + Drop>(self, alloc: A) -> Result<TupleUnion<P, A>, Error>
         ensures made { IfOk result (λ u. u.state ≡ empty_union self.settings.lg_k self.settings.starting_theta (seed_hash self.settings.seed) self.policy) }
-        ensures refused { Refuses result (table_refusal self.settings.lg_k self.settings.starting_theta self.settings.seed) true }
+        ensures refused { Refuses result (settings_refusal self.settings.lg_k self.settings.starting_theta self.settings.seed) true }
     {
         let TupleUnionBuilder { settings, policy } = self;
         TupleUnion::new(alloc, settings, policy)

@@ -1,16 +1,18 @@
 //! Read-only views of tuple sketches, which operators take, and the entries that they lend.
 ghost use Rattle.std.specs.Prelude.{◌≡◌};
-ghost use Rattle.theta_compact.specs.CompactState.{compact_value, shown_of};
-ghost use Rattle.theta_family.specs.Updatable.{sketch_shows, sketch_value};
-ghost use Rattle.theta_laws.specs.Shown.{shown_value};
-ghost use Rattle.theta_family.specs.View.{shows, lends};
-ghost use Rattle.theta_table.specs.Entry.{tuple_key};
+ghost use Rattle.core_compact.specs.CompactState.{compact_value, shown_of};
+ghost use Rattle.core_state.specs.Updatable.{sketch_shows, sketch_value};
+ghost use Rattle.core_laws.specs.Shown.{shown_value};
+ghost use Rattle.core_state.specs.View.{shows, lends};
+ghost use Rattle.core_slots.specs.Entry.{tuple_key};
 
 use crate::compact_sketch::CompactTupleSketch;
 use crate::sketch::TupleSketch;
+use core_operators::EntryIter;
+use core_policies::SummaryPolicy;
+use core_slots::TupleEntry;
+use core_state::SketchView;
 use std::alloc::{Allocator, Global};
-use theta_core::{EntryIter, SummaryPolicy, TupleEntry};
-use theta_family::SketchView;
 
 /// A view of a mutable or a compact tuple sketch, whatever its summaries. A mutable one is seen as not ordered.
 /// The crate's comment has an example.

@@ -4,23 +4,23 @@ use Rattle.std.specs.Prelude.{not}
 use Rattle.std.proofs.lemmas.List.{take_more}
 use Rattle.std.proofs.lemmas.Bool.Decides.{nat_tests}
 use Rattle.sketch_base.specs.declared.error.ErrorKind.{ErrorKind}
-use Rattle.theta_laws.specs.declared.TheConstants.{MAX_THETA}
-use Rattle.theta_laws.specs.Cuts.{Retained, none_below}
-use Rattle.theta_laws.specs.Entries.{is_carried}
-use Rattle.theta_laws.specs.Folds.{Fold, fold_key, folded, has_mark, unmarked, unmarked_value}
-use Rattle.theta_laws.specs.Insertion.{is_screened, upsert_refusal, whole_upsert}
-use Rattle.theta_laws.specs.Leaf.{leaf_step, leaf_from, leaf, updated_step, is_updated, whole, whole_from, whole_step}
-use Rattle.theta_laws.specs.Lawful.{IsWithin}
-use Rattle.theta_laws.specs.Step.{Step as Upsert}
-use Rattle.theta_laws.specs.Values.{Empty, NonEmpty}
-use Rattle.theta_laws.specs.declared.leaf.LeafStep.{LeafStep as Step}
-use Rattle.theta_laws.specs.declared.leaf.LeafStep.TheVariants.{Add}
-use Rattle.theta_laws.proofs.cuts.WithinWholeMaps.{lawful-le}
-use Rattle.theta_laws.proofs.insertions.Cases.{screened_case}
-use Rattle.theta_laws.proofs.insertions.Leaves.{leaf_from-append, is_updated-append, within-leaf}
-use Rattle.theta_laws.proofs.operators.Marks.{step_marks}
-use Rattle.theta_table.specs.HashTable.{MapTable, empty_table}
-use Rattle.theta_family.specs.Updatable.{Updatable, sketch_value}
+use Rattle.core_laws.specs.declared.TheConstants.{MAX_THETA}
+use Rattle.core_laws.specs.Cuts.{Retained, none_below}
+use Rattle.core_laws.specs.Entries.{is_carried}
+use Rattle.core_laws.specs.Folds.{Fold, fold_key, folded, has_mark, unmarked, unmarked_value}
+use Rattle.core_laws.specs.Insertion.{is_screened, upsert_refusal, whole_upsert}
+use Rattle.core_laws.specs.Leaf.{leaf_step, leaf_from, leaf, updated_step, is_updated, whole, whole_from, whole_step}
+use Rattle.core_laws.specs.Lawful.{IsWithin}
+use Rattle.core_laws.specs.Step.{Step as Upsert}
+use Rattle.core_laws.specs.Values.{Empty, NonEmpty}
+use Rattle.core_laws.specs.declared.leaf.LeafStep.{LeafStep as Step}
+use Rattle.core_laws.specs.declared.leaf.LeafStep.TheVariants.{Add}
+use Rattle.core_laws.proofs.cuts.WithinWholeMaps.{lawful-le}
+use Rattle.core_laws.proofs.insertions.Cases.{screened_case}
+use Rattle.core_laws.proofs.insertions.Leaves.{leaf_from-append, is_updated-append, within-leaf}
+use Rattle.core_laws.proofs.operators.Marks.{step_marks}
+use Rattle.core_table.specs.HashTable.{MapTable, empty_table}
+use Rattle.core_state.specs.Updatable.{Updatable, sketch_value}
 use Rattle.plan_values.specs.Family.{Family, IsFamily, folds_of}
 use Rattle.plan_evaluation.specs.Refused.{MarksStepped}
 

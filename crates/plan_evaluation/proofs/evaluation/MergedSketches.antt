@@ -3,17 +3,17 @@ use Rattle.std.proofs.Common.{◌≡◌, ℕ, true, List, [], ◌∷◌, Result,
 use Rattle.std.specs.Prelude.{ℤ, pos, IfOk, OnOk}
 use Rattle.std.specs.Option.{option_map}
 use Rattle.sketch_base.specs.declared.error.ErrorKind.{ErrorKind}
-use Rattle.theta_laws.specs.Cuts.{Retained, cut}
-use Rattle.theta_laws.specs.Entries.{hash_key}
-use Rattle.theta_laws.specs.Folds.{Fold, Value, fold_key, unmarked, unmarked_value}
-use Rattle.theta_laws.specs.Leaf.{kmin}
-use Rattle.theta_laws.specs.Maps.{entry_at}
-use Rattle.theta_laws.specs.Values.{Sketch, Empty, NonEmpty}
-use Rattle.theta_laws.proofs.maps.MappedEntries.{cut-map}
-use Rattle.theta_policies.specs.Sums.{sum_within}
-use Rattle.theta_compact.specs.CompactState.{Compact as State, compact_value}
-use Rattle.theta_table.specs.Entry.{tuple_key}
-use Rattle.theta_table.specs.declared.entry.TupleEntry.{TupleEntry}
+use Rattle.core_laws.specs.Cuts.{Retained, cut}
+use Rattle.core_laws.specs.Entries.{hash_key}
+use Rattle.core_laws.specs.Folds.{Fold, Value, fold_key, unmarked, unmarked_value}
+use Rattle.core_laws.specs.Leaf.{kmin}
+use Rattle.core_laws.specs.Maps.{entry_at}
+use Rattle.core_laws.specs.Values.{Sketch, Empty, NonEmpty}
+use Rattle.core_laws.proofs.maps.MappedEntries.{cut-map}
+use Rattle.core_policies.specs.Sums.{sum_within}
+use Rattle.core_compact.specs.CompactState.{Compact as State, compact_value}
+use Rattle.core_slots.specs.Entry.{tuple_key}
+use Rattle.core_slots.specs.declared.entry.TupleEntry.{TupleEntry}
 use Rattle.plan_text.specs.declared.plan.Plan.{Plan}
 use Rattle.plan_values.specs.AddedValues.{added_values, total}
 use Rattle.plan_values.specs.Family.{tuple_folds}

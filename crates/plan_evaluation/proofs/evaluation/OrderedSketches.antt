@@ -3,11 +3,11 @@ use Rattle.std.proofs.Common.{◌≡◌, ℕ, Bool, true, false, Result, Ok, Err
 use Rattle.std.specs.Prelude.{◌||◌, ◌⊎◌, IfOk, IfErr, OnOk}
 use Rattle.sketch_base.specs.declared.error.ErrorKind.{ErrorKind}
 use Rattle.sketch_base.specs.declared.error.ErrorKind.TheVariants.{OutOfMemory, Policy}
-use Rattle.theta_laws.specs.Entries.{hash_key}
-use Rattle.theta_laws.specs.Folds.{Fold, never}
-use Rattle.theta_laws.specs.Refusal.{Refuses}
-use Rattle.theta_laws.specs.Values.{Sketch, Empty, NonEmpty}
-use Rattle.theta_compact.specs.CompactState.{Compact as State, IsAnswer, compact_value}
+use Rattle.core_laws.specs.Entries.{hash_key}
+use Rattle.core_laws.specs.Folds.{Fold, never}
+use Rattle.core_laws.specs.Refusal.{Refuses}
+use Rattle.core_laws.specs.Values.{Sketch, Empty, NonEmpty}
+use Rattle.core_compact.specs.CompactState.{Compact as State, IsAnswer, compact_value}
 use Rattle.plan_text.specs.declared.plan.Plan.{Plan}
 use Rattle.plan_values.specs.Family.{Family, hashes, folds_of}
 use Rattle.plan_values.specs.Refusals.{may_refuse}

@@ -2,13 +2,13 @@
 use Rattle.std.proofs.Common.{◌≡◌, ℕ, ◌+◌, ◌<◌, true, List, [], ◌∷◌, ◌++◌, length, get_or, take, map, Option, Some, None, refl, sym, ap, subst, ◌∙◌}
 use Rattle.std.specs.Option.{option_map}
 use Rattle.std.proofs.lemmas.List.{map_more}
-use Rattle.theta_laws.specs.Folds.{Fold, has_mark, unmarked_value}
-use Rattle.theta_laws.specs.Operators.{meet_next, meet, common}
-use Rattle.theta_laws.specs.Samples.{IsAllBelow, IsSample, AreSamples, common_all}
-use Rattle.theta_laws.specs.Values.{Sketch}
-use Rattle.theta_laws.proofs.operators.Meets.{meet_of_meet}
-use Rattle.theta_laws.proofs.operators.Samples.{meet_samples}
-use Rattle.theta_operators.specs.Intersection.{Intersection}
+use Rattle.core_laws.specs.Folds.{Fold, has_mark, unmarked_value}
+use Rattle.core_laws.specs.Operators.{meet_next, meet, common}
+use Rattle.core_laws.specs.Samples.{IsAllBelow, IsSample, AreSamples, common_all}
+use Rattle.core_laws.specs.Values.{Sketch}
+use Rattle.core_laws.proofs.operators.Meets.{meet_of_meet}
+use Rattle.core_laws.proofs.operators.Samples.{meet_samples}
+use Rattle.core_operators.specs.Intersection.{Intersection}
 use Rattle.plan_text.specs.declared.plan.Plan.{Plan}
 use Rattle.plan_values.specs.Family.{Family, IsFamily}
 use Rattle.plan_values.specs.Value.{value_in}

@@ -3,13 +3,13 @@ use Rattle.std.proofs.Common.{◌≡◌, ℕ, true, false, cond, eqb, not, List,
 use Rattle.std.specs.Prelude.{◌&&◌}
 use Rattle.std.specs.Option.{option_map}
 use Rattle.std.proofs.lemmas.List.{length-map}
-use Rattle.theta_laws.specs.declared.TheConstants.{MAX_THETA}
-use Rattle.theta_laws.specs.Cuts.{Retained, retained}
-use Rattle.theta_laws.specs.Maps.{entry_at, map_of, with_entry, IsApart}
-use Rattle.theta_laws.specs.Values.{Sketch, Empty, NonEmpty}
-use Rattle.theta_laws.specs.Operators.{meet_next, minus, common, shared, is_disjoint, lacking, unless_nothing}
-use Rattle.theta_laws.specs.Folds.{Fold, Value, fold_key, fold_merges, never, unmarked, unmarked_value}
-use Rattle.theta_laws.proofs.maps.MappedEntries.{below-map, entry_at-map, with_entry-map}
+use Rattle.core_laws.specs.declared.TheConstants.{MAX_THETA}
+use Rattle.core_laws.specs.Cuts.{Retained, retained}
+use Rattle.core_laws.specs.Maps.{entry_at, map_of, with_entry, IsApart}
+use Rattle.core_laws.specs.Values.{Sketch, Empty, NonEmpty}
+use Rattle.core_laws.specs.Operators.{meet_next, minus, common, shared, is_disjoint, lacking, unless_nothing}
+use Rattle.core_laws.specs.Folds.{Fold, Value, fold_key, fold_merges, never, unmarked, unmarked_value}
+use Rattle.core_laws.proofs.maps.MappedEntries.{below-map, entry_at-map, with_entry-map}
 
 module _ {X : Type 0} (key : X → ℕ) where
   -- the map that a listing makes

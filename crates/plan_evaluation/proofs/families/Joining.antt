@@ -1,12 +1,12 @@
 -- A union that takes in what a view shows takes in its value, in folds.
 use Rattle.std.proofs.Common.{◌≡◌, Bool, true, false, cond, List, refl, ap, subst}
-use Rattle.theta_laws.specs.Entries.{KeepsKey}
-use Rattle.theta_laws.specs.Folds.{Fold, unmarked_value}
-use Rattle.theta_laws.specs.Maps.{IsAscending, IsApart, map_of}
-use Rattle.theta_laws.specs.Shown.{Shown, shown_value}
-use Rattle.theta_laws.specs.Values.{Sketch, Empty, NonEmpty}
-use Rattle.theta_operators.specs.Union.{Union, IsUnion, IsJoined}
-use Rattle.theta_operators.proofs.UnionValue.{united}
+use Rattle.core_laws.specs.Entries.{KeepsKey}
+use Rattle.core_laws.specs.Folds.{Fold, unmarked_value}
+use Rattle.core_laws.specs.Maps.{IsAscending, IsApart, map_of}
+use Rattle.core_laws.specs.Shown.{Shown, shown_value}
+use Rattle.core_laws.specs.Values.{Sketch, Empty, NonEmpty}
+use Rattle.core_operators.specs.Union.{Union, IsUnion, IsJoined}
+use Rattle.core_operators.proofs.UnionValue.{united}
 use Rattle.plan_values.specs.Family.{Family, folds_of}
 use Rattle.plan_evaluation.specs.Came.{Joins}
 

@@ -3,16 +3,16 @@ use Rattle.std.proofs.Common.{◌≡◌, ℕ, Bool, true, false, cond, is_none, 
 use Rattle.std.specs.Prelude.{IfOk}
 use Rattle.std.specs.Option.{option_map}
 use Rattle.sketch_base.specs.declared.error.ErrorKind.{ErrorKind}
-use Rattle.theta_compact.specs.CompactState.{Compact, IsAnswer, compact_value}
-use Rattle.theta_compact.proofs.Answered.{answer-value}
-use Rattle.theta_laws.specs.Cuts.{retained}
-use Rattle.theta_laws.specs.Entries.{hash_key}
-use Rattle.theta_laws.specs.Folds.{Fold, fold_key, unmarked_value}
-use Rattle.theta_laws.specs.Maps.{entry_at, map_of}
-use Rattle.theta_laws.specs.Operators.{minus, lacking, unless_nothing}
-use Rattle.theta_laws.specs.Values.{Sketch, Empty, NonEmpty}
-use Rattle.theta_laws.proofs.maps.MappedEntries.{entry_at-map}
-use Rattle.theta_laws.proofs.maps.MapsOfLists.{entry_at-map_of}
+use Rattle.core_compact.specs.CompactState.{Compact, IsAnswer, compact_value}
+use Rattle.core_compact.proofs.Answered.{answer-value}
+use Rattle.core_laws.specs.Cuts.{retained}
+use Rattle.core_laws.specs.Entries.{hash_key}
+use Rattle.core_laws.specs.Folds.{Fold, fold_key, unmarked_value}
+use Rattle.core_laws.specs.Maps.{entry_at, map_of}
+use Rattle.core_laws.specs.Operators.{minus, lacking, unless_nothing}
+use Rattle.core_laws.specs.Values.{Sketch, Empty, NonEmpty}
+use Rattle.core_laws.proofs.maps.MappedEntries.{entry_at-map}
+use Rattle.core_laws.proofs.maps.MapsOfLists.{entry_at-map_of}
 use Rattle.plan_evaluation.specs.Came.{IsFoldAnswer}
 use Rattle.plan_evaluation.proofs.families.Folds.{minus-values}
 

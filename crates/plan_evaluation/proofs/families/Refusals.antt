@@ -4,24 +4,24 @@ use Rattle.std.specs.Prelude.{◌⊎◌, ◌||◌, MatchOption, IsTrue}
 use Rattle.std.specs.Option.{option_map, option_map_or}
 use Rattle.sketch_base.specs.declared.error.ErrorKind.{ErrorKind}
 use Rattle.sketch_base.specs.declared.error.ErrorKind.TheVariants.{OutOfMemory, Policy}
-use Rattle.theta_laws.specs.Cuts.{Retained}
-use Rattle.theta_laws.specs.Entries.{KeepsKey}
-use Rattle.theta_laws.specs.Folds.{Fold, Value, fold_key, fold_merges, unmarked_value, has_mark}
-use Rattle.theta_laws.specs.Insertion.{upsert_refusal, is_screened}
-use Rattle.theta_laws.specs.Maps.{IsAscending, below, entry_at, map_of}
-use Rattle.theta_laws.specs.Operators.{joined, common}
-use Rattle.theta_laws.specs.Shown.{Shown, shown_value}
-use Rattle.theta_laws.specs.Values.{Sketch, Empty, NonEmpty}
-use Rattle.theta_laws.proofs.insertions.Unmarked.{was_refused}
-use Rattle.theta_laws.proofs.maps.LookUps.{entry_at-below}
-use Rattle.theta_laws.proofs.maps.MappedEntries.{entry_at-map}
-use Rattle.theta_laws.proofs.maps.MapsOfLists.{ascending-apart, entry_at-map_of}
-use Rattle.theta_laws.proofs.operators.Marks.{join_marks, meet_marks}
-use Rattle.theta_operators.specs.Intersection.{Intersection, IsCutShort, held_of, intersect_refusal, is_settled}
-use Rattle.theta_operators.specs.Union.{Union, IsBroken, IsMergeRefused, update_refusal}
-use Rattle.theta_policies.specs.Summaries.{update_step, first_summary}
-use Rattle.theta_table.specs.Entry.{tuple_key}
-use Rattle.theta_table.specs.declared.entry.TupleEntry.{TupleEntry}
+use Rattle.core_laws.specs.Cuts.{Retained}
+use Rattle.core_laws.specs.Entries.{KeepsKey}
+use Rattle.core_laws.specs.Folds.{Fold, Value, fold_key, fold_merges, unmarked_value, has_mark}
+use Rattle.core_laws.specs.Insertion.{upsert_refusal, is_screened}
+use Rattle.core_laws.specs.Maps.{IsAscending, below, entry_at, map_of}
+use Rattle.core_laws.specs.Operators.{joined, common}
+use Rattle.core_laws.specs.Shown.{Shown, shown_value}
+use Rattle.core_laws.specs.Values.{Sketch, Empty, NonEmpty}
+use Rattle.core_laws.proofs.insertions.Unmarked.{was_refused}
+use Rattle.core_laws.proofs.maps.LookUps.{entry_at-below}
+use Rattle.core_laws.proofs.maps.MappedEntries.{entry_at-map}
+use Rattle.core_laws.proofs.maps.MapsOfLists.{ascending-apart, entry_at-map_of}
+use Rattle.core_laws.proofs.operators.Marks.{join_marks, meet_marks}
+use Rattle.core_operators.specs.Intersection.{Intersection, IsCutShort, held_of, intersect_refusal, is_settled}
+use Rattle.core_operators.specs.Union.{Union, IsBroken, IsMergeRefused, update_refusal}
+use Rattle.core_policies.specs.Summaries.{update_step, first_summary}
+use Rattle.core_slots.specs.Entry.{tuple_key}
+use Rattle.core_slots.specs.declared.entry.TupleEntry.{TupleEntry}
 use Rattle.plan_values.specs.Family.{Family, folds_of}
 use Rattle.plan_evaluation.specs.Refused.{RefusedFor, MarksJoined, MarksMet}
 use Rattle.plan_evaluation.proofs.families.Held.{HoldsAll}

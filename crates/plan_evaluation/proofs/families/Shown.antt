@@ -1,11 +1,11 @@
 -- What views lend.
 use Rattle.std.proofs.Common.{◌≡◌, ℕ, map, refl}
-use Rattle.theta_laws.specs.Maps.{IsApart}
-use Rattle.theta_laws.specs.Shown.{IsShown}
-use Rattle.theta_laws.proofs.maps.MapsOfLists.{apart-distinct}
-use Rattle.theta_family.specs.View.{viewed_shows, viewed_lending}
-use Rattle.theta_family.specs.declared.view.Viewed.{Viewed}
-use Rattle.theta_family.specs.declared.view.Viewed.TheVariants.{Mutable, Compact}
+use Rattle.core_laws.specs.Maps.{IsApart}
+use Rattle.core_laws.specs.Shown.{IsShown}
+use Rattle.core_laws.proofs.maps.MapsOfLists.{apart-distinct}
+use Rattle.core_state.specs.View.{viewed_shows, viewed_lending}
+use Rattle.core_state.specs.declared.view.Viewed.{Viewed}
+use Rattle.core_state.specs.declared.view.Viewed.TheVariants.{Mutable, Compact}
 
 module _ {X Z S : Type 0} (key : X → ℕ) where
   -- the hashes that are shown are those of the entries that are lent

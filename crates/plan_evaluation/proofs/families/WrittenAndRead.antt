@@ -4,9 +4,9 @@ use Rattle.std.proofs.lemmas.List.{append-nil}
 use Rattle.std.specs.Prelude.{IfOk, IfErr}
 use Rattle.sketch_base.specs.Seed.{seed_hash}
 use Rattle.sketch_base.specs.declared.error.ErrorKind.{ErrorKind}
-use Rattle.theta_compact.specs.CompactState.{Compact}
-use Rattle.theta_images.specs.Read.{IsRefused}
-use Rattle.theta_laws.specs.Refusal.{Refuses}
+use Rattle.core_compact.specs.CompactState.{Compact}
+use Rattle.core_images.specs.Read.{IsRefused}
+use Rattle.core_laws.specs.Refusal.{Refuses}
 
 seed_hash-small : (seed : ℕ) → seed_hash seed < 2 ^ 16
 unfolding seed_hash

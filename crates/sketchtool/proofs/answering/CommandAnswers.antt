@@ -5,10 +5,10 @@ use Rattle.sketch_base.specs.Seed.{seed_hash}
 use Rattle.sketch_base.specs.declared.seed.TheConstants.{DEFAULT_UPDATE_SEED}
 use Rattle.sketch_base.specs.declared.error.ErrorKind.{ErrorKind}
 use Rattle.sketch_base.specs.declared.error.ErrorKind.TheVariants.{InvalidArgument, InvalidData, OutOfMemory, Policy, Failed}
-use Rattle.theta_compact.specs.CompactState.{Compact, compact_value}
-use Rattle.theta_table.specs.Entry.{tuple_key}
-use Rattle.theta_table.specs.declared.entry.TupleEntry.{TupleEntry}
-use Rattle.theta_laws.specs.Values.{Sketch, Empty, NonEmpty}
+use Rattle.core_compact.specs.CompactState.{Compact, compact_value}
+use Rattle.core_slots.specs.Entry.{tuple_key}
+use Rattle.core_slots.specs.declared.entry.TupleEntry.{TupleEntry}
+use Rattle.core_laws.specs.Values.{Sketch, Empty, NonEmpty}
 use Rattle.plan_text.specs.declared.plan.Plan.{Plan}
 use Rattle.plan_text.specs.declared.command.Command.{Command}
 use Rattle.plan_text.specs.declared.command.Command.TheVariants.{Theta, Tuple}

@@ -1,11 +1,11 @@
 //! Plans that a caller builds have no more levels than those of texts.
 
+use core_laws::MAX_THETA;
 use plan_evaluation::evaluate_theta;
 use plan_text::{Boxed, Items, Levels, MAX_LEVELS, Plan, Step, UnionPart};
 use sketch_base::{DEFAULT_UPDATE_SEED, Error, ErrorKind};
 use std::alloc::Global;
 use std::test::Fail;
-use theta_core::MAX_THETA;
 
 /// A node that has one plan, or an empty leaf behind it.
 #[derive(Debug, Clone, Copy)]

@@ -2,12 +2,12 @@
 
 use super::{theta_plan, tuple_plan};
 use crate::run::run;
+use core_policies::{DefaultUnionPolicy, DefaultUpdatePolicy};
 use plan_evaluation::{evaluate_theta, evaluate_tuple};
-use refuse::{Refusal, Refusing};
+use refusing_allocator::{Refusal, Refusing};
 use sketch_base::{DEFAULT_UPDATE_SEED, Error};
 use std::alloc::{AllocError, Global};
 use std::test::Fail;
-use theta_core::{DefaultUnionPolicy, DefaultUpdatePolicy};
 use theta_sketches::{CompactThetaSketch, ThetaSketch, ThetaSketchBuilder, ThetaUnionBuilder};
 use tuple_sketches::{CompactTupleSketch, TupleSketch, TupleSketchBuilder, TupleUnionBuilder};
 

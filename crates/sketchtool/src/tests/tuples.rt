@@ -2,11 +2,11 @@
 ghost use Rattle.std.specs.Prelude.{◌+◌, ◌*◌, ◌^◌, Some, None, false, nat_lt, if◌then◌else◌};
 
 use super::{answer_to_text, tuple_plan};
+use core_policies::DefaultUpdatePolicy;
 use plan_evaluation::evaluate_tuple;
 use sketch_base::{DEFAULT_UPDATE_SEED, Error, ErrorKind, SketchBytes, SketchSlice};
 use std::alloc::{Allocator, Global};
 use std::test::Fail;
-use theta_core::DefaultUpdatePolicy;
 use tuple_sketches::{SummaryCombinePolicy, SummaryPolicy, SummaryUpdatePolicy, TupleSummaryValue};
 
 /// Writes the digit of a summary behind those that are there.

@@ -2,7 +2,7 @@ use Rattle.std.proofs.Common.{◌≡◌, ℕ, List, Option, sym, subst}
 use Rattle.std.specs.Prelude.{IfSome}
 use Rattle.sketch_base.specs.Seed.{seed_hash}
 use Rattle.sketch_base.specs.declared.seed.TheConstants.{DEFAULT_UPDATE_SEED}
-use Rattle.theta_compact.specs.CompactState.{Compact}
+use Rattle.core_compact.specs.CompactState.{Compact}
 use Rattle.line_sketches.specs.Shards.{AreRead}
 use Rattle.line_sketches.specs.Sources.{Continues}
 use Rattle.distinct.specs.Images.{images_left, open_text}

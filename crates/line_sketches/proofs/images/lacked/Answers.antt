@@ -1,6 +1,6 @@
 use Rattle.std.proofs.Common.{◌≡◌, true, false}
 use Rattle.sketch_base.specs.declared.seed.TheConstants.{DEFAULT_UPDATE_SEED}
-use Rattle.theta_operators.specs.Intersection.{seed_refusal}
+use Rattle.core_operators.specs.Intersection.{seed_refusal}
 use Rattle.line_sketches.proofs.DefaultSeed.{seed_accepted, only_memory}
 use Rattle.line_sketches.proofs.images.lacked.Goals as goal
 

@@ -1,16 +1,16 @@
 use Rattle.std.proofs.Common.{◌≡◌, true, false, Option, None, Some, get_or, ap, sym, subst, ◌∙◌, inl, inr}
 use Rattle.std.proofs.lemmas.List.{take_all}
-use Rattle.theta_laws.specs.Entries.{hash_key, first_hash}
-use Rattle.theta_laws.specs.Operators.{meet, meet_next}
-use Rattle.theta_laws.specs.Shown.{shown_value}
+use Rattle.core_laws.specs.Entries.{hash_key, first_hash}
+use Rattle.core_laws.specs.Operators.{meet, meet_next}
+use Rattle.core_laws.specs.Shown.{shown_value}
 use Rattle.theta_sketches.specs.View.{view_shows, view_lends}
 use Rattle.line_sketches.specs.Meeting.{come_to, met_of}
 use Rattle.line_sketches.specs.Shards.{values_of_sketches}
 use Rattle.line_sketches.proofs.Meets.{met_next, come_to-met, same_result, same_item}
 use Rattle.std.proofs.lemmas.Result.{err_from_is_err_and}
 use Rattle.sketch_base.specs.declared.seed.TheConstants.{DEFAULT_UPDATE_SEED}
-use Rattle.theta_laws.specs.Refusal.{Refuses}
-use Rattle.theta_operators.specs.Intersection.{seed_refusal}
+use Rattle.core_laws.specs.Refusal.{Refuses}
+use Rattle.core_operators.specs.Intersection.{seed_refusal}
 use Rattle.line_sketches.specs.Meeting.{one_refusal, meet_refusal}
 use Rattle.line_sketches.proofs.DefaultSeed.{seed_accepted, only_memory, refuses_memory, refuses_kind}
 use Rattle.line_sketches.proofs.Refused.{one_of, met_further, met_refused, met_all, update_kind}

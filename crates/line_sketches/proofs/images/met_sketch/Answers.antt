@@ -1,4 +1,4 @@
-use Rattle.theta_laws.specs.Values.{Empty}
+use Rattle.core_laws.specs.Values.{Empty}
 use Rattle.line_sketches.specs.Meeting.{come_to}
 use Rattle.line_sketches.proofs.Meets.{some_answer, no_answer, same_result}
 use Rattle.line_sketches.proofs.images.met_sketch.Goals as goal

@@ -1,5 +1,5 @@
 use Rattle.line_sketches.specs.Keys.{value_of_lines}
-use Rattle.theta_family.specs.Updatable.{sketch_value}
+use Rattle.core_state.specs.Updatable.{sketch_value}
 use Rattle.line_sketches.proofs.Worth.{trimmed_value, trimmed_seed, ordered_result}
 use Rattle.line_sketches.proofs.sketching.finished.Goals as goal
 

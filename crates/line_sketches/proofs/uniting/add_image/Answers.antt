@@ -3,7 +3,7 @@ use Rattle.std.specs.Prelude.{IfErr}
 use Rattle.std.proofs.lemmas.Result.{err_from_is_err_and}
 use Rattle.sketch_base.specs.Seed.{seed_hash}
 use Rattle.sketch_base.specs.declared.seed.TheConstants.{DEFAULT_UPDATE_SEED}
-use Rattle.theta_images.specs.Read.{IsRefused}
+use Rattle.core_images.specs.Read.{IsRefused}
 use Rattle.theta_sketches.specs.Image.{IsReadable}
 use Rattle.line_sketches.proofs.Refused.{read_seed, ready_accepts, union_memory}
 use Rattle.theta_sketches.specs.View.{view_shows, view_lends}

@@ -1,8 +1,8 @@
 use Rattle.std.proofs.Common.{◌^◌, ◌∙◌, ap, sym, refl}
 use Rattle.std.proofs.lemmas.Result.{on_ok_weaker}
-use Rattle.theta_laws.specs.Folds.{Value, fold_key, unmarked}
-use Rattle.theta_laws.proofs.insertions.FoldedSteps.{unmarked-step}
-use Rattle.theta_laws.proofs.maps.MappedEntries.{cut-map}
+use Rattle.core_laws.specs.Folds.{Value, fold_key, unmarked}
+use Rattle.core_laws.proofs.insertions.FoldedSteps.{unmarked-step}
+use Rattle.core_laws.proofs.maps.MappedEntries.{cut-map}
 use Rattle.plan_evaluation.proofs.evaluation.LeafSteps.{addition_marks}
 use Rattle.plan_evaluation.proofs.evaluation.Results.{on_both, if_refused, for_other}
 use Rattle.plan_evaluation.proofs.evaluate.apply.Goals as goal

@@ -1,7 +1,7 @@
 use Rattle.std.proofs.Common.{◌+◌, inr}
 use Rattle.std.proofs.lemmas.Result.{err_from_is_err_and}
-use Rattle.theta_laws.specs.Folds.{has_mark}
-use Rattle.theta_laws.specs.Leaf.{whole}
+use Rattle.core_laws.specs.Folds.{has_mark}
+use Rattle.core_laws.specs.Leaf.{whole}
 use Rattle.plan_values.specs.Family.{folds_of}
 use Rattle.plan_values.proofs.AcceptedSettings.{start_fits}
 use Rattle.plan_values.proofs.KnownFamilies.{folds_keep}

@@ -1,9 +1,9 @@
 use Rattle.std.proofs.Common.{◌≡◌, ◌^◌, false, take}
 use Rattle.std.specs.Prelude.{not}
-use Rattle.theta_laws.specs.Cuts.{none_below}
-use Rattle.theta_laws.specs.Folds.{unmarked}
-use Rattle.theta_laws.specs.Leaf.{leaf_from, is_updated}
-use Rattle.theta_table.specs.HashTable.{empty_table}
+use Rattle.core_laws.specs.Cuts.{none_below}
+use Rattle.core_laws.specs.Folds.{unmarked}
+use Rattle.core_laws.specs.Leaf.{leaf_from, is_updated}
+use Rattle.core_table.specs.HashTable.{empty_table}
 use Rattle.plan_values.specs.Family.{folds_of}
 use Rattle.plan_evaluation.proofs.evaluate.updated.Given as goal
 

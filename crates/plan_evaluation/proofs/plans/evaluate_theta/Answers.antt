@@ -1,6 +1,6 @@
 use Rattle.std.proofs.lemmas.Result.{on_ok_weaker}
 use Rattle.sketch_base.specs.Seed.{seed_hash}
-use Rattle.theta_laws.specs.Folds.{never}
+use Rattle.core_laws.specs.Folds.{never}
 use Rattle.plan_values.specs.Family.{hashes, folds_of}
 use Rattle.plan_values.proofs.KnownFamilies.{hashes_keep}
 use Rattle.plan_values.proofs.TrimmedLeaf.{lawful_leaf}

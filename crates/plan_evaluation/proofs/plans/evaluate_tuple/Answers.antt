@@ -1,8 +1,8 @@
 use Rattle.std.proofs.Common.{◌^◌}
 use Rattle.std.proofs.lemmas.Result.{on_ok_weaker}
 use Rattle.sketch_base.specs.Seed.{seed_hash}
-use Rattle.theta_laws.specs.Leaf.{added, whole}
-use Rattle.theta_table.specs.Entry.{tuple_key}
+use Rattle.core_laws.specs.Leaf.{added, whole}
+use Rattle.core_slots.specs.Entry.{tuple_key}
 use Rattle.plan_values.specs.Family.{tuple_folds}
 use Rattle.plan_values.specs.Value.{value_in}
 use Rattle.plan_values.specs.WholeStreams.{whole_in, whole_hashes}

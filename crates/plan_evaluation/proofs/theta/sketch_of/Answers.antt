@@ -1,6 +1,6 @@
 use Rattle.std.proofs.Common.{◌∙◌}
-use Rattle.theta_laws.specs.Entries.{hash_key}
-use Rattle.theta_compact.specs.CompactState.{IsCompact}
+use Rattle.core_laws.specs.Entries.{hash_key}
+use Rattle.core_compact.specs.CompactState.{IsCompact}
 use Rattle.theta_sketches.specs.Image.{Reads, written}
 use Rattle.plan_evaluation.proofs.families.WrittenAndRead.{same_read, memory_alone}
 use Rattle.plan_evaluation.proofs.theta.sketch_of.Goals as goal

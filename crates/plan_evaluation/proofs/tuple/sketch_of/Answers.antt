@@ -1,6 +1,6 @@
 use Rattle.std.proofs.Common.{◌∙◌}
-use Rattle.theta_compact.specs.CompactState.{IsCompact}
-use Rattle.theta_table.specs.Entry.{tuple_key}
+use Rattle.core_compact.specs.CompactState.{IsCompact}
+use Rattle.core_slots.specs.Entry.{tuple_key}
 use Rattle.tuple_sketches.specs.Image.{Reads, HasValues, written}
 use Rattle.plan_evaluation.proofs.families.WrittenAndRead.{same_read, memory_alone}
 use Rattle.plan_evaluation.proofs.tuple.sketch_of.Goals as goal

@@ -1,7 +1,7 @@
 use Rattle.std.proofs.Common.{◌≡◌, ◌++◌, length}
 use Rattle.std.specs.Prelude.{string_bytes}
 use Rattle.std.specs.List.{flat_map}
-use Rattle.theta_family.specs.View.{shows, lends}
+use Rattle.core_state.specs.View.{shows, lends}
 use Rattle.sketchtool.specs.Answer.{shown_text}
 use Rattle.sketchtool.proofs.answer.show_text.Given as goal
 

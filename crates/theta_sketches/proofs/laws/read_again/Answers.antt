@@ -2,10 +2,10 @@ use Rattle.std.proofs.Common.{ℕ, List, [], ◌∷◌}
 use Rattle.std.specs.Bool.{⊤}
 use Rattle.std.specs.Int.{w64, to_le_bytes}
 use Rattle.std.specs.List.{AllByRecursion}
-use Rattle.theta_laws.specs.Entries.{hash_key}
-use Rattle.theta_images.specs.Entry.{SpellsHash}
-use Rattle.theta_images.specs.HashSpelling.{hash_written}
-use Rattle.theta_images.proofs.ReadAgain.{written_again}
+use Rattle.core_laws.specs.Entries.{hash_key}
+use Rattle.core_images.specs.Entry.{SpellsHash}
+use Rattle.core_images.specs.HashSpelling.{hash_written}
+use Rattle.core_images.proofs.ReadAgain.{written_again}
 use Rattle.theta_sketches.specs.Image.{version_3}
 use Rattle.theta_sketches.proofs.laws.read_again.Goals as goal
 

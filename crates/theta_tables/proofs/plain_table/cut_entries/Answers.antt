@@ -1,5 +1,5 @@
 use Rattle.std.proofs.Common.{refl, arith}
-use Rattle.theta_laws.proofs.cuts.Cuts.{cut_few, cut_more, below_all, rank_all}
+use Rattle.core_laws.proofs.cuts.Cuts.{cut_few, cut_more, below_all, rank_all}
 use Rattle.theta_tables.proofs.plain_table.cut_entries.Goals as goal
 
 pub returns : goal.returns

@@ -1,6 +1,6 @@
 use Rattle.std.proofs.Common.{rules}
 use Rattle.std.proofs.lemmas.List.Sorted.{answers_always}
-use Rattle.theta_laws.proofs.maps.BinarySearch.{searched}
+use Rattle.core_laws.proofs.maps.BinarySearch.{searched}
 use Rattle.theta_tables.proofs.plain_table.place_of.Goals as goal
 
 pub returns : goal.returns

@@ -1,7 +1,7 @@
 use Rattle.std.proofs.Common.{◌≡◌, sym, ◌∙◌, refl, arith}
 use Rattle.std.specs.List.{insert}
-use Rattle.theta_laws.proofs.maps.Insertions.{with_entry_gap}
-use Rattle.theta_laws.proofs.insertions.Cases.{IsRetained-with_entry, rebuilt_full, rebuilt_small, rebuilt_free}
+use Rattle.core_laws.proofs.maps.Insertions.{with_entry_gap}
+use Rattle.core_laws.proofs.insertions.Cases.{IsRetained-with_entry, rebuilt_full, rebuilt_small, rebuilt_free}
 use Rattle.theta_tables.proofs.plain_table.put_entry.Goals as goal
 use Rattle.theta_tables.proofs.plain_table.put_entry.Goals.{else-nominal-ge8-via-then-nominal-ge8+else-len-nominal, else-nominal-ge8-via-else-nominal-ge8}
 

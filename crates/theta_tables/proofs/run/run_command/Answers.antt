@@ -1,7 +1,7 @@
 use Rattle.std.proofs.Common.{refl, inl, inr}
 use Rattle.std.proofs.lemmas.Result.{err_from_is_err_and}
-use Rattle.theta_laws.specs.Entries.{hash_key, hash_step}
-use Rattle.theta_laws.proofs.insertions.Cases.{never_refused}
+use Rattle.core_laws.specs.Entries.{hash_key, hash_step}
+use Rattle.core_laws.proofs.insertions.Cases.{never_refused}
 use Rattle.theta_tables.proofs.run.run_command.Goals as goal
 
 pub returns-in_err-created-in-Insert-clause-refused : goal.returns-in_err-created-in-Insert-clause-refused

@@ -1,6 +1,6 @@
 use Rattle.std.proofs.Common.{◌≡◌, ◌+◌, ◌-◌, ◌^◌, min, length, take}
 use Rattle.std.specs.List.{flat_map}
-use Rattle.theta_images.specs.Summary.{tuple_text}
+use Rattle.core_images.specs.Summary.{tuple_text}
 use Rattle.tuple_sketches.proofs.image.greatest_size.Given as goal
 
 -- the size of what the entries so far take

@@ -1,7 +1,7 @@
-use Rattle.theta_table.specs.Entry.{tuple_key}
-use Rattle.theta_images.specs.Summary.{SpellsTuple}
-use Rattle.theta_images.specs.SummarySpelling.{one_tuple}
-use Rattle.theta_images.proofs.Layouts.{comes_one}
+use Rattle.core_slots.specs.Entry.{tuple_key}
+use Rattle.core_images.specs.Summary.{SpellsTuple}
+use Rattle.core_images.specs.SummarySpelling.{one_tuple}
+use Rattle.core_images.proofs.Layouts.{comes_one}
 use Rattle.tuple_sketches.specs.ImageLayout.{tuple_layout}
 use Rattle.tuple_sketches.proofs.Layouts.{tuple_from}
 use Rattle.tuple_sketches.proofs.laws.one_reading.Goals as goal

@@ -1,8 +1,8 @@
 use Rattle.std.proofs.Common.{inl, refl}
-use Rattle.theta_table.specs.Entry.{tuple_key}
-use Rattle.theta_images.specs.Summary.{SpellsTuple, is_tuple_value, tuple_text}
-use Rattle.theta_images.specs.SummarySpelling.{tuple_written}
-use Rattle.theta_images.proofs.ReadAgain.{written_again}
+use Rattle.core_slots.specs.Entry.{tuple_key}
+use Rattle.core_images.specs.Summary.{SpellsTuple, is_tuple_value, tuple_text}
+use Rattle.core_images.specs.SummarySpelling.{tuple_written}
+use Rattle.core_images.proofs.ReadAgain.{written_again}
 use Rattle.tuple_sketches.proofs.laws.read_again.Goals as goal
 
 pub returns : goal.returns

@@ -1,6 +1,6 @@
-use Rattle.theta_laws.proofs.operators.Marks.{step_marks}
-use Rattle.theta_policies.specs.Summaries.{update_step}
-use Rattle.theta_table.specs.Entry.{tuple_key}
+use Rattle.core_laws.proofs.operators.Marks.{step_marks}
+use Rattle.core_policies.specs.Summaries.{update_step}
+use Rattle.core_slots.specs.Entry.{tuple_key}
 use Rattle.tuple_sketches.proofs.laws.refused_update_marks.Goals as goal
 
 pub returns : goal.returns

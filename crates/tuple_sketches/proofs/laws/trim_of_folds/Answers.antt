@@ -1,7 +1,7 @@
 use Rattle.std.proofs.Common.{refl, sym}
-use Rattle.theta_laws.specs.Folds.{Value, fold_key}
-use Rattle.theta_laws.proofs.maps.MappedEntries.{cut-map}
-use Rattle.theta_table.specs.Entry.{tuple_key}
+use Rattle.core_laws.specs.Folds.{Value, fold_key}
+use Rattle.core_laws.proofs.maps.MappedEntries.{cut-map}
+use Rattle.core_slots.specs.Entry.{tuple_key}
 use Rattle.tuple_sketches.proofs.laws.trim_of_folds.Goals as goal
 
 pub returns : goal.returns

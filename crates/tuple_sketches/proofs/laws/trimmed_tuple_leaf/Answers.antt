@@ -1,9 +1,9 @@
-use Rattle.theta_laws.specs.Folds.{fold_key, folded_of}
-use Rattle.theta_laws.proofs.insertions.FoldedSteps.{folded-keeps}
-use Rattle.theta_laws.proofs.insertions.Leaves.{trimmed}
-use Rattle.theta_policies.specs.Summaries.{update_step}
-use Rattle.theta_table.specs.Entry.{tuple_key}
-use Rattle.theta_policies.proofs.FoldedValues.{updates-keep}
+use Rattle.core_laws.specs.Folds.{fold_key, folded_of}
+use Rattle.core_laws.proofs.insertions.FoldedSteps.{folded-keeps}
+use Rattle.core_laws.proofs.insertions.Leaves.{trimmed}
+use Rattle.core_policies.specs.Summaries.{update_step}
+use Rattle.core_slots.specs.Entry.{tuple_key}
+use Rattle.core_policies.proofs.FoldedValues.{updates-keep}
 use Rattle.tuple_sketches.proofs.laws.trimmed_tuple_leaf.Goals as goal
 
 pub returns : goal.returns

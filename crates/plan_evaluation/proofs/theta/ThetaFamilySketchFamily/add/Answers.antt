@@ -1,6 +1,6 @@
 use Rattle.std.proofs.Common.{refl}
-use Rattle.theta_laws.specs.Entries.{hash_key, hash_step}
-use Rattle.theta_laws.proofs.insertions.Cases.{never_refused}
+use Rattle.core_laws.specs.Entries.{hash_key, hash_step}
+use Rattle.core_laws.proofs.insertions.Cases.{never_refused}
 use Rattle.plan_evaluation.proofs.theta.ThetaFamilySketchFamily.add.Goals as goal
 
 pub returns-clause-accepted : goal.returns-clause-accepted

@@ -1,5 +1,5 @@
-use Rattle.theta_laws.specs.Entries.{hash_key}
-use Rattle.theta_laws.specs.Folds.{never}
+use Rattle.core_laws.specs.Entries.{hash_key}
+use Rattle.core_laws.specs.Folds.{never}
 use Rattle.theta_sketches.specs.View.{view_shows, view_lends}
 use Rattle.plan_values.specs.Family.{hashes}
 use Rattle.plan_evaluation.proofs.families.Joining.{joins_plain}

@@ -1,7 +1,7 @@
 use Rattle.std.proofs.Common.{refl, ap}
 use Rattle.std.specs.Prelude.{◌||◌}
-use Rattle.theta_laws.specs.Entries.{hash_key}
-use Rattle.theta_laws.specs.Shown.{shown_value}
+use Rattle.core_laws.specs.Entries.{hash_key}
+use Rattle.core_laws.specs.Shown.{shown_value}
 use Rattle.theta_sketches.specs.View.{view_shows, view_lends}
 use Rattle.plan_evaluation.proofs.families.Lacking.{fold_answer}
 use Rattle.plan_evaluation.proofs.theta.ThetaFamilySketchFamily.lacking.Goals as goal

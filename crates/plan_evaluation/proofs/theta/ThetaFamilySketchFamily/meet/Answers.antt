@@ -1,5 +1,5 @@
-use Rattle.theta_laws.specs.Entries.{hash_key, first_hash}
-use Rattle.theta_laws.specs.Shown.{shown_value}
+use Rattle.core_laws.specs.Entries.{hash_key, first_hash}
+use Rattle.core_laws.specs.Shown.{shown_value}
 use Rattle.theta_sketches.specs.View.{view_shows, view_lends}
 use Rattle.plan_evaluation.proofs.families.Folds.{meets}
 use Rattle.plan_evaluation.proofs.theta.ThetaFamilySketchFamily.meet.Goals as goal

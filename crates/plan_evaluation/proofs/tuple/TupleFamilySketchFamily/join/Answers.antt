@@ -1,9 +1,9 @@
 use Rattle.std.proofs.Common.{◌≡◌, false, sym, subst, ◌∙◌}
 use Rattle.std.specs.Prelude.{MatchOption}
-use Rattle.theta_family.specs.View.{shows, lends}
-use Rattle.theta_operators.specs.Union.{IsBroken, IsJoined, update_refusal}
-use Rattle.theta_policies.specs.Summaries.{combined, combine_refused, combined-keeps}
-use Rattle.theta_table.specs.Entry.{tuple_key}
+use Rattle.core_state.specs.View.{shows, lends}
+use Rattle.core_operators.specs.Union.{IsBroken, IsJoined, update_refusal}
+use Rattle.core_policies.specs.Summaries.{combined, combine_refused, combined-keeps}
+use Rattle.core_slots.specs.Entry.{tuple_key}
 use Rattle.plan_values.specs.Family.{tuples}
 use Rattle.plan_evaluation.proofs.evaluation.Results.{on_both, if_refused}
 use Rattle.plan_evaluation.proofs.families.Held.{holds_more}

@@ -1,10 +1,10 @@
 use Rattle.std.proofs.Common.{ap, ◌∙◌}
 use Rattle.std.specs.Prelude.{◌||◌}
-use Rattle.theta_family.specs.View.{shows, lends}
-use Rattle.theta_laws.specs.Entries.{hash_key}
-use Rattle.theta_laws.specs.Operators.{minus}
-use Rattle.theta_laws.specs.Shown.{shown_value}
-use Rattle.theta_table.specs.Entry.{tuple_key}
+use Rattle.core_state.specs.View.{shows, lends}
+use Rattle.core_laws.specs.Entries.{hash_key}
+use Rattle.core_laws.specs.Operators.{minus}
+use Rattle.core_laws.specs.Shown.{shown_value}
+use Rattle.core_slots.specs.Entry.{tuple_key}
 use Rattle.plan_evaluation.proofs.families.Lacking.{fold_answer, minus_of_keys}
 use Rattle.plan_evaluation.proofs.families.Shown.{hashes_lent}
 use Rattle.plan_evaluation.proofs.tuple.TupleFamilySketchFamily.lacking.Goals as goal

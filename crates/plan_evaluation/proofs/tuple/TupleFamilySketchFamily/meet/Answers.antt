@@ -1,11 +1,11 @@
 use Rattle.std.proofs.Common.{◌≡◌, Some, sym, subst, ◌∙◌}
 use Rattle.std.proofs.lemmas.Result.{err_from_is_err_and}
 use Rattle.std.specs.Option.{option_map}
-use Rattle.theta_family.specs.View.{shows, lends}
-use Rattle.theta_laws.specs.Folds.{fold_key, fold_merges, unmarked_value}
-use Rattle.theta_laws.specs.Operators.{meet_next}
-use Rattle.theta_policies.specs.Summaries.{combined, combine_refused, combined-keeps}
-use Rattle.theta_table.specs.Entry.{tuple_key}
+use Rattle.core_state.specs.View.{shows, lends}
+use Rattle.core_laws.specs.Folds.{fold_key, fold_merges, unmarked_value}
+use Rattle.core_laws.specs.Operators.{meet_next}
+use Rattle.core_policies.specs.Summaries.{combined, combine_refused, combined-keeps}
+use Rattle.core_slots.specs.Entry.{tuple_key}
 use Rattle.plan_values.specs.Family.{tuples}
 use Rattle.plan_evaluation.proofs.families.Refusals.{refused_meet}
 use Rattle.plan_evaluation.proofs.tuple.TupleFamilySketchFamily.meet.Goals as goal

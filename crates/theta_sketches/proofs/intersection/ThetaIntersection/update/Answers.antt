@@ -1,5 +1,5 @@
 use Rattle.std.proofs.Common.{false}
-use Rattle.theta_laws.proofs.operators.FoldsOfHashes.{met-hashes}
+use Rattle.core_laws.proofs.operators.FoldsOfHashes.{met-hashes}
 use Rattle.theta_sketches.proofs.intersection.ThetaIntersection.update.Goals as goal
 
 pub returns-clause-met : goal.returns-clause-met

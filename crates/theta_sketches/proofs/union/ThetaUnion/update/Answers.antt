@@ -1,5 +1,5 @@
 use Rattle.std.proofs.Common.{false}
-use Rattle.theta_laws.proofs.operators.FoldsOfHashes.{united-hashes}
+use Rattle.core_laws.proofs.operators.FoldsOfHashes.{united-hashes}
 use Rattle.theta_sketches.proofs.union.ThetaUnion.update.Goals as goal
 
 pub returns-clause-united : goal.returns-clause-united

@@ -1,5 +1,5 @@
 use Rattle.std.proofs.Common.{arith}
-use Rattle.theta_laws.proofs.maps.Ascending.{ascending-nil}
+use Rattle.core_laws.proofs.maps.Ascending.{ascending-nil}
 use Rattle.theta_tables.proofs.plain_table.PlainTable.new.Goals as goal
 
 pub invariant_of-result : goal.invariant_of-result

@@ -1,5 +1,5 @@
 use Rattle.std.proofs.Common.{sym, ap, ◌∙◌, Some}
-use Rattle.theta_laws.proofs.maps.Insertions.{entry_at_gap, entry_at_place}
+use Rattle.core_laws.proofs.maps.Insertions.{entry_at_gap, entry_at_place}
 use Rattle.theta_tables.proofs.plain_table.PlainTableThetaTable.entry.Goals as goal
 
 pub returns-in-Err : goal.returns-in-Err

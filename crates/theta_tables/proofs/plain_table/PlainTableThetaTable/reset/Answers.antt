@@ -1,5 +1,5 @@
 use Rattle.std.proofs.Common.{arith}
-use Rattle.theta_laws.proofs.maps.Ascending.{ascending-nil}
+use Rattle.core_laws.proofs.maps.Ascending.{ascending-nil}
 use Rattle.theta_tables.proofs.plain_table.PlainTableThetaTable.reset.Goals as goal
 
 pub invariant_of-self : goal.invariant_of-self

@@ -1,6 +1,6 @@
 use Rattle.std.proofs.Common.{◌≡◌, ℕ, ap, length, arith}
-use Rattle.theta_laws.specs.Cuts.{cut}
-use Rattle.theta_laws.proofs.insertions.Cases.{IsRetained-cut, few-cut}
+use Rattle.core_laws.specs.Cuts.{cut}
+use Rattle.core_laws.proofs.insertions.Cases.{IsRetained-cut, few-cut}
 use Rattle.theta_tables.proofs.plain_table.PlainTableThetaTable.trim.Goals as goal
 
 pub invariant_of-self : goal.invariant_of-self

@@ -1,13 +1,13 @@
 use Rattle.std.proofs.Common.{◌≡◌, ℕ, ◌^◌, true, Some, length, sym, ap, ◌∙◌, refl, inl, inr, arith}
 use Rattle.std.specs.Prelude.{is_some}
 use Rattle.std.proofs.lemmas.Result.{err_from_is_err_and}
-use Rattle.theta_laws.specs.Maps.{with_entry}
-use Rattle.theta_laws.specs.Cuts.{IsRetained}
-use Rattle.theta_laws.specs.Insertion.{is_screened, rebuilt}
-use Rattle.theta_laws.proofs.maps.Insertions.{entry_at_place, entry_at_gap, with_entry_at}
+use Rattle.core_laws.specs.Maps.{with_entry}
+use Rattle.core_laws.specs.Cuts.{IsRetained}
+use Rattle.core_laws.specs.Insertion.{is_screened, rebuilt}
+use Rattle.core_laws.proofs.maps.Insertions.{entry_at_place, entry_at_gap, with_entry_at}
 use Rattle.std.proofs.Math.ListN.{length-set}
-use Rattle.theta_laws.proofs.maps.Ascending.{ascending-with_entry}
-use Rattle.theta_laws.proofs.insertions.Cases.{or_left, or_right, few-rebuilt, IsRetained-with_entry, IsRetained-rebuilt, screened_case, existing_case, absent_case, is_screened_true, is_screened_false}
+use Rattle.core_laws.proofs.maps.Ascending.{ascending-with_entry}
+use Rattle.core_laws.proofs.insertions.Cases.{or_left, or_right, few-rebuilt, IsRetained-with_entry, IsRetained-rebuilt, screened_case, existing_case, absent_case, is_screened_true, is_screened_false}
 use Rattle.theta_tables.proofs.plain_table.PlainTableThetaTable.upsert_entry.Goals as goal
 use Rattle.theta_tables.proofs.plain_table.PlainTableThetaTable.upsert_entry.Goals.{then-hash-eq0-via-then-hash-eq0, then-hash-eq0-via-else-hash-eq0+then-hash-self}
 

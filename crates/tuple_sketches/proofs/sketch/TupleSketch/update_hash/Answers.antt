@@ -1,4 +1,4 @@
-use Rattle.theta_laws.specs.Insertion.{after_upsert, upsert_refusal}
+use Rattle.core_laws.specs.Insertion.{after_upsert, upsert_refusal}
 use Rattle.tuple_sketches.proofs.sketch.TupleSketch.update_hash.Goals as goal
 
 -- neither what is retained nor what the policy refuses depends on whether the step may take memory

@@ -1,0 +1,23 @@
+-- What an answer tells of the value that it has.
+use Rattle.std.proofs.Common.{◌≡◌, ℕ, Bool, true, cond, ap, ◌∙◌}
+use Rattle.core_laws.specs.Maps.{map_of}
+use Rattle.core_compact.specs.CompactState.{Compact, IsAnswer, compact_value}
+use Rattle.core_laws.specs.Values.{Sketch, Empty, NonEmpty}
+
+module _ {X : Type 0} (key : X → ℕ) where
+  -- the value of an answer is the one that it answers, and its seed hash is the one that was given
+  pub answer-value : (v : Sketch X) (seed_hash : ℕ) (asked : Bool) (s : Compact X) → IsAnswer key v seed_hash asked s → compact_value key s ≡ v
+  answer-value Empty seed_hash asked s is = ap (compact_value key) is
+  answer-value (NonEmpty v) seed_hash asked s is =
+      ap (λ b. cond b Empty (NonEmpty (record { entries = map_of key s.entries; theta = s.theta }))) is.nonempty
+      ∙ ap (λ xs. NonEmpty (record { entries = xs; theta = s.theta })) is.lists_all.same_map
+      ∙ ap (λ (t : ℕ). NonEmpty (record { entries = v.entries; theta = t })) is.same_theta
+
+  pub answer-seed : (v : Sketch X) (seed_hash : ℕ) (asked : Bool) (s : Compact X) → IsAnswer key v seed_hash asked s → s.seed_hash ≡ seed_hash
+  answer-seed Empty seed_hash asked s is = ap (λ c. c.seed_hash) is
+  answer-seed (NonEmpty v) seed_hash asked s is = is.same_seed
+
+  -- an answer that was asked to be ordered is ordered
+  pub answer-ordered : (v : Sketch X) (seed_hash : ℕ) (s : Compact X) → IsAnswer key v seed_hash true s → s.ordered ≡ true
+  answer-ordered Empty seed_hash s is = ap (λ c. c.ordered) is
+  answer-ordered (NonEmpty v) seed_hash s is = is.ordered_if

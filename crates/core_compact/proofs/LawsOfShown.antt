@@ -1,0 +1,54 @@
+-- What is shown of what is retained keeps the laws of what is shown.
+use Rattle.std.proofs.Common.{◌≡◌, ℕ, ◌<◌, ◌≤◌, ◌^◌, Bool, true, false, List, [], length, map, refl, arith}
+use Rattle.std.proofs.lemmas.List.{length-map}
+use Rattle.core_laws.specs.Maps.{IsAscending, IsLent}
+use Rattle.core_laws.specs.Cuts.{Retained, IsRetained}
+use Rattle.core_laws.specs.Shown.{IsShown}
+use Rattle.core_laws.proofs.maps.Ascending.{ascending_at, ascending-nil}
+use Rattle.core_laws.proofs.maps.MapsOfLists.{each-map, ascending-map, distinct-apart, each-lent, each-hash}
+use Rattle.std.proofs.lemmas.List.Sorted.{length_permutation}
+
+module _ {X : Type 0} (key : X → ℕ) where
+  pub IsShown-retained : (v : Retained X) (seed_hash : ℕ) (ordered : Bool) → IsRetained key v → length v.entries < 2 ^ 32 → IsShown (record { empty = false; theta = v.theta; seed_hash = seed_hash; ordered = ordered; hashes = map key v.entries })
+  IsShown-retained v seed_hash ordered good few =
+      let up : IsAscending (λ h. h) (map key v.entries) = ascending-map key v.entries good.ascending in
+      record {
+        theta_low = good.theta_low;
+        theta_high = good.theta_high;
+        distinct = λ i j d lt in_range same. omega (arith, ascending_at (λ h. h) (map key v.entries) i j d up lt in_range, same);
+        nonzero = each-map key (λ h. 0 < h) v.entries good.nonzero;
+        below_theta = each-map key (λ h. h < v.theta) v.entries good.below_theta;
+        few = rw (length-map v.entries key) few;
+        ascending = λ _. up;
+        none = λ e. absurd (cc);
+        greatest = λ e. absurd (cc);
+      }
+
+-- nothing shown, below a theta that is the greatest where it is of an empty sketch
+pub IsShown-none : (theta seed_hash : ℕ) → (empty ordered : Bool) → 0 < theta → theta ≤ 9223372036854775807 → (empty ≡ true → theta ≡ 9223372036854775807) → IsShown (record { empty = empty; theta = theta; seed_hash = seed_hash; ordered = ordered; hashes = [] })
+IsShown-none theta seed_hash empty ordered low high greatest = record {
+  theta_low = low;
+  theta_high = high;
+  distinct = λ i j d lt in_range. absurd (omega arith);
+  nonzero = tt;
+  below_theta = tt;
+  few = omega arith;
+  ascending = λ _. ascending-nil (λ h. h);
+  none = λ _. refl;
+  greatest = greatest;
+}
+
+module _ {X : Type 0} (key : X → ℕ) where
+  -- what a sketch shows that lends what is retained, in whatever order
+  pub shown-lent : (v : Retained X) (lends : List X) (seed_hash : ℕ) → IsRetained key v → IsLent key v.entries lends → length v.entries < 2 ^ 32 → IsShown (record { empty = false; theta = v.theta; seed_hash = seed_hash; ordered = false; hashes = map key lends })
+  shown-lent v lends seed_hash good lent few = record {
+    theta_low = good.theta_low;
+    theta_high = good.theta_high;
+    distinct = distinct-apart key lends lent.apart;
+    nonzero = each-hash key (λ h. 0 < h) lends (each-lent key (λ x. 0 < key x) v.entries lends lent good.nonzero);
+    below_theta = each-hash key (λ h. h < v.theta) lends (each-lent key (λ x. key x < v.theta) v.entries lends lent good.below_theta);
+    few = rw (length-map lends key, length_permutation v.entries lends lent.each_once) few;
+    ascending = λ e. absurd (cc);
+    none = λ e. absurd (cc);
+    greatest = λ e. absurd (cc);
+  }

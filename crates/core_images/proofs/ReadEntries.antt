@@ -1,0 +1,66 @@
+-- What a reader has found, and what it has not.
+use Rattle.std.proofs.Common.{◌≡◌, ℕ, ◌+◌, ◌*◌, ◌/◌, ◌<◌, ◌≤◌, ◌^◌, List, [], ◌∷◌, ◌++◌, length, drop, map, Some, Result, Ok, Err, refl, sym, ap, ◌∙◌, subst, inl, inr, arith, append_assoc, length-append}
+use Rattle.sketch_base.specs.declared.error.ErrorKind.{ErrorKind}
+use Rattle.core_compact.specs.CompactState.{Compact, shown_of}
+use Rattle.core_images.specs.Read.{IsRefused, Finds, LeavesOpen}
+use Rattle.core_images.specs.Entry.{SpellsEach, Holds, state_behind}
+use Rattle.core_images.specs.Preamble.{IsWholeLayout}
+use Rattle.core_images.specs.Check.{AreHashes}
+use Rattle.core_laws.specs.Shown.{IsShown}
+use Rattle.core_images.specs.declared.preamble.Layout.TheVariants.{Filled}
+use Rattle.core_images.specs.declared.preamble.Preamble.{Preamble}
+use Rattle.core_images.proofs.SpelledEntries.{each_more, next_one, holds_one}
+use Rattle.core_images.proofs.AscendingTests.{hashes_from, lawful_from}
+
+pub refused_weaker : {P Q : Type 0} (e : ErrorKind) → (Q → P) → IsRefused e P → IsRefused e Q
+refused_weaker e f r = elim r [ inl memory ↦ inl memory | inr none ↦ inr (none.0, λ q. none.1 (f q)) ]
+
+pub finds_along : {X : Type 0} (P Q : X → Type 0) (r : Result X ErrorKind) → ((x : X) → P x → Q x) → ((x : X) → Q x → P x) → Finds P r → Finds Q r
+finds_along P Q (Ok x) f g found = f x found
+finds_along P Q (Err e) f g found = refused_weaker e (λ q. (q.0, g q.0 q.1)) found
+
+module _ {X : Type 0} (Spells : List ℕ → X → Type 0) (has_hash : (a : List ℕ) (x : X) → Spells a x → 8 ≤ length a) where
+  each_long : (xs : List X) (text : List ℕ) → SpellsEach Spells text xs → 8 * length xs ≤ length text
+  each_long [] text s = omega arith
+  each_long (x ∷ xs) text s =
+      let joined = ap length s.2 ∙ length-append s.0 s.1 in
+      let first = has_hash s.0 x s.3 in
+      let others = each_long xs s.1 s.4 in
+      omega arith
+
+  -- bytes with room for fewer than `count` entries hold no `count` entries
+  pub too_many : (bytes : List ℕ) (count : ℕ) → length bytes / 8 < count → (xs : List X) × Holds Spells bytes count xs → ⊥
+  too_many bytes count few found =
+      let long = each_long found.0 found.1.text found.1.spelled in
+      let joined = ap length found.1.there ∙ length-append found.1.text found.1.after in
+      let counted = found.1.counted in
+      omega arith
+
+module _ {X : Type 0} (Spells : List ℕ → X → Type 0) (one : (a b u v : List ℕ) (x y : X) → Spells a x → Spells b y → a ++ u ≡ b ++ v → (a ≡ b) × (x ≡ y)) where
+  -- where no entry follows those that were read, there are no more
+  pub next_of : (bytes text rest : List ℕ) (count : ℕ) (xs : List X) → bytes ≡ text ++ rest → SpellsEach Spells text xs → length xs < count
+      → (ys : List X) × Holds Spells bytes count ys → (x : X) × (after : List ℕ) × ((first : List ℕ) × Spells first x × (rest ≡ first ++ after))
+  next_of bytes text rest count xs e s less found =
+      let counted = found.1.counted in
+      let more : length xs < length found.0 = omega arith in
+      let next = next_one Spells one xs found.0 text found.1.text rest found.1.after s found.1.spelled (sym e ∙ found.1.there) more in
+      (next.2, next.1, (next.0, next.3, next.4))
+
+  -- one more entry has been read
+  pub step : (bytes text rest first left : List ℕ) (xs : List X) (x : X) (n : ℕ) → bytes ≡ text ++ rest → SpellsEach Spells text xs → length xs ≡ n → Spells first x → rest ≡ first ++ left
+      → (t : List ℕ) × (bytes ≡ t ++ left) × SpellsEach Spells t (xs ++ x ∷ []) × (length (xs ++ x ∷ []) ≡ n + 1)
+  step bytes text rest first left xs x n e s count f r =
+      (text ++ first, e ∙ ap (λ l. text ++ l) r ∙ sym (append_assoc text first left), each_more Spells one xs x text first s f, length-append xs (x ∷ []) ∙ ap (λ k. k + 1) count)
+
+  module _ (key : X → ℕ) (bytes : List ℕ) (h : ℕ) (p : Preamble) where
+    pub held_of : (s : Compact X) × LeavesOpen key Spells bytes h (Some (Filled p)) s → (xs : List X) × Holds Spells (drop p.start bytes) p.count xs
+    held_of found = (found.1.0, found.1.2.held)
+
+    pub good_of : (xs : List X) → Holds Spells (drop p.start bytes) p.count xs → (s : Compact X) × LeavesOpen key Spells bytes h (Some (Filled p)) s → AreHashes p.theta p.ordered (map key xs)
+    good_of xs held found =
+        let same = holds_one Spells one (drop p.start bytes) p.count found.1.0 xs found.1.2.held held in
+        let P : List X → Type 0 = λ ys. IsShown (shown_of key (state_behind p h ys)) in
+        hashes_from key p h xs (subst P same found.1.2.lawful)
+
+    pub listing_found : (xs : List X) → IsWholeLayout bytes (Some (Filled p)) → length xs < 2 ^ 32 → Holds Spells (drop p.start bytes) p.count xs → AreHashes p.theta p.ordered (map key xs) → LeavesOpen key Spells bytes h (Some (Filled p)) (state_behind p h xs)
+    listing_found xs whole few held good = (xs, refl, record { whole = whole.0; held = held; lawful = lawful_from key p h xs whole.1 whole.2 few good })

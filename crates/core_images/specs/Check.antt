@@ -1,0 +1,26 @@
+-- The rules for the hashes in an image, and the tests that decide them.
+use Rattle.std.specs.Prelude.{ℕ, ◌<◌, ◌≡◌, ◌≢◌, ◌&&◌, nat_lt, Bool, true, List, [], ◌∷◌, AllPairs}
+use Rattle.std.specs.List.{AllByRecursion}
+use Rattle.core_laws.specs.Maps.{IsAscending}
+
+-- the hashes are from 1 to below theta, distinct, and ascend where they are said to
+pub record AreHashes (theta : ℕ) (ordered : Bool) (hashes : List ℕ) : Type 0 where
+  pub distinct : AllPairs (λ x y. x ≢ y) hashes
+  pub nonzero : AllByRecursion (λ h. 0 < h) hashes
+  pub below_theta : AllByRecursion (λ h. h < theta) hashes
+  pub ascending : ordered ≡ true → IsAscending (λ h. h) hashes
+
+-- whether each hash is above the one before it, the first above this one
+abbrev pub ascends_from : ℕ → List ℕ → Bool
+ascends_from last [] = true
+ascends_from last (h ∷ hs) = nat_lt last h && ascends_from h hs
+
+-- whether each hash is above the one before it
+abbrev pub is_ascending : List ℕ → Bool
+is_ascending [] = true
+is_ascending (h ∷ hs) = ascends_from h hs
+
+-- whether each hash is from 1 to below theta
+abbrev pub is_within : ℕ → List ℕ → Bool
+is_within theta [] = true
+is_within theta (h ∷ hs) = (nat_lt 0 h && nat_lt h theta) && is_within theta hs

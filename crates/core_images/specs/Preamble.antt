@@ -1,0 +1,64 @@
+-- What stands before the entries of an image, at its places and as it is read.
+use Rattle.std.specs.Prelude.{ℕ, ◌==◌, Bool, not, List, take, drop, slice_index, bit_and, ◌*◌, ◌≡◌, ◌≤◌, length, nat_lt, if◌then◌else◌, ⊤, ◌<◌, ◌&&◌, ◌||◌, nat_le, Option, Some, None}
+use Rattle.sketch_base.specs.Bytes.{number}
+use Rattle.core_laws.specs.declared.TheConstants.{MAX_THETA}
+use Rattle.core_images.specs.declared.preamble.Preamble.{Preamble}
+use Rattle.core_images.specs.declared.preamble.Layout.{Layout}
+use Rattle.core_images.specs.declared.preamble.Layout.TheVariants.{Empty, Filled}
+
+-- the number in the n bytes from place i on, the lowest byte first
+abbrev pub number_at : (n : ℕ) → List ℕ → (i : ℕ) → ℕ
+number_at n bytes i = number (take n (drop i bytes))
+
+-- whether the byte at place i has this bit
+abbrev pub has_bit : List ℕ → (i bit : ℕ) → Bool
+has_bit bytes i bit = not (bit_and (slice_index bytes i) bit == 0)
+
+-- eight bytes are there, and begin with the count of preamble longs, the version and the family
+pub record Begins (bytes : List ℕ) (longs version family : ℕ) : Type 0 where
+  pub whole : 8 ≤ length bytes
+  pub longs_are : slice_index bytes 0 ≡ longs
+  pub longs_low : 1 ≤ longs
+  pub longs_high : longs ≤ 3
+  pub version_is : slice_index bytes 1 ≡ version
+  pub family_is : slice_index bytes 2 ≡ family
+
+-- the flags of an image
+abbrev pub is_empty : List ℕ → Bool
+is_empty bytes = has_bit bytes 5 0x04
+
+abbrev pub is_ordered : List ℕ → Bool
+is_ordered bytes = has_bit bytes 5 0x10
+
+-- the numbers of a preamble
+abbrev pub seed_hash_at : List ℕ → ℕ
+seed_hash_at bytes = number_at 2 bytes 6
+
+abbrev pub count_at : List ℕ → ℕ
+count_at bytes = number_at 4 bytes 8
+
+abbrev pub theta_at : List ℕ → ℕ
+theta_at bytes = number_at 8 bytes 16
+
+-- a preamble of `longs` longs, before `count` entries
+abbrev pub announced : (longs count theta : ℕ) → (ordered : Bool) → Preamble
+announced longs count theta ordered = record { start = 8 * longs; count = count; theta = theta; ordered = ordered }
+
+-- a preamble whose theta is from 1 to MAX_THETA
+unfoldable pub admitted : Preamble → Option Layout
+admitted p = if nat_lt 0 p.theta && nat_le p.theta MAX_THETA then Some (Filled p) else None
+
+-- version 3, behind its first three bytes
+unfoldable pub flagged_layout : List ℕ → (longs h : ℕ) → Option Layout
+flagged_layout bytes longs h =
+    if is_empty bytes then Some Empty
+    else (if not (seed_hash_at bytes == h) || nat_lt (length bytes) (8 * longs) then None
+    else (if longs == 1 then Some (Filled (announced 1 1 MAX_THETA (is_ordered bytes)))
+    else (if longs == 2 then Some (Filled (announced 2 (count_at bytes) MAX_THETA (is_ordered bytes)))
+    else admitted (announced 3 (count_at bytes) (theta_at bytes) (is_ordered bytes)))))
+
+-- a preamble is whole, and its theta is from 1 to MAX_THETA
+abbrev pub IsWholeLayout : List ℕ → Option Layout → Type 0
+IsWholeLayout bytes None = ⊤
+IsWholeLayout bytes (Some Empty) = ⊤
+IsWholeLayout bytes (Some (Filled p)) = (p.start ≤ length bytes) × (0 < p.theta) × (p.theta ≤ MAX_THETA)

@@ -1,0 +1,91 @@
+//! Whether entries that are read keep the rules.
+ghost use Rattle.std.specs.Prelude.{◌≡◌, ◌≢◌, None, true, IfOk, AllPairs, map};
+ghost use Rattle.std.specs.Bool.{Decides};
+ghost use Rattle.core_images.specs.Check.{AreHashes, ascends_from, is_within};
+ghost use Rattle.core_laws.specs.Refusal.{Refuses};
+
+use core_laws::SketchEntry;
+use sketch_base::Error;
+use std::alloc::Allocator;
+
+/// Whether each hash is above the one before it, and the first above 0. It goes through all, so that it can become vector code.
+fn ascends_from_zero<E: SketchEntry>(entries: &[E]) -> bool
+    ensures { result ≡ ascends_from 0 (map E.key entries.now) }
+{
+    let mut last = 0;
+    let mut ascends = true;
+    'compare_each: for entry in entries {
+        let hash = entry.hash();
+        ascends = ascends & (last < hash);
+        last = hash;
+    }
+    ascends
+}
+
+/// Of entries that ascend from 0, whether each hash is below theta: where the last is.
+fn is_last_below<E: SketchEntry>(entries: &[E], theta: u64) -> bool
+    requires { ascends_from 0 (map E.key entries.now) ≡ true }
+    ensures { result ≡ is_within theta (map E.key entries.now) }
+{
+    match entries.last() {
+        None => true,
+        Some(entry) => entry.hash() < theta,
+    }
+}
+
+/// Whether each hash is from 1 to below theta.
+fn is_within<E: SketchEntry>(entries: &[E], theta: u64) -> bool
+    ensures { result ≡ is_within theta (map E.key entries.now) }
+{
+    'test_each: for entry in entries {
+        let hash = entry.hash();
+        if hash == 0 || hash >= theta {
+            return false;
+        }
+    }
+    true
+}
+
+/// The hashes of entries.
+fn hashes_of<E: SketchEntry, A: Allocator>(alloc: A, entries: &[E]) -> Result<Vec<u64, A>, Error>
+    ensures ok { IfOk result (λ v. v.items ≡ map E.key entries.now) }
+    ensures refused { Refuses result None true }
+{
+    let mut hashes = Vec::with_capacity(alloc, entries.len())?;
+    'collect_each: for entry in entries {
+        hashes.push(entry.hash())?;
+    }
+    Ok(hashes)
+}
+
+/// Whether no hash comes twice.
+fn are_distinct<E: SketchEntry, A: Allocator + Drop>(alloc: A, entries: &[E]) -> Result<bool, Error>
+    ensures ok { IfOk result (λ b. Decides b (AllPairs (λ x y. x ≢ y) (map E.key entries.now))) }
+    ensures refused { Refuses result None true }
+{
+    let mut hashes = hashes_of(alloc, entries)?;
+    hashes.sort_unstable();
+    Ok(hashes.is_sorted_by(|hash, next| hash < next))
+}
+
+/// Whether entries keep the rules below a theta, and ascend where they are said to. Only entries that are not in order take memory.
+pub(crate) fn are_entries<E: SketchEntry, A: Allocator + Drop>(
+    alloc: A,
+    entries: &[E],
+    theta: u64,
+    ordered: bool,
+) -> Result<bool, Error>
+    ensures ok { IfOk result (λ b. Decides b (AreHashes theta ordered (map E.key entries.now))) }
+    ensures refused { Refuses result None true }
+{
+    if ascends_from_zero(entries) {
+        return Ok(is_last_below(entries, theta));
+    }
+    if ordered {
+        return Ok(false);
+    }
+    if !is_within(entries, theta) {
+        return Ok(false);
+    }
+    are_distinct(alloc, entries)
+}

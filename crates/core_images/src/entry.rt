@@ -1,0 +1,104 @@
+//! Entries, and how images spell them.
+ghost use Rattle.std.specs.Prelude.{◌≡◌, ℕ, ◌<◌, ◌≤◌, ◌^◌, ◌++◌, List, length, None, true, IfOk, IfErr, OnOk};
+ghost use Rattle.std.specs.List.{AllByRecursion, flat_map};
+ghost use Rattle.core_images.specs.Entry.{Holds};
+ghost use Rattle.core_images.specs.Read.{Answers, IsRefused};
+ghost use Rattle.core_laws.specs.Refusal.{Refuses};
+
+use crate::hashes::{read_hashes, write_hashes};
+use core_laws::SketchEntry;
+use core_slots::ThetaEntry;
+use sketch_base::{Error, SketchBytes, SketchSlice};
+use std::alloc::Allocator;
+
+/// An entry that images spell: by the eight bytes of its hash, the lowest first, and perhaps more. What it keeps elsewhere, it
+/// keeps in memory of `A`.
+pub trait ImageEntry<A: Allocator>: SketchEntry {
+    /// Which bytes spell which entry.
+    ghost spells: { List ℕ → Self → Type 0 };
+    /// Which entries can be written.
+    ghost is_value: { Self → Type 0 };
+    /// The bytes that are written of an entry.
+    ghost text: { Self → List ℕ };
+
+    /// Appends the entry's bytes. It refuses with `OutOfMemory` alone, and the target is not used afterwards.
+    fn write<B: Allocator>(&self, bytes: &mut SketchBytes<B>) -> Result<(), Error>
+        ensures ok { OnOk result (bytes.new.bytes ≡ bytes.old.bytes ++ text self.now) }
+        ensures value { OnOk result (is_value self.now) }
+        ensures refused { Refuses result None true };
+
+    /// Reads the entry that a beginning of the bytes spells, and moves past that beginning. It refuses with `InvalidData`
+    /// exactly where none does, or with `OutOfMemory`; nothing is said of the cursor afterwards.
+    fn read(alloc: &A, slice: &mut SketchSlice<'_>) -> Result<Self, Error>
+        ensures { Answers (λ x. λ rest. (first : List ℕ) × spells first x × (slice.old ≡ first ++ rest)) slice.new result };
+
+    /// Appends the bytes of each entry, in their order. It refuses with `OutOfMemory` alone, and the target is not used
+    /// afterwards.
+    fn write_each<B: Allocator>(entries: &[Self], bytes: &mut SketchBytes<B>) -> Result<(), Error>
+        ensures ok { OnOk result (bytes.new.bytes ≡ bytes.old.bytes ++ flat_map text entries.now) }
+        ensures values { OnOk result (AllByRecursion is_value entries.now) }
+        ensures refused { Refuses result None true };
+
+    /// Reads `count` entries from the front of the bytes, in memory of the allocator. It refuses with `InvalidData` exactly
+    /// where the bytes hold no so many, or with `OutOfMemory`. It asks for room for no more entries than an eighth of the bytes.
+    fn read_each(alloc: A, bytes: &[u8], count: u32) -> Result<Vec<Self, A>, Error>
+    where
+        Self: Drop,
+        A: Drop,
+        ensures ok { IfOk result (λ v. Holds spells bytes.now count v.items) }
+        ensures refused { IfErr result (λ e. IsRefused e ((xs : List Self) × Holds spells bytes.now count xs)) };
+
+    /// No spelling begins another, and each is of one entry.
+    ghost one_spelling: { (a b u v : List ℕ) (x y : Self) → spells a x → spells b y → a ++ u ≡ b ++ v → (a ≡ b) × (x ≡ y) };
+
+    /// What is written of a value spells it.
+    ghost text_spells: { (x : Self) → is_value x → Self.key x < 2 ^ 64 → spells (text x) x };
+
+    /// A spelling has eight bytes at least.
+    ghost has_hash: { (a : List ℕ) (x : Self) → spells a x → 8 ≤ length a };
+}
+
+impl<A: Allocator> ImageEntry<A> for ThetaEntry {
+    ghost use Rattle.std.specs.Prelude.{⊤};
+    ghost use Rattle.std.specs.Int.{w64, to_le_bytes};
+    ghost use Rattle.core_images.specs.Entry.{SpellsHash};
+    ghost use Rattle.core_images.specs.HashSpelling.{one_hash, hash_written, hash_long};
+
+    ghost spells = { SpellsHash };
+
+    ghost is_value = { λ _. ⊤ };
+
+    ghost text = { λ h. to_le_bytes w64 h };
+
+    #[inline(always)]
+    fn write<B: Allocator>(&self, bytes: &mut SketchBytes<B>) -> Result<(), Error> {
+        bytes.write_u64_le(self.hash())
+    }
+
+    #[inline(always)]
+    fn read(_alloc: &A, slice: &mut SketchSlice<'_>) -> Result<Self, Error> {
+        Ok(ThetaEntry::of_hash(slice.read_u64_le()?))
+    }
+
+    #[inline(always)]
+    fn write_each<B: Allocator>(
+        entries: &[ThetaEntry],
+        bytes: &mut SketchBytes<B>,
+    ) -> Result<(), Error> {
+        write_hashes(entries, bytes)
+    }
+
+    #[inline(always)]
+    fn read_each(alloc: A, bytes: &[u8], count: u32) -> Result<Vec<ThetaEntry, A>, Error>
+    where
+        A: Drop,
+    {
+        read_hashes(alloc, bytes, count)
+    }
+
+    ghost one_spelling = { one_hash };
+
+    ghost text_spells = { λ x _ small. hash_written x small };
+
+    ghost has_hash = { hash_long };
+}

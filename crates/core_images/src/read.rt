@@ -1,0 +1,36 @@
+//! Reading images.
+ghost use Rattle.core_images.specs.Read.{Finds, LeavesOpen};
+ghost use Rattle.core_images.specs.Preamble.{IsWholeLayout};
+
+use crate::check::are_entries;
+use crate::entry::ImageEntry;
+use crate::preamble::Layout;
+use core_compact::CompactSketchState;
+use sketch_base::{Error, ErrorKind};
+use std::alloc::Allocator;
+
+/// Reads the state that stands behind a layout, under the reader's seed hash. It refuses with `InvalidData` exactly where
+/// none does, or with `OutOfMemory`. It asks for no more memory than entries of eight bytes could fill the bytes with.
+pub fn read_behind<E: ImageEntry<A> + Drop, A: Allocator + Clone + Drop>(
+    alloc: A,
+    bytes: &[u8],
+    layout: Option<Layout>,
+    seed_hash: u16,
+) -> Result<CompactSketchState<E, A>, Error>
+    requires { IsWholeLayout bytes.now layout }
+    ensures { Finds (LeavesOpen E.key E.spells bytes.now seed_hash layout) result }
+{
+    match layout {
+        None => Err(Error::new(ErrorKind::InvalidData)),
+        Some(Layout::Empty) => Ok(CompactSketchState::empty(alloc, seed_hash)),
+        Some(Layout::Filled(p)) => {
+            let (_, rest) = bytes.split_at(p.start);
+            let entries = E::read_each(alloc.clone()?, rest, p.count)?;
+            if are_entries(alloc, &entries, p.theta, p.ordered)? {
+                Ok(CompactSketchState::non_empty(entries, p.theta, seed_hash, p.ordered))
+            } else {
+                Err(Error::new(ErrorKind::InvalidData))
+            }
+        }
+    }
+}

@@ -1,0 +1,233 @@
+//! Summaries of tuple sketches, and how images spell them.
+ghost use Rattle.std.specs.Prelude.{◌≡◌, ℕ, ◌++◌, List, length, None, true, OnOk};
+ghost use Rattle.core_images.specs.Read.{Answers};
+ghost use Rattle.core_laws.specs.Refusal.{Refuses};
+
+use crate::entry::ImageEntry;
+use core_slots::TupleEntry;
+use sketch_base::{Error, ErrorKind, SketchBytes, SketchSlice};
+use std::alloc::Allocator;
+
+/// A summary that images spell. What it keeps elsewhere, it keeps in memory of `A`.
+///
+/// A type names its values, the bytes that are written of each, and which beginnings of bytes spell which value: what is
+/// written of a value is read again, whatever follows it.
+pub trait TupleSummaryValue<A: Allocator> {
+    /// Which bytes spell which summary.
+    ghost spells: { List ℕ → Self → Type 0 };
+    /// Which summaries are values: all that the type can hold.
+    ghost is_value: { Self → Type 0 };
+    /// The bytes that are written of a summary.
+    ghost text: { Self → List ℕ };
+
+    /// How many bytes are written of it. It is a value.
+    fn serialize_size(&self) -> usize
+        ensures size { result ≡ length (text self.now) }
+        ensures value { is_value self.now };
+
+    /// Appends its bytes, as many as its `serialize_size`. It refuses with `OutOfMemory` alone, and the target is not used
+    /// afterwards.
+    fn serialize_value<B: Allocator>(&self, bytes: &mut SketchBytes<B>) -> Result<(), Error>
+        ensures ok { OnOk result (bytes.new.bytes ≡ bytes.old.bytes ++ text self.now) }
+        ensures value { OnOk result (is_value self.now) }
+        ensures refused { Refuses result None true };
+
+    /// Reads the summary that a beginning of the bytes spells, and moves past that beginning. It refuses with `InvalidData`
+    /// exactly where none does, or with `OutOfMemory`; nothing is said of the cursor afterwards.
+    fn deserialize_value(alloc: &A, slice: &mut SketchSlice<'_>) -> Result<Self, Error>
+        ensures { Answers (λ x. λ rest. (first : List ℕ) × spells first x × (slice.old ≡ first ++ rest)) slice.new result };
+
+    /// No spelling begins another, and each is of one summary.
+    ghost one_spelling: { (a b u v : List ℕ) (x y : Self) → spells a x → spells b y → a ++ u ≡ b ++ v → (a ≡ b) × (x ≡ y) };
+
+    /// What is written of a value spells it.
+    ghost text_spells: { (x : Self) → is_value x → spells (text x) x };
+}
+
+/// The eight bytes of its hash, and behind them its summary's.
+impl<S: TupleSummaryValue<A> + Drop, A: Allocator> ImageEntry<A> for TupleEntry<S> {
+    ghost use Rattle.core_images.specs.Summary.{SpellsTuple, is_tuple_value, tuple_text};
+    ghost use Rattle.core_images.specs.SummarySpelling.{one_tuple, tuple_written, tuple_long};
+
+    ghost spells = { SpellsTuple S.spells };
+
+    ghost is_value = { is_tuple_value S.is_value };
+
+    ghost text = { tuple_text S.text };
+
+    #[inline(always)]
+    fn write<B: Allocator>(&self, bytes: &mut SketchBytes<B>) -> Result<(), Error> {
+        bytes.write_u64_le(self.hash())?;
+        self.summary().serialize_value(bytes)
+    }
+
+    #[inline(always)]
+    fn read(alloc: &A, slice: &mut SketchSlice<'_>) -> Result<Self, Error> {
+        let hash = slice.read_u64_le()?;
+        let summary = S::deserialize_value(alloc, slice)?;
+        Ok(TupleEntry::of_hash(hash, summary))
+    }
+
+    fn write_each<B: Allocator>(
+        entries: &[TupleEntry<S>],
+        bytes: &mut SketchBytes<B>,
+    ) -> Result<(), Error> {
+        'write_each: for entry in entries {
+            <TupleEntry<S> as ImageEntry<A>>::write(entry, bytes)?;
+        }
+        Ok(())
+    }
+
+    fn read_each(alloc: A, bytes: &[u8], count: u32) -> Result<Vec<TupleEntry<S>, A>, Error>
+    where
+        A: Drop,
+    {
+        // Each entry takes eight bytes at least, so no memory is asked for that the bytes could not fill.
+        if bytes.len() / 8 < count as usize {
+            return Err(Error::new(ErrorKind::InvalidData));
+        }
+        let mut entries = Vec::with_capacity(alloc, count as usize)?;
+        let mut slice = SketchSlice::new(bytes);
+        'read_each: for _i in 0..count {
+            let entry = <TupleEntry<S> as ImageEntry<A>>::read(entries.allocator(), &mut slice)?;
+            entries.push(entry)?;
+        }
+        Ok(entries)
+    }
+
+    ghost one_spelling = { one_tuple S.spells S.one_spelling };
+
+    ghost text_spells = { λ x v small. tuple_written S.spells S.text x small (S.text_spells x.summary v) };
+
+    ghost has_hash = { tuple_long S.spells };
+}
+
+/// Four bytes, the lowest first.
+impl<A: Allocator> TupleSummaryValue<A> for u32 {
+    ghost use Rattle.std.specs.Prelude.{◌<◌, ◌^◌};
+    ghost use Rattle.std.specs.Int.{w32, to_le_bytes};
+    ghost use Rattle.core_images.specs.Summary.{SpellsNumber};
+    ghost use Rattle.core_images.specs.SummarySpelling.{one_number, four_written};
+
+    ghost spells = { SpellsNumber 4 };
+
+    ghost is_value = { λ x. x < 2 ^ 32 };
+
+    ghost text = { λ x. to_le_bytes w32 x };
+
+    fn serialize_size(&self) -> usize {
+        u32::to_le_bytes(*self).len()
+    }
+
+    #[inline(always)]
+    fn serialize_value<B: Allocator>(&self, bytes: &mut SketchBytes<B>) -> Result<(), Error> {
+        bytes.write_u32_le(*self)
+    }
+
+    #[inline(always)]
+    fn deserialize_value(_alloc: &A, slice: &mut SketchSlice<'_>) -> Result<Self, Error> {
+        slice.read_u32_le()
+    }
+
+    ghost one_spelling = { one_number 4 };
+
+    ghost text_spells = { four_written };
+}
+
+/// Eight bytes, the lowest first.
+impl<A: Allocator> TupleSummaryValue<A> for u64 {
+    ghost use Rattle.std.specs.Prelude.{◌<◌, ◌^◌};
+    ghost use Rattle.std.specs.Int.{w64, to_le_bytes};
+    ghost use Rattle.core_images.specs.Summary.{SpellsNumber};
+    ghost use Rattle.core_images.specs.SummarySpelling.{one_number, eight_written};
+
+    ghost spells = { SpellsNumber 8 };
+
+    ghost is_value = { λ x. x < 2 ^ 64 };
+
+    ghost text = { λ x. to_le_bytes w64 x };
+
+    fn serialize_size(&self) -> usize {
+        u64::to_le_bytes(*self).len()
+    }
+
+    #[inline(always)]
+    fn serialize_value<B: Allocator>(&self, bytes: &mut SketchBytes<B>) -> Result<(), Error> {
+        bytes.write_u64_le(*self)
+    }
+
+    #[inline(always)]
+    fn deserialize_value(_alloc: &A, slice: &mut SketchSlice<'_>) -> Result<Self, Error> {
+        slice.read_u64_le()
+    }
+
+    ghost one_spelling = { one_number 8 };
+
+    ghost text_spells = { eight_written };
+}
+
+/// Four bytes in two's complement, the lowest first.
+impl<A: Allocator> TupleSummaryValue<A> for i32 {
+    ghost use Rattle.std.specs.Prelude.{FitsSigned};
+    ghost use Rattle.std.specs.Int.{w32, to_le_bytes, cast_unsigned};
+    ghost use Rattle.core_images.specs.Summary.{SpellsSigned};
+    ghost use Rattle.core_images.specs.SummarySpelling.{one_signed, signed_four_written};
+
+    ghost spells = { SpellsSigned w32 4 };
+
+    ghost is_value = { FitsSigned w32 };
+
+    ghost text = { λ x. to_le_bytes w32 (cast_unsigned w32 x) };
+
+    fn serialize_size(&self) -> usize {
+        i32::to_le_bytes(*self).len()
+    }
+
+    #[inline(always)]
+    fn serialize_value<B: Allocator>(&self, bytes: &mut SketchBytes<B>) -> Result<(), Error> {
+        bytes.write_i32_le(*self)
+    }
+
+    #[inline(always)]
+    fn deserialize_value(_alloc: &A, slice: &mut SketchSlice<'_>) -> Result<Self, Error> {
+        let bits = slice.read_u32_le()?;
+        Ok(bits.cast_signed())
+    }
+
+    ghost one_spelling = { one_signed w32 4 };
+
+    ghost text_spells = { signed_four_written };
+}
+
+/// Eight bytes in two's complement, the lowest first.
+impl<A: Allocator> TupleSummaryValue<A> for i64 {
+    ghost use Rattle.std.specs.Prelude.{FitsSigned};
+    ghost use Rattle.std.specs.Int.{w64, to_le_bytes, cast_unsigned};
+    ghost use Rattle.core_images.specs.Summary.{SpellsSigned};
+    ghost use Rattle.core_images.specs.SummarySpelling.{one_signed, signed_eight_written};
+
+    ghost spells = { SpellsSigned w64 8 };
+
+    ghost is_value = { FitsSigned w64 };
+
+    ghost text = { λ x. to_le_bytes w64 (cast_unsigned w64 x) };
+
+    fn serialize_size(&self) -> usize {
+        i64::to_le_bytes(*self).len()
+    }
+
+    #[inline(always)]
+    fn serialize_value<B: Allocator>(&self, bytes: &mut SketchBytes<B>) -> Result<(), Error> {
+        bytes.write_i64_le(*self)
+    }
+
+    #[inline(always)]
+    fn deserialize_value(_alloc: &A, slice: &mut SketchSlice<'_>) -> Result<Self, Error> {
+        let bits = slice.read_u64_le()?;
+        Ok(bits.cast_signed())
+    }
+
+    ghost one_spelling = { one_signed w64 8 };
+
+    ghost text_spells = { signed_eight_written };
+}

@@ -1,0 +1,256 @@
+-- What a table and a listing share.
+use Rattle.std.proofs.Common.{◌≡◌, ℕ, ◌<◌, ◌≤◌, ◌≢◌, Bool, true, false, cond, ltb, eqb, List, [], ◌∷◌, ◌++◌, map, length, min, Option, Some, None, refl, sym, ap, ◌∙◌, subst, arith}
+use Rattle.std.specs.List.{AllByRecursion}
+use Rattle.std.specs.Option.{option_map, option_map_or}
+use Rattle.std.proofs.lemmas.Bool.Decides.{nat_tests}
+use Rattle.std.proofs.lemmas.List.{length-map, append_assoc}
+use Rattle.core_laws.specs.Maps.{IsAscending, IsApart, below, entry_at, with_entry, map_of}
+use Rattle.core_laws.specs.Cuts.{Retained}
+use Rattle.core_laws.specs.Operators.{common, shared, both}
+use Rattle.core_laws.specs.Folds.{Fold, Value, Refused, fold_key, fold_merges, unmarked}
+use Rattle.core_operators.specs.Union.{IsMergeRefused}
+use Rattle.core_laws.proofs.maps.MappedEntries.{map-append, below-map, entry_at-map, with_entry-map}
+use Rattle.core_laws.proofs.maps.Ascending.{ascending-filter, ascending-tail, ascending-head, each-weaker}
+use Rattle.core_laws.proofs.operators.CommonMaps.{entry_at-common, each-common, ascending-common}
+use Rattle.core_laws.proofs.maps.LookUps.{entry_at-below, entry_at_head, entry_at_rest, same_map}
+use Rattle.core_laws.proofs.insertions.Unmarked.{fold_keeps, ascending-marked, each-marked}
+use Rattle.core_laws.proofs.maps.MapsOfLists.{entry_at-map_of, ascending-map_of}
+use Rattle.core_laws.proofs.cuts.WithinWholeMaps.{found_key}
+use Rattle.core_laws.specs.Entries.{KeepsKey}
+
+-- a merge of the one that comes in with the one that is held
+abbrev pub turned_round : {X : Type 0} → (X → X → X) → X → X → X
+turned_round merges y x = merges x y
+
+module _ {X : Type 0} (key : X → ℕ) where
+  -- what is left of a listing that is read
+  pub record IsReading (listing left : List X) (ordered : Bool) : Type 0 where
+    pub apart : IsApart key left
+    pub among : (q : ℕ) (x : X) → entry_at key left q ≡ Some x → entry_at key listing q ≡ Some x
+    pub in_order : ordered ≡ true → IsAscending key left
+
+  pub reading-start : (listing : List X) (ordered : Bool) → IsApart key listing → (ordered ≡ true → IsAscending key listing) → IsReading listing listing ordered
+  reading-start listing ordered apart in_order = record { apart = apart; among = λ q x found. found; in_order = in_order }
+
+  differs_later : (x : X) (left : List X) (q : ℕ) (y : X) → entry_at key left (key x) ≡ None → entry_at key left q ≡ Some y → key x ≢ q
+  differs_later x left q y none found tie = let there : entry_at key left q ≡ None = subst (λ (h : ℕ). entry_at key left h ≡ None) tie none in let e : None ≡ Some y = sym there ∙ found in cc
+
+  pub reading-next : (listing left : List X) (x : X) (ordered : Bool) → IsReading listing (x ∷ left) ordered → IsReading listing left ordered
+  reading-next listing left x ordered so_far = record {
+    apart = so_far.apart.1;
+    among = λ q y found. so_far.among q y (entry_at_rest key x left q (differs_later x left q y so_far.apart.0 found) ∙ found);
+    in_order = λ e. ascending-tail key x left (so_far.in_order e);
+  }
+
+  only_one : (x : X) (q : ℕ) (y : X) → entry_at key (x ∷ []) q ≡ Some y → x ≡ y
+  only_one x q y = elim (eqb (key x) q) as (λ b. cond b (Some x) None ≡ Some y → x ≡ y) [ true ↦ λ e. (cc) | false ↦ λ e. absurd (cc) ]
+
+  -- the entry that is refused is one of the listing
+  pub reading-refused : (refuses : X → X → Bool) (held listing left : List X) (x : X) (ordered : Bool) → IsReading listing (x ∷ left) ordered → IsMergeRefused key refuses held (x ∷ []) → IsMergeRefused key refuses held listing
+  reading-refused refuses held listing left x ordered so_far refused =
+      let here : key refused.new_entry ≡ refused.at = found_key key (x ∷ []) refused.at refused.new_entry refused.comes in
+      let only : x ≡ refused.new_entry = only_one x refused.at refused.new_entry refused.comes in
+      record {
+        at = refused.at;
+        held_entry = refused.held_entry;
+        new_entry = refused.new_entry;
+        is_held = refused.is_held;
+        comes = so_far.among refused.at refused.new_entry (entry_at_head key x left refused.at (ap key only ∙ here) ∙ ap Some only);
+        refused = refused.refused;
+      }
+
+module _ {X : Type 0} (key : X → ℕ) (merges : X → X → X) (keeps : KeepsKey key merges) where
+  key_kept : (x : X) (ys : List X) (y : X) → entry_at key ys (key x) ≡ Some y → key (merges x y) ≡ key x
+  key_kept x ys y e = let same : key y ≡ key x = found_key key ys (key x) y e in keeps x y (sym same) ∙ same
+
+  pub apart-common : (xs ys : List X) → IsApart key xs → IsApart key (common key merges xs ys)
+  apart-common [] ys apart = tt
+  apart-common (x ∷ xs) ys apart =
+      let rest : IsApart key (common key merges xs ys) = apart-common xs ys apart.1 in
+      (elim (entry_at key ys (key x)) as (λ o. entry_at key ys (key x) ≡ o → IsApart key (common key merges (x ∷ xs) ys)) [
+        | Some y ↦ λ f.
+            let none : entry_at key (common key merges xs ys) (key (merges x y)) ≡ None =
+            ap (λ (h : ℕ). entry_at key (common key merges xs ys) h) (key_kept x ys y f) ∙ entry_at-common key merges keeps xs ys (key x) ∙ ap (λ o. both merges o (entry_at key ys (key x))) apart.0 in
+            rw f (none, rest)
+        | None ↦ λ f. rw f rest
+      ]) refl
+
+  pub length-common : (xs ys : List X) → length (common key merges xs ys) ≤ length xs
+  length-common [] ys = omega arith
+  length-common (x ∷ xs) ys =
+      let rest = length-common xs ys in
+      (elim (entry_at key ys (key x)) as (λ o. entry_at key ys (key x) ≡ o → length (common key merges (x ∷ xs) ys) ≤ length (x ∷ xs)) [
+        | Some y ↦ λ f. rw f (omega (arith, rest))
+        | None ↦ λ f. rw f (omega (arith, rest))
+      ]) refl
+
+  is_below : (ys : List X) (t q : ℕ) (y : X) → entry_at key (below key ys t) q ≡ Some y → q < t
+  is_below ys t q y found =
+      (elim (ltb q t) as (λ b. ltb q t ≡ b → cond b (entry_at key ys q) None ≡ Some y → q < t) [
+        | true ↦ λ e f. grind (arith, nat_tests)
+        | false ↦ λ e f. absurd (cc)
+      ]) refl (sym (entry_at-below key ys t q) ∙ found)
+
+  -- what is shared below a theta is below it
+  pub common_low : (xs ys : List X) (t : ℕ) → AllByRecursion (λ z. key z < t) (common key merges xs (below key ys t))
+  common_low [] ys t = tt
+  common_low (x ∷ xs) ys t =
+      let rest = common_low xs ys t in
+      (elim (entry_at key (below key ys t) (key x)) as (λ o. entry_at key (below key ys t) (key x) ≡ o → AllByRecursion (λ z. key z < t) (common key merges (x ∷ xs) (below key ys t))) [
+        | Some y ↦ λ f. rw f (omega (arith, key_kept x (below key ys t) y f, is_below ys t (key x) y f), rest)
+        | None ↦ λ f. rw f rest
+      ]) refl
+
+  -- what is not below a theta shares nothing below it
+  pub common_past : (xs ys : List X) (t : ℕ) → AllByRecursion (λ x. t ≤ key x) xs → common key merges xs (below key ys t) ≡ []
+  common_past [] ys t all = refl
+  common_past (x ∷ xs) ys t all =
+      let past : ltb (key x) t ≡ false = grind (arith, nat_tests, all.0) in
+      let none : entry_at key (below key ys t) (key x) ≡ None = entry_at-below key ys t (key x) ∙ ap (λ b. cond b (entry_at key ys (key x)) None) past in
+      rw none (common_past xs ys t all.1)
+
+  pub turned_keeps : (y x : X) → key y ≡ key x → key (turned_round merges y x) ≡ key x
+  turned_keeps y x same = keeps x y (sym same) ∙ same
+
+  both_turned : (o p : Option X) → both (turned_round merges) o p ≡ both merges p o
+  both_turned None None = refl
+  both_turned None (Some y) = refl
+  both_turned (Some x) None = refl
+  both_turned (Some x) (Some y) = refl
+
+module _ {X : Type 0} (key : X → ℕ) (merges : X → X → X) (keeps : KeepsKey key merges) where
+  -- a listing that is read against a map shares what its map does
+  pub common-map_of : (held listing : List X) (t : ℕ) → IsAscending key held → map_of key (common key (turned_round merges) listing (below key held t)) ≡ below key (common key merges held (map_of key listing)) t
+  common-map_of held listing t up =
+      same_map key _ _ (ascending-map_of key (common key (turned_round merges) listing (below key held t))) (ascending-filter key _ _ (ascending-common key merges keeps held (map_of key listing) up))
+      (λ q. entry_at-map_of key (common key (turned_round merges) listing (below key held t)) q
+      ∙ entry_at-common key (turned_round merges) (turned_keeps key merges keeps) listing (below key held t) q
+      ∙ both_turned key merges keeps (entry_at key listing q) (entry_at key (below key held t) q)
+      ∙ ap (λ o. both merges o (entry_at key listing q)) (entry_at-below key held t q)
+      ∙ (elim (ltb q t) as (λ b. both merges (cond b (entry_at key held q) None) (entry_at key listing q) ≡ cond b (entry_at key (common key merges held (map_of key listing)) q) None) [
+        | true ↦ ap (λ o. both merges (entry_at key held q) o) (sym (entry_at-map_of key listing q)) ∙ sym (entry_at-common key merges keeps held (map_of key listing) q)
+        | false ↦ refl
+      ])
+      ∙ sym (entry_at-below key (common key merges held (map_of key listing)) t q))
+
+module _ {X : Type 0} (key : X → ℕ) where
+  pub marked-map_of : (xs : List X) → map Value (map_of key xs) ≡ map_of (fold_key key) (map Value xs)
+  marked-map_of [] = refl
+  marked-map_of (x ∷ xs) = sym (with_entry-map Value key (fold_key key) (λ y. refl) (map_of key xs) x) ∙ ap (λ ys. with_entry (fold_key key) ys (Value x)) (marked-map_of xs)
+
+  some_is_none : (o : Option X) → option_map Value o ≡ None → o ≡ None
+  some_is_none None e = refl
+  some_is_none (Some x) e = absurd (cc)
+
+  -- facts on keys, of entries and of folds
+  pub apart-marked : (xs : List X) → IsApart key xs → IsApart (fold_key key) (map Value xs)
+  apart-marked [] apart = tt
+  apart-marked (x ∷ xs) apart = (entry_at-map Value key (fold_key key) (λ y. refl) xs (key x) ∙ ap (option_map Value) apart.0, apart-marked xs apart.1)
+
+  pub apart-unmarked : (xs : List X) → IsApart (fold_key key) (map Value xs) → IsApart key xs
+  apart-unmarked [] apart = tt
+  apart-unmarked (x ∷ xs) apart = (some_is_none (entry_at key xs (key x)) (sym (entry_at-map Value key (fold_key key) (λ y. refl) xs (key x)) ∙ apart.0), apart-unmarked xs apart.1)
+
+  pub each-unmarked : (P : ℕ → Type 0) (xs : List X) → AllByRecursion (λ u. P (fold_key key u)) (map Value xs) → AllByRecursion (λ x. P (key x)) xs
+  each-unmarked P [] all = tt
+  each-unmarked P (x ∷ xs) all = (all.0, each-unmarked P xs all.1)
+
+module _ {X : Type 0} (key : X → ℕ) (merges : X → X → X) (refuses : X → X → Bool) where
+  -- what is read of a listing against a map below a theta
+  abbrev pub read_from : (listing held : List X) (t : ℕ) → List (Fold X)
+  read_from listing held t = common (fold_key key) (turned_round (fold_merges key merges refuses)) (map Value listing) (map Value (below key held t))
+
+  -- the entry that one gives, or none
+  abbrev pub read_one : (held : List X) (t : ℕ) → X → Option (Fold X)
+  read_one held t x = option_map (λ w. fold_merges key merges refuses (Value w) (Value x)) (entry_at key (below key held t) (key x))
+
+  one_low : (held : List X) (t : ℕ) (x : X) → key x < t → entry_at key (below key held t) (key x) ≡ entry_at key held (key x)
+  one_low held t x lt = let e : ltb (key x) t ≡ true = grind (arith, nat_tests) in entry_at-below key held t (key x) ∙ ap (λ b. cond b (entry_at key held (key x)) None) e
+
+  -- what one gives past the theta, where its key isn't held, where the policy combines, and where it refuses
+  pub one_past : (held : List X) (t : ℕ) (x : X) → t ≤ key x → None ≡ read_one held t x
+  one_past held t x le =
+      let e : ltb (key x) t ≡ false = grind (arith, nat_tests) in
+      sym (ap (option_map (λ w. fold_merges key merges refuses (Value w) (Value x))) (entry_at-below key held t (key x) ∙ ap (λ b. cond b (entry_at key held (key x)) None) e))
+
+  pub one_absent : (held : List X) (t : ℕ) (x : X) → key x < t → entry_at key held (key x) ≡ None → None ≡ read_one held t x
+  one_absent held t x lt none = sym (ap (option_map (λ w. fold_merges key merges refuses (Value w) (Value x))) (one_low held t x lt ∙ none))
+
+  pub one_combined : (held : List X) (t : ℕ) (x w : X) → key x < t → entry_at key held (key x) ≡ Some w → refuses w x ≡ false → Some (Value (merges w x)) ≡ read_one held t x
+  one_combined held t x w lt found free =
+      ap (λ b. Some (cond b (Refused (key w)) (Value (merges w x)))) (sym free) ∙ sym (ap (option_map (λ w. fold_merges key merges refuses (Value w) (Value x))) (one_low held t x lt ∙ found))
+
+  pub one_refused : (held : List X) (t : ℕ) (x w : X) → key x < t → entry_at key held (key x) ≡ Some w → refuses w x ≡ true → IsMergeRefused key refuses (below key held t) (x ∷ [])
+  one_refused held t x w lt found refused = record { at = key x; held_entry = w; new_entry = x; is_held = one_low held t x lt ∙ found; comes = entry_at_head key x [] (key x) refl; refused = refused }
+
+module _ {X : Type 0} (key : X → ℕ) (merges : X → X → X) (refuses : X → X → Bool) (keeps : KeepsKey key merges) where
+  read_is : (listing held : List X) (t : ℕ) → read_from key merges refuses listing held t ≡ common (fold_key key) (turned_round (fold_merges key merges refuses)) (map Value listing) (below (fold_key key) (map Value held) t)
+  read_is listing held t = ap (λ ys. common (fold_key key) (turned_round (fold_merges key merges refuses)) (map Value listing) ys) (sym (below-map Value key (fold_key key) (λ y. refl) held t))
+
+  keeps_turned : (y x : Fold X) → fold_key key y ≡ fold_key key x → fold_key key (turned_round (fold_merges key merges refuses) y x) ≡ fold_key key x
+  keeps_turned = turned_keeps (fold_key key) (fold_merges key merges refuses) (fold_keeps key merges refuses keeps)
+
+  -- what is read is as a table may have it
+  pub record IsRead (items : List X) (t n : ℕ) : Type 0 where
+    pub apart : IsApart key items
+    pub nonzero : AllByRecursion (λ x. 0 < key x) items
+    pub below_theta : AllByRecursion (λ x. key x < t) items
+    pub few : length items ≤ n
+
+  pub items_read : (listing held items : List X) (t : ℕ) → map Value items ≡ read_from key merges refuses listing held t → IsApart key listing → AllByRecursion (λ x. 0 < key x) listing → IsRead items t (length listing)
+  items_read listing held items t all apart nonzero =
+      let fk = fold_key key in
+      let m = turned_round (fold_merges key merges refuses) in
+      let is = all ∙ read_is listing held t in
+      let ys = below fk (map Value held) t in
+      let marked : X → Fold X = λ x. Value x in
+      let short : length (common fk m (map Value listing) ys) ≤ length (map Value listing) = length-common fk m keeps_turned (map Value listing) ys in
+      record {
+        apart = apart-unmarked key items (rw is (apart-common fk m keeps_turned (map Value listing) ys (apart-marked key listing apart)));
+        nonzero = each-unmarked key (λ h. 0 < h) items (rw is (each-common fk m keeps_turned (λ h. 0 < h) (map Value listing) ys (each-marked key (λ h. 0 < h) listing nonzero)));
+        below_theta = each-unmarked key (λ h. h < t) items (rw is (common_low fk m keeps_turned (map Value listing) (map Value held) t));
+        few = omega (arith, short, ap length is, length-map items marked, length-map listing marked);
+      }
+
+  -- what is left of an ascending listing, past a theta, is not read
+  pub read_past : (listing left held : List X) (x : X) (t : ℕ) → IsReading key listing (x ∷ left) true → t ≤ key x → read_from key merges refuses (x ∷ left) held t ≡ []
+  read_past listing left held x t so_far le =
+      let all : AllByRecursion (λ y. t ≤ key y) (x ∷ left) = (le, each-weaker _ _ (λ y lt. omega (arith, le, lt)) left (ascending-head key x left (so_far.in_order refl))) in
+      read_is (x ∷ left) held t ∙ common_past (fold_key key) (turned_round (fold_merges key merges refuses)) keeps_turned (map Value (x ∷ left)) (map Value held) t (each-marked key (λ h. t ≤ h) (x ∷ left) all)
+
+  looked : (x : X) (o : Option X) → option_map (λ u. turned_round (fold_merges key merges refuses) (Value x) u) (option_map Value o) ≡ option_map (λ w. fold_merges key merges refuses (Value w) (Value x)) o
+  looked x None = refl
+  looked x (Some w) = refl
+
+  one_read : (held : List X) (x : X) (t : ℕ) (o : Option (Fold X)) → o ≡ read_one key merges refuses held t x →
+      option_map (λ u. turned_round (fold_merges key merges refuses) (Value x) u) (entry_at (fold_key key) (map Value (below key held t)) (key x)) ≡ o
+  one_read held x t o is =
+      ap (option_map (λ u. turned_round (fold_merges key merges refuses) (Value x) u)) (entry_at-map Value key (fold_key key) (λ y. refl) (below key held t) (key x)) ∙ looked x (entry_at key (below key held t) (key x)) ∙ sym is
+
+  pub read_some : (left held : List X) (x z : X) (t : ℕ) → Some (Value z) ≡ read_one key merges refuses held t x → read_from key merges refuses (x ∷ left) held t ≡ Value z ∷ read_from key merges refuses left held t
+  read_some left held x z t is = rw (one_read held x t (Some (Value z)) is) refl
+
+  pub read_none : (left held : List X) (x : X) (t : ℕ) → None ≡ read_one key merges refuses held t x → read_from key merges refuses (x ∷ left) held t ≡ read_from key merges refuses left held t
+  read_none left held x t is = rw (one_read held x t None is) refl
+
+  -- the map of what is read is what is shared
+  pub read_shares : (held : Retained X) (listing items : List X) (theta : ℕ) → IsAscending key held.entries → map Value items ≡ read_from key merges refuses listing held.entries (min held.theta theta) →
+      unmarked (record { entries = map_of key items; theta = min held.theta theta }) ≡ shared (fold_key key) (fold_merges key merges refuses) (unmarked held) (unmarked (record { entries = map_of key listing; theta = theta }))
+  read_shares held listing items theta up all =
+      let t = min held.theta theta in
+      let fk = fold_key key in
+      let fm = fold_merges key merges refuses in
+      let entries : map Value (map_of key items) ≡ below fk (common fk fm (map Value held.entries) (map Value (map_of key listing))) t =
+      marked-map_of key items ∙ ap (map_of fk) (all ∙ read_is listing held.entries t)
+      ∙ common-map_of fk fm (fold_keeps key merges refuses keeps) (map Value held.entries) (map Value listing) t (ascending-marked key held.entries up)
+      ∙ ap (λ ys. below fk (common fk fm (map Value held.entries) ys) t) (sym (marked-map_of key listing)) in
+      ap (λ ys. record { entries = ys; theta = t }) entries
+
+  -- one more is read
+  pub more_read : (items left held : List X) (x : X) (t : ℕ) (o : Option X) (all : List (Fold X)) → option_map Value o ≡ read_one key merges refuses held t x → map Value items ++ read_from key merges refuses (x ∷ left) held t ≡ all →
+      map Value (option_map_or (λ z. items ++ z ∷ []) o items) ++ read_from key merges refuses left held t ≡ all
+  more_read items left held x t None all is so_far = ap (λ ys. map Value items ++ ys) (sym (read_none left held x t is)) ∙ so_far
+  more_read items left held x t (Some z) all is so_far =
+      ap (λ ys. ys ++ read_from key merges refuses left held t) (map-append Value items (z ∷ []))
+      ∙ append_assoc (map Value items) (Value z ∷ []) (read_from key merges refuses left held t)
+      ∙ ap (λ ys. map Value items ++ ys) (sym (read_some left held x z t is)) ∙ so_far

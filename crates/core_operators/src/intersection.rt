@@ -1,0 +1,237 @@
+//! Intersections.
+ghost use Rattle.std.specs.Prelude.{◌≡◌, ◌==◌, ◌<◌, ◌^◌, ◌⊎◌, Some, None, true, false, is_some, if◌then◌else◌, length, min, option_map, IfOk, IfErr, OnOk, MatchOption};
+ghost use Rattle.std.specs.Option.{option_map_or};
+ghost use Rattle.sketch_base.specs.Seed.{seed_hash};
+ghost use Rattle.sketch_base.specs.declared.error.ErrorKind.TheVariants.{OutOfMemory, Policy};
+ghost use Rattle.core_laws.specs.Maps.{below, map_of};
+ghost use Rattle.core_operators.specs.Intersection.{Intersection, IsIntersection, IsMet, IsCutShort, IsAnswerIfAny, new_intersection, outcome_value, held_of, seed_refusal, intersect_refusal, is_settled_outcome, is_begun, is_nothing_left};
+ghost use Rattle.core_laws.specs.Operators.{meet_next};
+ghost use Rattle.core_operators.specs.declared.intersection.Outcome.TheVariants.{Nothing, Held};
+ghost use Rattle.core_laws.specs.Refusal.{Refuses};
+ghost use Rattle.core_laws.specs.Values.{NonEmpty, count_of};
+ghost use Rattle.core_laws.specs.Folds.{fold_key, fold_merges, unmarked, unmarked_value};
+ghost use Rattle.core_laws.specs.Cuts.{IsRetained};
+ghost use Rattle.core_operators.specs.Union.{IsMergeRefused};
+ghost use Rattle.core_laws.specs.Shown.{IsShown};
+ghost use Rattle.core_laws.specs.Entries.{ClonesEqual};
+
+use crate::share::{copied_table, shared_table};
+use crate::view::{EntrySketch, ThetaFamilySketchMetadata};
+use core_compact::CompactSketchState;
+use core_laws::MAX_THETA;
+use core_policies::IntersectionMergePolicy;
+use core_slots::SlotEntry;
+use core_table::SketchHashTable;
+use sketch_base::{Error, ErrorKind, compute_seed_hash};
+use std::alloc::{Allocator, Global};
+use std::marker::Model;
+
+/// What the inputs of an intersection have come to.
+#[derive(Clone, Copy)]
+enum Outcome {
+    /// There was no input yet.
+    Unbegun,
+    /// Empty, and so it stays.
+    Nothing,
+    /// What the table holds.
+    Held,
+}
+
+/// An intersection of sketches that are handed over one by one.
+///
+/// It has no value before its first input. Its value has the hashes that all inputs share, below their least theta; the
+/// entries of a hash are combined by the policy, in the order of the calls. It is Empty once an input is, or once inputs
+/// with hashes and at the greatest theta share none. A refused update leaves it as it was.
+#[derive(Drop)]
+pub struct IntersectionState<E: SlotEntry, P, A: Allocator = Global> {
+    outcome: Outcome,
+    table: SketchHashTable<E, A>,
+    policy: P,
+}
+
+impl<E: SlotEntry, P, A: Allocator> Model for IntersectionState<E, P, A> {
+    ghost use Rattle.core_operators.specs.Intersection.{Intersection, IsIntersection, outcome_value};
+
+    ghost Value = { Intersection E P };
+
+    ghost view = { λ i. record { result = outcome_value i.outcome i.table.map.kept; seed_hash = i.table.map.seed_hash; policy = i.policy } };
+
+    ghost invariant = { λ i. IsIntersection (record { result = outcome_value i.outcome i.table.map.kept; seed_hash = i.table.map.seed_hash; policy = i.policy }) };
+}
+
+impl<E: SlotEntry + Drop, P: Drop, A: Allocator + Drop> IntersectionState<E, P, A> {
+    /// An intersection of sketches of this seed, which has seen none. It takes no memory.
+    ///
+    /// Refused with `InvalidArgument` for a seed whose seed hash is 0.
+    pub fn new(alloc: A, seed: u64, policy: P) -> Result<Self, Error>
+        ensures made { IfOk result (λ i. i ≡ new_intersection (seed_hash seed) policy) }
+        ensures refused { Refuses result (seed_refusal seed) false }
+    {
+        let seed_hash = compute_seed_hash(seed, ErrorKind::InvalidArgument)?;
+        let table = SketchHashTable::for_set_operation(alloc, 0, 0, MAX_THETA, seed, seed_hash)?;
+        Ok(IntersectionState {
+            outcome: Outcome::Unbegun,
+            table,
+            policy,
+        })
+    }
+}
+
+impl<E: SlotEntry, P, A: Allocator> IntersectionState<E, P, A> {
+    /// Whether there was an input, and so there is a value.
+    pub fn has_result(&self) -> bool
+        ensures { result ≡ is_some self.now.result }
+    {
+        has_begun(self.outcome)
+    }
+
+    /// How many bytes the slots of its table take, free ones too.
+    pub fn estimated_size(&self) -> usize {
+        self.table.estimated_size()
+    }
+}
+
+impl<
+    E: SlotEntry + Clone,
+    P: IntersectionMergePolicy<E> + Drop,
+    A: Allocator + Clone,
+> IntersectionState<E, P, A> {
+    /// Intersects with a sketch. In this order: once Empty it accepts every sketch unchecked and stays Empty; an empty sketch
+    /// makes it Empty, and its seed is not checked; a sketch of another seed is refused; the first sketch is taken whole;
+    /// of each other one only the hashes that are held too stay, below the lesser theta, each entry combined by the policy
+    /// with the one that comes in. Where that leaves none, of some on either side and at the greatest theta, it is Empty.
+    ///
+    /// Refused with `InvalidArgument` for a sketch of another seed, with `OutOfMemory`, or with `Policy` where the policy
+    /// refuses at a shared hash below the lesser theta; then nothing has changed.
+    pub fn update<S: EntrySketch<Entry = E>>(&mut self, sketch: S) -> Result<(), Error>
+        requires clones_equal { ClonesEqual E.is_clone }
+        ensures met { OnOk result (IsMet E.key (P.merges self.old.policy) (P.refuses self.old.policy) self.old self.new (S.shown sketch) (S.listing sketch)) }
+        ensures made_with { self.new ≡ record self.old { result = self.new.result } }
+        ensures accepted { OnOk result (intersect_refusal self.old (S.shown sketch) ≡ None) }
+        ensures refused { IfErr result (λ e. (self.new ≡ self.old) × MatchOption (intersect_refusal self.old (S.shown sketch)) (IsCutShort E.key (P.refuses self.old.policy) self.old.result (S.shown sketch) (S.listing sketch) e) (λ kind. e ≡ kind)) }
+        ensures sound { IsIntersection self.old }
+        ensures held { IsRetained E.key (held_of self.old.result) }
+    {
+        // Asked for what its contract tells of the table: every entry that is held keeps the laws of a sketch value.
+        let _ = self.table.retention_theta();
+        if is_settled(self.outcome) {
+            return Ok(());
+        }
+        match sketch.metadata() {
+            ThetaFamilySketchMetadata::Empty { .. } => {
+                self.table.clear();
+                self.outcome = Outcome::Nothing;
+                Ok(())
+            }
+            ThetaFamilySketchMetadata::NonEmpty {
+                seed_hash,
+                theta,
+                ordered,
+                num_retained,
+            } => {
+                if self.table.seed_hash() != seed_hash {
+                    return Err(Error::new(ErrorKind::InvalidArgument));
+                }
+                if !has_begun(self.outcome) {
+                    self.table = copied_table(&self.table, sketch, theta)?;
+                    self.outcome = Outcome::Held;
+                    return Ok(());
+                }
+                let table = &mut self.table;
+                let outcome = meet_held(table, sketch, &self.policy, ordered, theta, num_retained)?;
+                self.outcome = outcome;
+                Ok(())
+            }
+        }
+    }
+
+    /// Its value, or `None` before its first input. Ordered where that is asked, or it is Empty or has one entry at the
+    /// greatest theta. The intersection stays as it is. Refused with `OutOfMemory` alone, and only where there is a value.
+    pub fn to_compact_sketch_state(
+        &self,
+        ordered: bool,
+    ) -> Result<Option<CompactSketchState<E, A>>, Error>
+        requires clones_equal { ClonesEqual E.is_clone }
+        ensures ok { IfOk result (IsAnswerIfAny E.key self.now.result self.now.seed_hash ordered) }
+        ensures refused { Refuses result None (is_some self.now.result) }
+    {
+        match self.outcome {
+            Outcome::Unbegun => Ok(None),
+            Outcome::Nothing => {
+                let alloc = self.table.allocator().clone()?;
+                Ok(Some(CompactSketchState::empty(alloc, self.table.seed_hash())))
+            }
+            Outcome::Held => Ok(Some(self.table.to_non_empty_compact_state(ordered)?)),
+        }
+    }
+}
+
+/// Keeps of what a table holds the hashes that a sketch shares with it, below the lesser theta, and tells what that is.
+/// The sketch isn't empty, and shows this theta and order, and `count` hashes.
+///
+/// Refused with `OutOfMemory`, or with `Policy` where the policy refuses at a shared hash below the lesser theta; then the
+/// table is as it was.
+fn meet_held<S: EntrySketch, P: IntersectionMergePolicy<S::Entry>, A: Allocator + Clone>(
+    table: &mut SketchHashTable<S::Entry, A>,
+    sketch: S,
+    policy: &P,
+    ordered: bool,
+    theta: u64,
+    count: usize,
+) -> Result<Outcome, Error>
+where
+    S::Entry: Clone,
+    requires clones_equal { ClonesEqual S.Entry.is_clone }
+    requires sound { IsShown (S.shown sketch) }
+    requires in_order { ordered ≡ (S.shown sketch).ordered }
+    requires of_theta { theta ≡ (S.shown sketch).theta }
+    requires counted { count ≡ length (S.shown sketch).hashes }
+    requires few { length table.old.map.kept.entries < 2 ^ 32 }
+    ensures met { IfOk result (λ o. option_map unmarked_value (outcome_value o table.new.map.kept) ≡ Some (meet_next (fold_key S.Entry.key) (fold_merges S.Entry.key (P.merges policy.now) (P.refuses policy.now)) (Some (NonEmpty (unmarked table.old.map.kept))) (NonEmpty (unmarked (record { entries = map_of S.Entry.key (S.listing sketch); theta = theta }))))) }
+    ensures few { IfOk result (λ o. option_map_or count_of (outcome_value o table.new.map.kept) 0 < 2 ^ 32) }
+    ensures same_seed { IfOk result (λ _. table.new.map.seed_hash ≡ table.old.map.seed_hash) }
+    ensures refused { IfErr result (λ e. (table.new ≡ table.old) × ((e ≡ OutOfMemory) ⊎ ((e ≡ Policy) × IsMergeRefused S.Entry.key (P.refuses policy.now) (below S.Entry.key table.old.map.kept.entries (min table.old.map.kept.theta theta)) (S.listing sketch)))) }
+{
+    let held = table.num_retained();
+    if held == 0 {
+        let lesser = table.retention_theta().min(theta);
+        table.set_retention_theta(lesser);
+        return Ok(Outcome::Held);
+    }
+    let next = shared_table(table, sketch, policy, ordered, theta)?;
+    let outcome = outcome_of(next.retention_theta(), held, count, next.num_retained());
+    *table = next;
+    Ok(outcome)
+}
+
+/// Whether an outcome no longer changes.
+fn is_settled(outcome: Outcome) -> bool
+    ensures { result ≡ is_settled_outcome outcome }
+{
+    match outcome {
+        Outcome::Nothing => true,
+        Outcome::Unbegun | Outcome::Held => false,
+    }
+}
+
+/// Whether there was an input.
+fn has_begun(outcome: Outcome) -> bool
+    ensures { result ≡ is_begun outcome }
+{
+    match outcome {
+        Outcome::Unbegun => false,
+        Outcome::Nothing | Outcome::Held => true,
+    }
+}
+
+/// The outcome where `held` hashes were held, `come` came in, and `shared` of them are left below `theta`: Empty where none
+/// is left of some on either side though nothing was cut away.
+fn outcome_of(theta: u64, held: usize, come: usize, shared: usize) -> Outcome
+    ensures { result ≡ if is_nothing_left theta held come shared then Nothing else Held }
+{
+    if theta == MAX_THETA && held != 0 && come != 0 && shared == 0 {
+        Outcome::Nothing
+    } else {
+        Outcome::Held
+    }
+}

@@ -1,0 +1,176 @@
+//! Merging the entries of a sketch into a table.
+ghost use Rattle.std.specs.Prelude.{◌≡◌, ◌^◌, ◌⊎◌, Some, None, [], ◌∷◌, true, map, MatchOption, OnOk, IfErr, IsTrue, ◌↔◌, ◌≤◌, min};
+ghost use Rattle.sketch_base.specs.declared.error.ErrorKind.TheVariants.{OutOfMemory, Policy};
+ghost use Rattle.core_laws.specs.Step.{merge_step};
+ghost use Rattle.core_laws.specs.Insertion.{after_upserts};
+ghost use Rattle.core_laws.specs.Maps.{below, IsAscending};
+ghost use Rattle.core_laws.specs.Refusal.{policy_refusal};
+ghost use Rattle.core_laws.specs.Folds.{Value, fold_key, fold_merges, unmarked, never};
+ghost use Rattle.core_operators.specs.Iter.{still_asked};
+ghost use Rattle.core_operators.specs.Union.{IsMergeRefused};
+ghost use Rattle.core_laws.specs.Entries.{ClonesEqual};
+
+use crate::iter::EntryIter;
+use crate::view::EntrySketch;
+use core_laws::{MIN_LG_K, SketchEntry};
+use core_policies::UnionMergePolicy;
+use core_slots::{SlotEntry, UpsertStep};
+use core_table::SketchHashTable;
+use sketch_base::Error;
+use std::alloc::{AllocError, Allocator};
+
+/// The step that merges an entry that comes in: combined with the one that is there, or cloned.
+pub(crate) struct MergeStep<'a, E: SketchEntry + Clone, P> {
+    policy: &'a P,
+    incoming: &'a E,
+    ghost clones_equal: { ClonesEqual E.is_clone },
+}
+
+impl<'a, E: SketchEntry + Clone, P> Clone for MergeStep<'a, E, P> {
+    fn clone(&self) -> Result<Self, AllocError> {
+        Ok(*self)
+    }
+}
+
+impl<'a, E: SketchEntry + Clone, P> Copy for MergeStep<'a, E, P> {}
+
+impl<'a, E: SketchEntry + Clone, P: UnionMergePolicy<E>> UpsertStep<E> for MergeStep<'a, E, P> {
+    ghost means = { λ step. merge_step (P.merges step.policy.now) (P.refuses step.policy.now) step.incoming.now };
+
+    fn existing(self, entry: &mut E) -> Result<(), Error> {
+        self.policy.merge(entry, self.incoming)
+    }
+
+    fn absent(self) -> Result<Option<E>, Error> {
+        Ok(Some(self.incoming.clone()?))
+    }
+}
+
+/// Whether merging stops at a hash: the hashes ascend, and this one is not below theta.
+pub(crate) fn is_past(ordered: bool, hash: u64, theta: u64) -> bool
+    ensures { IsTrue result ↔ ((ordered ≡ true) × (theta ≤ hash)) }
+{
+    ordered && hash >= theta
+}
+
+/// The next entry to be merged; of entries in no known order the next below a theta.
+#[inline(always)]
+fn next_entry<'a, E: SlotEntry>(
+    entries: &mut EntryIter<'a, E>,
+    ordered: bool,
+    theta: u64,
+) -> Option<&'a E>
+    ensures { MatchOption result (still_asked E.key ordered theta entries.old.rest ≡ []) (λ x. still_asked E.key ordered theta entries.old.rest ≡ x.now ∷ entries.new.rest) }
+{
+    if !ordered {
+        entries.pass_to_below(theta);
+    }
+    entries.next()
+}
+
+/// Whether a hash is not below one of two thetas. Each is compared by itself: the second is the table's, which an insertion asks
+/// then, and so is known.
+#[inline(always)]
+fn is_past_either(hash: u64, theta: u64, own_theta: u64) -> bool
+    ensures { IsTrue result ↔ (min theta own_theta ≤ hash) }
+{
+    hash >= theta || hash >= own_theta
+}
+
+/// Merges entries that ascend into the table of a union, in their order. It stops at the first that is not below a theta or
+/// that the table screens; no policy sees those. Each entry takes few instructions here: a loop that also goes over slots, or
+/// asks for the order, takes twice as many.
+#[inline(never)]
+fn merge_ascending<E: SlotEntry + Clone, P: UnionMergePolicy<E>, A: Allocator + Clone>(
+    table: &mut SketchHashTable<E, A>,
+    entries: &[E],
+    policy: &P,
+    theta: u64,
+) -> Result<(), Error>
+    requires clones_equal { ClonesEqual E.is_clone }
+    requires ascending { IsAscending E.key entries.now }
+    requires of_sketch { MIN_LG_K ≤ table.old.map.lg_nom }
+    ensures after { OnOk result (unmarked table.new.map.kept ≡ after_upserts (fold_key E.key) (2 ^ table.old.map.lg_nom) (merge_step (fold_merges E.key (P.merges policy.now) (P.refuses policy.now)) never) (map Value (below E.key entries.now theta)) (unmarked table.old.map.kept)) }
+    ensures made_with { table.new.map ≡ record table.old.map { kept = table.new.map.kept } }
+    ensures refused { IfErr result (λ e. (e ≡ OutOfMemory) ⊎ ((e ≡ Policy) × IsMergeRefused E.key (P.refuses policy.now) (below E.key table.old.map.kept.entries theta) entries.now)) }
+{
+    'merge_in_order: for first in entries {
+        let key = first.hash();
+        if is_past_either(key, theta, table.retention_theta()) {
+            break;
+        }
+        let merging = MergeStep {
+            policy,
+            incoming: first,
+        };
+        table.upsert_entry(key, merging)?;
+    }
+    Ok(())
+}
+
+/// Merges the entries that a sketch lends below a theta into the table of a union, in their order; no policy sees the others.
+/// Where they ascend it stops at the first that is not below that theta or that the table screens.
+fn merge_lent<S: EntrySketch, P: UnionMergePolicy<S::Entry>, A: Allocator + Clone>(
+    table: &mut SketchHashTable<S::Entry, A>,
+    sketch: S,
+    policy: &P,
+    ordered: bool,
+    theta: u64,
+) -> Result<(), Error>
+where
+    S::Entry: Clone,
+    requires clones_equal { ClonesEqual S.Entry.is_clone }
+    requires in_order { ordered ≡ (S.shown sketch).ordered }
+    requires of_sketch { MIN_LG_K ≤ table.old.map.lg_nom }
+    ensures listed { map S.Entry.key (S.listing sketch) ≡ (S.shown sketch).hashes }
+    ensures after { OnOk result (unmarked table.new.map.kept ≡ after_upserts (fold_key S.Entry.key) (2 ^ table.old.map.lg_nom) (merge_step (fold_merges S.Entry.key (P.merges policy.now) (P.refuses policy.now)) never) (map Value (below S.Entry.key (S.listing sketch) theta)) (unmarked table.old.map.kept)) }
+    ensures made_with { table.new.map ≡ record table.old.map { kept = table.new.map.kept } }
+    ensures refused { IfErr result (λ e. (e ≡ OutOfMemory) ⊎ ((e ≡ Policy) × IsMergeRefused S.Entry.key (P.refuses policy.now) (below S.Entry.key table.old.map.kept.entries theta) (S.listing sketch))) }
+{
+    let mut entries = sketch.entries();
+    let mut lesser = theta.min(table.retention_theta());
+    'merge_each: while let Some(entry) = next_entry(&mut entries, ordered, lesser) {
+        let hash = entry.hash();
+        if is_past(ordered, hash, lesser) {
+            break;
+        }
+        if hash >= theta {
+            continue;
+        }
+        let step = MergeStep {
+            policy,
+            incoming: entry,
+        };
+        table.upsert_entry(hash, step)?;
+        lesser = theta.min(table.retention_theta());
+    }
+    Ok(())
+}
+
+/// Merges the entries of a sketch below a theta into the table of a union, in their order; no policy sees the others. Where they
+/// ascend it stops at the first that is not below that theta or that the table screens.
+pub(crate) fn merge_entries<S: EntrySketch, P: UnionMergePolicy<S::Entry>, A: Allocator + Clone>(
+    table: &mut SketchHashTable<S::Entry, A>,
+    sketch: S,
+    policy: &P,
+    ordered: bool,
+    theta: u64,
+) -> Result<(), Error>
+where
+    S::Entry: Clone,
+    requires clones_equal { ClonesEqual S.Entry.is_clone }
+    requires in_order { ordered ≡ (S.shown sketch).ordered }
+    requires of_sketch { MIN_LG_K ≤ table.old.map.lg_nom }
+    ensures listed { map S.Entry.key (S.listing sketch) ≡ (S.shown sketch).hashes }
+    ensures after { OnOk result (unmarked table.new.map.kept ≡ after_upserts (fold_key S.Entry.key) (2 ^ table.old.map.lg_nom) (merge_step (fold_merges S.Entry.key (P.merges policy.now) (P.refuses policy.now)) never) (map Value (below S.Entry.key (S.listing sketch) theta)) (unmarked table.old.map.kept)) }
+    ensures made_with { table.new.map ≡ record table.old.map { kept = table.new.map.kept } }
+    ensures refused { IfErr result (λ e. (e ≡ OutOfMemory) ⊎ ((e ≡ Policy) × IsMergeRefused S.Entry.key (P.refuses policy.now) (below S.Entry.key table.old.map.kept.entries theta) (S.listing sketch))) }
+{
+    let lent = sketch.entries();
+    if ordered {
+        if let Some(ascending) = lent.as_slice() {
+            return merge_ascending(table, ascending, policy, theta);
+        }
+    }
+    merge_lent(table, sketch, policy, ordered, theta)
+}

@@ -1,0 +1,195 @@
+//! Unions.
+ghost use Rattle.std.specs.Prelude.{◌≡◌, ◌^◌, [], ◌∷◌, true, false, not, None, IfOk, IfErr, OnOk, OnErr, MatchOption};
+ghost use Rattle.sketch_base.specs.Seed.{seed_hash};
+ghost use Rattle.core_compact.specs.CompactState.{IsAnswer};
+ghost use Rattle.core_laws.specs.Operators.{unite};
+ghost use Rattle.core_laws.specs.Refusal.{Refuses};
+ghost use Rattle.core_laws.specs.Folds.{fold_key, fold_merges, unmarked_value};
+ghost use Rattle.core_laws.specs.Cuts.{IsRetained};
+ghost use Rattle.core_laws.specs.Settings.{settings_refusal};
+ghost use Rattle.core_operators.specs.Union.{Union, empty_union, union_value, update_refusal, lower_refusal, lower_allocates, lowered, failure, IsUnion, IsJoined, IsBroken};
+ghost use Rattle.core_laws.specs.Shown.{shown_value};
+ghost use Rattle.core_laws.specs.Values.{cut_value};
+ghost use Rattle.core_laws.specs.Entries.{ClonesEqual};
+
+use crate::merge::merge_entries;
+use crate::view::{EntrySketch, ThetaFamilySketchMetadata};
+use core_compact::CompactSketchState;
+use core_laws::MIN_LG_K;
+use core_policies::UnionMergePolicy;
+use core_slots::SlotEntry;
+use core_table::{ResizeFactor, SketchHashTable};
+use sketch_base::{Error, ErrorKind};
+use std::alloc::{Allocator, Global};
+use std::marker::Model;
+
+/// A union of sketches that are handed over one by one.
+///
+/// Its value is the joined map of its inputs below their least theta and its own starting theta, cut to its nominal
+/// entries k; a key that inputs share is combined by the policy, in the order of the calls. Where a merge breaks off,
+/// the union has failed, and every update and answer is refused with `Failed` until it is reset.
+///
+/// Its theta is at most its table's. What the table retains from that theta on is no part of the union any more.
+#[derive(Drop)]
+pub struct UnionState<E: SlotEntry, P, A: Allocator = Global> {
+    empty: bool,
+    failed: bool,
+    theta: u64,
+    table: SketchHashTable<E, A>,
+    policy: P,
+}
+
+impl<E: SlotEntry, P, A: Allocator> Model for UnionState<E, P, A> {
+    ghost use Rattle.core_laws.specs.Cuts.{retained};
+    ghost use Rattle.core_operators.specs.Union.{Union, IsUnionBelow};
+
+    ghost Value = { Union E P };
+
+    ghost view = { λ u. record { empty = u.empty; failed = u.failed; held = retained E.key u.table.map.kept.entries u.theta; lg_k = u.table.map.lg_nom; start = u.table.map.start; seed_hash = u.table.map.seed_hash; policy = u.policy } };
+
+    ghost invariant = { λ u. IsUnionBelow u.table.map.kept.theta (record { empty = u.empty; failed = u.failed; held = retained E.key u.table.map.kept.entries u.theta; lg_k = u.table.map.lg_nom; start = u.table.map.start; seed_hash = u.table.map.seed_hash; policy = u.policy }) };
+}
+
+impl<E: SlotEntry + Drop, P: Drop, A: Allocator + Drop> UnionState<E, P, A> {
+    /// A union of 2^`lg_k` nominal entries, with `lg_k` from 4 to 26, and a starting theta from 1 to `MAX_THETA`.
+    ///
+    /// Refused with `InvalidArgument` outside these ranges, and for a seed whose seed hash is 0; with `OutOfMemory` where
+    /// memory is.
+    pub fn new(
+        alloc: A,
+        lg_k: u8,
+        resize_factor: ResizeFactor,
+        starting_theta: u64,
+        seed: u64,
+        policy: P,
+    ) -> Result<Self, Error>
+        ensures made { IfOk result (λ u. u ≡ empty_union lg_k starting_theta (seed_hash seed) policy) }
+        ensures refused { Refuses result (settings_refusal lg_k starting_theta seed) true }
+    {
+        let table = SketchHashTable::new(alloc, lg_k, resize_factor, starting_theta, seed)?;
+        Ok(UnionState {
+            empty: true,
+            failed: false,
+            theta: table.retention_theta(),
+            table,
+            policy,
+        })
+    }
+
+    /// Makes it empty again, and ends a failure. It takes no memory.
+    pub fn reset(&mut self)
+        ensures { self.new ≡ empty_union self.old.lg_k self.old.start self.old.seed_hash self.old.policy }
+    {
+        self.table.reset();
+        self.theta = self.table.retention_theta();
+        self.empty = true;
+        self.failed = false;
+    }
+}
+
+impl<E: SlotEntry + Clone, P: UnionMergePolicy<E> + Drop, A: Allocator + Clone> UnionState<
+    E,
+    P,
+    A,
+> {
+    /// Joins a sketch. An empty one changes nothing, and its seed is not checked.
+    ///
+    /// Refused with `Failed` where the union has failed, whatever the input, and with `InvalidArgument` for a sketch of
+    /// another seed; then nothing has changed. Refused with `OutOfMemory`, or with `Policy` where the policy refuses at a
+    /// key below every theta so far; then the union has failed.
+    pub fn update<S: EntrySketch<Entry = E>>(&mut self, sketch: S) -> Result<(), Error>
+        requires clones_equal { ClonesEqual E.is_clone }
+        ensures skipped { OnOk result ((S.shown sketch).empty ≡ true → self.new ≡ self.old) }
+        ensures joined { OnOk result ((S.shown sketch).empty ≡ false → IsJoined E.key (P.merges self.old.policy) (P.refuses self.old.policy) self.old self.new (S.shown sketch).theta (S.listing sketch)) }
+        ensures united { OnOk result ((S.shown sketch).empty ≡ false → unmarked_value (union_value E.key self.new) ≡ unite (fold_key E.key) (fold_merges E.key (P.merges self.old.policy) (P.refuses self.old.policy)) (2 ^ self.old.lg_k) self.old.start (unmarked_value (union_value E.key self.old) ∷ unmarked_value (shown_value E.key (S.shown sketch) (S.listing sketch)) ∷ [])) }
+        ensures accepted { OnOk result (update_refusal self.old (S.shown sketch) ≡ None) }
+        ensures refused { IfErr result (λ e. MatchOption (update_refusal self.old (S.shown sketch)) (IsBroken E.key (P.refuses self.old.policy) self.old self.new (S.shown sketch) (S.listing sketch) e) (λ kind. (e ≡ kind) × (self.new ≡ self.old))) }
+        ensures sound { IsUnion self.old }
+        ensures held { IsRetained E.key self.old.held }
+    {
+        // Asked for what its contract tells of the table: every entry that is held keeps the laws of a sketch value.
+        let _ = self.table.retention_theta();
+        if self.failed {
+            return Err(Error::new(ErrorKind::Failed));
+        }
+        match sketch.metadata() {
+            ThetaFamilySketchMetadata::Empty { .. } => Ok(()),
+            ThetaFamilySketchMetadata::NonEmpty {
+                seed_hash,
+                theta,
+                ordered,
+                ..
+            } => {
+                if self.table.seed_hash() != seed_hash {
+                    return Err(Error::new(ErrorKind::InvalidArgument));
+                }
+                let least = self.theta.min(theta);
+                let merged = merge_entries(&mut self.table, sketch, &self.policy, ordered, least);
+                self.theta = least.min(self.table.retention_theta());
+                if let Err(refused) = merged {
+                    self.failed = true;
+                    return Err(refused);
+                }
+                self.empty = false;
+                Ok(())
+            }
+        }
+    }
+
+    /// Lowers the nominal entries to 2^`lg_k`, at least 2^4 and no more than now. The union's value is cut to those, later updates
+    /// and answers keep no more, and so do those after a `reset`. An empty union stays empty. Its own `lg_k` changes nothing and
+    /// takes no memory.
+    ///
+    /// Refused, in this order, with `Failed` if the union has failed, with `InvalidArgument` if `lg_k` isn't from 4 to its own,
+    /// and with `OutOfMemory`; the union is unchanged: a new table is made aside.
+    pub fn lower_lg_k(&mut self, lg_k: u8) -> Result<(), Error>
+        requires clones_equal { ClonesEqual E.is_clone }
+        ensures after { OnOk result (self.new ≡ lowered E.key lg_k self.old) }
+        ensures value { OnOk result (union_value E.key self.new ≡ cut_value E.key (2 ^ lg_k) (union_value E.key self.old)) }
+        ensures err { OnErr result (self.new ≡ self.old) }
+        ensures refused { Refuses result (lower_refusal self.old lg_k) (lower_allocates self.old lg_k) }
+        ensures sound { IsUnion self.old }
+        ensures held { IsRetained E.key self.old.held }
+    {
+        // Called for its clause: the table's entries ascend.
+        let _ = self.table.retention_theta();
+        if self.failed {
+            return Err(Error::new(ErrorKind::Failed));
+        }
+        let own = self.table.lg_nom_size();
+        if lg_k < MIN_LG_K || lg_k > own {
+            return Err(Error::new(ErrorKind::InvalidArgument));
+        }
+        if lg_k == own {
+            return Ok(());
+        }
+        let smaller = self.table.to_smaller_table(lg_k, self.theta)?;
+        self.theta = smaller.retention_theta();
+        self.table = smaller;
+        Ok(())
+    }
+
+    /// How many bytes the slots of its table take, free ones too.
+    pub fn estimated_size(&self) -> usize {
+        self.table.estimated_size()
+    }
+
+    /// Its value, ordered where that is asked, or it is empty or has one entry at the greatest theta. The union stays as it
+    /// is. Refused with `Failed` where the union has failed, and with `OutOfMemory`.
+    pub fn to_compact_sketch_state(&self, ordered: bool) -> Result<CompactSketchState<E, A>, Error>
+        requires clones_equal { ClonesEqual E.is_clone }
+        ensures ok { IfOk result (IsAnswer E.key (union_value E.key self.now) self.now.seed_hash ordered) }
+        ensures refused { Refuses result (failure self.now.failed) (not self.now.failed) }
+    {
+        if self.failed {
+            return Err(Error::new(ErrorKind::Failed));
+        }
+        if self.empty {
+            let alloc = self.table.allocator().clone()?;
+            return Ok(CompactSketchState::empty(alloc, self.table.seed_hash()));
+        }
+        // Asked for what its contract tells of the table: its entries ascend.
+        let _ = self.table.retention_theta();
+        self.table.to_cut_state(self.theta, ordered)
+    }
+}

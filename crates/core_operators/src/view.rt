@@ -1,0 +1,73 @@
+//! Sketches as operators take them: by what they show.
+ghost use Rattle.std.specs.Prelude.{◌≡◌, ℕ, List, map, Option};
+ghost use Rattle.std.specs.Iterator.{YieldsFirst, IsFinite};
+ghost use Rattle.core_operators.specs.View.{metadata_of};
+ghost use Rattle.core_laws.specs.Shown.{Shown, IsShown};
+
+use crate::iter::EntryIter;
+use core_slots::SlotEntry;
+
+/// What a sketch tells of itself.
+#[derive(Debug, Clone, Copy)]
+pub enum ThetaFamilySketchMetadata {
+    /// No update was accepted.
+    Empty {
+        /// The hash of its seed.
+        seed_hash: u16,
+    },
+    /// Some update was accepted, even if its hash was screened.
+    NonEmpty {
+        /// The hash of its seed.
+        seed_hash: u16,
+        /// From 1 to `MAX_THETA`, above every hash.
+        theta: u64,
+        /// Whether its hashes are known to ascend.
+        ordered: bool,
+        /// How many hashes it has, fewer than 2^32.
+        num_retained: usize,
+    },
+}
+
+/// A sketch that shows its hashes: distinct, from 1 to below theta, as many as it tells, ascending where it is ordered, and none where it is empty.
+pub trait KeySketch: Copy {
+    type Hashes: Iterator<Item = u64>;
+
+    /// What it shows.
+    ghost shown: { Self → Shown };
+
+    /// The hashes that an iterator has left.
+    ghost rest: { Self.Hashes → List ℕ };
+
+    /// What it tells of itself.
+    fn metadata(self) -> ThetaFamilySketchMetadata
+        ensures told { result ≡ metadata_of (shown self) }
+        ensures is_sound { IsShown (shown self) };
+
+    /// Its hashes, each once.
+    fn hashes(self) -> Self::Hashes
+        ensures all { rest result ≡ (shown self).hashes }
+        ensures sound { IsShown (shown self) };
+
+    /// An iterator gives what it has left, in order.
+    ghost yields: { (s : Self.Hashes) (r : Option ℕ) (t : Self.Hashes) → Self.Hashes.next_gives s r t → YieldsFirst rest s r t };
+
+    /// It may always be called.
+    ghost may_go_on: { (s : Self.Hashes) → Self.Hashes.can_next s };
+
+    /// It ends.
+    ghost ends: { (s : Self.Hashes) → IsFinite (Self.Hashes.remaining s) };
+}
+
+/// A sketch that lends its entries, which have its hashes in the same order.
+pub trait EntrySketch: KeySketch {
+    type Entry: SlotEntry;
+
+    /// Its entries, in the order of its hashes.
+    ghost listing: { Self → List Self.Entry };
+
+    /// Its entries, each once.
+    fn entries(&self) -> EntryIter<'_, Self::Entry>
+        ensures all { result.rest ≡ listing self.now }
+        ensures hashes { map Self.Entry.key (listing self.now) ≡ (Self.shown self.now).hashes }
+        ensures sound { IsShown (Self.shown self.now) };
+}

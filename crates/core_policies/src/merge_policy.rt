@@ -1,0 +1,43 @@
+//! How operators combine entries.
+ghost use Rattle.std.specs.Prelude.{◌≡◌, Bool, true, MatchResult};
+ghost use Rattle.core_laws.specs.Refusal.{Refuses, policy_refusal};
+ghost use Rattle.core_laws.specs.Entries.{KeepsKey};
+
+use core_laws::SketchEntry;
+use sketch_base::Error;
+
+/// How a union combines two entries of one hash.
+pub trait UnionMergePolicy<E: SketchEntry> {
+    /// What it leaves of an entry and one that comes in.
+    ghost merges: { Self → E → E → E };
+
+    /// Whether it refuses an entry and one that comes in, with `Policy`.
+    ghost refuses: { Self → E → E → Bool };
+
+    /// Combines an entry with one of the same hash that comes in, and keeps the hash. A refusal, of kind `Policy` or
+    /// `OutOfMemory`, leaves the entry as it was.
+    fn merge(&self, entry: &mut E, incoming: &E) -> Result<(), Error>
+        ensures merged { MatchResult result (λ _. entry.new ≡ merges self.now entry.old incoming.now) (λ _. entry.new ≡ entry.old) }
+        ensures refused { Refuses result (policy_refusal (refuses self.now entry.old incoming.now)) true };
+
+    /// Entries of one hash are merged into one of this hash.
+    ghost keeps_hash: { (p : Self) → KeepsKey E.key (merges p) };
+}
+
+/// How an intersection combines two entries of one hash.
+pub trait IntersectionMergePolicy<E: SketchEntry> {
+    /// What it leaves of an entry and one that comes in.
+    ghost merges: { Self → E → E → E };
+
+    /// Whether it refuses an entry and one that comes in, with `Policy`.
+    ghost refuses: { Self → E → E → Bool };
+
+    /// Combines an entry with one of the same hash that comes in, and keeps the hash. A refusal, of kind `Policy` or
+    /// `OutOfMemory`, leaves the entry as it was.
+    fn merge(&self, entry: &mut E, incoming: &E) -> Result<(), Error>
+        ensures merged { MatchResult result (λ _. entry.new ≡ merges self.now entry.old incoming.now) (λ _. entry.new ≡ entry.old) }
+        ensures refused { Refuses result (policy_refusal (refuses self.now entry.old incoming.now)) true };
+
+    /// Entries of one hash are merged into one of this hash.
+    ghost keeps_hash: { (p : Self) → KeepsKey E.key (merges p) };
+}

@@ -1,0 +1,156 @@
+-- Hashes that are looked up together: what is blanked, packed and left out.
+use Rattle.std.proofs.Common.{◌≡◌, ◌≢◌, ℕ, zero, suc, ◌+◌, ◌<◌, ◌≤◌, Bool, true, false, cond, eqb, not, List, [], ◌∷◌, ◌++◌, length, map, filter, take, drop, set, get_or, Option, Some, None, inl, inr, refl, sym, ap, subst, ◌∙◌, arith, get_or-set_other}
+use Rattle.std.specs.Prelude.{IsSome, option_map, unwrap_or}
+use Rattle.std.specs.List.{AllByRecursion}
+use Rattle.std.proofs.lemmas.Bool.Decides.{nat_tests}
+use Rattle.std.proofs.lemmas.List.{take_more, take_more_set, take-set, append-nil, length-set, length-append, length-take-le, take-append-le, take-append-drop, take_at, take_all}
+use Rattle.std.proofs.lemmas.List.Elements.{filter-append}
+use Rattle.core_laws.specs.Maps.{entry_at}
+use Rattle.core_laws.specs.Insertion.{is_screened, IsRedundant, LeavesOut}
+use Rattle.core_laws.proofs.insertions.LeftOut.{left_out_again, left_out-filter}
+use Rattle.core_slots.specs.Layout.{filled}
+use Rattle.core_slots.specs.Lookup.{IsBlanked}
+
+-- of the first i hashes those that pass were moved to the front, where they are `count`; the others are as they were
+pub record IsPacking (screens : ℕ → Bool) (old new : List ℕ) (i count : ℕ) : Type 0 where
+  pub size : length new ≡ length old
+  pub few : count ≤ i
+  pub packed : take count new ≡ filter (λ h. not (screens h)) (take i old)
+  pub others : (q : ℕ) → i ≤ q → get_or new q 0 ≡ get_or old q 0
+
+pub packing_begins : (screens : ℕ → Bool) (old : List ℕ) → IsPacking screens old old 0 0
+packing_begins screens old = record { size = refl; few = omega arith; packed = refl; others = λ q le. refl }
+
+-- a hash more is moved
+module _ (screens : ℕ → Bool) (old new : List ℕ) (i count h : ℕ) (lt : i < length new) (is : h ≡ get_or new i 0) (was : IsPacking screens old new i count) where
+  one_more : filter (λ x. not (screens x)) (take (i + 1) old) ≡ filter (λ x. not (screens x)) (take i old) ++ filter (λ x. not (screens x)) (h ∷ [])
+  one_more =
+      let within : i < length old = omega (arith, was.size, lt) in
+      let p : ℕ → Bool = λ x. not (screens x) in
+      ap (filter p) (take_more old i 0 within) ∙ filter-append p (take i old) (get_or old i 0 ∷ [])
+      ∙ ap (λ (x : ℕ). filter p (take i old) ++ filter p (x ∷ [])) (sym (was.others i (omega arith)) ∙ sym is)
+
+  others_more : (q : ℕ) → i + 1 ≤ q → get_or (set new count h) q 0 ≡ get_or old q 0
+  others_more q le =
+      let past : q ≢ count = λ same. absurd (omega (arith, same, le, was.few)) in
+      get_or-set_other new count q h 0 past ∙ was.others q (omega arith)
+
+  pub packed_more : (more : ℕ) → more ≡ count + cond (screens h) 0 1 → IsPacking screens old (set new count h) (i + 1) more
+  packed_more more e =
+      (elim (screens h) as (λ b. screens h ≡ b → more ≡ count + cond b 0 1 → IsPacking screens old (set new count h) (i + 1) more) [
+        | true ↦ λ out n.
+            let same : count ≡ more = omega arith in
+            let none : filter (λ x. not (screens x)) (h ∷ []) ≡ [] = rw out refl in
+            record {
+              size = length-set new count h ∙ was.size;
+              few = omega (arith, was.few);
+              packed = ap (λ (m : ℕ). take m (set new count h)) (sym same) ∙ take-set new count h ∙ was.packed ∙ sym (append-nil _) ∙ ap (λ xs. filter (λ x. not (screens x)) (take i old) ++ xs) (sym none) ∙ sym one_more;
+              others = others_more;
+            }
+        | false ↦ λ stays n.
+            let same : count + 1 ≡ more = omega arith in
+            let one : filter (λ x. not (screens x)) (h ∷ []) ≡ h ∷ [] = rw stays refl in
+            record {
+              size = length-set new count h ∙ was.size;
+              few = omega (arith, was.few);
+              packed = ap (λ (m : ℕ). take m (set new count h)) (sym same) ∙ take_more_set new count h (omega (arith, was.few, lt)) ∙ ap (λ xs. xs ++ h ∷ []) was.packed ∙ ap (λ xs. filter (λ x. not (screens x)) (take i old) ++ xs) (sym one) ∙ sym one_more;
+              others = others_more;
+            }
+      ]) refl e
+
+pub packed_whole : (screens : ℕ → Bool) (old new : List ℕ) (i count : ℕ) → length old ≤ i → IsPacking screens old new i count → take count new ≡ filter (λ h. not (screens h)) old
+packed_whole screens old new i count le was = was.packed ∙ ap (filter (λ h. not (screens h))) (take_all i old le)
+
+-- what a slot holds is one of the entries
+module _ {S X : Type 0} (key : X → ℕ) (held : S → Option X) where
+  held_in : (slots : List S) (at : ℕ) (s : S) (x : X) → at < length slots → s ≡ get_or slots at s → held s ≡ Some x → IsSome (entry_at key (filled (map held slots)) (key x))
+  held_in [] at s x lt is holds = absurd (omega (arith, lt))
+  held_in (t ∷ slots) zero s x lt is holds =
+      let same : held t ≡ Some x = ap held (sym is) ∙ holds in
+      let e : eqb (key x) (key x) ≡ true = grind (arith, nat_tests) in
+      rw (same, e) refl
+  held_in (t ∷ slots) (suc at) s x lt is holds =
+      let rest = held_in slots at s x (omega (arith, lt)) is holds in
+      elim (held t) as (λ o. IsSome (entry_at key (filled (o ∷ map held slots)) (key x))) [
+        | None ↦ rest
+        | Some y ↦ elim (eqb (key y) (key x)) as (λ b. IsSome (cond b (Some y) (entry_at key (filled (map held slots)) (key x)))) [ true ↦ refl | false ↦ rest ]
+      ]
+
+  blanked_by : (slots : List S) (at hash : ℕ) (s : S) → at < length slots → s ≡ get_or slots at s → (o : Option X) → held s ≡ o → hash ≡ unwrap_or (option_map key o) 0 → IsBlanked key (filled (map held slots)) hash 0
+  blanked_by slots at hash s lt is None holds same = inl (sym same)
+  blanked_by slots at hash s lt is (Some x) holds same = inr (refl, subst (λ (q : ℕ). IsSome (entry_at key (filled (map held slots)) q)) (sym same) (held_in slots at s x lt is holds))
+
+  pub blanked : (slots : List S) (at hash found g : ℕ) (s : S) → at < length slots → s ≡ get_or slots at s → found ≡ unwrap_or (option_map key (held s)) 0 → g ≡ cond (eqb hash found) 0 hash → IsBlanked key (filled (map held slots)) hash g
+  blanked slots at hash found g s lt is holds made =
+      (elim (eqb hash found) as (λ b. eqb hash found ≡ b → g ≡ cond b 0 hash → IsBlanked key (filled (map held slots)) hash g) [
+        | true ↦ λ e m.
+            let same : hash ≡ found = grind (arith, nat_tests) in
+            subst (λ (q : ℕ). IsBlanked key (filled (map held slots)) hash q) (sym m) (blanked_by slots at hash s lt is (held s) refl (same ∙ holds))
+        | false ↦ λ e m. inl m
+      ]) refl made
+
+-- what is packed isn't screened
+pub packed_pass : (theta : ℕ) (hashes : List ℕ) → AllByRecursion (λ h. is_screened h theta ≡ false) (filter (λ h. not (is_screened h theta)) hashes)
+packed_pass theta [] = tt
+packed_pass theta (h ∷ hashes) =
+    let rest = packed_pass theta hashes in
+    let left : List ℕ = filter (λ h. not (is_screened h theta)) hashes in
+    (elim (is_screened h theta) as (λ b. is_screened h theta ≡ b → AllByRecursion (λ h. is_screened h theta ≡ false) (cond (not b) (h ∷ left) left)) [ true ↦ λ e. rest | false ↦ λ e. (e, rest) ]) refl
+
+-- hashes that were blanked and packed are left out
+module _ {X : Type 0} (key : X → ℕ) (xs : List X) (theta : ℕ) where
+  left_out-blanked : (hashes now : List ℕ) → length now ≡ length hashes → ((p : ℕ) → p < length hashes → IsBlanked key xs (get_or hashes p 0) (get_or now p 0)) →
+      LeavesOut (IsRedundant key (record { entries = xs; theta = theta })) hashes (filter (λ h. not (is_screened h theta)) now)
+  left_out-blanked [] [] size each = refl
+  left_out-blanked [] (g ∷ now) size each = absurd (cc)
+  left_out-blanked (h ∷ hashes) [] size each = absurd (cc)
+  left_out-blanked (h ∷ hashes) (g ∷ now) size each =
+      let rest = left_out-blanked hashes now (omega (arith, size)) (λ p lt. each (suc p) (omega (arith, lt))) in
+      let left : List ℕ = filter (λ h. not (is_screened h theta)) now in
+      (elim (is_screened g theta) as (λ b. is_screened g theta ≡ b → LeavesOut (IsRedundant key (record { entries = xs; theta = theta })) (h ∷ hashes) (cond (not b) (g ∷ left) left)) [
+        | true ↦ λ e. elim (each 0 (omega arith)) [
+          | inl same ↦ inl (inl (subst (λ (q : ℕ). is_screened q theta ≡ true) same e), rest)
+          | inr found ↦ inl (inr found.1, rest)
+        ]
+        | false ↦ λ e. elim (each 0 (omega arith)) [
+          | inl same ↦ inr (left, ap (λ z. z ∷ left) same, rest)
+          | inr found ↦ absurd (grind (arith, nat_tests, found.0))
+        ]
+      ]) refl
+
+  -- what is left so far
+  pub record IsLeft (whole hashes : List ℕ) (left : ℕ) : Type 0 where
+    pub size : length hashes ≡ length whole
+    pub few : left ≤ length hashes
+    pub unscreened : AllByRecursion (λ h. is_screened h theta ≡ false) (take left hashes)
+    pub others_out : LeavesOut (IsRedundant key (record { entries = xs; theta = theta })) whole (take left hashes)
+
+  -- a round more: the front is blanked, and what is not is packed
+  pub left_more : (whole hashes blanks packs : List ℕ) (left more : ℕ) → IsLeft whole hashes left →
+      length blanks ≡ length (take left hashes) → ((p : ℕ) → p < length (take left hashes) → IsBlanked key xs (get_or (take left hashes) p 0) (get_or blanks p 0)) →
+      length packs ≡ length (take left (blanks ++ drop left hashes)) → more ≤ length (take left (blanks ++ drop left hashes)) → take more packs ≡ filter (λ h. not (is_screened h theta)) (take left (blanks ++ drop left hashes)) →
+      IsLeft whole (packs ++ drop left (blanks ++ drop left hashes)) more
+  left_more whole hashes blanks packs left more was size each packs_size few packed =
+      let front : length (take left hashes) ≡ left = length-take-le left hashes was.few in
+      let same : take left (blanks ++ drop left hashes) ≡ blanks = take_at blanks (drop left hashes) left (size ∙ front) in
+      let short : length (take left (blanks ++ drop left hashes)) ≡ left = ap length same ∙ size ∙ front in
+      let long : length (blanks ++ drop left hashes) ≡ length hashes =
+      length-append blanks (drop left hashes) ∙ ap (λ (n : ℕ). n + length (drop left hashes)) size ∙ sym (length-append (take left hashes) (drop left hashes)) ∙ ap length (take-append-drop left hashes) in
+      let whole_size : length (packs ++ drop left (blanks ++ drop left hashes)) ≡ length hashes =
+      length-append packs (drop left (blanks ++ drop left hashes)) ∙ ap (λ (n : ℕ). n + length (drop left (blanks ++ drop left hashes))) packs_size
+      ∙ sym (length-append (take left (blanks ++ drop left hashes)) (drop left (blanks ++ drop left hashes))) ∙ ap length (take-append-drop left (blanks ++ drop left hashes)) ∙ long in
+      let now : take more (packs ++ drop left (blanks ++ drop left hashes)) ≡ filter (λ h. not (is_screened h theta)) blanks =
+      take-append-le more packs (drop left (blanks ++ drop left hashes)) (omega (arith, few, packs_size)) ∙ packed ∙ ap (filter (λ h. not (is_screened h theta))) same in
+      record {
+        size = whole_size ∙ was.size;
+        few = omega (arith, few, short, was.few, whole_size);
+        unscreened = subst (AllByRecursion (λ h. is_screened h theta ≡ false)) (sym now) (packed_pass theta blanks);
+        others_out = left_out_again _ whole (take left hashes) (take more (packs ++ drop left (blanks ++ drop left hashes))) was.others_out
+            (subst (λ zs. LeavesOut (IsRedundant key (record { entries = xs; theta = theta })) (take left hashes) zs) (sym now) (left_out-blanked (take left hashes) blanks size each));
+      }
+
+  -- the first
+  pub left_out-first : (hashes after : List ℕ) → after ≡ filter (λ h. not (is_screened h theta)) hashes → LeavesOut (IsRedundant key (record { entries = xs; theta = theta })) hashes after
+  left_out-first hashes after is =
+      subst (λ zs. LeavesOut (IsRedundant key (record { entries = xs; theta = theta })) hashes zs) (sym is)
+      (left_out-filter _ (λ h. not (is_screened h theta)) (λ h e. inl (grind (arith, nat_tests))) hashes)

@@ -1,0 +1,5 @@
+use Rattle.core_slots.proofs.Layouts.{search_finds}
+use Rattle.core_slots.proofs.laws.search_finds.Goals as goal
+
+pub returns : goal.returns
+returns g c = λ key. search_finds key

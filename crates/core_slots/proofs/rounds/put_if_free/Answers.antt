@@ -1,0 +1,19 @@
+use Rattle.std.proofs.Common.{◌≡◌, ℕ, true, false, cond, set, map, ap, ◌∙◌}
+use Rattle.core_slots.proofs.Held.{map-set, set-again}
+use Rattle.std.proofs.lemmas.List.{set-get_or}
+use Rattle.core_slots.proofs.rounds.put_if_free.Goals as goal
+
+pub returns-clause-stands : goal.returns-clause-stands
+returns-clause-stands g c =
+    let held = g.E.PathEntry.held in
+    let slots = c.args.slots.now in
+    let at : ℕ = c.args.at in
+    let free = c.replace-held.new.dest in
+    let was = c.replace-held.result in
+    let entry = c.args.entry in
+    let back : set slots at was ≡ slots = ap (λ s. set slots at s) c.replace-held.ensures.value ∙ set-get_or slots at c.index-slots-at-2.result in
+    ap (λ s. map held (set (set slots at free) at s)) c.exchanged_if-stands.ensures.first
+    ∙ elim c.is_none-is_free.result as (λ b. map held (set (set slots at free) at (cond b entry was)) ≡ cond b (set (map held slots) at (held entry)) (map held slots)) [
+      | true ↦ ap (map held) (set-again slots at free entry) ∙ map-set held slots at entry
+      | false ↦ ap (map held) (set-again slots at free was ∙ back)
+    ]

@@ -1,0 +1,6 @@
+use Rattle.std.proofs.Common.{◌≡◌, []}
+use Rattle.core_slots.proofs.selection.hash_of_rank.Given as goal
+
+-- before each window nothing is gathered
+abbrev pub invariant-aim : goal.invariant-aim
+invariant-aim g l = l.hashes.items ≡ []

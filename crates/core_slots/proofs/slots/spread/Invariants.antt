@@ -1,0 +1,11 @@
+use Rattle.std.proofs.Common.{◌≡◌, ◌≤◌, ◌+◌, ℕ, map}
+use Rattle.core_slots.specs.Moving.{IsMoving}
+use Rattle.core_slots.proofs.slots.spread.Given as goal
+
+-- so many were put so far, with a look for each at least, and at most so many slots were looked at
+abbrev pub invariant-loop-slot : goal.invariant-loop-slot
+invariant-loop-slot g l =
+    (put : ℕ) × (looked : ℕ) × (l.placed ≡ l.initial.placed + put) × (l.looks ≤ l.initial.looks + looked) × IsMoving g.E.SketchEntry.key l.lg l.theta (map g.E.PathEntry.held l.initial.from.items) (map g.E.PathEntry.held l.from.items) (map g.E.PathEntry.held l.slots) put looked × (l.initial.looks + put ≤ l.looks)
+
+abbrev pub decreases-loop-slot : goal.decreases-loop-slot
+decreases-loop-slot g l = goal.left-loop-slot g l

@@ -1,0 +1,110 @@
+//! Slots laid out anew by way of others, into which what is below a theta is gathered first. No branch depends on a hash while
+//! it is gathered.
+ghost use Rattle.std.specs.Prelude.{◌≡◌, ◌+◌, ◌-◌, ◌<◌, ◌≤◌, ◌^◌, ◌*◌, [], None, nat_lt, OnOk, OnErr, length, map, take};
+ghost use Rattle.std.specs.List.{count_by};
+ghost use Rattle.core_laws.specs.Maps.{below, with_entry, map_of};
+ghost use Rattle.core_slots.specs.Layout.{filled, slot, IsOnPath, IsLaidOut};
+
+use crate::count::Count;
+use crate::rounds::settle_all;
+use crate::slot_entry::SlotEntry;
+use crate::slots::{number_below, spread};
+use std::alloc::{AllocError, Allocator};
+use std::mem;
+
+/// Moves what is below theta into the slots in front of others, of which there is one more at least, and leaves the slots free.
+/// Answers how many have come.
+fn take_below<E: SlotEntry>(slots: &mut [E::Slot], theta: u64, others: &mut [E::Slot]) -> usize
+    requires room { length (below E.key (filled (map E.held slots.old)) theta) < length others.old }
+    ensures size { length slots.new ≡ length slots.old }
+    ensures free { filled (map E.held slots.new) ≡ [] }
+    ensures number { result ≡ length (below E.key (filled (map E.held slots.old)) theta) }
+    ensures size_others { length others.new ≡ length others.old }
+    ensures taken { filled (map E.held (take result others.new)) ≡ below E.key (filled (map E.held slots.old)) theta }
+{
+    let mut count = 0;
+    'take_each: for at in 0..slots.len() {
+        let slot = mem::replace(&mut slots[at], E::free_slot());
+        let more = number_below::<E>(&slot, theta);
+        others[count] = slot;
+        count += more;
+    }
+    count
+}
+
+/// How many bytes a word of memory has.
+const WORD: usize = 8;
+
+/// Whether slots are at most one word each. No clause speaks of memory: it chooses between two ways to the same answer.
+#[inline(always)]
+pub(crate) fn are_words<T>(slots: &[T]) -> bool {
+    size_of_val(slots) / WORD <= slots.len()
+}
+
+/// Lays the slots out anew with what is below theta, which is gathered in others first, of which there is one more at least; what
+/// is not is dropped. Slots of one word are filled in rounds, and larger ones one by one. Counts in `placed` the entries placed,
+/// in `looks` the slots looked at.
+fn gather<E: SlotEntry, A: Allocator>(
+    slots: &mut [E::Slot],
+    others: Vec<E::Slot, A>,
+    lg: u8,
+    theta: u64,
+    placed: &mut Count,
+    looks: &mut Count,
+)
+where
+    A: Drop,
+    requires small { lg < 40 }
+    requires laid_out { IsLaidOut E.key lg (map E.held slots.old) }
+    requires room { length (below E.key (filled (map E.held slots.old)) theta) < length others.items }
+    ensures laid_out { IsLaidOut E.key lg (map E.held slots.new) }
+    ensures map { map_of E.key (filled (map E.held slots.new)) ≡ below E.key (map_of E.key (filled (map E.held slots.old))) theta }
+    ensures placed { placed.new ≡ placed.old + count_by (λ x. nat_lt (E.key x) theta) (filled (map E.held slots.old)) }
+    ensures looked { looks.old + (placed.new - placed.old) ≤ looks.new }
+    ensures looks { 2 * looks.new ≤ 2 * looks.old + (placed.new - placed.old) * (placed.new - placed.old + 1) }
+{
+    let mut gathered = others;
+    let count = take_below::<E>(slots, theta, &mut gathered);
+    gathered.truncate(count);
+    if are_words(slots) {
+        settle_all::<E, A>(&mut gathered, slots, lg, placed, looks);
+        return;
+    }
+    spread::<E, A>(&mut gathered, theta, slots, lg, placed, looks);
+}
+
+/// Puts a new entry into the free slot `at`, where a search for it ends, and lays the slots out anew with what is below theta, at
+/// most `kept` entries. Counts in `placed` the entries placed anew, in `looks` the slots looked at.
+///
+/// It asks for `kept` slots more and one, and fails only where that memory ran out; then nothing has changed.
+pub(crate) fn put_gathered<E: SlotEntry + Drop, A: Allocator + Clone>(
+    slots: &mut Vec<E::Slot, A>,
+    lg: u8,
+    theta: u64,
+    kept: usize,
+    at: usize,
+    entry: E,
+    placed: &mut Count,
+    looks: &mut Count,
+) -> Result<(), AllocError>
+    requires small { lg < 40 }
+    requires laid_out { IsLaidOut E.key lg (map E.held slots.old.items) }
+    requires inside { at < length slots.old.items }
+    requires free { slot (map E.held slots.old.items) at ≡ None }
+    requires on_path { IsOnPath E.key lg (map E.held slots.old.items) (E.key entry) at }
+    requires nonzero { 0 < E.key entry }
+    requires kept { length (below E.key (with_entry E.key (map_of E.key (filled (map E.held slots.old.items))) entry) theta) ≤ kept }
+    requires few { kept < 2 ^ 40 }
+    ensures laid_out { OnOk result (IsLaidOut E.key lg (map E.held slots.new.items)) }
+    ensures map { OnOk result (map_of E.key (filled (map E.held slots.new.items)) ≡ below E.key (with_entry E.key (map_of E.key (filled (map E.held slots.old.items))) entry) theta) }
+    ensures placed { OnOk result (placed.new ≡ placed.old + length (filled (map E.held slots.new.items))) }
+    ensures err { OnErr result (slots.new.items ≡ slots.old.items) }
+    ensures placed_err { OnErr result (placed.new ≡ placed.old) }
+    ensures looked { looks.old + (placed.new - placed.old) ≤ looks.new }
+    ensures looks { 2 * looks.new ≤ 2 * looks.old + (placed.new - placed.old) * (placed.new - placed.old + 1) }
+{
+    let others = E::free_slots(slots.allocator().clone()?, kept + 1)?;
+    slots[at] = entry.into_slot();
+    gather::<E, A>(slots, others, lg, theta, placed, looks);
+    Ok(())
+}

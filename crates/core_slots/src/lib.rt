@@ -1,0 +1,29 @@
+//! Entries of sketches, the steps of an insertion, and slots in which a table keeps entries by open addressing: searches,
+//! writes, moves from slots to slots, laying out anew in place, many hashes looked up at once, and the hash of a rank among
+//! those in slots.
+//!
+//! There are 2^lg slots. The path of a hash begins at the slot of its low lg bits and goes on by an odd stride of its next
+//! 7 bits, so it meets each slot once. Contracts see slots as a list of what each holds, and speak of the map that the
+//! entries make. Whether an entry may be retained, and when slots grow, is for the table above to say.
+#![tactic(auto)]
+
+mod count;
+mod entry;
+mod gathering;
+pub mod laws;
+mod lookup;
+mod relaying;
+mod rounds;
+mod selection;
+mod slot_entry;
+mod slots;
+mod step;
+
+pub use count::Count;
+pub use entry::{ThetaEntry, TupleEntry};
+pub use lookup::leave_out_held;
+pub use relaying::{keep_below, put_kept};
+pub use selection::hash_of_rank;
+pub use slot_entry::{PathEntry, SlotEntry};
+pub use slots::{Place, STRIDE_MASK, free_slots, put_spread, seek};
+pub use step::{EntryStep, PutStep, UpsertStep};

@@ -1,0 +1,96 @@
+//! Many hashes looked up at once, so that the slots of one are waited for together with those of others.
+//!
+//! Which hash a slot holds is as good as random, and where slots are many each look waits for memory. So a round looks at one
+//! slot of each hash, without a branch on what it finds, and only then those that were found are left out.
+ghost use Rattle.std.specs.Prelude.{◌≡◌, ◌==◌, ◌<◌, ◌≤◌, ◌^◌, if◌then◌else◌, false, not, length, map, filter, take, slice_index, EachIndex};
+ghost use Rattle.std.specs.List.{AllByRecursion};
+ghost use Rattle.core_laws.specs.Insertion.{IsRedundant, LeavesOut, is_screened};
+ghost use Rattle.core_slots.specs.Layout.{filled};
+ghost use Rattle.core_slots.specs.Lookup.{IsBlanked};
+
+use crate::slot_entry::SlotEntry;
+use crate::slots::{hash_or_zero, slot_after};
+
+/// How many slots on the path of a hash are looked at: few hashes that are held stand further on.
+const ROUNDS: usize = 3;
+
+/// The hash, or 0 where it is the other.
+#[inline(always)]
+fn unless_same(hash: u64, other: u64) -> u64
+    ensures { result ≡ (if hash == other then 0 else hash) }
+{
+    if hash == other { 0 } else { hash }
+}
+
+/// The hash, or 0 where the slot `at` holds it. It takes no branch.
+#[inline(always)]
+fn blanked_at<E: SlotEntry>(slots: &[E::Slot], at: usize, hash: u64) -> u64
+    requires inside { at < length slots.now }
+    ensures { IsBlanked E.key (filled (map E.held slots.now)) hash result }
+{
+    let held = hash_or_zero::<E>(&slots[at]);
+    unless_same(hash, held)
+}
+
+/// Writes 0 in place of each hash that is held by the slot `step` strides along its path.
+fn blank_held<E: SlotEntry>(slots: &[E::Slot], lg: u8, step: usize, hashes: &mut [u64])
+    requires small { lg < 40 }
+    requires near { step < 2 ^ 40 }
+    requires size { length slots.now ≡ 2 ^ lg }
+    ensures blanked { EachIndex hashes.old (λ p. IsBlanked E.key (filled (map E.held slots.now)) (slice_index hashes.old p) (slice_index hashes.new p)) }
+{
+    'blank_each: for hash in hashes.iter_mut() {
+        let at = slot_after(*hash, lg, step);
+        *hash = blanked_at::<E>(slots, at, *hash);
+    }
+}
+
+/// 1 for a hash that is neither 0 nor at least theta, otherwise 0. It is one comparison.
+#[inline(always)]
+fn number_unscreened(hash: u64, theta: u64) -> usize
+    requires positive { 0 < theta }
+    ensures { result ≡ (if is_screened hash theta then 0 else 1) }
+{
+    (hash.wrapping_sub(1) < theta - 1) as usize
+}
+
+/// Moves the hashes that are neither 0 nor at least theta to the front, in their order, and tells how many they are. It takes
+/// no branch on a hash.
+fn pack_unscreened(hashes: &mut [u64], theta: u64) -> usize
+    requires positive { 0 < theta }
+    ensures packed { take result hashes.new ≡ filter (λ h. not (is_screened h theta)) hashes.old }
+    ensures few { result ≤ length hashes.old }
+{
+    let mut count = 0usize;
+    'pack_each: for i in 0..hashes.len() {
+        let hash = hashes[i];
+        hashes[count] = hash;
+        count += number_unscreened(hash, theta);
+    }
+    count
+}
+
+/// Leaves out of `hashes` all that are 0 or at least `theta`, and of the others only such as are held by one of the 2^`lg`
+/// slots: those found within a few looks. What is left moves to the front, in its order; tells how many these are.
+///
+/// The slots of one hash are waited for together with those of others. These looks are not counted.
+pub fn leave_out_held<E: SlotEntry>(
+    slots: &[E::Slot],
+    lg: u8,
+    theta: u64,
+    hashes: &mut [u64],
+) -> usize
+    requires small { lg < 40 }
+    requires size { length slots.now ≡ 2 ^ lg }
+    requires positive { 0 < theta }
+    ensures left { LeavesOut (IsRedundant E.key (record { entries = filled (map E.held slots.now); theta = theta })) hashes.old (take result hashes.new) }
+    ensures unscreened { AllByRecursion (λ h. is_screened h theta ≡ false) (take result hashes.new) }
+    ensures few { result ≤ length hashes.old }
+{
+    let mut left = pack_unscreened(hashes, theta);
+    'round: for step in 0..ROUNDS {
+        blank_held::<E>(slots, lg, step, &mut hashes[..left]);
+        left = pack_unscreened(&mut hashes[..left], theta);
+    }
+    left
+}

@@ -1,0 +1,174 @@
+//! Slots laid out anew in place, with those of their entries that are below a theta.
+//!
+//! A mark for each slot says whether what it holds has been placed. What no mark stands for waits: it is taken out of its slot
+//! and put into the first slot on its path that is not marked, and what waited there is carried on in the same way. Most
+//! entries go back to the slot that they came from, so that memory is met nearly in order.
+ghost use Rattle.std.specs.Prelude.{◌≡◌, ℕ, ◌+◌, ◌-◌, ◌<◌, ◌≤◌, ◌^◌, ◌*◌, false, nat_lt, Some, None, IfOk, OnOk, OnErr, length, get_or, map, option_map, replicate};
+ghost use Rattle.std.specs.List.{count_by};
+ghost use Rattle.core_laws.specs.Maps.{below, with_entry, map_of};
+ghost use Rattle.core_slots.specs.Layout.{filled, slot, IsOnPath, IsLaidOut};
+ghost use Rattle.core_slots.specs.Relaying.{marked, IsFirstUnmarked};
+
+use crate::count::Count;
+use crate::gathering::{are_words, put_gathered};
+use crate::slot_entry::SlotEntry;
+use crate::slots::{hash_or_zero, power_of_two, slot_of, stride_of};
+use std::alloc::{AllocError, Allocator};
+use std::mem;
+
+/// Whether a slot is marked. Each look at a mark is one call, and counts as a look at its slot.
+#[inline(always)]
+fn is_marked(marks: &[bool], at: usize, looks: &mut Count) -> bool
+    requires { at < length marks.now }
+    ensures marked { result ≡ get_or marks.now at false }
+    ensures looks { looks.new ≡ looks.old + 1 }
+{
+    looks.tick();
+    marks[at]
+}
+
+/// The first slot on the path of a hash that is not marked. One of the 2^`lg` slots is not.
+///
+/// Each look at a mark is counted in `looks`: from 1 to one more than the slots that are marked.
+#[inline(always)]
+fn first_unmarked(marks: &[bool], lg: u8, hash: u64, looks: &mut Count) -> usize
+    requires small { lg < 40 }
+    requires size { length marks.now ≡ 2 ^ lg }
+    requires room { marked marks.now < 2 ^ lg }
+    ensures inside { result < length marks.now }
+    ensures first { IsFirstUnmarked lg marks.now hash result }
+    ensures looked { looks.old < looks.new }
+    ensures looks { looks.new ≤ looks.old + marked marks.now + 1 }
+{
+    let stride = stride_of(hash, lg);
+    let mut at = slot_of(hash as usize, lg);
+    'look: loop {
+        if !is_marked(marks, at, looks) {
+            return at;
+        }
+        at = slot_of(at + stride, lg);
+    }
+}
+
+/// The hash of what a slot holds, where it is below theta.
+#[inline(always)]
+fn hash_below<E: SlotEntry>(slot: &E::Slot, theta: u64) -> Option<u64>
+    ensures below { (h : ℕ) → result ≡ Some h → (option_map E.key (E.held slot.now) ≡ Some h) × (h < theta) }
+    ensures none { result ≡ None → (x : E) → E.held slot.now ≡ Some x → theta ≤ E.key x }
+{
+    if !E::is_below(slot, theta) {
+        return None;
+    }
+    // It isn't free, so that isn't asked again.
+    Some(hash_or_zero::<E>(slot))
+}
+
+/// A mark for each of 2^`lg` slots, none of which is marked, in one request for memory.
+fn no_marks<A: Allocator + Drop>(alloc: A, lg: u8) -> Result<Vec<bool, A>, AllocError>
+    requires { lg < 40 }
+    ensures { IfOk result (λ marks. marks.items ≡ replicate (2 ^ lg) false) }
+{
+    let marks = vec![in alloc; false; power_of_two(lg)]?;
+    Ok(marks)
+}
+
+/// Lays the slots out anew with what is below theta; what is not is dropped. Counts in `placed` the entries placed, in `looks`
+/// the looks at marks.
+fn relay<E: SlotEntry>(
+    slots: &mut [E::Slot],
+    marks: &mut [bool],
+    lg: u8,
+    theta: u64,
+    placed: &mut Count,
+    looks: &mut Count,
+)
+    requires small { lg < 40 }
+    requires laid_out { IsLaidOut E.key lg (map E.held slots.old) }
+    requires unmarked { marks.old ≡ replicate (2 ^ lg) false }
+    ensures laid_out { IsLaidOut E.key lg (map E.held slots.new) }
+    ensures map { map_of E.key (filled (map E.held slots.new)) ≡ below E.key (map_of E.key (filled (map E.held slots.old))) theta }
+    ensures placed { placed.new ≡ placed.old + count_by (λ x. nat_lt (E.key x) theta) (filled (map E.held slots.old)) }
+    ensures looked { looks.old + (placed.new - placed.old) ≤ looks.new }
+    ensures looks { 2 * looks.new ≤ 2 * looks.old + (placed.new - placed.old) * (placed.new - placed.old + 1) }
+{
+    'pass: for at in 0..slots.len() {
+        if !marks[at] {
+            let mut carried = mem::replace(&mut slots[at], E::free_slot());
+            'place: while let Some(hash) = hash_below::<E>(&carried, theta) {
+                let first = first_unmarked(marks, lg, hash, looks);
+                carried = mem::replace(&mut slots[first], carried);
+                marks[first] = true;
+                placed.tick();
+            }
+        }
+    }
+}
+
+/// Keeps what is below theta, in the same slots. Counts in `placed` the entries placed anew, in `looks` the slots looked at.
+///
+/// It asks for a byte for each slot, and fails only where that memory ran out; then nothing has changed.
+pub fn keep_below<E: SlotEntry + Drop, A: Allocator + Clone>(
+    slots: &mut Vec<E::Slot, A>,
+    lg: u8,
+    theta: u64,
+    placed: &mut Count,
+    looks: &mut Count,
+) -> Result<(), AllocError>
+    requires small { lg < 40 }
+    requires laid_out { IsLaidOut E.key lg (map E.held slots.old.items) }
+    ensures laid_out { OnOk result (IsLaidOut E.key lg (map E.held slots.new.items)) }
+    ensures map { OnOk result (map_of E.key (filled (map E.held slots.new.items)) ≡ below E.key (map_of E.key (filled (map E.held slots.old.items))) theta) }
+    ensures placed { OnOk result (placed.new ≡ placed.old + length (filled (map E.held slots.new.items))) }
+    ensures err { OnErr result (slots.new.items ≡ slots.old.items) }
+    ensures placed_err { OnErr result (placed.new ≡ placed.old) }
+    ensures looked { looks.old + (placed.new - placed.old) ≤ looks.new }
+    ensures looks { 2 * looks.new ≤ 2 * looks.old + (placed.new - placed.old) * (placed.new - placed.old + 1) }
+{
+    let mut marks = no_marks(slots.allocator().clone()?, lg)?;
+    relay::<E>(slots, &mut marks, lg, theta, placed, looks);
+    Ok(())
+}
+
+/// The binary logarithm up to which a rebuild gathers what it keeps into other slots, of any size. Larger ones are laid out anew
+/// in place where each has more than a word, since they are far in memory, and large.
+const GATHERED_LG: u8 = 16;
+
+/// Puts a new entry into the free slot `at`, where a search for it ends, and keeps of all what is below theta, in the same
+/// slots: at most `kept` entries. Counts in `placed` the entries placed anew, in `looks` the slots looked at.
+///
+/// It asks for `kept` slots more and one, or for a byte for each slot where there are more than 2^16 of more than a word. It fails
+/// only where that memory ran out; then nothing has changed.
+pub fn put_kept<E: SlotEntry + Drop, A: Allocator + Clone>(
+    slots: &mut Vec<E::Slot, A>,
+    lg: u8,
+    theta: u64,
+    kept: usize,
+    at: usize,
+    entry: E,
+    placed: &mut Count,
+    looks: &mut Count,
+) -> Result<(), AllocError>
+    requires small { lg < 40 }
+    requires laid_out { IsLaidOut E.key lg (map E.held slots.old.items) }
+    requires inside { at < length slots.old.items }
+    requires free { slot (map E.held slots.old.items) at ≡ None }
+    requires on_path { IsOnPath E.key lg (map E.held slots.old.items) (E.key entry) at }
+    requires nonzero { 0 < E.key entry }
+    requires kept { length (below E.key (with_entry E.key (map_of E.key (filled (map E.held slots.old.items))) entry) theta) ≤ kept }
+    requires few { kept < 2 ^ 40 }
+    ensures laid_out { OnOk result (IsLaidOut E.key lg (map E.held slots.new.items)) }
+    ensures map { OnOk result (map_of E.key (filled (map E.held slots.new.items)) ≡ below E.key (with_entry E.key (map_of E.key (filled (map E.held slots.old.items))) entry) theta) }
+    ensures placed { OnOk result (placed.new ≡ placed.old + length (filled (map E.held slots.new.items))) }
+    ensures err { OnErr result (slots.new.items ≡ slots.old.items) }
+    ensures placed_err { OnErr result (placed.new ≡ placed.old) }
+    ensures looked { looks.old + (placed.new - placed.old) ≤ looks.new }
+    ensures looks { 2 * looks.new ≤ 2 * looks.old + (placed.new - placed.old) * (placed.new - placed.old + 1) }
+{
+    if lg <= GATHERED_LG || are_words(slots) {
+        return put_gathered::<E, A>(slots, lg, theta, kept, at, entry, placed, looks);
+    }
+    let mut unmarked = no_marks(slots.allocator().clone()?, lg)?;
+    slots[at] = entry.into_slot();
+    relay::<E>(slots, &mut unmarked, lg, theta, placed, looks);
+    Ok(())
+}

@@ -1,0 +1,146 @@
+//! Entries put into free slots in rounds, in each of which every entry that is left looks one slot further on its path.
+//!
+//! Compiled, no branch depends on whether a slot is free, since the counts take no memory: put one by one, each entry ends its
+//! search with a branch that is guessed wrong.
+ghost use Rattle.std.specs.Prelude.{◌≡◌, ℕ, ◌+◌, ◌-◌, ◌<◌, ◌≤◌, ◌^◌, ◌*◌, [], ◌++◌, None, is_none, if◌then◌else◌, length, map, set};
+ghost use Rattle.core_laws.specs.Maps.{IsApart, entry_at, map_of};
+ghost use Rattle.core_slots.specs.Layout.{filled, slot, IsLaidOut};
+ghost use Rattle.core_slots.specs.Probe.{probe};
+ghost use Rattle.core_slots.specs.Rounds.{times};
+
+use crate::count::Count;
+use crate::slot_entry::{PathEntry, SlotEntry};
+use crate::slots::{hash_in, slot_after, slot_of};
+use std::alloc::Allocator;
+use std::mem;
+
+/// Two values, exchanged where that is asked. It takes no branch on it where they are words.
+#[inline(always)]
+fn exchanged_if<T>(is_exchanged: bool, first: T, second: T) -> (T, T)
+    ensures first { result.0 ≡ if is_exchanged then second else first }
+    ensures second { result.1 ≡ if is_exchanged then first else second }
+{
+    if is_exchanged {
+        (second, first)
+    } else {
+        (first, second)
+    }
+}
+
+/// Puts an entry into a slot if that is free. Answers whether it was, and what waits then: nothing, or the entry. It is one
+/// look.
+#[inline(always)]
+fn put_if_free<E: PathEntry>(
+    slots: &mut [E::Slot],
+    at: usize,
+    entry: E::Slot,
+    looks: &mut Count,
+) -> (bool, E::Slot)
+    requires { at < length slots.old }
+    ensures free { result.0 ≡ is_none (slot (map E.held slots.old) at) }
+    ensures stands { map E.held slots.new ≡ if result.0 then set (map E.held slots.old) at (E.held entry) else map E.held slots.old }
+    ensures waits { E.held result.1 ≡ if result.0 then None else E.held entry }
+    ensures looks { looks.new ≡ looks.old + 1 }
+{
+    let is_free = E::look(&slots[at], looks).is_none();
+    let held = mem::replace(&mut slots[at], E::free_slot());
+    let (stands, waits) = exchanged_if(is_free, held, entry);
+    slots[at] = stands;
+    (is_free, waits)
+}
+
+/// The slot that a hash looks at in a round, below 2^`lg`. The first is that of its low bits, which most entries settle in.
+#[inline(always)]
+fn slot_in_round(hash: u64, lg: u8, round: usize) -> usize
+    requires small { lg < 40 }
+    requires few { round < 2 ^ 40 }
+    ensures value { result ≡ probe hash lg round }
+    ensures below { result < 2 ^ lg }
+{
+    if round == 0 {
+        slot_of(hash as usize, lg)
+    } else {
+        slot_after(hash, lg, round)
+    }
+}
+
+/// Moves the entries of `left` into free slots beside those that are taken, and leaves open what `left` holds then. Counts in
+/// `placed` the entries, in `looks` the slots looked at.
+fn settle<E: SlotEntry>(
+    left: &mut [E::Slot],
+    slots: &mut [E::Slot],
+    lg: u8,
+    placed: &mut Count,
+    looks: &mut Count,
+)
+    requires small { lg < 40 }
+    requires laid_out { IsLaidOut E.key lg (map E.held slots.old) }
+    requires once { (q : ℕ) → times E.key q (filled (map E.held left.old)) + times E.key q (filled (map E.held slots.old)) ≤ 1 }
+    requires room { length (filled (map E.held left.old)) + length (filled (map E.held slots.old)) ≤ 2 ^ lg }
+    ensures size { length left.new ≡ length left.old }
+    ensures laid_out { IsLaidOut E.key lg (map E.held slots.new) }
+    ensures found { (q : ℕ) → entry_at E.key (filled (map E.held slots.new)) q ≡ entry_at E.key (filled (map E.held left.old) ++ filled (map E.held slots.old)) q }
+    ensures all { (q : ℕ) → times E.key q (filled (map E.held slots.new)) ≡ times E.key q (filled (map E.held left.old)) + times E.key q (filled (map E.held slots.old)) }
+    ensures count { length (filled (map E.held slots.new)) ≡ length (filled (map E.held left.old)) + length (filled (map E.held slots.old)) }
+    ensures placed { placed.new ≡ placed.old + length (filled (map E.held left.old)) }
+    ensures looked { looks.old + (placed.new - placed.old) ≤ looks.new }
+    ensures looks { 2 * looks.new + length (filled (map E.held slots.old)) * (length (filled (map E.held slots.old)) + 1) ≤ 2 * looks.old + length (filled (map E.held slots.new)) * (length (filled (map E.held slots.new)) + 1) }
+{
+    let mut count = left.len();
+    let mut round = 0;
+    'rounds: loop {
+        if count == 0 {
+            return;
+        }
+        let mut kept = 0;
+        'look_on: for at in 0..count {
+            let entry = E::take_out(&mut left[at]);
+            if let Some(hash) = hash_in::<E>(&entry) {
+                let next = slot_in_round(hash, lg, round);
+                let (is_settled, waits) = put_if_free::<E>(slots, next, entry, looks);
+                left[kept] = waits;
+                if is_settled {
+                    placed.tick();
+                } else {
+                    kept += 1;
+                }
+            }
+        }
+        count = kept;
+        round += 1;
+    }
+}
+
+/// How many slots are settled at once. Gathered in the order of slots, their entries look at a small part of memory.
+const PART: usize = 1024;
+
+/// Moves the entries of `left` into slots, all of which are free, so many at a time. Counts in `placed` the entries, in `looks`
+/// the slots looked at.
+pub(crate) fn settle_all<E: SlotEntry, A: Allocator>(
+    left: &mut Vec<E::Slot, A>,
+    slots: &mut [E::Slot],
+    lg: u8,
+    placed: &mut Count,
+    looks: &mut Count,
+)
+    requires small { lg < 40 }
+    requires size { length slots.old ≡ 2 ^ lg }
+    requires free { filled (map E.held slots.old) ≡ [] }
+    requires apart { IsApart E.key (filled (map E.held left.old.items)) }
+    requires room { length (filled (map E.held left.old.items)) ≤ 2 ^ lg }
+    ensures laid_out { IsLaidOut E.key lg (map E.held slots.new) }
+    ensures map { map_of E.key (filled (map E.held slots.new)) ≡ map_of E.key (filled (map E.held left.old.items)) }
+    ensures placed { placed.new ≡ placed.old + length (filled (map E.held left.old.items)) }
+    ensures looked { looks.old + (placed.new - placed.old) ≤ looks.new }
+    ensures looks { 2 * looks.new ≤ 2 * looks.old + (placed.new - placed.old) * (placed.new - placed.old + 1) }
+{
+    'parts: loop {
+        let count = left.len();
+        if count == 0 {
+            return;
+        }
+        let from = count.saturating_sub(PART);
+        settle::<E>(&mut left[from..], slots, lg, placed, looks);
+        left.truncate(from);
+    }
+}

@@ -1,0 +1,249 @@
+//! Entries in slots.
+ghost use Rattle.std.specs.Prelude.{◌≡◌, ℕ, ◌+◌, ◌-◌, ◌<◌, ◌≤◌, ◌^◌, ◌%◌, ◌*◌, true, false, nat_lt, Some, None, is_none, IfOk, OnOk, OnErr, [], ◌∷◌, length, map, option_map, unwrap_or};
+ghost use Rattle.std.specs.List.{count_by};
+ghost use Rattle.std.specs.Option.{option_copied};
+ghost use Rattle.core_laws.specs.Entries.{hash_key};
+ghost use Rattle.core_laws.specs.Maps.{rank, entry_at, below, with_entry, map_of};
+ghost use Rattle.core_slots.specs.Layout.{filled, slot, is_other, IsOnPath, IsLaidOut};
+ghost use Rattle.core_slots.specs.Probe.{probe, stride};
+
+use crate::count::Count;
+use crate::slot_entry::{PathEntry, SlotEntry};
+use std::alloc::{AllocError, Allocator};
+
+/// Where a search for a hash ended.
+#[derive(Debug, Clone, Copy)]
+pub struct Place {
+    /// The slot, below 2^lg.
+    pub at: usize,
+    /// Whether the slot is free. Otherwise it holds the entry of the hash.
+    pub is_free: bool,
+}
+
+/// The entry that a slot holds, if it holds one. Each look of a search is one call.
+#[inline(always)]
+fn look_at<'a, E: PathEntry + 'a>(
+    slots: &'a [E::Slot],
+    at: usize,
+    looks: &mut Count,
+) -> Option<&'a E>
+    requires { at < length slots.now }
+    ensures holds { option_copied result ≡ slot (map E.held slots.now) at }
+    ensures looks { looks.new ≡ looks.old + 1 }
+{
+    E::look(&slots[at], looks)
+}
+
+/// What is left of a number in so many slots.
+#[inline(always)]
+pub(crate) fn slot_of(number: usize, lg: u8) -> usize
+    requires { lg < 64 }
+    ensures value { result ≡ number % 2 ^ lg }
+    ensures below { result < 2 ^ lg }
+{
+    number & ((1usize << lg) - 1)
+}
+
+/// What is left of a number in `size` slots, which are 2^`lg`. That their number is there already saves a search the making of it.
+#[inline(always)]
+fn slot_among(number: usize, size: usize, lg: u8) -> usize
+    requires small { lg < 64 }
+    requires size { size ≡ 2 ^ lg }
+    ensures value { result ≡ number % 2 ^ lg }
+    ensures below { result < 2 ^ lg }
+{
+    number & (size - 1)
+}
+
+/// The bits of a hash, above its low lg bits, that choose the stride of its path.
+pub const STRIDE_MASK: u64 = 127;
+
+/// How far the path of a hash goes at each step.
+#[inline(always)]
+pub(crate) fn stride_of(hash: u64, lg: u8) -> usize
+    requires { lg < 64 }
+    ensures value { result ≡ stride hash lg }
+    ensures small { result < 256 }
+{
+    (2 * ((hash >> lg) & STRIDE_MASK) + 1) as usize
+}
+
+/// Where a search for a hash ends: at its entry, or else at the first free slot of its path. One of the 2^`lg` slots is free.
+///
+/// Each look at a slot is counted in `looks`: from 1 to one more than the slots that are taken.
+#[inline(always)]
+pub fn seek<E: PathEntry>(slots: &[E::Slot], lg: u8, hash: u64, looks: &mut Count) -> Place
+    requires small { lg < 40 }
+    requires size { length slots.now ≡ 2 ^ lg }
+    requires room { length (filled (map E.held slots.now)) < 2 ^ lg }
+    ensures inside { result.at < length slots.now }
+    ensures on_path { IsOnPath E.key lg (map E.held slots.now) hash result.at }
+    ensures ends { is_other E.key hash (slot (map E.held slots.now) result.at) ≡ false }
+    ensures told { result.is_free ≡ is_none (slot (map E.held slots.now) result.at) }
+    ensures looked { looks.old < looks.new }
+    ensures looks { looks.new ≤ looks.old + length (filled (map E.held slots.now)) + 1 }
+{
+    let size = slots.len();
+    let stride = stride_of(hash, lg);
+    let mut at = slot_among(hash as usize, size, lg);
+    'look: loop {
+        match look_at::<E>(slots, at, looks) {
+            None => return Place { at, is_free: true },
+            Some(entry) => {
+                if entry.hash() == hash {
+                    return Place { at, is_free: false };
+                }
+            }
+        }
+        at = slot_among(at + stride, size, lg);
+    }
+}
+
+/// The slot that a search for a hash looks at after so many steps, below 2^`lg`.
+#[inline(always)]
+pub(crate) fn slot_after(hash: u64, lg: u8, steps: usize) -> usize
+    requires small { lg < 40 }
+    requires few { steps < 2 ^ 40 }
+    ensures value { result ≡ probe hash lg steps }
+    ensures below { result < 2 ^ lg }
+{
+    let on = slot_of(hash as usize, lg) + steps * stride_of(hash, lg);
+    slot_of(on, lg)
+}
+
+/// The hash of what a slot holds.
+#[inline(always)]
+pub(crate) fn hash_in<E: SlotEntry>(slot: &E::Slot) -> Option<u64>
+    ensures { result ≡ option_map E.key (E.held slot.now) }
+{
+    let entry = E::in_slot(slot)?;
+    Some(entry.hash())
+}
+
+/// The hash of what a slot holds, and 0 for a free slot.
+#[inline(always)]
+pub(crate) fn hash_or_zero<E: SlotEntry>(slot: &E::Slot) -> u64
+    ensures { result ≡ unwrap_or (option_map E.key (E.held slot.now)) 0 }
+{
+    hash_in::<E>(slot).unwrap_or(0)
+}
+
+/// 1 for a slot that holds a hash less than `bound`, otherwise 0.
+#[inline(always)]
+pub(crate) fn number_below<E: SlotEntry>(slot: &E::Slot, bound: u64) -> usize
+    ensures number { result ≡ rank hash_key (map E.key (filled (E.held slot.now ∷ []))) bound }
+    ensures below { result ≡ length (below E.key (filled (E.held slot.now ∷ [])) bound) }
+    ensures small { result ≤ 1 }
+{
+    E::is_below(slot, bound) as usize
+}
+
+/// Puts a slot's entry of this hash where a search for the hash ends.
+#[inline(always)]
+fn put_slot<E: PathEntry>(
+    slots: &mut [E::Slot],
+    lg: u8,
+    filled_slot: E::Slot,
+    hash: u64,
+    looks: &mut Count,
+)
+    requires small { lg < 40 }
+    requires holds { option_map E.key (E.held filled_slot) ≡ Some hash }
+    requires laid_out { IsLaidOut E.key lg (map E.held slots.old) }
+    requires room { length (filled (map E.held slots.old)) < 2 ^ lg }
+    ensures laid_out { IsLaidOut E.key lg (map E.held slots.new) }
+    ensures found { (q : ℕ) → entry_at E.key (filled (map E.held slots.new)) q ≡ entry_at E.key (filled (E.held filled_slot ∷ map E.held slots.old)) q }
+    ensures count { length (filled (map E.held slots.new)) ≤ length (filled (map E.held slots.old)) + 1 }
+    ensures looked { looks.old < looks.new }
+    ensures looks { looks.new ≤ looks.old + length (filled (map E.held slots.old)) + 1 }
+{
+    let place = seek::<E>(slots, lg, hash, looks);
+    slots[place.at] = filled_slot;
+}
+
+/// Moves the entries with a hash below theta into slots that are free.
+pub(crate) fn spread<E: SlotEntry, A: Allocator>(
+    from: &mut Vec<E::Slot, A>,
+    theta: u64,
+    slots: &mut [E::Slot],
+    lg: u8,
+    placed: &mut Count,
+    looks: &mut Count,
+)
+    requires small { lg < 40 }
+    requires size { length slots.old ≡ 2 ^ lg }
+    requires free { filled (map E.held slots.old) ≡ [] }
+    requires room { length (filled (map E.held from.old.items)) ≤ 2 ^ lg }
+    ensures laid_out { IsLaidOut E.key lg (map E.held slots.new) }
+    ensures map { map_of E.key (filled (map E.held slots.new)) ≡ below E.key (map_of E.key (filled (map E.held from.old.items))) theta }
+    ensures placed { placed.new ≡ placed.old + count_by (λ x. nat_lt (E.key x) theta) (filled (map E.held from.old.items)) }
+    ensures looked { looks.old + (placed.new - placed.old) ≤ looks.new }
+    ensures looks { 2 * looks.new ≤ 2 * looks.old + (placed.new - placed.old) * (placed.new - placed.old + 1) }
+{
+    while let Some(slot) = from.pop() {
+        if let Some(hash) = hash_in::<E>(&slot) {
+            if hash < theta {
+                put_slot::<E>(slots, lg, slot, hash, looks);
+                placed.tick();
+            }
+        }
+    }
+}
+
+/// 2^`lg` free slots, in one request for memory. It fails only where memory ran out.
+pub fn free_slots<E: PathEntry, A: Allocator + Drop>(
+    alloc: A,
+    lg: u8,
+) -> Result<Vec<E::Slot, A>, AllocError>
+    requires { lg < 40 }
+    ensures size { IfOk result (λ slots. length slots.items ≡ 2 ^ lg) }
+    ensures free { IfOk result (λ slots. filled (map E.held slots.items) ≡ []) }
+{
+    let slots = E::free_slots(alloc, power_of_two(lg))?;
+    Ok(slots)
+}
+
+/// 2 to the power of a number below 40.
+#[inline(always)]
+pub(crate) fn power_of_two(lg: u8) -> usize
+    requires { lg < 40 }
+    ensures { result ≡ 2 ^ lg }
+{
+    1usize << lg
+}
+
+/// Puts a new entry into the free slot `at`, where a search for it ends, and moves all that is below theta to 2^`new_lg` other
+/// slots. Counts in `placed` the entries moved, in `looks` the slots looked at.
+///
+/// It fails only where memory for the other slots ran out; then nothing has changed.
+pub fn put_spread<E: SlotEntry + Drop, A: Allocator + Clone>(
+    slots: &mut Vec<E::Slot, A>,
+    lg: u8,
+    new_lg: u8,
+    theta: u64,
+    at: usize,
+    entry: E,
+    placed: &mut Count,
+    looks: &mut Count,
+) -> Result<(), AllocError>
+    requires small { new_lg < 40 }
+    requires laid_out { IsLaidOut E.key lg (map E.held slots.old.items) }
+    requires inside { at < length slots.old.items }
+    requires free { slot (map E.held slots.old.items) at ≡ None }
+    requires on_path { IsOnPath E.key lg (map E.held slots.old.items) (E.key entry) at }
+    requires room { length (filled (map E.held slots.old.items)) + 1 ≤ 2 ^ new_lg }
+    requires nonzero { 0 < E.key entry }
+    ensures laid_out { OnOk result (IsLaidOut E.key new_lg (map E.held slots.new.items)) }
+    ensures map { OnOk result (map_of E.key (filled (map E.held slots.new.items)) ≡ below E.key (with_entry E.key (map_of E.key (filled (map E.held slots.old.items))) entry) theta) }
+    ensures placed { OnOk result (placed.new ≡ placed.old + length (filled (map E.held slots.new.items))) }
+    ensures err { OnErr result (slots.new.items ≡ slots.old.items) }
+    ensures placed_err { OnErr result (placed.new ≡ placed.old) }
+    ensures looked { looks.old + (placed.new - placed.old) ≤ looks.new }
+    ensures looks { 2 * looks.new ≤ 2 * looks.old + (placed.new - placed.old) * (placed.new - placed.old + 1) }
+{
+    let mut others = free_slots::<E, A>(slots.allocator().clone()?, new_lg)?;
+    slots[at] = entry.into_slot();
+    spread::<E, A>(slots, theta, &mut others, new_lg, placed, looks);
+    *slots = others;
+    Ok(())
+}

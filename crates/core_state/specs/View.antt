@@ -1,0 +1,29 @@
+-- What views of sketches show, of either family.
+use Rattle.std.specs.Prelude.{ℕ, List, true, false}
+use Rattle.core_compact.specs.CompactState.{shown_of}
+use Rattle.core_operators.specs.Iter.{Lending}
+use Rattle.core_state.specs.Updatable.{sketch_shows}
+use Rattle.core_laws.specs.Shown.{Shown}
+use Rattle.core_state.specs.declared.view.SketchView.{SketchView}
+use Rattle.core_state.specs.declared.view.Viewed.{Viewed}
+use Rattle.core_state.specs.declared.view.Viewed.TheVariants.{Mutable, Compact}
+
+-- what the sketch behind a view shows
+abbrev pub viewed_shows : {X Z S : Type 0} → (X → ℕ) → Viewed X Z S → Shown
+viewed_shows key (Mutable sketch) = sketch_shows key sketch.now
+viewed_shows key (Compact sketch) = shown_of key sketch.now
+
+-- what an iterator over its entries has at first: whether it knows how many these are tells a compact sketch
+abbrev pub viewed_lending : {X Z S : Type 0} → Viewed X Z S → Lending X
+viewed_lending (Mutable sketch) = record { rest = sketch.now.lends; counted = false }
+viewed_lending (Compact sketch) = record { rest = sketch.now.entries; counted = true }
+
+-- the same of a view
+abbrev pub shows : {X Z S : Type 0} → (X → ℕ) → SketchView X Z S → Shown
+shows key view = viewed_shows key view.sketch
+
+abbrev pub lending : {X Z S : Type 0} → SketchView X Z S → Lending X
+lending view = viewed_lending view.sketch
+
+abbrev pub lends : {X Z S : Type 0} → SketchView X Z S → List X
+lends view = (lending view).rest

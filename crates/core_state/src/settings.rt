@@ -1,0 +1,103 @@
+//! What a sketch or a union is built with.
+ghost use Rattle.std.specs.Prelude.{◌≡◌};
+ghost use Rattle.core_state.specs.Settings.{default_settings};
+
+use core_laws::{DEFAULT_LG_K, MAX_THETA};
+use core_table::ResizeFactor;
+use sketch_base::DEFAULT_UPDATE_SEED;
+use std::marker::Model;
+
+/// What a sketch or a union is built with. Nothing is checked here; what is built of it is refused where it may not be.
+#[derive(Debug, Clone, Copy)]
+pub struct Settings {
+    lg_k: u8,
+    resize_factor: ResizeFactor,
+    starting_theta: u64,
+    seed: u64,
+}
+
+impl Model for Settings {
+    ghost use Rattle.core_state.specs.Settings.{Settings};
+
+    ghost Value = { Settings };
+
+    ghost view = { λ b. record { lg_k = b.lg_k; resize_factor = b.resize_factor; starting_theta = b.starting_theta; seed = b.seed } };
+
+    ghost inverse = { λ s. record { lg_k = s.lg_k; resize_factor = s.resize_factor; starting_theta = s.starting_theta; seed = s.seed } };
+}
+
+impl Default for Settings {
+    ghost is_default = { λ b. b ≡ default_settings };
+
+    /// 4096 nominal entries, the greatest starting theta and the default seed.
+    fn default() -> Self {
+        Settings {
+            lg_k: DEFAULT_LG_K,
+            resize_factor: ResizeFactor::X8,
+            starting_theta: MAX_THETA,
+            seed: DEFAULT_UPDATE_SEED,
+        }
+    }
+}
+
+impl Settings {
+    /// With 2^`lg_k` nominal entries; a sketch or a union may have `lg_k` from 4 to 26.
+    pub fn with_lg_k(mut self, lg_k: u8) -> Self
+        ensures { result ≡ record self { lg_k = lg_k } }
+    {
+        self.lg_k = lg_k;
+        self
+    }
+
+    /// With this resize factor, which changes no answer.
+    pub fn with_resize_factor(mut self, resize_factor: ResizeFactor) -> Self
+        ensures { result ≡ record self { resize_factor = resize_factor } }
+    {
+        self.resize_factor = resize_factor;
+        self
+    }
+
+    /// With this starting theta; a sketch or a union may have one from 1 to `MAX_THETA`.
+    pub fn with_starting_theta(mut self, starting_theta: u64) -> Self
+        ensures { result ≡ record self { starting_theta = starting_theta } }
+    {
+        self.starting_theta = starting_theta;
+        self
+    }
+
+    /// With this seed; none may have one whose seed hash is 0.
+    pub fn with_seed(mut self, seed: u64) -> Self
+        ensures { result ≡ record self { seed = seed } }
+    {
+        self.seed = seed;
+        self
+    }
+
+    /// The binary logarithm of the nominal entries.
+    pub fn lg_k(&self) -> u8
+        ensures { result ≡ self.now.lg_k }
+    {
+        self.lg_k
+    }
+
+    /// By how much a table grows.
+    pub fn resize_factor(&self) -> ResizeFactor
+        ensures { result ≡ self.now.resize_factor }
+    {
+        self.resize_factor
+    }
+
+    /// The theta that an empty table begins with, of 63 bits.
+    pub fn starting_theta(&self) -> u64
+        ensures { result ≡ self.now.starting_theta }
+    {
+        self.starting_theta
+    }
+
+    /// The seed that values are hashed under.
+    pub fn seed(&self) -> u64
+        ensures { result ≡ self.now.seed }
+    {
+        self.seed
+    }
+}

@@ -1,0 +1,260 @@
+//! The state of a sketch that takes updates, of either family.
+ghost use Rattle.std.specs.Prelude.{◌≡◌, ◌≤◌, ◌==◌, ◌&&◌, ◌^◌, true, false, not, nat_lt, None, length, IfOk, OnOk, OnErr, IsTrue};
+ghost use Rattle.std.specs.List.{concat};
+ghost use Rattle.std.specs.Option.{ForSome};
+ghost use Rattle.sketch_base.specs.Seed.{hash_of};
+ghost use Rattle.core_compact.specs.CompactState.{IsAnswer};
+ghost use Rattle.core_laws.specs.Cuts.{cut};
+ghost use Rattle.core_laws.specs.Entries.{hash_key, hash_step, ClonesEqual};
+ghost use Rattle.core_laws.specs.Parts.{StopsAt};
+ghost use Rattle.core_laws.specs.Refusal.{Refuses};
+ghost use Rattle.core_laws.specs.Maps.{IsLent};
+ghost use Rattle.core_laws.specs.Settings.{settings_refusal};
+ghost use Rattle.core_table.specs.HashTable.{empty_table, after_reset, after_hashes};
+ghost use Rattle.core_laws.specs.Insertion.{after_upsert, upsert_refusal, upsert_allocates};
+ghost use Rattle.core_state.specs.Updatable.{IsUpdatable, sketch_value, sketch_shows};
+ghost use Rattle.core_laws.specs.Values.{theta_of, count_of, fraction_of};
+ghost use Rattle.core_laws.specs.Shown.{IsShown};
+ghost use Rattle.core_state.specs.Fraction.{decimal_of};
+ghost use Rattle.core_state.specs.declared.fraction.TheConstants.{MAX_PLACES};
+
+use crate::fraction::{Decimal, estimate_decimal, fraction};
+use crate::settings::Settings;
+use core_compact::CompactSketchState;
+use core_laws::MAX_THETA;
+use core_operators::EntryIter;
+use core_slots::{SlotEntry, ThetaEntry, UpsertStep};
+use core_table::SketchHashTable;
+use sketch_base::Error;
+use std::alloc::{Allocator, Global};
+use std::hash::Hash;
+use std::marker::Model;
+
+/// A table of entries, and whether no update was accepted yet. Its value is Empty until one is.
+#[derive(Drop)]
+pub struct UpdatableState<E: SlotEntry, A: Allocator = Global> {
+    table: SketchHashTable<E, A>,
+    empty: bool,
+}
+
+impl<E: SlotEntry, A: Allocator> Model for UpdatableState<E, A> {
+    ghost use Rattle.core_state.specs.Updatable.{Updatable, IsUpdatable};
+
+    ghost Value = { Updatable E };
+
+    ghost view = { λ s. record { empty = s.empty; map = s.table.map; lends = s.table.lends } };
+
+    ghost invariant = { λ s. IsUpdatable (record { empty = s.empty; map = s.table.map; lends = s.table.lends }) };
+}
+
+impl<E: SlotEntry, A: Allocator> UpdatableState<E, A> {
+    /// An empty state of these settings, in memory of `alloc`. Refused with `InvalidArgument` for settings that no sketch may
+    /// have, and with `OutOfMemory`.
+    pub fn new(alloc: A, settings: Settings) -> Result<Self, Error>
+    where
+        A: Drop,
+        ensures empty { IfOk result (λ s. s.empty ≡ true) }
+        ensures made { IfOk result (λ s. s.map ≡ empty_table settings.lg_k settings.starting_theta settings.seed) }
+        ensures refused { Refuses result (settings_refusal settings.lg_k settings.starting_theta settings.seed) true }
+    {
+        let table = SketchHashTable::new(
+            alloc,
+            settings.lg_k(),
+            settings.resize_factor(),
+            settings.starting_theta(),
+            settings.seed(),
+        )?;
+        Ok(UpdatableState { table, empty: true })
+    }
+
+    /// Whether no update was accepted since it was made or last reset.
+    pub fn is_empty(&self) -> bool
+        ensures { result ≡ self.now.empty }
+    {
+        self.empty
+    }
+
+    /// Whether it is not empty and its theta is below the greatest.
+    pub fn is_estimation_mode(&self) -> bool
+        ensures { result ≡ (not self.now.empty && nat_lt self.now.map.kept.theta MAX_THETA) }
+    {
+        !self.empty && self.table.retention_theta() < MAX_THETA
+    }
+
+    /// The theta of its value: from 1 to `MAX_THETA`, and `MAX_THETA` where it is empty.
+    pub fn theta64(&self) -> u64
+        ensures { result ≡ theta_of (sketch_value self.now) }
+    {
+        if self.empty {
+            MAX_THETA
+        } else {
+            self.table.retention_theta()
+        }
+    }
+
+    /// How many entries it retains, fewer than 2^32.
+    pub fn num_retained(&self) -> usize
+        ensures count { result ≡ count_of (sketch_value self.now) }
+        ensures lent { result ≡ length self.now.lends }
+        ensures sound { IsShown (sketch_shows E.key self.now) }
+    {
+        let _ = self.table.iter_entries();
+        self.table.num_retained()
+    }
+
+    /// The fraction whose quotient estimates how many distinct values were seen: the retained entries times `MAX_THETA`, over
+    /// theta, not reduced; 0 over 1 where it is empty.
+    pub fn estimate_fraction(&self) -> (u128, u128)
+        ensures { result ≡ fraction_of (sketch_value self.now) }
+    {
+        fraction(
+            self.empty,
+            self.num_retained(),
+            self.table.retention_theta(),
+        )
+    }
+
+    /// The estimate as a decimal number of at most 19 decimals, rounded down; 0 where it is empty.
+    pub fn estimate_decimal(&self, places: u32) -> Decimal
+        requires few { places ≤ MAX_PLACES }
+        ensures { result ≡ decimal_of (fraction_of (sketch_value self.now)) places }
+    {
+        let _ = self.num_retained();
+        estimate_decimal(self.estimate_fraction(), places)
+    }
+
+    /// The binary logarithm of its nominal entries, from 4 to 26.
+    pub fn lg_k(&self) -> u8
+        ensures { result ≡ self.now.map.lg_nom }
+    {
+        self.table.lg_nom_size()
+    }
+
+    /// The hash of its seed.
+    pub fn seed_hash(&self) -> u16
+        ensures { result ≡ self.now.map.seed_hash }
+    {
+        self.table.seed_hash()
+    }
+
+    /// The hash of a value under its seed.
+    pub fn hash<T: Hash + Drop>(&self, value: T) -> u64
+        ensures { result ≡ hash_of self.now.map.seed (concat (T.hash_input value)) }
+    {
+        self.table.hash(value)
+    }
+
+    /// Its entries, each once, in an open order.
+    pub fn entries(&self) -> EntryIter<'_, E>
+        ensures lent { result ≡ record { rest = self.now.lends; counted = false } }
+        ensures each_once { IsLent E.key self.now.map.kept.entries self.now.lends }
+    {
+        EntryIter::of_table(&self.table)
+    }
+
+    /// How many bytes the slots of its table take, free ones too.
+    pub fn estimated_size(&self) -> usize {
+        self.table.estimated_size()
+    }
+}
+
+impl<E: SlotEntry + Drop, A: Allocator> UpdatableState<E, A> {
+    /// Makes it empty again, with its starting theta. It takes no memory.
+    pub fn reset(&mut self)
+        ensures empty { self.new.empty ≡ true }
+        ensures map { self.new.map ≡ after_reset self.old.map }
+    {
+        self.table.reset();
+        self.empty = true;
+    }
+}
+
+impl<E: SlotEntry + Drop, A: Allocator + Clone> UpdatableState<E, A> {
+    /// Takes in a hash, by a step on the entry that has it. One that is 0 or at least theta is not retained, but makes the
+    /// state nonempty all the same.
+    ///
+    /// Refused with what the step refuses, or with `OutOfMemory`; then nothing has changed, emptiness included.
+    #[inline(always)]
+    pub fn upsert<S: UpsertStep<E> + Drop>(&mut self, hash: u64, step: S) -> Result<(), Error>
+        requires keeps_hash { (x : E) → E.key x ≡ hash → E.key ((S.means step).writes x) ≡ hash }
+        requires makes_hash { ForSome (S.means step).makes (λ x. E.key x ≡ hash) }
+        ensures nonempty { OnOk result (self.new.empty ≡ false) }
+        ensures after { OnOk result (self.new.map ≡ record self.old.map { kept = after_upsert E.key (2 ^ self.old.map.lg_nom) hash (S.means step) self.old.map.kept }) }
+        ensures err_empty { OnErr result (self.new.empty ≡ self.old.empty) }
+        ensures err { OnErr result (self.new.map ≡ self.old.map) }
+        ensures refused { Refuses result (upsert_refusal E.key hash (S.means step) self.old.map.kept) (upsert_allocates E.key hash (S.means step) self.old.map.kept) }
+    {
+        self.table.upsert_entry(hash, step)?;
+        self.empty = false;
+        Ok(())
+    }
+
+    /// Where more than k entries are retained, lowers theta to the (k+1)th smallest hash and keeps the k below it.
+    ///
+    /// Refused with `OutOfMemory` alone, and only where more than k are retained; then nothing has changed.
+    pub fn trim(&mut self) -> Result<(), Error>
+        ensures same_emptiness { self.new.empty ≡ self.old.empty }
+        ensures after { OnOk result (self.new.map ≡ record self.old.map { kept = cut E.key (2 ^ self.old.map.lg_nom) self.old.map.kept.entries self.old.map.kept.theta }) }
+        ensures err { OnErr result (self.new.map ≡ self.old.map) }
+        ensures refused { Refuses result None (nat_lt (2 ^ self.old.map.lg_nom) (length self.old.map.kept.entries)) }
+    {
+        self.table.trim()?;
+        Ok(())
+    }
+}
+
+impl<E: SlotEntry + Clone, A: Allocator + Clone> UpdatableState<E, A> {
+    /// Its compact form, of the same value, untrimmed. It is ordered where that is asked, or it is empty or has one entry at
+    /// the greatest theta. Refused with `OutOfMemory` alone.
+    pub fn compact(&self, ordered: bool) -> Result<CompactSketchState<E, A>, Error>
+        requires clones_equal { ClonesEqual E.is_clone }
+        ensures ok { IfOk result (IsAnswer E.key (sketch_value self.now) self.now.map.seed_hash ordered) }
+        ensures refused { Refuses result None true }
+    {
+        let _ = self.num_retained();
+        let state = if self.empty {
+            CompactSketchState::empty(self.table.allocator().clone()?, self.seed_hash())
+        } else {
+            self.table.to_non_empty_compact_state(ordered)?
+        };
+        Ok(state)
+    }
+}
+
+impl<A: Allocator + Clone> UpdatableState<ThetaEntry, A> {
+    /// Takes in a hash, which is its own entry. One that is 0 or at least theta is not retained, but makes the state nonempty
+    /// all the same.
+    ///
+    /// Refused with `OutOfMemory` alone, and only for a new hash below theta; then nothing has changed, emptiness included.
+    #[inline(always)]
+    pub fn insert_hash(&mut self, hash: u64) -> Result<(), Error>
+        ensures nonempty { OnOk result (self.new.empty ≡ false) }
+        ensures after { OnOk result (self.new.map ≡ record self.old.map { kept = after_upsert hash_key (2 ^ self.old.map.lg_nom) hash (hash_step hash) self.old.map.kept }) }
+        ensures err_empty { OnErr result (self.new.empty ≡ self.old.empty) }
+        ensures err { OnErr result (self.new.map ≡ self.old.map) }
+        ensures refused { Refuses result None (upsert_allocates hash_key hash (hash_step hash) self.old.map.kept) }
+    {
+        self.table.try_insert_hash(hash)?;
+        self.empty = false;
+        Ok(())
+    }
+
+    /// Takes in hashes in their order, each as `insert_hash` does; the slots of up to 256 of them are looked at side by side.
+    /// The state is nonempty then, unless it was empty and there were none.
+    ///
+    /// Refused with `OutOfMemory` alone, and only at a new hash below theta; then just the hashes before that one have been
+    /// taken in, and the same call may be made again.
+    pub fn insert_hashes(&mut self, hashes: &[u64]) -> Result<(), Error>
+        ensures after { OnOk result (self.new.map ≡ after_hashes hashes.now self.old.map) }
+        ensures empty { OnOk result (self.new.empty ≡ (self.old.empty && length hashes.now == 0)) }
+        ensures err { OnErr result (StopsAt hashes.now (λ front hash. (self.new.map ≡ after_hashes front self.old.map) × (self.new.empty ≡ (self.old.empty && length front == 0)) × IsTrue (upsert_allocates hash_key hash (hash_step hash) self.new.map.kept))) }
+        ensures refused { Refuses result None true }
+    {
+        let Some((first, others)) = hashes.split_first() else {
+            return Ok(());
+        };
+        // The first goes alone: the state is nonempty from it on, also where a later one is refused.
+        self.insert_hash(*first)?;
+        self.table.insert_hashes(others)
+    }
+}

@@ -1,0 +1,12 @@
+use Rattle.std.proofs.Common.{◌≡◌, map, length}
+use Rattle.core_slots.specs.Layout.{filled}
+use Rattle.core_table.specs.Marks.{under}
+use Rattle.core_table.proofs.iter.marked_from.Given as goal
+
+-- what was passed holds nothing under the bound
+abbrev pub invariant-pass_blocks : goal.invariant-pass_blocks
+invariant-pass_blocks g l = filled (map (under g.E.SketchEntry.key l.bound g.E.PathEntry.held) l.left) ≡ filled (map (under g.E.SketchEntry.key l.bound g.E.PathEntry.held) l.slots)
+
+-- the slots that are left
+abbrev pub decreases-pass_blocks : goal.decreases-pass_blocks
+decreases-pass_blocks g l = length l.left

@@ -1,0 +1,160 @@
+-- The value of a hash table, its laws and its sizes.
+use Rattle.std.specs.Prelude.{ℕ, ◌<◌, ◌≤◌, ◌≡◌, ◌==◌, ◌+◌, ◌-◌, ◌*◌, ◌/◌, ◌%◌, ◌^◌, ◌&&◌, ◌||◌, ◌⊎◌, not, true, false, List, [], nat_lt, nat_le, min, Bool, if◌then◌else◌, Option, Some, None, length, is_some}
+use Rattle.std.specs.Int.Count.{count_leading_zeros}
+use Rattle.sketch_base.specs.Seed.{seed_hash}
+use Rattle.sketch_base.specs.declared.error.ErrorKind.{ErrorKind}
+use Rattle.sketch_base.specs.declared.error.ErrorKind.TheVariants.{InvalidArgument}
+use Rattle.core_laws.specs.declared.TheConstants.{MAX_THETA, MIN_LG_K, MAX_LG_K, MIN_LG_SLOTS}
+use Rattle.core_laws.specs.Cuts.{Retained, none_below, IsRetained}
+use Rattle.core_laws.specs.Maps.{entry_at}
+use Rattle.core_laws.specs.Entries.{hash_key, hash_step}
+use Rattle.core_laws.specs.Insertion.{is_screened, after_upserts}
+use Rattle.core_table.specs.declared.insertion.Counts.{Counts}
+use Rattle.core_slots.specs.Layout.{filled, IsLaidOut}
+
+-- what a table retains, and what it was made with: its nominal logarithm, whether it has slots at all, its starting theta, its seed and that seed's hash
+pub record MapTable (X : Type 0) : Type 0 where
+  pub kept : Retained X
+  pub lg_nom : ℕ
+  pub has_slots : Bool
+  pub start : ℕ
+  pub seed : ℕ
+  pub seed_hash : ℕ
+
+-- the slots of a table, their binary logarithm, and by how much that grows at once
+pub record Layout (X : Type 0) : Type 0 where
+  pub lg_cur : ℕ
+  pub grow : ℕ
+  pub slots : List (Option X)
+
+-- what clauses see of a table: its map, its entries in the order in which it lends them, which is open, its slots, and what was done
+pub record Table (X : Type 0) : Type 0 where
+  pub map : MapTable X
+  pub lends : List X
+  pub layout : Layout X
+  pub counts : Counts
+
+-- a table with no entries and its starting theta
+abbrev pub empty_table : {X : Type 0} → (lg_nom start seed : ℕ) → MapTable X
+empty_table lg_nom start seed =
+    record { kept = none_below start; lg_nom = lg_nom; has_slots = true; start = start; seed = seed; seed_hash = seed_hash seed }
+
+-- a table with no entries below a theta, with slots or without, that starts at the greatest theta
+abbrev pub set_table : {X : Type 0} → (lg_nom : ℕ) → (has_slots : Bool) → (theta seed hash : ℕ) → MapTable X
+set_table lg_nom has_slots theta seed hash =
+    record { kept = none_below theta; lg_nom = lg_nom; has_slots = has_slots; start = MAX_THETA; seed = seed; seed_hash = hash }
+
+-- the sizes that a table of an operator may have: twice as many slots as nominal entries, or no slots and one nominal entry
+abbrev pub IsSized : (lg_cur lg_nom : ℕ) → Type 0
+IsSized lg_cur lg_nom = (lg_cur ≡ lg_nom + 1) ⊎ ((lg_cur ≡ 0) × (lg_nom ≡ 0))
+
+-- a seed and its hash, which isn't 0
+abbrev pub IsSeedHash : (seed hash : ℕ) → Type 0
+IsSeedHash seed hash = (hash ≡ seed_hash seed) × (0 < hash)
+
+-- the table with no entries and its starting theta again
+abbrev pub after_reset : {X : Type 0} → MapTable X → MapTable X
+after_reset t = record t { kept = none_below t.start }
+
+-- what a table may be made with
+pub record IsMadeWith (lg_nom start seed hash : ℕ) : Type 0 where
+  pub lg_nom_high : lg_nom ≤ 32
+  pub start_low : 0 < start
+  pub start_high : start ≤ MAX_THETA
+  pub of_seed : hash ≡ seed_hash seed
+  pub hash_low : 0 < hash
+
+-- a table of hashes after more of them were inserted in turn
+abbrev pub after_hashes : List ℕ → MapTable ℕ → MapTable ℕ
+after_hashes hashes t = record t { kept = after_upserts hash_key (2 ^ t.lg_nom) hash_step hashes t.kept }
+
+-- what holds of every table
+pub record IsTable {X : Type 0} (key : X → ℕ) (t : MapTable X) : Type 0 where
+  pub kept : IsRetained key t.kept
+  pub few : 8 ≤ 2 ^ t.lg_nom → length t.kept.entries ≤ 15 * 2 ^ t.lg_nom / 8
+  pub made : IsMadeWith t.lg_nom t.start t.seed t.seed_hash
+  pub without_slots : t.has_slots ≡ false → t.lg_nom ≡ 0
+
+-- the whole binary logarithm of a number below 2^64, and 0 for 0
+abbrev pub whole_log : ℕ → ℕ
+whole_log n = 63 - count_leading_zeros 64 n
+
+-- the binary logarithm of slots of which n entries fill at most fifteen sixteenths
+abbrev pub lg_size_for : ℕ → ℕ
+lg_size_for n = if nat_lt (2 ^ (whole_log n + 1) * 15 / 16) n then whole_log n + 2 else whole_log n + 1
+
+-- whether there is room for an entry more: always from sixteen slots on, where a rebuild comes before they are full; in fewer, while two are free
+abbrev pub has_room : {X : Type 0} → MapTable X → Bool
+has_room t = nat_le 3 t.lg_nom || (t.has_slots && nat_lt (length t.kept.entries + 1) (2 ^ (t.lg_nom + 1)))
+
+-- whether a hash may be inserted: it is passed over, or retained, or there is room
+abbrev pub may_insert : {X : Type 0} → (X → ℕ) → ℕ → MapTable X → Bool
+may_insert key h t = is_screened h t.kept.theta || (is_some (entry_at key t.kept.entries h) || has_room t)
+
+-- how many entries the slots may have before there are more of them or a rebuild
+abbrev pub threshold : (lg_cur lg_nom : ℕ) → ℕ
+threshold lg_cur lg_nom = if nat_le lg_cur lg_nom then 2 ^ lg_cur / 2 else 2 ^ lg_cur - 2 ^ lg_cur / 16
+
+-- the binary logarithm of the slots that a table begins with: at least low, and so that growth by so much comes to the target
+abbrev pub sub_multiple : (target low grow : ℕ) → ℕ
+sub_multiple target low grow = if nat_le target low then low else if grow == 0 then target else ((target - low) % grow + low)
+
+-- how many slots the table of an operator has: none where their logarithm is 0
+abbrev pub slots_of_operator : ℕ → ℕ
+slots_of_operator lg = if lg == 0 then 0 else 2 ^ lg
+
+-- nothing was done
+abbrev pub nothing_done : Counts
+nothing_done = record { inserted = 0; placed = 0; rebuilds = 0; fresh = 0; looks = 0; trims = 0 }
+
+-- so many slots for so many entries, where the logarithm grows by so much
+pub record HasSize (lg_cur lg_nom grow count : ℕ) : Type 0 where
+  pub few : count ≤ threshold lg_cur lg_nom
+  pub room : count < 2 ^ lg_cur
+  pub within : lg_cur ≤ lg_nom + 1
+  pub nom_high : lg_nom ≤ 32
+  pub grow_high : grow ≤ 3
+  pub grows : lg_cur ≤ lg_nom → (MIN_LG_SLOTS ≤ lg_cur) × (1 ≤ grow)
+  pub starts : MIN_LG_K ≤ lg_nom → sub_multiple (lg_nom + 1) MIN_LG_SLOTS grow ≤ lg_cur
+
+-- what holds of every table in slots
+pub record IsSlotted {X : Type 0} (key : X → ℕ) (t : MapTable X) (lg_cur grow count : ℕ) (slots : List (Option X)) : Type 0 where
+  pub table : IsTable key t
+  pub laid_out : t.has_slots ≡ true → IsLaidOut key lg_cur slots
+  pub without : t.has_slots ≡ false → slots ≡ []
+  pub counted : count ≡ length (filled slots)
+  pub sized : t.has_slots ≡ true → HasSize lg_cur t.lg_nom grow count
+
+-- few entries were placed: before the first rebuild less than the slots and twice the entries, and from the first rebuild on at most three times those that were created before the fresh ones
+abbrev pub ArePlaced : (lg_cur lg_nom count : ℕ) → Counts → Type 0
+ArePlaced lg_cur lg_nom count done =
+    ((done.fresh ≡ done.inserted) × ((count ≤ done.inserted) × ((2 * done.placed ≤ 2 ^ lg_cur + 2 * lg_cur) × (done.placed ≤ 3 * done.inserted)))) ⊎ ((lg_nom < lg_cur) × (done.placed + 3 * done.fresh ≤ 3 * done.inserted))
+
+-- what was done against the entries that there are: all beyond the nominal ones are fresh, rebuilds are rare, and few entries were placed where none was cut but by insertions
+pub record IsCounted (lg_cur lg_nom count : ℕ) (done : Counts) : Type 0 where
+  pub fresh : count ≤ 2 ^ lg_nom + done.fresh
+  pub rare : 7 * 2 ^ lg_nom * done.rebuilds + 8 * done.fresh ≤ 8 * done.inserted
+  pub few_placed : done.trims ≡ 0 → ArePlaced lg_cur lg_nom count done
+
+-- the binary logarithm of the slots after an insertion that creates an entry: more, where they then have more entries than they may and can still grow
+abbrev pub size_after : (lg_cur lg_nom grow count : ℕ) → ℕ
+size_after lg_cur lg_nom grow count = if nat_le (count + 1) (threshold lg_cur lg_nom) then lg_cur else if nat_le lg_cur lg_nom then min (lg_cur + grow) (lg_nom + 1) else lg_cur
+
+-- how many entries there are after an insertion that creates one: the nominal ones, where the slots then have more than they may and cannot grow
+abbrev pub count_after : (lg_cur lg_nom count : ℕ) → ℕ
+count_after lg_cur lg_nom count = if nat_le (count + 1) (threshold lg_cur lg_nom) then count + 1 else if nat_le lg_cur lg_nom then count + 1 else 2 ^ lg_nom
+
+-- what is counted of an insertion that creates an entry, all but its looks, where the slots have room for it, can grow, or neither: into more slots all entries are placed, and in a rebuild the nominal ones
+abbrev pub ticked_if : (fits grows : Bool) → (nominal count : ℕ) → Counts → Counts
+ticked_if true grows nominal count done = record done { inserted = done.inserted + 1; fresh = done.fresh + 1 }
+ticked_if false true nominal count done = record done { inserted = done.inserted + 1; fresh = done.fresh + 1; placed = done.placed + (count + 1) }
+ticked_if false false nominal count done = record done { inserted = done.inserted + 1; fresh = 0; placed = done.placed + nominal; rebuilds = done.rebuilds + 1 }
+
+abbrev pub ticked : (lg_cur lg_nom count : ℕ) → Counts → Counts
+ticked lg_cur lg_nom count done = ticked_if (nat_le (count + 1) (threshold lg_cur lg_nom)) (nat_le lg_cur lg_nom) (2 ^ lg_nom) count done
+
+-- what holds of every table, of the threshold that it keeps, and of what was done to it
+pub record IsProbing {X : Type 0} (key : X → ℕ) (t : MapTable X) (lg_cur grow most count : ℕ) (slots : List (Option X)) (done : Counts) : Type 0 where
+  pub slotted : IsSlotted key t lg_cur grow count slots
+  pub bounded : most ≡ (if t.has_slots then threshold lg_cur t.lg_nom else 0)
+  pub counted : IsCounted lg_cur t.lg_nom count done

@@ -1,0 +1,5 @@
+pub mod HashTable
+mod Insertion
+pub mod ResizeFactor
+pub mod Gathering
+pub mod Marks

@@ -1,0 +1,100 @@
+//! Answers of tables: what is in slots, below a theta, as compact states.
+ghost use Rattle.std.specs.Prelude.{◌≡◌, ℕ, ◌<◌, ◌≤◌, ◌^◌, [], ◌∷◌, ◌++◌, length, map, take, true, false, None, IfOk, OnOk};
+ghost use Rattle.std.specs.List.{AllByRecursion};
+ghost use Rattle.core_compact.specs.CompactState.{IsCompactOf};
+ghost use Rattle.core_laws.specs.Maps.{IsApart, below, map_of};
+ghost use Rattle.core_laws.specs.Cuts.{cut, retained};
+ghost use Rattle.core_laws.specs.Entries.{ClonesEqual};
+ghost use Rattle.core_slots.specs.Layout.{filled};
+ghost use Rattle.core_laws.specs.Refusal.{Refuses};
+ghost use Rattle.core_laws.specs.Cuts.{IsRetained};
+
+use crate::iter::{Marked, first_in};
+use core_compact::{CompactSketchState, is_answer_ordered};
+use core_laws::SketchEntry;
+use core_slots::{SlotEntry, hash_of_rank};
+use sketch_base::Error;
+use std::alloc::{AllocError, Allocator};
+
+/// Clones of the entries below a theta, in the order of the slots, with room for `room` of them from the start. No branch depends
+/// on what a slot holds.
+pub(crate) fn entries_below<'a, E: SlotEntry + Clone + 'a, A: Allocator>(
+    alloc: A,
+    slots: &'a [E::Slot],
+    theta: u64,
+    room: usize,
+) -> Result<Vec<E, A>, AllocError>
+    requires clones_equal { ClonesEqual E.is_clone }
+    ensures listed { IfOk result (λ v. v.items ≡ below E.key (filled (map E.held slots.now)) theta) }
+{
+    let mut left = Marked {
+        slots,
+        ahead: 0,
+        marks: 0,
+    };
+    let mut clones = Vec::with_capacity(alloc, room)?;
+    'clone_each: while let (Some(entry), behind) = first_in::<E>(left, Some(theta)) {
+        clones.push(entry.clone()?)?;
+        left = behind;
+    }
+    Ok(clones)
+}
+
+/// Entries of different hashes, ascending.
+fn sorted<E: SketchEntry + Drop, A: Allocator>(mut entries: Vec<E, A>) -> Vec<E, A>
+    requires { IsApart E.key entries.items }
+    ensures { result.items ≡ map_of E.key entries.items }
+{
+    entries.sort_unstable_by_key(|entry| entry.hash());
+    entries
+}
+
+/// The entries below a theta as the state of a sketch that is not empty, ordered where that is asked or there is one entry
+/// below the greatest theta; with room for `room` of them from the start.
+pub(crate) fn state_below<E: SlotEntry + Clone, A: Allocator>(
+    alloc: A,
+    slots: &[E::Slot],
+    theta: u64,
+    room: usize,
+    seed_hash: u16,
+    ordered: bool,
+) -> Result<CompactSketchState<E, A>, Error>
+    requires clones_equal { ClonesEqual E.is_clone }
+    requires apart { IsApart E.key (filled (map E.held slots.now)) }
+    requires sound { IsRetained E.key (retained E.key (map_of E.key (filled (map E.held slots.now))) theta) }
+    requires few { length (below E.key (map_of E.key (filled (map E.held slots.now))) theta) < 2 ^ 32 }
+    ensures ok { IfOk result (IsCompactOf E.key (retained E.key (map_of E.key (filled (map E.held slots.now))) theta) seed_hash ordered) }
+    ensures refused { Refuses result None true }
+{
+    let entries = entries_below::<E, A>(alloc, slots, theta, room)?;
+    let in_order = is_answer_ordered(ordered, entries.len(), theta);
+    if in_order {
+        return Ok(CompactSketchState::non_empty(sorted(entries), theta, seed_hash, true));
+    }
+    Ok(CompactSketchState::non_empty(entries, theta, seed_hash, false))
+}
+
+/// The theta of what is below a theta, cut to k: the same, or the (k+1)th smallest hash where that is less. That the entries
+/// are spread evenly below `own_theta` is no more than a hint.
+pub(crate) fn cut_theta<E: SlotEntry, A: Allocator + Drop>(
+    alloc: A,
+    slots: &[E::Slot],
+    count: usize,
+    nominal: usize,
+    own_theta: u64,
+    theta: u64,
+) -> Result<u64, AllocError>
+    requires apart { IsApart E.key (filled (map E.held slots.now)) }
+    requires counted { count ≡ length (filled (map E.held slots.now)) }
+    requires nonzero { AllByRecursion (λ x. 0 < E.key x) (map_of E.key (filled (map E.held slots.now))) }
+    requires low { 0 < theta }
+    ensures cut { IfOk result (λ t. cut E.key nominal (map_of E.key (filled (map E.held slots.now))) theta ≡ retained E.key (map_of E.key (filled (map E.held slots.now))) t) }
+    ensures low { IfOk result (λ t. 0 < t) }
+    ensures high { IfOk result (λ t. t ≤ theta) }
+{
+    if count <= nominal {
+        return Ok(theta);
+    }
+    let hash = hash_of_rank::<E, A>(alloc, None, slots, count, nominal, own_theta)?;
+    Ok(hash.min(theta))
+}

@@ -1,0 +1,108 @@
+//! A summary of a width of its own.
+
+use sketch_base::{Error, ErrorKind, SketchBytes, SketchSlice};
+use std::alloc::{Allocator, Global};
+use std::marker::Model;
+use std::test::Fail;
+use tests_sketches::common::bytes_of;
+use tuple_sketches::{CompactTupleSketch, TupleSummaryValue};
+
+/// Up to 255 bytes. Contracts see the bytes.
+#[derive(Drop)]
+struct Letters {
+    bytes: Vec<u8>,
+}
+
+impl Model for Letters {
+    ghost use Rattle.std.specs.Prelude.{ℕ, List, ◌<◌, length};
+
+    ghost Value = { List ℕ };
+
+    ghost view = { λ s. s.bytes.items };
+
+    ghost invariant = { λ s. length s.bytes.items < 256 };
+}
+
+/// One byte that tells how many there are, and then these.
+impl TupleSummaryValue<Global> for Letters {
+    ghost use Rattle.std.specs.Prelude.{◌∷◌, ◌<◌, length};
+    ghost use Rattle.tests_images.specs.Letters.{SpellsLetters, one_letters, letters_written};
+
+    ghost spells = { SpellsLetters };
+
+    ghost is_value = { λ x. length x < 256 };
+
+    ghost text = { λ x. length x ∷ x };
+
+    fn serialize_size(&self) -> usize {
+        1 + self.bytes.len()
+    }
+
+    fn serialize_value<B: Allocator>(&self, bytes: &mut SketchBytes<B>) -> Result<(), Error> {
+        bytes.write_u8(self.bytes.len() as u8)?;
+        bytes.write(&self.bytes)
+    }
+
+    fn deserialize_value(alloc: &Global, slice: &mut SketchSlice<'_>) -> Result<Self, Error> {
+        let count = slice.read_u8()?;
+        let mut bytes = Vec::new(*alloc);
+        bytes.resize(count as usize, 0)?;
+        slice.read_exact(&mut bytes)?;
+        Ok(Letters { bytes })
+    }
+
+    ghost one_spelling = { one_letters };
+
+    ghost text_spells = { letters_written };
+}
+
+// One key with two letters.
+const TWO_LETTERS: &str = "01 03 09 01 00 1a cc 93 05 00 00 00 00 00 00 00 02 61 62";
+
+// The hash and the letters of the first entry that is read, or why the bytes are refused.
+fn first_of(alloc: Global, bytes: &[u8]) -> Result<Result<(u64, Vec<u8>), ErrorKind>, Error> {
+    let sketch = match CompactTupleSketch::<Letters>::deserialize(alloc, bytes) {
+        Ok(sketch) => sketch,
+        Err(refused) => return Ok(Err(refused.kind())),
+    };
+    let mut letters = Vec::new(alloc);
+    let mut hash = 0;
+    if let Some(entry) = sketch.iter().next() {
+        hash = entry.hash();
+        letters.extend_from_slice(&entry.summary().bytes)?;
+    }
+    Ok(Ok((hash, letters)))
+}
+
+// The same of an image from whose end some bytes are cut.
+fn first_of_cut(
+    alloc: Global,
+    image: &str,
+    cut: usize,
+) -> Result<Result<(u64, Vec<u8>), ErrorKind>, Error> {
+    let bytes = bytes_of(alloc, image)?;
+    first_of(alloc, &bytes[..bytes.len().saturating_sub(cut)])
+}
+
+#[test]
+fn reads_summaries_of_any_width(rt: HostRuntime) -> Result<(), Fail> {
+    let letters = bytes_of(rt.alloc(), "61 62")?;
+    assert_eq!(rt; first_of_cut(rt.alloc(), TWO_LETTERS, 0)?, Ok((5, letters)));
+    let refused = Err(ErrorKind::InvalidData);
+    assert_eq!(rt; first_of_cut(rt.alloc(), TWO_LETTERS, 1)?, refused);
+    Ok(())
+}
+
+// The image of what is read of an image.
+fn written_again(alloc: Global, text: &str) -> Result<Vec<u8>, Error> {
+    let image = bytes_of(alloc, text)?;
+    let sketch = CompactTupleSketch::<Letters>::deserialize(alloc, &image)?;
+    sketch.serialize()
+}
+
+#[test]
+fn writes_summaries_of_any_width(rt: HostRuntime) -> Result<(), Fail> {
+    let written = written_again(rt.alloc(), TWO_LETTERS)?;
+    assert_eq!(rt; written, bytes_of(rt.alloc(), TWO_LETTERS)?);
+    Ok(())
+}

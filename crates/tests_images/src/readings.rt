@@ -1,0 +1,78 @@
+//! Images as text, and what is read of them.
+use sketch_base::{Error, ErrorKind};
+use std::alloc::{AllocError, AllocGlobal, Global};
+use std::process::Abort;
+use tests_sketches::common::bytes_of;
+use theta_core::MAX_THETA;
+use theta_sketches::CompactThetaSketch;
+
+/// What an image is to be read as.
+#[derive(Debug, Clone, Copy)]
+pub(crate) enum Reading<'a> {
+    Refused,
+    Empty,
+    /// Whether it is ordered, its theta and its hashes.
+    Filled(bool, u64, &'a [u64]),
+}
+
+/// The theta of an exact sketch.
+pub(crate) const EXACT: u64 = MAX_THETA;
+
+/// A sketch's emptiness and order, its theta and how many hashes it has, its seed hash, and the hashes.
+type Told = ((bool, bool), (u64, usize, u16), Vec<u64>);
+
+fn told_of(alloc: Global, sketch: &CompactThetaSketch) -> Result<Told, Error> {
+    let hashes: Vec<u64> = sketch.iter().map(|entry| entry.hash()).collect(alloc)?;
+    let flags = (sketch.is_empty(), sketch.is_ordered());
+    let numbers = (sketch.theta64(), sketch.num_retained(), sketch.seed_hash());
+    Ok((flags, numbers, hashes))
+}
+
+/// What is read of the bytes under the default seed, or why they are refused.
+fn read(alloc: Global, bytes: &[u8]) -> Result<Result<Told, ErrorKind>, Error> {
+    match CompactThetaSketch::deserialize(alloc, bytes) {
+        Ok(sketch) => Ok(Ok(told_of(alloc, &sketch)?)),
+        Err(refused) => Ok(Err(refused.kind())),
+    }
+}
+
+fn list(alloc: Global, hashes: &[u64]) -> Result<Vec<u64>, AllocError> {
+    let mut list = Vec::new(alloc);
+    list.extend_from_slice(hashes)?;
+    Ok(list)
+}
+
+/// What is to be read.
+fn wanted(alloc: Global, want: Reading<'_>) -> Result<Result<Told, ErrorKind>, AllocError> {
+    match want {
+        Reading::Refused => Ok(Err(ErrorKind::InvalidData)),
+        Reading::Empty => Ok(Ok(((true, true), (EXACT, 0, 0x93cc), Vec::new(alloc)))),
+        Reading::Filled(ordered, theta, hashes) => {
+            let numbers = (theta, hashes.len(), 0x93cc);
+            Ok(Ok(((false, ordered), numbers, list(alloc, hashes)?)))
+        }
+    }
+}
+
+/// Reads the bytes under the default seed, and compares what comes.
+pub(crate) fn assert_reads(
+    rt: &(impl Abort + AllocGlobal),
+    bytes: &[u8],
+    name: &str,
+    want: Reading<'_>,
+) -> Result<(), Error> {
+    let told = read(rt.alloc(), bytes)?;
+    assert_eq!(rt; told, wanted(rt.alloc(), want)?, "{name}");
+    Ok(())
+}
+
+/// Reads the bytes that a text tells, and compares what comes.
+pub(crate) fn assert_text_reads(
+    rt: &(impl Abort + AllocGlobal),
+    text: &str,
+    name: &str,
+    want: Reading<'_>,
+) -> Result<(), Error> {
+    let bytes = bytes_of(rt.alloc(), text)?;
+    assert_reads(rt, &bytes, name, want)
+}

@@ -1,0 +1,356 @@
+//! Why lines and images are not taken in: requests for memory that are refused one after another, sources that fail, and images
+//! that are none.
+ghost use Rattle.std.specs.Prelude.{None};
+
+use crate::readers::Counter;
+use line_sketches::{
+    Sources, Unread, hex_line, image_of, lacked, met, read_hex, read_image, sketch_lines,
+    sketch_sources, unite_images,
+};
+use lines::Key;
+use refusing_allocator::{Refusal, Refusing};
+use sketch_base::ErrorKind;
+use std::alloc::{AllocError, Allocator, Global};
+use std::io;
+use std::io::Read;
+use std::process::Abort;
+use std::test::Fail;
+
+type Heap = Refusing<Global>;
+
+/// What a call came to.
+#[derive(Clone, Copy, Debug, PartialEq, Eq)]
+enum Told {
+    /// The answer that is wanted.
+    Answered,
+    /// Another answer.
+    Mistaken,
+    Refused(ErrorKind),
+    Failed(io::ErrorKind),
+}
+
+fn told_of(answer: Result<bool, Unread>) -> Told {
+    match answer {
+        Ok(true) => Told::Answered,
+        Ok(false) => Told::Mistaken,
+        Err(Unread::Refused(error)) => Told::Refused(error.kind()),
+        Err(Unread::Failed(error)) => Told::Failed(error.kind()),
+    }
+}
+
+/// A text in memory, whose reader fails at its end or ends there.
+#[derive(Drop)]
+struct Text<'a> {
+    text: &'a [u8],
+    failure: Option<io::ErrorKind>,
+}
+
+impl Read for Text<'_> {
+    fn read(&mut self, buf: &mut [u8]) -> io::Result<usize> {
+        let count = buf.len().min(self.text.len());
+        buf[..count].copy_from_slice(&self.text[..count]);
+        self.text = &self.text[count..];
+        match self.failure {
+            Some(kind) => {
+                if count == 0 {
+                    return Err(io::Error::from(kind));
+                }
+                Ok(count)
+            }
+            None => Ok(count),
+        }
+    }
+}
+
+/// Texts in memory: the readers of all fail at their end, or end there, and where some are to be missing the next one can't be
+/// opened after the last.
+#[derive(Drop)]
+struct Texts<'a> {
+    left: &'a [Vec<u8>],
+    failure: Option<io::ErrorKind>,
+    missing: Option<io::ErrorKind>,
+}
+
+impl<'a> Sources for Texts<'a> {
+    type Source = Text<'a>;
+
+    ghost texts = { λ _. None };
+
+    fn next_source(&mut self) -> io::Result<Option<Text<'a>>> {
+        let Some((first, others)) = self.left.split_first() else {
+            return match self.missing {
+                Some(kind) => Err(io::Error::from(kind)),
+                None => Ok(None),
+            };
+        };
+        self.left = others;
+        Ok(Some(Text {
+            text: first.as_slice(),
+            failure: self.failure,
+        }))
+    }
+}
+
+fn whole_texts<'a>(left: &'a [Vec<u8>]) -> Texts<'a> {
+    Texts {
+        left,
+        failure: None,
+        missing: None,
+    }
+}
+
+/// Two texts, and the images of the lines of either, of both, of what they share, and of what the first has and the second
+/// lacks, by a program in Python that knows the public definition of the hash.
+const FIRST_TEXT: &[u8] = b"ann\nbob\n\nann\r\nann\n";
+
+const SECOND_TEXT: &[u8] = b"alone\n3\n\nbob\nann";
+
+const FIRST: &[u8] =
+    b"02030300001acc930400000000000000dc8d24339151380f5f1032909707cc2739151d0e0dd45d67fc08309e1c5ed36b\n";
+
+const SECOND: &[u8] =
+    b"02030300001acc930500000000000000dc8d24339151380fa9a4fac7413eb50fe94a3798b195c0105f1032909707cc27fc08309e1c5ed36b\n";
+
+const BOTH: &[u8] =
+    b"02030300001acc930600000000000000dc8d24339151380fa9a4fac7413eb50fe94a3798b195c0105f1032909707cc2739151d0e0dd45d67fc08309e1c5ed36b\n";
+
+const SHARED: &[u8] =
+    b"02030300001acc930300000000000000dc8d24339151380f5f1032909707cc27fc08309e1c5ed36b\n";
+
+const FIRST_ALONE: &[u8] = b"01030300001acc9339151d0e0dd45d67\n";
+
+/// A call whose answer is an image.
+#[derive(Clone, Copy, Debug, PartialEq, Eq)]
+enum Call {
+    SketchReader,
+    SketchSources,
+    Unite,
+    Meet,
+    Minus,
+}
+
+/// A line without the LF that ends it.
+fn digits_of(line: &[u8]) -> &[u8] {
+    match line {
+        [digits @ .., b'\n'] => digits,
+        digits => digits,
+    }
+}
+
+/// The bytes that a line of digits spells; none where it spells none.
+fn bytes_of<'a>(alloc: &'a Heap, line: &[u8]) -> Result<Vec<u8, &'a Heap>, Unread> {
+    match read_hex(alloc, digits_of(line))? {
+        Some(bytes) => Ok(bytes),
+        None => Ok(Vec::new(alloc)),
+    }
+}
+
+/// Whether an image is the one of these digits.
+fn is_image(alloc: &Heap, image: Vec<u8, &Heap>, wanted: &[u8]) -> Result<bool, Unread> {
+    let line = hex_line(alloc, image.as_slice())?;
+    Ok(line.as_slice() == wanted)
+}
+
+fn sketches_reader(heap: &Heap) -> Result<bool, Unread> {
+    let mut counter = Counter { lines: 0, bytes: 0 };
+    let mut block = [0u8; 7];
+    let mut reader = Text {
+        text: FIRST_TEXT,
+        failure: None,
+    };
+    let sketch = sketch_lines(heap, Key::Line, 12, &mut reader, &mut block, &mut counter)?;
+    is_image(heap, image_of(&sketch)?, FIRST)
+}
+
+fn sketches_sources(heap: &Heap, all: &[Vec<u8>]) -> Result<bool, Unread> {
+    let mut counter = Counter { lines: 0, bytes: 0 };
+    let sketch = sketch_sources(heap, Key::Line, 12, &mut whole_texts(all), &mut counter)?;
+    is_image(heap, image_of(&sketch)?, BOTH)
+}
+
+fn unites(heap: &Heap, images: &[Vec<u8>]) -> Result<bool, Unread> {
+    let image = unite_images(heap, 12, &mut whole_texts(images))?;
+    is_image(heap, image, BOTH)
+}
+
+fn meets(heap: &Heap) -> Result<bool, Unread> {
+    let first = read_image(heap, bytes_of(heap, FIRST)?.as_slice())?;
+    let second = read_image(heap, bytes_of(heap, SECOND)?.as_slice())?;
+    let sketch = met(heap, &[first, second])?;
+    is_image(heap, image_of(&sketch)?, SHARED)
+}
+
+fn lacks(heap: &Heap) -> Result<bool, Unread> {
+    let first = read_image(heap, bytes_of(heap, FIRST)?.as_slice())?;
+    let second = read_image(heap, bytes_of(heap, SECOND)?.as_slice())?;
+    let sketch = lacked(heap, &first, &second)?;
+    is_image(heap, image_of(&sketch)?, FIRST_ALONE)
+}
+
+/// Texts that lie in memory, and their images.
+#[derive(Drop)]
+struct Inputs {
+    texts: Vec<Vec<u8>>,
+    images: Vec<Vec<u8>>,
+}
+
+fn copy_of(alloc: Global, bytes: &[u8]) -> Result<Vec<u8>, AllocError> {
+    let mut copy = Vec::new(alloc);
+    copy.extend_from_slice(bytes)?;
+    Ok(copy)
+}
+
+fn image_in(alloc: Global, line: &[u8]) -> Result<Vec<u8>, AllocError> {
+    match read_hex(alloc, digits_of(line))? {
+        Some(bytes) => Ok(bytes),
+        None => Ok(Vec::new(alloc)),
+    }
+}
+
+fn inputs_in(alloc: Global) -> io::Result<Inputs> {
+    let mut texts = Vec::new(alloc);
+    let mut images = Vec::new(alloc);
+    for text in [FIRST_TEXT, SECOND_TEXT] {
+        let copy = copy_of(alloc, text)?;
+        texts.push(copy)?;
+    }
+    for line in [FIRST, SECOND] {
+        let image = image_in(alloc, line)?;
+        images.push(image)?;
+    }
+    Ok(Inputs { texts, images })
+}
+
+fn make(heap: &Heap, inputs: &Inputs, call: Call) -> Told {
+    told_of(match call {
+        Call::SketchReader => sketches_reader(heap),
+        Call::SketchSources => sketches_sources(heap, inputs.texts.as_slice()),
+        Call::Unite => unites(heap, inputs.images.as_slice()),
+        Call::Meet => meets(heap),
+        Call::Minus => lacks(heap),
+    })
+}
+
+/// Makes a call with its first, its second and each later request for memory refused, until none was: each time it has to tell
+/// so, and in the end it has to answer. A refusal while a source is read to its end is told as the source's failure. Tells how
+/// many were refused.
+fn in_turn(rt: &impl Abort, heap: &Heap, inputs: &Inputs, call: Call) -> u64 {
+    for refused in 0..u64::MAX {
+        heap.restart(Refusal::Only(refused));
+        let told = make(heap, inputs, call);
+        let seen = heap.seen();
+        heap.restart(Refusal::Never);
+        if seen <= refused {
+            assert_eq!(rt; told, Told::Answered, "{call:?} at {refused}");
+            return refused;
+        }
+        let is_memory = told == Told::Refused(ErrorKind::OutOfMemory)
+            || told == Told::Failed(io::ErrorKind::OutOfMemory);
+        assert!(rt; is_memory, "{call:?} at {refused}: {told:?}");
+    }
+    0
+}
+
+#[test]
+fn tells_of_memory(rt: HostRuntime) -> Result<(), Fail> {
+    let inputs = inputs_in(rt.alloc())?;
+    let heap = Refusing::new(rt.alloc());
+    for call in [
+        Call::SketchReader,
+        Call::SketchSources,
+        Call::Unite,
+        Call::Meet,
+        Call::Minus,
+    ] {
+        let refused = in_turn(&rt, &heap, &inputs, call);
+        assert!(rt; refused >= 4, "{call:?}: {refused}");
+    }
+    Ok(())
+}
+
+fn sketched(alloc: Global, lg_k: u8, sources: &mut Texts<'_>) -> Result<bool, Unread> {
+    let mut counter = Counter { lines: 0, bytes: 0 };
+    sketch_sources(alloc, Key::Line, lg_k, sources, &mut counter)?;
+    Ok(true)
+}
+
+fn united(alloc: Global, lg_k: u8, sources: &mut Texts<'_>) -> Result<bool, Unread> {
+    unite_images(alloc, lg_k, sources)?;
+    Ok(true)
+}
+
+/// What becomes of texts whose readers fail at their end, or after which one is missing, with this size: sketched, or united as
+/// images. Tells how many were opened, too.
+fn taken_in<'a>(
+    alloc: Global,
+    lg_k: u8,
+    all: &'a [Vec<u8>],
+    failure: Option<io::ErrorKind>,
+    missing: Option<io::ErrorKind>,
+    unites: bool,
+) -> (Told, usize) {
+    let mut sources: Texts<'a> = Texts {
+        left: all,
+        failure,
+        missing,
+    };
+    let answer = if unites {
+        united(alloc, lg_k, &mut sources)
+    } else {
+        sketched(alloc, lg_k, &mut sources)
+    };
+    (
+        told_of(answer),
+        all.len().saturating_sub(sources.left.len()),
+    )
+}
+
+#[test]
+fn tells_of_sources(rt: HostRuntime) -> Result<(), Fail> {
+    let inputs = inputs_in(rt.alloc())?;
+    let pipe = Some(io::ErrorKind::BrokenPipe);
+    let none = Some(io::ErrorKind::NotFound);
+    let size = Told::Refused(ErrorKind::InvalidArgument);
+    let image = Told::Refused(ErrorKind::InvalidData);
+    for (lg_k, failure, missing, unites, wanted) in [
+        (4, None, None, false, (Told::Answered, 2)),
+        (26, None, None, false, (Told::Answered, 2)),
+        (
+            12,
+            pipe,
+            None,
+            false,
+            (Told::Failed(io::ErrorKind::BrokenPipe), 1),
+        ),
+        (
+            12,
+            pipe,
+            None,
+            true,
+            (Told::Failed(io::ErrorKind::BrokenPipe), 1),
+        ),
+        (
+            12,
+            None,
+            none,
+            false,
+            (Told::Failed(io::ErrorKind::NotFound), 2),
+        ),
+        (3, pipe, None, false, (size, 0)),
+        (27, pipe, None, false, (size, 0)),
+        (3, pipe, None, true, (size, 0)),
+        (27, pipe, None, true, (size, 0)),
+        (12, None, None, true, (image, 1)),
+    ] {
+        let told = taken_in(
+            rt.alloc(),
+            lg_k,
+            inputs.texts.as_slice(),
+            failure,
+            missing,
+            unites,
+        );
+        assert_eq!(rt; told, wanted, "{lg_k} {unites}");
+    }
+    Ok(())
+}

@@ -1,0 +1,128 @@
+//! What tests share: sketches and tables of rows from outside, and memory that is refused.
+
+use refusing_allocator::Refusing;
+use sketch_base::{Error, ErrorKind};
+use std::alloc::{AllocError, Allocator, Global};
+use theta_sketches::{
+    CompactThetaSketch, ThetaSketch, ThetaSketchBuilder, ThetaSketchIter, ThetaUnion,
+};
+
+/// Memory whose requests are counted, and refused where a test wants.
+pub type Heap = Refusing<Global>;
+
+/// Why a call was refused.
+pub fn kind_of<T: Drop>(answer: Result<T, Error>) -> Option<ErrorKind> {
+    answer.err().map(|e| e.kind())
+}
+
+/// The hashes of a sketch, ascending.
+pub fn ascending(alloc: Global, entries: ThetaSketchIter<'_>) -> Result<Vec<u64>, AllocError> {
+    let mut hashes: Vec<u64> = entries.map(|entry| entry.hash()).collect(alloc)?;
+    hashes.sort_unstable();
+    Ok(hashes)
+}
+
+/// The numbers from the first to the last.
+pub fn numbers(alloc: Global, first: u64, last: u64) -> Result<Vec<u64>, AllocError> {
+    let mut numbers = Vec::new(alloc);
+    for number in first..=last {
+        numbers.push(number)?;
+    }
+    Ok(numbers)
+}
+
+/// A sketch of 32 nominal entries that was given the hashes from the first to the last.
+pub fn sketch_of(alloc: Global, seed: u64, first: u64, last: u64) -> Result<ThetaSketch, Error> {
+    let builder = ThetaSketchBuilder::default().lg_k(5).seed(seed);
+    let mut sketch = builder.build(alloc)?;
+    for hash in first..=last {
+        sketch.update_hash(hash)?;
+    }
+    Ok(sketch)
+}
+
+/// The compact form of a sketch of the default seed, of 32 nominal entries, that was given the hashes from the first to the last.
+pub fn compact_of(
+    alloc: Global,
+    first: u64,
+    last: u64,
+    ordered: bool,
+) -> Result<CompactThetaSketch, Error> {
+    let sketch = sketch_of(alloc, 9001, first, last)?;
+    sketch.compact(ordered)
+}
+
+/// Updates a union with a sketch.
+pub fn add(union: &mut ThetaUnion, sketch: ThetaSketch) -> Result<(), Error> {
+    union.update(sketch.as_view())
+}
+
+/// A sketch's emptiness, theta and hashes, ascending.
+pub type Value = (bool, u64, Vec<u64>);
+
+/// The value whose hashes are those from a first to a last.
+pub fn value_between(
+    alloc: Global,
+    empty: bool,
+    theta: u64,
+    (first, last): (u64, u64),
+) -> Result<Value, AllocError> {
+    Ok((empty, theta, numbers(alloc, first, last)?))
+}
+
+/// Hashes in no order, `count` of them, of which at most `distinct` are different. The first is 0, and the second is more than
+/// any hash.
+pub fn mixed_hashes(alloc: Global, count: u64, distinct: u64) -> Result<Vec<u64>, AllocError> {
+    let mut hashes = Vec::new(alloc);
+    for number in 0..count {
+        let which = number % distinct.max(1);
+        let spread = which.wrapping_mul(11400714819323198485) >> 1;
+        hashes.push(if which == 1 { u64::MAX } else { spread })?;
+    }
+    Ok(hashes)
+}
+
+/// The emptiness, theta and hashes of a sketch that takes updates.
+pub fn shown_of<A: Allocator>(alloc: Global, sketch: &ThetaSketch<A>) -> Result<Value, AllocError> {
+    let hashes = ascending(alloc, sketch.iter())?;
+    Ok((sketch.is_empty(), sketch.theta64(), hashes))
+}
+
+/// What a sketch of 2^`lg_k` nominal entries is after hashes, with one call for each.
+pub fn after_each(alloc: Global, lg_k: u8, hashes: &[u64]) -> Result<Value, Error> {
+    let mut sketch = ThetaSketchBuilder::default().lg_k(lg_k).build(alloc)?;
+    for hash in hashes {
+        sketch.update_hash(*hash)?;
+    }
+    Ok(shown_of(alloc, &sketch)?)
+}
+
+/// The emptiness, theta and hashes of a compact sketch.
+pub fn value_of<A: Allocator>(
+    alloc: Global,
+    sketch: &CompactThetaSketch<A>,
+) -> Result<Value, AllocError> {
+    let hashes = ascending(alloc, sketch.iter())?;
+    Ok((sketch.is_empty(), sketch.theta64(), hashes))
+}
+
+/// The bytes that a text of hexadecimal digits and spaces tells.
+pub fn bytes_of(alloc: Global, text: &str) -> Result<Vec<u8>, AllocError> {
+    let mut bytes = Vec::new(alloc);
+    let mut high = None;
+    for letter in text.bytes() {
+        let digit = match letter {
+            b'0'..=b'9' => letter - b'0',
+            b'a'..=b'f' => letter - b'a' + 10,
+            _ => continue,
+        };
+        match high {
+            None => high = Some(digit),
+            Some(first) => {
+                bytes.push(first << 4 | digit)?;
+                high = None;
+            }
+        }
+    }
+    Ok(bytes)
+}

@@ -1,5 +1,0 @@
-use Rattle.theta_laws.proofs.insertions.FoldedSteps.{unmarked-step}
-use Rattle.theta_laws.proofs.laws.allowed_step.Goals as goal
-
-pub returns : goal.returns
-returns g c = unmarked-step

@@ -1,5 +1,0 @@
-use Rattle.theta_laws.proofs.cuts.LawfulThetas.{cut_lawful}
-use Rattle.theta_laws.proofs.laws.cut_below_lawful_theta.Goals as goal
-
-pub returns : goal.returns
-returns g c = λ key. cut_lawful key

@@ -1,5 +1,0 @@
-use Rattle.theta_laws.proofs.insertions.FoldedSteps.{folded-keeps}
-use Rattle.theta_laws.proofs.laws.folded_steps_keep.Goals as goal
-
-pub returns : goal.returns
-returns g c = λ key. folded-keeps key

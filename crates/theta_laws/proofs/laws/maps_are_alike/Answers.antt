@@ -1,5 +1,0 @@
-use Rattle.theta_laws.proofs.maps.LookUps.{same_map}
-use Rattle.theta_laws.proofs.laws.maps_are_alike.Goals as goal
-
-pub returns : goal.returns
-returns g c = λ key. same_map key

@@ -1,5 +1,0 @@
-use Rattle.theta_laws.proofs.operators.Meets.{meet_of_meet}
-use Rattle.theta_laws.proofs.laws.meet_of_meet.Goals as goal
-
-pub returns : goal.returns
-returns g c = λ key merges. meet_of_meet key merges

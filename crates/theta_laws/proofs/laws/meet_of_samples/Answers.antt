@@ -1,5 +1,0 @@
-use Rattle.theta_laws.proofs.operators.Samples.{meet_samples}
-use Rattle.theta_laws.proofs.laws.meet_of_samples.Goals as goal
-
-pub returns : goal.returns
-returns g c = λ key merges keeps. meet_samples key merges keeps

@@ -1,5 +1,0 @@
-use Rattle.theta_laws.proofs.operators.Meets.{meet_shows}
-use Rattle.theta_laws.proofs.laws.meet_shows.Goals as goal
-
-pub returns : goal.returns
-returns g c = λ key merges keeps. meet_shows key merges keeps

@@ -1,5 +1,0 @@
-use Rattle.theta_laws.proofs.operators.EmptyMeets.{with_empty}
-use Rattle.theta_laws.proofs.laws.meet_with_empty.Goals as goal
-
-pub returns : goal.returns
-returns g c = with_empty

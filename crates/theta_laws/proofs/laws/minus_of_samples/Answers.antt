@@ -1,5 +1,0 @@
-use Rattle.theta_laws.proofs.operators.Samples.{minus_samples}
-use Rattle.theta_laws.proofs.laws.minus_of_samples.Goals as goal
-
-pub returns : goal.returns
-returns g c = λ key other. minus_samples key other

@@ -1,5 +1,0 @@
-use Rattle.theta_laws.proofs.operators.Marks.{step_marks}
-use Rattle.theta_laws.proofs.laws.refused_step_marks.Goals as goal
-
-pub returns : goal.returns
-returns g c = λ key. step_marks key

@@ -1,5 +1,0 @@
-use Rattle.theta_laws.proofs.insertions.Leaves.{trimmed}
-use Rattle.theta_laws.proofs.laws.trimmed_leaf.Goals as goal
-
-pub returns : goal.returns
-returns g c = λ key step_of keeps. trimmed key step_of keeps

@@ -1,7 +1,0 @@
-use Rattle.theta_laws.specs.Entries.{hash_key}
-use Rattle.theta_laws.specs.Leaf.{hash_step_of}
-use Rattle.theta_laws.proofs.insertions.Leaves.{trimmed, hash_keeps}
-use Rattle.theta_laws.proofs.laws.trimmed_leaf_is_kmin.Goals as goal
-
-pub returns : goal.returns
-returns g c = trimmed hash_key hash_step_of hash_keeps

@@ -1,5 +1,0 @@
-use Rattle.theta_laws.proofs.operators.SummariesAlike.{unite_again}
-use Rattle.theta_laws.proofs.laws.union_again_as_merges.Goals as goal
-
-pub returns : goal.returns
-returns g c = λ key merges keeps. unite_again key merges keeps

@@ -1,5 +1,0 @@
-use Rattle.theta_laws.proofs.operators.KeysAlone.{union_commutes}
-use Rattle.theta_laws.proofs.laws.union_commutes.Goals as goal
-
-pub returns : goal.returns
-returns g c = λ key merges keeps. union_commutes key merges keeps

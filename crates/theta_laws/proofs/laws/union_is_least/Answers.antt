@@ -1,5 +1,0 @@
-use Rattle.theta_laws.proofs.operators.Samples.{union_lawful}
-use Rattle.theta_laws.proofs.laws.union_is_least.Goals as goal
-
-pub returns : goal.returns
-returns g c = λ key merges keeps. union_lawful key merges keeps

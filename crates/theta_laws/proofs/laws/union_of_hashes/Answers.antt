@@ -1,5 +1,0 @@
-use Rattle.theta_laws.proofs.operators.FoldsOfHashes.{united-hashes}
-use Rattle.theta_laws.proofs.laws.union_of_hashes.Goals as goal
-
-pub returns : goal.returns
-returns c = united-hashes

@@ -1,5 +1,0 @@
-use Rattle.theta_laws.proofs.operators.Samples.{union_samples}
-use Rattle.theta_laws.proofs.laws.union_of_samples.Goals as goal
-
-pub returns : goal.returns
-returns g c = λ key merges keeps. union_samples key merges keeps

@@ -1,5 +1,0 @@
-use Rattle.theta_laws.proofs.operators.Samples.{union_stays_lawful}
-use Rattle.theta_laws.proofs.laws.union_stays_lawful.Goals as goal
-
-pub returns : goal.returns
-returns g c = λ key merges keeps. union_stays_lawful key merges keeps

@@ -1,5 +1,0 @@
-use Rattle.theta_operators.proofs.UnionValue.{united}
-use Rattle.theta_operators.proofs.laws.joined_is_united.Goals as goal
-
-pub returns : goal.returns
-returns g c = λ key merges refuses keeps. united key merges refuses keeps

@@ -1,4 +1,0 @@
-use Rattle.theta_operators.proofs.union.UnionState.reset.Goals as goal
-
-pub reset-requires : goal.reset-requires
-reset-requires g c = record { of_sketch = c.self.invariant.union.lg_k_low }

@@ -1,5 +1,0 @@
-use Rattle.theta_policies.proofs.FoldedValues.{updates-keep}
-use Rattle.theta_policies.proofs.laws.updates_keep_hashes.Goals as goal
-
-pub returns : goal.returns
-returns g c = λ creates updates. updates-keep creates updates

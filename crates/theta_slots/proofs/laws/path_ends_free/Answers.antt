@@ -1,5 +1,0 @@
-use Rattle.theta_slots.proofs.PathEnds.{path_ends_free}
-use Rattle.theta_slots.proofs.laws.path_ends_free.Goals as goal
-
-pub returns : goal.returns
-returns g c = λ key. path_ends_free key

@@ -1,5 +1,0 @@
-use Rattle.theta_slots.proofs.Layouts.{search_finds}
-use Rattle.theta_slots.proofs.laws.search_finds.Goals as goal
-
-pub returns : goal.returns
-returns g c = λ key. search_finds key

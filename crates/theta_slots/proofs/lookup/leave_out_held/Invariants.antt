@@ -1,8 +1,0 @@
-use Rattle.std.proofs.Common.{map}
-use Rattle.theta_slots.specs.Layout.{filled}
-use Rattle.theta_slots.proofs.Lookups.{IsLeft}
-use Rattle.theta_slots.proofs.lookup.leave_out_held.Given as goal
-
--- what is left so far
-abbrev pub invariant-round : goal.invariant-round
-invariant-round g l = IsLeft g.E.SketchEntry.key (filled (map g.E.PathEntry.held l.slots)) l.theta l.fn.hashes l.hashes l.left

@@ -1,7 +1,0 @@
-use Rattle.std.proofs.Common.{◌≡◌, ◌++◌, ◌∷◌, [], map, take}
-use Rattle.theta_slots.specs.Layout.{filled}
-use Rattle.theta_slots.proofs.selection.gather_all.Given as goal
-
--- the hashes so far
-abbrev pub invariant-gather_each : goal.invariant-gather_each
-invariant-gather_each g l = l.hashes.items ≡ filled (l.fn.also ∷ []) ++ map g.E.SketchEntry.key (filled (map g.E.PathEntry.held (take l.slot-index l.slots)))

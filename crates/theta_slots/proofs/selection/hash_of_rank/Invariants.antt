@@ -1,6 +1,0 @@
-use Rattle.std.proofs.Common.{◌≡◌, []}
-use Rattle.theta_slots.proofs.selection.hash_of_rank.Given as goal
-
--- before each window nothing is gathered
-abbrev pub invariant-aim : goal.invariant-aim
-invariant-aim g l = l.hashes.items ≡ []

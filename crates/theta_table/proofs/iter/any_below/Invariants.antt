@@ -1,8 +1,0 @@
-use Rattle.std.proofs.Common.{◌≡◌, false, map, take}
-use Rattle.theta_slots.specs.Layout.{filled}
-use Rattle.theta_table.proofs.ListedBelow.{NoneBelow}
-use Rattle.theta_table.proofs.iter.any_below.Given as goal
-
--- none so far holds an entry below theta, where none was found
-abbrev pub invariant-test_each : goal.invariant-test_each
-invariant-test_each g l = l.any ≡ false → NoneBelow g.E.SketchEntry.key l.theta (filled (map g.E.PathEntry.held (take l.slot-index l.block)))

@@ -1,7 +1,0 @@
-pub mod HashTable
-mod Insertion
-pub mod ResizeFactor
-pub mod Entry
-pub mod LentSummary
-pub mod Gathering
-pub mod Marks

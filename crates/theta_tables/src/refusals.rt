@@ -1,0 +1,146 @@
+//! Runs of which each request for memory is refused in turn.
+
+use crate::{PlainTable, TableCommand, ThetaTable, run_table};
+use core_laws::{MAX_THETA, MIN_LG_K};
+use core_slots::ThetaEntry;
+use core_table::{ResizeFactor, ThetaHashTable};
+use refusing_allocator::{Refusal, Refusing};
+use sketch_base::Error;
+use std::alloc::{AllocError, Global};
+use std::test::Fail;
+
+/// A table's count, theta and hashes, ascending.
+type Value = (usize, u64, Vec<u64>);
+
+/// Commands that let a table grow, be rebuilt and be trimmed.
+fn commands_that_grow(alloc: Global) -> Result<Vec<TableCommand>, AllocError> {
+    let mut commands = Vec::new(alloc);
+    for number in 0..64u64 {
+        commands.push(TableCommand::Insert(100 - number))?;
+    }
+    commands.push(TableCommand::Find(40))?;
+    commands.push(TableCommand::Trim)?;
+    commands.push(TableCommand::Insert(7))?;
+    Ok(commands)
+}
+
+/// What a plain table retains at first and after each of the commands.
+fn values_in_turn(alloc: Global, commands: &[TableCommand]) -> Result<Vec<Value>, Error> {
+    let mut table: PlainTable<ThetaEntry> = PlainTable::new(
+        alloc,
+        5,
+        ResizeFactor::X8,
+        MAX_THETA,
+        9001,
+    )?;
+    let mut values = Vec::new(alloc);
+    values.push((0, MAX_THETA, Vec::new(alloc)))?;
+    for command in commands {
+        if table.lg_nom_size() >= MIN_LG_K {
+            run_table(alloc, &mut table, &[*command])?;
+        }
+        let mut hashes = Vec::new(alloc);
+        for entry in table.entries() {
+            hashes.push(entry.hash())?;
+        }
+        values.push((table.num_retained(), table.retention_theta(), hashes))?;
+    }
+    Ok(values)
+}
+
+/// Whether a run over the table in slots is refused where this request is, and what the table then retains.
+fn run_in_slots(
+    alloc: Global,
+    request: u64,
+    commands: &[TableCommand],
+) -> Result<(bool, Value), Error> {
+    let heap = Refusing::new(alloc);
+    let mut table: ThetaHashTable<&Refusing<Global>> = ThetaHashTable::new(
+        &heap,
+        5,
+        ResizeFactor::X2,
+        MAX_THETA,
+        9001,
+    )?;
+    heap.restart(Refusal::Only(request));
+    let refused = run_table(&heap, &mut table, commands).is_err();
+    let mut hashes = Vec::new(alloc);
+    for entry in table.iter_entries() {
+        hashes.push(entry.hash())?;
+    }
+    hashes.sort_unstable();
+    let value = (table.num_retained(), table.retention_theta(), hashes);
+    Ok((refused, value))
+}
+
+/// Whether a run over the plain table is refused where this request is, and what the table then retains.
+fn run_in_a_list(
+    alloc: Global,
+    request: u64,
+    commands: &[TableCommand],
+) -> Result<(bool, Value), Error> {
+    let heap = Refusing::new(alloc);
+    let mut table: PlainTable<ThetaEntry, &Refusing<Global>> = PlainTable::new(
+        &heap,
+        5,
+        ResizeFactor::X2,
+        MAX_THETA,
+        9001,
+    )?;
+    heap.restart(Refusal::Only(request));
+    let refused = run_table(&heap, &mut table, commands).is_err();
+    let mut hashes = Vec::new(alloc);
+    for entry in table.entries() {
+        hashes.push(entry.hash())?;
+    }
+    let value = (table.num_retained(), table.retention_theta(), hashes);
+    Ok((refused, value))
+}
+
+/// Whether a value is one of those after a beginning of the commands; that after all of them where the run wasn't refused.
+fn stands(values: &[Value], refused: bool, value: &Value) -> bool {
+    if refused {
+        return values.iter().any(|it| it == value);
+    }
+    values.last() == Some(value)
+}
+
+#[test]
+fn refused_runs_stand_after_a_beginning(rt: HostRuntime) -> Result<(), Fail> {
+    let commands = commands_that_grow(rt.alloc())?;
+    let values = values_in_turn(rt.alloc(), &commands)?;
+    let mut refusals = 0u64;
+    for request in 0..24 {
+        let (refused, value) = run_in_slots(rt.alloc(), request, &commands)?;
+        assert!(rt;
+            stands(&values, refused, &value),
+            "in slots, request {request}: {value:?}"
+        );
+        refusals = refusals.saturating_add(refused as u64);
+    }
+    assert!(rt;
+        4 < refusals && refusals < 24,
+        "{refusals} runs were refused"
+    );
+    Ok(())
+}
+
+#[test]
+fn refused_runs_over_a_list_stand_after_a_beginning(rt: HostRuntime) -> Result<(), Fail> {
+    let commands = commands_that_grow(rt.alloc())?;
+    let values = values_in_turn(rt.alloc(), &commands)?;
+    let mut refusals = 0u64;
+    for request in 0..24 {
+        let (refused, value) = run_in_a_list(rt.alloc(), request, &commands)?;
+        assert!(rt;
+            stands(&values, refused, &value),
+            "in a list, request {request}: {value:?}"
+        );
+        refusals = refusals.saturating_add(refused as u64);
+    }
+    assert!(rt;
+        4 < refusals && refusals < 24,
+        "{refusals} runs were refused"
+    );
+    Ok(())
+}
