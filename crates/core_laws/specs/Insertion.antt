@@ -1,7 +1,8 @@
 -- Insertions into what is retained, one and many, and into a whole map.
-use Rattle.std.specs.Prelude.{ℕ, ◌≡◌, ◌⊎◌, true, IsSome, ◌==◌, ◌*◌, ◌/◌, ◌&&◌, ◌||◌, not, List, [], nat_lt, nat_le, Bool, if◌then◌else◌, Option, None, length, is_none, is_some, ◌∷◌}
+use Rattle.std.specs.Prelude.{ℕ, ◌≡◌, ◌⊎◌, true, IsSome, ◌==◌, ◌*◌, ◌/◌, ◌&&◌, ◌||◌, not, List, [], nat_lt, nat_le, Bool, if◌then◌else◌, Option, None, length, is_none, is_some, ◌∷◌, Result}
 use Rattle.std.specs.Option.{option_map_or}
 use Rattle.sketch_base.specs.declared.error.ErrorKind.{ErrorKind}
+use Rattle.core_laws.specs.Refusal.{Refuses}
 use Rattle.core_laws.specs.Step.{Step}
 use Rattle.core_laws.specs.Cuts.{Retained, cut}
 use Rattle.core_laws.specs.Maps.{entry_at, with_entry}
@@ -35,6 +36,18 @@ upsert_refusal key h step v = if is_screened h v.theta then None else option_map
 -- whether an insertion of h may take memory: of a key that is made, or where the step does
 unfoldable pub upsert_allocates : {X : Type 0} → (X → ℕ) → ℕ → Step X → Retained X → Bool
 upsert_allocates key h step v = not (is_screened h v.theta) && (step.allocates || (is_none (entry_at key v.entries h) && is_some step.makes))
+
+-- whether an insertion of h may take memory for its step alone
+abbrev pub step_allocates : {X : Type 0} → ℕ → Step X → Retained X → Bool
+step_allocates h step v = not (is_screened h v.theta) && step.allocates
+
+-- an insertion of h refuses what its step refuses, and memory only if it may take some
+abbrev pub RefusesUpsert : {T X : Type 0} → Result T ErrorKind → (key : X → ℕ) → ℕ → Step X → Retained X → Type 0
+RefusesUpsert r key h step v = Refuses r (upsert_refusal key h step v) (upsert_allocates key h step v)
+
+-- an insertion of h refuses what its step refuses, and memory only if the step may take some
+abbrev pub RefusesAsStep : {T X : Type 0} → Result T ErrorKind → (key : X → ℕ) → ℕ → Step X → Retained X → Type 0
+RefusesAsStep r key h step v = Refuses r (upsert_refusal key h step v) (step_allocates h step v)
 
 -- what is retained after entries were inserted in turn
 abbrev pub after_upserts : {X : Type 0} → (X → ℕ) → ℕ → (X → Step X) → List X → Retained X → Retained X

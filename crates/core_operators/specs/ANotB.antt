@@ -4,7 +4,8 @@ use Rattle.sketch_base.specs.declared.error.ErrorKind.{ErrorKind}
 use Rattle.sketch_base.specs.declared.error.ErrorKind.TheVariants.{InvalidArgument}
 use Rattle.core_compact.specs.CompactState.{Compact, IsAnswer}
 use Rattle.core_laws.specs.Entries.{hash_key}
-use Rattle.core_laws.specs.Operators.{minus}
+use Rattle.core_laws.specs.Maps.{below}
+use Rattle.core_laws.specs.Operators.{lacking, minus}
 use Rattle.core_laws.specs.Shown.{Shown, shown_value}
 
 -- what a difference is refused with: another seed, which is asked of the second only where the first isn't empty, and of neither that is
@@ -15,3 +16,7 @@ difference_refusal seed_hash a b =
 -- a state is the difference of two sketches, of which the first lends these entries: ordered if that is asked or the first is
 abbrev pub IsDifference : {X : Type 0} → (X → ℕ) → (a : Shown) → List X → (b : Shown) → (asked : Bool) → Compact X → Type 0
 IsDifference key a entries b asked s = IsAnswer key (minus key hash_key (shown_value key a entries) (shown_value hash_key b b.hashes)) a.seed_hash (asked || a.ordered) s
+
+-- the entries below a theta whose keys others lack
+abbrev pub lacking_below : {X Y : Type 0} → (X → ℕ) → (Y → ℕ) → (theta : ℕ) → List X → List Y → List X
+lacking_below key other_key theta entries others = lacking key other_key (below key entries theta) others

@@ -1,5 +1,5 @@
 -- Intersections.
-use Rattle.std.specs.Prelude.{ℕ, ◌≡◌, ◌==◌, ◌<◌, ◌^◌, ◌||◌, ◌&&◌, ◌⊎◌, not, ⊤, Bool, true, false, if◌then◌else◌, Option, Some, None, List, min, option_map}
+use Rattle.std.specs.Prelude.{ℕ, ◌≡◌, ◌==◌, ◌<◌, ◌^◌, ◌||◌, ◌&&◌, ◌⊎◌, not, ⊤, Bool, true, false, if◌then◌else◌, Option, Some, None, List, map, min, option_map, MatchOption}
 use Rattle.std.specs.Option.{option_map_or}
 use Rattle.sketch_base.specs.Seed.{seed_hash}
 use Rattle.sketch_base.specs.declared.error.ErrorKind.{ErrorKind}
@@ -9,12 +9,13 @@ use Rattle.core_operators.specs.declared.intersection.Outcome.{Outcome}
 use Rattle.core_operators.specs.declared.intersection.Outcome.TheVariants.{Unbegun, Nothing, Held}
 use Rattle.core_compact.specs.CompactState.{Compact, IsAnswer}
 use Rattle.core_laws.specs.Cuts.{Retained, none_below}
-use Rattle.core_laws.specs.Maps.{below}
+use Rattle.core_laws.specs.Maps.{below, entry_at, map_of}
 use Rattle.core_laws.specs.Values.{Sketch, Empty, NonEmpty, count_of}
-use Rattle.core_laws.specs.Folds.{fold_key, fold_merges, unmarked_value}
+use Rattle.core_laws.specs.Folds.{Fold, Value, fold_key, fold_merges, unmarked, unmarked_value}
 use Rattle.core_operators.specs.Union.{IsMergeRefused}
 use Rattle.core_laws.specs.Shown.{Shown, shown_value}
-use Rattle.core_laws.specs.Operators.{meet_next}
+use Rattle.core_table.specs.HashTable.{MapTable}
+use Rattle.core_laws.specs.Operators.{common, meet_next, shared}
 
 -- an intersection: its value, if there was an input yet, and what it was made with
 pub record Intersection (X P : Type 0) : Type 0 where
@@ -78,6 +79,30 @@ pub record IsCutShort {X : Type 0} (key : X → ℕ) (refuses : X → X → Bool
   pub unsettled : is_settled old ≡ false
   pub why : (kind ≡ OutOfMemory) ⊎ ((kind ≡ Policy) × IsMergeRefused key refuses (below key (held_of old).entries (min (held_of old).theta s.theta)) entries)
 
+-- an error of an update, which leaves the intersection as it was: what is refused before anything is read, or an update that broke off
+abbrev pub IsIntersectError : {X P : Type 0} → (key : X → ℕ) → (refuses : X → X → Bool) → (old new : Intersection X P) → Shown → List X → ErrorKind → Type 0
+IsIntersectError key refuses old new s listing e = (new ≡ old) × MatchOption (intersect_refusal old s) (IsCutShort key refuses old.result s listing e) (λ kind. e ≡ kind)
+
+-- the map of a new table is what an old one and an input with such a theta share, in folds
+abbrev pub IsSharedMap : {X : Type 0} → (key : X → ℕ) → (merges : X → X → X) → (refuses : X → X → Bool) → (held : MapTable X) → (theta : ℕ) → (listing : List X) → (new : MapTable X) → Type 0
+IsSharedMap key merges refuses held theta listing new =
+    unmarked new.kept ≡ shared (fold_key key) (fold_merges key merges refuses) (unmarked held.kept) (unmarked (record { entries = map_of key listing; theta = theta }))
+
+-- a value is that of a table met with an input that isn't Empty, in folds
+abbrev pub IsMetMap : {X : Type 0} → (key : X → ℕ) → (merges : X → X → X) → (refuses : X → X → Bool) → (held : MapTable X) → (theta : ℕ) → (listing : List X) → Option (Sketch X) → Type 0
+IsMetMap key merges refuses held theta listing value =
+    option_map unmarked_value value ≡ Some (meet_next (fold_key key) (fold_merges key merges refuses) (Some (NonEmpty (unmarked held.kept))) (NonEmpty (unmarked (record { entries = map_of key listing; theta = theta }))))
+
+-- entries are those of an input whose keys are held below a theta, each combined with the held one, in the input's order
+abbrev pub AreSharedFolds : {X : Type 0} → (key : X → ℕ) → (merges : X → X → X) → (refuses : X → X → Bool) → (held : MapTable X) → (theta : ℕ) → (listing : List X) → List X → Type 0
+AreSharedFolds key merges refuses held theta listing entries =
+    map Value entries ≡ common (fold_key key) (λ y x. fold_merges key merges refuses x y) (map Value listing) (map Value (below key held.kept.entries theta))
+
+-- the same for one entry, if its key is held
+abbrev pub IsSharedFold : {X : Type 0} → (key : X → ℕ) → (merges : X → X → X) → (refuses : X → X → Bool) → (held : MapTable X) → (theta : ℕ) → (incoming : X) → Option X → Type 0
+IsSharedFold key merges refuses held theta incoming entry =
+    option_map Value entry ≡ option_map (λ x. fold_merges key merges refuses (Value x) (Value incoming)) (entry_at key (below key held.kept.entries theta) (key incoming))
+
 -- whether keys are shared by none, though both maps have some and nothing was cut away
 abbrev pub is_nothing_left : (theta held come shared : ℕ) → Bool
 is_nothing_left theta held come shared = theta == MAX_THETA && (not (held == 0) && (not (come == 0) && shared == 0))
@@ -88,3 +113,8 @@ IsAnswerIfAny key None hash asked None = ⊤
 IsAnswerIfAny key None hash asked (Some s) = ⊥
 IsAnswerIfAny key (Some v) hash asked None = ⊥
 IsAnswerIfAny key (Some v) hash asked (Some s) = IsAnswer key v hash asked s
+
+-- an error of an update with hashes, which leaves the intersection as it was: what is refused before anything is read, or memory
+abbrev pub IsHashIntersectError : {P : Type 0} → (old new : Intersection ℕ P) → Shown → ErrorKind → Type 0
+IsHashIntersectError old new s e =
+    (new ≡ old) × MatchOption (intersect_refusal old s) ((s.empty ≡ false) × (is_settled old.result ≡ false) × (e ≡ OutOfMemory)) (λ kind. e ≡ kind)

@@ -1,15 +1,22 @@
 -- Unions.
-use Rattle.std.specs.Prelude.{ℕ, ◌≡◌, ◌==◌, ◌<◌, ◌≤◌, ◌^◌, ◌⊎◌, ◌&&◌, not, nat_le, nat_lt, Bool, true, false, if◌then◌else◌, Option, Some, None, List, map, min}
+use Rattle.std.specs.Prelude.{ℕ, ◌≡◌, ◌==◌, ◌<◌, ◌≤◌, ◌^◌, ◌⊎◌, ◌&&◌, not, nat_le, nat_lt, Bool, true, false, if◌then◌else◌, Option, Some, None, List, [], ◌∷◌, map, min, MatchOption}
 use Rattle.sketch_base.specs.declared.error.ErrorKind.{ErrorKind}
 use Rattle.sketch_base.specs.declared.error.ErrorKind.TheVariants.{InvalidArgument, Failed, OutOfMemory, Policy}
 use Rattle.core_laws.specs.declared.TheConstants.{MIN_LG_K, MAX_LG_K}
 use Rattle.core_laws.specs.Cuts.{Retained, cut, none_below}
+use Rattle.core_laws.specs.Entries.{hash_key, first_hash}
+use Rattle.core_laws.specs.Insertion.{after_upserts}
 use Rattle.core_laws.specs.Maps.{below, entry_at}
 use Rattle.core_laws.specs.Lawful.{IsWithin}
-use Rattle.core_laws.specs.Operators.{joined}
+use Rattle.core_laws.specs.Operators.{joined, unite}
+use Rattle.core_laws.specs.Step.{merge_step}
 use Rattle.core_laws.specs.Values.{Sketch, Empty, NonEmpty}
-use Rattle.core_laws.specs.Folds.{Value, fold_key, fold_merges, unmarked}
-use Rattle.core_laws.specs.Shown.{Shown}
+use Rattle.core_laws.specs.Folds.{Fold, Value, fold_key, fold_merges, never, unmarked, unmarked_value}
+use Rattle.core_laws.specs.Shown.{Shown, shown_value}
+use Rattle.core_policies.specs.Summaries.{combined, combine_refused}
+use Rattle.core_slots.specs.Entry.{tuple_key}
+use Rattle.core_slots.specs.declared.entry.TupleEntry.{TupleEntry}
+use Rattle.core_table.specs.HashTable.{MapTable}
 
 -- a union: whether it is empty still, whether it broke off, what it holds, and what it was made with
 pub record Union (X P : Type 0) : Type 0 where
@@ -67,6 +74,20 @@ pub record IsJoined {X P : Type 0} (key : X → ℕ) (merges : X → X → X) (r
   pub whole : (let m = min old.held.theta theta in IsWithin (fold_key key) (2 ^ old.lg_k) m (unmarked new.held) (joined (fold_key key) (fold_merges key merges refuses) (map Value (below key old.held.entries m)) (map Value (below key entries m))))
   pub made_with : new ≡ record old { empty = false; held = new.held }
 
+-- a table's map in folds is that of before after the entries below a theta were merged into it, one after another
+abbrev pub HasMerged : {X : Type 0} → (key : X → ℕ) → (merges : X → X → X) → (refuses : X → X → Bool) → (entries : List X) → (theta : ℕ) → (old new : MapTable X) → Type 0
+HasMerged key merges refuses entries theta old new =
+    unmarked new.kept ≡ after_upserts (fold_key key) (2 ^ old.lg_nom) (merge_step (fold_merges key merges refuses) never) (map Value (below key entries theta)) (unmarked old.kept)
+
+-- an input that isn't Empty is joined
+abbrev pub JoinsShown : {X P : Type 0} → (key : X → ℕ) → (merges : X → X → X) → (refuses : X → X → Bool) → (old new : Union X P) → Shown → List X → Type 0
+JoinsShown key merges refuses old new s listing = s.empty ≡ false → IsJoined key merges refuses old new s.theta listing
+
+-- the new value is the old one united with that of an input, if that isn't Empty
+abbrev pub UnitesShown : {X P : Type 0} → (key : X → ℕ) → (merges : X → X → X) → (refuses : X → X → Bool) → (old new : Union X P) → Shown → List X → Type 0
+UnitesShown key merges refuses old new s listing =
+    s.empty ≡ false → unmarked_value (union_value key new) ≡ unite (fold_key key) (fold_merges key merges refuses) (2 ^ old.lg_k) old.start (unmarked_value (union_value key old) ∷ unmarked_value (shown_value key s listing) ∷ [])
+
 -- a policy refuses what is held at some key with what comes in there
 pub record IsMergeRefused {X : Type 0} (key : X → ℕ) (refuses : X → X → Bool) (held come : List X) : Type 0 where
   pub at : ℕ
@@ -76,8 +97,36 @@ pub record IsMergeRefused {X : Type 0} (key : X → ℕ) (refuses : X → X → 
   pub comes : entry_at key come at ≡ Some new_entry
   pub refused : refuses held_entry new_entry ≡ true
 
+-- an error of merges: memory ran out, or the policy refuses a held entry below a theta with an input's entry at its key
+abbrev pub IsMergeRefusal : {X : Type 0} → (key : X → ℕ) → (refuses : X → X → Bool) → (held : List X) → (theta : ℕ) → (entries : List X) → ErrorKind → Type 0
+IsMergeRefusal key refuses held theta entries kind = (kind ≡ OutOfMemory) ⊎ ((kind ≡ Policy) × IsMergeRefused key refuses (below key held theta) entries)
+
 -- a merge broke off: memory ran out, or the policy refused at a key below the least theta; the union has failed
 pub record IsBroken {X P : Type 0} (key : X → ℕ) (refuses : X → X → Bool) (old new : Union X P) (s : Shown) (entries : List X) (kind : ErrorKind) : Type 0 where
   pub nonempty : s.empty ≡ false
   pub why : (kind ≡ OutOfMemory) ⊎ ((kind ≡ Policy) × IsMergeRefused key refuses (below key old.held.entries (min old.held.theta s.theta)) entries)
   pub made_with : new ≡ record old { failed = true; held = new.held }
+
+-- an error of an update: what is refused before anything is merged, with the union as it was, or a merge that broke off
+abbrev pub IsUpdateError : {X P : Type 0} → (key : X → ℕ) → (refuses : X → X → Bool) → (old new : Union X P) → Shown → List X → ErrorKind → Type 0
+IsUpdateError key refuses old new s listing e = MatchOption (update_refusal old s) (IsBroken key refuses old new s listing e) (λ kind. (e ≡ kind) × (new ≡ old))
+
+-- the same of summaries that a policy combines
+abbrev pub JoinsSummaries : {S P : Type 0} → (combines : S → S → Option S) → (old new : Union (TupleEntry S) P) → Shown → List (TupleEntry S) → Type 0
+JoinsSummaries combines old new s listing = JoinsShown tuple_key (combined combines) (combine_refused combines) old new s listing
+
+abbrev pub UnitesSummaries : {S P : Type 0} → (combines : S → S → Option S) → (old new : Union (TupleEntry S) P) → Shown → List (TupleEntry S) → Type 0
+UnitesSummaries combines old new s listing = UnitesShown tuple_key (combined combines) (combine_refused combines) old new s listing
+
+-- the same of hashes, of which nothing is refused
+abbrev pub JoinsHashes : {P : Type 0} → (old new : Union ℕ P) → Shown → List ℕ → Type 0
+JoinsHashes old new s listing = JoinsShown hash_key first_hash (λ _ _. false) old new s listing
+
+abbrev pub UnitesHashes : {P : Type 0} → (old new : Union ℕ P) → Shown → List ℕ → Type 0
+UnitesHashes old new s listing =
+    s.empty ≡ false → union_value hash_key new ≡ unite hash_key first_hash (2 ^ old.lg_k) old.start (union_value hash_key old ∷ shown_value hash_key s listing ∷ [])
+
+-- an error of an update with hashes: what is refused before anything is merged, with the union as it was, or memory
+abbrev pub IsHashUpdateError : {P : Type 0} → (old new : Union ℕ P) → Shown → ErrorKind → Type 0
+IsHashUpdateError old new s e =
+    MatchOption (update_refusal old s) ((s.empty ≡ false) × (e ≡ OutOfMemory) × (new ≡ record old { failed = true; held = new.held })) (λ kind. (e ≡ kind) × (new ≡ old))

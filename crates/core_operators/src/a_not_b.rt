@@ -3,7 +3,7 @@ ghost use Rattle.std.specs.Prelude.{◌≡◌, ◌+◌, ◌<◌, ◌≤◌, ◌=
 ghost use Rattle.std.specs.Option.{ForSome};
 ghost use Rattle.core_compact.specs.CompactState.{IsCompactOf, shown_of, is_answer_ordered};
 ghost use Rattle.core_laws.specs.Maps.{IsAscending, IsApart, below, entry_at, map_of};
-ghost use Rattle.core_operators.specs.ANotB.{difference_refusal, IsDifference};
+ghost use Rattle.core_operators.specs.ANotB.{difference_refusal, IsDifference, lacking_below};
 ghost use Rattle.core_laws.specs.Entries.{hash_key, ClonesEqual};
 ghost use Rattle.core_laws.specs.Operators.{lacking};
 ghost use Rattle.core_laws.specs.Refusal.{Refuses};
@@ -219,7 +219,7 @@ fn sift<'a, 'b, E: SketchEntry, F: SketchEntry>(
 ) -> Sifted<'a, 'b, E, F>
     requires ascending { IsAscending E.key entries.now }
     requires others_ascend { IsAscending F.key others.now }
-    ensures kept { map (λ x. x.now) (take result.count kept.new) ++ lacking E.key F.key (below E.key result.entries.now theta) result.others.now ≡ lacking E.key F.key (below E.key entries.entry.now theta) others.entry.now }
+    ensures kept { let left = lacking_below E.key F.key theta in map (λ x. x.now) (take result.count kept.new) ++ left result.entries.now result.others.now ≡ left entries.entry.now others.entry.now }
     ensures ascending { IsAscending E.key result.entries.now }
     ensures others_ascend { IsAscending F.key result.others.now }
     ensures whole { result.count < 64 → lacking E.key F.key (below E.key result.entries.now theta) result.others.now ≡ below E.key result.entries.now theta }

@@ -1,19 +1,15 @@
 //! Intersections.
-ghost use Rattle.std.specs.Prelude.{◌≡◌, ◌==◌, ◌<◌, ◌^◌, ◌⊎◌, Some, None, true, false, is_some, if◌then◌else◌, length, min, option_map, IfOk, IfErr, OnOk, MatchOption};
+ghost use Rattle.std.specs.Prelude.{◌≡◌, ◌==◌, ◌<◌, ◌^◌, ◌⊎◌, Some, None, true, false, is_some, if◌then◌else◌, length, min, IfOk, IfErr, OnOk};
 ghost use Rattle.std.specs.Option.{option_map_or};
 ghost use Rattle.sketch_base.specs.Seed.{seed_hash};
-ghost use Rattle.sketch_base.specs.declared.error.ErrorKind.TheVariants.{OutOfMemory, Policy};
-ghost use Rattle.core_laws.specs.Maps.{below, map_of};
-ghost use Rattle.core_operators.specs.Intersection.{Intersection, IsIntersection, IsMet, IsCutShort, IsAnswerIfAny, new_intersection, outcome_value, held_of, seed_refusal, intersect_refusal, is_settled_outcome, is_begun, is_nothing_left};
-ghost use Rattle.core_laws.specs.Operators.{meet_next};
+ghost use Rattle.core_operators.specs.Intersection.{Intersection, IsIntersection, IsMet, IsAnswerIfAny, new_intersection, outcome_value, held_of, seed_refusal, intersect_refusal, is_settled_outcome, is_begun, is_nothing_left, IsIntersectError, IsMetMap};
 ghost use Rattle.core_operators.specs.declared.intersection.Outcome.TheVariants.{Nothing, Held};
 ghost use Rattle.core_laws.specs.Refusal.{Refuses};
 ghost use Rattle.core_laws.specs.Values.{NonEmpty, count_of};
-ghost use Rattle.core_laws.specs.Folds.{fold_key, fold_merges, unmarked, unmarked_value};
 ghost use Rattle.core_laws.specs.Cuts.{IsRetained};
-ghost use Rattle.core_operators.specs.Union.{IsMergeRefused};
 ghost use Rattle.core_laws.specs.Shown.{IsShown};
 ghost use Rattle.core_laws.specs.Entries.{ClonesEqual};
+ghost use Rattle.core_operators.specs.Union.{IsMergeRefusal};
 
 use crate::share::{copied_table, shared_table};
 use crate::view::{EntrySketch, ThetaFamilySketchMetadata};
@@ -108,7 +104,7 @@ impl<
         ensures met { OnOk result (IsMet E.key (P.merges self.old.policy) (P.refuses self.old.policy) self.old self.new (S.shown sketch) (S.listing sketch)) }
         ensures made_with { self.new ≡ record self.old { result = self.new.result } }
         ensures accepted { OnOk result (intersect_refusal self.old (S.shown sketch) ≡ None) }
-        ensures refused { IfErr result (λ e. (self.new ≡ self.old) × MatchOption (intersect_refusal self.old (S.shown sketch)) (IsCutShort E.key (P.refuses self.old.policy) self.old.result (S.shown sketch) (S.listing sketch) e) (λ kind. e ≡ kind)) }
+        ensures refused { IfErr result (IsIntersectError E.key (P.refuses self.old.policy) self.old self.new (S.shown sketch) (S.listing sketch)) }
         ensures sound { IsIntersection self.old }
         ensures held { IsRetained E.key (held_of self.old.result) }
     {
@@ -187,10 +183,10 @@ where
     requires of_theta { theta ≡ (S.shown sketch).theta }
     requires counted { count ≡ length (S.shown sketch).hashes }
     requires few { length table.old.map.kept.entries < 2 ^ 32 }
-    ensures met { IfOk result (λ o. option_map unmarked_value (outcome_value o table.new.map.kept) ≡ Some (meet_next (fold_key S.Entry.key) (fold_merges S.Entry.key (P.merges policy.now) (P.refuses policy.now)) (Some (NonEmpty (unmarked table.old.map.kept))) (NonEmpty (unmarked (record { entries = map_of S.Entry.key (S.listing sketch); theta = theta }))))) }
+    ensures met { IfOk result (λ o. IsMetMap S.Entry.key (P.merges policy.now) (P.refuses policy.now) table.old.map theta (S.listing sketch) (outcome_value o table.new.map.kept)) }
     ensures few { IfOk result (λ o. option_map_or count_of (outcome_value o table.new.map.kept) 0 < 2 ^ 32) }
     ensures same_seed { IfOk result (λ _. table.new.map.seed_hash ≡ table.old.map.seed_hash) }
-    ensures refused { IfErr result (λ e. (table.new ≡ table.old) × ((e ≡ OutOfMemory) ⊎ ((e ≡ Policy) × IsMergeRefused S.Entry.key (P.refuses policy.now) (below S.Entry.key table.old.map.kept.entries (min table.old.map.kept.theta theta)) (S.listing sketch)))) }
+    ensures refused { let kept = table.old.map.kept in IfErr result (λ e. (table.new ≡ table.old) × IsMergeRefusal S.Entry.key (P.refuses policy.now) kept.entries (min kept.theta theta) (S.listing sketch) e) }
 {
     let held = table.num_retained();
     if held == 0 {

@@ -1,14 +1,11 @@
 //! Merging the entries of a sketch into a table.
-ghost use Rattle.std.specs.Prelude.{◌≡◌, ◌^◌, ◌⊎◌, Some, None, [], ◌∷◌, true, map, MatchOption, OnOk, IfErr, IsTrue, ◌↔◌, ◌≤◌, min};
-ghost use Rattle.sketch_base.specs.declared.error.ErrorKind.TheVariants.{OutOfMemory, Policy};
+ghost use Rattle.std.specs.Prelude.{◌≡◌, ◌^◌, ◌⊎◌, Some, [], ◌∷◌, true, map, MatchOption, OnOk, IfErr, IsTrue, ◌↔◌, ◌≤◌, min};
 ghost use Rattle.core_laws.specs.Step.{merge_step};
-ghost use Rattle.core_laws.specs.Insertion.{after_upserts};
-ghost use Rattle.core_laws.specs.Maps.{below, IsAscending};
-ghost use Rattle.core_laws.specs.Refusal.{policy_refusal};
-ghost use Rattle.core_laws.specs.Folds.{Value, fold_key, fold_merges, unmarked, never};
+ghost use Rattle.core_laws.specs.Maps.{IsAscending};
+ghost use Rattle.core_laws.specs.Folds.{never};
 ghost use Rattle.core_operators.specs.Iter.{still_asked};
-ghost use Rattle.core_operators.specs.Union.{IsMergeRefused};
 ghost use Rattle.core_laws.specs.Entries.{ClonesEqual};
+ghost use Rattle.core_operators.specs.Union.{HasMerged, IsMergeRefusal};
 
 use crate::iter::EntryIter;
 use crate::view::EntrySketch;
@@ -60,7 +57,7 @@ fn next_entry<'a, E: SlotEntry>(
     ordered: bool,
     theta: u64,
 ) -> Option<&'a E>
-    ensures { MatchOption result (still_asked E.key ordered theta entries.old.rest ≡ []) (λ x. still_asked E.key ordered theta entries.old.rest ≡ x.now ∷ entries.new.rest) }
+    ensures { let asked = still_asked E.key ordered theta entries.old.rest in MatchOption result (asked ≡ []) (λ x. asked ≡ x.now ∷ entries.new.rest) }
 {
     if !ordered {
         entries.pass_to_below(theta);
@@ -90,9 +87,9 @@ fn merge_ascending<E: SlotEntry + Clone, P: UnionMergePolicy<E>, A: Allocator + 
     requires clones_equal { ClonesEqual E.is_clone }
     requires ascending { IsAscending E.key entries.now }
     requires of_sketch { MIN_LG_K ≤ table.old.map.lg_nom }
-    ensures after { OnOk result (unmarked table.new.map.kept ≡ after_upserts (fold_key E.key) (2 ^ table.old.map.lg_nom) (merge_step (fold_merges E.key (P.merges policy.now) (P.refuses policy.now)) never) (map Value (below E.key entries.now theta)) (unmarked table.old.map.kept)) }
+    ensures after { OnOk result (HasMerged E.key (P.merges policy.now) (P.refuses policy.now) entries.now theta table.old.map table.new.map) }
     ensures made_with { table.new.map ≡ record table.old.map { kept = table.new.map.kept } }
-    ensures refused { IfErr result (λ e. (e ≡ OutOfMemory) ⊎ ((e ≡ Policy) × IsMergeRefused E.key (P.refuses policy.now) (below E.key table.old.map.kept.entries theta) entries.now)) }
+    ensures refused { IfErr result (IsMergeRefusal E.key (P.refuses policy.now) table.old.map.kept.entries theta entries.now) }
 {
     'merge_in_order: for first in entries {
         let key = first.hash();
@@ -123,9 +120,9 @@ where
     requires in_order { ordered ≡ (S.shown sketch).ordered }
     requires of_sketch { MIN_LG_K ≤ table.old.map.lg_nom }
     ensures listed { map S.Entry.key (S.listing sketch) ≡ (S.shown sketch).hashes }
-    ensures after { OnOk result (unmarked table.new.map.kept ≡ after_upserts (fold_key S.Entry.key) (2 ^ table.old.map.lg_nom) (merge_step (fold_merges S.Entry.key (P.merges policy.now) (P.refuses policy.now)) never) (map Value (below S.Entry.key (S.listing sketch) theta)) (unmarked table.old.map.kept)) }
+    ensures after { OnOk result (HasMerged S.Entry.key (P.merges policy.now) (P.refuses policy.now) (S.listing sketch) theta table.old.map table.new.map) }
     ensures made_with { table.new.map ≡ record table.old.map { kept = table.new.map.kept } }
-    ensures refused { IfErr result (λ e. (e ≡ OutOfMemory) ⊎ ((e ≡ Policy) × IsMergeRefused S.Entry.key (P.refuses policy.now) (below S.Entry.key table.old.map.kept.entries theta) (S.listing sketch))) }
+    ensures refused { IfErr result (IsMergeRefusal S.Entry.key (P.refuses policy.now) table.old.map.kept.entries theta (S.listing sketch)) }
 {
     let mut entries = sketch.entries();
     let mut lesser = theta.min(table.retention_theta());
@@ -162,9 +159,9 @@ where
     requires in_order { ordered ≡ (S.shown sketch).ordered }
     requires of_sketch { MIN_LG_K ≤ table.old.map.lg_nom }
     ensures listed { map S.Entry.key (S.listing sketch) ≡ (S.shown sketch).hashes }
-    ensures after { OnOk result (unmarked table.new.map.kept ≡ after_upserts (fold_key S.Entry.key) (2 ^ table.old.map.lg_nom) (merge_step (fold_merges S.Entry.key (P.merges policy.now) (P.refuses policy.now)) never) (map Value (below S.Entry.key (S.listing sketch) theta)) (unmarked table.old.map.kept)) }
+    ensures after { OnOk result (HasMerged S.Entry.key (P.merges policy.now) (P.refuses policy.now) (S.listing sketch) theta table.old.map table.new.map) }
     ensures made_with { table.new.map ≡ record table.old.map { kept = table.new.map.kept } }
-    ensures refused { IfErr result (λ e. (e ≡ OutOfMemory) ⊎ ((e ≡ Policy) × IsMergeRefused S.Entry.key (P.refuses policy.now) (below S.Entry.key table.old.map.kept.entries theta) (S.listing sketch))) }
+    ensures refused { IfErr result (IsMergeRefusal S.Entry.key (P.refuses policy.now) table.old.map.kept.entries theta (S.listing sketch)) }
 {
     let lent = sketch.entries();
     if ordered {

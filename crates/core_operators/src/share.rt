@@ -1,16 +1,14 @@
 //! What a table and a sketch share, and tables of it.
-ghost use Rattle.std.specs.Prelude.{◌≡◌, ◌==◌, ◌<◌, ◌≤◌, ◌^◌, ◌⊎◌, [], ◌∷◌, ◌++◌, Some, None, true, false, if◌then◌else◌, map, min, length, option_map, IfOk, IfErr, OnOk};
+ghost use Rattle.std.specs.Prelude.{◌≡◌, ◌==◌, ◌<◌, ◌≤◌, ◌^◌, ◌⊎◌, [], ◌∷◌, ◌++◌, Some, None, true, if◌then◌else◌, map, min, length, IfOk, IfErr, OnOk};
 ghost use Rattle.std.specs.List.{AllByRecursion};
 ghost use Rattle.std.specs.Option.{option_map_or};
-ghost use Rattle.sketch_base.specs.declared.error.ErrorKind.TheVariants.{OutOfMemory, Policy};
-ghost use Rattle.core_laws.specs.Maps.{IsApart, below, entry_at, map_of};
-ghost use Rattle.core_laws.specs.Operators.{common, shared};
-ghost use Rattle.core_laws.specs.Refusal.{Refuses, policy_refusal};
-ghost use Rattle.core_laws.specs.Folds.{Value, fold_key, fold_merges, unmarked};
+ghost use Rattle.core_laws.specs.Maps.{IsApart, map_of};
+ghost use Rattle.core_laws.specs.Refusal.{Refuses};
 ghost use Rattle.core_table.specs.HashTable.{IsSeedHash, lg_size_for};
-ghost use Rattle.core_operators.specs.Union.{IsMergeRefused};
 ghost use Rattle.core_laws.specs.Shown.{IsShown};
 ghost use Rattle.core_laws.specs.Entries.{ClonesEqual};
+ghost use Rattle.core_operators.specs.Union.{IsMergeRefusal};
+ghost use Rattle.core_operators.specs.Intersection.{IsSharedMap, AreSharedFolds, IsSharedFold};
 
 use crate::merge::is_past;
 use crate::view::EntrySketch;
@@ -112,8 +110,8 @@ fn shared_entry<E: SlotEntry + Clone, P: IntersectionMergePolicy<E>, A: Allocato
     theta: u64,
 ) -> Result<Option<E>, Error>
     requires clones_equal { ClonesEqual E.is_clone }
-    ensures combined { IfOk result (λ o. option_map Value o ≡ option_map (λ x. fold_merges E.key (P.merges policy.now) (P.refuses policy.now) (Value x) (Value incoming.now)) (entry_at E.key (below E.key held.now.map.kept.entries theta) (E.key incoming.now))) }
-    ensures refused { IfErr result (λ e. (e ≡ OutOfMemory) ⊎ ((e ≡ Policy) × IsMergeRefused E.key (P.refuses policy.now) (below E.key held.now.map.kept.entries theta) (incoming.now ∷ []))) }
+    ensures combined { IfOk result (λ o. IsSharedFold E.key (P.merges policy.now) (P.refuses policy.now) held.now.map theta incoming.now o) }
+    ensures refused { IfErr result (IsMergeRefusal E.key (P.refuses policy.now) held.now.map.kept.entries theta (incoming.now ∷ [])) }
 {
     let hash = incoming.hash();
     if hash >= theta {
@@ -158,9 +156,9 @@ where
     S::Entry: Clone,
     requires clones_equal { ClonesEqual S.Entry.is_clone }
     requires in_order { ordered ≡ (S.shown sketch).ordered }
-    ensures all { IfOk result (λ v. map Value v.items ≡ common (fold_key S.Entry.key) (λ y x. fold_merges S.Entry.key (P.merges policy.now) (P.refuses policy.now) x y) (map Value (S.listing sketch)) (map Value (below S.Entry.key held.now.map.kept.entries theta))) }
+    ensures all { IfOk result (λ v. AreSharedFolds S.Entry.key (P.merges policy.now) (P.refuses policy.now) held.now.map theta (S.listing sketch) v.items) }
     ensures listed { map S.Entry.key (S.listing sketch) ≡ (S.shown sketch).hashes }
-    ensures refused { IfErr result (λ e. (e ≡ OutOfMemory) ⊎ ((e ≡ Policy) × IsMergeRefused S.Entry.key (P.refuses policy.now) (below S.Entry.key held.now.map.kept.entries theta) (S.listing sketch))) }
+    ensures refused { IfErr result (IsMergeRefusal S.Entry.key (P.refuses policy.now) held.now.map.kept.entries theta (S.listing sketch)) }
 {
     let items = sketch.entries();
     let alloc = held.allocator().clone()?;
@@ -195,11 +193,11 @@ where
     requires in_order { ordered ≡ (S.shown sketch).ordered }
     requires told { theta ≡ (S.shown sketch).theta }
     requires sound { IsShown (S.shown sketch) }
-    ensures kept { IfOk result (λ t. unmarked t.map.kept ≡ shared (fold_key S.Entry.key) (fold_merges S.Entry.key (P.merges policy.now) (P.refuses policy.now)) (unmarked held.now.map.kept) (unmarked (record { entries = map_of S.Entry.key (S.listing sketch); theta = theta }))) }
+    ensures kept { IfOk result (λ t. IsSharedMap S.Entry.key (P.merges policy.now) (P.refuses policy.now) held.now.map theta (S.listing sketch) t.map) }
     ensures few { IfOk result (λ t. length t.map.kept.entries < 2 ^ 32) }
     ensures same_seed { IfOk result (λ t. t.map.seed_hash ≡ held.now.map.seed_hash) }
     ensures listed { IfOk result (λ t. map S.Entry.key (S.listing sketch) ≡ (S.shown sketch).hashes) }
-    ensures refused { IfErr result (λ e. (e ≡ OutOfMemory) ⊎ ((e ≡ Policy) × IsMergeRefused S.Entry.key (P.refuses policy.now) (below S.Entry.key held.now.map.kept.entries (min held.now.map.kept.theta theta)) (S.listing sketch))) }
+    ensures refused { let kept = held.now.map.kept in IfErr result (IsMergeRefusal S.Entry.key (P.refuses policy.now) kept.entries (min kept.theta theta) (S.listing sketch)) }
 {
     let lesser = held.retention_theta().min(theta);
     let entries = shared_entries(held, sketch, policy, ordered, lesser)?;

@@ -1,14 +1,11 @@
 //! Unions.
-ghost use Rattle.std.specs.Prelude.{◌≡◌, ◌^◌, [], ◌∷◌, true, false, not, None, IfOk, IfErr, OnOk, OnErr, MatchOption};
+ghost use Rattle.std.specs.Prelude.{◌≡◌, ◌^◌, [], ◌∷◌, true, false, not, None, IfOk, IfErr, OnOk, OnErr};
 ghost use Rattle.sketch_base.specs.Seed.{seed_hash};
 ghost use Rattle.core_compact.specs.CompactState.{IsAnswer};
-ghost use Rattle.core_laws.specs.Operators.{unite};
 ghost use Rattle.core_laws.specs.Refusal.{Refuses};
-ghost use Rattle.core_laws.specs.Folds.{fold_key, fold_merges, unmarked_value};
 ghost use Rattle.core_laws.specs.Cuts.{IsRetained};
 ghost use Rattle.core_laws.specs.Settings.{settings_refusal};
-ghost use Rattle.core_operators.specs.Union.{Union, empty_union, union_value, update_refusal, lower_refusal, lower_allocates, lowered, failure, IsUnion, IsJoined, IsBroken};
-ghost use Rattle.core_laws.specs.Shown.{shown_value};
+ghost use Rattle.core_operators.specs.Union.{Union, empty_union, union_value, update_refusal, lower_refusal, lower_allocates, lowered, failure, IsUnion, JoinsShown, UnitesShown, IsUpdateError};
 ghost use Rattle.core_laws.specs.Values.{cut_value};
 ghost use Rattle.core_laws.specs.Entries.{ClonesEqual};
 
@@ -100,10 +97,10 @@ impl<E: SlotEntry + Clone, P: UnionMergePolicy<E> + Drop, A: Allocator + Clone> 
     pub fn update<S: EntrySketch<Entry = E>>(&mut self, sketch: S) -> Result<(), Error>
         requires clones_equal { ClonesEqual E.is_clone }
         ensures skipped { OnOk result ((S.shown sketch).empty ≡ true → self.new ≡ self.old) }
-        ensures joined { OnOk result ((S.shown sketch).empty ≡ false → IsJoined E.key (P.merges self.old.policy) (P.refuses self.old.policy) self.old self.new (S.shown sketch).theta (S.listing sketch)) }
-        ensures united { OnOk result ((S.shown sketch).empty ≡ false → unmarked_value (union_value E.key self.new) ≡ unite (fold_key E.key) (fold_merges E.key (P.merges self.old.policy) (P.refuses self.old.policy)) (2 ^ self.old.lg_k) self.old.start (unmarked_value (union_value E.key self.old) ∷ unmarked_value (shown_value E.key (S.shown sketch) (S.listing sketch)) ∷ [])) }
+        ensures joined { OnOk result (JoinsShown E.key (P.merges self.old.policy) (P.refuses self.old.policy) self.old self.new (S.shown sketch) (S.listing sketch)) }
+        ensures united { OnOk result (UnitesShown E.key (P.merges self.old.policy) (P.refuses self.old.policy) self.old self.new (S.shown sketch) (S.listing sketch)) }
         ensures accepted { OnOk result (update_refusal self.old (S.shown sketch) ≡ None) }
-        ensures refused { IfErr result (λ e. MatchOption (update_refusal self.old (S.shown sketch)) (IsBroken E.key (P.refuses self.old.policy) self.old self.new (S.shown sketch) (S.listing sketch) e) (λ kind. (e ≡ kind) × (self.new ≡ self.old))) }
+        ensures refused { IfErr result (IsUpdateError E.key (P.refuses self.old.policy) self.old self.new (S.shown sketch) (S.listing sketch)) }
         ensures sound { IsUnion self.old }
         ensures held { IsRetained E.key self.old.held }
     {

@@ -1,5 +1,6 @@
 -- Entries in slots.
-use Rattle.std.specs.Prelude.{ℕ, ◌<◌, ◌≡◌, ◌-◌, ◌^◌, ◌==◌, not, nat_lt, Bool, false, true, Option, Some, None, List, [], ◌∷◌, length, get_or, option_map, unwrap_or}
+use Rattle.std.specs.Prelude.{ℕ, ◌<◌, ◌≡◌, ◌-◌, ◌^◌, ◌==◌, not, nat_lt, Bool, false, true, Option, Some, None, List, [], ◌∷◌, length, map, get_or, option_map, unwrap_or}
+use Rattle.core_laws.specs.Maps.{map_of}
 use Rattle.core_slots.specs.Probe.{probe}
 
 -- what the slots hold, in their order
@@ -7,6 +8,14 @@ abbrev pub filled : {X : Type 0} → List (Option X) → List X
 filled [] = []
 filled (None ∷ slots) = filled slots
 filled (Some x ∷ slots) = x ∷ filled slots
+
+-- the entries that slots in memory hold, in the order of the slots; `held` reads a slot
+abbrev pub entries_in : {S X : Type 0} → (held : S → Option X) → List S → List X
+entries_in held slots = filled (map held slots)
+
+-- the map of these entries
+abbrev pub slot_map : {S X : Type 0} → (key : X → ℕ) → (held : S → Option X) → List S → List X
+slot_map key held slots = map_of key (entries_in held slots)
 
 -- what is in a slot
 abbrev pub slot : {X : Type 0} → List (Option X) → ℕ → Option X

@@ -2,11 +2,19 @@
 use Rattle.std.specs.Prelude.{ℕ, ◌≡◌, ◌≤◌, ◌+◌, ◌*◌, ◌==◌, Option, List, ◌++◌, length}
 use Rattle.std.specs.List.{AllByRecursion, count_by}
 use Rattle.core_laws.specs.Maps.{entry_at}
-use Rattle.core_slots.specs.Layout.{filled, HasOthers, IsLaidOut}
+use Rattle.core_slots.specs.Layout.{filled, entries_in, HasOthers, IsLaidOut}
 
 -- how many entries have the hash q
 abbrev pub times : {X : Type 0} → (X → ℕ) → ℕ → List X → ℕ
 times key q xs = count_by (λ x. key x == q) xs
+
+-- how many entries in slots in memory have the hash q
+abbrev pub times_in : {S X : Type 0} → (key : X → ℕ) → (held : S → Option X) → ℕ → List S → ℕ
+times_in key held q slots = times key q (entries_in held slots)
+
+-- twice the sum of the numbers up to n
+abbrev pub twice_sum_to : ℕ → ℕ
+twice_sum_to n = n * (n + 1)
 
 -- of the entries `whole`, `put` are in slots, `begun` of them from the start and the others after `looked` looks; `stay` have looked in this round, and `wait` have not
 pub record IsInRound {X : Type 0} (key : X → ℕ) (lg : ℕ) (whole stay wait : List X) (slots : List (Option X)) (begun round put looked : ℕ) : Type 0 where

@@ -2,8 +2,8 @@
 //! it is gathered.
 ghost use Rattle.std.specs.Prelude.{◌≡◌, ◌+◌, ◌-◌, ◌<◌, ◌≤◌, ◌^◌, ◌*◌, [], None, nat_lt, OnOk, OnErr, length, map, take};
 ghost use Rattle.std.specs.List.{count_by};
-ghost use Rattle.core_laws.specs.Maps.{below, with_entry, map_of};
-ghost use Rattle.core_slots.specs.Layout.{filled, slot, IsOnPath, IsLaidOut};
+ghost use Rattle.core_laws.specs.Maps.{below, with_entry};
+ghost use Rattle.core_slots.specs.Layout.{filled, slot, IsOnPath, IsLaidOut, entries_in, slot_map};
 
 use crate::count::Count;
 use crate::rounds::settle_all;
@@ -15,12 +15,12 @@ use std::mem;
 /// Moves what is below theta into the slots in front of others, of which there is one more at least, and leaves the slots free.
 /// Answers how many have come.
 fn take_below<E: SlotEntry>(slots: &mut [E::Slot], theta: u64, others: &mut [E::Slot]) -> usize
-    requires room { length (below E.key (filled (map E.held slots.old)) theta) < length others.old }
+    requires room { length (below E.key (entries_in E.held slots.old) theta) < length others.old }
     ensures size { length slots.new ≡ length slots.old }
-    ensures free { filled (map E.held slots.new) ≡ [] }
-    ensures number { result ≡ length (below E.key (filled (map E.held slots.old)) theta) }
+    ensures free { entries_in E.held slots.new ≡ [] }
+    ensures number { result ≡ length (below E.key (entries_in E.held slots.old) theta) }
     ensures size_others { length others.new ≡ length others.old }
-    ensures taken { filled (map E.held (take result others.new)) ≡ below E.key (filled (map E.held slots.old)) theta }
+    ensures taken { filled (map E.held (take result others.new)) ≡ below E.key (entries_in E.held slots.old) theta }
 {
     let mut count = 0;
     'take_each: for at in 0..slots.len() {
@@ -56,10 +56,10 @@ where
     A: Drop,
     requires small { lg < 40 }
     requires laid_out { IsLaidOut E.key lg (map E.held slots.old) }
-    requires room { length (below E.key (filled (map E.held slots.old)) theta) < length others.items }
+    requires room { length (below E.key (entries_in E.held slots.old) theta) < length others.items }
     ensures laid_out { IsLaidOut E.key lg (map E.held slots.new) }
-    ensures map { map_of E.key (filled (map E.held slots.new)) ≡ below E.key (map_of E.key (filled (map E.held slots.old))) theta }
-    ensures placed { placed.new ≡ placed.old + count_by (λ x. nat_lt (E.key x) theta) (filled (map E.held slots.old)) }
+    ensures map { slot_map E.key E.held slots.new ≡ below E.key (slot_map E.key E.held slots.old) theta }
+    ensures placed { placed.new ≡ placed.old + count_by (λ x. nat_lt (E.key x) theta) (entries_in E.held slots.old) }
     ensures looked { looks.old + (placed.new - placed.old) ≤ looks.new }
     ensures looks { 2 * looks.new ≤ 2 * looks.old + (placed.new - placed.old) * (placed.new - placed.old + 1) }
 {
@@ -93,11 +93,11 @@ pub(crate) fn put_gathered<E: SlotEntry + Drop, A: Allocator + Clone>(
     requires free { slot (map E.held slots.old.items) at ≡ None }
     requires on_path { IsOnPath E.key lg (map E.held slots.old.items) (E.key entry) at }
     requires nonzero { 0 < E.key entry }
-    requires kept { length (below E.key (with_entry E.key (map_of E.key (filled (map E.held slots.old.items))) entry) theta) ≤ kept }
+    requires kept { length (below E.key (with_entry E.key (slot_map E.key E.held slots.old.items) entry) theta) ≤ kept }
     requires few { kept < 2 ^ 40 }
     ensures laid_out { OnOk result (IsLaidOut E.key lg (map E.held slots.new.items)) }
-    ensures map { OnOk result (map_of E.key (filled (map E.held slots.new.items)) ≡ below E.key (with_entry E.key (map_of E.key (filled (map E.held slots.old.items))) entry) theta) }
-    ensures placed { OnOk result (placed.new ≡ placed.old + length (filled (map E.held slots.new.items))) }
+    ensures map { OnOk result (slot_map E.key E.held slots.new.items ≡ below E.key (with_entry E.key (slot_map E.key E.held slots.old.items) entry) theta) }
+    ensures placed { OnOk result (placed.new ≡ placed.old + length (entries_in E.held slots.new.items)) }
     ensures err { OnErr result (slots.new.items ≡ slots.old.items) }
     ensures placed_err { OnErr result (placed.new ≡ placed.old) }
     ensures looked { looks.old + (placed.new - placed.old) ≤ looks.new }

@@ -2,11 +2,11 @@
 //!
 //! Which hash a slot holds is as good as random, and where slots are many each look waits for memory. So a round looks at one
 //! slot of each hash, without a branch on what it finds, and only then those that were found are left out.
-ghost use Rattle.std.specs.Prelude.{◌≡◌, ◌==◌, ◌<◌, ◌≤◌, ◌^◌, if◌then◌else◌, false, not, length, map, filter, take, slice_index, EachIndex};
+ghost use Rattle.std.specs.Prelude.{◌≡◌, ◌==◌, ◌<◌, ◌≤◌, ◌^◌, if◌then◌else◌, false, not, length, filter, take, slice_index, EachIndex};
 ghost use Rattle.std.specs.List.{AllByRecursion};
 ghost use Rattle.core_laws.specs.Insertion.{IsRedundant, LeavesOut, is_screened};
-ghost use Rattle.core_slots.specs.Layout.{filled};
 ghost use Rattle.core_slots.specs.Lookup.{IsBlanked};
+ghost use Rattle.core_slots.specs.Layout.{entries_in};
 
 use crate::slot_entry::SlotEntry;
 use crate::slots::{hash_or_zero, slot_after};
@@ -26,7 +26,7 @@ fn unless_same(hash: u64, other: u64) -> u64
 #[inline(always)]
 fn blanked_at<E: SlotEntry>(slots: &[E::Slot], at: usize, hash: u64) -> u64
     requires inside { at < length slots.now }
-    ensures { IsBlanked E.key (filled (map E.held slots.now)) hash result }
+    ensures { IsBlanked E.key (entries_in E.held slots.now) hash result }
 {
     let held = hash_or_zero::<E>(&slots[at]);
     unless_same(hash, held)
@@ -37,7 +37,7 @@ fn blank_held<E: SlotEntry>(slots: &[E::Slot], lg: u8, step: usize, hashes: &mut
     requires small { lg < 40 }
     requires near { step < 2 ^ 40 }
     requires size { length slots.now ≡ 2 ^ lg }
-    ensures blanked { EachIndex hashes.old (λ p. IsBlanked E.key (filled (map E.held slots.now)) (slice_index hashes.old p) (slice_index hashes.new p)) }
+    ensures blanked { EachIndex hashes.old (λ p. IsBlanked E.key (entries_in E.held slots.now) (slice_index hashes.old p) (slice_index hashes.new p)) }
 {
     'blank_each: for hash in hashes.iter_mut() {
         let at = slot_after(*hash, lg, step);
@@ -83,7 +83,7 @@ pub fn leave_out_held<E: SlotEntry>(
     requires small { lg < 40 }
     requires size { length slots.now ≡ 2 ^ lg }
     requires positive { 0 < theta }
-    ensures left { LeavesOut (IsRedundant E.key (record { entries = filled (map E.held slots.now); theta = theta })) hashes.old (take result hashes.new) }
+    ensures left { LeavesOut (IsRedundant E.key (record { entries = entries_in E.held slots.now; theta = theta })) hashes.old (take result hashes.new) }
     ensures unscreened { AllByRecursion (λ h. is_screened h theta ≡ false) (take result hashes.new) }
     ensures few { result ≤ length hashes.old }
 {

@@ -5,8 +5,8 @@
 //! entries go back to the slot that they came from, so that memory is met nearly in order.
 ghost use Rattle.std.specs.Prelude.{◌≡◌, ℕ, ◌+◌, ◌-◌, ◌<◌, ◌≤◌, ◌^◌, ◌*◌, false, nat_lt, Some, None, IfOk, OnOk, OnErr, length, get_or, map, option_map, replicate};
 ghost use Rattle.std.specs.List.{count_by};
-ghost use Rattle.core_laws.specs.Maps.{below, with_entry, map_of};
-ghost use Rattle.core_slots.specs.Layout.{filled, slot, IsOnPath, IsLaidOut};
+ghost use Rattle.core_laws.specs.Maps.{below, with_entry};
+ghost use Rattle.core_slots.specs.Layout.{slot, IsOnPath, IsLaidOut, entries_in, slot_map};
 ghost use Rattle.core_slots.specs.Relaying.{marked, IsFirstUnmarked};
 
 use crate::count::Count;
@@ -86,8 +86,8 @@ fn relay<E: SlotEntry>(
     requires laid_out { IsLaidOut E.key lg (map E.held slots.old) }
     requires unmarked { marks.old ≡ replicate (2 ^ lg) false }
     ensures laid_out { IsLaidOut E.key lg (map E.held slots.new) }
-    ensures map { map_of E.key (filled (map E.held slots.new)) ≡ below E.key (map_of E.key (filled (map E.held slots.old))) theta }
-    ensures placed { placed.new ≡ placed.old + count_by (λ x. nat_lt (E.key x) theta) (filled (map E.held slots.old)) }
+    ensures map { slot_map E.key E.held slots.new ≡ below E.key (slot_map E.key E.held slots.old) theta }
+    ensures placed { placed.new ≡ placed.old + count_by (λ x. nat_lt (E.key x) theta) (entries_in E.held slots.old) }
     ensures looked { looks.old + (placed.new - placed.old) ≤ looks.new }
     ensures looks { 2 * looks.new ≤ 2 * looks.old + (placed.new - placed.old) * (placed.new - placed.old + 1) }
 {
@@ -117,8 +117,8 @@ pub fn keep_below<E: SlotEntry + Drop, A: Allocator + Clone>(
     requires small { lg < 40 }
     requires laid_out { IsLaidOut E.key lg (map E.held slots.old.items) }
     ensures laid_out { OnOk result (IsLaidOut E.key lg (map E.held slots.new.items)) }
-    ensures map { OnOk result (map_of E.key (filled (map E.held slots.new.items)) ≡ below E.key (map_of E.key (filled (map E.held slots.old.items))) theta) }
-    ensures placed { OnOk result (placed.new ≡ placed.old + length (filled (map E.held slots.new.items))) }
+    ensures map { OnOk result (slot_map E.key E.held slots.new.items ≡ below E.key (slot_map E.key E.held slots.old.items) theta) }
+    ensures placed { OnOk result (placed.new ≡ placed.old + length (entries_in E.held slots.new.items)) }
     ensures err { OnErr result (slots.new.items ≡ slots.old.items) }
     ensures placed_err { OnErr result (placed.new ≡ placed.old) }
     ensures looked { looks.old + (placed.new - placed.old) ≤ looks.new }
@@ -154,11 +154,11 @@ pub fn put_kept<E: SlotEntry + Drop, A: Allocator + Clone>(
     requires free { slot (map E.held slots.old.items) at ≡ None }
     requires on_path { IsOnPath E.key lg (map E.held slots.old.items) (E.key entry) at }
     requires nonzero { 0 < E.key entry }
-    requires kept { length (below E.key (with_entry E.key (map_of E.key (filled (map E.held slots.old.items))) entry) theta) ≤ kept }
+    requires kept { length (below E.key (with_entry E.key (slot_map E.key E.held slots.old.items) entry) theta) ≤ kept }
     requires few { kept < 2 ^ 40 }
     ensures laid_out { OnOk result (IsLaidOut E.key lg (map E.held slots.new.items)) }
-    ensures map { OnOk result (map_of E.key (filled (map E.held slots.new.items)) ≡ below E.key (with_entry E.key (map_of E.key (filled (map E.held slots.old.items))) entry) theta) }
-    ensures placed { OnOk result (placed.new ≡ placed.old + length (filled (map E.held slots.new.items))) }
+    ensures map { OnOk result (slot_map E.key E.held slots.new.items ≡ below E.key (with_entry E.key (slot_map E.key E.held slots.old.items) entry) theta) }
+    ensures placed { OnOk result (placed.new ≡ placed.old + length (entries_in E.held slots.new.items)) }
     ensures err { OnErr result (slots.new.items ≡ slots.old.items) }
     ensures placed_err { OnErr result (placed.new ≡ placed.old) }
     ensures looked { looks.old + (placed.new - placed.old) ≤ looks.new }

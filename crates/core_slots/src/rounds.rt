@@ -3,10 +3,10 @@
 //! Compiled, no branch depends on whether a slot is free, since the counts take no memory: put one by one, each entry ends its
 //! search with a branch that is guessed wrong.
 ghost use Rattle.std.specs.Prelude.{◌≡◌, ℕ, ◌+◌, ◌-◌, ◌<◌, ◌≤◌, ◌^◌, ◌*◌, [], ◌++◌, None, is_none, if◌then◌else◌, length, map, set};
-ghost use Rattle.core_laws.specs.Maps.{IsApart, entry_at, map_of};
-ghost use Rattle.core_slots.specs.Layout.{filled, slot, IsLaidOut};
+ghost use Rattle.core_laws.specs.Maps.{IsApart, entry_at};
+ghost use Rattle.core_slots.specs.Layout.{slot, IsLaidOut, entries_in, slot_map};
 ghost use Rattle.core_slots.specs.Probe.{probe};
-ghost use Rattle.core_slots.specs.Rounds.{times};
+ghost use Rattle.core_slots.specs.Rounds.{times, times_in, twice_sum_to};
 
 use crate::count::Count;
 use crate::slot_entry::{PathEntry, SlotEntry};
@@ -75,16 +75,16 @@ fn settle<E: SlotEntry>(
 )
     requires small { lg < 40 }
     requires laid_out { IsLaidOut E.key lg (map E.held slots.old) }
-    requires once { (q : ℕ) → times E.key q (filled (map E.held left.old)) + times E.key q (filled (map E.held slots.old)) ≤ 1 }
-    requires room { length (filled (map E.held left.old)) + length (filled (map E.held slots.old)) ≤ 2 ^ lg }
+    requires once { (q : ℕ) → times E.key q (entries_in E.held left.old) + times E.key q (entries_in E.held slots.old) ≤ 1 }
+    requires room { length (entries_in E.held left.old) + length (entries_in E.held slots.old) ≤ 2 ^ lg }
     ensures size { length left.new ≡ length left.old }
     ensures laid_out { IsLaidOut E.key lg (map E.held slots.new) }
-    ensures found { (q : ℕ) → entry_at E.key (filled (map E.held slots.new)) q ≡ entry_at E.key (filled (map E.held left.old) ++ filled (map E.held slots.old)) q }
-    ensures all { (q : ℕ) → times E.key q (filled (map E.held slots.new)) ≡ times E.key q (filled (map E.held left.old)) + times E.key q (filled (map E.held slots.old)) }
-    ensures count { length (filled (map E.held slots.new)) ≡ length (filled (map E.held left.old)) + length (filled (map E.held slots.old)) }
-    ensures placed { placed.new ≡ placed.old + length (filled (map E.held left.old)) }
+    ensures found { (q : ℕ) → entry_at E.key (entries_in E.held slots.new) q ≡ entry_at E.key (entries_in E.held left.old ++ entries_in E.held slots.old) q }
+    ensures all { (q : ℕ) → times_in E.key E.held q slots.new ≡ times_in E.key E.held q left.old + times_in E.key E.held q slots.old }
+    ensures count { length (entries_in E.held slots.new) ≡ length (entries_in E.held left.old) + length (entries_in E.held slots.old) }
+    ensures placed { placed.new ≡ placed.old + length (entries_in E.held left.old) }
     ensures looked { looks.old + (placed.new - placed.old) ≤ looks.new }
-    ensures looks { 2 * looks.new + length (filled (map E.held slots.old)) * (length (filled (map E.held slots.old)) + 1) ≤ 2 * looks.old + length (filled (map E.held slots.new)) * (length (filled (map E.held slots.new)) + 1) }
+    ensures looks { 2 * looks.new + twice_sum_to (length (entries_in E.held slots.old)) ≤ 2 * looks.old + twice_sum_to (length (entries_in E.held slots.new)) }
 {
     let mut count = left.len();
     let mut round = 0;
@@ -125,12 +125,12 @@ pub(crate) fn settle_all<E: SlotEntry, A: Allocator>(
 )
     requires small { lg < 40 }
     requires size { length slots.old ≡ 2 ^ lg }
-    requires free { filled (map E.held slots.old) ≡ [] }
-    requires apart { IsApart E.key (filled (map E.held left.old.items)) }
-    requires room { length (filled (map E.held left.old.items)) ≤ 2 ^ lg }
+    requires free { entries_in E.held slots.old ≡ [] }
+    requires apart { IsApart E.key (entries_in E.held left.old.items) }
+    requires room { length (entries_in E.held left.old.items) ≤ 2 ^ lg }
     ensures laid_out { IsLaidOut E.key lg (map E.held slots.new) }
-    ensures map { map_of E.key (filled (map E.held slots.new)) ≡ map_of E.key (filled (map E.held left.old.items)) }
-    ensures placed { placed.new ≡ placed.old + length (filled (map E.held left.old.items)) }
+    ensures map { slot_map E.key E.held slots.new ≡ slot_map E.key E.held left.old.items }
+    ensures placed { placed.new ≡ placed.old + length (entries_in E.held left.old.items) }
     ensures looked { looks.old + (placed.new - placed.old) ≤ looks.new }
     ensures looks { 2 * looks.new ≤ 2 * looks.old + (placed.new - placed.old) * (placed.new - placed.old + 1) }
 {

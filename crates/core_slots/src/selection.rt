@@ -9,7 +9,7 @@
 ghost use Rattle.std.specs.Prelude.{◌≡◌, ◌+◌, ◌-◌, ◌<◌, ◌≤◌, ◌^◌, [], ◌∷◌, ◌++◌, length, map, take, IfOk, OnOk};
 ghost use Rattle.core_laws.specs.Entries.{hash_key};
 ghost use Rattle.core_laws.specs.Maps.{IsApart, rank};
-ghost use Rattle.core_slots.specs.Layout.{filled, greatest};
+ghost use Rattle.core_slots.specs.Layout.{filled, greatest, entries_in};
 ghost use Rattle.core_slots.specs.Rank.{HasRank, within};
 
 use crate::slot_entry::SlotEntry;
@@ -163,8 +163,8 @@ fn gather_few<E: SlotEntry>(
     requires room { length slots.now ≤ length found.old }
     ensures size { length found.new ≡ length found.old }
     ensures few { result.0 ≤ length slots.now }
-    ensures gathered { take result.0 found.new ≡ within low high (map E.key (filled (map E.held slots.now))) }
-    ensures below { result.1 ≡ rank hash_key (map E.key (filled (map E.held slots.now))) low }
+    ensures gathered { take result.0 found.new ≡ within low high (map E.key (entries_in E.held slots.now)) }
+    ensures below { result.1 ≡ rank hash_key (map E.key (entries_in E.held slots.now)) low }
 {
     let mut count = 0;
     let mut less = 0;
@@ -201,9 +201,9 @@ fn gather_window<E: SlotEntry, A: Allocator>(
     requires ordered { low ≤ high }
     requires far { high < greatest }
     requires none { hashes.old.items ≡ [] }
-    requires fits { length (filled (also ∷ []) ++ map E.key (filled (map E.held slots.now))) < 2 ^ 64 }
-    ensures gathered { OnOk result (hashes.new.items ≡ within low high (filled (also ∷ []) ++ map E.key (filled (map E.held slots.now)))) }
-    ensures below { IfOk result (λ n. n ≡ rank hash_key (filled (also ∷ []) ++ map E.key (filled (map E.held slots.now))) low) }
+    requires fits { length (filled (also ∷ []) ++ map E.key (entries_in E.held slots.now)) < 2 ^ 64 }
+    ensures gathered { OnOk result (hashes.new.items ≡ within low high (filled (also ∷ []) ++ map E.key (entries_in E.held slots.now))) }
+    ensures below { IfOk result (λ n. n ≡ rank hash_key (filled (also ∷ []) ++ map E.key (entries_in E.held slots.now)) low) }
 {
     if let Some(hash) = also {
         if let Some(first) = kept_within(hash, low, high) {
@@ -236,7 +236,7 @@ fn gather_all<E: SlotEntry, A: Allocator>(
     slots: &[E::Slot],
 ) -> Result<(), AllocError>
     requires { hashes.old.items ≡ [] }
-    ensures { OnOk result (hashes.new.items ≡ filled (also ∷ []) ++ map E.key (filled (map E.held slots.now))) }
+    ensures { OnOk result (hashes.new.items ≡ filled (also ∷ []) ++ map E.key (entries_in E.held slots.now)) }
 {
     if let Some(first) = also {
         hashes.push(first)?;
@@ -273,10 +273,10 @@ pub fn hash_of_rank<E: SlotEntry, A: Allocator + Drop>(
     rank: usize,
     theta: u64,
 ) -> Result<u64, AllocError>
-    requires apart { IsApart hash_key (filled (also ∷ []) ++ map E.key (filled (map E.held slots.now))) }
-    requires counted { count ≡ length (filled (also ∷ []) ++ map E.key (filled (map E.held slots.now))) }
+    requires apart { IsApart hash_key (filled (also ∷ []) ++ map E.key (entries_in E.held slots.now)) }
+    requires counted { count ≡ length (filled (also ∷ []) ++ map E.key (entries_in E.held slots.now)) }
     requires inside { rank < count }
-    ensures ranked { IfOk result (HasRank (filled (also ∷ []) ++ map E.key (filled (map E.held slots.now))) rank) }
+    ensures ranked { IfOk result (HasRank (filled (also ∷ []) ++ map E.key (entries_in E.held slots.now)) rank) }
 {
     let mut span = Span {
         low: 0,

@@ -3,8 +3,8 @@ ghost use Rattle.std.specs.Prelude.{◌≡◌, ℕ, ◌+◌, ◌-◌, ◌<◌, �
 ghost use Rattle.std.specs.List.{count_by};
 ghost use Rattle.std.specs.Option.{option_copied};
 ghost use Rattle.core_laws.specs.Entries.{hash_key};
-ghost use Rattle.core_laws.specs.Maps.{rank, entry_at, below, with_entry, map_of};
-ghost use Rattle.core_slots.specs.Layout.{filled, slot, is_other, IsOnPath, IsLaidOut};
+ghost use Rattle.core_laws.specs.Maps.{rank, entry_at, below, with_entry};
+ghost use Rattle.core_slots.specs.Layout.{filled, slot, is_other, IsOnPath, IsLaidOut, entries_in, slot_map};
 ghost use Rattle.core_slots.specs.Probe.{probe, stride};
 
 use crate::count::Count;
@@ -75,13 +75,13 @@ pub(crate) fn stride_of(hash: u64, lg: u8) -> usize
 pub fn seek<E: PathEntry>(slots: &[E::Slot], lg: u8, hash: u64, looks: &mut Count) -> Place
     requires small { lg < 40 }
     requires size { length slots.now ≡ 2 ^ lg }
-    requires room { length (filled (map E.held slots.now)) < 2 ^ lg }
+    requires room { length (entries_in E.held slots.now) < 2 ^ lg }
     ensures inside { result.at < length slots.now }
     ensures on_path { IsOnPath E.key lg (map E.held slots.now) hash result.at }
     ensures ends { is_other E.key hash (slot (map E.held slots.now) result.at) ≡ false }
     ensures told { result.is_free ≡ is_none (slot (map E.held slots.now) result.at) }
     ensures looked { looks.old < looks.new }
-    ensures looks { looks.new ≤ looks.old + length (filled (map E.held slots.now)) + 1 }
+    ensures looks { looks.new ≤ looks.old + length (entries_in E.held slots.now) + 1 }
 {
     let size = slots.len();
     let stride = stride_of(hash, lg);
@@ -150,12 +150,12 @@ fn put_slot<E: PathEntry>(
     requires small { lg < 40 }
     requires holds { option_map E.key (E.held filled_slot) ≡ Some hash }
     requires laid_out { IsLaidOut E.key lg (map E.held slots.old) }
-    requires room { length (filled (map E.held slots.old)) < 2 ^ lg }
+    requires room { length (entries_in E.held slots.old) < 2 ^ lg }
     ensures laid_out { IsLaidOut E.key lg (map E.held slots.new) }
-    ensures found { (q : ℕ) → entry_at E.key (filled (map E.held slots.new)) q ≡ entry_at E.key (filled (E.held filled_slot ∷ map E.held slots.old)) q }
-    ensures count { length (filled (map E.held slots.new)) ≤ length (filled (map E.held slots.old)) + 1 }
+    ensures found { (q : ℕ) → entry_at E.key (entries_in E.held slots.new) q ≡ entry_at E.key (filled (E.held filled_slot ∷ map E.held slots.old)) q }
+    ensures count { length (entries_in E.held slots.new) ≤ length (entries_in E.held slots.old) + 1 }
     ensures looked { looks.old < looks.new }
-    ensures looks { looks.new ≤ looks.old + length (filled (map E.held slots.old)) + 1 }
+    ensures looks { looks.new ≤ looks.old + length (entries_in E.held slots.old) + 1 }
 {
     let place = seek::<E>(slots, lg, hash, looks);
     slots[place.at] = filled_slot;
@@ -172,11 +172,11 @@ pub(crate) fn spread<E: SlotEntry, A: Allocator>(
 )
     requires small { lg < 40 }
     requires size { length slots.old ≡ 2 ^ lg }
-    requires free { filled (map E.held slots.old) ≡ [] }
-    requires room { length (filled (map E.held from.old.items)) ≤ 2 ^ lg }
+    requires free { entries_in E.held slots.old ≡ [] }
+    requires room { length (entries_in E.held from.old.items) ≤ 2 ^ lg }
     ensures laid_out { IsLaidOut E.key lg (map E.held slots.new) }
-    ensures map { map_of E.key (filled (map E.held slots.new)) ≡ below E.key (map_of E.key (filled (map E.held from.old.items))) theta }
-    ensures placed { placed.new ≡ placed.old + count_by (λ x. nat_lt (E.key x) theta) (filled (map E.held from.old.items)) }
+    ensures map { slot_map E.key E.held slots.new ≡ below E.key (slot_map E.key E.held from.old.items) theta }
+    ensures placed { placed.new ≡ placed.old + count_by (λ x. nat_lt (E.key x) theta) (entries_in E.held from.old.items) }
     ensures looked { looks.old + (placed.new - placed.old) ≤ looks.new }
     ensures looks { 2 * looks.new ≤ 2 * looks.old + (placed.new - placed.old) * (placed.new - placed.old + 1) }
 {
@@ -197,7 +197,7 @@ pub fn free_slots<E: PathEntry, A: Allocator + Drop>(
 ) -> Result<Vec<E::Slot, A>, AllocError>
     requires { lg < 40 }
     ensures size { IfOk result (λ slots. length slots.items ≡ 2 ^ lg) }
-    ensures free { IfOk result (λ slots. filled (map E.held slots.items) ≡ []) }
+    ensures free { IfOk result (λ slots. entries_in E.held slots.items ≡ []) }
 {
     let slots = E::free_slots(alloc, power_of_two(lg))?;
     Ok(slots)
@@ -231,11 +231,11 @@ pub fn put_spread<E: SlotEntry + Drop, A: Allocator + Clone>(
     requires inside { at < length slots.old.items }
     requires free { slot (map E.held slots.old.items) at ≡ None }
     requires on_path { IsOnPath E.key lg (map E.held slots.old.items) (E.key entry) at }
-    requires room { length (filled (map E.held slots.old.items)) + 1 ≤ 2 ^ new_lg }
+    requires room { length (entries_in E.held slots.old.items) + 1 ≤ 2 ^ new_lg }
     requires nonzero { 0 < E.key entry }
     ensures laid_out { OnOk result (IsLaidOut E.key new_lg (map E.held slots.new.items)) }
-    ensures map { OnOk result (map_of E.key (filled (map E.held slots.new.items)) ≡ below E.key (with_entry E.key (map_of E.key (filled (map E.held slots.old.items))) entry) theta) }
-    ensures placed { OnOk result (placed.new ≡ placed.old + length (filled (map E.held slots.new.items))) }
+    ensures map { OnOk result (slot_map E.key E.held slots.new.items ≡ below E.key (with_entry E.key (slot_map E.key E.held slots.old.items) entry) theta) }
+    ensures placed { OnOk result (placed.new ≡ placed.old + length (entries_in E.held slots.new.items)) }
     ensures err { OnErr result (slots.new.items ≡ slots.old.items) }
     ensures placed_err { OnErr result (placed.new ≡ placed.old) }
     ensures looked { looks.old + (placed.new - placed.old) ≤ looks.new }

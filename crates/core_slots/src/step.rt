@@ -1,5 +1,5 @@
 //! What an insertion does with the entry that it finds or lacks.
-ghost use Rattle.std.specs.Prelude.{◌≡◌, Some, None, false, IfOk, MatchResult};
+ghost use Rattle.std.specs.Prelude.{◌≡◌, Some, None, IfOk, MatchResult};
 ghost use Rattle.core_laws.specs.Refusal.{Refuses};
 ghost use Rattle.core_laws.specs.Step.{Step};
 

@@ -1,8 +1,9 @@
 -- Sketches that take updates, of either family.
-use Rattle.std.specs.Prelude.{ℕ, ◌≤◌, ◌≡◌, Bool, true, false, if◌then◌else◌, List, map}
+use Rattle.std.specs.Prelude.{ℕ, ◌≤◌, ◌≡◌, ◌==◌, ◌&&◌, Bool, true, false, if◌then◌else◌, List, length, map, IsTrue}
 use Rattle.core_laws.specs.declared.TheConstants.{MIN_LG_K, MAX_LG_K}
 use Rattle.core_laws.specs.Values.{Sketch, Empty, NonEmpty, theta_of}
-use Rattle.core_table.specs.HashTable.{MapTable}
+use Rattle.core_laws.specs.Parts.{StopsAt}
+use Rattle.core_table.specs.HashTable.{MapTable, after_hashes, hash_allocates}
 use Rattle.core_laws.specs.Cuts.{none_below}
 use Rattle.core_laws.specs.Shown.{Shown}
 
@@ -25,3 +26,8 @@ sketch_value s = if s.empty then Empty else NonEmpty s.map.kept
 -- what a sketch shows, never as ordered
 abbrev pub sketch_shows : {X : Type 0} → (X → ℕ) → Updatable X → Shown
 sketch_shows key s = record { empty = s.empty; theta = theta_of (sketch_value s); seed_hash = s.map.seed_hash; ordered = false; hashes = map key s.lends }
+
+-- updates with hashes stopped at one that makes an entry, as memory was refused: the sketch has accepted just the hashes before it
+abbrev pub StopsUpdates : (hashes : List ℕ) → (old new : Updatable ℕ) → Type 0
+StopsUpdates hashes old new =
+    StopsAt hashes (λ front hash. (new.map ≡ after_hashes front old.map) × (new.empty ≡ (old.empty && length front == 0)) × IsTrue (hash_allocates hash new.map.kept))

@@ -1,18 +1,16 @@
 //! The state of a sketch that takes updates, of either family.
-ghost use Rattle.std.specs.Prelude.{◌≡◌, ◌≤◌, ◌==◌, ◌&&◌, ◌^◌, true, false, not, nat_lt, None, length, IfOk, OnOk, OnErr, IsTrue};
+ghost use Rattle.std.specs.Prelude.{◌≡◌, ◌≤◌, ◌==◌, ◌&&◌, ◌^◌, true, false, not, nat_lt, None, length, IfOk, OnOk, OnErr};
 ghost use Rattle.std.specs.List.{concat};
 ghost use Rattle.std.specs.Option.{ForSome};
 ghost use Rattle.sketch_base.specs.Seed.{hash_of};
 ghost use Rattle.core_compact.specs.CompactState.{IsAnswer};
-ghost use Rattle.core_laws.specs.Cuts.{cut};
 ghost use Rattle.core_laws.specs.Entries.{hash_key, hash_step, ClonesEqual};
-ghost use Rattle.core_laws.specs.Parts.{StopsAt};
 ghost use Rattle.core_laws.specs.Refusal.{Refuses};
 ghost use Rattle.core_laws.specs.Maps.{IsLent};
 ghost use Rattle.core_laws.specs.Settings.{settings_refusal};
-ghost use Rattle.core_table.specs.HashTable.{empty_table, after_reset, after_hashes};
-ghost use Rattle.core_laws.specs.Insertion.{after_upsert, upsert_refusal, upsert_allocates};
-ghost use Rattle.core_state.specs.Updatable.{IsUpdatable, sketch_value, sketch_shows};
+ghost use Rattle.core_table.specs.HashTable.{empty_table, after_reset, after_hashes, after_insertion, after_hash, trimmed};
+ghost use Rattle.core_laws.specs.Insertion.{upsert_allocates, RefusesUpsert};
+ghost use Rattle.core_state.specs.Updatable.{IsUpdatable, sketch_value, sketch_shows, StopsUpdates};
 ghost use Rattle.core_laws.specs.Values.{theta_of, count_of, fraction_of};
 ghost use Rattle.core_laws.specs.Shown.{IsShown};
 ghost use Rattle.core_state.specs.Fraction.{decimal_of};
@@ -179,10 +177,10 @@ impl<E: SlotEntry + Drop, A: Allocator + Clone> UpdatableState<E, A> {
         requires keeps_hash { (x : E) → E.key x ≡ hash → E.key ((S.means step).writes x) ≡ hash }
         requires makes_hash { ForSome (S.means step).makes (λ x. E.key x ≡ hash) }
         ensures nonempty { OnOk result (self.new.empty ≡ false) }
-        ensures after { OnOk result (self.new.map ≡ record self.old.map { kept = after_upsert E.key (2 ^ self.old.map.lg_nom) hash (S.means step) self.old.map.kept }) }
+        ensures after { OnOk result (self.new.map ≡ after_insertion E.key hash (S.means step) self.old.map) }
         ensures err_empty { OnErr result (self.new.empty ≡ self.old.empty) }
         ensures err { OnErr result (self.new.map ≡ self.old.map) }
-        ensures refused { Refuses result (upsert_refusal E.key hash (S.means step) self.old.map.kept) (upsert_allocates E.key hash (S.means step) self.old.map.kept) }
+        ensures refused { RefusesUpsert result E.key hash (S.means step) self.old.map.kept }
     {
         self.table.upsert_entry(hash, step)?;
         self.empty = false;
@@ -194,7 +192,7 @@ impl<E: SlotEntry + Drop, A: Allocator + Clone> UpdatableState<E, A> {
     /// Refused with `OutOfMemory` alone, and only where more than k are retained; then nothing has changed.
     pub fn trim(&mut self) -> Result<(), Error>
         ensures same_emptiness { self.new.empty ≡ self.old.empty }
-        ensures after { OnOk result (self.new.map ≡ record self.old.map { kept = cut E.key (2 ^ self.old.map.lg_nom) self.old.map.kept.entries self.old.map.kept.theta }) }
+        ensures after { OnOk result (self.new.map ≡ trimmed E.key self.old.map) }
         ensures err { OnErr result (self.new.map ≡ self.old.map) }
         ensures refused { Refuses result None (nat_lt (2 ^ self.old.map.lg_nom) (length self.old.map.kept.entries)) }
     {
@@ -229,7 +227,7 @@ impl<A: Allocator + Clone> UpdatableState<ThetaEntry, A> {
     #[inline(always)]
     pub fn insert_hash(&mut self, hash: u64) -> Result<(), Error>
         ensures nonempty { OnOk result (self.new.empty ≡ false) }
-        ensures after { OnOk result (self.new.map ≡ record self.old.map { kept = after_upsert hash_key (2 ^ self.old.map.lg_nom) hash (hash_step hash) self.old.map.kept }) }
+        ensures after { OnOk result (self.new.map ≡ after_hash hash self.old.map) }
         ensures err_empty { OnErr result (self.new.empty ≡ self.old.empty) }
         ensures err { OnErr result (self.new.map ≡ self.old.map) }
         ensures refused { Refuses result None (upsert_allocates hash_key hash (hash_step hash) self.old.map.kept) }
@@ -247,7 +245,7 @@ impl<A: Allocator + Clone> UpdatableState<ThetaEntry, A> {
     pub fn insert_hashes(&mut self, hashes: &[u64]) -> Result<(), Error>
         ensures after { OnOk result (self.new.map ≡ after_hashes hashes.now self.old.map) }
         ensures empty { OnOk result (self.new.empty ≡ (self.old.empty && length hashes.now == 0)) }
-        ensures err { OnErr result (StopsAt hashes.now (λ front hash. (self.new.map ≡ after_hashes front self.old.map) × (self.new.empty ≡ (self.old.empty && length front == 0)) × IsTrue (upsert_allocates hash_key hash (hash_step hash) self.new.map.kept))) }
+        ensures err { OnErr result (StopsUpdates hashes.now self.old self.new) }
         ensures refused { Refuses result None true }
     {
         let Some((first, others)) = hashes.split_first() else {

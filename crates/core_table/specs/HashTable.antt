@@ -1,14 +1,18 @@
 -- The value of a hash table, its laws and its sizes.
-use Rattle.std.specs.Prelude.{ℕ, ◌<◌, ◌≤◌, ◌≡◌, ◌==◌, ◌+◌, ◌-◌, ◌*◌, ◌/◌, ◌%◌, ◌^◌, ◌&&◌, ◌||◌, ◌⊎◌, not, true, false, List, [], nat_lt, nat_le, min, Bool, if◌then◌else◌, Option, Some, None, length, is_some}
+use Rattle.std.specs.Prelude.{ℕ, ◌<◌, ◌≤◌, ◌≡◌, ◌==◌, ◌+◌, ◌-◌, ◌*◌, ◌/◌, ◌%◌, ◌^◌, ◌&&◌, ◌||◌, ◌⊎◌, not, true, false, List, [], nat_lt, nat_le, min, Bool, if◌then◌else◌, Option, Some, None, length, is_some, IsTrue, Result}
 use Rattle.std.specs.Int.Count.{count_leading_zeros}
-use Rattle.sketch_base.specs.Seed.{seed_hash}
+use Rattle.std.specs.List.{concat}
+use Rattle.sketch_base.specs.Seed.{seed_hash, hash_of}
 use Rattle.sketch_base.specs.declared.error.ErrorKind.{ErrorKind}
-use Rattle.sketch_base.specs.declared.error.ErrorKind.TheVariants.{InvalidArgument}
-use Rattle.core_laws.specs.declared.TheConstants.{MAX_THETA, MIN_LG_K, MAX_LG_K, MIN_LG_SLOTS}
-use Rattle.core_laws.specs.Cuts.{Retained, none_below, IsRetained}
+use Rattle.core_laws.specs.declared.TheConstants.{MAX_THETA, MIN_LG_K, MIN_LG_SLOTS}
+use Rattle.core_laws.specs.Cuts.{Retained, cut, none_below, IsRetained}
 use Rattle.core_laws.specs.Maps.{entry_at}
 use Rattle.core_laws.specs.Entries.{hash_key, hash_step}
-use Rattle.core_laws.specs.Insertion.{is_screened, after_upserts}
+use Rattle.core_laws.specs.Insertion.{is_screened, creates, after_upsert, after_upserts, upsert_allocates, RefusesAsStep}
+use Rattle.core_laws.specs.Parts.{StopsAt}
+use Rattle.core_laws.specs.Step.{Step}
+use Rattle.core_slots.specs.Entry.{tuple_key, entry_step}
+use Rattle.core_slots.specs.declared.entry.TupleEntry.{TupleEntry}
 use Rattle.core_table.specs.declared.insertion.Counts.{Counts}
 use Rattle.core_slots.specs.Layout.{filled, IsLaidOut}
 
@@ -64,9 +68,46 @@ pub record IsMadeWith (lg_nom start seed hash : ℕ) : Type 0 where
   pub of_seed : hash ≡ seed_hash seed
   pub hash_low : 0 < hash
 
+-- the hash of a key whose bytes are given in pieces, under the seed of a table
+abbrev pub key_hash : {X : Type 0} → MapTable X → List (List ℕ) → ℕ
+key_hash t pieces = hash_of t.seed (concat pieces)
+
+-- a table after an insertion of a hash
+abbrev pub after_insertion : {X : Type 0} → (key : X → ℕ) → (hash : ℕ) → Step X → MapTable X → MapTable X
+after_insertion key hash step t = record t { kept = after_upsert key (2 ^ t.lg_nom) hash step t.kept }
+
+-- a table of hashes after an insertion of one, whether that makes an entry, and whether it may take memory
+abbrev pub after_hash : (hash : ℕ) → MapTable ℕ → MapTable ℕ
+after_hash hash t = after_insertion hash_key hash (hash_step hash) t
+
+abbrev pub creates_hash : (hash : ℕ) → Retained ℕ → Bool
+creates_hash hash v = creates hash_key hash (hash_step hash) v
+
+abbrev pub hash_allocates : (hash : ℕ) → Retained ℕ → Bool
+hash_allocates hash v = upsert_allocates hash_key hash (hash_step hash) v
+
+-- a table of tuples after an insertion of a hash with a step on its summary, and whether that makes an entry
+abbrev pub after_tuple : {S : Type 0} → (hash : ℕ) → Step S → MapTable (TupleEntry S) → MapTable (TupleEntry S)
+after_tuple hash step t = after_insertion tuple_key hash (entry_step hash step) t
+
+abbrev pub creates_tuple : {S : Type 0} → (hash : ℕ) → Step S → Retained (TupleEntry S) → Bool
+creates_tuple hash step v = creates tuple_key hash (entry_step hash step) v
+
+-- a table trimmed to its nominal entries
+abbrev pub trimmed : {X : Type 0} → (key : X → ℕ) → MapTable X → MapTable X
+trimmed key t = record t { kept = cut key (2 ^ t.lg_nom) t.kept.entries t.kept.theta }
+
+-- a table cut below a theta and to fewer nominal entries
+abbrev pub cut_table : {X : Type 0} → (key : X → ℕ) → (lg_nom theta : ℕ) → MapTable X → MapTable X
+cut_table key lg_nom theta t = record t { kept = cut key (2 ^ lg_nom) t.kept.entries theta; lg_nom = lg_nom }
+
 -- a table of hashes after more of them were inserted in turn
 abbrev pub after_hashes : List ℕ → MapTable ℕ → MapTable ℕ
 after_hashes hashes t = record t { kept = after_upserts hash_key (2 ^ t.lg_nom) hash_step hashes t.kept }
+
+-- memory was refused at a hash that makes an entry, and just the hashes before it are inserted
+abbrev pub StopsAtMemory : (hashes : List ℕ) → (old new : MapTable ℕ) → Type 0
+StopsAtMemory hashes old new = StopsAt hashes (λ front hash. (new ≡ after_hashes front old) × IsTrue (hash_allocates hash new.kept))
 
 -- what holds of every table
 pub record IsTable {X : Type 0} (key : X → ℕ) (t : MapTable X) : Type 0 where
@@ -152,6 +193,39 @@ ticked_if false false nominal count done = record done { inserted = done.inserte
 
 abbrev pub ticked : (lg_cur lg_nom count : ℕ) → Counts → Counts
 ticked lg_cur lg_nom count done = ticked_if (nat_le (count + 1) (threshold lg_cur lg_nom)) (nat_le lg_cur lg_nom) (2 ^ lg_nom) count done
+
+-- the counts of a table after an insertion, all but its looks, and the binary logarithm of its slots then, by whether the insertion made an entry
+abbrev pub counts_after : {X : Type 0} → Table X → (created : Bool) → Counts
+counts_after t created = if created then ticked t.layout.lg_cur t.map.lg_nom (length t.map.kept.entries) t.counts else t.counts
+
+abbrev pub lg_cur_after : {X : Type 0} → Table X → (created : Bool) → ℕ
+lg_cur_after t created = if created then size_after t.layout.lg_cur t.map.lg_nom t.layout.grow (length t.map.kept.entries) else t.layout.lg_cur
+
+-- the counts of a table after a trim
+abbrev pub counts_after_trim : {X : Type 0} → Table X → Counts
+counts_after_trim t =
+    if nat_lt (2 ^ t.map.lg_nom) (length t.map.kept.entries) then record t.counts { placed = t.counts.placed + 2 ^ t.map.lg_nom; trims = t.counts.trims + 1 } else t.counts
+
+-- an insertion looks at each entry that was there at most once, at one slot more, and for the nth entry that it places at no more than n slots
+abbrev pub AreFewLooks : {X : Type 0} → (old new : Table X) → Type 0
+AreFewLooks old new =
+    2 * new.counts.looks ≤ 2 * (old.counts.looks + length old.map.kept.entries + 1) + (new.counts.placed - old.counts.placed) * (new.counts.placed - old.counts.placed + 1)
+
+-- an insertion of a hash that isn't screened counts a look for its search, and one for each entry that it places
+abbrev pub AreEnoughLooks : {X : Type 0} → (hash : ℕ) → (old new : Table X) → Type 0
+AreEnoughLooks hash old new = is_screened hash old.map.kept.theta ≡ false → old.counts.looks + (new.counts.placed - old.counts.placed) < new.counts.looks
+
+-- an insertion of a screened hash counts nothing
+abbrev pub IsUncountedIfScreened : {X : Type 0} → (hash : ℕ) → (old new : Table X) → Type 0
+IsUncountedIfScreened hash old new = is_screened hash old.map.kept.theta ≡ true → new.counts ≡ old.counts
+
+-- a table has fewer entries than its slots may have
+abbrev pub IsBelowThreshold : {X : Type 0} → Table X → Type 0
+IsBelowThreshold t = length t.map.kept.entries < threshold t.layout.lg_cur t.map.lg_nom
+
+-- below the threshold an insertion takes no memory but what its step takes
+abbrev pub RefusesBelowThreshold : {T X : Type 0} → Result T ErrorKind → (key : X → ℕ) → ℕ → Step X → Table X → Type 0
+RefusesBelowThreshold r key hash step t = IsBelowThreshold t → RefusesAsStep r key hash step t.map.kept
 
 -- what holds of every table, of the threshold that it keeps, and of what was done to it
 pub record IsProbing {X : Type 0} (key : X → ℕ) (t : MapTable X) (lg_cur grow most count : ℕ) (slots : List (Option X)) (done : Counts) : Type 0 where

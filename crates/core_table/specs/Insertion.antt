@@ -1,8 +1,10 @@
 -- A new entry and the free slot where the search for it ended.
-use Rattle.std.specs.Prelude.{ℕ, ◌<◌, ◌≡◌, List, Option, None, length}
+use Rattle.std.specs.Prelude.{ℕ, ◌<◌, ◌≡◌, ◌+◌, ◌^◌, List, Option, Some, None, length, min, set}
 use Rattle.std.specs.List.{AllByRecursion}
-use Rattle.core_laws.specs.Maps.{map_of}
-use Rattle.core_slots.specs.Layout.{filled, slot, IsOnPath, IsLaidOut}
+use Rattle.core_laws.specs.Cuts.{Retained, cut}
+use Rattle.core_laws.specs.Insertion.{rebuilt}
+use Rattle.core_laws.specs.Maps.{map_of, with_entry}
+use Rattle.core_slots.specs.Layout.{filled, slot, slot_map, IsOnPath, IsLaidOut}
 use Rattle.core_table.specs.HashTable.{threshold, HasSize}
 use Rattle.core_table.specs.declared.insertion.Sizes.{Sizes}
 
@@ -17,3 +19,23 @@ pub record HasPlaceFor {X : Type 0} (key : X → ℕ) (slots : List (Option X)) 
   pub on_path : IsOnPath key sizes.lg_cur slots (key entry) at
   pub nonzero : 0 < key entry
   pub low : key entry < sizes.theta
+
+-- what slots in memory and a theta retain
+abbrev pub kept_in : {S X : Type 0} → (key : X → ℕ) → (held : S → Option X) → List S → (theta : ℕ) → Retained X
+kept_in key held slots theta = record { entries = slot_map key held slots; theta = theta }
+
+-- what is retained after a new entry is put into slots of such sizes, which hold these entries
+abbrev pub after_put : {X : Type 0} → (key : X → ℕ) → Sizes → List X → X → Retained X
+after_put key sizes xs entry = rebuilt key (2 ^ sizes.lg_nom) (with_entry key xs entry) sizes.theta
+
+-- the sizes after a growth with a new entry
+abbrev pub grown : Sizes → Sizes
+grown sizes = record sizes { lg_cur = min (sizes.lg_cur + sizes.grow) (sizes.lg_nom + 1); most = threshold (min (sizes.lg_cur + sizes.grow) (sizes.lg_nom + 1)) sizes.lg_nom; count = sizes.count + 1 }
+
+-- what is retained is the cut of entries that are below some theta, whichever that is
+abbrev pub IsCutOf : {X : Type 0} → (key : X → ℕ) → (nominal : ℕ) → List X → Retained X → Type 0
+IsCutOf key nominal xs kept = (t : ℕ) → AllByRecursion (λ x. key x < t) xs → kept ≡ cut key nominal xs t
+
+-- the entry in a slot was written, and the other slots are as they were
+abbrev pub IsWritten : {X : Type 0} → (at : ℕ) → (writes : X → X) → (old new : List (Option X)) → Type 0
+IsWritten {X} at writes old new = (x : X) → slot old at ≡ Some x → new ≡ set old at (Some (writes x))

@@ -1,21 +1,20 @@
 //! The table of retained entries.
-ghost use Rattle.std.specs.Prelude.{◌≡◌, ◌==◌, ◌⊎◌, ◌&&◌, if◌then◌else◌, ℕ, ◌+◌, ◌-◌, ◌*◌, ◌<◌, ◌≤◌, ◌^◌, [], not, true, false, None, nat_lt, length, take, IfOk, IsOk, OnOk, OnErr, IsTrue};
+ghost use Rattle.std.specs.Prelude.{◌≡◌, ◌==◌, ◌⊎◌, ◌&&◌, if◌then◌else◌, ◌+◌, ◌-◌, ◌*◌, ◌<◌, ◌≤◌, ◌^◌, [], not, true, false, None, nat_lt, length, take, IfOk, IsOk, OnOk, OnErr, IsTrue};
 ghost use Rattle.std.specs.List.{AllByRecursion, concat};
 ghost use Rattle.std.specs.Option.{ForSome, option_copied};
 ghost use Rattle.sketch_base.specs.Seed.{hash_of};
 ghost use Rattle.core_compact.specs.CompactState.{IsCompactOf};
 ghost use Rattle.core_laws.specs.Maps.{entry_at, map_of, IsLent};
 ghost use Rattle.core_laws.specs.Cuts.{cut, none_below};
-ghost use Rattle.core_laws.specs.Entries.{hash_key, hash_step, ClonesEqual};
-ghost use Rattle.core_laws.specs.Parts.{StopsAt};
+ghost use Rattle.core_laws.specs.Entries.{hash_key, ClonesEqual};
 ghost use Rattle.core_laws.specs.Refusal.{Refuses};
 ghost use Rattle.core_laws.specs.Settings.{settings_refusal};
-ghost use Rattle.core_table.specs.HashTable.{MapTable, Table, IsTable, IsSized, IsSeedHash, empty_table, set_table, after_reset, after_hashes, lg_size_for, whole_log, has_room, may_insert, threshold, sub_multiple, slots_of_operator, nothing_done, ticked, size_after};
+ghost use Rattle.core_table.specs.HashTable.{Table, IsTable, IsSized, IsSeedHash, empty_table, set_table, after_reset, after_hashes, lg_size_for, whole_log, has_room, may_insert, threshold, sub_multiple, slots_of_operator, nothing_done, ticked, key_hash, after_insertion, after_hash, creates_hash, hash_allocates, after_tuple, creates_tuple, trimmed, cut_table, StopsAtMemory, counts_after, lg_cur_after, counts_after_trim, AreFewLooks, AreEnoughLooks, IsUncountedIfScreened, IsBelowThreshold, RefusesBelowThreshold};
 ghost use Rattle.core_table.specs.ResizeFactor.{lg_of};
-ghost use Rattle.core_slots.specs.Layout.{filled, IsLaidOut};
+ghost use Rattle.core_slots.specs.Layout.{filled, IsLaidOut, entries_in, slot_map};
 ghost use Rattle.core_slots.specs.Entry.{tuple_key, entry_step};
 ghost use Rattle.core_table.specs.declared.hash_table.TheConstants.{BLOCK};
-ghost use Rattle.core_laws.specs.Insertion.{is_screened, after_upsert, IsRedundant, LeavesOut, creates, upsert_refusal, upsert_allocates};
+ghost use Rattle.core_laws.specs.Insertion.{IsRedundant, LeavesOut, creates, RefusesUpsert};
 
 use crate::answering::{cut_theta, entries_below, state_below};
 use crate::clearing::{clear_slots, operator_slots};
@@ -66,16 +65,15 @@ pub struct SketchHashTable<E: SlotEntry, A: Allocator = Global> {
 
 impl<E: SlotEntry, A: Allocator> Model for SketchHashTable<E, A> {
     ghost use Rattle.std.specs.Prelude.{true, map};
-    ghost use Rattle.core_laws.specs.Maps.{map_of};
-    ghost use Rattle.core_slots.specs.Layout.{filled};
+    ghost use Rattle.core_slots.specs.Layout.{entries_in, slot_map};
     ghost use Rattle.core_table.specs.ResizeFactor.{lg_of};
     ghost use Rattle.core_table.specs.HashTable.{Table, IsProbing};
 
     ghost Value = { Table E };
 
-    ghost view = { λ t. record { map = record { kept = record { entries = map_of E.key (filled (map E.held t.slots.items)); theta = t.theta }; lg_nom = t.lg_nom_size; has_slots = t.has_slots; start = t.starting_theta; seed = t.seed; seed_hash = t.seed_hash }; lends = filled (map E.held t.slots.items); layout = record { lg_cur = t.lg_cur_size; grow = lg_of t.resize_factor; slots = map E.held t.slots.items }; counts = t.counts } };
+    ghost view = { λ t. record { map = record { kept = record { entries = slot_map E.key E.held t.slots.items; theta = t.theta }; lg_nom = t.lg_nom_size; has_slots = t.has_slots; start = t.starting_theta; seed = t.seed; seed_hash = t.seed_hash }; lends = entries_in E.held t.slots.items; layout = record { lg_cur = t.lg_cur_size; grow = lg_of t.resize_factor; slots = map E.held t.slots.items }; counts = t.counts } };
 
-    ghost invariant = { λ t. IsProbing E.key (record { kept = record { entries = map_of E.key (filled (map E.held t.slots.items)); theta = t.theta }; lg_nom = t.lg_nom_size; has_slots = t.has_slots; start = t.starting_theta; seed = t.seed; seed_hash = t.seed_hash }) t.lg_cur_size (lg_of t.resize_factor) t.threshold t.count (map E.held t.slots.items) t.counts };
+    ghost invariant = { λ t. IsProbing E.key (record { kept = record { entries = slot_map E.key E.held t.slots.items; theta = t.theta }; lg_nom = t.lg_nom_size; has_slots = t.has_slots; start = t.starting_theta; seed = t.seed; seed_hash = t.seed_hash }) t.lg_cur_size (lg_of t.resize_factor) t.threshold t.count (map E.held t.slots.items) t.counts };
 }
 
 impl<E: SlotEntry, A: Allocator> SketchHashTable<E, A> {
@@ -356,19 +354,19 @@ impl<E: SlotEntry + Drop, A: Allocator + Clone> SketchHashTable<E, A> {
         requires makes_hash { ForSome (S.means step).makes (λ x. E.key x ≡ hash) }
         requires room { IsTrue (may_insert E.key hash self.old.map) }
         ensures ok { IfOk result (λ created. created ≡ creates E.key hash (S.means step) self.old.map.kept) }
-        ensures after { OnOk result (self.new.map ≡ record self.old.map { kept = after_upsert E.key (2 ^ self.old.map.lg_nom) hash (S.means step) self.old.map.kept }) }
+        ensures after { OnOk result (self.new.map ≡ after_insertion E.key hash (S.means step) self.old.map) }
         ensures err { OnErr result (self.new.map ≡ self.old.map) }
-        ensures refused { Refuses result (upsert_refusal E.key hash (S.means step) self.old.map.kept) (upsert_allocates E.key hash (S.means step) self.old.map.kept) }
-        ensures looks { 2 * self.new.counts.looks ≤ 2 * (self.old.counts.looks + length self.old.map.kept.entries + 1) + (self.new.counts.placed - self.old.counts.placed) * (self.new.counts.placed - self.old.counts.placed + 1) }
-        ensures memory { length self.old.map.kept.entries < threshold self.old.layout.lg_cur self.old.map.lg_nom → Refuses result (upsert_refusal E.key hash (S.means step) self.old.map.kept) (not (is_screened hash self.old.map.kept.theta) && (S.means step).allocates) }
-        ensures ticked { IfOk result (λ created. self.new.counts ≡ record (if created then ticked self.old.layout.lg_cur self.old.map.lg_nom (length self.old.map.kept.entries) self.old.counts else self.old.counts) { looks = self.new.counts.looks }) }
+        ensures refused { RefusesUpsert result E.key hash (S.means step) self.old.map.kept }
+        ensures looks { AreFewLooks self.old self.new }
+        ensures memory { RefusesBelowThreshold result E.key hash (S.means step) self.old }
+        ensures ticked { IfOk result (λ created. self.new.counts ≡ record (counts_after self.old created) { looks = self.new.counts.looks }) }
         ensures unticked { OnErr result (self.new.counts ≡ record self.old.counts { looks = self.new.counts.looks }) }
-        ensures sized { IfOk result (λ created. self.new.layout.lg_cur ≡ if created then size_after self.old.layout.lg_cur self.old.map.lg_nom self.old.layout.grow (length self.old.map.kept.entries) else self.old.layout.lg_cur) }
+        ensures sized { IfOk result (λ created. self.new.layout.lg_cur ≡ lg_cur_after self.old created) }
         ensures grows { self.new.layout.grow ≡ self.old.layout.grow }
         ensures seldom { (self.new.counts.rebuilds ≡ self.old.counts.rebuilds) ⊎ (7 * 2 ^ self.old.map.lg_nom < 8 * (self.old.counts.fresh + 1)) }
-        ensures looked { is_screened hash self.old.map.kept.theta ≡ false → self.old.counts.looks + (self.new.counts.placed - self.old.counts.placed) < self.new.counts.looks }
+        ensures looked { AreEnoughLooks hash self.old self.new }
         ensures looks_kept { self.old.counts.looks ≤ self.new.counts.looks }
-        ensures screened { is_screened hash self.old.map.kept.theta ≡ true → self.new.counts ≡ self.old.counts }
+        ensures screened { IsUncountedIfScreened hash self.old self.new }
         ensures layout_err { OnErr result (self.new.layout ≡ self.old.layout) }
     {
         // Once many have come most are at least theta, so that is asked first.
@@ -410,10 +408,10 @@ impl<E: SlotEntry + Drop, A: Allocator + Clone> SketchHashTable<E, A> {
     ///
     /// Refused with `OutOfMemory` alone, and only where more than k are retained; then nothing has changed.
     pub fn trim(&mut self) -> Result<(), Error>
-        ensures after { OnOk result (self.new.map ≡ record self.old.map { kept = cut E.key (2 ^ self.old.map.lg_nom) self.old.map.kept.entries self.old.map.kept.theta }) }
+        ensures after { OnOk result (self.new.map ≡ trimmed E.key self.old.map) }
         ensures err { OnErr result (self.new.map ≡ self.old.map) }
         ensures refused { Refuses result None (nat_lt (2 ^ self.old.map.lg_nom) (length self.old.map.kept.entries)) }
-        ensures ticked { OnOk result (self.new.counts ≡ if nat_lt (2 ^ self.old.map.lg_nom) (length self.old.map.kept.entries) then record self.old.counts { placed = self.old.counts.placed + 2 ^ self.old.map.lg_nom; trims = self.old.counts.trims + 1 } else self.old.counts) }
+        ensures ticked { OnOk result (self.new.counts ≡ counts_after_trim self.old) }
         ensures sized { self.new.layout.lg_cur ≡ self.old.layout.lg_cur }
         ensures grows { self.new.layout.grow ≡ self.old.layout.grow }
         ensures looks_kept { self.old.counts.looks ≤ self.new.counts.looks }
@@ -504,7 +502,7 @@ impl<E: SlotEntry + Clone, A: Allocator + Clone> SketchHashTable<E, A> {
         requires fewer { lg_nom_size ≤ self.now.map.lg_nom }
         requires low { 0 < theta }
         requires high { theta ≤ self.now.map.kept.theta }
-        ensures made { IfOk result (λ t. t.map ≡ record self.now.map { kept = cut E.key (2 ^ lg_nom_size) self.now.map.kept.entries theta; lg_nom = lg_nom_size }) }
+        ensures made { IfOk result (λ t. t.map ≡ cut_table E.key lg_nom_size theta self.now.map) }
         ensures grows { IfOk result (λ t. t.layout.grow ≡ self.now.layout.grow) }
         ensures refused { Refuses result None true }
     {
@@ -534,20 +532,20 @@ impl<A: Allocator + Clone> SketchHashTable<ThetaEntry, A> {
     /// there is room (`has_room`), as there always is in a table of `new`. Refused as `try_insert_hash` is.
     #[inline(always)]
     pub fn try_insert<T: Hash + Drop>(&mut self, value: T) -> Result<bool, Error>
-        requires room { let h = hash_of self.old.map.seed (concat (T.hash_input value)) in IsTrue (may_insert hash_key h self.old.map) }
-        ensures ok { let h = hash_of self.old.map.seed (concat (T.hash_input value)) in IfOk result (λ created. created ≡ creates hash_key h (hash_step h) self.old.map.kept) }
-        ensures after { let h = hash_of self.old.map.seed (concat (T.hash_input value)) in OnOk result (self.new.map ≡ record self.old.map { kept = after_upsert hash_key (2 ^ self.old.map.lg_nom) h (hash_step h) self.old.map.kept }) }
+        requires room { let h = key_hash self.old.map (T.hash_input value) in IsTrue (may_insert hash_key h self.old.map) }
+        ensures ok { let h = key_hash self.old.map (T.hash_input value) in IfOk result (λ created. created ≡ creates_hash h self.old.map.kept) }
+        ensures after { let h = key_hash self.old.map (T.hash_input value) in OnOk result (self.new.map ≡ after_hash h self.old.map) }
         ensures err { OnErr result (self.new.map ≡ self.old.map) }
-        ensures refused { let h = hash_of self.old.map.seed (concat (T.hash_input value)) in Refuses result None (upsert_allocates hash_key h (hash_step h) self.old.map.kept) }
-        ensures memory { length self.old.map.kept.entries < threshold self.old.layout.lg_cur self.old.map.lg_nom → IsOk result }
-        ensures ticked { IfOk result (λ created. self.new.counts ≡ record (if created then ticked self.old.layout.lg_cur self.old.map.lg_nom (length self.old.map.kept.entries) self.old.counts else self.old.counts) { looks = self.new.counts.looks }) }
+        ensures refused { let h = key_hash self.old.map (T.hash_input value) in Refuses result None (hash_allocates h self.old.map.kept) }
+        ensures memory { IsBelowThreshold self.old → IsOk result }
+        ensures ticked { IfOk result (λ created. self.new.counts ≡ record (counts_after self.old created) { looks = self.new.counts.looks }) }
         ensures unticked { OnErr result (self.new.counts ≡ record self.old.counts { looks = self.new.counts.looks }) }
-        ensures sized { IfOk result (λ created. self.new.layout.lg_cur ≡ if created then size_after self.old.layout.lg_cur self.old.map.lg_nom self.old.layout.grow (length self.old.map.kept.entries) else self.old.layout.lg_cur) }
+        ensures sized { IfOk result (λ created. self.new.layout.lg_cur ≡ lg_cur_after self.old created) }
         ensures grows { self.new.layout.grow ≡ self.old.layout.grow }
-        ensures looks { 2 * self.new.counts.looks ≤ 2 * (self.old.counts.looks + length self.old.map.kept.entries + 1) + (self.new.counts.placed - self.old.counts.placed) * (self.new.counts.placed - self.old.counts.placed + 1) }
-        ensures looked { let h = hash_of self.old.map.seed (concat (T.hash_input value)) in is_screened h self.old.map.kept.theta ≡ false → self.old.counts.looks + (self.new.counts.placed - self.old.counts.placed) < self.new.counts.looks }
+        ensures looks { AreFewLooks self.old self.new }
+        ensures looked { let h = key_hash self.old.map (T.hash_input value) in AreEnoughLooks h self.old self.new }
         ensures looks_kept { self.old.counts.looks ≤ self.new.counts.looks }
-        ensures screened { let h = hash_of self.old.map.seed (concat (T.hash_input value)) in is_screened h self.old.map.kept.theta ≡ true → self.new.counts ≡ self.old.counts }
+        ensures screened { let h = key_hash self.old.map (T.hash_input value) in IsUncountedIfScreened h self.old self.new }
         ensures layout_err { OnErr result (self.new.layout ≡ self.old.layout) }
     {
         let hash = self.hash(value);
@@ -561,19 +559,19 @@ impl<A: Allocator + Clone> SketchHashTable<ThetaEntry, A> {
     #[inline(always)]
     pub fn try_insert_hash(&mut self, hash: u64) -> Result<bool, Error>
         requires room { IsTrue (may_insert hash_key hash self.old.map) }
-        ensures ok { IfOk result (λ created. created ≡ creates hash_key hash (hash_step hash) self.old.map.kept) }
-        ensures after { OnOk result (self.new.map ≡ record self.old.map { kept = after_upsert hash_key (2 ^ self.old.map.lg_nom) hash (hash_step hash) self.old.map.kept }) }
+        ensures ok { IfOk result (λ created. created ≡ creates_hash hash self.old.map.kept) }
+        ensures after { OnOk result (self.new.map ≡ after_hash hash self.old.map) }
         ensures err { OnErr result (self.new.map ≡ self.old.map) }
-        ensures refused { Refuses result None (upsert_allocates hash_key hash (hash_step hash) self.old.map.kept) }
-        ensures memory { length self.old.map.kept.entries < threshold self.old.layout.lg_cur self.old.map.lg_nom → IsOk result }
-        ensures ticked { IfOk result (λ created. self.new.counts ≡ record (if created then ticked self.old.layout.lg_cur self.old.map.lg_nom (length self.old.map.kept.entries) self.old.counts else self.old.counts) { looks = self.new.counts.looks }) }
+        ensures refused { Refuses result None (hash_allocates hash self.old.map.kept) }
+        ensures memory { IsBelowThreshold self.old → IsOk result }
+        ensures ticked { IfOk result (λ created. self.new.counts ≡ record (counts_after self.old created) { looks = self.new.counts.looks }) }
         ensures unticked { OnErr result (self.new.counts ≡ record self.old.counts { looks = self.new.counts.looks }) }
-        ensures sized { IfOk result (λ created. self.new.layout.lg_cur ≡ if created then size_after self.old.layout.lg_cur self.old.map.lg_nom self.old.layout.grow (length self.old.map.kept.entries) else self.old.layout.lg_cur) }
+        ensures sized { IfOk result (λ created. self.new.layout.lg_cur ≡ lg_cur_after self.old created) }
         ensures grows { self.new.layout.grow ≡ self.old.layout.grow }
-        ensures looks { 2 * self.new.counts.looks ≤ 2 * (self.old.counts.looks + length self.old.map.kept.entries + 1) + (self.new.counts.placed - self.old.counts.placed) * (self.new.counts.placed - self.old.counts.placed + 1) }
-        ensures looked { is_screened hash self.old.map.kept.theta ≡ false → self.old.counts.looks + (self.new.counts.placed - self.old.counts.placed) < self.new.counts.looks }
+        ensures looks { AreFewLooks self.old self.new }
+        ensures looked { AreEnoughLooks hash self.old self.new }
         ensures looks_kept { self.old.counts.looks ≤ self.new.counts.looks }
-        ensures screened { is_screened hash self.old.map.kept.theta ≡ true → self.new.counts ≡ self.old.counts }
+        ensures screened { IsUncountedIfScreened hash self.old self.new }
         ensures layout_err { OnErr result (self.new.layout ≡ self.old.layout) }
     {
         self.upsert_entry(hash, PutStep::new(ThetaEntry::of_hash(hash)))
@@ -590,7 +588,7 @@ impl<A: Allocator + Clone> SketchHashTable<ThetaEntry, A> {
     pub fn insert_hashes(&mut self, hashes: &[u64]) -> Result<(), Error>
         requires room { 3 ≤ self.old.map.lg_nom }
         ensures after { OnOk result (self.new.map ≡ after_hashes hashes.now self.old.map) }
-        ensures err { OnErr result (StopsAt hashes.now (λ front hash. (self.new.map ≡ after_hashes front self.old.map) × IsTrue (upsert_allocates hash_key hash (hash_step hash) self.new.map.kept))) }
+        ensures err { OnErr result (StopsAtMemory hashes.now self.old.map self.new.map) }
         ensures refused { Refuses result None true }
         ensures looks_kept { self.old.counts.looks ≤ self.new.counts.looks }
     {
@@ -608,7 +606,7 @@ impl<A: Allocator + Clone> SketchHashTable<ThetaEntry, A> {
         requires room { 3 ≤ self.old.map.lg_nom }
         requires few { length hashes.now ≤ BLOCK }
         ensures after { OnOk result (self.new.map ≡ after_hashes hashes.now self.old.map) }
-        ensures err { OnErr result (StopsAt hashes.now (λ front hash. (self.new.map ≡ after_hashes front self.old.map) × IsTrue (upsert_allocates hash_key hash (hash_step hash) self.new.map.kept))) }
+        ensures err { OnErr result (StopsAtMemory hashes.now self.old.map self.new.map) }
         ensures refused { Refuses result None true }
         ensures looks_kept { self.old.counts.looks ≤ self.new.counts.looks }
     {
@@ -634,7 +632,7 @@ impl<A: Allocator + Clone> SketchHashTable<ThetaEntry, A> {
     fn insert_each(&mut self, hashes: &[u64]) -> Result<(), Error>
         requires room { 3 ≤ self.old.map.lg_nom }
         ensures after { OnOk result (self.new.map ≡ after_hashes hashes.now self.old.map) }
-        ensures err { OnErr result (StopsAt hashes.now (λ front hash. (self.new.map ≡ after_hashes front self.old.map) × IsTrue (upsert_allocates hash_key hash (hash_step hash) self.new.map.kept))) }
+        ensures err { OnErr result (StopsAtMemory hashes.now self.old.map self.new.map) }
         ensures refused { Refuses result None true }
         ensures looks_kept { self.old.counts.looks ≤ self.new.counts.looks }
     {
@@ -670,20 +668,20 @@ impl<S: Drop, A: Allocator + Clone> SketchHashTable<TupleEntry<S>, A> {
         key: T,
         step: U,
     ) -> Result<bool, Error>
-        requires room { let h = hash_of self.old.map.seed (concat (T.hash_input key)) in IsTrue (may_insert tuple_key h self.old.map) }
-        ensures ok { let h = hash_of self.old.map.seed (concat (T.hash_input key)) in IfOk result (λ created. created ≡ creates tuple_key h (entry_step h (U.means step)) self.old.map.kept) }
-        ensures after { let h = hash_of self.old.map.seed (concat (T.hash_input key)) in OnOk result (self.new.map ≡ record self.old.map { kept = after_upsert tuple_key (2 ^ self.old.map.lg_nom) h (entry_step h (U.means step)) self.old.map.kept }) }
+        requires room { let h = key_hash self.old.map (T.hash_input key) in IsTrue (may_insert tuple_key h self.old.map) }
+        ensures ok { let h = key_hash self.old.map (T.hash_input key) in IfOk result (λ created. created ≡ creates_tuple h (U.means step) self.old.map.kept) }
+        ensures after { let h = key_hash self.old.map (T.hash_input key) in OnOk result (self.new.map ≡ after_tuple h (U.means step) self.old.map) }
         ensures err { OnErr result (self.new.map ≡ self.old.map) }
-        ensures refused { let h = hash_of self.old.map.seed (concat (T.hash_input key)) in Refuses result (upsert_refusal tuple_key h (entry_step h (U.means step)) self.old.map.kept) (upsert_allocates tuple_key h (entry_step h (U.means step)) self.old.map.kept) }
-        ensures memory { let h = hash_of self.old.map.seed (concat (T.hash_input key)) in length self.old.map.kept.entries < threshold self.old.layout.lg_cur self.old.map.lg_nom → Refuses result (upsert_refusal tuple_key h (entry_step h (U.means step)) self.old.map.kept) (not (is_screened h self.old.map.kept.theta) && (U.means step).allocates) }
-        ensures ticked { IfOk result (λ created. self.new.counts ≡ record (if created then ticked self.old.layout.lg_cur self.old.map.lg_nom (length self.old.map.kept.entries) self.old.counts else self.old.counts) { looks = self.new.counts.looks }) }
+        ensures refused { let h = key_hash self.old.map (T.hash_input key) in RefusesUpsert result tuple_key h (entry_step h (U.means step)) self.old.map.kept }
+        ensures memory { let h = key_hash self.old.map (T.hash_input key) in RefusesBelowThreshold result tuple_key h (entry_step h (U.means step)) self.old }
+        ensures ticked { IfOk result (λ created. self.new.counts ≡ record (counts_after self.old created) { looks = self.new.counts.looks }) }
         ensures unticked { OnErr result (self.new.counts ≡ record self.old.counts { looks = self.new.counts.looks }) }
-        ensures sized { IfOk result (λ created. self.new.layout.lg_cur ≡ if created then size_after self.old.layout.lg_cur self.old.map.lg_nom self.old.layout.grow (length self.old.map.kept.entries) else self.old.layout.lg_cur) }
+        ensures sized { IfOk result (λ created. self.new.layout.lg_cur ≡ lg_cur_after self.old created) }
         ensures grows { self.new.layout.grow ≡ self.old.layout.grow }
-        ensures looks { 2 * self.new.counts.looks ≤ 2 * (self.old.counts.looks + length self.old.map.kept.entries + 1) + (self.new.counts.placed - self.old.counts.placed) * (self.new.counts.placed - self.old.counts.placed + 1) }
-        ensures looked { let h = hash_of self.old.map.seed (concat (T.hash_input key)) in is_screened h self.old.map.kept.theta ≡ false → self.old.counts.looks + (self.new.counts.placed - self.old.counts.placed) < self.new.counts.looks }
+        ensures looks { AreFewLooks self.old self.new }
+        ensures looked { let h = key_hash self.old.map (T.hash_input key) in AreEnoughLooks h self.old self.new }
         ensures looks_kept { self.old.counts.looks ≤ self.new.counts.looks }
-        ensures screened { let h = hash_of self.old.map.seed (concat (T.hash_input key)) in is_screened h self.old.map.kept.theta ≡ true → self.new.counts ≡ self.old.counts }
+        ensures screened { let h = key_hash self.old.map (T.hash_input key) in IsUncountedIfScreened h self.old self.new }
         ensures layout_err { OnErr result (self.new.layout ≡ self.old.layout) }
     {
         let hash = self.hash(key);
@@ -702,19 +700,19 @@ impl<S: Drop, A: Allocator + Clone> SketchHashTable<TupleEntry<S>, A> {
         step: U,
     ) -> Result<bool, Error>
         requires room { IsTrue (may_insert tuple_key hash self.old.map) }
-        ensures ok { IfOk result (λ created. created ≡ creates tuple_key hash (entry_step hash (U.means step)) self.old.map.kept) }
-        ensures after { OnOk result (self.new.map ≡ record self.old.map { kept = after_upsert tuple_key (2 ^ self.old.map.lg_nom) hash (entry_step hash (U.means step)) self.old.map.kept }) }
+        ensures ok { IfOk result (λ created. created ≡ creates_tuple hash (U.means step) self.old.map.kept) }
+        ensures after { OnOk result (self.new.map ≡ after_tuple hash (U.means step) self.old.map) }
         ensures err { OnErr result (self.new.map ≡ self.old.map) }
-        ensures refused { Refuses result (upsert_refusal tuple_key hash (entry_step hash (U.means step)) self.old.map.kept) (upsert_allocates tuple_key hash (entry_step hash (U.means step)) self.old.map.kept) }
-        ensures memory { length self.old.map.kept.entries < threshold self.old.layout.lg_cur self.old.map.lg_nom → Refuses result (upsert_refusal tuple_key hash (entry_step hash (U.means step)) self.old.map.kept) (not (is_screened hash self.old.map.kept.theta) && (U.means step).allocates) }
-        ensures ticked { IfOk result (λ created. self.new.counts ≡ record (if created then ticked self.old.layout.lg_cur self.old.map.lg_nom (length self.old.map.kept.entries) self.old.counts else self.old.counts) { looks = self.new.counts.looks }) }
+        ensures refused { RefusesUpsert result tuple_key hash (entry_step hash (U.means step)) self.old.map.kept }
+        ensures memory { RefusesBelowThreshold result tuple_key hash (entry_step hash (U.means step)) self.old }
+        ensures ticked { IfOk result (λ created. self.new.counts ≡ record (counts_after self.old created) { looks = self.new.counts.looks }) }
         ensures unticked { OnErr result (self.new.counts ≡ record self.old.counts { looks = self.new.counts.looks }) }
-        ensures sized { IfOk result (λ created. self.new.layout.lg_cur ≡ if created then size_after self.old.layout.lg_cur self.old.map.lg_nom self.old.layout.grow (length self.old.map.kept.entries) else self.old.layout.lg_cur) }
+        ensures sized { IfOk result (λ created. self.new.layout.lg_cur ≡ lg_cur_after self.old created) }
         ensures grows { self.new.layout.grow ≡ self.old.layout.grow }
-        ensures looks { 2 * self.new.counts.looks ≤ 2 * (self.old.counts.looks + length self.old.map.kept.entries + 1) + (self.new.counts.placed - self.old.counts.placed) * (self.new.counts.placed - self.old.counts.placed + 1) }
-        ensures looked { is_screened hash self.old.map.kept.theta ≡ false → self.old.counts.looks + (self.new.counts.placed - self.old.counts.placed) < self.new.counts.looks }
+        ensures looks { AreFewLooks self.old self.new }
+        ensures looked { AreEnoughLooks hash self.old self.new }
         ensures looks_kept { self.old.counts.looks ≤ self.new.counts.looks }
-        ensures screened { is_screened hash self.old.map.kept.theta ≡ true → self.new.counts ≡ self.old.counts }
+        ensures screened { IsUncountedIfScreened hash self.old self.new }
         ensures layout_err { OnErr result (self.new.layout ≡ self.old.layout) }
     {
         self.upsert_entry(hash, EntryStep::new(hash, step))

@@ -1,13 +1,11 @@
 //! Insertions into the slots of a table: sizes, growth and rebuilds.
-ghost use Rattle.std.specs.Prelude.{◌≡◌, ℕ, ◌+◌, ◌-◌, ◌*◌, ◌/◌, ◌<◌, ◌≤◌, ◌^◌, None, Some, IsSome, length, map, set, min, IfOk, IsOk, OnOk, OnErr};
-ghost use Rattle.std.specs.List.{AllByRecursion};
+ghost use Rattle.std.specs.Prelude.{◌≡◌, ◌+◌, ◌-◌, ◌*◌, ◌/◌, ◌<◌, ◌≤◌, ◌^◌, true, false, None, Some, IsSome, length, map, IfOk, IsOk, OnOk, OnErr};
 ghost use Rattle.core_laws.specs.Cuts.{cut};
-ghost use Rattle.core_laws.specs.Insertion.{rebuilt};
-ghost use Rattle.core_laws.specs.Maps.{with_entry, map_of};
+ghost use Rattle.core_laws.specs.Maps.{with_entry};
 ghost use Rattle.core_laws.specs.Refusal.{Refuses};
-ghost use Rattle.core_slots.specs.Layout.{filled, slot, IsOnPath, IsLaidOut};
-ghost use Rattle.core_table.specs.HashTable.{threshold, HasSize, sub_multiple, ticked, size_after, count_after};
-ghost use Rattle.core_table.specs.Insertion.{HasPlaceFor};
+ghost use Rattle.core_slots.specs.Layout.{slot, IsLaidOut, entries_in, slot_map};
+ghost use Rattle.core_table.specs.HashTable.{threshold, HasSize, sub_multiple, ticked, ticked_if, size_after, count_after};
+ghost use Rattle.core_table.specs.Insertion.{HasPlaceFor, kept_in, after_put, grown, IsCutOf, IsWritten};
 
 use core_laws::{MIN_LG_K, MIN_LG_SLOTS};
 use core_slots::{Count, SlotEntry, UpsertStep, hash_of_rank, keep_below, put_kept, put_spread};
@@ -105,8 +103,8 @@ pub(crate) fn put_entry<E: SlotEntry + Drop, A: Allocator + Clone>(
     requires room { sizes.lg_nom < 3 → sizes.count + 1 < 2 ^ sizes.lg_cur }
     requires inside { at < length slots.old.items }
     ensures laid_out { IfOk result (λ s. IsLaidOut E.key s.lg_cur (map E.held slots.new.items)) }
-    ensures counted { IfOk result (λ s. s.count ≡ length (filled (map E.held slots.new.items))) }
-    ensures after { IfOk result (λ s. record { entries = map_of E.key (filled (map E.held slots.new.items)); theta = s.theta } ≡ rebuilt E.key (2 ^ sizes.lg_nom) (with_entry E.key (map_of E.key (filled (map E.held slots.old.items))) entry) sizes.theta) }
+    ensures counted { IfOk result (λ s. s.count ≡ length (entries_in E.held slots.new.items)) }
+    ensures after { IfOk result (λ s. kept_in E.key E.held slots.new.items s.theta ≡ after_put E.key sizes (slot_map E.key E.held slots.old.items) entry) }
     ensures sized { IfOk result (λ s. HasSize s.lg_cur sizes.lg_nom sizes.grow s.count) }
     ensures size { IfOk result (λ s. s.lg_cur ≡ size_after sizes.lg_cur sizes.lg_nom sizes.grow sizes.count) }
     ensures most { IfOk result (λ s. s.most ≡ threshold s.lg_cur sizes.lg_nom) }
@@ -147,8 +145,8 @@ fn overflow<E: SlotEntry + Drop, A: Allocator + Clone>(
     requires inside { at < length slots.old.items }
     requires full { threshold sizes.lg_cur sizes.lg_nom < sizes.count + 1 }
     ensures laid_out { IfOk result (λ s. IsLaidOut E.key s.lg_cur (map E.held slots.new.items)) }
-    ensures counted { IfOk result (λ s. s.count ≡ length (filled (map E.held slots.new.items))) }
-    ensures after { IfOk result (λ s. record { entries = map_of E.key (filled (map E.held slots.new.items)); theta = s.theta } ≡ rebuilt E.key (2 ^ sizes.lg_nom) (with_entry E.key (map_of E.key (filled (map E.held slots.old.items))) entry) sizes.theta) }
+    ensures counted { IfOk result (λ s. s.count ≡ length (entries_in E.held slots.new.items)) }
+    ensures after { IfOk result (λ s. kept_in E.key E.held slots.new.items s.theta ≡ after_put E.key sizes (slot_map E.key E.held slots.old.items) entry) }
     ensures sized { IfOk result (λ s. HasSize s.lg_cur sizes.lg_nom sizes.grow s.count) }
     ensures size { IfOk result (λ s. s.lg_cur ≡ size_after sizes.lg_cur sizes.lg_nom sizes.grow sizes.count) }
     ensures most { IfOk result (λ s. s.most ≡ threshold s.lg_cur sizes.lg_nom) }
@@ -181,12 +179,12 @@ fn grow<E: SlotEntry + Drop, A: Allocator + Clone>(
     requires growing { sizes.lg_cur ≤ sizes.lg_nom }
     requires inside { at < length slots.old.items }
     ensures laid_out { IfOk result (λ s. IsLaidOut E.key s.lg_cur (map E.held slots.new.items)) }
-    ensures after { OnOk result (map_of E.key (filled (map E.held slots.new.items)) ≡ with_entry E.key (map_of E.key (filled (map E.held slots.old.items))) entry) }
-    ensures same { IfOk result (λ s. s ≡ record sizes { lg_cur = min (sizes.lg_cur + sizes.grow) (sizes.lg_nom + 1); most = threshold (min (sizes.lg_cur + sizes.grow) (sizes.lg_nom + 1)) sizes.lg_nom; count = sizes.count + 1 }) }
+    ensures after { OnOk result (slot_map E.key E.held slots.new.items ≡ with_entry E.key (slot_map E.key E.held slots.old.items) entry) }
+    ensures same { IfOk result (λ s. s ≡ grown sizes) }
     ensures err { OnErr result (slots.new.items ≡ slots.old.items) }
     ensures looks { 2 * counts.new.looks ≤ 2 * counts.old.looks + (counts.new.placed - counts.old.placed) * (counts.new.placed - counts.old.placed + 1) }
     ensures looked { counts.old.looks + (counts.new.placed - counts.old.placed) ≤ counts.new.looks }
-    ensures ticked { OnOk result (counts.new ≡ record counts.old { inserted = counts.old.inserted + 1; fresh = counts.old.fresh + 1; placed = counts.old.placed + (sizes.count + 1); looks = counts.new.looks }) }
+    ensures ticked { OnOk result (counts.new ≡ record (ticked_if false true (2 ^ sizes.lg_nom) sizes.count counts.old) { looks = counts.new.looks }) }
     ensures unticked { OnErr result (counts.new ≡ record counts.old { looks = counts.new.looks }) }
 {
     let lg_cur = (sizes.lg_cur + sizes.grow).min(sizes.lg_nom + 1);
@@ -225,13 +223,13 @@ fn rebuild<E: SlotEntry + Drop, A: Allocator + Clone>(
     requires large { 8 ≤ 2 ^ sizes.lg_nom }
     requires inside { at < length slots.old.items }
     ensures laid_out { OnOk result (IsLaidOut E.key sizes.lg_cur (map E.held slots.new.items)) }
-    ensures after { IfOk result (λ s. record { entries = map_of E.key (filled (map E.held slots.new.items)); theta = s.theta } ≡ rebuilt E.key (2 ^ sizes.lg_nom) (with_entry E.key (map_of E.key (filled (map E.held slots.old.items))) entry) sizes.theta) }
+    ensures after { IfOk result (λ s. kept_in E.key E.held slots.new.items s.theta ≡ after_put E.key sizes (slot_map E.key E.held slots.old.items) entry) }
     ensures same { IfOk result (λ s. s ≡ record sizes { count = 2 ^ sizes.lg_nom; theta = s.theta }) }
-    ensures count { OnOk result (length (filled (map E.held slots.new.items)) ≡ 2 ^ sizes.lg_nom) }
+    ensures count { OnOk result (length (entries_in E.held slots.new.items) ≡ 2 ^ sizes.lg_nom) }
     ensures err { OnErr result (slots.new.items ≡ slots.old.items) }
     ensures looks { 2 * counts.new.looks ≤ 2 * counts.old.looks + (counts.new.placed - counts.old.placed) * (counts.new.placed - counts.old.placed + 1) }
     ensures looked { counts.old.looks + (counts.new.placed - counts.old.placed) ≤ counts.new.looks }
-    ensures ticked { OnOk result (counts.new ≡ record counts.old { inserted = counts.old.inserted + 1; fresh = 0; placed = counts.old.placed + 2 ^ sizes.lg_nom; rebuilds = counts.old.rebuilds + 1; looks = counts.new.looks }) }
+    ensures ticked { OnOk result (counts.new ≡ record (ticked_if false false (2 ^ sizes.lg_nom) sizes.count counts.old) { looks = counts.new.looks }) }
     ensures unticked { OnErr result (counts.new ≡ record counts.old { looks = counts.new.looks }) }
 {
     let nominal = nominal_size(sizes.lg_nom);
@@ -288,7 +286,7 @@ pub(crate) fn write_at<E: SlotEntry + Drop, S: UpsertStep<E> + Drop>(
     requires inside { at < length slots.old }
     requires taken { IsSome (slot (map E.held slots.old) at) }
     requires nonzero { (x : E) → slot (map E.held slots.old) at ≡ Some x → (0 < E.key x) × (0 < E.key ((S.means step).writes x)) }
-    ensures ok { OnOk result ((x : E) → slot (map E.held slots.old) at ≡ Some x → map E.held slots.new ≡ set (map E.held slots.old) at (Some ((S.means step).writes x))) }
+    ensures ok { OnOk result (IsWritten at (S.means step).writes (map E.held slots.old) (map E.held slots.new)) }
     ensures err { OnErr result (map E.held slots.new ≡ map E.held slots.old) }
     ensures size { length slots.new ≡ length slots.old }
     ensures refused { (x : E) → slot (map E.held slots.old) at ≡ Some x → Refuses result ((S.means step).refuses_existing x) (S.means step).allocates }
@@ -317,12 +315,12 @@ pub(crate) fn cut_slots<E: SlotEntry + Drop, A: Allocator + Clone>(
 ) -> Result<u64, AllocError>
     requires small { lg < 40 }
     requires laid_out { IsLaidOut E.key lg (map E.held slots.old.items) }
-    requires counted { count ≡ length (filled (map E.held slots.old.items)) }
-    requires many { nominal < length (filled (map E.held slots.old.items)) }
-    requires room { length (filled (map E.held slots.old.items)) ≤ 2 ^ lg }
+    requires counted { count ≡ length (entries_in E.held slots.old.items) }
+    requires many { nominal < length (entries_in E.held slots.old.items) }
+    requires room { length (entries_in E.held slots.old.items) ≤ 2 ^ lg }
     ensures laid_out { OnOk result (IsLaidOut E.key lg (map E.held slots.new.items)) }
-    ensures after { IfOk result (λ theta. (t : ℕ) → AllByRecursion (λ x. E.key x < t) (map_of E.key (filled (map E.held slots.old.items))) → record { entries = map_of E.key (filled (map E.held slots.new.items)); theta = theta } ≡ cut E.key nominal (map_of E.key (filled (map E.held slots.old.items))) t) }
-    ensures count { OnOk result (length (filled (map E.held slots.new.items)) ≡ nominal) }
+    ensures after { IfOk result (λ theta. IsCutOf E.key nominal (slot_map E.key E.held slots.old.items) (kept_in E.key E.held slots.new.items theta)) }
+    ensures count { OnOk result (length (entries_in E.held slots.new.items) ≡ nominal) }
     ensures placed { OnOk result (placed.new ≡ placed.old + nominal) }
     ensures placed_err { OnErr result (placed.new ≡ placed.old) }
     ensures err { OnErr result (slots.new.items ≡ slots.old.items) }

@@ -5,7 +5,7 @@ ghost use Rattle.std.specs.List.{AllByRecursion};
 ghost use Rattle.std.specs.Option.{option_copied};
 ghost use Rattle.std.specs.Simd.Lanes.{mask_l};
 ghost use Rattle.std.specs.Iterator.SizeHint.{IsWithinCount};
-ghost use Rattle.core_slots.specs.Layout.{filled};
+ghost use Rattle.core_slots.specs.Layout.{filled, entries_in};
 ghost use Rattle.core_table.specs.Gathering.{from_below};
 ghost use Rattle.core_table.specs.Marks.{AreMarked, under};
 
@@ -43,19 +43,19 @@ pub struct SketchHashTableIter<'a, E: SlotEntry> {
 
 impl<'a, E: SlotEntry> Model for SketchHashTableIter<'a, E> {
     ghost use Rattle.std.specs.Prelude.{List, map};
-    ghost use Rattle.core_slots.specs.Layout.{filled};
+    ghost use Rattle.core_slots.specs.Layout.{entries_in};
     ghost use Rattle.core_table.specs.Marks.{AreMarked};
 
     ghost Value = { List E };
 
-    ghost view = { λ s. filled (map E.held s.rest.slots.now) };
+    ghost view = { λ s. entries_in E.held s.rest.slots.now };
 
     ghost invariant = { λ s. AreMarked (map E.held s.rest.slots.now) s.rest.ahead s.rest.marks };
 }
 
 impl<'a, E: SlotEntry> SketchHashTableIter<'a, E> {
     pub(crate) fn over(slots: &'a [E::Slot]) -> Self
-        ensures { result ≡ filled (map E.held slots.entry.now) }
+        ensures { result ≡ entries_in E.held slots.entry.now }
     {
         SketchHashTableIter {
             rest: Marked {
@@ -176,7 +176,7 @@ const PASSED: usize = 8;
 /// Whether some of a few slots hold an entry below theta. It takes no branch on what a slot holds.
 #[inline(always)]
 fn any_below<E: SlotEntry>(block: &[E::Slot], theta: u64) -> bool
-    ensures { result ≡ false → AllByRecursion (λ x. theta ≤ E.key x) (filled (map E.held block.now)) }
+    ensures { result ≡ false → AllByRecursion (λ x. theta ≤ E.key x) (entries_in E.held block.now) }
 {
     let mut any = false;
     'test_each: for slot in block {
@@ -188,7 +188,7 @@ fn any_below<E: SlotEntry>(block: &[E::Slot], theta: u64) -> bool
 /// The slots from the first on that holds an entry below theta.
 #[inline(always)]
 fn slots_from_below<'a, E: SlotEntry + 'a>(slots: &'a [E::Slot], theta: u64) -> &'a [E::Slot]
-    ensures { filled (map E.held result.now) ≡ from_below E.key theta (filled (map E.held slots.entry.now)) }
+    ensures { entries_in E.held result.now ≡ from_below E.key theta (entries_in E.held slots.entry.now) }
 {
     let mut left = slots;
     'pass_blocks: while left.len() >= PASSED {

@@ -1,10 +1,9 @@
 //! Intersections of theta sketches.
-ghost use Rattle.std.specs.Prelude.{◌≡◌, Some, None, true, false, is_some, IfOk, IfErr, OnOk, MatchOption};
+ghost use Rattle.std.specs.Prelude.{◌≡◌, Some, None, false, is_some, IfOk, IfErr, OnOk};
 ghost use Rattle.sketch_base.specs.Seed.{seed_hash};
-ghost use Rattle.sketch_base.specs.declared.error.ErrorKind.TheVariants.{OutOfMemory};
 ghost use Rattle.sketch_base.specs.declared.seed.TheConstants.{DEFAULT_UPDATE_SEED};
 ghost use Rattle.core_laws.specs.Entries.{hash_key, first_hash};
-ghost use Rattle.core_operators.specs.Intersection.{Intersection, new_intersection, seed_refusal, intersect_refusal, is_settled, IsAnswerIfAny, IsIntersection, held_of};
+ghost use Rattle.core_operators.specs.Intersection.{Intersection, new_intersection, seed_refusal, intersect_refusal, IsAnswerIfAny, IsIntersection, held_of, IsHashIntersectError};
 ghost use Rattle.core_laws.specs.Operators.{meet_next};
 ghost use Rattle.core_laws.specs.Cuts.{IsRetained};
 ghost use Rattle.core_laws.specs.Refusal.{Refuses};
@@ -103,7 +102,7 @@ impl<A: Allocator + Clone> ThetaIntersection<A> {
         ensures met { OnOk result (self.new.result ≡ Some (meet_next hash_key first_hash self.old.result (shown_value hash_key (view_shows sketch.entry) (view_lends sketch.entry)))) }
         ensures made_with { self.new ≡ record self.old { result = self.new.result } }
         ensures accepted { OnOk result (intersect_refusal self.old (view_shows sketch.entry) ≡ None) }
-        ensures refused { IfErr result (λ e. (self.new ≡ self.old) × MatchOption (intersect_refusal self.old (view_shows sketch.entry)) (((view_shows sketch.entry).empty ≡ false) × (is_settled self.old.result ≡ false) × (e ≡ OutOfMemory)) (λ kind. e ≡ kind)) }
+        ensures refused { IfErr result (IsHashIntersectError self.old self.new (view_shows sketch.entry)) }
         ensures sound { IsIntersection self.old }
         ensures held { IsRetained hash_key (held_of self.old.result) }
     {

@@ -1,17 +1,13 @@
 //! Theta sketches that take updates.
-ghost use Rattle.std.specs.Prelude.{◌≡◌, ◌≤◌, ◌==◌, ◌&&◌, ◌^◌, true, false, not, nat_lt, None, length, IfOk, OnOk, OnErr, IsTrue, is_some};
-ghost use Rattle.std.specs.List.{concat};
-ghost use Rattle.sketch_base.specs.Seed.{hash_of};
+ghost use Rattle.std.specs.Prelude.{◌≡◌, ◌≤◌, ◌==◌, ◌&&◌, ◌^◌, true, false, not, nat_lt, None, length, IfOk, OnOk, OnErr};
 ghost use Rattle.core_compact.specs.CompactState.{IsAnswer};
-ghost use Rattle.core_laws.specs.Cuts.{cut};
 ghost use Rattle.core_laws.specs.Entries.{hash_key, hash_step};
-ghost use Rattle.core_laws.specs.Parts.{StopsAt};
 ghost use Rattle.core_laws.specs.Refusal.{Refuses};
 ghost use Rattle.core_laws.specs.Settings.{settings_refusal};
-ghost use Rattle.core_table.specs.HashTable.{IsTable, empty_table, after_reset, after_hashes};
+ghost use Rattle.core_table.specs.HashTable.{empty_table, after_reset, after_hashes, key_hash, after_hash, hash_allocates, trimmed};
 ghost use Rattle.core_laws.specs.Maps.{IsLent};
-ghost use Rattle.core_laws.specs.Insertion.{after_upsert, upsert_allocates};
-ghost use Rattle.core_state.specs.Updatable.{IsUpdatable, sketch_value, sketch_shows};
+ghost use Rattle.core_laws.specs.Insertion.{upsert_allocates};
+ghost use Rattle.core_state.specs.Updatable.{sketch_value, sketch_shows, StopsUpdates};
 ghost use Rattle.core_laws.specs.Values.{theta_of, count_of, fraction_of};
 ghost use Rattle.core_laws.specs.Shown.{IsShown, shown_value};
 ghost use Rattle.core_state.specs.Fraction.{decimal_of};
@@ -156,10 +152,10 @@ impl<A: Allocator + Clone> ThetaSketch<A> {
     #[inline(always)]
     pub fn update<T: Hash + Drop>(&mut self, value: T) -> Result<(), Error>
         ensures nonempty { OnOk result (self.new.empty ≡ false) }
-        ensures after { let h = hash_of self.old.map.seed (concat (T.hash_input value)) in OnOk result (self.new.map ≡ record self.old.map { kept = after_upsert hash_key (2 ^ self.old.map.lg_nom) h (hash_step h) self.old.map.kept }) }
+        ensures after { let h = key_hash self.old.map (T.hash_input value) in OnOk result (self.new.map ≡ after_hash h self.old.map) }
         ensures err_empty { OnErr result (self.new.empty ≡ self.old.empty) }
         ensures err { OnErr result (self.new.map ≡ self.old.map) }
-        ensures refused { let h = hash_of self.old.map.seed (concat (T.hash_input value)) in Refuses result None (upsert_allocates hash_key h (hash_step h) self.old.map.kept) }
+        ensures refused { let h = key_hash self.old.map (T.hash_input value) in Refuses result None (hash_allocates h self.old.map.kept) }
     {
         let hash = self.state.hash(value);
         self.update_hash(hash)
@@ -171,7 +167,7 @@ impl<A: Allocator + Clone> ThetaSketch<A> {
     #[inline(always)]
     pub fn update_hash(&mut self, hash: u64) -> Result<(), Error>
         ensures nonempty { OnOk result (self.new.empty ≡ false) }
-        ensures after { OnOk result (self.new.map ≡ record self.old.map { kept = after_upsert hash_key (2 ^ self.old.map.lg_nom) hash (hash_step hash) self.old.map.kept }) }
+        ensures after { OnOk result (self.new.map ≡ after_hash hash self.old.map) }
         ensures err_empty { OnErr result (self.new.empty ≡ self.old.empty) }
         ensures err { OnErr result (self.new.map ≡ self.old.map) }
         ensures refused { Refuses result None (upsert_allocates hash_key hash (hash_step hash) self.old.map.kept) }
@@ -199,7 +195,7 @@ impl<A: Allocator + Clone> ThetaSketch<A> {
     pub fn update_hashes(&mut self, hashes: &[u64]) -> Result<(), Error>
         ensures after { OnOk result (self.new.map ≡ after_hashes hashes.now self.old.map) }
         ensures empty { OnOk result (self.new.empty ≡ (self.old.empty && length hashes.now == 0)) }
-        ensures err { OnErr result (StopsAt hashes.now (λ front hash. (self.new.map ≡ after_hashes front self.old.map) × (self.new.empty ≡ (self.old.empty && length front == 0)) × IsTrue (upsert_allocates hash_key hash (hash_step hash) self.new.map.kept))) }
+        ensures err { OnErr result (StopsUpdates hashes.now self.old self.new) }
         ensures refused { Refuses result None true }
     {
         self.state.insert_hashes(hashes)
@@ -211,7 +207,7 @@ impl<A: Allocator + Clone> ThetaSketch<A> {
     /// Refused with `OutOfMemory` alone, and only where more than k are retained; then nothing has changed.
     pub fn trim(&mut self) -> Result<(), Error>
         ensures same_emptiness { self.new.empty ≡ self.old.empty }
-        ensures after { OnOk result (self.new.map ≡ record self.old.map { kept = cut hash_key (2 ^ self.old.map.lg_nom) self.old.map.kept.entries self.old.map.kept.theta }) }
+        ensures after { OnOk result (self.new.map ≡ trimmed hash_key self.old.map) }
         ensures err { OnErr result (self.new.map ≡ self.old.map) }
         ensures refused { Refuses result None (nat_lt (2 ^ self.old.map.lg_nom) (length self.old.map.kept.entries)) }
     {

@@ -1,15 +1,12 @@
 //! Unions of theta sketches.
-ghost use Rattle.std.specs.Prelude.{◌≡◌, ◌^◌, [], ◌∷◌, true, false, not, None, IfOk, IfErr, OnOk, OnErr, MatchOption};
+ghost use Rattle.std.specs.Prelude.{◌≡◌, ◌^◌, [], ◌∷◌, true, not, None, IfOk, IfErr, OnOk, OnErr};
 ghost use Rattle.sketch_base.specs.Seed.{seed_hash};
-ghost use Rattle.sketch_base.specs.declared.error.ErrorKind.TheVariants.{OutOfMemory};
 ghost use Rattle.core_compact.specs.CompactState.{IsAnswer};
-ghost use Rattle.core_laws.specs.Entries.{hash_key, first_hash};
-ghost use Rattle.core_laws.specs.Operators.{unite};
+ghost use Rattle.core_laws.specs.Entries.{hash_key};
 ghost use Rattle.core_laws.specs.Refusal.{Refuses};
 ghost use Rattle.core_laws.specs.Settings.{settings_refusal};
 ghost use Rattle.core_laws.specs.Cuts.{IsRetained};
-ghost use Rattle.core_operators.specs.Union.{Union, empty_union, union_value, update_refusal, lower_refusal, lower_allocates, lowered, failure, IsUnion, IsJoined};
-ghost use Rattle.core_laws.specs.Shown.{shown_value};
+ghost use Rattle.core_operators.specs.Union.{Union, empty_union, union_value, update_refusal, lower_refusal, lower_allocates, lowered, failure, IsUnion, JoinsHashes, UnitesHashes, IsHashUpdateError};
 ghost use Rattle.core_laws.specs.Values.{cut_value};
 ghost use Rattle.theta_sketches.specs.View.{view_shows, view_lends};
 
@@ -74,11 +71,11 @@ impl<A: Allocator + Clone> ThetaUnion<A> {
     /// another seed; then nothing has changed. Refused with `OutOfMemory`; then the union has failed.
     pub fn update<B: Allocator>(&mut self, sketch: ThetaSketchView<'_, B>) -> Result<(), Error>
         ensures skipped { OnOk result ((view_shows sketch.entry).empty ≡ true → self.new ≡ self.old) }
-        ensures united { OnOk result ((view_shows sketch.entry).empty ≡ false → union_value hash_key self.new ≡ unite hash_key first_hash (2 ^ self.old.lg_k) self.old.start (union_value hash_key self.old ∷ shown_value hash_key (view_shows sketch.entry) (view_lends sketch.entry) ∷ [])) }
-        ensures joined { OnOk result ((view_shows sketch.entry).empty ≡ false → IsJoined hash_key first_hash (λ _ _. false) self.old self.new (view_shows sketch.entry).theta (view_lends sketch.entry)) }
+        ensures united { OnOk result (UnitesHashes self.old self.new (view_shows sketch.entry) (view_lends sketch.entry)) }
+        ensures joined { OnOk result (JoinsHashes self.old self.new (view_shows sketch.entry) (view_lends sketch.entry)) }
         ensures made_with { OnOk result (self.new ≡ record self.old { empty = self.new.empty; held = self.new.held }) }
         ensures accepted { OnOk result (update_refusal self.old (view_shows sketch.entry) ≡ None) }
-        ensures refused { IfErr result (λ e. MatchOption (update_refusal self.old (view_shows sketch.entry)) (((view_shows sketch.entry).empty ≡ false) × (e ≡ OutOfMemory) × (self.new ≡ record self.old { failed = true; held = self.new.held })) (λ kind. (e ≡ kind) × (self.new ≡ self.old))) }
+        ensures refused { IfErr result (IsHashUpdateError self.old self.new (view_shows sketch.entry)) }
         ensures sound { IsUnion self.old }
         ensures held { IsRetained hash_key self.old.held }
     {

@@ -2,13 +2,10 @@
 ghost use Rattle.std.specs.Prelude.{◌≡◌, ◌||◌, true, false, IfOk};
 ghost use Rattle.sketch_base.specs.Seed.{seed_hash};
 ghost use Rattle.sketch_base.specs.declared.seed.TheConstants.{DEFAULT_UPDATE_SEED};
-ghost use Rattle.core_compact.specs.CompactState.{IsAnswer};
 ghost use Rattle.core_slots.specs.Entry.{tuple_key};
-ghost use Rattle.core_laws.specs.Entries.{ClonesEqual, hash_key};
-ghost use Rattle.core_laws.specs.Operators.{minus};
+ghost use Rattle.core_laws.specs.Entries.{ClonesEqual};
 ghost use Rattle.core_laws.specs.Refusal.{Refuses};
-ghost use Rattle.core_laws.specs.Shown.{shown_value};
-ghost use Rattle.core_operators.specs.ANotB.{difference_refusal};
+ghost use Rattle.core_operators.specs.ANotB.{difference_refusal, IsDifference};
 ghost use Rattle.core_operators.specs.Intersection.{seed_refusal};
 ghost use Rattle.core_state.specs.View.{shows, lends};
 
@@ -89,7 +86,7 @@ impl TupleANotB {
         ordered: bool,
     ) -> Result<CompactTupleSketch<S, A>, Error>
         requires clones_equal { ClonesEqual S.is_clone }
-        ensures ok { IfOk result (IsAnswer tuple_key (minus tuple_key hash_key (shown_value tuple_key (shows tuple_key a.entry) (lends a.entry)) (shown_value hash_key (shows tuple_key b.entry) (shows tuple_key b.entry).hashes)) (shows tuple_key a.entry).seed_hash (ordered || (shows tuple_key a.entry).ordered)) }
+        ensures ok { IfOk result (IsDifference tuple_key (shows tuple_key a.entry) (lends a.entry) (shows tuple_key b.entry) ordered) }
         ensures refused { Refuses result (difference_refusal self.now (shows tuple_key a.entry) (shows tuple_key b.entry)) true }
     {
         let state = difference_of(alloc, self.seed_hash, a, b, ordered)?;

@@ -1,5 +1,5 @@
 //! Intersections of tuple sketches.
-ghost use Rattle.std.specs.Prelude.{◌≡◌, None, true, false, is_some, IfOk, IfErr, OnOk, MatchOption};
+ghost use Rattle.std.specs.Prelude.{◌≡◌, None, false, is_some, IfOk, IfErr, OnOk};
 ghost use Rattle.sketch_base.specs.Seed.{seed_hash};
 ghost use Rattle.sketch_base.specs.declared.seed.TheConstants.{DEFAULT_UPDATE_SEED};
 ghost use Rattle.core_slots.specs.Entry.{tuple_key};
@@ -7,7 +7,7 @@ ghost use Rattle.core_laws.specs.Cuts.{IsRetained};
 ghost use Rattle.core_laws.specs.Entries.{ClonesEqual};
 ghost use Rattle.core_laws.specs.Refusal.{Refuses};
 ghost use Rattle.core_policies.specs.Summaries.{combined, combine_refused};
-ghost use Rattle.core_operators.specs.Intersection.{new_intersection, seed_refusal, intersect_refusal, IsAnswerIfAny, IsIntersection, IsMet, IsCutShort, held_of};
+ghost use Rattle.core_operators.specs.Intersection.{new_intersection, seed_refusal, intersect_refusal, IsAnswerIfAny, IsIntersection, IsMet, held_of, IsIntersectError};
 ghost use Rattle.core_state.specs.View.{shows, lends};
 
 use crate::compact_sketch::CompactTupleSketch;
@@ -87,7 +87,7 @@ impl<P: SummaryCombinePolicy + Drop, A: Allocator + Clone> TupleIntersection<P, 
         ensures met { OnOk result (IsMet tuple_key (combined (P.combines self.old.state.policy)) (combine_refused (P.combines self.old.state.policy)) self.old.state self.new.state (shows tuple_key sketch.entry) (lends sketch.entry)) }
         ensures made_with { self.new.state ≡ record self.old.state { result = self.new.state.result } }
         ensures accepted { OnOk result (intersect_refusal self.old.state (shows tuple_key sketch.entry) ≡ None) }
-        ensures refused { IfErr result (λ e. (self.new.state ≡ self.old.state) × MatchOption (intersect_refusal self.old.state (shows tuple_key sketch.entry)) (IsCutShort tuple_key (combine_refused (P.combines self.old.state.policy)) self.old.state.result (shows tuple_key sketch.entry) (lends sketch.entry) e) (λ kind. e ≡ kind)) }
+        ensures refused { IfErr result (IsIntersectError tuple_key (combine_refused (P.combines self.old.state.policy)) self.old.state self.new.state (shows tuple_key sketch.entry) (lends sketch.entry)) }
         ensures sound { IsIntersection self.old.state }
         ensures held { IsRetained tuple_key (held_of self.old.state.result) }
     {

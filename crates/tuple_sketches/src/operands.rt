@@ -1,16 +1,12 @@
 //! The operators' calls, handed views of any entries. The borrow checker takes a view there whose entries are a type
 //! parameter, and none whose entries are tuples.
-ghost use Rattle.std.specs.Prelude.{◌≡◌, ◌||◌, ◌^◌, [], ◌∷◌, true, false, None, IfOk, IfErr, OnOk, MatchOption};
-ghost use Rattle.core_compact.specs.CompactState.{IsAnswer};
+ghost use Rattle.std.specs.Prelude.{◌≡◌, ◌||◌, ◌^◌, [], ◌∷◌, true, None, IfOk, IfErr, OnOk};
 ghost use Rattle.core_laws.specs.Cuts.{IsRetained};
-ghost use Rattle.core_laws.specs.Entries.{ClonesEqual, hash_key};
-ghost use Rattle.core_laws.specs.Folds.{fold_key, fold_merges, unmarked_value};
-ghost use Rattle.core_laws.specs.Operators.{minus, unite};
+ghost use Rattle.core_laws.specs.Entries.{ClonesEqual};
 ghost use Rattle.core_laws.specs.Refusal.{Refuses};
-ghost use Rattle.core_laws.specs.Shown.{shown_value};
-ghost use Rattle.core_operators.specs.ANotB.{difference_refusal};
-ghost use Rattle.core_operators.specs.Intersection.{intersect_refusal, IsIntersection, IsMet, IsCutShort, held_of};
-ghost use Rattle.core_operators.specs.Union.{union_value, update_refusal, IsUnion, IsJoined, IsBroken};
+ghost use Rattle.core_operators.specs.ANotB.{difference_refusal, IsDifference};
+ghost use Rattle.core_operators.specs.Intersection.{intersect_refusal, IsIntersection, IsMet, held_of, IsIntersectError};
+ghost use Rattle.core_operators.specs.Union.{update_refusal, IsUnion, JoinsShown, UnitesShown, IsUpdateError};
 ghost use Rattle.core_state.specs.View.{shows, lends};
 
 use core_compact::CompactSketchState;
@@ -33,10 +29,10 @@ where
     E::Slot: 'v,
     requires clones_equal { ClonesEqual E.is_clone }
     ensures skipped { OnOk result ((shows E.key view.entry).empty ≡ true → union.new ≡ union.old) }
-    ensures joined { OnOk result ((shows E.key view.entry).empty ≡ false → IsJoined E.key (P.merges union.old.policy) (P.refuses union.old.policy) union.old union.new (shows E.key view.entry).theta (lends view.entry)) }
-    ensures united { OnOk result ((shows E.key view.entry).empty ≡ false → unmarked_value (union_value E.key union.new) ≡ unite (fold_key E.key) (fold_merges E.key (P.merges union.old.policy) (P.refuses union.old.policy)) (2 ^ union.old.lg_k) union.old.start (unmarked_value (union_value E.key union.old) ∷ unmarked_value (shown_value E.key (shows E.key view.entry) (lends view.entry)) ∷ [])) }
+    ensures joined { OnOk result (JoinsShown E.key (P.merges union.old.policy) (P.refuses union.old.policy) union.old union.new (shows E.key view.entry) (lends view.entry)) }
+    ensures united { OnOk result (UnitesShown E.key (P.merges union.old.policy) (P.refuses union.old.policy) union.old union.new (shows E.key view.entry) (lends view.entry)) }
     ensures accepted { OnOk result (update_refusal union.old (shows E.key view.entry) ≡ None) }
-    ensures refused { IfErr result (λ e. MatchOption (update_refusal union.old (shows E.key view.entry)) (IsBroken E.key (P.refuses union.old.policy) union.old union.new (shows E.key view.entry) (lends view.entry) e) (λ kind. (e ≡ kind) × (union.new ≡ union.old))) }
+    ensures refused { IfErr result (IsUpdateError E.key (P.refuses union.old.policy) union.old union.new (shows E.key view.entry) (lends view.entry)) }
     ensures sound { IsUnion union.old }
     ensures held { IsRetained E.key union.old.held }
 {
@@ -57,7 +53,7 @@ where
     ensures met { OnOk result (IsMet E.key (P.merges intersection.old.policy) (P.refuses intersection.old.policy) intersection.old intersection.new (shows E.key view.entry) (lends view.entry)) }
     ensures made_with { intersection.new ≡ record intersection.old { result = intersection.new.result } }
     ensures accepted { OnOk result (intersect_refusal intersection.old (shows E.key view.entry) ≡ None) }
-    ensures refused { IfErr result (λ e. (intersection.new ≡ intersection.old) × MatchOption (intersect_refusal intersection.old (shows E.key view.entry)) (IsCutShort E.key (P.refuses intersection.old.policy) intersection.old.result (shows E.key view.entry) (lends view.entry) e) (λ kind. e ≡ kind)) }
+    ensures refused { IfErr result (IsIntersectError E.key (P.refuses intersection.old.policy) intersection.old intersection.new (shows E.key view.entry) (lends view.entry)) }
     ensures sound { IsIntersection intersection.old }
     ensures held { IsRetained E.key (held_of intersection.old.result) }
 {
@@ -84,7 +80,7 @@ where
     E::Slot: 'v,
     F::Slot: 'w,
     requires clones_equal { ClonesEqual E.is_clone }
-    ensures ok { IfOk result (IsAnswer E.key (minus E.key hash_key (shown_value E.key (shows E.key a.entry) (lends a.entry)) (shown_value hash_key (shows F.key b.entry) (shows F.key b.entry).hashes)) (shows E.key a.entry).seed_hash (ordered || (shows E.key a.entry).ordered)) }
+    ensures ok { IfOk result (IsDifference E.key (shows E.key a.entry) (lends a.entry) (shows F.key b.entry) ordered) }
     ensures refused { Refuses result (difference_refusal seed_hash (shows E.key a.entry) (shows F.key b.entry)) true }
 {
     a_not_b::compute_with_entries(alloc, seed_hash, a, b, ordered)

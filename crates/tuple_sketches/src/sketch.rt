@@ -1,15 +1,12 @@
 //! Tuple sketches that take updates.
 ghost use Rattle.std.specs.Prelude.{◌≡◌, ◌≤◌, ◌&&◌, ◌^◌, true, false, not, nat_lt, None, length, IfOk, OnOk, OnErr};
-ghost use Rattle.std.specs.List.{concat};
-ghost use Rattle.sketch_base.specs.Seed.{hash_of};
 ghost use Rattle.core_compact.specs.CompactState.{IsAnswer};
-ghost use Rattle.core_laws.specs.Cuts.{cut};
 ghost use Rattle.core_laws.specs.Entries.{ClonesEqual};
 ghost use Rattle.core_laws.specs.Refusal.{Refuses};
 ghost use Rattle.core_laws.specs.Settings.{settings_refusal};
-ghost use Rattle.core_table.specs.HashTable.{empty_table, after_reset};
+ghost use Rattle.core_table.specs.HashTable.{empty_table, after_reset, key_hash, after_insertion, trimmed};
 ghost use Rattle.core_laws.specs.Maps.{IsLent};
-ghost use Rattle.core_laws.specs.Insertion.{after_upsert, upsert_refusal, upsert_allocates};
+ghost use Rattle.core_laws.specs.Insertion.{upsert_refusal, upsert_allocates};
 ghost use Rattle.core_state.specs.Updatable.{sketch_value, sketch_shows};
 ghost use Rattle.core_state.specs.View.{shows, lends};
 ghost use Rattle.core_laws.specs.Values.{theta_of, count_of, fraction_of};
@@ -155,11 +152,11 @@ impl<P: SummaryPolicy, A: Allocator + Clone> TupleSketch<P, A> {
     where
         P: SummaryUpdatePolicy<U>,
         ensures nonempty { OnOk result (self.new.state.empty ≡ false) }
-        ensures after { let h = hash_of self.old.state.map.seed (concat (K.hash_input key)) in OnOk result (self.new.state.map ≡ record self.old.state.map { kept = after_upsert tuple_key (2 ^ self.old.state.map.lg_nom) h (update_step (P.creates self.old.policy) (P.updates self.old.policy) h value) self.old.state.map.kept }) }
+        ensures after { let h = key_hash self.old.state.map (K.hash_input key) in OnOk result (self.new.state.map ≡ after_insertion tuple_key h (update_step (P.creates self.old.policy) (P.updates self.old.policy) h value) self.old.state.map) }
         ensures same_policy { self.new.policy ≡ self.old.policy }
         ensures err_empty { OnErr result (self.new.state.empty ≡ self.old.state.empty) }
         ensures err { OnErr result (self.new.state.map ≡ self.old.state.map) }
-        ensures refused { let h = hash_of self.old.state.map.seed (concat (K.hash_input key)) in let step = update_step (P.creates self.old.policy) (P.updates self.old.policy) h value in Refuses result (upsert_refusal tuple_key h step self.old.state.map.kept) (upsert_allocates tuple_key h (record step { allocates = P.takes_memory self.old.policy }) self.old.state.map.kept) }
+        ensures refused { let h = key_hash self.old.state.map (K.hash_input key) in let step = update_step (P.creates self.old.policy) (P.updates self.old.policy) h value in Refuses result (upsert_refusal tuple_key h step self.old.state.map.kept) (upsert_allocates tuple_key h (record step { allocates = P.takes_memory self.old.policy }) self.old.state.map.kept) }
     {
         let hash = self.state.hash(key);
         self.update_hash(hash, value)
@@ -176,7 +173,7 @@ impl<P: SummaryPolicy, A: Allocator + Clone> TupleSketch<P, A> {
     where
         P: SummaryUpdatePolicy<U>,
         ensures nonempty { OnOk result (self.new.state.empty ≡ false) }
-        ensures after { OnOk result (self.new.state.map ≡ record self.old.state.map { kept = after_upsert tuple_key (2 ^ self.old.state.map.lg_nom) hash (update_step (P.creates self.old.policy) (P.updates self.old.policy) hash value) self.old.state.map.kept }) }
+        ensures after { OnOk result (self.new.state.map ≡ after_insertion tuple_key hash (update_step (P.creates self.old.policy) (P.updates self.old.policy) hash value) self.old.state.map) }
         ensures same_policy { self.new.policy ≡ self.old.policy }
         ensures err_empty { OnErr result (self.new.state.empty ≡ self.old.state.empty) }
         ensures err { OnErr result (self.new.state.map ≡ self.old.state.map) }
@@ -192,7 +189,7 @@ impl<P: SummaryPolicy, A: Allocator + Clone> TupleSketch<P, A> {
     /// Refused with `OutOfMemory` alone, and only where more than k are retained; then nothing has changed.
     pub fn trim(&mut self) -> Result<(), Error>
         ensures same_emptiness { self.new.state.empty ≡ self.old.state.empty }
-        ensures after { OnOk result (self.new.state.map ≡ record self.old.state.map { kept = cut tuple_key (2 ^ self.old.state.map.lg_nom) self.old.state.map.kept.entries self.old.state.map.kept.theta }) }
+        ensures after { OnOk result (self.new.state.map ≡ trimmed tuple_key self.old.state.map) }
         ensures same_policy { self.new.policy ≡ self.old.policy }
         ensures err { OnErr result (self.new.state.map ≡ self.old.state.map) }
         ensures refused { Refuses result None (nat_lt (2 ^ self.old.state.map.lg_nom) (length self.old.state.map.kept.entries)) }

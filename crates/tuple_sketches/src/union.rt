@@ -1,18 +1,15 @@
 //! Unions of tuple sketches.
-ghost use Rattle.std.specs.Prelude.{◌≡◌, ◌^◌, [], ◌∷◌, true, false, not, None, IfOk, IfErr, OnOk, OnErr, MatchOption};
+ghost use Rattle.std.specs.Prelude.{◌≡◌, ◌^◌, [], ◌∷◌, true, not, None, IfOk, IfErr, OnOk, OnErr};
 ghost use Rattle.sketch_base.specs.Seed.{seed_hash};
 ghost use Rattle.core_compact.specs.CompactState.{IsAnswer};
 ghost use Rattle.core_slots.specs.Entry.{tuple_key};
 ghost use Rattle.core_laws.specs.Settings.{settings_refusal};
 ghost use Rattle.core_laws.specs.Cuts.{IsRetained};
 ghost use Rattle.core_laws.specs.Entries.{ClonesEqual};
-ghost use Rattle.core_laws.specs.Folds.{fold_key, fold_merges, unmarked_value};
-ghost use Rattle.core_laws.specs.Operators.{unite};
 ghost use Rattle.core_laws.specs.Refusal.{Refuses};
-ghost use Rattle.core_laws.specs.Shown.{shown_value};
 ghost use Rattle.core_laws.specs.Values.{cut_value};
-ghost use Rattle.core_policies.specs.Summaries.{combined, combine_refused};
-ghost use Rattle.core_operators.specs.Union.{empty_union, union_value, update_refusal, lower_refusal, lower_allocates, lowered, failure, IsUnion, IsJoined, IsBroken};
+ghost use Rattle.core_policies.specs.Summaries.{combine_refused};
+ghost use Rattle.core_operators.specs.Union.{empty_union, union_value, update_refusal, lower_refusal, lower_allocates, lowered, failure, IsUnion, IsUpdateError, JoinsSummaries, UnitesSummaries};
 ghost use Rattle.core_state.specs.View.{shows, lends};
 
 use crate::compact_sketch::CompactTupleSketch;
@@ -75,11 +72,11 @@ impl<P: SummaryCombinePolicy + Drop, A: Allocator + Clone> TupleUnion<P, A> {
         P::Summary: Clone,
         requires clones_equal { ClonesEqual P.Summary.is_clone }
         ensures skipped { OnOk result ((shows tuple_key sketch.entry).empty ≡ true → self.new.state ≡ self.old.state) }
-        ensures united { OnOk result ((shows tuple_key sketch.entry).empty ≡ false → unmarked_value (union_value tuple_key self.new.state) ≡ unite (fold_key tuple_key) (fold_merges tuple_key (combined (P.combines self.old.state.policy)) (combine_refused (P.combines self.old.state.policy))) (2 ^ self.old.state.lg_k) self.old.state.start (unmarked_value (union_value tuple_key self.old.state) ∷ unmarked_value (shown_value tuple_key (shows tuple_key sketch.entry) (lends sketch.entry)) ∷ [])) }
-        ensures joined { OnOk result ((shows tuple_key sketch.entry).empty ≡ false → IsJoined tuple_key (combined (P.combines self.old.state.policy)) (combine_refused (P.combines self.old.state.policy)) self.old.state self.new.state (shows tuple_key sketch.entry).theta (lends sketch.entry)) }
+        ensures united { OnOk result (UnitesSummaries (P.combines self.old.state.policy) self.old.state self.new.state (shows tuple_key sketch.entry) (lends sketch.entry)) }
+        ensures joined { OnOk result (JoinsSummaries (P.combines self.old.state.policy) self.old.state self.new.state (shows tuple_key sketch.entry) (lends sketch.entry)) }
         ensures made_with { OnOk result (self.new.state ≡ record self.old.state { empty = self.new.state.empty; held = self.new.state.held }) }
         ensures accepted { OnOk result (update_refusal self.old.state (shows tuple_key sketch.entry) ≡ None) }
-        ensures refused { IfErr result (λ e. MatchOption (update_refusal self.old.state (shows tuple_key sketch.entry)) (IsBroken tuple_key (combine_refused (P.combines self.old.state.policy)) self.old.state self.new.state (shows tuple_key sketch.entry) (lends sketch.entry) e) (λ kind. (e ≡ kind) × (self.new.state ≡ self.old.state))) }
+        ensures refused { IfErr result (IsUpdateError tuple_key (combine_refused (P.combines self.old.state.policy)) self.old.state self.new.state (shows tuple_key sketch.entry) (lends sketch.entry)) }
         ensures sound { IsUnion self.old.state }
         ensures held { IsRetained tuple_key self.old.state.held }
     {

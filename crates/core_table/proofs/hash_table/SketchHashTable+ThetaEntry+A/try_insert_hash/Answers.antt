@@ -19,10 +19,10 @@ succeeds (Err e) b is = elim is [ inl never ↦ absurd (cc) | inr taken ↦ absu
 pub returns-clause-refused : goal.returns-clause-refused
 returns-clause-refused g c =
     let never = never_refused hash_key 0 c.args.hash (hash_step c.args.hash) c.args.self.now.map.kept (λ _. refl) refl in
-    rw (c.new.ensures, never) at c.upsert_entry.ensures.refused
+    rw (c.new.ensures, c.of_hash.ensures, never) at c.upsert_entry.ensures.refused
 
 pub returns-clause-memory : goal.returns-clause-memory
 returns-clause-memory g c =
     let never = never_refused hash_key 0 c.args.hash (hash_step c.args.hash) c.args.self.now.map.kept (λ _. refl) refl in
-    let memory = rw (c.new.ensures, never) at c.upsert_entry.ensures.memory in
+    let memory = rw (c.new.ensures, c.of_hash.ensures, never) at c.upsert_entry.ensures.memory in
     λ low. succeeds c.upsert_entry.result (not (is_screened c.args.hash c.args.self.now.map.kept.theta)) (memory low)
