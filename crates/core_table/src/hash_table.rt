@@ -39,8 +39,8 @@ use std::marker::{Model, PhantomData};
 
 /// The entries of a sketch below its theta. Contracts see them as a map, ascending by hash, and the theta.
 ///
-/// With k the nominal entries, 2 to the power of its nominal logarithm and at least 8, an insertion beyond 15k/8
-/// retained entries lowers theta to the (k+1)th smallest hash, and exactly the k entries below it stay.
+/// With k the nominal entries, 2 to the power of its nominal logarithm and at least 8, an insertion that brings the
+/// retained entries above 15k/8 lowers theta to the (k+1)th smallest hash, and exactly the k entries below it stay.
 ///
 /// It stores its entries by open addressing in at most 2k slots. Only contracts see the counts of its work; for many
 /// hashes at once (`insert_hashes`) they say only that the count of looks doesn't decrease.
