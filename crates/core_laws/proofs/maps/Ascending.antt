@@ -8,7 +8,7 @@ use Rattle.std.proofs.lemmas.List.Sums.{length-filter}
 use Rattle.core_laws.specs.Maps.{IsAscending, below, above, with_entry, rank}
 
 module _ {X : Type 0} where
-  -- what holds of each element holds of each that passes
+  -- a property of each element is one of each element that passes
   pub each-filter : (P : X → Type 0) (p : X → Bool) (xs : List X) → AllByRecursion P xs → AllByRecursion P (filter p xs)
   each-filter P p [] all = tt
   each-filter P p (x ∷ xs) all =
@@ -88,7 +88,7 @@ module _ {X : Type 0} (key : X → ℕ) where
   pub each-with_entry : (P : X → Type 0) (xs : List X) (x : X) → AllByRecursion P xs → P x → AllByRecursion P (with_entry key xs x)
   each-with_entry P xs x all p = each-append P _ _ (each-filter P _ xs all) (p, each-filter P _ xs all)
 
-  -- keys below h stand before place i, and the others from it on
+  -- keys below h are before place i, and the others from it on
   pub record Parts (xs : List X) (h i : ℕ) : Type 0 where
     pub within : i ≤ length xs
     pub smaller : (k : ℕ) (d : X) → k < i → key (get_or xs k d) < h
@@ -117,7 +117,7 @@ module _ {X : Type 0} (key : X → ℕ) where
   pub rank_parts : (xs : List X) (h i : ℕ) → Parts xs h i → rank key xs h ≡ i
   rank_parts xs h i parts = sym (length-filter _ xs) ∙ ap length (below_parts xs h i parts) ∙ length-take-le i xs parts.within
 
-  -- where the key at place i is h
+  -- if the key at place i is h
   pub parts_at : (xs : List X) (i : ℕ) (d : X) → IsAscending key xs → i < length xs → Parts xs (key (get_or xs i d)) i
   parts_at xs i d up lt = record {
     within = omega arith;

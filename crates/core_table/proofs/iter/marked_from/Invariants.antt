@@ -3,7 +3,7 @@ use Rattle.core_slots.specs.Layout.{filled}
 use Rattle.core_table.specs.Marks.{under}
 use Rattle.core_table.proofs.iter.marked_from.Given as goal
 
--- what was passed holds nothing under the bound
+-- the passed slots have no entries under the bound
 abbrev pub invariant-pass_blocks : goal.invariant-pass_blocks
 invariant-pass_blocks g l = filled (map (under g.E.SketchEntry.key l.bound g.E.PathEntry.held) l.left) ≡ filled (map (under g.E.SketchEntry.key l.bound g.E.PathEntry.held) l.slots)
 
