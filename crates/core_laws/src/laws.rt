@@ -62,7 +62,8 @@ pub fn leaf_is_sample<X, V>()
     ensures lawful { (key : X → ℕ) (step_of : ℕ → V → Step X) → KeepsHashes key step_of → (k start : ℕ) (steps : List (LeafStep V)) → start ≤ MAX_THETA → IsLawfulValue key k start (leaf key step_of k start steps) (whole key step_of steps) }
 {}
 
-/// A leaf that isn't empty and whose last step is a trim retains the k entries of least hash of the whole map of what was added.
+/// A leaf that isn't empty and whose last step is a trim retains the k entries of least hash of the whole map of what
+/// was added.
 pub fn trimmed_leaf<X, V>()
     ensures { (key : X → ℕ) (step_of : ℕ → V → Step X) → KeepsHashes key step_of → (k start : ℕ) (steps : List (LeafStep V)) → start ≤ MAX_THETA → is_updated steps false ≡ true → leaf key step_of k start (steps ++ Trim ∷ []) ≡ NonEmpty (cut key k (whole key step_of steps) start) }
 {}

@@ -7,8 +7,8 @@ use crate::sums::{CheckedSum, add_to};
 use sketch_base::Error;
 use std::marker::PhantomData;
 
-/// The policy of a sketch that adds each value of a key to its summary, from 0 on. `DefaultUpdatePolicy::<u64>::default()` is
-/// that of 64-bit sums; tuple_sketches has an example.
+/// The policy of a sketch that adds each value of a key to its summary, from 0 on.
+/// `DefaultUpdatePolicy::<u64>::default()` adds 64-bit values; tuple_sketches has an example.
 #[derive(Debug, Clone, Copy)]
 pub struct DefaultUpdatePolicy<S> {
     of: PhantomData<S>,

@@ -62,7 +62,7 @@ module _ {X : Type 0} (key : X → ℕ) where
         let parts = ap (λ xs. length (below key xs theta)) (two_parts held first at) ∙ ap length (filter-append (λ x. ltb (key x) theta) seen rest) ∙ length-append (below key seen theta) (below key rest theta) in
         omega (arith, parts)
 
-    -- a slot more
+    -- one more slot
     pub gathered-next : (first others : List S) (at count theta more : ℕ) (s d : S) → at < length first → count < length others → s ≡ get_or first at d → more ≡ length (below key (filled (held s ∷ [])) theta)
         → filled (map held (take count others)) ≡ below key (filled (map held (take at first))) theta
         → filled (map held (take (count + more) (set others count s))) ≡ below key (filled (map held (take (at + 1) first))) theta

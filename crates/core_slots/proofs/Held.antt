@@ -99,7 +99,7 @@ module _ {S X : Type 0} (held : S → Option X) where
   freed-suc (t ∷ slots) (suc i) s lt none before =
       (elim (held t) as (λ o. filled (o ∷ map held (take i slots)) ≡ [] → filled (o ∷ map held (take (suc i) (set slots i s))) ≡ []) [ None ↦ λ b. freed-suc slots i s (omega (arith, lt)) none b | Some x ↦ λ b. absurd (cc) ]) before
 
-  -- a slot more is free
+  -- one more slot is free
   pub freed : (slots : List S) (i : ℕ) (s : S) → i < length slots → held s ≡ None → filled (map held (take i slots)) ≡ [] → filled (map held (take (i + 1) (set slots i s))) ≡ []
   freed slots i s lt none before =
       let next : suc i ≡ i + 1 = omega arith in

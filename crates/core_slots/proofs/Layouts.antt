@@ -88,7 +88,7 @@ module _ {X : Type 0} (key : X → ℕ) (lg : ℕ) where
   not_there : (slots : List (Option X)) (h p q : ℕ) → is_other key h (slot slots p) ≡ false → is_other key h (slot slots q) ≡ true → q ≢ p
   not_there slots h p q here there = λ same. absurd (let e = ap (λ (n : ℕ). is_other key h (slot slots n)) same in cc)
 
-  -- for a search for h, two entries with the same key are alike
+  -- a search for h doesn't distinguish entries with the same key
   other_same : (h : ℕ) (x y : X) → key x ≡ key y → is_other key h (Some x) ≡ is_other key h (Some y)
   other_same h x y same = ap (λ (n : ℕ). not (eqb n h)) same
 

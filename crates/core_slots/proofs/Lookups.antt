@@ -21,7 +21,7 @@ pub record IsPacking (screens : ℕ → Bool) (old new : List ℕ) (i count : �
 pub packing_begins : (screens : ℕ → Bool) (old : List ℕ) → IsPacking screens old old 0 0
 packing_begins screens old = record { size = refl; few = omega arith; packed = refl; others = λ q le. refl }
 
--- a hash more is moved
+-- one more hash is moved
 module _ (screens : ℕ → Bool) (old new : List ℕ) (i count h : ℕ) (lt : i < length new) (is : h ≡ get_or new i 0) (was : IsPacking screens old new i count) where
   one_more : filter (λ x. not (screens x)) (take (i + 1) old) ≡ filter (λ x. not (screens x)) (take i old) ++ filter (λ x. not (screens x)) (h ∷ [])
   one_more =

@@ -300,7 +300,7 @@ module _ {X : Type 0} where
   none_waits (m ∷ marks) (u ∷ slots) zero is = rw is refl
   none_waits (m ∷ marks) (u ∷ slots) (suc p) is = none_waits marks slots p is
 
-  -- a slot more is passed that is marked
+  -- one more slot is passed that is marked
   pub passed_marked : (marks : List Bool) (slots : List (Option X)) (at : ℕ) → get_or marks at false ≡ true → IsPassed marks slots at → IsPassed marks slots (at + 1)
   passed_marked marks slots at is passed p lt =
       elim (cases_lt p at) [

@@ -18,7 +18,7 @@ pub record IsWindow (hashes : List ℕ) (low high before k : ℕ) : Type 0 where
   pub from : before ≤ k
   pub to : k < before + length (within low high hashes)
 
--- ---- one hash more
+-- ---- one more hash
 pub rank-append : (xs ys : List ℕ) (h : ℕ) → rank hash_key (xs ++ ys) h ≡ rank hash_key xs h + rank hash_key ys h
 rank-append xs ys h = count-append (λ x. ltb x h) xs ys
 

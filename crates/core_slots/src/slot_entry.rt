@@ -15,7 +15,7 @@ pub trait PathEntry: SketchEntry {
     /// The type of a slot in memory.
     type Slot: Drop;
 
-    /// What a slot holds.
+    /// The entry that a slot holds, if any.
     ghost held: { Self.Slot → Option Self };
 
     /// A free slot.

@@ -58,7 +58,7 @@ fn slot_among(number: usize, size: usize, lg: u8) -> usize
 /// The bits of a hash, above its low lg bits, that choose the stride of its path.
 pub const STRIDE_MASK: u64 = 127;
 
-/// How far the path of a hash goes at each step.
+/// The length of each step on the path of a hash.
 #[inline(always)]
 pub(crate) fn stride_of(hash: u64, lg: u8) -> usize
     requires { lg < 64 }

@@ -29,7 +29,7 @@ pub counted_nothing : (lg nom : ℕ) → IsCounted lg nom 0 nothing_done
 counted_nothing lg nom = record { fresh = omega arith; rare = omega arith; few_placed = λ _. inl (refl, (omega arith, (omega arith, omega arith))) }
 
 module _ (lg nom count : ℕ) (done : Counts) (is : IsCounted lg nom count done) where
-  -- an entry more
+  -- one more entry
   pub counted_more : IsCounted lg nom (count + 1) (record done { inserted = done.inserted + 1; fresh = done.fresh + 1 })
   counted_more = record {
     fresh = omega (arith, is.fresh);
@@ -40,7 +40,7 @@ module _ (lg nom count : ℕ) (done : Counts) (is : IsCounted lg nom count done)
     ];
   }
 
-  -- an entry more, over more slots
+  -- one more entry, over more slots
   pub counted_grown : (new_lg : ℕ) → lg ≤ nom → 5 ≤ lg → lg + 1 ≤ new_lg → count ≤ 2 ^ lg / 2 → 2 ^ lg / 2 < count + 1 →
       IsCounted new_lg nom (count + 1) (record done { inserted = done.inserted + 1; fresh = done.fresh + 1; placed = done.placed + (count + 1) })
   counted_grown new_lg growing low wider few full =
@@ -56,7 +56,7 @@ module _ (lg nom count : ℕ) (done : Counts) (is : IsCounted lg nom count done)
         ];
       }
 
-  -- an entry more, and a rebuild
+  -- one more entry, and a rebuild
   pub counted_rebuilt : 3 ≤ nom → lg ≡ nom + 1 → 15 * 2 ^ nom / 8 < count + 1 →
       IsCounted lg nom (2 ^ nom) (record done { inserted = done.inserted + 1; fresh = 0; placed = done.placed + 2 ^ nom; rebuilds = done.rebuilds + 1 })
   counted_rebuilt large at full =

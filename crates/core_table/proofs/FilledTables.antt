@@ -50,7 +50,7 @@ module _ {X : Type 0} (key : X → ℕ) where
     new_key : entry_at key now.entries (key x) ≡ None
     new_key = so_far.absent (key x) x (entry_at_head key x left (key x) refl)
 
-    -- an entry is put in, and nothing is rebuilt
+    -- an entry is inserted, and nothing is rebuilt
     pub put_is : (k : ℕ) → n ≤ 15 * k / 8 → after_upsert key k (key x) (put_step x) now ≡ record { entries = with_entry key now.entries x; theta = now.theta }
     put_is k free =
         (absent_case key k (key x) (put_step x) now (is_screened_false (key x) now.theta (λ zero. omega (arith, zero, so_far.nonzero.0)) (omega (arith, so_far.below_theta.0, so_far.same_theta))) new_key).after_is

@@ -97,7 +97,7 @@ module _ {X : Type 0} (key : X → ℕ) (theta : ℕ) where
   none_below_slot None b is none = tt
   none_below_slot (Some x) b is none = let far : ltb (key x) theta ≡ false = sym is ∙ none in (grind (arith, nat_tests), tt)
 
-  -- a slot more
+  -- one more slot
   pub none_below-next : (any b : Bool) (xs : List X) (held : Option X) → (any ≡ false → NoneBelow xs) → MatchOption held (b ≡ false) (λ x. b ≡ ltb (key x) theta) → (any || b) ≡ false → NoneBelow (xs ++ filled (held ∷ []))
   none_below-next true b xs held so_far is none = absurd (cc)
   none_below-next false b xs held so_far is none = none_below_more xs (filled (held ∷ [])) (so_far refl) (none_below_slot held b is none)

@@ -16,8 +16,8 @@ use core_slots::{SlotEntry, hash_of_rank};
 use sketch_base::Error;
 use std::alloc::{AllocError, Allocator};
 
-/// Clones of the entries below a theta, in the order of the slots, with room for `room` of them from the start. No branch depends
-/// on what a slot holds.
+/// Clones of the entries below a theta, in the order of the slots, with room for `room` of them from the start. No
+/// branch depends on the contents of a slot.
 pub(crate) fn entries_below<'a, E: SlotEntry + Clone + 'a, A: Allocator>(
     alloc: A,
     slots: &'a [E::Slot],

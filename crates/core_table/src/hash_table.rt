@@ -79,7 +79,8 @@ impl<E: SlotEntry, A: Allocator> Model for SketchHashTable<E, A> {
 }
 
 impl<E: SlotEntry, A: Allocator> SketchHashTable<E, A> {
-    /// An empty table of 2^`lg_nom_size` nominal entries, with `lg_nom_size` from 4 to 26, and a starting theta from 1 to `MAX_THETA`.
+    /// An empty table of 2^`lg_nom_size` nominal entries, with `lg_nom_size` from 4 to 26, and a starting theta from 1
+    /// to `MAX_THETA`.
     ///
     /// Refused with `InvalidArgument` outside these ranges and for a seed whose seed hash is 0; with `OutOfMemory` if
     /// memory runs out. The resize factor, by which the slots grow, has no effect on what the table returns.

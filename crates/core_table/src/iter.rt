@@ -18,7 +18,7 @@ pub(crate) struct Marked<'a, E: SlotEntry> {
     pub(crate) slots: &'a [E::Slot],
     /// How many slots the marks cover, at most 64.
     pub(crate) ahead: usize,
-    /// Bit k is 1 where the k-th slot holds such an entry.
+    /// Bit k is 1 if the k-th slot holds such an entry.
     pub(crate) marks: u64,
 }
 

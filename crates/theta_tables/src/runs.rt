@@ -1,4 +1,4 @@
-//! Runs of commands, over the table in slots and the plain table alike.
+//! Runs of commands, over both the table in slots and the plain table.
 
 use crate::{PlainTable, TableCommand, TableReply, ThetaTable, run_table};
 use core_laws::MAX_THETA;

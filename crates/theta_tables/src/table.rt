@@ -13,7 +13,8 @@ use core_table::SketchHashTable;
 use sketch_base::Error;
 use std::alloc::Allocator;
 
-/// A table of the entries that a sketch retains below its theta. Contracts see it as a map, ascending by hash, and the theta.
+/// A table of the entries that a sketch retains below its theta. Contracts see it as a map, ascending by hash, and the
+/// theta.
 ///
 /// With k the nominal entries, 2 to the power of its nominal logarithm and at least 8, an insertion that brings the
 /// retained entries above 15k/8 lowers theta to the (k+1)th smallest hash, and exactly the k entries below it stay.

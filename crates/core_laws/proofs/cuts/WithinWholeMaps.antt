@@ -92,7 +92,7 @@ module _ {X : Type 0} (key : X → ℕ) where
         | false ↦ λ e h. elim (p x) as (λ b. IsSome (entry_at key (cond b (x ∷ filter p xs) (filter p xs)) t)) [ true ↦ rw e (has-filter p xs t passes h) | false ↦ has-filter p xs t passes h ]
       ]) refl has
 
-  -- an entry more has its key, and keeps the others
+  -- one more entry has its key, and keeps the others
   has-with_entry_same : (xs : List X) (x : X) → IsSome (entry_at key (with_entry key xs x) (key x))
   has-with_entry_same xs x = has-append_right (below key xs (key x)) (x ∷ above key xs (key x)) (key x) (let e : eqb (key x) (key x) ≡ true = grind (arith, nat_tests) in rw e refl)
 

@@ -33,7 +33,7 @@ pub is_screened_false : (h theta : ℕ) → h ≢ 0 → h < theta → is_screene
 is_screened_false h theta a b = grind (arith, nat_tests)
 
 module _ {X : Type 0} (key : X → ℕ) where
-  -- a map with an entry more, below theta
+  -- a map with one more entry, below theta
   pub IsRetained-with_entry : (xs : List X) (theta : ℕ) (x : X) → IsRetained key (record { entries = xs; theta = theta }) → 0 < key x → key x < theta → IsRetained key (record { entries = with_entry key xs x; theta = theta })
   IsRetained-with_entry xs theta x v low high = record {
     ascending = ascending-with_entry key xs x v.ascending;
@@ -53,7 +53,7 @@ module _ {X : Type 0} (key : X → ℕ) where
     theta_high = omega (arith, v.theta_high);
   }
 
-  -- the theta of a cut is one of the keys, or as it was
+  -- the theta of a cut is one of the keys, or unchanged
   pub cut_theta : (k : ℕ) (xs : List X) (theta : ℕ) → IsRetained key (record { entries = xs; theta = theta }) → record { low : 0 < (cut key k xs theta).theta; high : (cut key k xs theta).theta ≤ theta }
   cut_theta k [] theta v = rw (cut_few key k [] theta v.ascending (omega arith)) (record { low = v.theta_low; high = omega arith })
   cut_theta k (x ∷ xs) theta v =

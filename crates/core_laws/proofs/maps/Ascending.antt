@@ -77,7 +77,7 @@ module _ {X : Type 0} (key : X → ℕ) where
       let later : AllByRecursion (λ y. key x < key y) ys = each-weaker _ _ (λ y le. omega (arith, lo.0, le)) ys hi in
       ascending-cons x _ (each-append _ xs ys (ascending-head x xs upx) later) (ascending-append h xs ys (ascending-tail x xs upx) upy lo.1 hi)
 
-  -- the map with an entry more, or another at its key, ascends
+  -- the map with one more entry, or another at its key, ascends
   pub ascending-with_entry : (xs : List X) (x : X) → IsAscending key xs → IsAscending key (with_entry key xs x)
   ascending-with_entry xs x up =
       let higher : AllByRecursion (λ y. key x < key y) (above key xs (key x)) = each-passes _ _ (λ y e. ltb-true _ _ e) xs in

@@ -71,7 +71,7 @@ module _ {X : Type 0} (key : X → ℕ) where
   pub past : (x : X) (xs : List X) (q : ℕ) → IsAscending key (x ∷ xs) → q < key x → entry_at key (x ∷ xs) q ≡ None
   past x xs q up lt = entry_at_past (x ∷ xs) q (lt, each-weaker _ _ (λ y less. omega (arith, lt, less)) xs (ascending-head key x xs up))
 
-  -- two ascending lists that have the same at each key are one
+  -- two ascending lists that have the same entry at each key are equal
   pub same_map : (xs ys : List X) → IsAscending key xs → IsAscending key ys → ((q : ℕ) → entry_at key xs q ≡ entry_at key ys q) → xs ≡ ys
   same_map [] [] upx upy same = refl
   same_map [] (y ∷ ys) upx upy same = absurd (let a = same (key y) in let b = entry_at_head y ys (key y) refl in cc)

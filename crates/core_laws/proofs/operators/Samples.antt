@@ -110,7 +110,7 @@ module _ {X : Type 0} (key : X → ℕ) (merges : X → X → X) (keeps : KeepsK
   lawful_seen k start (NonEmpty v ∷ values) (ys ∷ wholes) whole t samples laws up seen =
       lawful_seen k start values wholes (joined key merges whole ys) (min t v.theta) samples.1 laws.1 (ascending-joined key merges keeps ys whole up) (lawful_step k start t v.theta whole ys up samples.0.ascending seen laws.0)
 
-  -- until the first value that is not empty nothing has joined
+  -- nothing is merged before the first value that is not empty
   lawful_first : (k start : ℕ) (values : List (Sketch X)) (wholes : List (List X)) (t : ℕ) → AreSamples key values wholes → AreLawful key k start values wholes → start ≤ t → nonempties values ≢ [] → IsLawful key (joined_all key merges [] wholes) k start (least t (map (λ u. u.theta) (nonempties values)))
   lawful_first k start [] [] t samples laws le some = absurd (some refl)
   lawful_first k start [] (ys ∷ wholes) t samples laws le some = absurd samples

@@ -36,7 +36,7 @@ module _ {X : Type 0} (key : X → ℕ) (merges : X → X → X) (refuses : X �
   pub union-lowers : (k m : ℕ) (v : Retained X) (whole : List (Fold X)) → IsWithin (fold_key key) k m (unmarked v) whole → v.theta ≤ m
   union-lowers k m v whole within = lawful-le (fold_key key) whole k m v.theta within.lawful
 
-  -- if the union keeps the entries of a table below theta, and an input below a bound that is no greater is merged into the table
+  -- if the union keeps the entries of a table below theta, and an input below m ≤ theta is merged into the table
   pub union-below : (k m theta : ℕ) (kept now : Retained X) (listing : List X) → IsRetained key kept → m ≤ theta → theta ≤ kept.theta → AllByRecursion (λ x. 0 < key x) listing →
       unmarked now ≡ after_upserts (fold_key key) k (merge_step (fold_merges key merges refuses) never) (map Value (below key listing m)) (unmarked kept) →
       IsWithin (fold_key key) k m (unmarked (retained key now.entries (min m now.theta))) (joined (fold_key key) (fold_merges key merges refuses) (map Value (below key (below key kept.entries theta) m)) (map Value (below key listing m)))

@@ -105,6 +105,6 @@ module _ {X : Type 0} (key : X → ℕ) (merges : X → X → X) (keeps : KeepsK
   cut_of_united less k start (v ∷ vs) le =
       ap NonEmpty (cut_of_cut key less k (joined_all key merges [] (map (λ u. u.entries) (v ∷ vs))) (least start (map (λ u. u.theta) (v ∷ vs))) le (ascending-joined_all (map (λ u. u.entries) (v ∷ vs)) [] (ascending-nil key)))
 
-  -- a union cut to fewer is the union of those to begin with
+  -- a union cut to fewer nominal entries is the union at that number from the start
   pub cut_of_union : (less k start : ℕ) (values : List (Sketch X)) → less ≤ k → cut_value key less (unite key merges k start values) ≡ unite key merges less start values
   cut_of_union less k start values le = cut_of_united less k start (nonempties values) le

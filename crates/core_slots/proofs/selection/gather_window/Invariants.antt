@@ -16,6 +16,6 @@ invariant-gather_blocks g l =
       counted : l.less + rank hash_key behind l.low ≡ rank hash_key all l.low;
     }
 
--- the slots that are left
+-- the remaining slots
 abbrev pub decreases-gather_blocks : goal.decreases-gather_blocks
 decreases-gather_blocks g l = length l.left

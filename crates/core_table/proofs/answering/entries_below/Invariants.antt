@@ -12,6 +12,6 @@ invariant-clone_each g l =
       told : l.clones.items ++ filled (map low l.left.slots.now) ≡ filled (map low l.slots);
     }
 
--- the entries below theta that are left
+-- the remaining entries below theta
 abbrev pub decreases-clone_each : goal.decreases-clone_each
 decreases-clone_each g l = length (filled (map (under g.E.SketchEntry.key (Some l.theta) g.E.PathEntry.held) l.left.slots.now))

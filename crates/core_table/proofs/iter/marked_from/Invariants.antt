@@ -7,6 +7,6 @@ use Rattle.core_table.proofs.iter.marked_from.Given as goal
 abbrev pub invariant-pass_blocks : goal.invariant-pass_blocks
 invariant-pass_blocks g l = filled (map (under g.E.SketchEntry.key l.bound g.E.PathEntry.held) l.left) ≡ filled (map (under g.E.SketchEntry.key l.bound g.E.PathEntry.held) l.slots)
 
--- the slots that are left
+-- the remaining slots
 abbrev pub decreases-pass_blocks : goal.decreases-pass_blocks
 decreases-pass_blocks g l = length l.left

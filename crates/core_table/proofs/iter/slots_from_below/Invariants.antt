@@ -10,7 +10,7 @@ invariant-pass_each g l =
     let held = g.E.PathEntry.held in
     from_below key l.theta (filled (map held l.left)) ≡ from_below key l.theta (filled (map held l.slots))
 
--- the slots that are left
+-- the remaining slots
 abbrev pub decreases-pass_each : goal.decreases-pass_each
 decreases-pass_each g l = length l.left
 
@@ -21,6 +21,6 @@ invariant-pass_blocks g l =
     let held = g.E.PathEntry.held in
     from_below key l.theta (filled (map held l.left)) ≡ from_below key l.theta (filled (map held l.slots))
 
--- the slots that are left
+-- the remaining slots
 abbrev pub decreases-pass_blocks : goal.decreases-pass_blocks
 decreases-pass_blocks g l = length l.left
