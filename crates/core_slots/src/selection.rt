@@ -264,9 +264,9 @@ fn nth_hash<A: Allocator + Drop>(hashes: &mut Vec<u64, A>, rank: usize) -> u64
 /// The hash with exactly `rank` smaller ones among those in the slots and `also`, if there is one. There are `count` of
 /// them, all distinct.
 ///
-/// If they are spread evenly below `theta`, of 64 bits, it requests memory for few of them, and otherwise for up to one
-/// more than there are slots; the result is the same. It fails only if that memory runs out. It frees the memory before
-/// it returns.
+/// If they are spread evenly below `theta`, which may be any 64 bits, it requests memory for few of them, and otherwise
+/// for up to one more than there are slots; the result is the same. It fails only if that memory runs out. It frees the
+/// memory before it returns.
 pub fn hash_of_rank<E: SlotEntry, A: Allocator + Drop>(
     alloc: A,
     also: Option<u64>,
