@@ -13,7 +13,7 @@ pub trait UpsertStep<X> {
     /// What it writes and makes, when it refuses, and whether it may take memory.
     ghost means: { Self → Step X };
 
-    /// Writes the existing entry. A refusal leaves it unchanged.
+    /// Writes the existing entry. A refusal leaves the entry unchanged.
     fn existing(self, entry: &mut X) -> Result<(), Error>
         ensures written { MatchResult result (λ _. entry.new ≡ (means self).writes entry.old) (λ _. entry.new ≡ entry.old) }
         ensures refused { Refuses result ((means self).refuses_existing entry.old) (means self).allocates };

@@ -169,8 +169,8 @@ impl<E: SlotEntry, A: Allocator> SketchHashTable<E, A> {
         })
     }
 
-    /// The binary logarithm of the number of slots that are rebuilt only beyond `count` entries: `count` is at most
-    /// fifteen sixteenths of them. From 1, for no entry or one, to 65.
+    /// The binary logarithm of a number of slots of which `count` entries are at most fifteen sixteenths, so that they
+    /// are rebuilt only beyond `count` entries. From 1, for no entry or one, to 65.
     pub fn lg_size_from_count_for_rebuild(count: usize) -> u8
         ensures { result ≡ lg_size_for count }
     {
