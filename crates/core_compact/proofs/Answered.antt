@@ -1,11 +1,11 @@
--- What an answer tells of the value that it has.
+-- The value of a result, and its order.
 use Rattle.std.proofs.Common.{◌≡◌, ℕ, Bool, true, cond, ap, ◌∙◌}
 use Rattle.core_laws.specs.Maps.{map_of}
 use Rattle.core_compact.specs.CompactState.{Compact, IsAnswer, compact_value}
 use Rattle.core_laws.specs.Values.{Sketch, Empty, NonEmpty}
 
 module _ {X : Type 0} (key : X → ℕ) where
-  -- the value of an answer is the one that it answers, and its seed hash is the one that was given
+  -- the value of a result is the one that it was made for, and its seed hash is the given one
   pub answer-value : (v : Sketch X) (seed_hash : ℕ) (asked : Bool) (s : Compact X) → IsAnswer key v seed_hash asked s → compact_value key s ≡ v
   answer-value Empty seed_hash asked s is = ap (compact_value key) is
   answer-value (NonEmpty v) seed_hash asked s is =
@@ -17,7 +17,7 @@ module _ {X : Type 0} (key : X → ℕ) where
   answer-seed Empty seed_hash asked s is = ap (λ c. c.seed_hash) is
   answer-seed (NonEmpty v) seed_hash asked s is = is.same_seed
 
-  -- an answer that was asked to be ordered is ordered
+  -- a result that was requested to be ordered is ordered
   pub answer-ordered : (v : Sketch X) (seed_hash : ℕ) (s : Compact X) → IsAnswer key v seed_hash true s → s.ordered ≡ true
   answer-ordered Empty seed_hash s is = ap (λ c. c.ordered) is
   answer-ordered (NonEmpty v) seed_hash s is = is.ordered_if

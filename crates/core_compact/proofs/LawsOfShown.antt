@@ -1,4 +1,4 @@
--- What is shown of what is retained keeps the laws of what is shown.
+-- A retained map that is shown obeys the laws of what a sketch shows.
 use Rattle.std.proofs.Common.{◌≡◌, ℕ, ◌<◌, ◌≤◌, ◌^◌, Bool, true, false, List, [], length, map, refl, arith}
 use Rattle.std.proofs.lemmas.List.{length-map}
 use Rattle.core_laws.specs.Maps.{IsAscending, IsLent}
@@ -24,7 +24,7 @@ module _ {X : Type 0} (key : X → ℕ) where
         greatest = λ e. absurd (cc);
       }
 
--- nothing shown, below a theta that is the greatest where it is of an empty sketch
+-- no entries shown, below a theta that is the greatest if the sketch is empty
 pub IsShown-none : (theta seed_hash : ℕ) → (empty ordered : Bool) → 0 < theta → theta ≤ 9223372036854775807 → (empty ≡ true → theta ≡ 9223372036854775807) → IsShown (record { empty = empty; theta = theta; seed_hash = seed_hash; ordered = ordered; hashes = [] })
 IsShown-none theta seed_hash empty ordered low high greatest = record {
   theta_low = low;
@@ -39,7 +39,7 @@ IsShown-none theta seed_hash empty ordered low high greatest = record {
 }
 
 module _ {X : Type 0} (key : X → ℕ) where
-  -- what a sketch shows that lends what is retained, in whatever order
+  -- a sketch that lists its retained entries, in whatever order
   pub shown-lent : (v : Retained X) (lends : List X) (seed_hash : ℕ) → IsRetained key v → IsLent key v.entries lends → length v.entries < 2 ^ 32 → IsShown (record { empty = false; theta = v.theta; seed_hash = seed_hash; ordered = false; hashes = map key lends })
   shown-lent v lends seed_hash good lent few = record {
     theta_low = good.theta_low;

@@ -6,7 +6,7 @@ use Rattle.core_laws.specs.Maps.{map_of, IsLent}
 use Rattle.core_laws.specs.Values.{Sketch, Empty, NonEmpty}
 use Rattle.core_laws.specs.Shown.{Shown, IsShown}
 
--- what a compact state holds: its entries in their order, and whether they are known to ascend
+-- the contents of a compact state: its entries in their order, and whether they are known to ascend
 pub record Compact (X : Type 0) : Type 0 where
   pub empty : Bool
   pub entries : List X
@@ -22,16 +22,16 @@ empty_compact seed_hash = record { empty = true; entries = []; theta = MAX_THETA
 abbrev pub shown_of : {X : Type 0} → (X → ℕ) → Compact X → Shown
 shown_of key s = record { empty = s.empty; theta = s.theta; seed_hash = s.seed_hash; ordered = s.ordered; hashes = map key s.entries }
 
--- what holds of every compact state: the laws of what it shows, and an empty one is ordered
+-- the laws of every compact state: those of what it shows, and an empty one is ordered
 pub record IsCompact {X : Type 0} (key : X → ℕ) (s : Compact X) : Type 0 where
   pub shown : IsShown (shown_of key s)
   pub empty_ordered : s.empty ≡ true → s.ordered ≡ true
 
--- an answer is ordered if that was asked, or if it has one entry at the greatest theta
+-- a result is ordered if `asked`, or if it has one entry and the greatest theta
 abbrev pub is_answer_ordered : (asked : Bool) → (count theta : ℕ) → Bool
 is_answer_ordered asked count theta = asked || (count == 1 && theta == MAX_THETA)
 
--- s lists what is retained, each entry once, and ascending where it is ordered
+-- s lists the retained entries, each once, and ascending if it is ordered
 pub record IsCompactOf {X : Type 0} (key : X → ℕ) (v : Retained X) (seed_hash : ℕ) (asked : Bool) (s : Compact X) : Type 0 where
   pub nonempty : s.empty ≡ false
   pub same_theta : s.theta ≡ v.theta
@@ -40,7 +40,7 @@ pub record IsCompactOf {X : Type 0} (key : X → ℕ) (v : Retained X) (seed_has
   pub lists_all : IsLent key v.entries s.entries
   pub in_order : s.ordered ≡ true → s.entries ≡ v.entries
 
--- s is the answer that has this value
+-- s is the result that has this value
 abbrev pub IsAnswer : {X : Type 0} → (X → ℕ) → Sketch X → (seed_hash : ℕ) → (asked : Bool) → Compact X → Type 0
 IsAnswer key Empty seed_hash asked s = s ≡ empty_compact seed_hash
 IsAnswer key (NonEmpty v) seed_hash asked s = IsCompactOf key v seed_hash asked s

@@ -1,14 +1,14 @@
--- What a closure makes of entries, called at each in turn.
+-- The results of a closure that is called once for each entry in turn.
 use Rattle.std.proofs.Common.{◌≡◌, List, [], ◌∷◌, ◌++◌, map, refl}
 
--- a closure, called at each of xs in turn, made ys of them, and came from its first state to its last
+-- a closure, called at each of xs in turn, returned ys, and went from its first state to its last
 abbrev pub MakesInTurn : {G X Y : Type 0} → (step : G → X → Y → G → Type 0) → (first : G) → List X → List Y → (last : G) → Type 0
 MakesInTurn step first [] [] last = last ≡ first
 MakesInTurn {G} step first (x ∷ xs) (y ∷ ys) last = (next : G) × step first x y next × MakesInTurn step next xs ys last
 MakesInTurn step first [] (y ∷ ys) last = ⊥
 MakesInTurn step first (x ∷ xs) [] last = ⊥
 
--- a closure, called at each of xs in turn, may be in this state when it comes to x
+-- a closure, called at each of xs in turn, may be in this state before its call at x
 pub record ComesTo {G X Y : Type 0} (step : G → X → Y → G → Type 0) (first : G) (xs : List X) (state : G) (x : X) : Type 0 where
   pub before : List X
   pub after : List X
@@ -16,7 +16,7 @@ pub record ComesTo {G X Y : Type 0} (step : G → X → Y → G → Type 0) (fir
   pub there : xs ≡ before ++ x ∷ after
   pub called : MakesInTurn step first before made state
 
--- a closure that each call leaves as it was, and that makes of each x what `made` tells, makes of a list its map
+-- a closure that no call changes, and that returns `made x` for each x, returns for a list its map
 pub made_of_each : {G X Y : Type 0} (step : G → X → Y → G → Type 0) (made : X → Y) (f : G) (xs : List X) (ys : List Y) (state last : G)
     → ((x : X) (y : Y) (next : G) → step f x y next → (next ≡ f) × (y ≡ made x)) → state ≡ f → MakesInTurn step state xs ys last → ys ≡ map made xs
 made_of_each step made f [] [] state last one same done = refl

@@ -47,8 +47,8 @@ impl<E: SketchEntry, A: Allocator> CompactSketchState<E, A> {
         }
     }
 
-    /// The state of a sketch that is not empty, though it may have no entries: fewer than 2^32, of distinct hashes from 1 to
-    /// below theta, ascending where it is ordered.
+    /// The state of a sketch that is not empty, though it may have no entries: fewer than 2^32 of them, with distinct
+    /// hashes from 1 to below theta, ascending if it is ordered.
     pub fn non_empty(entries: Vec<E, A>, theta: u64, seed_hash: u16, ordered: bool) -> Self
         requires { IsShown (shown_of E.key (record { empty = false; entries = entries.items; theta = theta; seed_hash = seed_hash; ordered = ordered })) }
         ensures { result ≡ record { empty = false; entries = entries.items; theta = theta; seed_hash = seed_hash; ordered = ordered } }
@@ -62,7 +62,7 @@ impl<E: SketchEntry, A: Allocator> CompactSketchState<E, A> {
         }
     }
 
-    /// Its entries, in their order: ascending by hash where it is ordered.
+    /// Its entries, in their order: ascending by hash if it is ordered.
     pub fn retained_entries(&self) -> &[E]
         ensures all { result.now ≡ self.now.entries }
         ensures sound { IsCompact E.key self.now }
@@ -70,19 +70,19 @@ impl<E: SketchEntry, A: Allocator> CompactSketchState<E, A> {
         &self.entries
     }
 
-    /// The allocator that it keeps its entries in the memory of.
+    /// The allocator of the memory that its entries are in.
     pub fn allocator(&self) -> &A {
         self.entries.allocator()
     }
 
-    /// For how many entries there is room: at least as many as there are.
+    /// How many entries it has room for: at least as many as it has.
     pub fn retained_entries_capacity(&self) -> usize
         ensures { length self.now.entries ≤ result }
     {
         self.entries.capacity()
     }
 
-    /// From 1 to `MAX_THETA`, which it is for an empty state.
+    /// Its theta, from 1 to `MAX_THETA`; an empty state has `MAX_THETA`.
     pub fn theta(&self) -> u64
         ensures { result ≡ self.now.theta }
     {
@@ -119,10 +119,10 @@ impl<E: SketchEntry, A: Allocator> CompactSketchState<E, A> {
 }
 
 impl<E: SketchEntry + Drop, A: Allocator + Clone> CompactSketchState<E, A> {
-    /// The state with what `f` makes of each entry in its place, in memory of a clone of its allocator.
+    /// The state with each entry replaced by the result of `f`, in memory of a clone of its allocator.
     ///
-    /// `f` is called at each entry once, in their order, and may change what it captures. In each state that the calls
-    /// before may have left it in, it may be called, and makes an entry of the same hash.
+    /// `f` is called once for each entry, in their order, and may change what it captures. In every state that earlier
+    /// calls may leave it in, it may be called, and returns an entry of the same hash.
     ///
     /// Refused with `OutOfMemory` alone; then the entries are dropped.
     pub fn map_retained_entries<F: SketchEntry + Drop, G: FnMut(E) -> F + Drop>(
@@ -154,14 +154,15 @@ impl<E: SketchEntry + Drop, A: Allocator + Clone> CompactSketchState<E, A> {
     }
 }
 
-/// Whether an answer of `count` entries below `theta` is ordered: where that is asked, and of one entry at the greatest theta.
+/// Whether a result of `count` entries below `theta` is ordered: if `asked`, or if it has one entry and the greatest
+/// theta.
 pub fn is_answer_ordered(asked: bool, count: usize, theta: u64) -> bool
     ensures { result ≡ is_answer_ordered asked count theta }
 {
     asked || count == 1 && theta == MAX_THETA
 }
 
-/// What a closure makes of each entry, called at each once, in their order.
+/// The results of a closure, called once for each entry, in their order.
 fn images<E: SketchEntry + Drop, F: SketchEntry + Drop, G: FnMut(E) -> F + Drop, A: Allocator>(
     alloc: A,
     entries: Vec<E, A>,
@@ -180,7 +181,7 @@ fn images<E: SketchEntry + Drop, F: SketchEntry + Drop, G: FnMut(E) -> F + Drop,
 }
 
 impl<E: SketchEntry + Clone, A: Allocator + Clone> CompactSketchState<E, A> {
-    /// The same state again, in memory of a clone of its allocator. Refused with `OutOfMemory` alone.
+    /// A copy of the state, in memory of a clone of its allocator. Refused with `OutOfMemory` alone.
     pub fn clone(&self) -> Result<Self, Error>
         requires clones_equal { ClonesEqual E.is_clone }
         ensures ok { IfOk result (λ s. s ≡ self.now) }

@@ -1,7 +1,7 @@
 //! Compact states: the entries of a sketch that no longer changes, with its theta, seed hash and order.
 //!
-//! Contracts see one as a record of these, and every one keeps the laws of what a sketch shows. An entry is a type with a
-//! hash.
+//! Contracts see a compact state as a record of these, and each obeys the laws of what a sketch shows. An entry is a
+//! type with a hash.
 #![tactic(auto)]
 
 mod compact_state;

@@ -1,4 +1,4 @@
--- Merges that don't depend on the order or the grouping of entries of one key, and those of an entry with itself.
+-- Merges that don't depend on the order or the grouping of entries of one key, and merges of an entry with itself.
 use Rattle.std.specs.Prelude.{ℕ, ◌≡◌}
 
 abbrev pub Commutes : {X : Type 0} → (X → ℕ) → (X → X → X) → Type 0

@@ -4,16 +4,16 @@ use Rattle.std.specs.List.{AllByRecursion}
 use Rattle.core_laws.specs.Maps.{IsAscending, below, key_of_rank}
 use Rattle.core_laws.specs.declared.TheConstants.{MAX_THETA}
 
--- a map, and the theta below which all its keys are
+-- a map, and a theta that all its keys are below
 pub record Retained (X : Type 0) : Type 0 where
   pub entries : List X
   pub theta : ℕ
 
--- what is retained of a map below theta
+-- the entries of a map below theta, with theta
 abbrev pub retained : {X : Type 0} → (X → ℕ) → List X → ℕ → Retained X
 retained key xs t = record { entries = below key xs t; theta = t }
 
--- the entries below t. Where these are more than k, the k smallest of them, below the key of the next
+-- the entries below t; if these are more than k, the k smallest of them, below the key of the next
 unfoldable pub cut : {X : Type 0} → (X → ℕ) → ℕ → List X → ℕ → Retained X
 cut key k xs t = retained key xs (key_of_rank key k (below key xs t) t)
 

@@ -1,4 +1,4 @@
--- What is asked of entries, and hashes as entries: a theta sketch retains hashes alone.
+-- Requirements on entries, and hashes as entries: a theta sketch retains hashes alone.
 use Rattle.std.specs.Prelude.{◌≡◌, ℕ, ◌&&◌, Bool, nat_lt}
 use Rattle.core_laws.specs.declared.TheConstants.{MAX_THETA}
 use Rattle.core_laws.specs.Step.{Step, put_step}
@@ -11,11 +11,11 @@ hash_key h = h
 abbrev pub is_carried : ℕ → Bool
 is_carried h = nat_lt 0 h && nat_lt h MAX_THETA
 
--- the step that makes the entry of a hash, and leaves one that is there
+-- the step that makes the entry of a hash, and leaves an existing one unchanged
 abbrev pub hash_step : ℕ → Step ℕ
 hash_step h = put_step h
 
--- of two entries that are one hash, the first stays
+-- of two entries with one hash, the first stays
 abbrev pub first_hash : ℕ → ℕ → ℕ
 first_hash h other = h
 

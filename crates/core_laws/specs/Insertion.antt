@@ -1,4 +1,4 @@
--- Insertions into what is retained, one and many, and into a whole map.
+-- Insertions into a retained map, one and many, and into a whole map.
 use Rattle.std.specs.Prelude.{ℕ, ◌≡◌, ◌⊎◌, true, IsSome, ◌==◌, ◌*◌, ◌/◌, ◌&&◌, ◌||◌, not, List, [], nat_lt, nat_le, Bool, if◌then◌else◌, Option, None, length, is_none, is_some, ◌∷◌, Result}
 use Rattle.std.specs.Option.{option_map_or}
 use Rattle.sketch_base.specs.declared.error.ErrorKind.{ErrorKind}
@@ -7,7 +7,7 @@ use Rattle.core_laws.specs.Step.{Step}
 use Rattle.core_laws.specs.Cuts.{Retained, cut}
 use Rattle.core_laws.specs.Maps.{entry_at, with_entry}
 
--- a hash that a table with this theta passes over
+-- a hash that a table with this theta screens
 abbrev pub is_screened : (h theta : ℕ) → Bool
 is_screened h theta = h == 0 || nat_le theta h
 
@@ -15,7 +15,7 @@ is_screened h theta = h == 0 || nat_le theta h
 unfoldable pub rebuilt : {X : Type 0} → (X → ℕ) → ℕ → List X → ℕ → Retained X
 rebuilt key k xs theta = if nat_le 8 k && nat_lt (15 * k / 8) (length xs) then cut key k xs theta else record { entries = xs; theta = theta }
 
--- h is inserted where no entry has it: what the step makes joins
+-- h is inserted and no entry has it: the entry that the step makes is inserted
 abbrev pub after_absent : {X : Type 0} → (X → ℕ) → ℕ → Step X → Retained X → Retained X
 after_absent key k step v = option_map_or (λ x. rebuilt key k (with_entry key v.entries x) v.theta) step.makes v
 
@@ -29,11 +29,11 @@ after_upsert key k h step v =
 unfoldable pub creates : {X : Type 0} → (X → ℕ) → ℕ → Step X → Retained X → Bool
 creates key h step v = not (is_screened h v.theta) && is_none (entry_at key v.entries h) && is_some step.makes
 
--- what an insertion of h is refused with: nothing if it is screened, and else what the step refuses
+-- the refusal of an insertion of h: none if it is screened, otherwise that of the step
 unfoldable pub upsert_refusal : {X : Type 0} → (X → ℕ) → ℕ → Step X → Retained X → Option ErrorKind
 upsert_refusal key h step v = if is_screened h v.theta then None else option_map_or step.refuses_existing (entry_at key v.entries h) step.refuses_absent
 
--- whether an insertion of h may take memory: of a key that is made, or where the step does
+-- whether an insertion of h may take memory: if it makes an entry, or if the step may
 unfoldable pub upsert_allocates : {X : Type 0} → (X → ℕ) → ℕ → Step X → Retained X → Bool
 upsert_allocates key h step v = not (is_screened h v.theta) && (step.allocates || (is_none (entry_at key v.entries h) && is_some step.makes))
 
@@ -49,20 +49,20 @@ RefusesUpsert r key h step v = Refuses r (upsert_refusal key h step v) (upsert_a
 abbrev pub RefusesAsStep : {T X : Type 0} → Result T ErrorKind → (key : X → ℕ) → ℕ → Step X → Retained X → Type 0
 RefusesAsStep r key h step v = Refuses r (upsert_refusal key h step v) (step_allocates h step v)
 
--- what is retained after entries were inserted in turn
+-- the retained map after entries were inserted in turn
 abbrev pub after_upserts : {X : Type 0} → (X → ℕ) → ℕ → (X → Step X) → List X → Retained X → Retained X
 after_upserts key k step_of [] v = v
 after_upserts key k step_of (x ∷ xs) v = after_upserts key k step_of xs (after_upsert key k (key x) (step_of x) v)
 
--- an insertion of h that leaves an entry that is there would change nothing: h is screened, or it is retained
+-- an insertion of h that leaves an existing entry unchanged would change nothing: h is screened, or it is retained
 abbrev pub IsRedundant : {X : Type 0} → (X → ℕ) → Retained X → ℕ → Type 0
 IsRedundant key v h = (is_screened h v.theta ≡ true) ⊎ IsSome (entry_at key v.entries h)
 
--- ys are the xs in their order, without some of which P holds
+-- ys are the xs in their order, without some of those that P holds of
 abbrev pub LeavesOut : {X : Type 0} → (X → Type 0) → (xs ys : List X) → Type 0
 LeavesOut {X} P [] ys = ys ≡ []
 LeavesOut {X} P (x ∷ xs) ys = (P x × LeavesOut P xs ys) ⊎ ((zs : List X) × (ys ≡ x ∷ zs) × LeavesOut P xs zs)
 
--- a step at h on a whole map, which knows no theta
+-- a step at h on a whole map, which has no theta
 abbrev pub whole_upsert : {X : Type 0} → (X → ℕ) → ℕ → Step X → List X → List X
 whole_upsert key h step whole = option_map_or (λ x. with_entry key whole (step.writes x)) (entry_at key whole h) (option_map_or (λ x. with_entry key whole x) step.makes whole)

@@ -8,13 +8,13 @@ use Rattle.core_laws.specs.Step.{Step}
 use Rattle.core_laws.specs.declared.leaf.LeafStep.{LeafStep}
 use Rattle.core_laws.specs.declared.leaf.LeafStep.TheVariants.{Add, Trim, Reset}
 
--- what is retained after a step, where a value is added at a hash by the step that it stands for
+-- the retained map after a step; a value is added at a hash by its step
 abbrev pub leaf_step : {X V : Type 0} → (X → ℕ) → (ℕ → V → Step X) → (k start : ℕ) → LeafStep V → Retained X → Retained X
 leaf_step key step_of k start (Add h x) v = after_upsert key k h (step_of h x) v
 leaf_step key step_of k start Trim v = cut key k v.entries v.theta
 leaf_step key step_of k start Reset v = none_below start
 
--- what is retained after steps
+-- the retained map after steps
 abbrev pub leaf_from : {X V : Type 0} → (X → ℕ) → (ℕ → V → Step X) → (k start : ℕ) → List (LeafStep V) → Retained X → Retained X
 leaf_from key step_of k start [] v = v
 leaf_from key step_of k start (step ∷ steps) v = leaf_from key step_of k start steps (leaf_step key step_of k start step v)
@@ -34,7 +34,7 @@ is_updated (step ∷ steps) updated = is_updated steps (updated_step step update
 abbrev pub leaf : {X V : Type 0} → (X → ℕ) → (ℕ → V → Step X) → (k start : ℕ) → List (LeafStep V) → Sketch X
 leaf key step_of k start steps = if is_updated steps false then NonEmpty (leaf_from key step_of k start steps (none_below start)) else Empty
 
--- a step on the whole map, which knows no theta: a carried hash is added
+-- a step on the whole map, which has no theta: a carried hash is added
 abbrev pub whole_step : {X V : Type 0} → (X → ℕ) → (ℕ → V → Step X) → LeafStep V → List X → List X
 whole_step key step_of (Add h x) whole = if is_carried h then whole_upsert key h (step_of h x) whole else whole
 whole_step key step_of Trim whole = whole
@@ -49,7 +49,7 @@ whole_from key step_of (step ∷ steps) whole = whole_from key step_of steps (wh
 abbrev pub whole : {X V : Type 0} → (X → ℕ) → (ℕ → V → Step X) → List (LeafStep V) → List X
 whole key step_of steps = whole_from key step_of steps []
 
--- the step of a leaf of hashes, whatever value comes with one
+-- the step of a leaf of hashes, whatever value is added with one
 abbrev pub hash_step_of : {V : Type 0} → ℕ → V → Step ℕ
 hash_step_of h x = hash_step h
 
@@ -57,11 +57,11 @@ hash_step_of h x = hash_step h
 abbrev pub added : {V : Type 0} → List (LeafStep V) → List ℕ
 added steps = whole hash_key hash_step_of steps
 
--- the k least of a set of hashes below the start, and the theta above them
+-- the k smallest of a set of hashes below the start, and the theta above them
 abbrev pub kmin : (k : ℕ) → List ℕ → (start : ℕ) → Retained ℕ
 kmin k hashes start = cut hash_key k hashes start
 
--- a step of insertions makes and writes entries of the hash that is inserted
+-- a step of insertions makes and writes entries of the inserted hash
 pub record KeepsHashes {X V : Type 0} (key : X → ℕ) (step_of : ℕ → V → Step X) : Type 0 where
   pub writes : (h : ℕ) (x : V) (e : X) → key e ≡ h → key ((step_of h x).writes e) ≡ h
   pub makes : (h : ℕ) (x : V) (e : X) → (step_of h x).makes ≡ Some e → key e ≡ h

@@ -29,7 +29,7 @@ IsApart key (x ∷ xs) = (entry_at key xs (key x) ≡ None) × IsApart key xs
 abbrev pub with_entry : {X : Type 0} → (X → ℕ) → List X → X → List X
 with_entry key xs x = below key xs (key x) ++ x ∷ above key xs (key x)
 
--- the map that entries in any order make
+-- the map of entries in any order
 abbrev pub map_of : {X : Type 0} → (X → ℕ) → List X → List X
 map_of key [] = []
 map_of key (x ∷ xs) = with_entry key (map_of key xs) x
@@ -38,7 +38,7 @@ map_of key (x ∷ xs) = with_entry key (map_of key xs) x
 abbrev pub rank : {X : Type 0} → (X → ℕ) → List X → ℕ → ℕ
 rank key xs h = count_by (λ x. nat_lt (key x) h) xs
 
--- the key that has just k smaller ones, or t where there is none
+-- the key with exactly k smaller ones, or t if there is none
 abbrev pub key_of_rank : {X : Type 0} → (X → ℕ) → ℕ → List X → ℕ → ℕ
 key_of_rank key k xs t = option_map_or key (find (λ x. rank key xs (key x) == k) xs) t
 

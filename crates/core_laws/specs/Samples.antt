@@ -1,4 +1,4 @@
--- Sketch values against whole maps, which know no theta.
+-- Sketch values against whole maps, which have no theta.
 use Rattle.std.specs.Prelude.{ℕ, ◌≡◌, ◌<◌, ⊤, List, [], ◌∷◌}
 use Rattle.std.specs.List.{AllByRecursion}
 use Rattle.core_laws.specs.declared.TheConstants.{MAX_THETA}
@@ -7,7 +7,7 @@ use Rattle.core_laws.specs.Lawful.{IsLawful}
 use Rattle.core_laws.specs.Values.{Sketch, Empty, NonEmpty}
 use Rattle.core_laws.specs.Operators.{common}
 
--- the map is all of the whole map below theta; Empty where the whole map has no keys
+-- the map is all of the whole map below theta; for Empty, the whole map has no keys
 abbrev pub IsAllBelow : {X : Type 0} → (X → ℕ) → Sketch X → List X → Type 0
 IsAllBelow key Empty whole = whole ≡ []
 IsAllBelow key (NonEmpty v) whole = v.entries ≡ below key whole v.theta
@@ -18,7 +18,7 @@ pub record IsSample {X : Type 0} (key : X → ℕ) (value : Sketch X) (whole : L
   pub carried : AllByRecursion (λ x. key x < MAX_THETA) whole
   pub all_below : IsAllBelow key value whole
 
--- values sample whole maps, each its own
+-- values sample whole maps, each its own whole map
 abbrev pub AreSamples : {X : Type 0} → (X → ℕ) → List (Sketch X) → List (List X) → Type 0
 AreSamples key [] [] = ⊤
 AreSamples key (value ∷ values) (whole ∷ wholes) = IsSample key value whole × AreSamples key values wholes
@@ -30,14 +30,14 @@ abbrev pub IsLawfulValue : {X : Type 0} → (X → ℕ) → (k start : ℕ) → 
 IsLawfulValue key k start Empty whole = ⊤
 IsLawfulValue key k start (NonEmpty v) whole = IsLawful key whole k start v.theta
 
--- and so are those of values, each against its own whole map
+-- the thetas of values are lawful, each against its own whole map
 abbrev pub AreLawful : {X : Type 0} → (X → ℕ) → (k start : ℕ) → List (Sketch X) → List (List X) → Type 0
 AreLawful key k start [] [] = ⊤
 AreLawful key k start (value ∷ values) (whole ∷ wholes) = IsLawfulValue key k start value whole × AreLawful key k start values wholes
 AreLawful key k start [] (whole ∷ wholes) = ⊥
 AreLawful key k start (value ∷ values) [] = ⊥
 
--- the keys that all whole maps share, combined
+-- the keys that all whole maps share, with their entries combined
 abbrev pub common_all : {X : Type 0} → (X → ℕ) → (X → X → X) → List X → List (List X) → List X
 common_all key merges whole [] = whole
 common_all key merges whole (xs ∷ maps) = common_all key merges (common key merges whole xs) maps

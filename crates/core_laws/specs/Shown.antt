@@ -25,6 +25,6 @@ pub record IsShown (s : Shown) : Type 0 where
   pub none : s.empty ≡ true → s.hashes ≡ []
   pub greatest : s.empty ≡ true → s.theta ≡ MAX_THETA
 
--- the value of a sketch that shows this and lends these entries
+-- the value of a sketch that shows this and lists these entries
 abbrev pub shown_value : {X : Type 0} → (X → ℕ) → Shown → List X → Sketch X
 shown_value key s listing = if s.empty then Empty else NonEmpty (record { entries = map_of key listing; theta = s.theta })

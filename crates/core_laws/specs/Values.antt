@@ -1,4 +1,4 @@
--- The value of a sketch, and what it tells.
+-- The value of a sketch, and what it shows.
 use Rattle.std.specs.Prelude.{ℕ, map, ⊤, ◌*◌, length}
 use Rattle.core_laws.specs.Cuts.{Retained, cut}
 use Rattle.core_laws.specs.Maps.{IsAscending}
@@ -14,7 +14,7 @@ abbrev pub keys : {X : Type 0} → (X → ℕ) → Sketch X → Sketch ℕ
 keys key Empty = Empty
 keys key (NonEmpty v) = NonEmpty (record { entries = map key v.entries; theta = v.theta })
 
--- a value cut to k: Empty stays so
+-- a value cut to k: Empty stays Empty
 abbrev pub cut_value : {X : Type 0} → (X → ℕ) → ℕ → Sketch X → Sketch X
 cut_value key k Empty = Empty
 cut_value key k (NonEmpty v) = NonEmpty (cut key k v.entries v.theta)
@@ -24,7 +24,7 @@ abbrev pub IsAscendingValue : {X : Type 0} → (X → ℕ) → Sketch X → Type
 IsAscendingValue key Empty = ⊤
 IsAscendingValue key (NonEmpty v) = IsAscending key v.entries
 
--- the theta of a value: the greatest where it is Empty
+-- the theta of a value: the greatest if it is Empty
 abbrev pub theta_of : {X : Type 0} → Sketch X → ℕ
 theta_of Empty = MAX_THETA
 theta_of (NonEmpty v) = v.theta

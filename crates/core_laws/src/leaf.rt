@@ -1,9 +1,9 @@
-//! The steps that a sketch takes from when it is new.
+//! The steps of a sketch since it was new.
 
 /// One step of a leaf. `V` is what an update carries beside its hash: nothing for a theta sketch.
 #[derive(Drop)]
 pub enum LeafStep<V> {
-    /// An update with a hash, of which any 64 bits will do: 0, and those from the sketch's theta on, are screened.
+    /// An update with a hash, which may be any 64 bits: 0 and hashes of at least the sketch's theta are screened.
     Add(u64, V),
     /// Cuts the sketch to its nominal number of entries.
     Trim,

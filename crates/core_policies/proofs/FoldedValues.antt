@@ -1,4 +1,4 @@
--- What update steps leave at a hash of a whole map: its values, folded in their order.
+-- Update steps at a hash of a whole map: its values, folded in their order.
 use Rattle.std.proofs.Common.{◌≡◌, ℕ, true, false, cond, eqb, List, [], ◌∷◌, ◌++◌, Option, Some, None, is_some, is_none, refl, sym, ap, subst, ◌∙◌, arith}
 use Rattle.std.specs.Option.{option_map, option_map_or, option_and_then}
 use Rattle.std.proofs.lemmas.Bool.Decides.{nat_tests}
@@ -52,7 +52,7 @@ module _ {S U : Type 0} (creates : Option S) (updates : S → U → Option S) wh
   key_of-fold h (Some s) = refl
   key_of-fold h None = refl
 
-  -- a look-up after an entry of a key was put in: at the key, and at another
+  -- a look-up after an entry of a key was inserted: at the key, and at another
   hit : (w : List (Fold (TupleEntry S))) (f : Fold (TupleEntry S)) (h : ℕ) → fold_key tuple_key f ≡ h → entry_at (fold_key tuple_key) (with_entry (fold_key tuple_key) w f) h ≡ Some f
   hit w f h same =
       let yes : eqb (fold_key tuple_key f) h ≡ true = grind (arith, nat_tests) in

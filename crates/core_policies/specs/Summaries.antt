@@ -1,4 +1,4 @@
--- Updates and merges of tuples: what policies make of the summary beside a hash.
+-- Updates and merges of tuples: how policies change the summary of a hash.
 use Rattle.std.specs.Prelude.{ℕ, ◌≡◌, ◌==◌, refl, Bool, true, if◌then◌else◌, List, [], ◌∷◌, ◌++◌, Option, Some, None, is_none, option_map}
 use Rattle.std.proofs.Common.{◌∙◌}
 use Rattle.std.specs.Option.{option_map_or, option_and_then}
@@ -14,7 +14,8 @@ use Rattle.core_slots.specs.declared.entry.TupleEntry.{TupleEntry}
 abbrev pub first_summary : {S U : Type 0} → Option S → (S → U → Option S) → U → Option S
 first_summary creates updates u = option_and_then (λ s. updates s u) creates
 
--- the step that updates the summary at a hash with a value, or creates one and updates it; a policy refuses where it names no summary
+-- the step that updates the summary at a hash with a value, or creates one and updates it; a policy refuses if it names no
+-- summary
 abbrev pub update_step : {S U : Type 0} → Option S → (S → U → Option S) → ℕ → U → Step (TupleEntry S)
 update_step creates updates h u = record {
   writes = λ e. option_map_or (with_summary e) (updates e.summary u) e;
@@ -24,7 +25,7 @@ update_step creates updates h u = record {
   allocates = true;
 }
 
--- what values make of a summary, in their order; none from the first that is refused
+-- a summary after values in their order; none from the first refused one on
 abbrev pub after_values : {S U : Type 0} → (S → U → Option S) → Option S → List U → Option S
 after_values updates o [] = o
 after_values updates o (u ∷ us) = after_values updates (option_and_then (λ s. updates s u) o) us
@@ -34,7 +35,7 @@ abbrev pub fold_of : {S : Type 0} → ℕ → Option S → Fold (TupleEntry S)
 fold_of h (Some s) = Value (tuple_of h s)
 fold_of h None = Refused h
 
--- what a hash has after its values: nothing if there are none, and else what they make of the summary that is created
+-- what a hash has after its values: nothing if there are none, otherwise the created summary after these values
 abbrev pub fold_at : {S U : Type 0} → Option S → (S → U → Option S) → ℕ → List U → Option (Fold (TupleEntry S))
 fold_at creates updates h [] = None
 fold_at creates updates h (u ∷ us) = Some (fold_of h (after_values updates creates (u ∷ us)))
@@ -50,7 +51,7 @@ values_from h (Reset ∷ steps) us = values_from h steps []
 abbrev pub values_at : {U : Type 0} → ℕ → List (LeafStep U) → List U
 values_at h steps = values_from h steps []
 
--- an entry combined with one of its hash that comes in, and whether that is refused
+-- an entry combined with an incoming one of its hash, and whether that is refused
 abbrev pub combined : {S : Type 0} → (S → S → Option S) → TupleEntry S → TupleEntry S → TupleEntry S
 combined combines x y = option_map_or (with_summary x) (combines x.summary y.summary) x
 

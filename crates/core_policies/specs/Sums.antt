@@ -10,15 +10,15 @@ use Rattle.std.proofs.lemmas.Nat.{pow_pos}
 abbrev pub is_within : (least greatest z : ℤ) → Bool
 is_within least greatest z = int_le least z && int_le z greatest
 
--- the sum of two whole numbers, where it is within bounds
+-- the sum of two whole numbers, if it is within bounds
 abbrev pub sum_within : (least greatest x y : ℤ) → Option ℤ
 sum_within least greatest x y = if is_within least greatest (x +ℤ y) then Some (x +ℤ y) else None
 
--- the sum of two numbers, where it has so many bits
+-- the sum of two numbers, if it fits in this many bits
 abbrev pub unsigned_sum : (bits x y : ℕ) → Option ℕ
 unsigned_sum bits x y = if nat_lt (x + y) (2 ^ bits) then Some (x + y) else None
 
--- the same number, and the same sum, told in whole numbers
+-- the same number, and the same sum, as whole numbers
 pub unsigned-distinct : (x y : ℕ) → pos x ≡ pos y → x ≡ y
 unsigned-distinct x y same = omega (arith, ints)
 

@@ -7,8 +7,8 @@ use crate::sums::{CheckedSum, add_to};
 use sketch_base::Error;
 use std::marker::PhantomData;
 
-/// The policy of a sketch that adds each value of a key to its summary, from 0 on. `DefaultUpdatePolicy::<u64>::default()` is
-/// that of 64-bit sums; tuple_sketches has an example.
+/// The policy of a sketch that adds each value of a key to its summary, from 0 on.
+/// `DefaultUpdatePolicy::<u64>::default()` adds 64-bit values; tuple_sketches has an example.
 #[derive(Debug, Clone, Copy)]
 pub struct DefaultUpdatePolicy<S> {
     of: PhantomData<S>,
@@ -39,8 +39,8 @@ impl<S: CheckedSum> SummaryPolicy for DefaultUpdatePolicy<S> {
 impl<S: CheckedSum> SummaryUpdatePolicy<S> for DefaultUpdatePolicy<S> {
     ghost updates = { λ p summary value. S.sums summary value };
 
-    /// Adds a value to a summary. Refused with `Policy` exactly where the sum is out of the bounds of its type; then the
-    /// summary is as it was.
+    /// Adds a value to a summary. Refused with `Policy` exactly if the sum is out of the bounds of its type; then the
+    /// summary is unchanged.
     fn update(&self, summary: &mut S, value: S) -> Result<(), Error>
         ensures updated { MatchResult result (λ _. S.sums summary.old value ≡ Some summary.new) (λ _. summary.new ≡ summary.old) }
         ensures refused { Refuses result (policy_refusal (is_none (S.sums summary.old value))) false }

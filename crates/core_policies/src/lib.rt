@@ -1,8 +1,8 @@
-//! Policies: how operators combine two entries of one hash, and how the summaries of tuple sketches come about, take in
-//! values and are combined.
+//! Policies: how operators combine two entries of one hash, and how the summaries of tuple sketches are created,
+//! updated with values and combined.
 //!
-//! A policy names each of its results as a function of its arguments, and where it refuses. A refusal leaves what it was
-//! given as it was.
+//! A policy names each of its results as a function of its arguments, and when it refuses. A refusal leaves its
+//! arguments unchanged.
 #![tactic(auto)]
 
 mod default_union;

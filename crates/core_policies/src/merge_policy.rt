@@ -8,36 +8,36 @@ use sketch_base::Error;
 
 /// How a union combines two entries of one hash.
 pub trait UnionMergePolicy<E: SketchEntry> {
-    /// What it leaves of an entry and one that comes in.
+    /// The result of merging an incoming entry into an entry.
     ghost merges: { Self → E → E → E };
 
-    /// Whether it refuses an entry and one that comes in, with `Policy`.
+    /// Whether it refuses, with `Policy`, to merge an incoming entry into an entry.
     ghost refuses: { Self → E → E → Bool };
 
-    /// Combines an entry with one of the same hash that comes in, and keeps the hash. A refusal, of kind `Policy` or
-    /// `OutOfMemory`, leaves the entry as it was.
+    /// Merges an incoming entry into an entry of the same hash, and keeps the hash. A refusal, of kind `Policy` or
+    /// `OutOfMemory`, leaves the entry unchanged.
     fn merge(&self, entry: &mut E, incoming: &E) -> Result<(), Error>
         ensures merged { MatchResult result (λ _. entry.new ≡ merges self.now entry.old incoming.now) (λ _. entry.new ≡ entry.old) }
         ensures refused { Refuses result (policy_refusal (refuses self.now entry.old incoming.now)) true };
 
-    /// Entries of one hash are merged into one of this hash.
+    /// Merging entries of one hash makes an entry of this hash.
     ghost keeps_hash: { (p : Self) → KeepsKey E.key (merges p) };
 }
 
 /// How an intersection combines two entries of one hash.
 pub trait IntersectionMergePolicy<E: SketchEntry> {
-    /// What it leaves of an entry and one that comes in.
+    /// The result of merging an incoming entry into an entry.
     ghost merges: { Self → E → E → E };
 
-    /// Whether it refuses an entry and one that comes in, with `Policy`.
+    /// Whether it refuses, with `Policy`, to merge an incoming entry into an entry.
     ghost refuses: { Self → E → E → Bool };
 
-    /// Combines an entry with one of the same hash that comes in, and keeps the hash. A refusal, of kind `Policy` or
-    /// `OutOfMemory`, leaves the entry as it was.
+    /// Merges an incoming entry into an entry of the same hash, and keeps the hash. A refusal, of kind `Policy` or
+    /// `OutOfMemory`, leaves the entry unchanged.
     fn merge(&self, entry: &mut E, incoming: &E) -> Result<(), Error>
         ensures merged { MatchResult result (λ _. entry.new ≡ merges self.now entry.old incoming.now) (λ _. entry.new ≡ entry.old) }
         ensures refused { Refuses result (policy_refusal (refuses self.now entry.old incoming.now)) true };
 
-    /// Entries of one hash are merged into one of this hash.
+    /// Merging entries of one hash makes an entry of this hash.
     ghost keeps_hash: { (p : Self) → KeepsKey E.key (merges p) };
 }

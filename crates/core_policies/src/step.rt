@@ -5,7 +5,7 @@ use crate::summary::SummaryUpdatePolicy;
 use core_slots::{TupleEntry, UpsertStep};
 use sketch_base::Error;
 
-/// The step that takes a value in at a hash: it updates the summary that is there, or creates one and updates it.
+/// The step that adds a value at a hash: it updates the existing summary, or creates one and updates it.
 #[derive(Drop)]
 pub struct UpdateStep<'a, P, U> {
     policy: &'a P,
@@ -14,7 +14,7 @@ pub struct UpdateStep<'a, P, U> {
 }
 
 impl<'a, P, U> UpdateStep<'a, P, U> {
-    /// The step that takes this value in, at the hash that is inserted, by a policy.
+    /// The step that adds this value at the inserted hash, by a policy.
     pub fn new(policy: &'a P, hash: u64, value: U) -> Self
         ensures policy { result.policy.now ≡ policy.entry.now }
         ensures hash { result.hash ≡ hash }

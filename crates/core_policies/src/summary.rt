@@ -1,4 +1,4 @@
-//! How summaries come about, take in values and are combined.
+//! How summaries are created, updated with values and combined.
 ghost use Rattle.std.specs.Prelude.{◌≡◌, Bool, Option, Some, true, is_none, MatchResult, IfOk};
 ghost use Rattle.core_laws.specs.Refusal.{Refuses, policy_refusal};
 
@@ -6,31 +6,31 @@ use crate::merge_policy::{IntersectionMergePolicy, UnionMergePolicy};
 use core_slots::TupleEntry;
 use sketch_base::Error;
 
-/// How the summary of a new key begins.
+/// How the summary of a new key is created.
 pub trait SummaryPolicy {
-    /// What stands beside each key.
+    /// The summary of each key.
     type Summary: Drop;
 
-    /// The summary that it creates; none where it refuses.
+    /// The summary that it creates; none if it refuses.
     ghost creates: { Self → Option Self.Summary };
 
-    /// Whether it may take memory to create a summary or to take a value into one.
+    /// Whether creating a summary, or updating one with a value, may take memory.
     ghost takes_memory: { Self → Bool };
 
-    /// The summary of a key that has no value yet. Refused with `Policy` if it names none, and with `OutOfMemory` only if it
-    /// may take memory.
+    /// The summary of a key that has no value yet. Refused with `Policy` if `creates` is none, and with `OutOfMemory`
+    /// only if it may take memory.
     fn create(&self) -> Result<Self::Summary, Error>
         ensures created { IfOk result (λ summary. creates self.now ≡ Some summary) }
         ensures refused { Refuses result (policy_refusal (is_none (creates self.now))) (takes_memory self.now) };
 }
 
-/// How a summary takes in a value.
+/// How a summary is updated with a value.
 pub trait SummaryUpdatePolicy<U>: SummaryPolicy {
-    /// What it makes of a summary and a value; none where it refuses.
+    /// The summary updated with a value; none if it refuses.
     ghost updates: { Self → Self.Summary → U → Option Self.Summary };
 
-    /// Takes a value into a summary. Refused with `Policy` if it names none, and with `OutOfMemory` only if it may take
-    /// memory; then the summary is as it was.
+    /// Updates a summary with a value. Refused with `Policy` if `updates` is none, and with `OutOfMemory` only if it
+    /// may take memory; then the summary is unchanged.
     fn update(&self, summary: &mut Self::Summary, value: U) -> Result<(), Error>
         ensures updated { MatchResult result (λ _. updates self.now summary.old value ≡ Some summary.new) (λ _. summary.new ≡ summary.old) }
         ensures refused { Refuses result (policy_refusal (is_none (updates self.now summary.old value))) (Self.takes_memory self.now) };
@@ -38,11 +38,11 @@ pub trait SummaryUpdatePolicy<U>: SummaryPolicy {
 
 /// How two summaries of one key are combined.
 pub trait SummaryCombinePolicy: SummaryPolicy {
-    /// What it makes of a summary and one that comes in; none where it refuses.
+    /// A summary combined with an incoming one; none if it refuses.
     ghost combines: { Self → Self.Summary → Self.Summary → Option Self.Summary };
 
-    /// Takes a summary that comes in into another. Refused with `Policy` where it names none, or with `OutOfMemory`; then
-    /// the summary is as it was.
+    /// Combines an incoming summary into another. Refused with `Policy` if `combines` is none, or with `OutOfMemory`;
+    /// then the summary is unchanged.
     fn combine(&self, summary: &mut Self::Summary, incoming: &Self::Summary) -> Result<(), Error>
         ensures combined { MatchResult result (λ _. combines self.now summary.old incoming.now ≡ Some summary.new) (λ _. summary.new ≡ summary.old) }
         ensures refused { Refuses result (policy_refusal (is_none (combines self.now summary.old incoming.now))) true };

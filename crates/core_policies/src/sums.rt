@@ -8,7 +8,7 @@ use sketch_base::{Error, ErrorKind};
 
 /// Whole numbers of a type, whose sum is checked against the bounds of the type: `u32`, `u64`, `i32` and `i64`.
 pub trait CheckedSum: Copy {
-    /// The whole number that a value stands for.
+    /// The whole number that a value represents.
     ghost whole: { Self → ℤ };
 
     /// The least whole number that a sum may be.
@@ -17,27 +17,27 @@ pub trait CheckedSum: Copy {
     /// The greatest whole number that a sum may be.
     ghost greatest: { ℤ };
 
-    /// The value that stands for 0.
+    /// The value that represents 0.
     ghost ZERO: { Self };
 
-    /// The value that stands for 0.
+    /// The value that represents 0.
     const ZERO: Self;
 
-    /// The value that stands for the sum; none where the type has no such value.
+    /// The value that represents the sum; none if the type has no such value.
     ghost sums: { Self → Self → Option Self };
 
-    /// The sum of two values, or none where it is less than the least number of the type or greater than the greatest.
+    /// The sum of two values, or none if it is less than the least number of the type or greater than the greatest.
     fn checked_sum(self, other: Self) -> Option<Self>
         ensures named { result ≡ sums self other }
         ensures whole { option_map whole result ≡ sum_within least greatest (whole self) (whole other) };
 
-    /// Different values stand for different numbers.
+    /// Different values represent different numbers.
     ghost distinct: { (x y : Self) → whole x ≡ whole y → x ≡ y };
 
-    /// `ZERO` stands for 0.
+    /// `ZERO` represents 0.
     ghost zero: { whole ZERO ≡ pos 0 };
 
-    /// A sum stands for the sum of the whole numbers, and there is none exactly where that is out of bounds.
+    /// A sum represents the sum of the whole numbers, and is none exactly if that is out of bounds.
     ghost summed: { (x y : Self) → option_map whole (sums x y) ≡ sum_within least greatest (whole x) (whole y) };
 }
 
@@ -145,7 +145,7 @@ impl CheckedSum for i64 {
     ghost summed = { λ x y. signed-summed (negsuc (2 ^ 63 - 1)) (pos (2 ^ 63 - 1)) x y };
 }
 
-/// Adds to a summary. Refused with `Policy` where the sum is out of bounds; then the summary is as it was.
+/// Adds to a summary. Refused with `Policy` if the sum is out of bounds; then the summary is unchanged.
 pub(crate) fn add_to<S: CheckedSum>(summary: &mut S, value: S) -> Result<(), Error>
     ensures added { MatchResult result (λ _. S.sums summary.old value ≡ Some summary.new) (λ _. summary.new ≡ summary.old) }
     ensures refused { Refuses result (policy_refusal (is_none (S.sums summary.old value))) false }

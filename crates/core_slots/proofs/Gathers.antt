@@ -15,7 +15,7 @@ use Rattle.core_slots.proofs.Held.{filled-next, two_parts}
 use Rattle.core_slots.proofs.Layouts.{filled-append}
 
 module _ {S : Type 0} where
-  -- what was not come to is not written
+  -- from the next element on nothing is written
   pub drop-set : (xs : List S) (i : ℕ) (s : S) → drop (i + 1) (set xs i s) ≡ drop (i + 1) xs
   drop-set xs i s = let next : suc i ≡ i + 1 = omega arith in subst (λ (n : ℕ). drop n (set xs i s) ≡ drop n xs) next (drop_suc xs i s)
     where
@@ -24,25 +24,25 @@ module _ {S : Type 0} where
       drop_suc (x ∷ xs) zero s = refl
       drop_suc (x ∷ xs) (suc i) s = drop_suc xs i s
 
-  -- the first of what is left
+  -- the first element of the rest
   pub get_or-left : (xs ys : List S) (i : ℕ) (d : S) → drop i xs ≡ drop i ys → get_or xs i d ≡ get_or ys i d
   get_or-left xs ys i d same =
       let here : i + 0 ≡ i = omega arith in
       subst (λ (n : ℕ). get_or xs n d ≡ get_or ys n d) here (sym (get_or-drop i xs 0 d) ∙ ap (λ zs. get_or zs 0 d) same ∙ get_or-drop i ys 0 d)
 
 module _ {X : Type 0} (key : X → ℕ) where
-  -- what a slot holds is below theta, or is not
+  -- the entry in a slot is below theta, or is not
   one_or_none : (o : Option X) (theta : ℕ) → (below key (filled (o ∷ [])) theta ≡ []) ⊎ ((below key (filled (o ∷ [])) theta ≡ filled (o ∷ [])) × (length (below key (filled (o ∷ [])) theta) ≡ 1))
   one_or_none None theta = inl refl
   one_or_none (Some x) theta = elim (ltb (key x) theta) as (λ b. (cond b (x ∷ []) [] ≡ []) ⊎ ((cond b (x ∷ []) [] ≡ x ∷ []) × (length (cond b (x ∷ []) []) ≡ 1))) [ true ↦ inr (refl, refl) | false ↦ inl refl ]
 
-  -- no more are below theta than there are
+  -- the entries below theta are no more than all entries
   pub below_few : (xs : List X) (theta : ℕ) → length (below key xs theta) ≤ length xs
   below_few [] theta = omega arith
   below_few (x ∷ xs) theta = let rest = below_few xs theta in elim (ltb (key x) theta) as (λ b. length (cond b (x ∷ below key xs theta) (below key xs theta)) ≤ suc (length xs)) [ true ↦ omega (arith, rest) | false ↦ omega (arith, rest) ]
 
   module _ {S : Type 0} (held : S → Option X) where
-    -- what one slot more holds below theta
+    -- the entries below theta with one more slot
     low_next : (first : List S) (at theta : ℕ) (d : S) → at < length first
         → below key (filled (map held (take (at + 1) first))) theta ≡ below key (filled (map held (take at first))) theta ++ below key (filled (held (get_or first at d) ∷ [])) theta
     low_next first at theta d lt =
@@ -54,7 +54,7 @@ module _ {X : Type 0} (key : X → ℕ) where
         ap length (low_next first at theta d lt) ∙ length-append (below key (filled (map held (take at first))) theta) (below key (filled (held (get_or first at d) ∷ [])) theta)
         ∙ ap (λ (n : ℕ). length (below key (filled (map held (take at first))) theta) + n) (ap (λ (t : S). length (below key (filled (held t ∷ [])) theta)) (sym is) ∙ sym number)
 
-    -- the first slots hold no more below theta than all
+    -- the first slots have no more entries below theta than all slots
     pub part_few : (first : List S) (at theta : ℕ) → length (below key (filled (map held (take at first))) theta) ≤ length (below key (filled (map held first)) theta)
     part_few first at theta =
         let seen : List X = filled (map held (take at first)) in
@@ -62,7 +62,7 @@ module _ {X : Type 0} (key : X → ℕ) where
         let parts = ap (λ xs. length (below key xs theta)) (two_parts held first at) ∙ ap length (filter-append (λ x. ltb (key x) theta) seen rest) ∙ length-append (below key seen theta) (below key rest theta) in
         omega (arith, parts)
 
-    -- a slot more
+    -- one more slot
     pub gathered-next : (first others : List S) (at count theta more : ℕ) (s d : S) → at < length first → count < length others → s ≡ get_or first at d → more ≡ length (below key (filled (held s ∷ [])) theta)
         → filled (map held (take count others)) ≡ below key (filled (map held (take at first))) theta
         → filled (map held (take (count + more) (set others count s))) ≡ below key (filled (map held (take (at + 1) first))) theta
@@ -83,13 +83,13 @@ module _ {X : Type 0} (key : X → ℕ) where
               ∙ ap (λ xs. xs ++ one) so_far ∙ sym (right ∙ ap (λ xs. below key seen theta ++ xs) all.0)
         ]
 
-    -- what has come stands in front of others, and is kept
+    -- the gathered entries are in front of others, and are kept
     pub front_gathered : (first come others kept : List S) (n count theta : ℕ) → n ≡ length come → kept ≡ take count (take n (come ++ drop (length come) others))
         → filled (map held (take count come)) ≡ below key (filled (map held first)) theta → filled (map held kept) ≡ below key (filled (map held first)) theta
     front_gathered first come others kept n count theta long is taken =
         ap (λ xs. filled (map held xs)) (is ∙ ap (λ xs. take count xs) (take_at come (drop (length come) others) n (sym long))) ∙ taken
 
-  -- what is below theta of what is below theta
+  -- counting the entries below theta among those below theta
   pub count-below : (xs : List X) (theta : ℕ) → count_by (λ x. ltb (key x) theta) (below key xs theta) ≡ count_by (λ x. ltb (key x) theta) xs
   count-below xs theta =
       sym (length-below key (below key xs theta) theta) ∙ ap length (filter-filter (λ x. ltb (key x) theta) (λ x. ltb (key x) theta) xs (λ x e. e)) ∙ length-below key xs theta
@@ -107,7 +107,7 @@ module _ {X : Type 0} (key : X → ℕ) where
       again true o = refl
       again false o = refl
 
-  -- the map of what is below theta
+  -- the map of the entries below theta
   pub map_of-below : (xs : List X) (theta : ℕ) → map_of key (below key xs theta) ≡ below key (map_of key xs) theta
   map_of-below xs theta =
       same_map key _ _ (ascending-map_of key (below key xs theta)) (ascending-filter key _ _ (ascending-map_of key xs))

@@ -1,4 +1,4 @@
--- Slots as they are in memory, and what they hold.
+-- Slots as they are in memory, and the entries in them.
 use Rattle.std.proofs.Common.{◌≡◌, ℕ, zero, suc, ◌+◌, ◌<◌, ◌≤◌, List, [], ◌∷◌, ◌++◌, length, map, get_or, set, take, drop, replicate, Option, Some, None, Ok, Err, refl, sym, ap, subst, ◌∙◌, arith}
 use Rattle.std.specs.Prelude.{option_map, Result, MatchResult, OnOk, OnErr}
 use Rattle.std.proofs.lemmas.List.{map-append, take-append-drop}
@@ -6,7 +6,7 @@ use Rattle.core_slots.specs.Layout.{filled, slot}
 use Rattle.core_slots.proofs.Layouts.{filled-append}
 
 module _ {S X : Type 0} (held : S → Option X) where
-  -- what is held at a place
+  -- the entry in the slot at a place
   pub slot-map : (slots : List S) (p : ℕ) (d : S) → p < length slots → slot (map held slots) p ≡ held (get_or slots p d)
   slot-map [] p d lt = absurd (omega (arith, lt))
   slot-map (s ∷ slots) zero d lt = refl
@@ -35,7 +35,7 @@ module _ {X : Type 0} (key : X → ℕ) where
   none_of None never = refl
   none_of (Some x) never = absurd (never (key x) refl)
 
--- what more of the slots hold
+-- the entries in several slots
 module _ {S X : Type 0} (held : S → Option X) where
   pub filled-take : (slots : List S) (i : ℕ) (d : S) → i < length slots → filled (map held (take (suc i) slots)) ≡ filled (map held (take i slots)) ++ filled (held (get_or slots i d) ∷ [])
   filled-take [] i d lt = absurd (omega (arith, lt))
@@ -71,7 +71,7 @@ module _ {X : Type 0} where
   one_some : {x y : X} → Some x ≡ Some y → x ≡ y
   one_some e = cc
 
-  -- what a step leaves
+  -- an entry after a step
   pub wrote : {T E : Type 0} (r : Result T E) (xs : List (Option X)) (p : ℕ) (old new : X) (writes : X → X) → MatchResult r (λ _. new ≡ writes old) (λ _. new ≡ old) → slot xs p ≡ Some old
       → OnOk r ((x : X) → slot xs p ≡ Some x → set xs p (Some new) ≡ set xs p (Some (writes x)))
   wrote (Ok t) xs p old new writes is here = λ x there. ap (λ y. set xs p (Some y)) is ∙ ap (λ y. set xs p (Some (writes y))) (one_some (sym here ∙ there))
@@ -83,12 +83,12 @@ module _ {X : Type 0} where
   left_it (Err e) xs p old new writes is here = ap (λ y. set xs p (Some y)) is ∙ set-same xs p old here
 
 module _ {S X : Type 0} (held : S → Option X) where
-  -- no more are held than there are slots
+  -- there are no more entries than slots
   pub filled_most : (slots : List S) → length (filled (map held slots)) ≤ length slots
   filled_most [] = omega arith
   filled_most (s ∷ slots) = elim (held s) as (λ o. length (filled (o ∷ map held slots)) ≤ length (s ∷ slots)) [ None ↦ omega (arith, filled_most slots) | Some x ↦ omega (arith, filled_most slots) ]
 
-  -- free slots hold nothing
+  -- free slots have no entries
   pub filled-free : (free : S) → held free ≡ None → (n : ℕ) → filled (map held (replicate n free)) ≡ []
   filled-free free is zero = refl
   filled-free free is (suc n) = rw is (filled-free free is n)
@@ -99,13 +99,13 @@ module _ {S X : Type 0} (held : S → Option X) where
   freed-suc (t ∷ slots) (suc i) s lt none before =
       (elim (held t) as (λ o. filled (o ∷ map held (take i slots)) ≡ [] → filled (o ∷ map held (take (suc i) (set slots i s))) ≡ []) [ None ↦ λ b. freed-suc slots i s (omega (arith, lt)) none b | Some x ↦ λ b. absurd (cc) ]) before
 
-  -- a slot more is free
+  -- one more slot is free
   pub freed : (slots : List S) (i : ℕ) (s : S) → i < length slots → held s ≡ None → filled (map held (take i slots)) ≡ [] → filled (map held (take (i + 1) (set slots i s))) ≡ []
   freed slots i s lt none before =
       let next : suc i ≡ i + 1 = omega arith in
       subst (λ (n : ℕ). filled (map held (take n (set slots i s))) ≡ []) next (freed-suc slots i s lt none before)
 
 module _ {S X : Type 0} (held : S → Option X) where
-  -- what the first slots hold, and what the others do
+  -- the entries in the first slots, and those in the others
   pub two_parts : (xs : List S) (n : ℕ) → filled (map held xs) ≡ filled (map held (take n xs)) ++ filled (map held (drop n xs))
   two_parts xs n = ap (λ ys. filled (map held ys)) (sym (take-append-drop n xs)) ∙ ap filled (map-append held (take n xs) (drop n xs)) ∙ filled-append (map held (take n xs)) (map held (drop n xs))

@@ -27,7 +27,7 @@ module _ {X : Type 0} where
   cleared (None ∷ slots) (suc p) x here = cleared slots p x here
   cleared (Some y ∷ slots) (suc p) x here = ap suc (cleared slots p x here)
 
-  -- different filled slots are no more than there are
+  -- different filled slots are no more than the entries in slots
   pub few : (n : ℕ) (slots : List (Option X)) (place : ℕ → ℕ) (held : (i : ℕ) → i < n → (x : X) × (slot slots (place i) ≡ Some x))
       → ((i j : ℕ) → i < n → j < n → place i ≡ place j → i ≡ j) → n ≤ length (filled slots)
   few zero slots place held once = omega arith
@@ -88,7 +88,7 @@ module _ {X : Type 0} (key : X → ℕ) (lg : ℕ) where
   not_there : (slots : List (Option X)) (h p q : ℕ) → is_other key h (slot slots p) ≡ false → is_other key h (slot slots q) ≡ true → q ≢ p
   not_there slots h p q here there = λ same. absurd (let e = ap (λ (n : ℕ). is_other key h (slot slots n)) same in cc)
 
-  -- what an entry with this key is to a search for h
+  -- a search for h doesn't distinguish entries with the same key
   other_same : (h : ℕ) (x y : X) → key x ≡ key y → is_other key h (Some x) ≡ is_other key h (Some y)
   other_same h x y same = ap (λ (n : ℕ). not (eqb n h)) same
 
@@ -139,7 +139,7 @@ module _ {X : Type 0} (key : X → ℕ) where
   pub other_not : (h : ℕ) (y : X) → key y ≡ h → is_other key h (Some y) ≡ false
   other_not h y same = let e : eqb (key y) h ≡ true = grind (arith, nat_tests) in rw e refl
 
-  -- a search ends before the slot of an entry only where it ends at one
+  -- a search ends before the slot of an entry only if it ends at one
   ends_first : (lg h p q i : ℕ) (slots : List (Option X)) → is_other key h (slot slots p) ≡ false → HasOthers key lg slots h i → (on : IsOnPath key lg slots h p) → on.step < i → ⊥
   unfolding HasOthers
   ends_first lg h p q i slots ends others on before =
@@ -147,7 +147,7 @@ module _ {X : Type 0} (key : X → ℕ) where
       let b = ap (λ (n : ℕ). is_other key h (slot slots n)) on.here in
       absurd (cc)
 
-  -- an entry with the hash is nowhere but where a search for it ends
+  -- an entry with the hash is only where a search for it ends
   pub only_there : (lg h p q : ℕ) (y : X) (slots : List (Option X)) → IsLaidOut key lg slots → IsOnPath key lg slots h p → is_other key h (slot slots p) ≡ false → slot slots q ≡ Some y → key y ≡ h → q ≡ p
   only_there lg h p q y slots is on ends held same =
       let off : IsOnPath key lg slots h q = subst (λ (n : ℕ). IsOnPath key lg slots n q) same (is.on_path q y held) in
@@ -179,7 +179,7 @@ module _ {X : Type 0} (key : X → ℕ) where
   ended h None e = inl refl
   ended h (Some x) e = inr (x, refl, grind (arith, nat_tests))
 
-  -- what a search finds is what the map has
+  -- a search finds what the map has
   pub search_finds : (lg h p : ℕ) (slots : List (Option X)) → IsLaidOut key lg slots → IsOnPath key lg slots h p → is_other key h (slot slots p) ≡ false → entry_at key (map_of key (filled slots)) h ≡ slot slots p
   search_finds lg h p slots is on ends =
       entry_at-map_of key (filled slots) h ∙
@@ -189,7 +189,7 @@ module _ {X : Type 0} (key : X → ℕ) where
         | inr held ↦ found_some slots h p held.0 held.1 held.2 (λ q y there alike. only_there lg h p q y slots is on ends there alike) ∙ sym held.1
       ]
 
-  -- what is put where a search for it ends joins the map
+  -- an entry put where a search for it ends is inserted into the map
   filled_put : (slots : List (Option X)) (p : ℕ) (x : X) (q : ℕ) → p < length slots → ((j : ℕ) (y : X) → slot slots j ≡ Some y → key y ≡ key x → j ≡ p) → is_other key (key x) (slot slots p) ≡ false
       → entry_at key (filled (set slots p (Some x))) q ≡ cond (eqb (key x) q) (Some x) (entry_at key (filled slots) q)
   filled_put [] p x q inside only ends = absurd (omega (arith, inside))
@@ -239,7 +239,7 @@ module _ {X : Type 0} where
   filled_new (None ∷ slots) (suc p) x inside free = filled_new slots p x (omega (arith, inside)) free
   filled_new (Some y ∷ slots) (suc p) x inside free = omega (arith, filled_new slots p x (omega (arith, inside)) free)
 
-  -- a slot of slots that hold nothing
+  -- a slot of slots without entries
   pub nothing_held : (slots : List (Option X)) (p : ℕ) (x : X) → filled slots ≡ [] → slot slots p ≡ Some x → ⊥
   nothing_held [] p x none held = absurd (cc)
   nothing_held (None ∷ slots) zero x none held = absurd (cc)
@@ -287,7 +287,7 @@ module _ {X : Type 0} (key : X → ℕ) where
       let none : entry_at key (map_of key (filled slots)) (key x) ≡ None = entry_at-map_of key (filled slots) (key x) ∙ found_none key slots (key x) (λ q y held same. absurd (let a : suc q ≡ 0 = apart (suc q) 0 y x held refl same in omega (arith, a))) in
       length-with_entry (map_of key (filled slots)) x none ∙ ap suc (length-distinct slots (λ i j y z yi zj same. let a : suc i ≡ suc j = apart (suc i) (suc j) y z yi zj same in omega (arith, a)))
 
-  -- the map has as many entries as there are in the slots
+  -- the map has as many entries as the slots
   pub length-map_of : (lg : ℕ) (slots : List (Option X)) → IsLaidOut key lg slots → length (map_of key (filled slots)) ≡ length (filled slots)
   length-map_of lg slots is =
       length-distinct slots (λ i j y z yi zj same. only_there key lg (key z) j i y slots is (is.on_path j z zj) (ap (is_other key (key z)) zj ∙ other_not key (key z) z refl) yi same)

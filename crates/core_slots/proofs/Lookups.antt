@@ -1,4 +1,4 @@
--- Hashes that are looked up together: what is blanked, packed and left out.
+-- Hashes that are looked up together: blanking, packing and dropping them.
 use Rattle.std.proofs.Common.{◌≡◌, ◌≢◌, ℕ, zero, suc, ◌+◌, ◌<◌, ◌≤◌, Bool, true, false, cond, eqb, not, List, [], ◌∷◌, ◌++◌, length, map, filter, take, drop, set, get_or, Option, Some, None, inl, inr, refl, sym, ap, subst, ◌∙◌, arith, get_or-set_other}
 use Rattle.std.specs.Prelude.{IsSome, option_map, unwrap_or}
 use Rattle.std.specs.List.{AllByRecursion}
@@ -11,7 +11,7 @@ use Rattle.core_laws.proofs.insertions.LeftOut.{left_out_again, left_out-filter}
 use Rattle.core_slots.specs.Layout.{filled}
 use Rattle.core_slots.specs.Lookup.{IsBlanked}
 
--- of the first i hashes those that pass were moved to the front, where they are `count`; the others are as they were
+-- of the first i hashes those that pass were moved to the front, `count` in all; the others are unchanged
 pub record IsPacking (screens : ℕ → Bool) (old new : List ℕ) (i count : ℕ) : Type 0 where
   pub size : length new ≡ length old
   pub few : count ≤ i
@@ -21,7 +21,7 @@ pub record IsPacking (screens : ℕ → Bool) (old new : List ℕ) (i count : �
 pub packing_begins : (screens : ℕ → Bool) (old : List ℕ) → IsPacking screens old old 0 0
 packing_begins screens old = record { size = refl; few = omega arith; packed = refl; others = λ q le. refl }
 
--- a hash more is moved
+-- one more hash is moved
 module _ (screens : ℕ → Bool) (old new : List ℕ) (i count h : ℕ) (lt : i < length new) (is : h ≡ get_or new i 0) (was : IsPacking screens old new i count) where
   one_more : filter (λ x. not (screens x)) (take (i + 1) old) ≡ filter (λ x. not (screens x)) (take i old) ++ filter (λ x. not (screens x)) (h ∷ [])
   one_more =
@@ -61,7 +61,7 @@ module _ (screens : ℕ → Bool) (old new : List ℕ) (i count h : ℕ) (lt : i
 pub packed_whole : (screens : ℕ → Bool) (old new : List ℕ) (i count : ℕ) → length old ≤ i → IsPacking screens old new i count → take count new ≡ filter (λ h. not (screens h)) old
 packed_whole screens old new i count le was = was.packed ∙ ap (filter (λ h. not (screens h))) (take_all i old le)
 
--- what a slot holds is one of the entries
+-- the entry in a slot is one of the entries
 module _ {S X : Type 0} (key : X → ℕ) (held : S → Option X) where
   held_in : (slots : List S) (at : ℕ) (s : S) (x : X) → at < length slots → s ≡ get_or slots at s → held s ≡ Some x → IsSome (entry_at key (filled (map held slots)) (key x))
   held_in [] at s x lt is holds = absurd (omega (arith, lt))
@@ -89,7 +89,7 @@ module _ {S X : Type 0} (key : X → ℕ) (held : S → Option X) where
         | false ↦ λ e m. inl m
       ]) refl made
 
--- what is packed isn't screened
+-- packed hashes aren't screened
 pub packed_pass : (theta : ℕ) (hashes : List ℕ) → AllByRecursion (λ h. is_screened h theta ≡ false) (filter (λ h. not (is_screened h theta)) hashes)
 packed_pass theta [] = tt
 packed_pass theta (h ∷ hashes) =
@@ -97,7 +97,7 @@ packed_pass theta (h ∷ hashes) =
     let left : List ℕ = filter (λ h. not (is_screened h theta)) hashes in
     (elim (is_screened h theta) as (λ b. is_screened h theta ≡ b → AllByRecursion (λ h. is_screened h theta ≡ false) (cond (not b) (h ∷ left) left)) [ true ↦ λ e. rest | false ↦ λ e. (e, rest) ]) refl
 
--- hashes that were blanked and packed are left out
+-- hashes that were blanked and packed are dropped
 module _ {X : Type 0} (key : X → ℕ) (xs : List X) (theta : ℕ) where
   left_out-blanked : (hashes now : List ℕ) → length now ≡ length hashes → ((p : ℕ) → p < length hashes → IsBlanked key xs (get_or hashes p 0) (get_or now p 0)) →
       LeavesOut (IsRedundant key (record { entries = xs; theta = theta })) hashes (filter (λ h. not (is_screened h theta)) now)
@@ -118,14 +118,14 @@ module _ {X : Type 0} (key : X → ℕ) (xs : List X) (theta : ℕ) where
         ]
       ]) refl
 
-  -- what is left so far
+  -- the remaining hashes so far
   pub record IsLeft (whole hashes : List ℕ) (left : ℕ) : Type 0 where
     pub size : length hashes ≡ length whole
     pub few : left ≤ length hashes
     pub unscreened : AllByRecursion (λ h. is_screened h theta ≡ false) (take left hashes)
     pub others_out : LeavesOut (IsRedundant key (record { entries = xs; theta = theta })) whole (take left hashes)
 
-  -- a round more: the front is blanked, and what is not is packed
+  -- one more round: the front is blanked, and the hashes that are not blanked are packed
   pub left_more : (whole hashes blanks packs : List ℕ) (left more : ℕ) → IsLeft whole hashes left →
       length blanks ≡ length (take left hashes) → ((p : ℕ) → p < length (take left hashes) → IsBlanked key xs (get_or (take left hashes) p 0) (get_or blanks p 0)) →
       length packs ≡ length (take left (blanks ++ drop left hashes)) → more ≤ length (take left (blanks ++ drop left hashes)) → take more packs ≡ filter (λ h. not (is_screened h theta)) (take left (blanks ++ drop left hashes)) →

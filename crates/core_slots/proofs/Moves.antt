@@ -108,7 +108,7 @@ module _ {X : Type 0} (key : X → ℕ) (lg theta : ℕ) where
           looked_few = looked_more put looked looked' (length (filled slots)) is.looked_few looks is.few;
         }
 
-  -- what is left may stand in another order
+  -- the remaining slots may be in another order
   pub reordered : (whole from from' slots : List (Option X)) (put looked : ℕ) → ((q : ℕ) → entry_at key (filled from') q ≡ entry_at key (filled from) q)
       → count_by (λ x. ltb (key x) theta) (filled from') ≡ count_by (λ x. ltb (key x) theta) (filled from) → length (filled from') ≡ length (filled from) → IsMoving key lg theta whole from slots put looked → IsMoving key lg theta whole from' slots put looked
   reordered whole from from' slots put looked found counts long is = record {
@@ -148,7 +148,7 @@ module _ {X : Type 0} (key : X → ℕ) where
       let joins = put_joins key lg at x slots is inside on (ap (is_other key (key x)) free) in
       moved ∙ ap (λ xs. below key xs theta) joins ∙ low_filter (with_entry key (map_of key (filled slots)) x) theta (each-with_entry key (λ y. key y < theta) (map_of key (filled slots)) x low entry_low)
 
--- as many were put as are there
+-- as many entries were put as there are
 module _ {X : Type 0} (key : X → ℕ) where
   pub moved_count : (lg new_lg theta : ℕ) (whole after : List (Option X)) → IsLaidOut key lg whole → IsLaidOut key new_lg after → map_of key (filled after) ≡ below key (map_of key (filled whole)) theta
       → count_by (λ x. ltb (key x) theta) (filled whole) ≡ length (filled after)

@@ -16,7 +16,7 @@ module _ {X : Type 0} (key : X → ℕ) (lg h : ℕ) (slots : List (Option X)) w
     pub others : HasOthers key lg slots h step
     pub ends : is_other key h (slot slots (probe h lg step)) ≡ false
 
-  -- among the first n slots on a path either a search ends, or all hold other hashes
+  -- among the first n slots on a path either a search ends, or all have other hashes
   first_end : (n : ℕ) → HasOthers key lg slots h n ⊎ IsFirstEnd n
   first_end zero = inl (others_none key lg slots h)
   first_end (suc n) = elim (first_end n) [

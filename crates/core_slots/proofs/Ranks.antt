@@ -83,11 +83,11 @@ has_one : (xs ys : List ℕ) (h : ℕ) → IsSome (entry_at hash_key (xs ++ h �
 has_one [] ys h = let a : eqb h h ≡ true = grind (arith, nat_tests) in rw a refl
 has_one (x ∷ xs) ys h = elim (eqb x h) as (λ b. IsSome (cond b (Some x) (entry_at hash_key (xs ++ h ∷ ys) h))) [ true ↦ refl | false ↦ has_one xs ys h ]
 
--- no more are equal to h than there are
+-- if h is not among these hashes, as many are at most h as are less
 equals_none : (xs : List ℕ) (h : ℕ) → entry_at hash_key xs h ≡ None → count_by (λ x. ltb x (suc h)) xs ≡ count_by (λ x. ltb x h) xs
 equals_none xs h none = count_of xs (suc h) ∙ few_step xs h none ∙ sym (count_of xs h)
 
--- where a list is split around h, with no greater ones before and no smaller ones behind, h has the rank of its place
+-- if a list is split around h, with no greater ones before and no smaller ones after, h has the rank of its place
 pub split_rank : (hs front back : List ℕ) (h : ℕ) → IsApart hash_key hs → IsPermutation hs (front ++ h ∷ back) → ((k : ℕ) (d : ℕ) → k < length front → get_or front k d ≤ h) → ((k : ℕ) (d : ℕ) → k < length back → h ≤ get_or back k d)
     → HasRank hs (length front) h
 split_rank hs front back h each moved low high =
@@ -155,7 +155,7 @@ module _ {X : Type 0} (key : X → ℕ) where
         | false ↦ λ e o. let rest = placed_at xs h o in (suc rest.0, rest.1, omega (arith, rest.2), rest.3)
       ]) refl one
 
-  -- a map that has a key of rank k is cut to what is below it
+  -- a map that has a key of rank k is cut to the entries below it
   cut_at : (k t h : ℕ) (m : List X) → IsAscending key m → rank key m h ≡ k → IsSome (entry_at key m h) → AllByRecursion (λ x. key x < t) m → cut key k m t ≡ record { entries = below key m h; theta = h }
   cut_at k t h m up ranked one low =
       let at = placed_at m h one in
@@ -167,7 +167,7 @@ module _ {X : Type 0} (key : X → ℕ) where
       let top : key (get_or m k at.1) ≡ h = ap (λ (n : ℕ). key (get_or m n at.1)) (sym same) ∙ at.3 in
       is ∙ ap (λ ys. record { entries = ys; theta = key (get_or m k at.1) }) front ∙ ap (λ (n : ℕ). record { entries = below key m h; theta = n }) top
 
-  -- what is in slots is apart
+  -- the entries in slots have distinct hashes
   apart-slots : (slots : List (Option X)) → ((i j : ℕ) (y z : X) → slot slots i ≡ Some y → slot slots j ≡ Some z → key y ≡ key z → i ≡ j) → IsApart key (filled slots)
   apart-slots [] each = tt
   apart-slots (None ∷ slots) each = apart-slots slots (λ i j y z yi zj same. let a : suc i ≡ suc j = each (suc i) (suc j) y z yi zj same in omega (arith, a))
@@ -179,12 +179,12 @@ module _ {X : Type 0} (key : X → ℕ) where
   pub apart-laid_out : (lg : ℕ) (slots : List (Option X)) → IsLaidOut key lg slots → IsApart key (filled slots)
   apart-laid_out lg slots is = apart-slots slots (λ i j y z yi zj same. only_there key lg (key z) j i y slots is (is.on_path j z zj) (ap (is_other key (key z)) zj ∙ other_not key (key z) z refl) yi same)
 
-  -- with one entry more, where a search for it ends at a free slot
+  -- with one more entry, if a search for it ends at a free slot
   pub apart-more : (lg p : ℕ) (x : X) (slots : List (Option X)) → IsLaidOut key lg slots → IsOnPath key lg slots (key x) p → slot slots p ≡ None → IsApart key (x ∷ filled slots)
   apart-more lg p x slots is on free =
       (sym (entry_at-map_of key (filled slots) (key x)) ∙ search_finds key lg (key x) p slots is on (ap (is_other key (key x)) free) ∙ free, apart-laid_out lg slots is)
 
-  -- what a rebuild leaves: what is below the hash that has just k smaller ones
+  -- after a rebuild: the entries below the hash with exactly k smaller ones
   pub rebuilt_at : (k t h : ℕ) (x : X) (xs : List X) → 8 ≤ k → 15 * k / 8 < length xs + 1 → IsApart key (x ∷ xs) → AllByRecursion (λ y. key y < t) (map_of key xs) → key x < t → HasRank (key x ∷ map key xs) k h
       → rebuilt key k (with_entry key (map_of key xs) x) t ≡ record { entries = below key (with_entry key (map_of key xs) x) h; theta = h }
   rebuilt_at k t h x xs large more each low x_low is =
@@ -198,7 +198,7 @@ module _ {X : Type 0} (key : X → ℕ) where
   pub kept_count : (k h : ℕ) (x : X) (xs : List X) → IsApart key (x ∷ xs) → HasRank (key x ∷ map key xs) k h → length (below key (with_entry key (map_of key xs) x) h) ≡ k
   kept_count k h x xs each is = below-map_of (x ∷ xs) h each ∙ sym (below-hashes (x ∷ xs) h) ∙ length-filter (λ y. ltb y h) (map key (x ∷ xs)) ∙ is.ranked
 
-  -- what a trim leaves, of more than k
+  -- after a trim of more than k
   pub trimmed_at : (k t h : ℕ) (xs : List X) → IsApart key xs → AllByRecursion (λ y. key y < t) (map_of key xs) → HasRank (map key xs) k h → cut key k (map_of key xs) t ≡ record { entries = below key (map_of key xs) h; theta = h }
   trimmed_at k t h xs each low is =
       let m = map_of key xs in
@@ -209,7 +209,7 @@ module _ {X : Type 0} (key : X → ℕ) where
   pub trimmed_count : (k h : ℕ) (xs : List X) → IsApart key xs → HasRank (map key xs) k h → length (below key (map_of key xs) h) ≡ k
   trimmed_count k h xs each is = below-map_of xs h each ∙ sym (below-hashes xs h) ∙ length-filter (λ y. ltb y h) (map key xs) ∙ is.ranked
 
-  -- a cut below any theta is what is below it and the hash that has just k smaller ones
+  -- a cut below any theta has the entries below it and below the hash with exactly k smaller ones
   pub cut_least : (k t h : ℕ) (xs : List X) → IsApart key xs → HasRank (map key xs) k h → cut key k (map_of key xs) t ≡ retained key (map_of key xs) (min h t)
   cut_least k t h xs each is =
       let m = map_of key xs in
@@ -242,7 +242,7 @@ module _ {X : Type 0} (key : X → ℕ) where
             rw least (cut_few key k m t up few)
       ]
 
-  -- and of no more than k all that is below the theta
+  -- and a cut of at most k has all entries below the theta
   pub cut_of_few : (k t : ℕ) (xs : List X) → IsApart key xs → length xs ≤ k → cut key k (map_of key xs) t ≡ retained key (map_of key xs) t
   cut_of_few k t xs each few =
       let up = ascending-map_of key xs in

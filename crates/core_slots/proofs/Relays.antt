@@ -90,7 +90,7 @@ module _ {X : Type 0} where
       let e : length (filled (placed_in marks slots)) ≡ 0 + marked marks = omega (arith, rest) in
       e
 
-  -- where nothing waits, all is placed
+  -- if nothing waits, all entries are placed
   all_placed : (marks : List Bool) (slots : List (Option X)) → length marks ≡ length slots → filled (waiting_in marks slots) ≡ [] → placed_in marks slots ≡ slots
   all_placed [] [] same none = refl
   all_placed [] (u ∷ slots) same none = absurd (omega (arith, same))
@@ -99,7 +99,7 @@ module _ {X : Type 0} where
   all_placed (false ∷ marks) (None ∷ slots) same none = ap (λ xs. None ∷ xs) (all_placed marks slots (omega (arith, same)) none)
   all_placed (false ∷ marks) (Some x ∷ slots) same none = absurd (cc)
 
-  -- where no slot is marked, all waits
+  -- if no slot is marked, all entries wait
   none_placed : (n : ℕ) (slots : List (Option X)) → filled (placed_in (replicate n false) slots) ≡ []
   none_placed zero slots = refl
   none_placed (suc n) [] = refl
@@ -135,7 +135,7 @@ module _ (lg : ℕ) (marks : List Bool) (h : ℕ) where
         | inr high ↦ let same : n ≡ i = omega (arith, lt, high) in subst (λ (m : ℕ). get_or marks (probe h lg m) false ≡ true) same more
       ]
 
--- marks as slots, which are taken where a mark is set
+-- marks as slots, which are taken if a mark is set
 as_slots : List Bool → List (Option ℕ)
 as_slots [] = []
 as_slots (true ∷ marks) = Some 0 ∷ as_slots marks
@@ -217,7 +217,7 @@ module _ {X : Type 0} (key : X → ℕ) where
   here_last : (xs : List X) (x : X) (q : ℕ) → eqb (key x) q ≡ true → entry_at key xs q ≡ None → entry_at key (xs ++ x ∷ []) q ≡ Some x
   here_last xs x q same none = entry_at-append key xs (x ∷ []) q ∙ rw (none, same) refl
 
-  -- of hashes that are there once, none is found elsewhere when its entry is taken out and carried behind the others
+  -- if each hash occurs once, taking an entry out and carrying it behind the others finds no other entry for any hash
   pub found_took : (slots : List (Option X)) (at q : ℕ) → count_by (λ x. eqb (key x) q) (filled slots) ≤ 1 → entry_at key (filled (set slots at None) ++ filled (slot slots at ∷ [])) q ≡ entry_at key (filled slots) q
   found_took [] at q once = refl
   found_took (None ∷ slots) zero q once = ap (λ xs. entry_at key xs q) (append-nil (filled slots))
@@ -300,7 +300,7 @@ module _ {X : Type 0} where
   none_waits (m ∷ marks) (u ∷ slots) zero is = rw is refl
   none_waits (m ∷ marks) (u ∷ slots) (suc p) is = none_waits marks slots p is
 
-  -- a slot more is passed that is marked
+  -- one more slot is passed that is marked
   pub passed_marked : (marks : List Bool) (slots : List (Option X)) (at : ℕ) → get_or marks at false ≡ true → IsPassed marks slots at → IsPassed marks slots (at + 1)
   passed_marked marks slots at is passed p lt =
       elim (cases_lt p at) [
@@ -317,7 +317,7 @@ module _ {X : Type 0} where
         | inr high ↦ let same : at ≡ p = omega (arith, lt, high) in subst (λ (n : ℕ). slot (set (waiting_in marks slots) at None) n ≡ None) same (made_free (waiting_in marks slots) at)
       ])
 
-  -- what is placed leaves what is passed
+  -- placing an entry keeps the passed slots passed
   pub passed_put : (marks : List Bool) (slots : List (Option X)) (n at : ℕ) (o : Option X) → IsPassed marks slots n → IsPassed (set marks at true) (set slots at o) n
   passed_put marks slots n at o passed p lt = rw (waiting_put marks slots at o) (stays_free (waiting_in marks slots) at p (passed p lt))
 
@@ -349,7 +349,7 @@ module _ {X : Type 0} (key : X → ℕ) (lg theta : ℕ) (whole : List (Option X
       }
 
   module _ (marks : List Bool) (slots : List (Option X)) (put looked : ℕ) where
-    -- what waits in a slot is taken out of it
+    -- a waiting entry is taken out of its slot
     pub relay_takes : (at : ℕ) → at < 2 ^ lg → get_or marks at false ≡ false → IsRelaying key lg theta whole None marks slots put looked → IsRelaying key lg theta whole (slot slots at) marks (set slots at None) put looked
     relay_takes at lt un is =
         let there = waiting_there marks slots at (omega (arith, lt, is.marks_size)) un in
@@ -369,7 +369,7 @@ module _ {X : Type 0} (key : X → ℕ) (lg theta : ℕ) (whole : List (Option X
               (takes_out (waiting_in marks slots) (placed_in marks slots) (slot slots at) put looked at there one (passes_free key lg theta whole (waiting_in marks slots) ((waiting_in marks slots) ++ None ∷ []) (placed_in marks slots) put looked refl is.moving));
         }
 
-    -- what is carried and is not below theta is dropped
+    -- a carried entry that is not below theta is dropped
     pub relay_drops : (carried : Option X) → ((x : X) → carried ≡ Some x → theta ≤ key x) → IsRelaying key lg theta whole carried marks slots put looked → IsRelaying key lg theta whole None marks slots put looked
     relay_drops None high is = is
     relay_drops (Some x) high is = record {
@@ -407,7 +407,7 @@ module _ {X : Type 0} (key : X → ℕ) (lg theta : ℕ) (whole : List (Option X
           ]) refl held;
     }
 
-    -- what is carried is placed, and what waited there is carried on
+    -- a carried entry is placed, and the entry that waited there is carried on
     pub relay_places : (at : ℕ) (x : X) (looked' : ℕ) → key x < theta → IsFirstUnmarked lg marks (key x) at → looked' ≤ looked + marked marks + 1 → IsRelaying key lg theta whole (Some x) marks slots put looked
         → IsRelaying key lg theta whole (slot slots at) (set marks at true) (set slots at (Some x)) (put + 1) looked'
     relay_places at x looked' low first looks is =
@@ -454,7 +454,7 @@ module _ {X : Type 0} (key : X → ℕ) (lg theta : ℕ) (whole : List (Option X
         let left = ap length (filled-append (waiting_in marks slots) (Some x ∷ [])) ∙ length-append (filled (waiting_in marks slots)) (x ∷ []) in
         omega (arith, count, left, is.moving.room, room)
 
-    -- once nothing waits, the slots hold what is below theta
+    -- once nothing waits, the slots have the entries below theta
     all_is_placed : IsPassed marks slots (length slots) → IsRelaying key lg theta whole None marks slots put looked → (placed_in marks slots) ≡ slots
     all_is_placed passed is =
         let long = is.marks_size ∙ sym is.size in

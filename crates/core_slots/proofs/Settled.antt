@@ -25,9 +25,9 @@ module _ {X : Type 0} where
   is_taken None is = absurd (cc)
   is_taken (Some x) is = (x, refl)
 
--- ---- what is left, in memory: what stays in front, and what waits from a place on
+-- ---- the remaining slots, in memory: the staying ones in front, and the waiting ones from a place on
 module _ {S : Type 0} where
-  -- what is written before a place isn't seen behind it
+  -- a write before a place changes no element after it
   drop_take-set : (left : List S) (n count i : ℕ) (s : S) → i < n → drop n (take count (set left i s)) ≡ drop n (take count left)
   drop_take-set left n zero i s lt = refl
   drop_take-set [] n (suc count) i s lt = refl
@@ -51,7 +51,7 @@ module _ {S X : Type 0} (held : S → Option X) where
       ∙ ap (λ (s : S). filled (held s ∷ map held (drop (at + 1) (take count left)))) (get_or-take count left at d lt)
       ∙ filled-append (held (get_or left at d) ∷ []) (map held (drop (at + 1) (take count left)))
 
-  -- a place that was come to may be written, and so may the one to which what stays is moved
+  -- a place that was reached may be written, and so may the one to which a staying entry is moved
   pub front_before : (left : List S) (kept at : ℕ) (s : S) → kept ≤ at → in_front kept (set left at s) ≡ in_front kept left
   unfolding in_front
   front_before left kept at s le = ap (λ xs. filled (map held xs)) (take-set-le kept left at s le)
@@ -91,7 +91,7 @@ turned : (p l r b : ℕ) → 2 * l + b * (b + 1) ≤ p * (p + 1) → r ≤ p →
 turned p l r b few some = omega (arith, few, some)
 
 module _ {X : Type 0} (key : X → ℕ) where
-  -- of hashes that are there once, none is found elsewhere when its entry moves behind others
+  -- if each hash occurs once, moving an entry behind others finds no other entry for any hash
   passing : (xs ys : List X) (x : X) (q : ℕ) → times key q (x ∷ xs) ≤ 1 → entry_at key (xs ++ (x ∷ ys)) q ≡ entry_at key ((x ∷ xs) ++ ys) q
   passing xs ys x q once =
       let parts = count-cons (λ y. eqb (key y) q) x xs in
@@ -108,7 +108,7 @@ module _ {X : Type 0} where
   all-append P (y ∷ xs) x all one = (all.0, all-append P xs x all.1 one)
 
 module _ {X : Type 0} (key : X → ℕ) (lg : ℕ) where
-  -- other hashes on a path stay where a free slot is taken
+  -- other hashes on a path stay if a free slot is taken
   others_put : (slots : List (Option X)) (p h n : ℕ) (x : X) → slot slots p ≡ None → HasOthers key lg slots h n → HasOthers key lg (set slots p (Some x)) h n
   unfolding HasOthers
   others_put slots p h n x free others i lt =
@@ -153,7 +153,7 @@ module _ {X : Type 0} (key : X → ℕ) (lg : ℕ) where
       waits = is.stayed;
     }
 
-    -- no path is longer than there are slots, while one stays
+    -- no path is longer than the number of slots, while one stays
     pub round_short : (wait : List X) → IsInRound key lg whole stay wait slots begun round put looked → length whole ≤ 2 ^ lg → round < 2 ^ lg → 0 < length stay → round + 1 < 2 ^ lg
     round_short wait is room low some =
         let first : round + 1 ≤ length (filled slots) = first_few stay some is.stayed in
@@ -255,7 +255,7 @@ module _ {X : Type 0} (key : X → ℕ) (lg : ℕ) where
       (λ q. entry_at-map_of key (filled slots) q ∙ is.found q ∙ sym (entry_at-map_of key whole q))
 
 -- ---- looks
--- so many looks in one round, and in the next
+-- the looks up to one round, and up to the next
 pub looks_next : (a r n k l : ℕ) → l ≤ a + r * (k + n) + k → n ≡ 0 → l ≤ a + (r + 1) * (0 + k) + 0
 looks_next a r n k l most none = let product : r * (k + n) ≡ r * (k + 0) = ap (λ (t : ℕ). r * (k + t)) none in omega (arith, most, product)
 
@@ -273,13 +273,13 @@ looks_end l l0 looked r n put after begun most none few is =
 pub looks_part : (l m l0 after before put : ℕ) → before ≡ put → 2 * l + before * (before + 1) ≤ 2 * m + after * (after + 1) → 2 * m ≤ 2 * l0 + put * (put + 1) → 2 * l ≤ 2 * l0 + after * (after + 1)
 looks_part l m l0 after before put is more most = let same : before * (before + 1) ≡ put * (put + 1) = ap (λ (n : ℕ). n * (n + 1)) is in omega (arith, same, more, most)
 
--- ---- parts of what waits
+-- ---- parts of the waiting slots
 module _ {S : Type 0} where
   -- the rest of a list, as a part of it
   pub rest_part : (xs : List S) (n : ℕ) → take (length xs - n) (drop n xs) ≡ drop n xs
   rest_part xs n = take_all (length xs - n) (drop n xs) (omega (arith, length-drop n xs))
 
-  -- what stood in front of a part that was written is left
+  -- the slots in front of a part that was written are unchanged
   pub front_kept : (xs more end : List S) (from n : ℕ) → from ≤ length xs → from ≤ n → take from (take n ((take from xs ++ more) ++ end)) ≡ take from xs
   front_kept xs more end from n within le =
       let long : length (take from xs) ≡ from = omega (arith, length-take from xs, within) in

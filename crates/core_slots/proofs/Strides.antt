@@ -14,7 +14,7 @@ halved e r q p same = omega (arith, same)
 doubled : (d e f p : ℕ) → d ≡ 2 * e → e ≡ f * p → d ≡ f * (p + p)
 doubled d e f p two is = omega (arith, two, is)
 
--- what divides the product with an odd number divides the other factor
+-- a divisor of the product with an odd number divides the other factor
 pub cancel_odd : (k r d q : ℕ) → d * (2 * r + 1) ≡ q * 2 ^ k → (e : ℕ) × (d ≡ e * 2 ^ k)
 cancel_odd zero r d q same = (d, omega arith)
 cancel_odd (suc k) r d q same =
@@ -36,7 +36,7 @@ more n m u v a x above here = omega (arith, above, here)
 less : (n m u v a x : ℕ) → 0 < n → u * n + m ≡ a + x → (u + 1 + v) * n + m ≡ a → u ≡ u + 1
 less n m u v a x some above here = omega (arith, some, above, here)
 
--- what leaves the remainder is a multiple
+-- a difference that keeps the remainder is a multiple
 pub same_remainder : (n a x : ℕ) → 0 < n → a % n ≡ (a + x) % n → (q : ℕ) × (x ≡ q * n)
 same_remainder n a x some same =
     let u : ℕ = a / n in

@@ -12,17 +12,17 @@ use Rattle.core_slots.specs.Rank.{HasRank, within}
 use Rattle.core_slots.proofs.Held.{two_parts}
 use Rattle.core_slots.proofs.Moves.{count-append, count-cons}
 
--- just `before` of these hashes are less than low, and the one with k smaller ones is from low to high
+-- exactly `before` of these hashes are less than low, and the one with k smaller ones is from low to high
 pub record IsWindow (hashes : List ℕ) (low high before k : ℕ) : Type 0 where
   pub counted : rank hash_key hashes low ≡ before
   pub from : before ≤ k
   pub to : k < before + length (within low high hashes)
 
--- ---- one hash more
+-- ---- one more hash
 pub rank-append : (xs ys : List ℕ) (h : ℕ) → rank hash_key (xs ++ ys) h ≡ rank hash_key xs h + rank hash_key ys h
 rank-append xs ys h = count-append (λ x. ltb x h) xs ys
 
--- no more are less than h than there are
+-- at most all hashes are less than h
 pub rank_few : (xs : List ℕ) (h : ℕ) → rank hash_key xs h ≤ length xs
 rank_few [] h = omega arith
 rank_few (x ∷ xs) h = let rest = rank_few xs h in let more = count-cons (λ y. ltb y h) x xs in elim (cases_lt x h) [
@@ -96,7 +96,7 @@ module _ (low high : ℕ) where
   first_high : (x : ℕ) (xs : List ℕ) → low ≤ x → high < x → within low high (x ∷ xs) ≡ within low high xs
   first_high x xs from lt = let a : ltb x low ≡ false = grind (arith, nat_tests) in let b : ltb high x ≡ true = grind (arith, nat_tests) in rw (a, b) refl
 
-  -- what is less than a hash of the window is below the window or in it
+  -- the hashes less than one of the window are below the window or in it
   rank_parts : (xs : List ℕ) (h : ℕ) → low ≤ h → h ≤ high → rank hash_key xs h ≡ rank hash_key xs low + rank hash_key (within low high xs) h
   rank_parts [] h from to = refl
   rank_parts (x ∷ xs) h from to =
@@ -140,7 +140,7 @@ module _ {X : Type 0} (key : X → ℕ) (low high : ℕ) where
   rank_slot None h is ordered far = let up : ltb h low ≡ false = grind (arith, nat_tests) in rw up refl
   rank_slot (Some x) h is ordered far = rw is refl
 
--- a hash more, in front of a list where it is from low to high
+-- one more hash, in front of a list if it is from low to high
 pub kept_next : (low high : ℕ) (found : List ℕ) (count h : ℕ) → count < length found → take (count + length (within low high (h ∷ []))) (set found count h) ≡ take count found ++ within low high (h ∷ [])
 kept_next low high found count h lt =
     let none : take (count + 0) (set found count h) ≡ take count found ++ [] =
@@ -151,7 +151,7 @@ kept_next low high found count h lt =
     subst (λ (n : ℕ). take n (set found count h) ≡ take count found ++ h ∷ []) next (take-suc-set found count h lt) in
     elim (not (ltb h low) && not (ltb high h)) as (λ b. take (count + length (cond b (h ∷ []) [])) (set found count h) ≡ take count found ++ cond b (h ∷ []) []) [ true ↦ one | false ↦ none ]
 
--- what came into a part of a list, behind what stood in front of it
+-- the elements written into a part of a list, behind those in front of it
 module _ {S : Type 0} (xs found post end : List S) (count kept n : ℕ) (inside : count ≤ length xs) (few : kept ≤ length found) (room : count + kept ≤ n) where
   abbrev pub written : List S
   written = take n ((take count xs ++ (found ++ post)) ++ end)
@@ -169,7 +169,7 @@ module _ {S : Type 0} (xs found post end : List S) (count kept n : ℕ) (inside 
       let a = ap length part_kept ∙ length-append (take count xs) (take kept found) in
       omega (arith, a, length-take-le count xs inside, length-take-le kept found few, length-take (count + kept) written)
 
--- the hash of what a slot holds
+-- the hash of the entry in a slot
 pub key_held : {X : Type 0} (key : X → ℕ) (o : Option X) → filled (option_map key o ∷ []) ≡ map key (filled (o ∷ []))
 key_held key None = refl
 key_held key (Some x) = refl

@@ -1,6 +1,6 @@
 -- Slots of hashes.
 use Rattle.std.specs.Prelude.{ℕ, ◌==◌, if◌then◌else◌, Option, Some, None}
 
--- what a slot of hashes holds, in which 0 stands for none
+-- the entry in a slot of hashes; 0 is a free slot
 abbrev pub hash_held : ℕ → Option ℕ
 hash_held h = if h == 0 then None else Some h

@@ -1,4 +1,4 @@
--- What an entry ends as, where its summary is lent to be written.
+-- The final value of an entry whose summary is borrowed to be written.
 use Rattle.std.specs.Borrow.{Lends, Fml, RattleType, MutBor}
 use Rattle.core_slots.specs.contracts.entry.TupleEntry.{the_row}
 use Rattle.core_slots.specs.declared.entry.TupleEntry.{TupleEntry}

@@ -4,7 +4,7 @@ use Rattle.std.specs.List.{count_by}
 use Rattle.core_laws.specs.Maps.{entry_at}
 use Rattle.core_slots.specs.Layout.{filled, IsLaidOut}
 
--- some of the slots `whole` were moved below theta into `slots`, `from` are those that are left, and `put` were put
+-- some of the slots `whole` were moved below theta into `slots`; `from` are the remaining ones, and `put` entries were put
 pub record IsMoving {X : Type 0} (key : X → ℕ) (lg theta : ℕ) (whole from slots : List (Option X)) (put looked : ℕ) : Type 0 where
   pub laid_out : IsLaidOut key lg slots
   pub found : (q : ℕ) → q < theta → entry_at key (filled from ++ filled slots) q ≡ entry_at key (filled whole) q

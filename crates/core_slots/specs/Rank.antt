@@ -3,7 +3,7 @@ use Rattle.std.specs.Prelude.{ℕ, ◌≡◌, ◌&&◌, not, nat_lt, List, filte
 use Rattle.core_laws.specs.Maps.{rank, entry_at}
 use Rattle.core_laws.specs.Entries.{hash_key}
 
--- h is one of these hashes, and just k of them are smaller
+-- h is one of these hashes, and exactly k of them are smaller
 pub record HasRank (hashes : List ℕ) (k h : ℕ) : Type 0 where
   pub is_one : IsSome (entry_at hash_key hashes h)
   pub ranked : rank hash_key hashes h ≡ k

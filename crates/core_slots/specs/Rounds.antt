@@ -1,4 +1,4 @@
--- Entries that are put into free slots in rounds. In each, every entry that is left looks one slot further on its path.
+-- Entries that are put into free slots in rounds. In each round, every remaining entry looks one slot further on its path.
 use Rattle.std.specs.Prelude.{ℕ, ◌≡◌, ◌≤◌, ◌+◌, ◌*◌, ◌==◌, Option, List, ◌++◌, length}
 use Rattle.std.specs.List.{AllByRecursion, count_by}
 use Rattle.core_laws.specs.Maps.{entry_at}
@@ -16,7 +16,8 @@ times_in key held q slots = times key q (entries_in held slots)
 abbrev pub twice_sum_to : ℕ → ℕ
 twice_sum_to n = n * (n + 1)
 
--- of the entries `whole`, `put` are in slots, `begun` of them from the start and the others after `looked` looks; `stay` have looked in this round, and `wait` have not
+-- of the entries `whole`, `put` are in slots, `begun` of them from the start and the others after `looked` looks; `stay`
+-- have looked in this round, and `wait` have not
 pub record IsInRound {X : Type 0} (key : X → ℕ) (lg : ℕ) (whole stay wait : List X) (slots : List (Option X)) (begun round put looked : ℕ) : Type 0 where
   pub laid_out : IsLaidOut key lg slots
   pub found : (q : ℕ) → entry_at key (stay ++ (wait ++ filled slots)) q ≡ entry_at key whole q

@@ -5,7 +5,7 @@ use std::marker::Model;
 use std::mem;
 use std::snapshot::Snapshot;
 
-/// A number that contracts see and that takes no memory, from 0 on. It is as honest as the code that ticks it.
+/// A number, from 0 on, that contracts see and that takes no memory. It is as honest as the code that ticks it.
 #[derive(Drop)]
 pub struct Count {
     before: Snapshot<Option<Count>>,

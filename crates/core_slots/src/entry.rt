@@ -35,7 +35,7 @@ impl ThetaEntry {
         ThetaEntry { hash }
     }
 
-    /// The entry of any 64 bits, for a caller that has yet to see whether they are a hash that may be retained: an
+    /// The entry of any 64 bits, for a caller that doesn't know yet whether they are a hash that may be retained: an
     /// insertion screens them, and a reader of images checks them.
     pub fn of_hash(bits: u64) -> ThetaEntry
         ensures { result ≡ bits }
@@ -109,7 +109,7 @@ impl SlotEntry for ThetaEntry {
 
     #[inline(always)]
     fn is_below(slot: &ThetaEntry, bound: u64) -> bool {
-        // A free slot's 0 wraps to the greatest number, which is less than no bound.
+        // A free slot's 0 wraps to the greatest number, which is never less than the right side.
         slot.hash.wrapping_sub(1) < bound.saturating_sub(1)
     }
 
@@ -124,7 +124,7 @@ impl SlotEntry for ThetaEntry {
     }
 }
 
-/// The entry of a tuple sketch: a hash, and the summary of what came with it. Contracts see both.
+/// The entry of a tuple sketch: a hash and its summary. Contracts see both.
 #[derive(Debug, Clone, Drop)]
 pub struct TupleEntry<S> {
     pub(crate) hash: u64,
@@ -141,7 +141,7 @@ impl<S> TupleEntry<S> {
         TupleEntry { hash, summary }
     }
 
-    /// The entry of any 64 bits, for a caller that has yet to see whether they are a hash that may be retained: an
+    /// The entry of any 64 bits, for a caller that doesn't know yet whether they are a hash that may be retained: an
     /// insertion screens them, and a reader of images checks them.
     pub fn of_hash(bits: u64, summary: S) -> TupleEntry<S>
         ensures { result ≡ record { hash = bits; summary = summary } }
@@ -235,7 +235,7 @@ impl<S: Drop> SlotEntry for TupleEntry<S> {
 
     #[inline(always)]
     fn hash_or_greatest(slot: &Option<TupleEntry<S>>) -> u64 {
-        // By way of a reference: compiled, a number would be read behind a branch.
+        // Through a reference: otherwise the compiled code reads the number behind a branch.
         let hash = match slot {
             None => &u64::MAX,
             Some(entry) => &entry.hash,

@@ -1,5 +1,5 @@
-//! Slots laid out anew by way of others, into which what is below a theta is gathered first. No branch depends on a hash while
-//! it is gathered.
+//! Slots laid out anew by way of others, into which the entries below a theta are gathered first. No branch depends on
+//! a hash while they are gathered.
 ghost use Rattle.std.specs.Prelude.{◌≡◌, ◌+◌, ◌-◌, ◌<◌, ◌≤◌, ◌^◌, ◌*◌, [], None, nat_lt, OnOk, OnErr, length, map, take};
 ghost use Rattle.std.specs.List.{count_by};
 ghost use Rattle.core_laws.specs.Maps.{below, with_entry};
@@ -12,8 +12,8 @@ use crate::slots::{number_below, spread};
 use std::alloc::{AllocError, Allocator};
 use std::mem;
 
-/// Moves what is below theta into the slots in front of others, of which there is one more at least, and leaves the slots free.
-/// Answers how many have come.
+/// Moves the entries below theta to the front of `others`, which has at least one slot more than these entries, and
+/// leaves `slots` free. Returns how many it moved.
 fn take_below<E: SlotEntry>(slots: &mut [E::Slot], theta: u64, others: &mut [E::Slot]) -> usize
     requires room { length (below E.key (entries_in E.held slots.old) theta) < length others.old }
     ensures size { length slots.new ≡ length slots.old }
@@ -35,15 +35,16 @@ fn take_below<E: SlotEntry>(slots: &mut [E::Slot], theta: u64, others: &mut [E::
 /// How many bytes a word of memory has.
 const WORD: usize = 8;
 
-/// Whether slots are at most one word each. No clause speaks of memory: it chooses between two ways to the same answer.
+/// Whether slots are at most one word each. No clause speaks of memory: this chooses between two ways to the same
+/// result.
 #[inline(always)]
 pub(crate) fn are_words<T>(slots: &[T]) -> bool {
     size_of_val(slots) / WORD <= slots.len()
 }
 
-/// Lays the slots out anew with what is below theta, which is gathered in others first, of which there is one more at least; what
-/// is not is dropped. Slots of one word are filled in rounds, and larger ones one by one. Counts in `placed` the entries placed,
-/// in `looks` the slots looked at.
+/// Lays the slots out anew with the entries below theta and drops the rest. They are gathered in `others` first, which
+/// has at least one slot more than these entries. Slots of one word are filled in rounds, larger ones one by one.
+/// Counts the placed entries in `placed` and the looks at slots in `looks`.
 fn gather<E: SlotEntry, A: Allocator>(
     slots: &mut [E::Slot],
     others: Vec<E::Slot, A>,
@@ -73,10 +74,10 @@ where
     spread::<E, A>(&mut gathered, theta, slots, lg, placed, looks);
 }
 
-/// Puts a new entry into the free slot `at`, where a search for it ends, and lays the slots out anew with what is below theta, at
-/// most `kept` entries. Counts in `placed` the entries placed anew, in `looks` the slots looked at.
+/// Puts a new entry into the free slot `at`, where a search for it ends, and lays the slots out anew with the entries
+/// below theta, at most `kept` of them. Counts the entries placed anew in `placed` and the looks at slots in `looks`.
 ///
-/// It asks for `kept` slots more and one, and fails only where that memory ran out; then nothing has changed.
+/// It requests memory for `kept` + 1 more slots, and fails only if that memory runs out; then nothing has changed.
 pub(crate) fn put_gathered<E: SlotEntry + Drop, A: Allocator + Clone>(
     slots: &mut Vec<E::Slot, A>,
     lg: u8,

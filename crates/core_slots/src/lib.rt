@@ -1,10 +1,10 @@
-//! Entries of sketches, the steps of an insertion, and slots in which a table keeps entries by open addressing: searches,
-//! writes, moves from slots to slots, laying out anew in place, many hashes looked up at once, and the hash of a rank among
-//! those in slots.
+//! Entries of sketches, the steps of an insertion, and the slots in which a table stores entries by open addressing:
+//! searches, writes, moves from some slots to others, laying out anew in place, looking up many hashes at once, and the
+//! hash of a given rank among those in slots.
 //!
-//! There are 2^lg slots. The path of a hash begins at the slot of its low lg bits and goes on by an odd stride of its next
-//! 7 bits, so it meets each slot once. Contracts see slots as a list of what each holds, and speak of the map that the
-//! entries make. Whether an entry may be retained, and when slots grow, is for the table above to say.
+//! There are 2^lg slots. The path of a hash begins at the slot of its low lg bits and continues by an odd stride taken
+//! from its next 7 bits, so it meets each slot once. Contracts see slots as a list of their contents, and speak of the
+//! map of the entries in them. The table above decides whether an entry may be retained, and when slots grow.
 #![tactic(auto)]
 
 mod count;

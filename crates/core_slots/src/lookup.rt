@@ -1,7 +1,7 @@
-//! Many hashes looked up at once, so that the slots of one are waited for together with those of others.
+//! Many hashes looked up at once, so that the waits for their slots overlap.
 //!
-//! Which hash a slot holds is as good as random, and where slots are many each look waits for memory. So a round looks at one
-//! slot of each hash, without a branch on what it finds, and only then those that were found are left out.
+//! Which hash a slot holds is as good as random, and with many slots each look waits for memory. So a round looks at
+//! one slot of each hash, without a branch on what it finds, and drops the found hashes only afterwards.
 ghost use Rattle.std.specs.Prelude.{◌≡◌, ◌==◌, ◌<◌, ◌≤◌, ◌^◌, if◌then◌else◌, false, not, length, filter, take, slice_index, EachIndex};
 ghost use Rattle.std.specs.List.{AllByRecursion};
 ghost use Rattle.core_laws.specs.Insertion.{IsRedundant, LeavesOut, is_screened};
@@ -11,10 +11,10 @@ ghost use Rattle.core_slots.specs.Layout.{entries_in};
 use crate::slot_entry::SlotEntry;
 use crate::slots::{hash_or_zero, slot_after};
 
-/// How many slots on the path of a hash are looked at: few hashes that are held stand further on.
+/// How many slots on the path of a hash are looked at: few retained hashes are further along.
 const ROUNDS: usize = 3;
 
-/// The hash, or 0 where it is the other.
+/// The hash, or 0 if it equals `other`.
 #[inline(always)]
 fn unless_same(hash: u64, other: u64) -> u64
     ensures { result ≡ (if hash == other then 0 else hash) }
@@ -22,7 +22,7 @@ fn unless_same(hash: u64, other: u64) -> u64
     if hash == other { 0 } else { hash }
 }
 
-/// The hash, or 0 where the slot `at` holds it. It takes no branch.
+/// The hash, or 0 if the slot `at` holds it. It takes no branch.
 #[inline(always)]
 fn blanked_at<E: SlotEntry>(slots: &[E::Slot], at: usize, hash: u64) -> u64
     requires inside { at < length slots.now }
@@ -32,7 +32,7 @@ fn blanked_at<E: SlotEntry>(slots: &[E::Slot], at: usize, hash: u64) -> u64
     unless_same(hash, held)
 }
 
-/// Writes 0 in place of each hash that is held by the slot `step` strides along its path.
+/// Writes 0 over each hash that is in the slot `step` strides along its path.
 fn blank_held<E: SlotEntry>(slots: &[E::Slot], lg: u8, step: usize, hashes: &mut [u64])
     requires small { lg < 40 }
     requires near { step < 2 ^ 40 }
@@ -54,8 +54,8 @@ fn number_unscreened(hash: u64, theta: u64) -> usize
     (hash.wrapping_sub(1) < theta - 1) as usize
 }
 
-/// Moves the hashes that are neither 0 nor at least theta to the front, in their order, and tells how many they are. It takes
-/// no branch on a hash.
+/// Moves the hashes that are neither 0 nor at least theta to the front, in their order, and returns their number. It
+/// takes no branch on a hash.
 fn pack_unscreened(hashes: &mut [u64], theta: u64) -> usize
     requires positive { 0 < theta }
     ensures packed { take result hashes.new ≡ filter (λ h. not (is_screened h theta)) hashes.old }
@@ -70,10 +70,10 @@ fn pack_unscreened(hashes: &mut [u64], theta: u64) -> usize
     count
 }
 
-/// Leaves out of `hashes` all that are 0 or at least `theta`, and of the others only such as are held by one of the 2^`lg`
-/// slots: those found within a few looks. What is left moves to the front, in its order; tells how many these are.
+/// Drops from `hashes` all that are 0 or at least `theta`, and of the others only hashes that one of the 2^`lg` slots
+/// holds: those found within a few looks. The rest moves to the front, in its order; returns how many these are.
 ///
-/// The slots of one hash are waited for together with those of others. These looks are not counted.
+/// The waits for their slots overlap. These looks are not counted.
 pub fn leave_out_held<E: SlotEntry>(
     slots: &[E::Slot],
     lg: u8,

@@ -1,8 +1,8 @@
 //! Slots laid out anew in place, with those of their entries that are below a theta.
 //!
-//! A mark for each slot says whether what it holds has been placed. What no mark stands for waits: it is taken out of its slot
-//! and put into the first slot on its path that is not marked, and what waited there is carried on in the same way. Most
-//! entries go back to the slot that they came from, so that memory is met nearly in order.
+//! A mark for each slot records whether its entry has been placed. An entry in an unmarked slot waits: it is taken out
+//! and put into the first unmarked slot on its path, and the entry that waited there is carried on in the same way.
+//! Most entries return to the slot that they were in, so memory is visited nearly in order.
 ghost use Rattle.std.specs.Prelude.{◌≡◌, ℕ, ◌+◌, ◌-◌, ◌<◌, ◌≤◌, ◌^◌, ◌*◌, false, nat_lt, Some, None, IfOk, OnOk, OnErr, length, get_or, map, option_map, replicate};
 ghost use Rattle.std.specs.List.{count_by};
 ghost use Rattle.core_laws.specs.Maps.{below, with_entry};
@@ -27,9 +27,9 @@ fn is_marked(marks: &[bool], at: usize, looks: &mut Count) -> bool
     marks[at]
 }
 
-/// The first slot on the path of a hash that is not marked. One of the 2^`lg` slots is not.
+/// The first unmarked slot on the path of a hash. At least one of the 2^`lg` slots is unmarked.
 ///
-/// Each look at a mark is counted in `looks`: from 1 to one more than the slots that are marked.
+/// Counts each look at a mark in `looks`: from 1 to one more than the number of marked slots.
 #[inline(always)]
 fn first_unmarked(marks: &[bool], lg: u8, hash: u64, looks: &mut Count) -> usize
     requires small { lg < 40 }
@@ -50,7 +50,7 @@ fn first_unmarked(marks: &[bool], lg: u8, hash: u64, looks: &mut Count) -> usize
     }
 }
 
-/// The hash of what a slot holds, where it is below theta.
+/// The hash of the entry in a slot, if it is below theta.
 #[inline(always)]
 fn hash_below<E: SlotEntry>(slot: &E::Slot, theta: u64) -> Option<u64>
     ensures below { (h : ℕ) → result ≡ Some h → (option_map E.key (E.held slot.now) ≡ Some h) × (h < theta) }
@@ -59,11 +59,11 @@ fn hash_below<E: SlotEntry>(slot: &E::Slot, theta: u64) -> Option<u64>
     if !E::is_below(slot, theta) {
         return None;
     }
-    // It isn't free, so that isn't asked again.
+    // The slot isn't free, so this isn't checked again.
     Some(hash_or_zero::<E>(slot))
 }
 
-/// A mark for each of 2^`lg` slots, none of which is marked, in one request for memory.
+/// A mark for each of 2^`lg` slots, all of them unset, in one request for memory.
 fn no_marks<A: Allocator + Drop>(alloc: A, lg: u8) -> Result<Vec<bool, A>, AllocError>
     requires { lg < 40 }
     ensures { IfOk result (λ marks. marks.items ≡ replicate (2 ^ lg) false) }
@@ -72,8 +72,8 @@ fn no_marks<A: Allocator + Drop>(alloc: A, lg: u8) -> Result<Vec<bool, A>, Alloc
     Ok(marks)
 }
 
-/// Lays the slots out anew with what is below theta; what is not is dropped. Counts in `placed` the entries placed, in `looks`
-/// the looks at marks.
+/// Lays the slots out anew with the entries below theta and drops the rest. Counts the placed entries in `placed` and
+/// the looks at marks in `looks`.
 fn relay<E: SlotEntry>(
     slots: &mut [E::Slot],
     marks: &mut [bool],
@@ -104,9 +104,10 @@ fn relay<E: SlotEntry>(
     }
 }
 
-/// Keeps what is below theta, in the same slots. Counts in `placed` the entries placed anew, in `looks` the slots looked at.
+/// Keeps the entries below theta, in the same slots. Counts the entries placed anew in `placed` and the looks at slots
+/// in `looks`.
 ///
-/// It asks for a byte for each slot, and fails only where that memory ran out; then nothing has changed.
+/// It requests a byte for each slot, and fails only if that memory runs out; then nothing has changed.
 pub fn keep_below<E: SlotEntry + Drop, A: Allocator + Clone>(
     slots: &mut Vec<E::Slot, A>,
     lg: u8,
@@ -129,15 +130,16 @@ pub fn keep_below<E: SlotEntry + Drop, A: Allocator + Clone>(
     Ok(())
 }
 
-/// The binary logarithm up to which a rebuild gathers what it keeps into other slots, of any size. Larger ones are laid out anew
-/// in place where each has more than a word, since they are far in memory, and large.
+/// The binary logarithm up to which a rebuild gathers the kept entries into other slots, whatever the size of a slot.
+/// More slots than that are laid out anew in place if each has more than a word, since the memory is then distant and
+/// large.
 const GATHERED_LG: u8 = 16;
 
-/// Puts a new entry into the free slot `at`, where a search for it ends, and keeps of all what is below theta, in the same
-/// slots: at most `kept` entries. Counts in `placed` the entries placed anew, in `looks` the slots looked at.
+/// Puts a new entry into the free slot `at`, where a search for it ends, and keeps the entries below theta, in the same
+/// slots: at most `kept` of them. Counts the entries placed anew in `placed` and the looks at slots in `looks`.
 ///
-/// It asks for `kept` slots more and one, or for a byte for each slot where there are more than 2^16 of more than a word. It fails
-/// only where that memory ran out; then nothing has changed.
+/// It requests memory for `kept` + 1 more slots, or, if there are more than 2^16 slots of more than a word each, a byte
+/// for each slot. It fails only if that memory runs out; then nothing has changed.
 pub fn put_kept<E: SlotEntry + Drop, A: Allocator + Clone>(
     slots: &mut Vec<E::Slot, A>,
     lg: u8,

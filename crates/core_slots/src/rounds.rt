@@ -1,7 +1,7 @@
-//! Entries put into free slots in rounds, in each of which every entry that is left looks one slot further on its path.
+//! Entries put into free slots in rounds. In each round, every remaining entry looks one slot further on its path.
 //!
-//! Compiled, no branch depends on whether a slot is free, since the counts take no memory: put one by one, each entry ends its
-//! search with a branch that is guessed wrong.
+//! The counts take no memory, so in compiled code no branch depends on whether a slot is free. If entries were put one
+//! by one, each search would end with a mispredicted branch.
 ghost use Rattle.std.specs.Prelude.{◌≡◌, ℕ, ◌+◌, ◌-◌, ◌<◌, ◌≤◌, ◌^◌, ◌*◌, [], ◌++◌, None, is_none, if◌then◌else◌, length, map, set};
 ghost use Rattle.core_laws.specs.Maps.{IsApart, entry_at};
 ghost use Rattle.core_slots.specs.Layout.{slot, IsLaidOut, entries_in, slot_map};
@@ -14,7 +14,7 @@ use crate::slots::{hash_in, slot_after, slot_of};
 use std::alloc::Allocator;
 use std::mem;
 
-/// Two values, exchanged where that is asked. It takes no branch on it where they are words.
+/// The two values, exchanged if `is_exchanged`. If they are words, it takes no branch.
 #[inline(always)]
 fn exchanged_if<T>(is_exchanged: bool, first: T, second: T) -> (T, T)
     ensures first { result.0 ≡ if is_exchanged then second else first }
@@ -27,8 +27,8 @@ fn exchanged_if<T>(is_exchanged: bool, first: T, second: T) -> (T, T)
     }
 }
 
-/// Puts an entry into a slot if that is free. Answers whether it was, and what waits then: nothing, or the entry. It is one
-/// look.
+/// Puts an entry into a slot if the slot is free. Returns whether it was free, and what still waits: nothing, or the
+/// entry. It is one look.
 #[inline(always)]
 fn put_if_free<E: PathEntry>(
     slots: &mut [E::Slot],
@@ -49,7 +49,8 @@ fn put_if_free<E: PathEntry>(
     (is_free, waits)
 }
 
-/// The slot that a hash looks at in a round, below 2^`lg`. The first is that of its low bits, which most entries settle in.
+/// The slot that a hash looks at in a round, below 2^`lg`. The first is that of its low bits, where most entries
+/// settle.
 #[inline(always)]
 fn slot_in_round(hash: u64, lg: u8, round: usize) -> usize
     requires small { lg < 40 }
@@ -64,8 +65,8 @@ fn slot_in_round(hash: u64, lg: u8, round: usize) -> usize
     }
 }
 
-/// Moves the entries of `left` into free slots beside those that are taken, and leaves open what `left` holds then. Counts in
-/// `placed` the entries, in `looks` the slots looked at.
+/// Moves the entries of `left` into free slots beside the taken ones; afterwards the contents of `left` are
+/// unspecified. Counts the entries in `placed` and the looks at slots in `looks`.
 fn settle<E: SlotEntry>(
     left: &mut [E::Slot],
     slots: &mut [E::Slot],
@@ -111,11 +112,12 @@ fn settle<E: SlotEntry>(
     }
 }
 
-/// How many slots are settled at once. Gathered in the order of slots, their entries look at a small part of memory.
+/// How many slots are settled at once. They were gathered in the order of slots, so their entries look at a small part
+/// of memory.
 const PART: usize = 1024;
 
-/// Moves the entries of `left` into slots, all of which are free, so many at a time. Counts in `placed` the entries, in `looks`
-/// the slots looked at.
+/// Moves the entries of `left` into slots, all of which are free, `PART` slots at a time. Counts the entries in
+/// `placed` and the looks at slots in `looks`.
 pub(crate) fn settle_all<E: SlotEntry, A: Allocator>(
     left: &mut Vec<E::Slot, A>,
     slots: &mut [E::Slot],

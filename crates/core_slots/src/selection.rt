@@ -1,11 +1,12 @@
 //! The hash of a rank among those in slots.
 //!
-//! Hashes are spread evenly below the theta of a table, so that arithmetic tells about where the one of a rank is. One pass
-//! gathers the hashes within a narrow window around that place, and counts those below it, without a branch on any of them.
+//! Hashes are spread evenly below the theta of a table, so arithmetic predicts roughly where the hash of a rank is. One
+//! pass gathers the hashes within a narrow window around that prediction, and counts those below it, without a branch
+//! on any of them.
 //!
-//! Hashes that came in ascending lists are spread otherwise, so that a window may miss the rank. What it counted then tells on
-//! which side the hash is, and among how many, and the next window is aimed there. Where some windows have missed a last pass
-//! gathers all; what is answered is the same.
+//! Hashes inserted from ascending lists are spread differently, so a window may miss the rank. Its counts then show on
+//! which side the hash is, and among how many, and the next window is aimed there. After a few misses a last pass
+//! gathers all hashes; the result is the same.
 ghost use Rattle.std.specs.Prelude.{◌≡◌, ◌+◌, ◌-◌, ◌<◌, ◌≤◌, ◌^◌, [], ◌∷◌, ◌++◌, length, map, take, IfOk, OnOk};
 ghost use Rattle.core_laws.specs.Entries.{hash_key};
 ghost use Rattle.core_laws.specs.Maps.{IsApart, rank};
@@ -20,21 +21,21 @@ use std::alloc::{AllocError, Allocator};
 /// How many windows are searched before all hashes are gathered.
 const TRIES: usize = 4;
 
-/// How far a window goes down from the hash that is to be expected: so many times the span by twice the square root of the number
-/// of its hashes, which is about the standard deviation of that hash. Lists that ascend bring their smaller hashes first, so the
-/// hash of a rank may well be further down than evenly spread hashes have it.
+/// How far a window extends below the expected hash, in units of the span divided by twice the square root of the
+/// number of its hashes: about the standard deviation of that hash. Ascending lists insert their smaller hashes first,
+/// so the hash of a rank may well be further down than among evenly spread hashes.
 const FAR_DOWN: u64 = 8;
 
-/// Below which end of the hashes many lists have come, so that a window goes half as far down.
+/// If the hashes end below this, many lists were inserted, and a window extends half as far down.
 const END_OF_MANY: u64 = MAX_THETA / 16;
 
-/// How far a window goes up, in the same unit.
+/// How far a window extends up, in the same unit.
 const FAR_UP: u64 = 3;
 
-/// Of how many slots the greatest hash tells about how far the hashes of all reach.
+/// How many slots are sampled to estimate the greatest hash.
 const SAMPLE: usize = 1024;
 
-/// Where the hash of a rank is sought: from `low` on and below `high`. It is a hint, and no proof rests on it.
+/// Where the hash of a rank is searched for: at least `low` and below `high`. It is a hint, and no proof rests on it.
 #[derive(Clone, Copy)]
 struct Span {
     low: u64,
@@ -45,8 +46,8 @@ struct Span {
     rank_to: usize,
 }
 
-/// The bounds of a window around where the hash of a rank is to be expected among the hashes of a span, if they are spread
-/// evenly there.
+/// The bounds of a window around the expected hash of a rank among the hashes of a span, if they are spread evenly
+/// there.
 fn expected_bounds(span: Span, rank: usize) -> (u64, u64)
     ensures ordered { result.0 ≤ result.1 }
     ensures far { result.1 < greatest }
@@ -68,8 +69,8 @@ fn expected_bounds(span: Span, rank: usize) -> (u64, u64)
     (low.min(u64::MAX - 1), high.min(u64::MAX - 1))
 }
 
-/// What is left of a span after a window from `low` to `high` missed the rank: `below` hashes are less than `low`, and `between`
-/// are in the window.
+/// The rest of a span after a window from `low` to `high` missed the rank: `below` hashes are less than `low`, and
+/// `between` are in the window.
 fn narrowed(span: Span, low: u64, high: u64, below: usize, between: usize, rank: usize) -> Span {
     if below > rank {
         Span {
@@ -86,7 +87,7 @@ fn narrowed(span: Span, low: u64, high: u64, below: usize, between: usize, rank:
     }
 }
 
-/// One more than the greatest hash in the slots and `also`, if that is one.
+/// One more than the greatest hash in the slots and `also`, if there is one.
 fn end_of_hashes<E: SlotEntry>(also: Option<u64>, slots: &[E::Slot]) -> u64 {
     let mut greatest = also.unwrap_or(0);
     'raise_each: for slot in slots {
@@ -95,7 +96,8 @@ fn end_of_hashes<E: SlotEntry>(also: Option<u64>, slots: &[E::Slot]) -> u64 {
     greatest.saturating_add(1)
 }
 
-/// About how far the hashes in the slots reach: to theta, or, where none was dropped yet, a little beyond the greatest of a few.
+/// Roughly where the hashes in the slots end: at theta, or, if none was dropped yet, a little above the greatest of a
+/// few.
 fn expected_end<E: SlotEntry>(slots: &[E::Slot], theta: u64) -> u64 {
     if theta < MAX_THETA {
         return theta;
@@ -105,14 +107,14 @@ fn expected_end<E: SlotEntry>(slots: &[E::Slot], theta: u64) -> u64 {
     end.saturating_add(end / SAMPLE as u64)
 }
 
-/// How many hashes there is room for at least, unless there are fewer slots.
+/// The least number of hashes to have room for, unless there are fewer slots.
 const LEAST_ROOM: usize = 1024;
 
-/// How many slots are gone through at once.
+/// How many slots are read in one block.
 const BLOCK: usize = 64;
 
-/// Room for the hashes of a window among `count` in `size` slots: for twice as many as are to be expected and a block of slots, and
-/// at most for all and one more.
+/// How many hashes of a window to have room for, with `count` hashes in `size` slots: twice the expected number and a
+/// block of slots, and at most `size` + 1.
 fn window_room(count: usize, size: usize) -> usize
     ensures { result ≤ size + 1 }
 {
@@ -123,7 +125,7 @@ fn window_room(count: usize, size: usize) -> usize
         .min(size.saturating_add(1))
 }
 
-/// A hash, where it is from `low` to `high`.
+/// A hash, if it is from `low` to `high`.
 fn kept_within(hash: u64, low: u64, high: u64) -> Option<u64>
     ensures { filled (result ∷ []) ≡ within low high (hash ∷ []) }
 {
@@ -146,12 +148,12 @@ fn number_within(hash: u64, low: u64, high: u64) -> usize
     ensures number { result ≡ length (within low high (hash ∷ [])) }
     ensures small { result ≤ 1 }
 {
-    // What is less than `low` wraps beyond all from `low` to `high`.
+    // A hash less than `low` wraps above `high - low`.
     (hash.wrapping_sub(low) <= high - low) as usize
 }
 
-/// Gathers the hashes from `low` to `high` of a few slots in front of `found`. Answers how many have come, and how many hashes are
-/// less than `low`. No branch depends on a hash.
+/// Gathers the hashes from `low` to `high` in a few slots at the front of `found`. Returns how many it gathered, and
+/// how many hashes are less than `low`. No branch depends on a hash.
 fn gather_few<E: SlotEntry>(
     found: &mut [u64],
     slots: &[E::Slot],
@@ -177,7 +179,7 @@ fn gather_few<E: SlotEntry>(
     (count, less)
 }
 
-/// Makes a list at least so long, with zeros at its end.
+/// Makes a list at least `least` long, with zeros at its end.
 fn lengthen<A: Allocator>(list: &mut Vec<u64, A>, least: usize) -> Result<(), AllocError>
     ensures long { OnOk result (least ≤ length list.new.items) }
     ensures front { OnOk result (take (length list.old.items) list.new.items ≡ list.old.items) }
@@ -188,8 +190,8 @@ fn lengthen<A: Allocator>(list: &mut Vec<u64, A>, least: usize) -> Result<(), Al
     Ok(())
 }
 
-/// Gathers the hashes from `low` to `high` in the slots and `also`, if that is one, and counts those that are less than `low`.
-/// `room` hashes may come before it asks for memory again.
+/// Gathers the hashes from `low` to `high` in the slots and `also`, if there is one, and returns how many are less than
+/// `low`. It has room for `room` hashes before it requests memory again.
 fn gather_window<E: SlotEntry, A: Allocator>(
     hashes: &mut Vec<u64, A>,
     room: usize,
@@ -229,7 +231,7 @@ fn gather_window<E: SlotEntry, A: Allocator>(
     }
 }
 
-/// Gathers all hashes: `also`, if that is one, and those in the slots.
+/// Gathers all hashes: `also`, if there is one, and those in the slots.
 fn gather_all<E: SlotEntry, A: Allocator>(
     hashes: &mut Vec<u64, A>,
     also: Option<u64>,
@@ -249,7 +251,7 @@ fn gather_all<E: SlotEntry, A: Allocator>(
     Ok(())
 }
 
-/// The hash with this many smaller ones among these.
+/// The hash with exactly `rank` smaller ones among these.
 fn nth_hash<A: Allocator + Drop>(hashes: &mut Vec<u64, A>, rank: usize) -> u64
     requires apart { IsApart hash_key hashes.old.items }
     requires inside { rank < length hashes.old.items }
@@ -259,12 +261,12 @@ fn nth_hash<A: Allocator + Drop>(hashes: &mut Vec<u64, A>, rank: usize) -> u64
     *hash
 }
 
-/// The hash that has just `rank` smaller ones among those in the slots and `also`, if that is one. They are `count`, and
-/// differ.
+/// The hash with exactly `rank` smaller ones among those in the slots and `also`, if there is one. There are `count` of
+/// them, all distinct.
 ///
-/// Where they are spread evenly below `theta`, of 64 bits, it asks for memory for few of them, and otherwise for up to as many as
-/// there are slots and one; what it answers is the same. It fails only where that memory ran out. The memory is given back before
-/// it answers.
+/// If they are spread evenly below `theta`, which may be any 64 bits, it requests memory for few of them, and otherwise
+/// for up to one more than there are slots; the result is the same. It fails only if that memory runs out. It frees the
+/// memory before it returns.
 pub fn hash_of_rank<E: SlotEntry, A: Allocator + Drop>(
     alloc: A,
     also: Option<u64>,

@@ -9,20 +9,20 @@ use std::alloc::{AllocError, Allocator};
 
 /// An entry whose slots are searched. Each slot is free or holds an entry.
 ///
-/// `look` alone reads a slot, and it counts. So a function that knows no more of its entries than this trait examines no slot
-/// without a count. `SlotEntry` has what reads slots otherwise.
+/// Only `look` reads a slot, and it counts. So a function that knows no more of its entries than this trait examines no
+/// slot without a count. `SlotEntry` has the members that read slots without one.
 pub trait PathEntry: SketchEntry {
-    /// What a slot is in memory.
+    /// The type of a slot in memory.
     type Slot: Drop;
 
-    /// What a slot holds.
+    /// The entry that a slot holds, if any.
     ghost held: { Self.Slot → Option Self };
 
     /// A free slot.
     fn free_slot() -> Self::Slot
         ensures { held result ≡ None };
 
-    /// `count` free slots, in one request for memory. It fails only if memory ran out.
+    /// `count` free slots, in one request for memory. It fails only if memory runs out.
     fn free_slots<A: Allocator + Drop>(
         alloc: A,
         count: usize,
@@ -35,25 +35,25 @@ pub trait PathEntry: SketchEntry {
         requires { 0 < Self.key self }
         ensures { held result ≡ Some self };
 
-    /// The entry that a slot holds, if it holds one. It is one look, and is counted.
+    /// The entry that a slot holds, if any. It is one look, and is counted.
     fn look<'a>(slot: &'a Self::Slot, looks: &mut Count) -> Option<&'a Self>
         ensures held { option_copied result ≡ held slot.now }
         ensures counted { looks.new ≡ looks.old + 1 };
 }
 
-/// An entry that a table keeps in slots. Its members read a slot without a count: they serve what passes over all slots, or
-/// moves entries out of them.
+/// An entry that a table keeps in slots. Its members read a slot without a count, for code that passes over all slots
+/// or moves entries out of them.
 pub trait SlotEntry: PathEntry {
-    /// The entry that a slot held, if it held one.
+    /// The entry that a slot held, if any.
     fn from_slot(slot: Self::Slot) -> Option<Self>
         ensures { result ≡ Self.held slot };
 
-    /// What a slot held, taken out of it. What it holds then is open, for it is about to be written or dropped: a slot of one
-    /// word is read, and not written.
+    /// The contents of a slot, taken out of it. Its contents are unspecified afterwards, since it is about to be
+    /// written or dropped: a slot of one word is read, and not written.
     fn take_out(slot: &mut Self::Slot) -> Self::Slot
         ensures { Self.held result ≡ Self.held slot.old };
 
-    /// Whether a slot holds an entry whose hash is less than `bound`. A slot of one word tells it by one comparison.
+    /// Whether a slot holds an entry whose hash is less than `bound`. For a slot of one word this is one comparison.
     fn is_below(slot: &Self::Slot, bound: u64) -> bool
         ensures { result ≡ holds_below Self.key bound (Self.held slot.now) };
 
@@ -61,7 +61,7 @@ pub trait SlotEntry: PathEntry {
     fn hash_or_greatest(slot: &Self::Slot) -> u64
         ensures { result ≡ hash_or_greatest Self.key (Self.held slot.now) };
 
-    /// The entry that a slot holds, if it holds one.
+    /// The entry that a slot holds, if any.
     fn in_slot(slot: &Self::Slot) -> Option<&Self>
         ensures { option_copied result ≡ Self.held slot.now };
 }

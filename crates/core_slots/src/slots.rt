@@ -20,7 +20,7 @@ pub struct Place {
     pub is_free: bool,
 }
 
-/// The entry that a slot holds, if it holds one. Each look of a search is one call.
+/// The entry that a slot holds, if any. Each look of a search is one call.
 #[inline(always)]
 fn look_at<'a, E: PathEntry + 'a>(
     slots: &'a [E::Slot],
@@ -34,7 +34,7 @@ fn look_at<'a, E: PathEntry + 'a>(
     E::look(&slots[at], looks)
 }
 
-/// What is left of a number in so many slots.
+/// A number modulo 2^`lg`: the slot that its low bits name.
 #[inline(always)]
 pub(crate) fn slot_of(number: usize, lg: u8) -> usize
     requires { lg < 64 }
@@ -44,7 +44,7 @@ pub(crate) fn slot_of(number: usize, lg: u8) -> usize
     number & ((1usize << lg) - 1)
 }
 
-/// What is left of a number in `size` slots, which are 2^`lg`. That their number is there already saves a search the making of it.
+/// A number modulo `size`, which is 2^`lg`. Taking `size` saves a search from recomputing 2^`lg`.
 #[inline(always)]
 fn slot_among(number: usize, size: usize, lg: u8) -> usize
     requires small { lg < 64 }
@@ -58,7 +58,7 @@ fn slot_among(number: usize, size: usize, lg: u8) -> usize
 /// The bits of a hash, above its low lg bits, that choose the stride of its path.
 pub const STRIDE_MASK: u64 = 127;
 
-/// How far the path of a hash goes at each step.
+/// The length of each step on the path of a hash.
 #[inline(always)]
 pub(crate) fn stride_of(hash: u64, lg: u8) -> usize
     requires { lg < 64 }
@@ -68,9 +68,10 @@ pub(crate) fn stride_of(hash: u64, lg: u8) -> usize
     (2 * ((hash >> lg) & STRIDE_MASK) + 1) as usize
 }
 
-/// Where a search for a hash ends: at its entry, or else at the first free slot of its path. One of the 2^`lg` slots is free.
+/// The slot where a search for a hash ends: that of its entry, or else the first free slot of its path. At least one of
+/// the 2^`lg` slots is free.
 ///
-/// Each look at a slot is counted in `looks`: from 1 to one more than the slots that are taken.
+/// Counts each look at a slot in `looks`: from 1 to one more than the number of taken slots.
 #[inline(always)]
 pub fn seek<E: PathEntry>(slots: &[E::Slot], lg: u8, hash: u64, looks: &mut Count) -> Place
     requires small { lg < 40 }
@@ -99,7 +100,7 @@ pub fn seek<E: PathEntry>(slots: &[E::Slot], lg: u8, hash: u64, looks: &mut Coun
     }
 }
 
-/// The slot that a search for a hash looks at after so many steps, below 2^`lg`.
+/// The slot that a search for a hash looks at after `steps` steps, below 2^`lg`.
 #[inline(always)]
 pub(crate) fn slot_after(hash: u64, lg: u8, steps: usize) -> usize
     requires small { lg < 40 }
@@ -111,7 +112,7 @@ pub(crate) fn slot_after(hash: u64, lg: u8, steps: usize) -> usize
     slot_of(on, lg)
 }
 
-/// The hash of what a slot holds.
+/// The hash of the entry in a slot, if any.
 #[inline(always)]
 pub(crate) fn hash_in<E: SlotEntry>(slot: &E::Slot) -> Option<u64>
     ensures { result ≡ option_map E.key (E.held slot.now) }
@@ -120,7 +121,7 @@ pub(crate) fn hash_in<E: SlotEntry>(slot: &E::Slot) -> Option<u64>
     Some(entry.hash())
 }
 
-/// The hash of what a slot holds, and 0 for a free slot.
+/// The hash of the entry in a slot, and 0 for a free slot.
 #[inline(always)]
 pub(crate) fn hash_or_zero<E: SlotEntry>(slot: &E::Slot) -> u64
     ensures { result ≡ unwrap_or (option_map E.key (E.held slot.now)) 0 }
@@ -138,7 +139,7 @@ pub(crate) fn number_below<E: SlotEntry>(slot: &E::Slot, bound: u64) -> usize
     E::is_below(slot, bound) as usize
 }
 
-/// Puts a slot's entry of this hash where a search for the hash ends.
+/// Puts an entry, already in a slot of its own, into the slot where a search for its hash ends.
 #[inline(always)]
 fn put_slot<E: PathEntry>(
     slots: &mut [E::Slot],
@@ -161,7 +162,7 @@ fn put_slot<E: PathEntry>(
     slots[place.at] = filled_slot;
 }
 
-/// Moves the entries with a hash below theta into slots that are free.
+/// Moves the entries with a hash below theta into free slots.
 pub(crate) fn spread<E: SlotEntry, A: Allocator>(
     from: &mut Vec<E::Slot, A>,
     theta: u64,
@@ -190,7 +191,7 @@ pub(crate) fn spread<E: SlotEntry, A: Allocator>(
     }
 }
 
-/// 2^`lg` free slots, in one request for memory. It fails only where memory ran out.
+/// 2^`lg` free slots, in one request for memory. It fails only if memory runs out.
 pub fn free_slots<E: PathEntry, A: Allocator + Drop>(
     alloc: A,
     lg: u8,
@@ -212,10 +213,10 @@ pub(crate) fn power_of_two(lg: u8) -> usize
     1usize << lg
 }
 
-/// Puts a new entry into the free slot `at`, where a search for it ends, and moves all that is below theta to 2^`new_lg` other
-/// slots. Counts in `placed` the entries moved, in `looks` the slots looked at.
+/// Puts a new entry into the free slot `at`, where a search for it ends, and moves every entry below theta to
+/// 2^`new_lg` other slots. Counts the moved entries in `placed` and the looks at slots in `looks`.
 ///
-/// It fails only where memory for the other slots ran out; then nothing has changed.
+/// It fails only if memory for the other slots runs out; then nothing has changed.
 pub fn put_spread<E: SlotEntry + Drop, A: Allocator + Clone>(
     slots: &mut Vec<E::Slot, A>,
     lg: u8,

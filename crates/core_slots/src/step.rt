@@ -1,4 +1,4 @@
-//! What an insertion does with the entry that it finds or lacks.
+//! What an insertion does with the entry that it finds, or if it finds none.
 ghost use Rattle.std.specs.Prelude.{◌≡◌, Some, None, IfOk, MatchResult};
 ghost use Rattle.core_laws.specs.Refusal.{Refuses};
 ghost use Rattle.core_laws.specs.Step.{Step};
@@ -6,26 +6,26 @@ ghost use Rattle.core_laws.specs.Step.{Step};
 use crate::entry::TupleEntry;
 use sketch_base::Error;
 
-/// A step of an insertion: it writes the entry that has the hash, or else makes one, or declines to.
+/// A step of an insertion: it writes the entry that has the hash; if there is none, it makes one or declines to.
 ///
-/// A table calls one of the two, once, and neither where the hash is screened.
+/// A table calls one of the two methods, once; if the hash is screened, it calls neither.
 pub trait UpsertStep<X> {
-    /// What it writes and makes, where it refuses, and whether it may take memory.
+    /// What it writes and makes, when it refuses, and whether it may take memory.
     ghost means: { Self → Step X };
 
-    /// Writes the entry that is there. A refusal leaves it as it was.
+    /// Writes the existing entry. A refusal leaves the entry unchanged.
     fn existing(self, entry: &mut X) -> Result<(), Error>
         ensures written { MatchResult result (λ _. entry.new ≡ (means self).writes entry.old) (λ _. entry.new ≡ entry.old) }
         ensures refused { Refuses result ((means self).refuses_existing entry.old) (means self).allocates };
 
-    /// Makes the entry that joins, or none.
+    /// Makes the entry to insert, or declines to.
     fn absent(self) -> Result<Option<X>, Error>
         ensures made { IfOk result (λ made. made ≡ (means self).makes) }
         ensures refused { Refuses result (means self).refuses_absent (means self).allocates };
 }
 
-/// The step that makes an entry where none has its hash, and leaves one that is there. That of a theta sketch puts in the
-/// entry of a hash.
+/// The step that makes an entry if none has its hash, and leaves an existing one unchanged. A theta sketch inserts its
+/// hashes with it.
 #[derive(Drop)]
 pub struct PutStep<X> {
     entry: X,
@@ -56,8 +56,8 @@ impl<X: Drop> UpsertStep<X> for PutStep<X> {
     }
 }
 
-/// A step on the summary of a hash, as one on entries: an entry that is there keeps its hash, and one that is made gets the
-/// hash that is inserted.
+/// A step on the summary of a hash, as one on entries: an existing entry keeps its hash, and a new one gets the
+/// inserted hash.
 #[derive(Drop)]
 pub struct EntryStep<T> {
     hash: u64,

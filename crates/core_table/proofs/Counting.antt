@@ -1,4 +1,4 @@
--- What calls do to the counts of a table.
+-- The effects of calls on the counts of a table.
 use Rattle.std.proofs.Common.{◌≡◌, ℕ, zero, suc, ◌+◌, ◌*◌, ◌/◌, ◌^◌, ◌<◌, ◌≤◌, ◌⊎◌, min, Bool, true, false, leb, inl, inr, refl, arith}
 use Rattle.std.proofs.lemmas.Bool.{cases_lt}
 use Rattle.std.proofs.lemmas.Bool.Decides.{nat_tests}
@@ -29,7 +29,7 @@ pub counted_nothing : (lg nom : ℕ) → IsCounted lg nom 0 nothing_done
 counted_nothing lg nom = record { fresh = omega arith; rare = omega arith; few_placed = λ _. inl (refl, (omega arith, (omega arith, omega arith))) }
 
 module _ (lg nom count : ℕ) (done : Counts) (is : IsCounted lg nom count done) where
-  -- an entry more
+  -- one more entry
   pub counted_more : IsCounted lg nom (count + 1) (record done { inserted = done.inserted + 1; fresh = done.fresh + 1 })
   counted_more = record {
     fresh = omega (arith, is.fresh);
@@ -40,7 +40,7 @@ module _ (lg nom count : ℕ) (done : Counts) (is : IsCounted lg nom count done)
     ];
   }
 
-  -- an entry more, over more slots
+  -- one more entry, over more slots
   pub counted_grown : (new_lg : ℕ) → lg ≤ nom → 5 ≤ lg → lg + 1 ≤ new_lg → count ≤ 2 ^ lg / 2 → 2 ^ lg / 2 < count + 1 →
       IsCounted new_lg nom (count + 1) (record done { inserted = done.inserted + 1; fresh = done.fresh + 1; placed = done.placed + (count + 1) })
   counted_grown new_lg growing low wider few full =
@@ -56,7 +56,7 @@ module _ (lg nom count : ℕ) (done : Counts) (is : IsCounted lg nom count done)
         ];
       }
 
-  -- an entry more, and a rebuild
+  -- one more entry, and a rebuild
   pub counted_rebuilt : 3 ≤ nom → lg ≡ nom + 1 → 15 * 2 ^ nom / 8 < count + 1 →
       IsCounted lg nom (2 ^ nom) (record done { inserted = done.inserted + 1; fresh = 0; placed = done.placed + 2 ^ nom; rebuilds = done.rebuilds + 1 })
   counted_rebuilt large at full =
@@ -104,7 +104,7 @@ told_apart true grows nominal count done looks later = refl
 told_apart false true nominal count done looks later = refl
 told_apart false false nominal count done looks later = refl
 
--- what an insertion that creates an entry comes to, case by case
+-- the results of an insertion that creates an entry, case by case
 pub record IsTicked (lg nom grow count new_lg new_count : ℕ) (done new : Counts) : Type 0 where
   pub size : size_after lg nom grow count ≡ new_lg
   pub retained : count_after lg nom count ≡ new_count
@@ -144,7 +144,7 @@ module _ (lg nom grow count : ℕ) (done : Counts) where
         ]
       ]
 
-  -- a rebuild comes only where seven eighths of the nominal entries are fresh, the new one counted
+  -- a rebuild happens only if seven eighths of the nominal entries are fresh, the new one counted
   pub ticked_seldom : HasSize lg nom grow count → (nom < 3 → count + 1 < 2 ^ lg) → IsCounted lg nom count done → ((ticked lg nom count done).rebuilds ≡ done.rebuilds) ⊎ (7 * 2 ^ nom < 8 * (done.fresh + 1))
   ticked_seldom sized room is =
       elim (cases_lt (threshold lg nom) (count + 1)) [
@@ -155,6 +155,6 @@ module _ (lg nom grow count : ℕ) (done : Counts) where
         ]
       ]
 
-  -- the looks are told apart
+  -- the looks are counted apart from the rest
   pub ticked_looks : (looks later : ℕ) → record (ticked lg nom count (record done { looks = looks })) { looks = later } ≡ record (ticked lg nom count done) { looks = later }
   ticked_looks looks later = told_apart (leb (count + 1) (threshold lg nom)) (leb lg nom) (2 ^ nom) count done looks later

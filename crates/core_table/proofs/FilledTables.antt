@@ -34,7 +34,7 @@ module _ {X : Type 0} (key : X → ℕ) where
   length-put : (xs : List X) (x : X) → length (with_entry key xs x) ≤ length xs + 1
   length-put xs x = omega (arith, parts_fit xs (key x), length-append (below key xs (key x)) (x ∷ above key xs (key x)))
 
-  -- what is left to put in, and where it goes: keys that are new there, at most n in all
+  -- the entries left to insert, and the map that they are inserted into: keys that are new there, at most n in all
   pub record IsFilling (n theta : ℕ) (left : List X) (now : Retained X) : Type 0 where
     pub apart : IsApart key left
     pub nonzero : AllByRecursion (λ x. 0 < key x) left
@@ -50,7 +50,7 @@ module _ {X : Type 0} (key : X → ℕ) where
     new_key : entry_at key now.entries (key x) ≡ None
     new_key = so_far.absent (key x) x (entry_at_head key x left (key x) refl)
 
-    -- an entry is put in, and nothing is rebuilt
+    -- an entry is inserted, and nothing is rebuilt
     pub put_is : (k : ℕ) → n ≤ 15 * k / 8 → after_upsert key k (key x) (put_step x) now ≡ record { entries = with_entry key now.entries x; theta = now.theta }
     put_is k free =
         (absent_case key k (key x) (put_step x) now (is_screened_false (key x) now.theta (λ zero. omega (arith, zero, so_far.nonzero.0)) (omega (arith, so_far.below_theta.0, so_far.same_theta))) new_key).after_is
@@ -72,7 +72,7 @@ module _ {X : Type 0} (key : X → ℕ) where
     pub joined-put : joined key last now.entries (x ∷ left) ≡ joined key last (with_entry key now.entries x) left
     joined-put = ap (λ o. joined key last (with_entry key now.entries (option_map_or (λ w. x) o x)) left) new_key
 
-  -- all put in make their map
+  -- inserting all entries makes their map
   pub joined-all : (items : List X) → IsApart key items → joined key last [] items ≡ map_of key items
   joined-all items apart = joined-map_of key last (λ x y same. refl) [] items (ascending-nil key) apart ∙ joined-nil key last (λ x y same. refl) (map_of key items) (ascending-map_of key items)
 
@@ -80,7 +80,7 @@ pub none_left : {X : Type 0} (xs : List X) → length xs ≡ 0 → xs ≡ []
 none_left [] e = refl
 none_left (x ∷ xs) e = absurd (omega (arith, e))
 
--- a table with what it was made with, one insertion further
+-- a table with the settings that it was made with, one insertion further
 pub made_with_next : {X : Type 0} → (first was now : MapTable X) → (kept : Retained X) → was ≡ record first { kept = was.kept } → now ≡ record was { kept = kept } → now ≡ record first { kept = now.kept }
 made_with_next {X} first was now kept before step =
     let at_first : Retained X → MapTable X = λ v. record first { kept = v } in

@@ -1,4 +1,4 @@
--- What is below a theta of entries in any order, and answers that list it.
+-- The entries below a theta in any order, and results that list them.
 use Rattle.std.proofs.Common.{◌≡◌, ℕ, ◌<◌, ◌≤◌, ◌^◌, ◌++◌, ◌||◌, arith, MatchOption, Bool, true, false, ltb, List, [], ◌∷◌, length, Option, Some, None, refl, sym, ap, ◌∙◌}
 use Rattle.std.specs.List.{AllByRecursion}
 use Rattle.std.proofs.lemmas.Bool.Decides.{nat_tests}
@@ -60,7 +60,7 @@ module _ {X : Type 0} (key : X → ℕ) where
           in_order = λ _. is;
         }
 
--- entries that may be put into a table of k nominal entries with this theta, and make this cut there
+-- entries that may be inserted into a table of k nominal entries with this theta, and make this cut there
 pub record MakeCut {X : Type 0} (key : X → ℕ) (k theta : ℕ) (xs : List X) (made : Retained X) : Type 0 where
   pub apart : IsApart key xs
   pub nonzero : AllByRecursion (λ x. 0 < key x) xs
@@ -69,7 +69,7 @@ pub record MakeCut {X : Type 0} (key : X → ℕ) (k theta : ℕ) (xs : List X) 
   pub made_is : record { entries = map_of key xs; theta = theta } ≡ made
 
 module _ {X : Type 0} (key : X → ℕ) (xs : List X) (each : IsApart key xs) where
-  -- what is below the theta of a cut, in any order
+  -- the entries below the theta of a cut, in any order
   pub makes_cut : (k own theta lesser : ℕ) → IsRetained key (record { entries = map_of key xs; theta = own }) → 0 < lesser → lesser ≤ own → k < 2 ^ 32 → cut key k (map_of key xs) theta ≡ retained key (map_of key xs) lesser
       → MakeCut key k lesser (below key xs lesser) (cut key k (map_of key xs) theta)
   makes_cut k own theta lesser kept low high small is_cut =
@@ -97,7 +97,7 @@ module _ {X : Type 0} (key : X → ℕ) (theta : ℕ) where
   none_below_slot None b is none = tt
   none_below_slot (Some x) b is none = let far : ltb (key x) theta ≡ false = sym is ∙ none in (grind (arith, nat_tests), tt)
 
-  -- a slot more
+  -- one more slot
   pub none_below-next : (any b : Bool) (xs : List X) (held : Option X) → (any ≡ false → NoneBelow xs) → MatchOption held (b ≡ false) (λ x. b ≡ ltb (key x) theta) → (any || b) ≡ false → NoneBelow (xs ++ filled (held ∷ []))
   none_below-next true b xs held so_far is none = absurd (cc)
   none_below-next false b xs held so_far is none = none_below_more xs (filled (held ∷ [])) (so_far refl) (none_below_slot held b is none)

@@ -28,7 +28,7 @@ module _ (hashes : List ℕ) (old : MapTable ℕ) where
   pub nothing_inserted : HasInserted hashes hashes old old
   nothing_inserted = record { front = []; parts = refl; after = refl }
 
-  -- what is left, in two parts
+  -- the remaining hashes, in two parts
   pub parted : (rest block others : List ℕ) (mid : ℕ) (new : MapTable ℕ) → block ≡ take mid rest → others ≡ drop mid rest → HasInserted hashes rest old new → HasInserted hashes (block ++ others) old new
   parted rest block others mid new front back was =
       let same : block ++ others ≡ rest = ap (λ xs. xs ++ others) front ∙ ap (λ xs. take mid rest ++ xs) back ∙ take-append-drop mid rest in
@@ -53,7 +53,7 @@ module _ (hashes : List ℕ) (old : MapTable ℕ) where
     (part.4.0 ∙ ap (after_hashes part.0) was.after ∙ sym (after_hashes-append was.front part.0 old), part.4.1),
   )
 
--- one of a list, and what stands before and behind it
+-- one of a list, and the elements before and after it
 pub stops_here : (hashes : List ℕ) (index : ℕ) → index < length hashes → hashes ≡ take index hashes ++ get_or hashes index 0 ∷ drop (suc index) hashes
 stops_here hashes index lt = sym (take-append-drop index hashes) ∙ ap (λ xs. take index hashes ++ xs) (drop-cons hashes index 0 lt)
 
@@ -67,7 +67,7 @@ module _ (t : MapTable ℕ) (is : IsRetained hash_key t.kept) where
       let whole = left_out-front (IsRedundant hash_key t.kept) hashes part.0 part.1 part.2 (subst (λ zs. LeavesOut (IsRedundant hash_key t.kept) hashes zs) part.3 leaves) in
       (whole.0, part.1, whole.1, whole.2, (part.4.0 ∙ left_inserted whole.0 part.0 whole.3, part.4.1))
 
--- what is redundant by the entries in slots is so by their map
+-- a hash that is redundant by the entries in slots is redundant by their map
 redundant_in_map : (xs : List ℕ) (theta : ℕ) (hashes left : List ℕ) → LeavesOut (IsRedundant hash_key (record { entries = xs; theta = theta })) hashes left → LeavesOut (IsRedundant hash_key (record { entries = map_of hash_key xs; theta = theta })) hashes left
 redundant_in_map xs theta =
     left_out-weaker (IsRedundant hash_key (record { entries = xs; theta = theta })) (IsRedundant hash_key (record { entries = map_of hash_key xs; theta = theta }))

@@ -1,4 +1,4 @@
--- Marks: the first marked slot, what is marked behind it, and slots that no mark stands for.
+-- Marks: the first marked slot, the slots after it, and slots without a mark.
 use Rattle.std.proofs.Common.{Bor, true, false, cond, ltb, ◌≡◌, ℕ, zero, suc, ◌+◌, ◌-◌, ◌*◌, ◌/◌, ◌^◌, ◌<◌, ◌≤◌, not, if◌then◌else◌, List, [], ◌∷◌, length, map, get_or, take, drop, drop-cons, Option, Some, None, is_some, refl, sym, ap, subst, ◌∙◌, arith}
 use Rattle.std.specs.List.{prefix_len}
 use Rattle.std.specs.Option.{option_copied}
@@ -22,11 +22,11 @@ odd_halved : (m : ℕ) → (1 + 2 * m) / 2 ^ 0 / 2 ≡ m
 odd_halved m = ap (λ k. k / 2) (div-one (1 + 2 * m)) ∙ omega arith
 
 module _ {X : Type 0} where
-  -- the bits of which of some slots hold an entry
+  -- a bit for each of some slots: whether it holds an entry
   abbrev pub marks_in : List (Option X) → ℕ
   marks_in slots = mask_l (map is_some slots)
 
-  -- slots without a mark hold nothing
+  -- slots without a mark have no entries
   pub unmarked : (slots : List (Option X)) (n : ℕ) → marks_in (take n slots) ≡ 0 → filled slots ≡ filled (drop n slots)
   unmarked [] zero e = refl
   unmarked [] (suc n) e = refl
@@ -34,7 +34,7 @@ module _ {X : Type 0} where
   unmarked (None ∷ slots) (suc n) e = unmarked slots n (omega (arith, e))
   unmarked (Some x ∷ slots) (suc n) e = absurd (omega (arith, e))
 
-  -- how many slots stand before the first that holds an entry
+  -- how many slots are before the first that holds an entry
   abbrev pub free_before : List (Option X) → ℕ
   free_before slots = prefix_len (λ o. not (is_some o)) slots
 
@@ -117,11 +117,11 @@ module _ {S X : Type 0} (held : S → Option X) where
     told = told ∙ ap marks_in (sym (take-map held ahead slots));
   }
 
-  -- what no mark stands for is passed over
+  -- slots without a mark are passed over
   pub passed_over : (slots : List S) (ahead marks : ℕ) → AreMarked (map held slots) ahead marks → marks ≡ 0 → filled (map held (take (length slots - ahead) (drop ahead slots))) ≡ filled (map held slots)
   passed_over slots ahead marks are none = rw (behind_slice slots ahead) (sym (unmarked (map held slots) ahead (sym are.told ∙ none)))
 
-  -- of slots of which some are marked: the first marked one, and what is behind it
+  -- slots, some of them marked: the first marked one, and the slots after it
   module _ (slots : List S) (ahead marks : ℕ) (are : AreMarked (map held slots) ahead marks) (some : 0 < marks) where
     abbrev n : ℕ
     n = count_trailing_zeros 64 marks
@@ -166,7 +166,7 @@ one_at_most (Some x) = omega arith
 pub never_none : {X : Type 0} {o : Option (Bor X)} {x : X} → o ≡ None → option_copied o ≡ Some x → ⊥
 never_none none some = absurd (cc)
 
--- what slots hold under a bound
+-- the entries in slots under a bound
 module _ {S X : Type 0} (key : X → ℕ) (held : S → Option X) where
   only_held : (theta : ℕ) (o : Option X) (x : X) → only_below key theta o ≡ Some x → o ≡ Some x
   only_held theta None x is = absurd (cc)
@@ -176,12 +176,12 @@ module _ {S X : Type 0} (key : X → ℕ) (held : S → Option X) where
   under_held None s x is = is
   under_held (Some theta) s x is = only_held theta (held s) x is
 
-  -- under the bound the first marked slot holds what it holds
+  -- the entry of the first marked slot is under the bound
   pub first_held : (bound : Option ℕ) (slots : List S) (ahead marks : ℕ) (are : AreMarked (map (under key bound held) slots) ahead marks) (some : 0 < marks) (d : S)
       → held (get_or slots (count_trailing_zeros 64 marks) d) ≡ Some (first (under key bound held) slots ahead marks are some).entry
   first_held bound slots ahead marks are some d = under_held bound (get_or slots (count_trailing_zeros 64 marks) d) (first (under key bound held) slots ahead marks are some).entry (held_first (under key bound held) slots ahead marks are some d)
 
-  -- what is held under a theta is what is held, below it
+  -- the entries under a theta are the entries below it
   pub filled-under : (theta : ℕ) (slots : List S) → filled (map (under key (Some theta) held) slots) ≡ below key (filled (map held slots)) theta
   filled-under theta [] = refl
   filled-under theta (s ∷ slots) =

@@ -50,7 +50,7 @@ module _ {X : Type 0} (key : X → ℕ) where
   found_moved xs ys q x moved each found =
       subst (λ (h : ℕ). entry_at key ys h ≡ Some x) (found_key key xs q x found) (contained ys x each (Contains-permutation xs ys x moved (found_contains xs q x found)))
 
-  -- the order of entries of different keys is no matter to what they have at a key
+  -- the order of entries with distinct keys doesn't change the entry at a key
   entry_at-moved : (xs ys : List X) (q : ℕ) → IsPermutation xs ys → IsApart key xs → IsApart key ys → entry_at key xs q ≡ entry_at key ys q
   entry_at-moved xs ys q moved each_x each_y =
       (elim (entry_at key xs q) as (λ o. entry_at key xs q ≡ o → o ≡ entry_at key ys q) [
@@ -82,7 +82,7 @@ module _ {X : Type 0} (key : X → ℕ) where
   ascending-steps (x ∷ xs) steps each =
       ascending-cons key x xs (steps_head x xs xs (λ j d lt. steps zero (suc j) d (omega arith) (omega arith)) each.0) (ascending-steps xs (steps_tail x xs steps) each.1)
 
-  -- entries of different keys, sorted, are the map that they make
+  -- entries with distinct keys, sorted, are the map that they make
   pub sorted_map : (xs ys : List X) → IsPermutation xs ys → IsNonDecreasingBy key ys → IsApart key xs → ys ≡ map_of key xs
   sorted_map xs ys moved steps each =
       let each_y : IsApart key ys = apart-moved xs ys moved each in
@@ -108,7 +108,7 @@ module _ {X : Type 0} (key : X → ℕ) where
   parts_of xs q none =
       rw (filter-agree_each (λ y. ltb q (key y)) (λ y. not (ltb (key y) q)) xs (absent_each xs q none)) (IsPermutation-filter_both (λ y. ltb (key y) q) (λ y. not (ltb (key y) q)) (λ y. refl) xs)
 
-  -- the map that entries of different keys make has each of them once
+  -- the map of entries with distinct keys has each of them once
   pub map_of-moved : (xs : List X) → IsApart key xs → IsPermutation (map_of key xs) xs
   map_of-moved [] each = IsPermutation-refl []
   map_of-moved (x ∷ xs) each =

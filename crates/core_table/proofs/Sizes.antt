@@ -13,7 +13,7 @@ use Rattle.core_laws.proofs.insertions.Cases.{or_left, or_right}
 double : (r : ℕ) → 2 ^ (r + 1) ≡ 2 ^ r * 2
 double r = simp unary_clauses refl
 
--- the number whose powers stand around n is its whole logarithm
+-- the r with 2^r ≤ n < 2^(r+1) is the binary logarithm of n, rounded down
 pub whole_log_is : (n r : ℕ) → 0 < n → n < 2 ^ 64 → 2 ^ r ≤ n → n < 2 * 2 ^ r → r ≡ whole_log n
 whole_log_is n r low fits le lt =
     let top = leading_top 64 n low fits in
@@ -88,7 +88,7 @@ module _ (n lg_cur lg_nom : ℕ) (sized : IsSizedFor n lg_cur lg_nom) (few : n <
       ]
 
 module _ {X : Type 0} (key : X → ℕ) where
-  -- where there is room every hash may be inserted
+  -- if there is room, every hash may be inserted
   pub with_room : (h : ℕ) (t : MapTable X) → IsTrue (has_room t) → IsTrue (may_insert key h t)
   with_room h t room = or_right (is_screened h t.kept.theta) _ (or_right (is_some (entry_at key t.kept.entries h)) _ room)
 

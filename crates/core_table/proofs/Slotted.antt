@@ -20,7 +20,7 @@ use Rattle.core_table.proofs.OtherOrders.{map_of-moved}
 use Rattle.core_slots.proofs.Ranks.{apart-laid_out}
 use Rattle.core_table.proofs.Tables.{threshold_most, least_slots}
 
--- what a slot holds that was told as taken, or as free
+-- the entry of a slot that was reported as taken, and none of one reported as free
 pub taken_is : {X : Type 0} (o : Option X) (told : Bool) → told ≡ is_none o → not told ≡ true → (x : X) × (o ≡ Some x)
 taken_is None told e is = absurd (cc)
 taken_is (Some x) told e is = (x, refl)
@@ -50,7 +50,7 @@ not_false true e = refl
 not_false false e = absurd (cc)
 
 module _ {X : Type 0} (key : X → ℕ) where
-  -- where a hash may be inserted that is not passed over, there are slots
+  -- if a hash that isn't screened may be inserted, there are slots
   pub must_have : (t : MapTable X) (lg grow count h : ℕ) (slots : List (Option X)) → IsSlotted key t lg grow count slots → t.kept.entries ≡ map_of key (filled slots) → is_screened h t.kept.theta ≡ false → IsTrue (may_insert key h t) → t.has_slots ≡ true
   must_have t lg grow count h slots is same passes may =
       (elim t.has_slots as (λ b. t.has_slots ≡ b → b ≡ true) [
@@ -62,7 +62,7 @@ module _ {X : Type 0} (key : X → ℕ) where
             sym e ∙ (needs (is_screened h t.kept.theta) (is_some (entry_at key t.kept.entries h)) (leb 3 t.lg_nom) t.has_slots (ltb (length t.kept.entries + 1) (2 ^ (t.lg_nom + 1))) passes absent low may).0
       ]) refl
 
-  -- and room, where no entry has it
+  -- and there is room if no entry has it
   pub must_fit : (t : MapTable X) (lg grow count h : ℕ) (slots : List (Option X)) → IsSlotted key t lg grow count slots → t.kept.entries ≡ map_of key (filled slots) → t.has_slots ≡ true → is_screened h t.kept.theta ≡ false → entry_at key t.kept.entries h ≡ None → IsTrue (may_insert key h t)
       → t.lg_nom < 3 → count + 1 < 2 ^ lg
   must_fit t lg grow count h slots is same has passes none may small =
@@ -133,7 +133,7 @@ module _ {X : Type 0} (key : X → ℕ) where
         | false ↦ λ e. rw (is.without e) refl
       ]) refl
 
-  -- a table that holds nothing
+  -- a table without entries
   pub slotted_new : (lg_nom start seed hash theta lg grow : ℕ) (slots : List (Option X)) → filled slots ≡ [] → length slots ≡ 2 ^ lg → HasSize lg lg_nom grow 0 → 0 < theta → theta ≤ MAX_THETA → IsMadeWith lg_nom start seed hash
       → IsSlotted key (record { kept = record { entries = map_of key (filled slots); theta = theta }; lg_nom = lg_nom; has_slots = true; start = start; seed = seed; seed_hash = hash }) lg grow 0 slots
   slotted_new lg_nom start seed hash theta lg grow slots none size sized low high made = record {
@@ -153,11 +153,11 @@ module _ {X : Type 0} (key : X → ℕ) where
   pub none_without : (t : MapTable X) (lg grow count : ℕ) (slots : List (Option X)) → IsSlotted key t lg grow count slots → t.has_slots ≡ false → count ≡ 0
   none_without t lg grow count slots is without = is.counted ∙ ap (λ s. length (filled s)) (is.without without)
 
-  -- a cut of few entries leaves them
+  -- a cut of few entries keeps all of them
   pub few_stay : (k t : ℕ) (m : List X) → IsRetained key (record { entries = m; theta = t }) → length m ≤ k → cut key k m t ≡ record { entries = m; theta = t }
   few_stay k t m is few = cut_few key k m t is.ascending (omega (arith, rank_all key m t is.below_theta, few)) ∙ ap (λ ys. record { entries = ys; theta = t }) (below_all key m t is.below_theta)
 
-  -- a table lends what its slots hold
+  -- a table lists the entries in its slots
   pub slotted_lends : (t : MapTable X) (lg grow count : ℕ) (slots : List (Option X)) → IsSlotted key t lg grow count slots → IsLent key (map_of key (filled slots)) (filled slots)
   slotted_lends t lg grow count slots is =
       let each : IsApart key (filled slots) =

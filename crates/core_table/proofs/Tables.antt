@@ -1,4 +1,4 @@
--- Sizes of tables in slots, and what an insertion makes of them.
+-- Sizes of tables in slots, and how an insertion changes them.
 use Rattle.std.proofs.Common.{◌≡◌, ℕ, suc, ◌+◌, ◌-◌, ◌*◌, ◌/◌, ◌%◌, ◌^◌, ◌<◌, ◌≤◌, min, true, false, cond, not, if◌then◌else◌, leb, eqb, List, length, set, Option, Some, None, inl, inr, ◌⊎◌, refl, sym, ap, ◌∙◌, arith}
 use Rattle.std.proofs.lemmas.Bool.{cases_lt}
 use Rattle.std.proofs.lemmas.Bool.Decides.{nat_tests}
@@ -66,7 +66,7 @@ one_more lg nom grow count is fits small = record {
   starts = is.starts;
 }
 
--- the threshold is no more than fifteen eighths of the nominal entries, and just that at full size
+-- the threshold is at most fifteen eighths of the nominal entries, and exactly that at full size
 pub threshold_most : (lg nom grow count : ℕ) → HasSize lg nom grow count → 3 ≤ nom → threshold lg nom ≤ 15 * 2 ^ nom / 8
 threshold_most lg nom grow count is large =
     let e = eights nom large in
@@ -78,7 +78,7 @@ threshold_most lg nom grow count is large =
 pub threshold_is : (lg nom : ℕ) → lg ≡ nom + 1 → 3 ≤ nom → threshold lg nom ≡ 15 * 2 ^ nom / 8
 threshold_is lg nom at large = let e = eights nom large in let full : nom < lg = omega (arith, at) in omega (arith, threshold_full lg nom full, twice lg nom at, e.1)
 
--- what a table that grows comes to
+-- the sizes of a table after it grows
 pub record IsGrown (lg new_lg nom grow count : ℕ) : Type 0 where
   pub size : HasSize new_lg nom grow (count + 1)
   pub fits : count + 1 ≤ 2 ^ new_lg
@@ -147,7 +147,7 @@ full lg nom grow count is past over small =
       };
     }
 
--- ---- what the insertion of an entry leaves
+-- ---- the slots after the insertion of an entry
 module _ {X : Type 0} (key : X → ℕ) (lg p : ℕ) (x : X) (slots : List (Option X)) (is : IsLaidOut key lg slots) (inside : p < length slots) (free : slot slots p ≡ None) (on : IsOnPath key lg slots (key x) p) where
   pub joins : map_of key (filled (set slots p (Some x))) ≡ with_entry key (map_of key (filled slots)) x
   joins = put_joins key lg p x slots is inside on (ap (is_other key (key x)) free)
@@ -156,7 +156,7 @@ module _ {X : Type 0} (key : X → ℕ) (lg p : ℕ) (x : X) (slots : List (Opti
   joined_count =
       ap length (sym joins) ∙ length-map_of key lg (set slots p (Some x)) (laid_out_new key lg slots p x is inside free on) ∙ filled_new slots p x inside free
 
-  -- no rebuild where they are few, or the nominal entries are
+  -- no rebuild if the entries are few, or the nominal entries are
   pub not_rebuilt : (nom theta : ℕ) → (nom < 3) ⊎ (length (filled slots) + 1 ≤ 15 * 2 ^ nom / 8) → rebuilt key (2 ^ nom) (with_entry key (map_of key (filled slots)) x) theta ≡ record { entries = with_entry key (map_of key (filled slots)) x; theta = theta }
   not_rebuilt nom theta (inl lt) = rebuilt_small key (2 ^ nom) (with_entry key (map_of key (filled slots)) x) theta (let most : 2 ^ nom ≤ 2 ^ 2 = pow_mono {i = nom} {j = 2} (omega (arith, lt)) in omega (arith, most))
   not_rebuilt nom theta (inr few) = rebuilt_free key (2 ^ nom) (with_entry key (map_of key (filled slots)) x) theta (omega (arith, few, joined_count))

@@ -1,4 +1,4 @@
--- An insertion of a hash that passes the screen, by what the search for it ends at.
+-- An insertion of a hash that isn't screened, by the slot where its search ends.
 use Rattle.std.proofs.Common.{◌≡◌, ℕ, ◌+◌, ◌^◌, ◌<◌, ◌≢◌, Bool, true, false, IsTrue, not, List, Option, Some, None, ◌∙◌}
 use Rattle.std.specs.Prelude.{is_some, is_none, ◌||◌}
 use Rattle.core_laws.specs.Step.{Step}

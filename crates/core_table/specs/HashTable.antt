@@ -16,7 +16,8 @@ use Rattle.core_slots.specs.declared.entry.TupleEntry.{TupleEntry}
 use Rattle.core_table.specs.declared.insertion.Counts.{Counts}
 use Rattle.core_slots.specs.Layout.{filled, IsLaidOut}
 
--- what a table retains, and what it was made with: its nominal logarithm, whether it has slots at all, its starting theta, its seed and that seed's hash
+-- what a table retains, and what it was made with: its nominal logarithm, whether it has slots at all, its starting theta,
+-- its seed and that seed's hash
 pub record MapTable (X : Type 0) : Type 0 where
   pub kept : Retained X
   pub lg_nom : ℕ
@@ -25,13 +26,14 @@ pub record MapTable (X : Type 0) : Type 0 where
   pub seed : ℕ
   pub seed_hash : ℕ
 
--- the slots of a table, their binary logarithm, and by how much that grows at once
+-- the slots of a table, their binary logarithm, and by how much it grows at once
 pub record Layout (X : Type 0) : Type 0 where
   pub lg_cur : ℕ
   pub grow : ℕ
   pub slots : List (Option X)
 
--- what clauses see of a table: its map, its entries in the order in which it lends them, which is open, its slots, and what was done
+-- what clauses see of a table: its map, its entries in the order in which it returns them, which is unspecified, its slots,
+-- and the counts of its work
 pub record Table (X : Type 0) : Type 0 where
   pub map : MapTable X
   pub lends : List X
@@ -56,11 +58,11 @@ IsSized lg_cur lg_nom = (lg_cur ≡ lg_nom + 1) ⊎ ((lg_cur ≡ 0) × (lg_nom �
 abbrev pub IsSeedHash : (seed hash : ℕ) → Type 0
 IsSeedHash seed hash = (hash ≡ seed_hash seed) × (0 < hash)
 
--- the table with no entries and its starting theta again
+-- the table after a reset: with no entries and its starting theta
 abbrev pub after_reset : {X : Type 0} → MapTable X → MapTable X
 after_reset t = record t { kept = none_below t.start }
 
--- what a table may be made with
+-- the settings that a table may be made with
 pub record IsMadeWith (lg_nom start seed hash : ℕ) : Type 0 where
   pub lg_nom_high : lg_nom ≤ 32
   pub start_low : 0 < start
@@ -109,46 +111,48 @@ after_hashes hashes t = record t { kept = after_upserts hash_key (2 ^ t.lg_nom) 
 abbrev pub StopsAtMemory : (hashes : List ℕ) → (old new : MapTable ℕ) → Type 0
 StopsAtMemory hashes old new = StopsAt hashes (λ front hash. (new ≡ after_hashes front old) × IsTrue (hash_allocates hash new.kept))
 
--- what holds of every table
+-- the laws of every table
 pub record IsTable {X : Type 0} (key : X → ℕ) (t : MapTable X) : Type 0 where
   pub kept : IsRetained key t.kept
   pub few : 8 ≤ 2 ^ t.lg_nom → length t.kept.entries ≤ 15 * 2 ^ t.lg_nom / 8
   pub made : IsMadeWith t.lg_nom t.start t.seed t.seed_hash
   pub without_slots : t.has_slots ≡ false → t.lg_nom ≡ 0
 
--- the whole binary logarithm of a number below 2^64, and 0 for 0
+-- the binary logarithm of a number below 2^64, rounded down, and 0 for 0
 abbrev pub whole_log : ℕ → ℕ
 whole_log n = 63 - count_leading_zeros 64 n
 
--- the binary logarithm of slots of which n entries fill at most fifteen sixteenths
+-- the binary logarithm of slots that n entries fill to at most fifteen sixteenths
 abbrev pub lg_size_for : ℕ → ℕ
 lg_size_for n = if nat_lt (2 ^ (whole_log n + 1) * 15 / 16) n then whole_log n + 2 else whole_log n + 1
 
--- whether there is room for an entry more: always from sixteen slots on, where a rebuild comes before they are full; in fewer, while two are free
+-- whether there is room for one more entry: always from sixteen slots on, since they are rebuilt before they are full; with
+-- fewer slots, while two are free
 abbrev pub has_room : {X : Type 0} → MapTable X → Bool
 has_room t = nat_le 3 t.lg_nom || (t.has_slots && nat_lt (length t.kept.entries + 1) (2 ^ (t.lg_nom + 1)))
 
--- whether a hash may be inserted: it is passed over, or retained, or there is room
+-- whether a hash may be inserted: it is screened, or retained, or there is room
 abbrev pub may_insert : {X : Type 0} → (X → ℕ) → ℕ → MapTable X → Bool
 may_insert key h t = is_screened h t.kept.theta || (is_some (entry_at key t.kept.entries h) || has_room t)
 
--- how many entries the slots may have before there are more of them or a rebuild
+-- how many entries the slots may have before they grow or are rebuilt
 abbrev pub threshold : (lg_cur lg_nom : ℕ) → ℕ
 threshold lg_cur lg_nom = if nat_le lg_cur lg_nom then 2 ^ lg_cur / 2 else 2 ^ lg_cur - 2 ^ lg_cur / 16
 
--- the binary logarithm of the slots that a table begins with: at least low, and so that growth by so much comes to the target
+-- the binary logarithm of the slots that a table begins with: at least low, and such that growth by `grow` reaches the
+-- target
 abbrev pub sub_multiple : (target low grow : ℕ) → ℕ
 sub_multiple target low grow = if nat_le target low then low else if grow == 0 then target else ((target - low) % grow + low)
 
--- how many slots the table of an operator has: none where their logarithm is 0
+-- how many slots the table of an operator has: none if their logarithm is 0
 abbrev pub slots_of_operator : ℕ → ℕ
 slots_of_operator lg = if lg == 0 then 0 else 2 ^ lg
 
--- nothing was done
+-- counts that are all 0
 abbrev pub nothing_done : Counts
 nothing_done = record { inserted = 0; placed = 0; rebuilds = 0; fresh = 0; looks = 0; trims = 0 }
 
--- so many slots for so many entries, where the logarithm grows by so much
+-- 2^lg_cur slots may have count entries, if their logarithm grows by `grow`
 pub record HasSize (lg_cur lg_nom grow count : ℕ) : Type 0 where
   pub few : count ≤ threshold lg_cur lg_nom
   pub room : count < 2 ^ lg_cur
@@ -158,7 +162,7 @@ pub record HasSize (lg_cur lg_nom grow count : ℕ) : Type 0 where
   pub grows : lg_cur ≤ lg_nom → (MIN_LG_SLOTS ≤ lg_cur) × (1 ≤ grow)
   pub starts : MIN_LG_K ≤ lg_nom → sub_multiple (lg_nom + 1) MIN_LG_SLOTS grow ≤ lg_cur
 
--- what holds of every table in slots
+-- the laws of every table in slots
 pub record IsSlotted {X : Type 0} (key : X → ℕ) (t : MapTable X) (lg_cur grow count : ℕ) (slots : List (Option X)) : Type 0 where
   pub table : IsTable key t
   pub laid_out : t.has_slots ≡ true → IsLaidOut key lg_cur slots
@@ -166,26 +170,31 @@ pub record IsSlotted {X : Type 0} (key : X → ℕ) (t : MapTable X) (lg_cur gro
   pub counted : count ≡ length (filled slots)
   pub sized : t.has_slots ≡ true → HasSize lg_cur t.lg_nom grow count
 
--- few entries were placed: before the first rebuild less than the slots and twice the entries, and from the first rebuild on at most three times those that were created before the fresh ones
+-- few entries were placed: before the first rebuild fewer than the slots and twice the entries, and from the first rebuild
+-- on at most three times those that were created before the fresh ones
 abbrev pub ArePlaced : (lg_cur lg_nom count : ℕ) → Counts → Type 0
 ArePlaced lg_cur lg_nom count done =
     ((done.fresh ≡ done.inserted) × ((count ≤ done.inserted) × ((2 * done.placed ≤ 2 ^ lg_cur + 2 * lg_cur) × (done.placed ≤ 3 * done.inserted)))) ⊎ ((lg_nom < lg_cur) × (done.placed + 3 * done.fresh ≤ 3 * done.inserted))
 
--- what was done against the entries that there are: all beyond the nominal ones are fresh, rebuilds are rare, and few entries were placed where none was cut but by insertions
+-- counts against the retained entries: all beyond the nominal ones are fresh, rebuilds are rare, and few entries were
+-- placed if only insertions cut any
 pub record IsCounted (lg_cur lg_nom count : ℕ) (done : Counts) : Type 0 where
   pub fresh : count ≤ 2 ^ lg_nom + done.fresh
   pub rare : 7 * 2 ^ lg_nom * done.rebuilds + 8 * done.fresh ≤ 8 * done.inserted
   pub few_placed : done.trims ≡ 0 → ArePlaced lg_cur lg_nom count done
 
--- the binary logarithm of the slots after an insertion that creates an entry: more, where they then have more entries than they may and can still grow
+-- the binary logarithm of the slots after an insertion that creates an entry: greater if they then have more entries than
+-- they may and can still grow
 abbrev pub size_after : (lg_cur lg_nom grow count : ℕ) → ℕ
 size_after lg_cur lg_nom grow count = if nat_le (count + 1) (threshold lg_cur lg_nom) then lg_cur else if nat_le lg_cur lg_nom then min (lg_cur + grow) (lg_nom + 1) else lg_cur
 
--- how many entries there are after an insertion that creates one: the nominal ones, where the slots then have more than they may and cannot grow
+-- how many entries there are after an insertion that creates one: the nominal ones if the slots then have more than they
+-- may and cannot grow
 abbrev pub count_after : (lg_cur lg_nom count : ℕ) → ℕ
 count_after lg_cur lg_nom count = if nat_le (count + 1) (threshold lg_cur lg_nom) then count + 1 else if nat_le lg_cur lg_nom then count + 1 else 2 ^ lg_nom
 
--- what is counted of an insertion that creates an entry, all but its looks, where the slots have room for it, can grow, or neither: into more slots all entries are placed, and in a rebuild the nominal ones
+-- the counts after an insertion that creates an entry, all but its looks, if the slots have room for it, can grow, or
+-- neither: growth places all entries, and a rebuild the nominal ones
 abbrev pub ticked_if : (fits grows : Bool) → (nominal count : ℕ) → Counts → Counts
 ticked_if true grows nominal count done = record done { inserted = done.inserted + 1; fresh = done.fresh + 1 }
 ticked_if false true nominal count done = record done { inserted = done.inserted + 1; fresh = done.fresh + 1; placed = done.placed + (count + 1) }
@@ -227,7 +236,7 @@ IsBelowThreshold t = length t.map.kept.entries < threshold t.layout.lg_cur t.map
 abbrev pub RefusesBelowThreshold : {T X : Type 0} → Result T ErrorKind → (key : X → ℕ) → ℕ → Step X → Table X → Type 0
 RefusesBelowThreshold r key hash step t = IsBelowThreshold t → RefusesAsStep r key hash step t.map.kept
 
--- what holds of every table, of the threshold that it keeps, and of what was done to it
+-- the laws of every table, its stored threshold and the counts of its work
 pub record IsProbing {X : Type 0} (key : X → ℕ) (t : MapTable X) (lg_cur grow most count : ℕ) (slots : List (Option X)) (done : Counts) : Type 0 where
   pub slotted : IsSlotted key t lg_cur grow count slots
   pub bounded : most ≡ (if t.has_slots then threshold lg_cur t.lg_nom else 0)

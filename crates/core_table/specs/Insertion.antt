@@ -8,7 +8,8 @@ use Rattle.core_slots.specs.Layout.{filled, slot, slot_map, IsOnPath, IsLaidOut}
 use Rattle.core_table.specs.HashTable.{threshold, HasSize}
 use Rattle.core_table.specs.declared.insertion.Sizes.{Sizes}
 
--- slots of such sizes, with their entries on their paths and below theta, have a free slot at a place for the entry: it is on the entry's path, and the entry is to be retained
+-- slots of these sizes, with their entries on their paths and below theta, have a free slot `at` for the entry: it is on
+-- the entry's path, and the entry may be retained
 pub record HasPlaceFor {X : Type 0} (key : X → ℕ) (slots : List (Option X)) (sizes : Sizes) (at : ℕ) (entry : X) : Type 0 where
   pub laid_out : IsLaidOut key sizes.lg_cur slots
   pub counted : sizes.count ≡ length (filled slots)

@@ -1,4 +1,4 @@
-//! Answers of tables: what is in slots, below a theta, as compact states.
+//! Results of tables: the entries in slots below a theta, as compact states.
 ghost use Rattle.std.specs.Prelude.{◌≡◌, ◌<◌, ◌≤◌, ◌^◌, [], ◌∷◌, ◌++◌, length, true, false, None, IfOk};
 ghost use Rattle.std.specs.List.{AllByRecursion};
 ghost use Rattle.core_compact.specs.CompactState.{IsCompactOf};
@@ -16,8 +16,8 @@ use core_slots::{SlotEntry, hash_of_rank};
 use sketch_base::Error;
 use std::alloc::{AllocError, Allocator};
 
-/// Clones of the entries below a theta, in the order of the slots, with room for `room` of them from the start. No branch depends
-/// on what a slot holds.
+/// Clones of the entries below a theta, in the order of the slots, with room for `room` of them from the start. No
+/// branch depends on the contents of a slot.
 pub(crate) fn entries_below<'a, E: SlotEntry + Clone + 'a, A: Allocator>(
     alloc: A,
     slots: &'a [E::Slot],
@@ -40,7 +40,7 @@ pub(crate) fn entries_below<'a, E: SlotEntry + Clone + 'a, A: Allocator>(
     Ok(clones)
 }
 
-/// Entries of different hashes, ascending.
+/// The entries, whose hashes are distinct, in ascending order.
 fn sorted<E: SketchEntry + Drop, A: Allocator>(mut entries: Vec<E, A>) -> Vec<E, A>
     requires { IsApart E.key entries.items }
     ensures { result.items ≡ map_of E.key entries.items }
@@ -49,8 +49,8 @@ fn sorted<E: SketchEntry + Drop, A: Allocator>(mut entries: Vec<E, A>) -> Vec<E,
     entries
 }
 
-/// The entries below a theta as the state of a sketch that is not empty, ordered where that is asked or there is one entry
-/// below the greatest theta; with room for `room` of them from the start.
+/// The entries below a theta as the state of a sketch that is not empty, with room for `room` of them from the start.
+/// It is ordered if `ordered`, or if there is one entry and theta is the greatest.
 pub(crate) fn state_below<E: SlotEntry + Clone, A: Allocator>(
     alloc: A,
     slots: &[E::Slot],
@@ -74,8 +74,8 @@ pub(crate) fn state_below<E: SlotEntry + Clone, A: Allocator>(
     Ok(CompactSketchState::non_empty(entries, theta, seed_hash, false))
 }
 
-/// The theta of what is below a theta, cut to k: the same, or the (k+1)th smallest hash where that is less. That the entries
-/// are spread evenly below `own_theta` is no more than a hint.
+/// The theta of the entries below `theta`, cut to k: the same theta, or the (k+1)th smallest hash if that is less. It
+/// is only a hint that the entries are spread evenly below `own_theta`.
 pub(crate) fn cut_theta<E: SlotEntry, A: Allocator + Drop>(
     alloc: A,
     slots: &[E::Slot],

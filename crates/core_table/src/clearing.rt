@@ -1,4 +1,4 @@
-//! Slots that are given back free.
+//! Freeing the slots of a table.
 ghost use Rattle.std.specs.Prelude.{◌≡◌, ◌<◌, ◌≤◌, ◌^◌, length, [], IfOk, IsOk};
 ghost use Rattle.core_table.specs.HashTable.{slots_of_operator};
 ghost use Rattle.core_slots.specs.Layout.{entries_in};
@@ -6,7 +6,7 @@ ghost use Rattle.core_slots.specs.Layout.{entries_in};
 use core_slots::{SlotEntry, free_slots};
 use std::alloc::{AllocError, Allocator};
 
-/// Leaves so many slots, all of them free. It takes no memory.
+/// Keeps `size` slots and makes all of them free. It takes no memory.
 pub(crate) fn clear_slots<E: SlotEntry, A: Allocator>(slots: &mut Vec<E::Slot, A>, size: usize)
     requires { size ≤ length slots.old.items }
     ensures size { length slots.new.items ≡ size }
@@ -18,7 +18,7 @@ pub(crate) fn clear_slots<E: SlotEntry, A: Allocator>(slots: &mut Vec<E::Slot, A
     }
 }
 
-/// The slots of an operator's table: 2^`lg`, all of them free, or none where `lg` is 0.
+/// The slots of an operator's table: 2^`lg`, all of them free, or none if `lg` is 0.
 pub(crate) fn operator_slots<E: SlotEntry, A: Allocator + Drop>(
     alloc: A,
     lg: u8,

@@ -38,19 +38,19 @@ use std::marker::{Model, PhantomData};
 
 /// The entries of a sketch below its theta. Contracts see them as a map, ascending by hash, and the theta.
 ///
-/// With k the nominal entries, 2 to the power of its nominal logarithm and at least 8, an insertion that makes the
-/// entries more than 15k/8 lowers theta to the (k+1)th smallest hash, and exactly the k below it stay.
+/// With k the nominal entries, 2 to the power of its nominal logarithm and at least 8, an insertion that brings the
+/// retained entries above 15k/8 lowers theta to the (k+1)th smallest hash, and exactly the k entries below it stay.
 ///
-/// It keeps its entries in slots by open addressing, at most 2k of them. Only contracts see what it counts of its work; of many
-/// hashes at once (`insert_hashes`) they say only that no look is forgotten.
+/// It stores its entries by open addressing in at most 2k slots. Only contracts see the counts of its work; for many
+/// hashes at once (`insert_hashes`) they say only that the count of looks doesn't decrease.
 #[derive(Drop)]
 pub struct SketchHashTable<E: SlotEntry, A: Allocator = Global> {
     lg_cur_size: u8,
     lg_nom_size: u8,
     resize_factor: ResizeFactor,
     has_slots: bool,
-    // How many entries the slots may have before there are more of them or a rebuild: `threshold_of` their sizes, kept, since
-    // each insertion asks for it. 0 without slots.
+    // How many entries the slots may have before they grow or are rebuilt: `threshold_of` their sizes, stored since
+    // each insertion needs it. 0 without slots.
     threshold: usize,
     starting_theta: u64,
     seed: u64,
@@ -59,7 +59,7 @@ pub struct SketchHashTable<E: SlotEntry, A: Allocator = Global> {
     count: usize,
     slots: Vec<E::Slot, A>,
     counts: Counts,
-    // No bytes: it names the entries, whose lifetimes the type of a slot doesn't tell.
+    // No bytes: it names the entries, since the type of a slot doesn't show their lifetimes.
     of: PhantomData<E>,
 }
 
@@ -77,10 +77,11 @@ impl<E: SlotEntry, A: Allocator> Model for SketchHashTable<E, A> {
 }
 
 impl<E: SlotEntry, A: Allocator> SketchHashTable<E, A> {
-    /// An empty table of 2^`lg_nom_size` nominal entries, with `lg_nom_size` from 4 to 26, and a starting theta from 1 to `MAX_THETA`.
+    /// An empty table of 2^`lg_nom_size` nominal entries, with `lg_nom_size` from 4 to 26, and a starting theta from 1
+    /// to `MAX_THETA`.
     ///
-    /// Refused with `InvalidArgument` outside these ranges, and for a seed whose seed hash is 0; with `OutOfMemory` where
-    /// memory is. The resize factor, by which the slots grow, has no effect on what the table answers.
+    /// Refused with `InvalidArgument` outside these ranges and for a seed whose seed hash is 0; with `OutOfMemory` if
+    /// memory runs out. The resize factor, by which the slots grow, has no effect on what the table returns.
     pub fn new(
         alloc: A,
         lg_nom_size: u8,
@@ -120,10 +121,10 @@ impl<E: SlotEntry, A: Allocator> SketchHashTable<E, A> {
         })
     }
 
-    /// An empty table of an operator, that retains hashes below `retention_theta`, from 1 to `MAX_THETA`. It has
-    /// 2^`lg_cur_size` slots, at most 2^33, for 2^`lg_nom_size` nominal entries, half as many; or no slots and one nominal
-    /// entry where both logarithms are 0. Its starting theta is `MAX_THETA`, and `seed_hash` is the hash of `seed`, which is
-    /// not 0.
+    /// An empty table of an operator. It retains hashes below `retention_theta`, from 1 to `MAX_THETA`. It has
+    /// 2^`lg_cur_size` slots, at most 2^33, for 2^`lg_nom_size` nominal entries, half as many; or no slots and one
+    /// nominal entry if both logarithms are 0. Its starting theta is `MAX_THETA`, and `seed_hash` is the hash of
+    /// `seed`, which is not 0.
     ///
     /// Refused with `OutOfMemory` alone, and never without slots.
     pub fn for_set_operation(
@@ -166,8 +167,8 @@ impl<E: SlotEntry, A: Allocator> SketchHashTable<E, A> {
         })
     }
 
-    /// The binary logarithm of the slots for which a rebuild comes only beyond `count` entries: `count` is at most fifteen
-    /// sixteenths of them. From 1, for no entry or one, to 65.
+    /// The binary logarithm of a number of slots of which `count` entries are at most fifteen sixteenths, so that they
+    /// are rebuilt only beyond `count` entries. From 1, for no entry or one, to 65.
     pub fn lg_size_from_count_for_rebuild(count: usize) -> u8
         ensures { result ≡ lg_size_for count }
     {
@@ -180,8 +181,8 @@ impl<E: SlotEntry, A: Allocator> SketchHashTable<E, A> {
         }
     }
 
-    /// How many entries its slots may have before there are more slots or a rebuild: half of the slots while they can grow,
-    /// then fifteen sixteenths, 15k/8 in a table of `new`; 0 without slots.
+    /// How many entries its slots may have before they grow or are rebuilt: half of the slots while they can grow, then
+    /// fifteen sixteenths, which is 15k/8 in a table of `new`; 0 without slots.
     pub fn capacity_threshold(&self) -> usize
         ensures threshold { self.now.map.has_slots ≡ true → result ≡ threshold self.now.layout.lg_cur self.now.map.lg_nom }
         ensures none { self.now.map.has_slots ≡ false → result ≡ 0 }
@@ -213,8 +214,8 @@ impl<E: SlotEntry, A: Allocator> SketchHashTable<E, A> {
         self.theta
     }
 
-    /// Whether there is room for an entry more: always in a table of 16 slots or more, which is rebuilt before it is full; in
-    /// one of fewer, while two of its slots are free; never without slots.
+    /// Whether there is room for one more entry: always in a table of 16 slots or more, which is rebuilt before it is
+    /// full; in a table with fewer slots, while two of them are free; never without slots.
     #[inline(always)]
     pub fn has_room(&self) -> bool
         ensures { result ≡ has_room self.now.map }
@@ -226,7 +227,7 @@ impl<E: SlotEntry, A: Allocator> SketchHashTable<E, A> {
         self.has_slots && count < 2 * nominal_size(self.lg_nom_size) - 1
     }
 
-    /// Sets the theta that hashes to be retained are below, from 1 to `MAX_THETA`. It is above every retained hash.
+    /// Sets the theta that retained hashes are below, from 1 to `MAX_THETA`. It must be above every retained hash.
     pub fn set_retention_theta(&mut self, retention_theta: u64)
         requires low { 0 < retention_theta }
         requires high { retention_theta ≤ MAX_THETA }
@@ -287,12 +288,12 @@ impl<E: SlotEntry, A: Allocator> SketchHashTable<E, A> {
         self.slots.allocator()
     }
 
-    /// How many bytes its slots take.
+    /// The size of its slots in bytes.
     pub fn estimated_size(&self) -> usize {
         size_of_val(self.slots.as_slice())
     }
 
-    /// Each retained entry once, in an open order.
+    /// Each retained entry once, in an unspecified order.
     pub fn iter_entries(&self) -> SketchHashTableIter<'_, E>
         ensures lent { result ≡ self.now.lends }
         ensures each_once { IsLent E.key self.now.map.kept.entries self.now.lends }
@@ -305,8 +306,8 @@ impl<E: SlotEntry, A: Allocator> SketchHashTable<E, A> {
 }
 
 impl<E: SlotEntry, A: Allocator> SketchHashTable<E, A> {
-    /// Removes all entries, and takes the starting theta and the starting size back. It takes no memory. The table is one of
-    /// a sketch, whose nominal logarithm is at least 4.
+    /// Removes all entries and restores the starting theta and the starting size. It takes no memory. The table must be
+    /// one of a sketch, whose nominal logarithm is at least 4.
     pub fn reset(&mut self)
         requires of_sketch { MIN_LG_K ≤ self.old.map.lg_nom }
         ensures after { self.new.map ≡ after_reset self.old.map }
@@ -337,13 +338,13 @@ impl<E: SlotEntry, A: Allocator> SketchHashTable<E, A> {
 }
 
 impl<E: SlotEntry + Drop, A: Allocator + Clone> SketchHashTable<E, A> {
-    /// Inserts a hash: the step writes the entry that has it, or else makes one. Answers whether an entry was made.
+    /// Inserts a hash: the step writes the entry that has it, or else makes one. Returns whether it made an entry.
     ///
-    /// A hash that is 0 or at least theta is screened: no step is called, nothing changes and the answer is false.
-    /// Any other hash is retained already, or there is room for an entry more. Refused with what the step refuses, or with
-    /// `OutOfMemory`; then nothing has changed.
+    /// A hash that is 0 or at least theta is screened: no step is called, nothing changes and the result is false. Any
+    /// other hash must be retained already, or there must be room for one more entry. Refused with the step's error, or
+    /// with `OutOfMemory`; then nothing has changed.
     ///
-    /// Below `capacity_threshold` an insertion takes no memory but what its step takes.
+    /// Below `capacity_threshold` an insertion takes no memory except for its step.
     #[inline(always)]
     pub fn upsert_entry<S: UpsertStep<E> + Drop>(
         &mut self,
@@ -369,7 +370,7 @@ impl<E: SlotEntry + Drop, A: Allocator + Clone> SketchHashTable<E, A> {
         ensures screened { IsUncountedIfScreened hash self.old self.new }
         ensures layout_err { OnErr result (self.new.layout ≡ self.old.layout) }
     {
-        // Once many have come most are at least theta, so that is asked first.
+        // After many insertions most hashes are at least theta, so this is checked first.
         if hash >= self.theta || hash == 0 {
             return Ok(false);
         }
@@ -404,9 +405,9 @@ impl<E: SlotEntry + Drop, A: Allocator + Clone> SketchHashTable<E, A> {
         }
     }
 
-    /// Where more than k entries are retained, lowers theta to the (k+1)th smallest hash and keeps the k below it.
+    /// If more than k entries are retained, lowers theta to the (k+1)th smallest hash and keeps the k below it.
     ///
-    /// Refused with `OutOfMemory` alone, and only where more than k are retained; then nothing has changed.
+    /// Refused with `OutOfMemory` alone, and only if more than k are retained; then nothing has changed.
     pub fn trim(&mut self) -> Result<(), Error>
         ensures after { OnOk result (self.new.map ≡ trimmed E.key self.old.map) }
         ensures err { OnErr result (self.new.map ≡ self.old.map) }
@@ -440,8 +441,9 @@ impl<E: SlotEntry + Drop, A: Allocator + Clone> SketchHashTable<E, A> {
 }
 
 impl<E: SlotEntry + Clone, A: Allocator + Clone> SketchHashTable<E, A> {
-    /// What it retains, as the state of a sketch that is not empty, ordered where that is asked or it has one entry at the
-    /// greatest theta. Its memory is from a clone of the table's allocator. Refused with `OutOfMemory` alone.
+    /// The retained entries as the state of a sketch that is not empty. It is ordered if `ordered`, or if it has one
+    /// entry and the greatest theta. Its memory is from a clone of the table's allocator. Refused with `OutOfMemory`
+    /// alone.
     pub fn to_non_empty_compact_state(
         &self,
         ordered: bool,
@@ -464,7 +466,8 @@ impl<E: SlotEntry + Clone, A: Allocator + Clone> SketchHashTable<E, A> {
         Ok(state)
     }
 
-    /// What it retains below a theta, which is at most its own, cut to k, as the state of a sketch that is not empty. The table stays as it is.
+    /// The retained entries below `theta`, which is at most its own, cut to k, as the state of a sketch that is not
+    /// empty. The table is unchanged.
     pub fn to_cut_state(&self, theta: u64, ordered: bool) -> Result<CompactSketchState<E, A>, Error>
         requires clones_equal { ClonesEqual E.is_clone }
         requires small { self.now.map.lg_nom ≤ MAX_LG_K }
@@ -492,9 +495,10 @@ impl<E: SlotEntry + Clone, A: Allocator + Clone> SketchHashTable<E, A> {
 }
 
 impl<E: SlotEntry + Clone, A: Allocator + Clone> SketchHashTable<E, A> {
-    /// A table of 2^`lg_nom_size` nominal entries, from 2^4 to its own number, with the resize factor, starting theta and seed of
-    /// this one. It retains what this one retains below a theta, from 1 to this table's, cut to so many. This table is unchanged.
-    /// The memory comes from clones of its allocator. Refused with `OutOfMemory` alone.
+    /// A table of 2^`lg_nom_size` nominal entries, from 2^4 to its own number, with the resize factor, starting theta
+    /// and seed of this one. It retains the entries of this one below `theta`, from 1 to this table's theta, cut to
+    /// 2^`lg_nom_size`. This table is unchanged. The memory is from clones of its allocator. Refused with `OutOfMemory`
+    /// alone.
     pub fn to_smaller_table(&self, lg_nom_size: u8, theta: u64) -> Result<Self, Error>
         requires clones_equal { ClonesEqual E.is_clone }
         requires of_sketch { MIN_LG_K ≤ lg_nom_size }
@@ -528,8 +532,8 @@ impl<E: SlotEntry + Clone, A: Allocator + Clone> SketchHashTable<E, A> {
 pub type ThetaHashTable<A = Global> = SketchHashTable<ThetaEntry, A>;
 
 impl<A: Allocator + Clone> SketchHashTable<ThetaEntry, A> {
-    /// Inserts the hash of a value, and answers whether it is new and below theta. For such a hash the caller has to know that
-    /// there is room (`has_room`), as there always is in a table of `new`. Refused as `try_insert_hash` is.
+    /// Inserts the hash of a value, and returns whether it is new and below theta. For such a hash the caller must know
+    /// that there is room (`has_room`), as there always is in a table of `new`. Refused as `try_insert_hash` is.
     #[inline(always)]
     pub fn try_insert<T: Hash + Drop>(&mut self, value: T) -> Result<bool, Error>
         requires room { let h = key_hash self.old.map (T.hash_input value) in IsTrue (may_insert hash_key h self.old.map) }
@@ -552,10 +556,10 @@ impl<A: Allocator + Clone> SketchHashTable<ThetaEntry, A> {
         self.try_insert_hash(hash)
     }
 
-    /// Inserts a hash, and answers whether it is new and below theta. For such a hash the caller has to know that there is
-    /// room (`has_room`), as there always is in a table of `new`.
+    /// Inserts a hash, and returns whether it is new and below theta. For such a hash the caller must know that there
+    /// is room (`has_room`), as there always is in a table of `new`.
     ///
-    /// Refused with `OutOfMemory` alone, and only where the hash is new and below theta; then nothing has changed.
+    /// Refused with `OutOfMemory` alone, and only if the hash is new and below theta; then nothing has changed.
     #[inline(always)]
     pub fn try_insert_hash(&mut self, hash: u64) -> Result<bool, Error>
         requires room { IsTrue (may_insert hash_key hash self.old.map) }
@@ -580,11 +584,11 @@ impl<A: Allocator + Clone> SketchHashTable<ThetaEntry, A> {
     /// Inserts hashes in their order, each as `try_insert_hash` does. There are at least 8 nominal entries, as in every table
     /// of `new`.
     ///
-    /// It looks at the slots of up to 256 hashes side by side, so that they are waited for together: where slots are many
-    /// and most hashes are retained, that takes half the time. Those looks aren't counted.
+    /// It looks at the slots of up to 256 hashes side by side, so that the waits for memory overlap: with many slots,
+    /// and if most hashes are retained, this takes half the time. Those looks aren't counted.
     ///
-    /// Refused with `OutOfMemory` alone, and only at a new hash below theta; then just the hashes before that one have been
-    /// inserted, and the same call may be made again.
+    /// Refused with `OutOfMemory` alone, and only at a new hash below theta; then exactly the hashes before that one
+    /// have been inserted, and the same call may be made again.
     pub fn insert_hashes(&mut self, hashes: &[u64]) -> Result<(), Error>
         requires room { 3 ≤ self.old.map.lg_nom }
         ensures after { OnOk result (self.new.map ≡ after_hashes hashes.now self.old.map) }
@@ -601,7 +605,7 @@ impl<A: Allocator + Clone> SketchHashTable<ThetaEntry, A> {
         Ok(())
     }
 
-    /// Inserts a block of hashes in their order; those that are screened or found at once are left out first.
+    /// Inserts a block of hashes in their order, after dropping those that are screened or found at once.
     fn insert_block(&mut self, hashes: &[u64]) -> Result<(), Error>
         requires room { 3 ≤ self.old.map.lg_nom }
         requires few { length hashes.now ≤ BLOCK }
@@ -615,7 +619,8 @@ impl<A: Allocator + Clone> SketchHashTable<ThetaEntry, A> {
         self.insert_each(&block[..left])
     }
 
-    /// Copies into `block` the hashes that are neither screened nor found at once, in their order, and tells how many they are.
+    /// Copies into `block` the hashes that are neither screened nor found at once, in their order, and returns how many
+    /// they are.
     fn take_unfound(&self, hashes: &[u64], block: &mut [u64]) -> usize
         requires room { 3 ≤ self.now.map.lg_nom }
         requires few { length hashes.now ≤ length block.old }
@@ -647,7 +652,7 @@ impl<A: Allocator + Clone> SketchHashTable<ThetaEntry, A> {
 pub type TupleHashTable<S, A = Global> = SketchHashTable<TupleEntry<S>, A>;
 
 impl<S: Drop, A: Allocator> SketchHashTable<TupleEntry<S>, A> {
-    /// Each retained entry once, in an open order: what `iter_entries` answers.
+    /// Each retained entry once, in an unspecified order: what `iter_entries` returns.
     pub fn iter(&self) -> SketchHashTableIter<'_, TupleEntry<S>>
         ensures lent { result ≡ self.now.lends }
         ensures each_once { IsLent tuple_key self.now.map.kept.entries self.now.lends }
@@ -659,9 +664,9 @@ impl<S: Drop, A: Allocator> SketchHashTable<TupleEntry<S>, A> {
 }
 
 impl<S: Drop, A: Allocator + Clone> SketchHashTable<TupleEntry<S>, A> {
-    /// Inserts the hash of a key: the step writes the summary that is there, or else makes one. Answers whether an entry was
-    /// made. For a hash that isn't screened the caller has to know that it is retained, or that there is room (`has_room`), as
-    /// there always is in a table of `new`. Refused as `try_insert_hash` is.
+    /// Inserts the hash of a key: the step writes the existing summary, or else makes one. Returns whether it made an
+    /// entry. For a hash that isn't screened the caller must know that it is retained, or that there is room
+    /// (`has_room`), as there always is in a table of `new`. Refused as `try_insert_hash` is.
     #[inline(always)]
     pub fn try_insert<T: Hash + Drop, U: UpsertStep<S> + Drop>(
         &mut self,
@@ -688,11 +693,11 @@ impl<S: Drop, A: Allocator + Clone> SketchHashTable<TupleEntry<S>, A> {
         self.try_insert_hash(hash, step)
     }
 
-    /// Inserts a hash: the step writes the summary that is there, or else makes one. Answers whether an entry was made.
+    /// Inserts a hash: the step writes the existing summary, or else makes one. Returns whether it made an entry.
     ///
-    /// A hash that is 0 or at least theta is screened: no step is called, nothing changes and the answer is false. For any
-    /// other hash the caller has to know that it is retained, or that there is room (`has_room`), as there always is in a
-    /// table of `new`. Refused with what the step refuses, or with `OutOfMemory`; then nothing has changed.
+    /// A hash that is 0 or at least theta is screened: no step is called, nothing changes and the result is false. For
+    /// any other hash the caller must know that it is retained, or that there is room (`has_room`), as there always is
+    /// in a table of `new`. Refused with the step's error, or with `OutOfMemory`; then nothing has changed.
     #[inline(always)]
     pub fn try_insert_hash<U: UpsertStep<S> + Drop>(
         &mut self,
@@ -722,13 +727,13 @@ impl<S: Drop, A: Allocator + Clone> SketchHashTable<TupleEntry<S>, A> {
 /// The nominal logarithm from which a table is rebuilt before its slots are full.
 const ALWAYS_ROOM_LG_NOM: u8 = 3;
 
-/// How many hashes are looked up together, at most.
+/// At most this many hashes are looked up together.
 const BLOCK: usize = 256;
 
 /// How many sixteenths of its slots a table fills before it is rebuilt.
 const FILLED_SIXTEENTHS: u128 = 15;
 
-/// The whole binary logarithm of a number, and 0 for 0.
+/// The binary logarithm of a number, rounded down, and 0 for 0.
 fn whole_log(n: usize) -> u8
     ensures log { result ≡ whole_log n }
     ensures small { result ≤ 63 }

@@ -13,7 +13,7 @@ use sketch_base::Error;
 use std::alloc::{AllocError, Allocator};
 use std::mem;
 
-/// What was done since a table was made or last reset. Only clauses see it.
+/// Counts of a table's work since it was made or last reset. Only clauses see them.
 #[derive(Drop)]
 pub struct Counts {
     pub(crate) inserted: Count,
@@ -24,7 +24,7 @@ pub struct Counts {
     pub(crate) trims: Count,
 }
 
-/// Nothing was done.
+/// Counts that are all 0.
 pub(crate) fn nothing() -> Counts
     ensures { result ≡ record { inserted = 0; placed = 0; rebuilds = 0; fresh = 0; looks = 0; trims = 0 } }
 {
@@ -49,8 +49,9 @@ pub(crate) struct Sizes {
     pub(crate) theta: u64,
 }
 
-/// The binary logarithm of the slots that a table begins with: the least that is at least `lg_min` and from which growth by
-/// `lg_resize_factor` comes to `lg_target`; `lg_target` itself where that is 0, and `lg_min` where `lg_target` is less.
+/// The binary logarithm of the slots that a table begins with: the least that is at least `lg_min` and from which
+/// growth by `lg_resize_factor` reaches `lg_target`; `lg_target` itself if the factor is 0, and `lg_min` if `lg_target`
+/// is less.
 pub fn starting_sub_multiple(lg_target: u8, lg_min: u8, lg_resize_factor: u8) -> u8
     ensures { result ≡ sub_multiple lg_target lg_min lg_resize_factor }
 {
@@ -89,8 +90,8 @@ pub(crate) fn threshold_of(lg_cur: u8, lg_nom: u8) -> usize
     }
 }
 
-/// Puts an entry into the free slot where a search for it ends. Where the slots then have more entries than they may, there
-/// are more slots, or a rebuild. Answers the new sizes and theta.
+/// Puts an entry into the free slot where a search for it ends. If the slots then have more entries than they may, they
+/// grow or are rebuilt. Returns the new sizes and theta.
 #[inline(always)]
 pub(crate) fn put_entry<E: SlotEntry + Drop, A: Allocator + Clone>(
     slots: &mut Vec<E::Slot, A>,
@@ -130,8 +131,8 @@ pub(crate) fn put_entry<E: SlotEntry + Drop, A: Allocator + Clone>(
     Ok(settled)
 }
 
-/// Puts an entry where the slots may have no more of them: there are more slots, or a rebuild. It is inlined where that is
-/// known, so that only then the sizes are written to memory.
+/// Puts an entry into slots that may have no more of them: they grow or are rebuilt. It is inlined into the branch that
+/// has checked this, so that the sizes are written to memory only there.
 #[inline(always)]
 fn overflow<E: SlotEntry + Drop, A: Allocator + Clone>(
     slots: &mut Vec<E::Slot, A>,
@@ -166,7 +167,7 @@ fn overflow<E: SlotEntry + Drop, A: Allocator + Clone>(
     Ok(cut)
 }
 
-/// Puts an entry, and moves all to more slots.
+/// Puts an entry, and moves all entries to more slots.
 #[inline(never)]
 fn grow<E: SlotEntry + Drop, A: Allocator + Clone>(
     slots: &mut Vec<E::Slot, A>,
@@ -209,7 +210,7 @@ fn grow<E: SlotEntry + Drop, A: Allocator + Clone>(
     })
 }
 
-/// Puts an entry, and keeps the k entries of least hash, in the same slots. Theta is then the hash next above them.
+/// Puts an entry, and keeps the k entries of least hash, in the same slots. Theta is then the next hash above them.
 #[inline(never)]
 fn rebuild<E: SlotEntry + Drop, A: Allocator + Clone>(
     slots: &mut Vec<E::Slot, A>,
@@ -243,7 +244,7 @@ fn rebuild<E: SlotEntry + Drop, A: Allocator + Clone>(
         nominal,
         sizes.theta,
     )?;
-    // All but those from theta on, of which there are `nominal`.
+    // Exactly `nominal` entries are below the new theta.
     let kept = nominal;
     let looks_placing = &mut counts.looks;
     put_kept::<E, A>(
@@ -276,7 +277,7 @@ pub(crate) fn nominal_size(lg_nom_size: u8) -> usize
     1usize << lg_nom_size
 }
 
-/// Lets a step write the entry in a slot. Where it refuses, the entry stays.
+/// Lets a step write the entry in a slot. If it refuses, the entry is unchanged.
 #[inline(always)]
 pub(crate) fn write_at<E: SlotEntry + Drop, S: UpsertStep<E> + Drop>(
     slots: &mut [E::Slot],
@@ -303,8 +304,8 @@ pub(crate) fn write_at<E: SlotEntry + Drop, S: UpsertStep<E> + Drop>(
     }
 }
 
-/// Keeps the k entries of least hash, of `count`, which are more. Answers the theta above them. That they are spread evenly
-/// below `old_theta` is no more than a hint.
+/// Keeps the k entries of least hash out of `count`, which is more than k. Returns the theta above them. It is only a
+/// hint that the entries are spread evenly below `old_theta`.
 pub(crate) fn cut_slots<E: SlotEntry + Drop, A: Allocator + Clone>(
     slots: &mut Vec<E::Slot, A>,
     lg: u8,

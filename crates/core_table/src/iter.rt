@@ -1,4 +1,4 @@
-//! The iterator over the entries of a table. Contracts see of it what it has left.
+//! The iterator over the entries of a table. Contracts see it as the entries that it has left.
 ghost use Rattle.std.specs.Prelude.{◌≡◌, ◌^◌, ◌-◌, ◌≤◌, [], ◌∷◌, None, false, if◌then◌else◌, is_some, nat_lt, length, map, IsSome, IfSome, MatchOption};
 ghost use Rattle.std.specs.Iterator.{YieldsFirstRef, UpTo, item_count};
 ghost use Rattle.std.specs.List.{AllByRecursion};
@@ -16,9 +16,9 @@ use std::marker::{Model, PhantomData};
 /// Slots, and a mark for each of the first `ahead` that holds an entry, or one below a bound.
 pub(crate) struct Marked<'a, E: SlotEntry> {
     pub(crate) slots: &'a [E::Slot],
-    /// Of how many slots the marks tell, at most 64.
+    /// How many slots the marks cover, at most 64.
     pub(crate) ahead: usize,
-    /// Bit k is 1 where the k-th slot holds such an entry.
+    /// Bit k is 1 if the k-th slot holds such an entry.
     pub(crate) marks: u64,
 }
 
@@ -30,14 +30,14 @@ impl<'a, E: SlotEntry> Clone for Marked<'a, E> {
 
 impl<'a, E: SlotEntry> Copy for Marked<'a, E> {}
 
-/// The entries of a table, each once, in an open order.
+/// The entries of a table, each once, in an unspecified order.
 ///
-/// It makes the marks of 64 slots at once: whether a slot holds an entry is as good as random, and a branch on each would be
-/// guessed wrong every second time.
+/// It makes the marks of 64 slots at once: whether a slot holds an entry is as good as random, and a branch on each
+/// would be mispredicted half the time.
 #[derive(Drop)]
 pub struct SketchHashTableIter<'a, E: SlotEntry> {
     rest: Marked<'a, E>,
-    // No bytes: it names the entries, whose lifetimes the type of a slot doesn't tell.
+    // No bytes: it names the entries, since the type of a slot doesn't show their lifetimes.
     of: PhantomData<E>,
 }
 
@@ -68,7 +68,7 @@ impl<'a, E: SlotEntry> SketchHashTableIter<'a, E> {
     }
 }
 
-/// Of how many slots marks are made at once.
+/// How many slots are marked at once.
 const BLOCK: usize = 64;
 
 /// Whether a slot holds an entry below theta.
@@ -90,8 +90,8 @@ fn mark_of<E: SlotEntry>(slot: &E::Slot, bound: Option<u64>) -> u64
     }
 }
 
-/// A bit for each of a few slots, the lowest for the first: whether it holds an entry, below the bound if there is one. It takes
-/// no branch on what a slot holds.
+/// A bit for each of a few slots, the lowest for the first: whether the slot holds an entry, below the bound if there
+/// is one. It takes no branch on what a slot holds.
 #[inline(always)]
 fn marks_of<E: SlotEntry>(slots: &[E::Slot], bound: Option<u64>) -> u64
     requires { length slots.now ≤ 64 }
@@ -104,7 +104,7 @@ fn marks_of<E: SlotEntry>(slots: &[E::Slot], bound: Option<u64>) -> u64
     marks
 }
 
-/// The slots from the first block on in which one is to be marked, with the marks of that block; no slots where none is.
+/// The slots from the first block that has a slot to mark, with the marks of that block; no slots if there is none.
 #[inline(always)]
 fn marked_from<'a, E: SlotEntry + 'a>(slots: &'a [E::Slot], bound: Option<u64>) -> Marked<'a, E>
     ensures marked { AreMarked (map (under E.key bound E.held) result.slots.now) result.ahead result.marks }
@@ -131,7 +131,7 @@ fn marked_from<'a, E: SlotEntry + 'a>(slots: &'a [E::Slot], bound: Option<u64>) 
     }
 }
 
-/// What is left, with a mark where an entry is left: as it is where it has one, and otherwise from a later block on.
+/// The rest, with a mark if an entry is left: unchanged if it has a mark already, otherwise from a later block on.
 #[inline(always)]
 fn marked_ahead<'a, E: SlotEntry + 'a>(rest: Marked<'a, E>, bound: Option<u64>) -> Marked<'a, E>
     requires marked { AreMarked (map (under E.key bound E.held) rest.slots.now) rest.ahead rest.marks }
@@ -145,7 +145,7 @@ fn marked_ahead<'a, E: SlotEntry + 'a>(rest: Marked<'a, E>, bound: Option<u64>) 
     marked_from(&rest.slots[rest.ahead..], bound)
 }
 
-/// The first entry, below the bound if there is one, and what is behind its slot; nothing where there is no such entry.
+/// The first entry, below the bound if there is one, and the slots after it; no entry if there is none.
 #[inline(always)]
 pub(crate) fn first_in<'a, E: SlotEntry + 'a>(
     left: Marked<'a, E>,
@@ -161,7 +161,7 @@ pub(crate) fn first_in<'a, E: SlotEntry + 'a>(
         return (None, rest);
     }
     let at = rest.marks.trailing_zeros() as usize;
-    // By two shifts, since the first mark may be at bit 63.
+    // Two shifts, since the first mark may be at bit 63.
     let behind = Marked {
         slots: &rest.slots[at + 1..],
         ahead: rest.ahead - (at + 1),
@@ -185,7 +185,7 @@ fn any_below<E: SlotEntry>(block: &[E::Slot], theta: u64) -> bool
     any
 }
 
-/// The slots from the first on that holds an entry below theta.
+/// The slots from the first one that holds an entry below theta.
 #[inline(always)]
 fn slots_from_below<'a, E: SlotEntry + 'a>(slots: &'a [E::Slot], theta: u64) -> &'a [E::Slot]
     ensures { entries_in E.held result.now ≡ from_below E.key theta (entries_in E.held slots.entry.now) }
@@ -214,7 +214,8 @@ impl<'a, E: SlotEntry + 'a> SketchHashTableIter<'a, E> {
         ensures { self.new ≡ from_below E.key theta self.old }
     {
         let slots = slots_from_below::<E>(self.rest.slots, theta);
-        // The slot at hand alone: the caller takes its entry and mostly passes on, so that marks of a block would be lost.
+        // Only the first slot: the caller takes its entry and mostly passes on, so the marks of a whole block would be
+        // lost.
         let ahead = slots.len().min(1);
         let marks = marks_of::<E>(&slots[..ahead], None);
         self.rest = Marked {
@@ -238,7 +239,7 @@ impl<'a, E: SlotEntry + 'a> Iterator for SketchHashTableIter<'a, E> {
         first
     }
 
-    /// At least none, and at most a number that is no less than the entries left.
+    /// From 0 to a number that is at least the number of entries left.
     fn size_hint(&self) -> (usize, Option<usize>)
         ensures lower { IsWithinCount result.0 (item_count (λ s. s) self.now) }
         ensures upper { IfSome result.1 (UpTo (item_count (λ s. s) self.now)) }

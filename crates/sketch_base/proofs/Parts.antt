@@ -4,7 +4,7 @@ use Rattle.std.proofs.lemmas.Nat.{or_block, pow_pos}
 use Rattle.std.specs.Int.Bits.{or_self, or_zero_r}
 use Rattle.sketch_base.specs.Bytes.{number}
 
--- two numbers of which the low bits of the second, at place k, are the high bits m of the first
+-- two numbers that overlap: the low bits of the second, at place k, are the high bits m of the first
 overlapped : (k j r m t low high : ℕ) → r < 2 ^ k → m < 2 ^ j → low ≡ m * 2 ^ k + r → high ≡ (t * 2 ^ j + m) * 2 ^ k → bit_or low high ≡ (t * 2 ^ j + m) * 2 ^ k + r
 overlapped k j r m t low high hr hm is_low is_high =
     let begun : m ≡ 0 * 2 ^ j + m = omega arith in

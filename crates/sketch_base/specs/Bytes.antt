@@ -1,7 +1,7 @@
--- Lists of bytes: the numbers that they spell, and the buffer that they are written to.
+-- Lists of bytes: the numbers that they encode, and the buffer that they are written to.
 use Rattle.std.specs.Prelude.{ℕ, ◌+◌, ◌*◌, ◌<◌, List, [], ◌∷◌, length}
 
--- the number that bytes spell, the lowest byte first
+-- the number that bytes encode, the lowest byte first
 abbrev pub number : List ℕ → ℕ
 number [] = 0
 number (b ∷ bs) = b + 256 * number bs

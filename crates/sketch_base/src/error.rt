@@ -6,22 +6,22 @@ use std::alloc::{AllocError, AllocFailed};
 use std::fmt;
 use std::marker::Model;
 
-/// Why a call was refused. What stands after a refusal is said at each call.
+/// Why a call was refused. Each call documents what holds after a refusal.
 #[derive(Debug, Clone, Copy, PartialEq, Eq)]
 pub enum ErrorKind {
     /// An argument is outside its range, or belongs to another seed.
     InvalidArgument,
-    /// Bytes that were read spell nothing that may stand there, or end too early.
+    /// Bytes that were read are not valid at their position, or end too early.
     InvalidData,
-    /// The memory that the call asked for was refused.
+    /// The memory that the call requested was refused.
     OutOfMemory,
-    /// A policy on summaries refused what it was given.
+    /// A policy on summaries refused its arguments.
     Policy,
     /// An earlier refusal left the object half changed; it refuses until it is reset.
     Failed,
 }
 
-/// A refusal. Its kind is all that it tells, and contracts see it as its kind.
+/// A refusal. It carries only its kind, and contracts see it as its kind.
 #[derive(Debug, Drop)]
 pub struct Error {
     kind: ErrorKind,
@@ -45,7 +45,7 @@ impl Error {
         Error { kind }
     }
 
-    /// The kind that the error was made of.
+    /// The kind that the error was made with.
     pub fn kind(&self) -> ErrorKind
         ensures { result ≡ self.now }
     {

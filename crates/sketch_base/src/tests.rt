@@ -38,7 +38,7 @@ fn whole_and_in_pieces(rt: HostRuntime) {
     }
 }
 
-// Every length up to 48, cut in two at every place.
+// Every length up to 48, split in two at every position.
 #[test]
 fn vectors_of_every_length(rt: HostRuntime) {
     let mut bytes = [0u8; 48];

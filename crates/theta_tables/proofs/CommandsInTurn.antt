@@ -1,4 +1,4 @@
--- Commands one by one: what is retained, and what is replied, after one more.
+-- Commands one by one: the retained hashes, and the replies, after one more.
 use Rattle.std.proofs.Common.{◌≡◌, ℕ, ◌^◌, ◌<◌, ◌+◌, List, [], ◌∷◌, ◌++◌, length, get_or, take, refl, sym, ap, ◌∙◌}
 use Rattle.std.proofs.lemmas.List.{take_more}
 use Rattle.core_laws.specs.Cuts.{Retained}

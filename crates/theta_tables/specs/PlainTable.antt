@@ -1,4 +1,4 @@
--- What holds of plain tables.
+-- The laws of plain tables.
 use Rattle.std.specs.Prelude.{ℕ, ◌≤◌}
 use Rattle.core_laws.specs.declared.TheConstants.{MIN_LG_K}
 use Rattle.core_table.specs.HashTable.{MapTable, IsTable}

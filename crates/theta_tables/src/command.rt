@@ -1,26 +1,26 @@
-//! What a table is told, and what it replies.
+//! Commands to a table, and its replies.
 
-/// What a table of hashes is told.
+/// A command to a table of hashes.
 #[derive(Debug, Clone, Copy)]
 pub enum TableCommand {
-    /// To insert a hash, of which any 64 bits will do: 0, and those from the table's theta on, are screened.
+    /// To insert a hash, which may be any 64 bits: 0 and hashes of at least the table's theta are screened.
     Insert(u64),
     /// To find a hash.
     Find(u64),
-    /// To lower theta to the (k+1)th smallest hash, where more than k are retained, and keep the k below it.
+    /// To lower theta to the (k+1)th smallest hash if more than k are retained, and keep the k below it.
     Trim,
-    /// To remove all hashes, and take the starting theta back.
+    /// To remove all hashes and restore the starting theta.
     Reset,
 }
 
-/// What a table replies to a command.
+/// A table's reply to a command.
 #[derive(Debug, Clone, Copy, PartialEq, Eq)]
 pub enum TableReply {
-    /// Whether a hash that was to be inserted is new and below theta.
+    /// Whether the hash to insert is new and below theta.
     Inserted(bool),
     /// Whether a hash is retained.
     Found(bool),
-    /// What stands after a trim or a reset.
+    /// The table after a trim or a reset.
     Done {
         /// How many hashes are retained.
         count: usize,

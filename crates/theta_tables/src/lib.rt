@@ -1,5 +1,5 @@
-//! Two tables below one contract: the table in slots, and a plain table that keeps its entries in a list. A run of
-//! commands is proved once for both, and answers alike over either.
+//! Two tables with one contract: the table in slots, and a plain table that keeps its entries in a list. A run of
+//! commands is proved once for both, and returns the same replies over either.
 #![tactic(auto)]
 
 mod command;

@@ -17,9 +17,10 @@ use sketch_base::{Error, ErrorKind, compute_seed_hash};
 use std::alloc::{AllocError, Allocator, Global};
 use std::marker::Model;
 
-/// The entries of a sketch below its theta, in a list that ascends by hash. Contracts see what they see of the table in slots.
+/// The entries of a sketch below its theta, in a list that ascends by hash. Contracts see the same of it as of the
+/// table in slots.
 ///
-/// A search halves the list, and an insertion moves what stands after it. It serves to compare with.
+/// A search halves the list, and an insertion moves the entries behind it. It serves for comparison.
 #[derive(Drop)]
 pub struct PlainTable<E: SketchEntry, A: Allocator = Global> {
     lg_nom_size: u8,
@@ -43,7 +44,8 @@ impl<E: SketchEntry, A: Allocator> Model for PlainTable<E, A> {
 }
 
 impl<E: SketchEntry, A: Allocator> PlainTable<E, A> {
-    /// An empty table of 2^`lg_nom_size` nominal entries, with `lg_nom_size` from 4 to 26, and a starting theta from 1 to `MAX_THETA`.
+    /// An empty table of 2^`lg_nom_size` nominal entries, with `lg_nom_size` from 4 to 26, and a starting theta from 1
+    /// to `MAX_THETA`.
     ///
     /// Refused with `InvalidArgument` outside these ranges, and for a seed whose seed hash is 0. It takes no memory. The
     /// resize factor has no effect: a list has no slots to grow.
@@ -146,7 +148,7 @@ impl<E: SketchEntry + Drop, A: Allocator> ThetaTable<E> for PlainTable<E, A> {
     }
 
     fn has_room(&self) -> bool {
-        // It is the table of a sketch, so this always holds.
+        // The table is one of a sketch, so this always holds.
         self.lg_nom_size >= MIN_LG_K
     }
 
@@ -155,7 +157,7 @@ impl<E: SketchEntry + Drop, A: Allocator> ThetaTable<E> for PlainTable<E, A> {
     }
 }
 
-/// Where a hash stands, or would go, in entries that ascend.
+/// The position of a hash in ascending entries, or where it would be inserted.
 fn place_of<E: SketchEntry>(entries: &[E], hash: u64) -> Result<usize, usize>
     requires { IsAscending E.key entries.now }
     ensures found { IfOk result (IsAt E.key entries.now hash) }
@@ -164,7 +166,7 @@ fn place_of<E: SketchEntry>(entries: &[E], hash: u64) -> Result<usize, usize>
     entries.binary_search_by_key(&hash, |entry| entry.hash())
 }
 
-/// Keeps the k entries of least hash, where there are more, and answers the theta above them.
+/// Keeps the k entries of least hash if there are more, and returns the theta above them.
 fn cut_entries<E: SketchEntry + Drop, A: Allocator>(
     entries: &mut Vec<E, A>,
     theta: u64,
@@ -182,7 +184,8 @@ fn cut_entries<E: SketchEntry + Drop, A: Allocator>(
     cut_theta
 }
 
-/// Puts an entry at its place, and cuts where the entries are then more than fifteen eighths of k. Answers the new theta.
+/// Inserts an entry at its position, and cuts if the entries are then more than fifteen eighths of k. Returns the new
+/// theta.
 fn put_entry<E: SketchEntry + Drop, A: Allocator>(
     entries: &mut Vec<E, A>,
     theta: u64,

@@ -1,4 +1,4 @@
-//! Runs of which each request for memory is refused in turn.
+//! Runs in which each request for memory is refused in turn.
 
 use crate::{PlainTable, TableCommand, ThetaTable, run_table};
 use core_laws::{MAX_THETA, MIN_LG_K};
@@ -48,7 +48,7 @@ fn values_in_turn(alloc: Global, commands: &[TableCommand]) -> Result<Vec<Value>
     Ok(values)
 }
 
-/// Whether a run over the table in slots is refused where this request is, and what the table then retains.
+/// Whether a run over the table in slots is refused if this request is, and what the table then retains.
 fn run_in_slots(
     alloc: Global,
     request: u64,
@@ -73,7 +73,7 @@ fn run_in_slots(
     Ok((refused, value))
 }
 
-/// Whether a run over the plain table is refused where this request is, and what the table then retains.
+/// Whether a run over the plain table is refused if this request is, and what the table then retains.
 fn run_in_a_list(
     alloc: Global,
     request: u64,
@@ -97,7 +97,7 @@ fn run_in_a_list(
     Ok((refused, value))
 }
 
-/// Whether a value is one of those after a beginning of the commands; that after all of them where the run wasn't refused.
+/// Whether a value is that after some first commands, perhaps none or all; if the run wasn't refused, that after all.
 fn stands(values: &[Value], refused: bool, value: &Value) -> bool {
     if refused {
         return values.iter().any(|it| it == value);

@@ -10,11 +10,12 @@ use core_slots::{PutStep, ThetaEntry};
 use sketch_base::Error;
 use std::alloc::Allocator;
 
-/// Runs commands in turn over a table of a sketch, whose nominal logarithm is at least 4, and answers the reply to each,
-/// in memory of `alloc`. Replies and what the table then retains are functions of what it retained, whatever table it is.
+/// Runs commands in turn over a table of a sketch, whose nominal logarithm is at least 4, and returns the reply to
+/// each, in memory of `alloc`. The replies, and what the table then retains, are functions of what it retained, for
+/// every table.
 ///
-/// Refused with `OutOfMemory` alone, and not without commands. Then the table stands as after the first so many of the
-/// commands, perhaps none or all.
+/// Refused with `OutOfMemory` alone, and only if there are commands. Then the table is as after some first commands,
+/// perhaps none or all.
 pub fn run_table<T: ThetaTable<ThetaEntry>, A: Allocator>(
     alloc: A,
     table: &mut T,
@@ -34,7 +35,7 @@ pub fn run_table<T: ThetaTable<ThetaEntry>, A: Allocator>(
     Ok(answer)
 }
 
-/// Runs a command over a table of a sketch, and answers its reply.
+/// Runs a command over a table of a sketch, and returns its reply.
 fn run_command<T: ThetaTable<ThetaEntry>>(
     table: &mut T,
     command: TableCommand,

@@ -1,4 +1,4 @@
-//! Runs of commands, over the table in slots and the plain table alike.
+//! Runs of commands, over both the table in slots and the plain table.
 
 use crate::{PlainTable, TableCommand, TableReply, ThetaTable, run_table};
 use core_laws::MAX_THETA;
@@ -53,7 +53,7 @@ fn told_in_a_list(
     Ok((replies, value))
 }
 
-/// 62 hashes from the greatest, and commands that look at what the 61st of them did.
+/// Insertions of 62 hashes, the greatest first, and commands that show the effect of the 61st.
 fn commands_at_a_rebuild(alloc: Global) -> Result<Vec<TableCommand>, AllocError> {
     let mut commands = Vec::new(alloc);
     for number in 0..62u64 {
@@ -105,7 +105,8 @@ fn tables_reply_at_a_rebuild(rt: HostRuntime) -> Result<(), Fail> {
 /// The seed of the first random list of commands.
 const FIRST_SEED: u64 = 20_240_917;
 
-/// So many commands in random order, of hashes below a limit: of 512, about 347 insertions, 160 searches, 4 trims and a reset.
+/// `count` commands in random order, of hashes below `limit`: of 512, about 347 insertions, 160 searches, 4 trims and a
+/// reset.
 fn random_commands(
     alloc: Global,
     seed: u64,
@@ -150,12 +151,12 @@ fn tables_reply_alike(rt: HostRuntime) -> Result<(), Fail> {
     Ok(())
 }
 
-/// Whether a table tells that it has room.
+/// Whether a table reports that it has room.
 fn tells_room<T: ThetaTable<ThetaEntry>>(table: &T) -> bool {
     table.has_room()
 }
 
-/// Whether the table in slots and the plain one, of 32 nominal entries, tell that they have room after a run.
+/// Whether the table in slots and the plain one, of 32 nominal entries, report that they have room after a run.
 fn room_in_both(alloc: Global, commands: &[TableCommand]) -> Result<(bool, bool), Error> {
     let mut in_slots = ThetaHashTable::new(alloc, 5, ResizeFactor::X1, MAX_THETA, 9001)?;
     run_table(alloc, &mut in_slots, commands)?;

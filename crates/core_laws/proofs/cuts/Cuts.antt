@@ -1,4 +1,4 @@
--- What a cut keeps of a map.
+-- The entries of a map after a cut.
 use Rattle.std.proofs.Common.{◌≡◌, ℕ, zero, suc, ◌<◌, ◌≤◌, Bool, true, false, eqb, List, [], ◌∷◌, length, get_or, take, Some, None, refl, sym, ap, ◌∙◌, arith, inl, inr}
 use Rattle.std.specs.List.{find, AllByRecursion}
 use Rattle.std.proofs.lemmas.Bool.{cases_lt, lt-ltb}
@@ -20,7 +20,7 @@ module _ {X : Type 0} where
   find_nowhere p (x ∷ xs) fails = rw (fails zero x (omega arith)) (find_nowhere p xs (λ i e lt. fails (suc i) e (omega arith)))
 
 module _ {X : Type 0} (key : X → ℕ) where
-  -- the keys below t come first
+  -- the keys below t are first
   parts_exist : (xs : List X) (t : ℕ) → IsAscending key xs → (n : ℕ) × Parts key xs t n
   parts_exist [] t up = (0, record { within = omega arith; smaller = λ k d lt. absurd (omega arith); others = λ k d le lt. absurd (omega arith) })
   parts_exist (x ∷ xs) t up =
@@ -87,14 +87,14 @@ module _ {X : Type 0} (key : X → ℕ) where
   unfolding cut
   cut_few k xs t up le = ap (retained key xs) (key_of_rank_past k (below key xs t) t (ascending-filter key _ xs up) (rw (length-below xs t) le))
 
-  -- where all keys are below t
+  -- if all keys are below t
   pub below_all : (xs : List X) (t : ℕ) → AllByRecursion (λ x. key x < t) xs → below key xs t ≡ xs
   below_all xs t all = filter_each _ xs (each-weaker _ _ (λ x lt. lt-ltb _ _ lt) xs all)
 
   pub rank_all : (xs : List X) (t : ℕ) → AllByRecursion (λ x. key x < t) xs → rank key xs t ≡ length xs
   rank_all xs t all = sym (length-below xs t) ∙ ap length (below_all xs t all)
 
-  -- a cut keeps what is below its theta
+  -- a cut keeps the entries below its theta
   pub cut_is_below : (k : ℕ) (xs : List X) (t : ℕ) → cut key k xs t ≡ retained key xs (cut key k xs t).theta
   unfolding cut
   cut_is_below k xs t = refl

@@ -1,4 +1,4 @@
--- What is retained, against a whole map that knows no theta.
+-- Retained maps against a whole map, which has no theta.
 use Rattle.std.proofs.Common.{◌≡◌, ℕ, suc, ◌+◌, ◌*◌, ◌/◌, ◌<◌, ◌≤◌, min, Bool, true, false, cond, leb, ltb, eqb, IsSome, List, [], ◌∷◌, ◌++◌, length, get_or, take, Some, None, inl, inr, refl, sym, ap, ◌∙◌, subst, arith, length-append, append-nil}
 use Rattle.std.specs.Prelude.{◌&&◌, is_some}
 use Rattle.std.specs.List.{filter}
@@ -70,7 +70,7 @@ module _ {X : Type 0} (key : X → ℕ) where
         | inr le ↦ cut_few key k (below key xs t) t up_below (omega (arith, same, le)) ∙ ap (λ zs. record { entries = zs; theta = t }) twice ∙ sym (cut_few key k xs t up le)
       ]
 
-  -- a cut knows only what is below
+  -- a cut depends only on the entries below
   pub cut_below : (k : ℕ) (xs : List X) (t : ℕ) → IsAscending key xs → cut key k (below key xs t) t ≡ cut key k xs t
   cut_below k [] t up = refl
   cut_below k (y ∷ ys) t up = cut_below_with y k (y ∷ ys) t up
@@ -92,7 +92,7 @@ module _ {X : Type 0} (key : X → ℕ) where
         | false ↦ λ e h. elim (p x) as (λ b. IsSome (entry_at key (cond b (x ∷ filter p xs) (filter p xs)) t)) [ true ↦ rw e (has-filter p xs t passes h) | false ↦ has-filter p xs t passes h ]
       ]) refl has
 
-  -- an entry more has its key, and keeps the others
+  -- one more entry has its key, and keeps the others
   has-with_entry_same : (xs : List X) (x : X) → IsSome (entry_at key (with_entry key xs x) (key x))
   has-with_entry_same xs x = has-append_right (below key xs (key x)) (x ∷ above key xs (key x)) (key x) (let e : eqb (key x) (key x) ≡ true = grind (arith, nat_tests) in rw e refl)
 
@@ -166,7 +166,7 @@ module _ {X : Type 0} (key : X → ℕ) where
   within-cut k start theta [] up lawful = rw (cut_few key k [] theta up (omega arith)) (record { ascending = up; entries_are = refl; lawful = lawful })
   within-cut k start theta (y ∷ ys) up lawful = within-cut_with y k start theta (y ∷ ys) up lawful
 
-  -- a cut of a cut to no more than that is the one cut
+  -- a cut of a cut to at most as many is one cut
   pub cut_of_cut : (less k : ℕ) (xs : List X) (t : ℕ) → less ≤ k → IsAscending key xs → cut key less (cut key k xs t).entries (cut key k xs t).theta ≡ cut key less xs t
   cut_of_cut less k xs t le up =
       let within : IsWithin key k t (cut key k xs t) xs = within-cut k t t xs up (inl refl) in
@@ -204,7 +204,7 @@ module _ {X : Type 0} (key : X → ℕ) where
         omega (arith, low.ranked, before, after, length-with_entry (below key whole theta) x (ascending-filter key (λ y. ltb (key y) theta) whole up));
   })
 
-  -- a hash below theta joins on both sides
+  -- a hash below theta is inserted on both sides
   within-with_entry_low : (k start theta : ℕ) (entries whole : List X) (x : X) → key x < theta → IsWithin key k start (record { entries = entries; theta = theta }) whole → IsWithin key k start (record { entries = with_entry key entries x; theta = theta }) (with_entry key whole x)
   within-with_entry_low k start theta entries whole x lt within = record {
     ascending = ascending-with_entry key whole x within.ascending;
@@ -229,13 +229,13 @@ module _ {X : Type 0} (key : X → ℕ) where
       ]) refl e
 
 module _ {X : Type 0} (key : X → ℕ) where
-  -- what is retained has below theta what the whole map has
+  -- below theta a retained map has the same as the whole map
   pub entry_at-within : (k start : ℕ) (v : Retained X) (whole : List X) (h : ℕ) → IsWithin key k start v whole → h < v.theta → entry_at key v.entries h ≡ entry_at key whole h
   entry_at-within k start v whole h within lt =
       let e : ltb h v.theta ≡ true = grind (arith, nat_tests) in
       ap (λ ys. entry_at key ys h) within.entries_are ∙ entry_at-below key whole v.theta h ∙ ap (λ b. cond b (entry_at key whole h) None) e
 
-  -- below a lesser start it stands within what the whole map has there
+  -- below a lesser start it is within the part of the whole map below that start
   pub within-below : (k start m : ℕ) (v : Retained X) (whole : List X) → m ≤ start → IsWithin key k start v whole → IsWithin key k m (retained key v.entries (min m v.theta)) (below key whole m)
   within-below k start m v whole le within = record {
     ascending = ascending-filter key (λ x. ltb (key x) m) whole within.ascending;

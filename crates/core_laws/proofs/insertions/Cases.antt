@@ -1,4 +1,4 @@
--- What an insertion does, by its cases.
+-- The effects of an insertion, by its cases.
 use Rattle.std.proofs.Common.{◌≡◌, ℕ, ◌*◌, ◌/◌, ◌<◌, ◌≤◌, ◌≢◌, Bool, true, false, cond, leb, ltb, ◌||◌, List, [], ◌∷◌, length, Option, Some, None, inl, inr, refl, arith}
 use Rattle.std.specs.Prelude.{is_some, ◌⊎◌, ◌&&◌}
 use Rattle.std.specs.Option.{option_map_or}
@@ -33,7 +33,7 @@ pub is_screened_false : (h theta : ℕ) → h ≢ 0 → h < theta → is_screene
 is_screened_false h theta a b = grind (arith, nat_tests)
 
 module _ {X : Type 0} (key : X → ℕ) where
-  -- a map with an entry more, below theta
+  -- a map with one more entry, below theta
   pub IsRetained-with_entry : (xs : List X) (theta : ℕ) (x : X) → IsRetained key (record { entries = xs; theta = theta }) → 0 < key x → key x < theta → IsRetained key (record { entries = with_entry key xs x; theta = theta })
   IsRetained-with_entry xs theta x v low high = record {
     ascending = ascending-with_entry key xs x v.ascending;
@@ -43,7 +43,7 @@ module _ {X : Type 0} (key : X → ℕ) where
     theta_high = v.theta_high;
   }
 
-  -- what is below one of its keys
+  -- the entries below one of its keys
   pub IsRetained-below : (xs : List X) (theta t : ℕ) → IsRetained key (record { entries = xs; theta = theta }) → 0 < t → t ≤ theta → IsRetained key (retained key xs t)
   IsRetained-below xs theta t v low high = record {
     ascending = ascending-filter key _ xs v.ascending;
@@ -53,7 +53,7 @@ module _ {X : Type 0} (key : X → ℕ) where
     theta_high = omega (arith, v.theta_high);
   }
 
-  -- the theta of a cut is one of the keys, or as it was
+  -- the theta of a cut is one of the keys, or unchanged
   pub cut_theta : (k : ℕ) (xs : List X) (theta : ℕ) → IsRetained key (record { entries = xs; theta = theta }) → record { low : 0 < (cut key k xs theta).theta; high : (cut key k xs theta).theta ≤ theta }
   cut_theta k [] theta v = rw (cut_few key k [] theta v.ascending (omega arith)) (record { low = v.theta_low; high = omega arith })
   cut_theta k (x ∷ xs) theta v =
@@ -65,7 +65,7 @@ module _ {X : Type 0} (key : X → ℕ) where
         | inr le ↦ rw (cut_few key k (x ∷ xs) theta v.ascending le) (record { low = v.theta_low; high = omega arith })
       ]
 
-  -- a cut of what is retained
+  -- a cut of a retained map
   pub IsRetained-cut : (k : ℕ) (xs : List X) (theta : ℕ) → IsRetained key (record { entries = xs; theta = theta }) → IsRetained key (cut key k xs theta)
   IsRetained-cut k xs theta v =
       let bounds = cut_theta k xs theta v in
@@ -88,7 +88,7 @@ module _ {X : Type 0} (key : X → ℕ) where
   unfolding rebuilt
   rebuilt_free k xs theta free = grind (arith, nat_tests)
 
-  -- what an insertion of h answers, leaves and refuses
+  -- the result of an insertion of h, the map after it, and its refusal
   pub record IsCase (k h : ℕ) (step : Step X) (v : Retained X) (created : Bool) (after : Retained X) (refusal : Option ErrorKind) (allocates : Bool) : Type 0 where
     pub creates_is : creates key h step v ≡ created
     pub after_is : after_upsert key k h step v ≡ after
@@ -130,7 +130,7 @@ module _ {X : Type 0} (key : X → ℕ) where
   length-cut k [] t up = rw (cut_few key k [] t up (omega arith)) (omega arith)
   length-cut k (y ∷ ys) t up = length-cut_with y k (y ∷ ys) t up
 
-  -- a rebuild leaves no more than fifteen eighths of k
+  -- after a rebuild there are at most fifteen eighths of k
   pub few-rebuilt : (k : ℕ) (xs : List X) (theta : ℕ) → IsAscending key xs → 8 ≤ k → length (rebuilt key k xs theta).entries ≤ 15 * k / 8
   few-rebuilt k xs theta up large =
       elim (cases_lt (15 * k / 8) (length xs)) [

@@ -1,4 +1,4 @@
--- A step that isn't refused is one on folds, and one that is refused leaves its mark in the whole map.
+-- A step that isn't refused has the effect of its step on folds, and a refused one leaves its mark in the whole map.
 use Rattle.std.proofs.Common.{◌≡◌, ℕ, true, false, cond, map, Option, Some, None, is_some, refl, sym, ap, ◌∙◌}
 use Rattle.std.specs.Option.{option_map, option_map_or}
 use Rattle.sketch_base.specs.declared.error.ErrorKind.{ErrorKind}
@@ -61,7 +61,7 @@ module _ {X : Type 0} (key : X → ℕ) where
             ]) refl made
       ]
 
-  -- steps on folds keep hashes where the steps do
+  -- steps on folds keep hashes if the steps do
   pub folded-keeps : {V : Type 0} (step_of : ℕ → V → Step X) → KeepsHashes key step_of → KeepsHashes (fold_key key) (folded_of key step_of)
   folded-keeps step_of keeps = record {
     writes = λ h x. write-keeps h (step_of h x) (keeps.writes h x);

@@ -1,4 +1,4 @@
--- What a leaf retains, against the whole map of what was added.
+-- The retained map of a leaf, against the whole map of what was added.
 use Rattle.std.proofs.Common.{◌≡◌, ℕ, ◌<◌, ◌≤◌, Bool, true, false, cond, List, [], ◌∷◌, ◌++◌, Some, None, inl, refl, ap, ◌∙◌, arith}
 use Rattle.std.specs.List.{AllByRecursion}
 use Rattle.std.specs.Option.{option_map_or}
@@ -72,7 +72,7 @@ module _ {X V : Type 0} (key : X → ℕ) (step_of : ℕ → V → Step X) (keep
   carried-from [] w all = all
   carried-from (step ∷ steps) w all = carried-from steps (whole_step key step_of step w) (carried-step step w all)
 
-  -- where nothing was added since the last reset the whole map is empty
+  -- if nothing was added since the last reset, the whole map is empty
   not_updated : (steps : List (LeafStep V)) (b : Bool) (w : List X) → (b ≡ false → w ≡ []) → is_updated steps b ≡ false → whole_from key step_of steps w ≡ []
   not_updated [] b w none e = none e
   not_updated (Add h x ∷ steps) b w none e = not_updated steps true (whole_step key step_of (Add h x) w) (λ f. absurd (cc)) e

@@ -1,4 +1,4 @@
--- Hashes that are left out of a list since their insertion changes nothing.
+-- Hashes that are dropped from a list since their insertion changes nothing.
 use Rattle.std.proofs.Common.{◌≡◌, ℕ, ◌*◌, ◌/◌, ◌<◌, ◌≤◌, Bool, true, false, cond, eqb, ltb, leb, length, List, [], ◌∷◌, ◌++◌, Some, None, inl, inr, refl, sym, ap, subst, ◌∙◌, filter, arith}
 use Rattle.std.specs.Prelude.{IsSome, is_some, ◌&&◌}
 use Rattle.std.proofs.lemmas.Bool.{cases_lt}
@@ -18,7 +18,7 @@ module _ {X : Type 0} (P : X → Type 0) where
   nothing_left_out [] = refl
   nothing_left_out (x ∷ xs) = inr (xs, refl, nothing_left_out xs)
 
-  -- what is left out twice
+  -- dropping twice
   pub left_out_again : (xs ys zs : List X) → LeavesOut P xs ys → LeavesOut P ys zs → LeavesOut P xs zs
   left_out_again [] ys zs first second = subst (λ ys. LeavesOut P ys zs) first second
   left_out_again (x ∷ xs) ys zs (inl (out, first)) second = inl (out, left_out_again xs ys zs first second)
@@ -37,7 +37,7 @@ module _ {X : Type 0} (P : X → Type 0) where
         | false ↦ λ e. inl (out x e, left_out-filter test out xs)
       ]) refl
 
-  -- what stands before one that is left is left of what stood before it
+  -- the elements before one that is kept are kept from those before it in the whole list
   pub left_out-front : (xs front : List X) (y : X) (rest : List X) → LeavesOut P xs (front ++ y ∷ rest) → (part : List X) × (behind : List X) × (xs ≡ part ++ y ∷ behind) × LeavesOut P part front
   left_out-front [] [] y rest leaves = absurd (cc)
   left_out-front [] (z ∷ front) y rest leaves = absurd (cc)
@@ -79,7 +79,7 @@ redundant_with : (xs : List ℕ) (theta x q : ℕ) → IsRedundant hash_key (rec
 redundant_with xs theta x q (inl screened) = inl screened
 redundant_with xs theta x q (inr some) = inr (has-with_entry hash_key xs x q some)
 
--- an entry that is there, once more
+-- an existing entry, inserted again
 same_with : (xs : List ℕ) (x : ℕ) → IsAscending hash_key xs → entry_at hash_key xs x ≡ Some x → with_entry hash_key xs x ≡ xs
 same_with xs x up here =
     same_map hash_key (with_entry hash_key xs x) xs (ascending-with_entry hash_key xs x up) up
@@ -113,7 +113,7 @@ module _ (k : ℕ) where
             ]) refl some
       ]) refl
 
-  -- what an insertion of a hash leaves
+  -- the retained hashes after an insertion of a hash
   record IsLeft (v : Retained ℕ) (h : ℕ) (after : Retained ℕ) : Type 0 where
     pub retained : IsRetained hash_key after
     pub redundant : (q : ℕ) → IsRedundant hash_key v q → IsRedundant hash_key after q
@@ -142,7 +142,7 @@ module _ (k : ℕ) where
             ]) refl
       ]) refl
 
-  -- hashes that are redundant may be left out
+  -- redundant hashes may be dropped
   pub redundant_left_out : (xs ys : List ℕ) (v w : Retained ℕ) → IsRetained hash_key w → ((h : ℕ) → IsRedundant hash_key v h → IsRedundant hash_key w h) → LeavesOut (IsRedundant hash_key v) xs ys → after_upserts hash_key k hash_step xs w ≡ after_upserts hash_key k hash_step ys w
   redundant_left_out [] ys v w is all leaves = ap (λ zs. after_upserts hash_key k hash_step zs w) (sym leaves)
   redundant_left_out (x ∷ xs) ys v w is all (inl (out, leaves)) =
@@ -152,7 +152,7 @@ module _ (k : ℕ) where
       redundant_left_out xs left v (after_upsert hash_key k x (hash_step x) w) after.retained (λ h p. after.redundant h (all h p)) leaves
       ∙ ap (λ zs. after_upserts hash_key k hash_step zs w) (sym same)
 
-  -- what is retained stays lawful
+  -- the retained map stays lawful
   pub retained_upserts : (xs : List ℕ) (v : Retained ℕ) → IsRetained hash_key v → IsRetained hash_key (after_upserts hash_key k hash_step xs v)
   retained_upserts [] v is = is
   retained_upserts (x ∷ xs) v is = retained_upserts xs (after_upsert hash_key k x (hash_step x) v) (left_after v x is).retained
@@ -171,7 +171,7 @@ module _ (k : ℕ) where
       let next : Retained ℕ = after_upsert hash_key k x (hash_step x) v in
       inl (redundant_upserts xs next x after.retained after.inserted, inserted_left_out xs next after.retained)
 
-  -- so a first part of what is inserted may have been inserted before
+  -- so a first part of the inserted hashes may have been inserted before
   pub inserted_again : (front rest : List ℕ) (v : Retained ℕ) → IsRetained hash_key v → after_upserts hash_key k hash_step (front ++ rest) (after_upserts hash_key k hash_step front v) ≡ after_upserts hash_key k hash_step (front ++ rest) v
   inserted_again front rest v is =
       let part : Retained ℕ = after_upserts hash_key k hash_step front v in

@@ -13,7 +13,7 @@ use Rattle.core_laws.specs.Maps.{IsAscending}
 use Rattle.core_laws.proofs.maps.Ascending.{ascending-head, ascending-tail, ascending-nil, ascending-cons}
 use Rattle.core_laws.specs.Entries.{KeepsKey}
 
--- a policy that answers nothing has not refused, and one that answers a kind has, with `Policy`
+-- a policy whose refusal is none has not refused, and one with a kind has refused, with `Policy`
 pub not_refused : (refused : Bool) → policy_refusal refused ≡ None → refused ≡ false
 not_refused true e = absurd (cc)
 not_refused false e = refl

@@ -4,7 +4,7 @@ use Rattle.std.specs.List.{filter}
 use Rattle.core_laws.specs.Maps.{IsApart, entry_at}
 
 module _ {X : Type 0} (key : X → ℕ) where
-  -- what has no entry has none among some of the entries
+  -- a key without an entry has none among some of the entries
   filter_absent : (p : X → Bool) (xs : List X) (q : ℕ) → entry_at key xs q ≡ None → entry_at key (filter p xs) q ≡ None
   filter_absent p [] q none = refl
   filter_absent p (x ∷ xs) q none =

@@ -8,7 +8,7 @@ use Rattle.std.proofs.lemmas.List.Sums.{length-filter}
 use Rattle.core_laws.specs.Maps.{IsAscending, below, above, with_entry, rank}
 
 module _ {X : Type 0} where
-  -- what holds of each element holds of each that passes
+  -- a property of each element is one of each element that passes
   pub each-filter : (P : X → Type 0) (p : X → Bool) (xs : List X) → AllByRecursion P xs → AllByRecursion P (filter p xs)
   each-filter P p [] all = tt
   each-filter P p (x ∷ xs) all =
@@ -77,7 +77,7 @@ module _ {X : Type 0} (key : X → ℕ) where
       let later : AllByRecursion (λ y. key x < key y) ys = each-weaker _ _ (λ y le. omega (arith, lo.0, le)) ys hi in
       ascending-cons x _ (each-append _ xs ys (ascending-head x xs upx) later) (ascending-append h xs ys (ascending-tail x xs upx) upy lo.1 hi)
 
-  -- the map with an entry more, or another at its key, ascends
+  -- the map with one more entry, or another at its key, ascends
   pub ascending-with_entry : (xs : List X) (x : X) → IsAscending key xs → IsAscending key (with_entry key xs x)
   ascending-with_entry xs x up =
       let higher : AllByRecursion (λ y. key x < key y) (above key xs (key x)) = each-passes _ _ (λ y e. ltb-true _ _ e) xs in
@@ -88,7 +88,7 @@ module _ {X : Type 0} (key : X → ℕ) where
   pub each-with_entry : (P : X → Type 0) (xs : List X) (x : X) → AllByRecursion P xs → P x → AllByRecursion P (with_entry key xs x)
   each-with_entry P xs x all p = each-append P _ _ (each-filter P _ xs all) (p, each-filter P _ xs all)
 
-  -- keys below h stand before place i, and the others from it on
+  -- keys below h are before place i, and the others from it on
   pub record Parts (xs : List X) (h i : ℕ) : Type 0 where
     pub within : i ≤ length xs
     pub smaller : (k : ℕ) (d : X) → k < i → key (get_or xs k d) < h
@@ -117,7 +117,7 @@ module _ {X : Type 0} (key : X → ℕ) where
   pub rank_parts : (xs : List X) (h i : ℕ) → Parts xs h i → rank key xs h ≡ i
   rank_parts xs h i parts = sym (length-filter _ xs) ∙ ap length (below_parts xs h i parts) ∙ length-take-le i xs parts.within
 
-  -- where the key at place i is h
+  -- if the key at place i is h
   pub parts_at : (xs : List X) (i : ℕ) (d : X) → IsAscending key xs → i < length xs → Parts xs (key (get_or xs i d)) i
   parts_at xs i d up lt = record {
     within = omega arith;

@@ -1,4 +1,4 @@
--- What a binary search finds in entries that ascend, and what stands round the place.
+-- The result of a binary search in entries that ascend, and the keys around its place.
 use Rattle.std.proofs.Common.{◌≡◌, ℕ, ◌≤◌, List, length, get_or, Result, Ok, Err, IfOk, IfErr, sym, ap, arith}
 use Rattle.std.specs.List.Sorted.{IsSearchInRange, IsBinarySearchResult, IsNonDecreasingBy}
 use Rattle.std.specs.Ordering.{nat_cmp, ordering_index}
@@ -9,7 +9,7 @@ use Rattle.core_laws.specs.Places.{IsAt, IsGapFor}
 use Rattle.core_laws.proofs.maps.Ascending.{ascending_at}
 
 module _ {X : Type 0} (key : X → ℕ) (xs : List X) (up : IsAscending key xs) (h : ℕ) where
-  -- the comparisons with h ascend along the list, as a binary search asks
+  -- the comparisons with h ascend along the list, as a binary search requires
   comparisons_rise : IsNonDecreasingBy (λ x. ordering_index (nat_cmp (key x) h)) xs
   comparisons_rise i j d le in_range =
       let rise : key (get_or xs i d) ≤ key (get_or xs j d) = grind (arith, ascending_at key xs i j d up, λ (same : i ≡ j). ap (λ k. key (get_or xs k d)) same) in

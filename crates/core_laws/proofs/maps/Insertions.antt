@@ -1,4 +1,4 @@
--- What a map has at a key, and with an entry more, by the key's place.
+-- The entry of a map at a key, and the map with one more entry, by the key's place.
 use Rattle.std.proofs.Common.{◌≡◌, ℕ, zero, suc, ◌<◌, ◌≢◌, List, [], ◌∷◌, length, get_or, set, Some, None, refl, sym, ap, arith}
 use Rattle.std.specs.List.{insert}
 use Rattle.std.proofs.lemmas.Bool.Decides.{nat_tests}

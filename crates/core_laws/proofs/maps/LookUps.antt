@@ -1,4 +1,4 @@
--- A map by what it has at each key.
+-- A map by its entry at each key.
 use Rattle.std.proofs.Common.{◌≡◌, ℕ, ◌<◌, ◌≢◌, Bool, true, false, cond, ltb, eqb, List, [], ◌∷◌, ◌++◌, Option, Some, None, inl, inr, refl, sym, ap, ◌∙◌, subst, arith}
 use Rattle.std.specs.List.{filter, AllByRecursion}
 use Rattle.std.specs.Option.{option_map_or}
@@ -13,7 +13,7 @@ module _ {X : Type 0} (key : X → ℕ) where
   entry_at-append (x ∷ xs) ys q =
       elim (eqb (key x) q) as (λ b. cond b (Some x) (entry_at key (xs ++ ys) q) ≡ option_map_or Some (cond b (Some x) (entry_at key xs q)) (entry_at key ys q)) [ true ↦ refl | false ↦ entry_at-append xs ys q ]
 
-  -- where the entries that have the key pass
+  -- if the entries that have the key pass
   pub entry_at-filter_in : (p : X → Bool) (xs : List X) (q : ℕ) → ((x : X) → key x ≡ q → p x ≡ true) → entry_at key (filter p xs) q ≡ entry_at key xs q
   entry_at-filter_in p [] q passes = refl
   entry_at-filter_in p (x ∷ xs) q passes =
@@ -22,7 +22,7 @@ module _ {X : Type 0} (key : X → ℕ) where
         | false ↦ λ e. elim (p x) as (λ b. entry_at key (cond b (x ∷ filter p xs) (filter p xs)) q ≡ entry_at key xs q) [ true ↦ rw e (entry_at-filter_in p xs q passes) | false ↦ entry_at-filter_in p xs q passes ]
       ]) refl
 
-  -- where they do not
+  -- if they do not
   pub entry_at-filter_out : (p : X → Bool) (xs : List X) (q : ℕ) → ((x : X) → key x ≡ q → p x ≡ false) → entry_at key (filter p xs) q ≡ None
   entry_at-filter_out p [] q fails = refl
   entry_at-filter_out p (x ∷ xs) q fails =
@@ -71,7 +71,7 @@ module _ {X : Type 0} (key : X → ℕ) where
   pub past : (x : X) (xs : List X) (q : ℕ) → IsAscending key (x ∷ xs) → q < key x → entry_at key (x ∷ xs) q ≡ None
   past x xs q up lt = entry_at_past (x ∷ xs) q (lt, each-weaker _ _ (λ y less. omega (arith, lt, less)) xs (ascending-head key x xs up))
 
-  -- two ascending lists that have the same at each key are one
+  -- two ascending lists that have the same entry at each key are equal
   pub same_map : (xs ys : List X) → IsAscending key xs → IsAscending key ys → ((q : ℕ) → entry_at key xs q ≡ entry_at key ys q) → xs ≡ ys
   same_map [] [] upx upy same = refl
   same_map [] (y ∷ ys) upx upy same = absurd (let a = same (key y) in let b = entry_at_head y ys (key y) refl in cc)

@@ -1,4 +1,4 @@
--- Lists of entries as maps: each key once, ascending, in the order in which they are lent.
+-- Lists of entries as maps: each key once, ascending, whatever the order of the list.
 use Rattle.std.proofs.Common.{◌≡◌, ℕ, ◌<◌, ◌≢◌, true, false, List, [], ◌∷◌, length, get_or, map, refl, sym, zero, suc, arith, eqb, eq-eqb, cond, Some, None, ap, ◌∙◌}
 use Rattle.std.specs.List.{AllByRecursion, AllPairs, IsDistinct, All}
 use Rattle.std.proofs.lemmas.Bool.{ne_eqb}
@@ -12,7 +12,7 @@ use Rattle.std.proofs.Math.ListN.{get_or-map}
 use Rattle.core_laws.proofs.maps.Insertions.{entry_absent}
 use Rattle.std.proofs.lemmas.List.Sorted.{IsPermutation-refl, All-permutation}
 
--- a sorted copy of the hashes ascends just where no two are the same
+-- a sorted copy of the hashes ascends exactly if no two are equal
 pub apart : (xs : List ℕ) → AllPairs (λ x y. x ≢ y) xs → IsDistinct eqb xs
 apart xs pairs = IsDistinct-from_apart eqb xs (λ i j d lt in_range. ne_eqb _ _ (pairs i j d lt in_range))
 
@@ -62,7 +62,7 @@ module _ {X : Type 0} (key : X → ℕ) where
   ascending-from_map (x ∷ xs) up = ascending-cons key x xs (each-from_map key (λ h. key x < h) xs (ascending-head (λ (h : ℕ). h) (key x) (map key xs) up)) (ascending-from_map xs (ascending-tail (λ (h : ℕ). h) (key x) (map key xs) up))
 
 module _ {X : Type 0} (key : X → ℕ) where
-  -- entries that ascend may be lent as they stand
+  -- entries that ascend are a listing as they are
   pub lent-ascending : (xs : List X) → IsAscending key xs → IsLent key xs xs
   lent-ascending xs up = record {
     each_once = IsPermutation-refl xs;
@@ -89,7 +89,7 @@ module _ {X : Type 0} (key : X → ℕ) where
   each-indexed P [] all = tt
   each-indexed P (x ∷ xs) all = (all 0 x (omega arith), each-indexed P xs (λ k d lt. all (suc k) d (omega arith)))
 
-  -- what holds of each entry of a map holds of each that it lends
+  -- a property of each entry of a map is one of each entry that it lists
   pub each-lent : (P : X → Type 0) (entries lends : List X) → IsLent key entries lends → AllByRecursion P entries → AllByRecursion P lends
   each-lent P entries lends lent all = each-indexed P lends (All-permutation P entries lends lent.each_once (λ k d lt. each-get_or P entries k d lt all))
 

@@ -1,4 +1,4 @@
--- What maps share, and what they lack.
+-- The common part of maps, and their difference.
 use Rattle.std.proofs.Common.{◌≡◌, ℕ, ◌<◌, ◌≤◌, ◌≢◌, Bool, true, false, cond, ltb, eqb, is_none, List, [], ◌∷◌, Option, Some, None, refl, sym, ap, ◌∙◌, subst, arith}
 use Rattle.std.specs.Prelude.{◌&&◌}
 use Rattle.std.specs.List.{filter, AllByRecursion}
@@ -45,7 +45,7 @@ module _ {X : Type 0} (key : X → ℕ) (merges : X → X → X) (keeps : KeepsK
             ]) refl
       ]) refl
 
-  -- what holds of keys
+  -- a property of keys
   pub each-common : (P : ℕ → Type 0) (xs ys : List X) → AllByRecursion (λ x. P (key x)) xs → AllByRecursion (λ x. P (key x)) (common key merges xs ys)
   each-common P [] ys all = tt
   each-common P (x ∷ xs) ys all =
@@ -66,7 +66,7 @@ module _ {X : Type 0} (key : X → ℕ) (merges : X → X → X) (keeps : KeepsK
         | None ↦ λ f. rw f rest
       ]) refl
 
-  -- below the lesser theta nothing is lost by what was cut away before
+  -- below the lesser theta nothing that was cut away before is lost
   pub below-common : (xs ys : List X) (u v t : ℕ) → IsAscending key xs → t ≤ u → t ≤ v → below key (common key merges (below key xs u) (below key ys v)) t ≡ below key (common key merges xs ys) t
   below-common xs ys u v t up le_u le_v =
       same_map key _ _ (ascending-filter key _ _ (ascending-common (below key xs u) (below key ys v) (ascending-filter key _ xs up))) (ascending-filter key _ _ (ascending-common xs ys up))
@@ -101,7 +101,7 @@ module _ {X : Type 0} where
   filter-agree p q (x ∷ xs) same = ap (λ b. cond b (x ∷ filter p xs) (filter p xs)) (same x) ∙ ap (λ zs. cond (q x) (x ∷ zs) zs) (filter-agree p q xs same)
 
 module _ {X Y : Type 0} (key : X → ℕ) (other : Y → ℕ) where
-  -- below a theta, what another map lacks is what that map lacks below it
+  -- below a theta, the difference depends only on the parts of both maps below it
   pub below-lacking : (xs : List X) (ys : List Y) (u v t : ℕ) → t ≤ u → t ≤ v → below key (lacking key other (below key xs u) (below other ys v)) t ≡ below key (lacking key other xs ys) t
   below-lacking xs ys u v t le_u le_v =
       ap (λ zs. below key zs t) (filter-and (λ x. is_none (entry_at other (below other ys v) (key x))) (λ x. ltb (key x) u) xs)

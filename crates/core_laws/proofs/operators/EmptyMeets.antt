@@ -26,7 +26,7 @@ module _ {Y : Type 0} (P : Y → Type 0) where
   all-end [] zs all = all
   all-end (y ∷ ys) zs all = all-end ys zs all.1
 
-  -- an element may stand at the end of the one list or at the beginning of the other
+  -- an element may be at the end of the one list or at the beginning of the other
   all-over : (ys zs : List Y) (y : Y) → AllByRecursion P (ys ++ y ∷ zs) → AllByRecursion P ((ys ++ y ∷ []) ++ zs)
   all-over ys zs y all = rw (append_assoc ys (y ∷ []) zs) all
 
@@ -36,7 +36,7 @@ module _ {Y : Type 0} (P : Y → Type 0) where
 four_true : (a b c d : Bool) → a ≡ true → b ≡ false → c ≡ false → d ≡ true → (a && (not b && (not c && d))) ≡ true
 four_true a b c d ea eb ec ed = rw (ea, eb, ec, ed) refl
 
--- what a test of four facts says of each
+-- the four facts of a test
 record AllFour (a b c d : Bool) : Type 0 where
   first : a ≡ true
   second : b ≡ false
@@ -99,13 +99,13 @@ module _ {X : Type 0} (key : X → ℕ) (merges : X → X → X) where
         | false ↦ with_empty_from front back (shared key merges u v)
       ]
 
--- a meet is Empty where one of the values is
+-- a meet is Empty if one of the values is
 pub with_empty : {X : Type 0} (key : X → ℕ) (merges : X → X → X) (before after : List (Sketch X)) → meet key merges (before ++ Empty ∷ after) ≡ Empty
 with_empty key merges [] after = refl
 with_empty key merges (Empty ∷ before) after = refl
 with_empty key merges (NonEmpty v ∷ before) after = with_empty_from key merges before after v
 
--- what holds of the meet so far of values that are done with
+-- the facts on the meet so far of the values that are done
 record Stands {X : Type 0} (key : X → ℕ) (done : List (Retained X)) (met : Retained X) : Type 0 where
   theta_high : met.theta ≤ MAX_THETA
   keys_low : (q : ℕ) → IsSome (entry_at key met.entries q) → q < MAX_THETA
@@ -204,10 +204,10 @@ module _ {X : Type 0} (key : X → ℕ) (merges : X → X → X) (keeps : KeepsK
       let rest : vs ≡ bs ++ last ∷ after = cc in
       rw (first, rest) (stopped bs (b ∷ []) b last after p q (stands-one b (rw (← first) kept)) uncut has held none)
 
--- a meet that is Empty comes to nothing
+-- if a meet is Empty, `ComesToNothing` holds of its values
 pub comes_to_nothing : {X : Type 0} (key : X → ℕ) (merges : X → X → X) → KeepsKey key merges → (u : Retained X) (vs : List (Retained X)) → AllByRecursion (IsRetained key) (u ∷ vs) → meet key merges (NonEmpty u ∷ map NonEmpty vs) ≡ Empty → ComesToNothing key (u ∷ vs)
 comes_to_nothing key merges keeps u vs all empty = goes_on key merges keeps vs (u ∷ []) u (u ∷ vs) (stands-one key merges keeps u all.0) all.1 refl empty
 
--- and where values come to nothing, their meet is Empty
+-- and if `ComesToNothing` holds of values, their meet is Empty
 pub empty_meet : {X : Type 0} (key : X → ℕ) (merges : X → X → X) → KeepsKey key merges → (u : Retained X) (vs : List (Retained X)) → AllByRecursion (IsRetained key) (u ∷ vs) → ComesToNothing key (u ∷ vs) → meet key merges (NonEmpty u ∷ map NonEmpty vs) ≡ Empty
 empty_meet key merges keeps u vs all n = begins key merges keeps n.before n.last u n.after vs n.has_keys.0 n.shared_before.0 all.0 n.there n.uncut n.has_keys.1 n.shared_before.1 n.none_shared

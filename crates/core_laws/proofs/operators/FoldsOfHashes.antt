@@ -23,7 +23,7 @@ unmarked-keys : (v : Sketch ℕ) → keys (fold_key hash_key) (unmarked_value v)
 unmarked-keys Empty = refl
 unmarked-keys (NonEmpty v) = ap (λ hs. NonEmpty (record { entries = hs; theta = v.theta })) (unmarked-hashes v.entries)
 
--- what unions of folds say of hashes
+-- unions of folds as unions of hashes
 pub united-hashes : (refuses : ℕ → ℕ → Bool) (k start : ℕ) (new old more : Sketch ℕ) →
     unmarked_value new ≡ unite (fold_key hash_key) (fold_merges hash_key first_hash refuses) k start (unmarked_value old ∷ unmarked_value more ∷ []) →
     new ≡ unite hash_key first_hash k start (old ∷ more ∷ [])
@@ -48,7 +48,7 @@ module _ {X : Type 0} (key : X → ℕ) (merges : X → X → X) (keeps : KeepsK
             rw (f, absent) (common-keys xs ys)
       ]) refl
 
-  -- what is retained, without its summaries
+  -- a retained map without its summaries
   abbrev hashes_of : Retained X → Retained ℕ
   hashes_of v = record { entries = map key v.entries; theta = v.theta }
 
@@ -80,7 +80,7 @@ module _ {X : Type 0} (key : X → ℕ) (merges : X → X → X) (keeps : KeepsK
 some_same : {X : Type 0} {x y : X} → Some x ≡ Some y → x ≡ y
 some_same e = cc
 
--- what intersections of folds say of hashes
+-- intersections of folds as intersections of hashes
 pub met-hashes : (refuses : ℕ → ℕ → Bool) (new old : Option (Sketch ℕ)) (more : Sketch ℕ) →
     option_map unmarked_value new ≡ Some (meet_next (fold_key hash_key) (fold_merges hash_key first_hash refuses) (option_map unmarked_value old) (unmarked_value more)) →
     new ≡ Some (meet_next hash_key first_hash old more)

@@ -1,4 +1,4 @@
--- What joined, common and lacking maps have at each key.
+-- Joined, common and lacking maps at each key.
 use Rattle.std.proofs.Common.{◌≡◌, ℕ, ◌<◌, ◌≤◌, ◌≢◌, true, false, cond, ltb, eqb, IsSome, is_some, min, List, [], ◌∷◌, length, Option, Some, None, inl, inr, refl, sym, ap, ◌∙◌, subst, arith}
 use Rattle.std.specs.Option.{option_map_or}
 use Rattle.std.proofs.lemmas.Bool.{cases_lt}
@@ -14,7 +14,7 @@ use Rattle.core_laws.proofs.maps.MapsOfLists.{ascending-apart}
 use Rattle.core_laws.specs.Entries.{KeepsKey}
 
 module _ {X : Type 0} where
-  -- what stands at a key of two joined maps
+  -- the entry at a key of two joined maps
   abbrev pub either : (X → X → X) → Option X → Option X → Option X
   either merges o None = o
   either merges o (Some x) = Some (option_map_or (λ w. merges w x) o x)
@@ -72,7 +72,7 @@ module _ {X : Type 0} (key : X → ℕ) where
   }
 
 module _ {X : Type 0} (key : X → ℕ) (merges : X → X → X) (keeps : KeepsKey key merges) where
-  -- what joins has its key
+  -- an entry that is merged in keeps its key
   pub join_key : (whole : List X) (x : X) → key (option_map_or (λ w. merges w x) (entry_at key whole (key x)) x) ≡ key x
   join_key whole x =
       (elim (entry_at key whole (key x)) as (λ o. entry_at key whole (key x) ≡ o → key (option_map_or (λ w. merges w x) o x) ≡ key x) [
@@ -107,7 +107,7 @@ module _ {X : Type 0} (key : X → ℕ) (merges : X → X → X) (keeps : KeepsK
   ascending-joined [] whole up = up
   ascending-joined (x ∷ xs) whole up = ascending-joined xs (join key merges whole x) (ascending-with_entry key whole _ up)
 
-  -- what is below a theta of joined maps
+  -- the entries below a theta of joined maps
   pub below-joined : (xs whole : List X) (t : ℕ) → below key (joined key merges whole xs) t ≡ joined key merges (below key whole t) (below key xs t)
   below-joined [] whole t = refl
   below-joined (x ∷ xs) whole t =
@@ -148,11 +148,11 @@ module _ {X : Type 0} (key : X → ℕ) (merges : X → X → X) (keeps : KeepsK
       extends-keys key xs (joined key merges whole xs) upx (ascending-joined xs whole up)
       (λ q found. rw (entry_at-joined xs whole q (ascending-apart key xs upx)) (some_either (entry_at key whole q) (entry_at key xs q) found))
 
-  -- a map that joins nothing
+  -- a map joined to an empty one
   pub joined-nil : (xs : List X) → IsAscending key xs → joined key merges [] xs ≡ xs
   joined-nil xs up = same_map key (joined key merges [] xs) xs (ascending-joined xs [] (ascending-nil key)) up (λ q. entry_at-joined xs [] q (ascending-apart key xs up) ∙ either_none (entry_at key xs q))
 
-  -- a theta that was lawful stays so, or gives way to a lesser one
+  -- a lawful theta stays lawful, or is replaced by a lesser one
   pub lawful-joined : (k m u t : ℕ) (whole xs : List X) → IsAscending key whole → IsLawful key whole k m u → IsLawful key (joined key merges whole xs) k (min m t) (min u t)
   lawful-joined k m u t whole xs up (inl e) = inl (omega arith)
   lawful-joined k m u t whole xs up (inr low) =

@@ -18,7 +18,7 @@ use Rattle.core_laws.proofs.operators.Unions.{union_of_union, nonempties-more}
 keeps_hash : (x y : ℕ) → hash_key x ≡ hash_key y → hash_key (first_hash x y) ≡ hash_key y
 keeps_hash x y e = e
 
--- which of two equal hashes stays
+-- either of two equal hashes may stay
 join_hash : (o : Option ℕ) (h : ℕ) → ((w : ℕ) → o ≡ Some w → w ≡ h) → option_map_or (λ w. first_hash w h) o h ≡ h
 join_hash None h is = refl
 join_hash (Some w) h is = is w refl

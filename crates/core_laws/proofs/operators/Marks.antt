@@ -1,4 +1,4 @@
--- Where a policy refuses, the whole map has a mark.
+-- If a policy refuses, the whole map has a mark.
 use Rattle.std.proofs.Common.{◌≡◌, ℕ, Bool, true, false, cond, eqb, ltb, map, Option, Some, None, is_some, List, [], ◌∷◌, refl, sym, ap, ◌∙◌, arith}
 use Rattle.std.specs.Option.{option_map, option_map_or}
 use Rattle.std.proofs.lemmas.Bool.Decides.{nat_tests}
@@ -18,7 +18,7 @@ use Rattle.core_laws.proofs.insertions.Cases.{screened_case, existing_case, abse
 use Rattle.core_laws.specs.Entries.{KeepsKey}
 
 module _ {X : Type 0} (key : X → ℕ) where
-  -- a mark that is found is there
+  -- a mark found at a key is in the map
   pub found_mark : (whole : List (Fold X)) (q h : ℕ) → entry_at (fold_key key) whole q ≡ Some (Refused h) → has_mark whole ≡ true
   found_mark [] q h found = absurd (cc)
   found_mark (Refused g ∷ xs) q h found = refl
@@ -28,21 +28,21 @@ module _ {X : Type 0} (key : X → ℕ) where
   same_eqb : (q : ℕ) → eqb q q ≡ true
   same_eqb q = grind (arith, nat_tests)
 
-  -- a mark that is put in is there
+  -- a mark that is inserted is in the map
   put_mark : (whole : List (Fold X)) (h : ℕ) → has_mark (with_entry (fold_key key) whole (Refused h)) ≡ true
   put_mark whole h = found_mark _ h h (entry_at-with_entry (fold_key key) whole (Refused h) h ∙ ap (λ b. cond b (Some (Refused h)) (entry_at (fold_key key) whole h)) (same_eqb h))
 
   low : (h theta : ℕ) → is_screened h theta ≡ false → ltb h theta ≡ true
   low h theta e = grind (arith, nat_tests)
 
-  -- what a whole map has at a key below theta is what is held there
+  -- below theta a whole map has at a key what is retained there
   held_at : (whole : List (Fold X)) (v : Retained X) (q : ℕ) → map Value v.entries ≡ below (fold_key key) whole v.theta → ltb q v.theta ≡ true → entry_at (fold_key key) whole q ≡ option_map Value (entry_at key v.entries q)
   held_at whole v q all lt =
       sym (entry_at-below (fold_key key) whole v.theta q ∙ ap (λ b. cond b (entry_at (fold_key key) whole q) None) lt)
       ∙ ap (λ ys. entry_at (fold_key key) ys q) (sym all)
       ∙ entry_at-map Value key (fold_key key) (λ y. refl) v.entries q
 
-  -- a step that is refused leaves a mark
+  -- a refused step leaves a mark
   pub step_marks : (h : ℕ) (step : Step X) (v : Retained X) (whole : List (Fold X)) (kind : ErrorKind) → map Value v.entries ≡ below (fold_key key) whole v.theta → upsert_refusal key h step v ≡ Some kind → has_mark (whole_upsert (fold_key key) h (folded key h step) whole) ≡ true
   step_marks h step v whole kind all refused =
       (elim (is_screened h v.theta) as (λ b. is_screened h v.theta ≡ b → has_mark (whole_upsert (fold_key key) h (folded key h step) whole) ≡ true) [
@@ -67,7 +67,7 @@ module _ {X : Type 0} (key : X → ℕ) (merges : X → X → X) (refuses : X �
   marked_fold : ◌≡◌ {A = Option (Fold X)} (Some (fold_merges key merges refuses (Value x) (Value y))) (Some (Refused (key x)))
   marked_fold = ap (λ (b : Bool). Some (cond b (Refused (key x)) (Value (merges x y)))) refused
 
-  -- a merge that is refused leaves a mark where maps are joined
+  -- a refused merge leaves a mark in the joined maps
   pub join_marks : IsApart (fold_key key) come → has_mark (joined (fold_key key) (fold_merges key merges refuses) whole come) ≡ true
   join_marks apart = found_mark key _ q (key x)
       (entry_at-joined (fold_key key) (fold_merges key merges refuses) (fold_keeps key merges refuses keeps) come whole q apart
@@ -75,7 +75,7 @@ module _ {X : Type 0} (key : X → ℕ) (merges : X → X → X) (refuses : X �
       ∙ ap (λ o. either (fold_merges key merges refuses) (Some (Value x)) o) two
       ∙ marked_fold)
 
-  -- and where they are met
+  -- and in their common part
   pub meet_marks : has_mark (common (fold_key key) (fold_merges key merges refuses) whole come) ≡ true
   meet_marks = found_mark key _ q (key x)
       (entry_at-common (fold_key key) (fold_merges key merges refuses) (fold_keeps key merges refuses keeps) whole come q

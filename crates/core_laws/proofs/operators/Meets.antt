@@ -1,4 +1,4 @@
--- Intersections: one input more, and what is left at each key.
+-- Intersections: one more input, and the entry at each key.
 use Rattle.std.proofs.Common.{◌≡◌, ℕ, true, false, cond, List, [], ◌∷◌, ◌++◌, refl, ◌<◌, min, ltb, map, None, sym, ap, ◌∙◌, arith}
 use Rattle.core_laws.specs.Cuts.{Retained}
 use Rattle.core_laws.specs.Values.{Sketch, Empty, NonEmpty}
@@ -28,7 +28,7 @@ module _ {X : Type 0} (key : X → ℕ) (merges : X → X → X) (keeps : KeepsK
   pub empty_nonempty : (r : Retained X) → Empty ≡ NonEmpty r → ⊥
   empty_nonempty r e = cc
 
-  -- what is shared at each key
+  -- the shared entry at each key
   pub shared_look : (u v : Retained X) (q : ℕ) → entry_at key (shared key merges u v).entries q ≡ cond (ltb q (min u.theta v.theta)) (both merges (entry_at key u.entries q) (entry_at key v.entries q)) None
   shared_look u v q = entry_at-below key (common key merges u.entries v.entries) (min u.theta v.theta) q ∙ ap (λ o. cond (ltb q (min u.theta v.theta)) o None) (entry_at-common key merges keeps u.entries v.entries q)
 

@@ -35,7 +35,7 @@ module _ {X : Type 0} (key : X → ℕ) (merges : X → X → X) (keeps : KeepsK
   each-joined P [] whole all more = all
   each-joined P (x ∷ xs) whole all more = each-joined P xs (join key merges whole x) (each-with_entry key (λ z. P (key z)) whole _ all (subst P (sym (join_key key merges keeps whole x)) more.0)) more.1
 
-  -- what has been joined so far, of values and of whole maps
+  -- the join so far, of values and of whole maps
   pub record Gathered (entries whole : List X) (t : ℕ) : Type 0 where
     pub ascending_entries : IsAscending key entries
     pub ascending_whole : IsAscending key whole
@@ -110,7 +110,7 @@ module _ {X : Type 0} (key : X → ℕ) (merges : X → X → X) (keeps : KeepsK
   lawful_seen k start (NonEmpty v ∷ values) (ys ∷ wholes) whole t samples laws up seen =
       lawful_seen k start values wholes (joined key merges whole ys) (min t v.theta) samples.1 laws.1 (ascending-joined key merges keeps ys whole up) (lawful_step k start t v.theta whole ys up samples.0.ascending seen laws.0)
 
-  -- until the first value that is not empty nothing has joined
+  -- nothing is merged before the first value that is not empty
   lawful_first : (k start : ℕ) (values : List (Sketch X)) (wholes : List (List X)) (t : ℕ) → AreSamples key values wholes → AreLawful key k start values wholes → start ≤ t → nonempties values ≢ [] → IsLawful key (joined_all key merges [] wholes) k start (least t (map (λ u. u.theta) (nonempties values)))
   lawful_first k start [] [] t samples laws le some = absurd (some refl)
   lawful_first k start [] (ys ∷ wholes) t samples laws le some = absurd samples
@@ -141,7 +141,7 @@ module _ {X : Type 0} (key : X → ℕ) (merges : X → X → X) (keeps : KeepsK
   lawful_under xs k own start m theta le law (inl e) = subst (λ (t : ℕ). IsLawful key xs k start t) (sym e) law
   lawful_under xs k own start m theta le law (inr low) = inr (record { below_start = omega (arith, low.below_start, lawful-le key xs k start m law); is_key = low.is_key; ranked = omega (arith, low.ranked, le) })
 
-  -- and its theta is lawful, also where it keeps more than the k that its parts are lawful for
+  -- and its theta is lawful, also if it keeps more than the k that its parts are lawful for
   pub union_stays_lawful : (k own start from : ℕ) (values : List (Sketch X)) (wholes : List (List X)) → k ≤ own → start ≤ from → AreSamples key values wholes → AreLawful key k start values wholes → IsLawfulValue key k start (unite key merges own from values) (joined_all key merges [] wholes)
   union_stays_lawful k own start from values wholes more le samples laws =
       (elim (nonempties values) as (λ ns. nonempties values ≡ ns → IsLawfulValue key k start (unite_nonempty key merges own from ns) (joined_all key merges [] wholes)) [
@@ -160,14 +160,14 @@ module _ {X : Type 0} (key : X → ℕ) (merges : X → X → X) (keeps : KeepsK
   none_common [] = refl
   none_common (ys ∷ wholes) = none_common wholes
 
-  -- what two values share is what their whole maps share, below the lesser theta
+  -- the common part of two values is the common part of their whole maps, below the lesser theta
   shared_below : (u v : Retained X) (ws ys : List X) → IsSample key (NonEmpty u) ws → IsSample key (NonEmpty v) ys → (shared key merges u v).entries ≡ below key (common key merges ws ys) (min u.theta v.theta)
   shared_below u v ws ys su sv =
       ap (λ zs. below key (common key merges zs v.entries) (min u.theta v.theta)) su.all_below
       ∙ ap (λ zs. below key (common key merges (below key ws u.theta) zs) (min u.theta v.theta)) sv.all_below
       ∙ below-common key merges keeps ws ys u.theta v.theta (min u.theta v.theta) su.ascending (omega arith) (omega arith)
 
-  -- one more value: Empty only where the whole maps share nothing
+  -- one more value: Empty only if the whole maps share nothing
   disjoint_none : (u v : Retained X) (ws ys : List X) → IsSample key (NonEmpty u) ws → IsSample key (NonEmpty v) ys → is_disjoint key merges u v ≡ true → common key merges ws ys ≡ []
   disjoint_none u v ws ys su sv e =
       let t : ℕ = min u.theta v.theta in

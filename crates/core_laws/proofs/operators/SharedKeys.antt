@@ -61,7 +61,7 @@ module _ {X : Type 0} (key : X → ℕ) where
   nothing_found [] q none found = true≢false (sym found)
   nothing_found (x ∷ xs) q none found = absurd (grind (arith, nat_tests))
 
-  -- keys that are the same make the same list
+  -- equal keys make equal lists
   key_found : (xs : List X) (q : ℕ) → entry_at hash_key (map key xs) q ≡ cond (is_some (entry_at key xs q)) (Some q) None
   key_found xs q =
       entry_at-map key key hash_key (λ y. refl) xs q
@@ -119,7 +119,7 @@ module _ {X : Type 0} (key : X → ℕ) (merges : X → X → X) (keeps : KeepsK
         | false ↦ λ e. keys_from values (shared key merges u v) q less below.1 here all.1
       ]) refl
 
-  -- a hash is a key of a meet where it is one of every value
+  -- a hash is a key of a meet if it is a key of every value
   pub meet_has : (values : List (Sketch X)) (q : ℕ) → AllByRecursion (IsBelowTheta key) values → values ≢ [] → AllByRecursion (IsKeyOf key q) values → IsKeyOf key q (meet key merges values)
   meet_has [] q below some all = absurd (some refl)
   meet_has (Empty ∷ values) q below some all = absurd (true≢false (sym all.0))

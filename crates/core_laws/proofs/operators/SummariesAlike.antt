@@ -1,4 +1,4 @@
--- Unions whose merges commute, associate or leave what is merged with itself.
+-- Unions whose merges commute, associate or are idempotent.
 use Rattle.std.proofs.Common.{◌≡◌, ℕ, min, Bool, true, false, cond, List, [], ◌∷◌, map, Option, Some, None, inl, inr, refl, sym, ap, ◌∙◌, arith}
 use Rattle.std.proofs.lemmas.Bool.{cases_lt}
 use Rattle.core_laws.specs.Commuting.{Commutes, Associates, IsIdempotent}
@@ -65,7 +65,7 @@ module _ {X : Type 0} (key : X → ℕ) (merges : X → X → X) (keeps : KeepsK
       ∙ ap (λ o. either merges (entry_at key xs q) o) (sym (entry_at-joined key merges keeps zs ys q (ascending-apart key zs upz)))
       ∙ sym (entry_at-joined key merges keeps (joined key merges ys zs) xs q (ascending-apart key (joined key merges ys zs) up)))
 
-  -- a theta that is lawful for what joins stays so, or gives way to a lesser one
+  -- a theta that is lawful for the merged map stays lawful, or is replaced by a lesser one
   lawful-joining : (k m u t : ℕ) (whole xs : List X) → IsAscending key whole → IsAscending key xs → IsLawful key xs k m u → IsLawful key (joined key merges whole xs) k (min t m) (min t u)
   lawful-joining k m u t whole xs up upx (inl e) = inl (omega arith)
   lawful-joining k m u t whole xs up upx (inr low) =
@@ -77,7 +77,7 @@ module _ {X : Type 0} (key : X → ℕ) (merges : X → X → X) (keeps : KeepsK
         | inr le ↦ inl (omega (arith, low.below_start))
       ]
 
-  -- a cut joins a map as would the whole that is cut
+  -- merging a cut has the same effect as merging the whole that is cut
   joined-cut : (k m t : ℕ) (whole xs : List X) → IsAscending key whole → IsAscending key xs → cut key k (joined key merges whole (cut key k xs m).entries) (min t (cut key k xs m).theta) ≡ cut key k (joined key merges whole xs) (min t m)
   joined-cut k m t whole xs up upx =
       let within : IsWithin key k m (cut key k xs m) xs = within-cut key k m m xs upx (inl refl) in

@@ -1,4 +1,4 @@
--- What an update makes of a union's value.
+-- The effect of an update on a union's value.
 use Rattle.std.proofs.Common.{◌≡◌, ℕ, ◌<◌, ◌≤◌, min, Bool, ltb, List, [], ◌∷◌, map, refl, sym, ap, ◌∙◌, subst, arith}
 use Rattle.std.specs.List.{AllByRecursion}
 use Rattle.core_laws.specs.Maps.{IsAscending, below, entry_at, map_of, IsApart}
@@ -36,7 +36,7 @@ module _ {X : Type 0} (key : X → ℕ) (merges : X → X → X) (refuses : X �
   pub union-lowers : (k m : ℕ) (v : Retained X) (whole : List (Fold X)) → IsWithin (fold_key key) k m (unmarked v) whole → v.theta ≤ m
   union-lowers k m v whole within = lawful-le (fold_key key) whole k m v.theta within.lawful
 
-  -- where what is held is what a table retains below a theta, and what comes in is merged into that table below a theta that is no greater
+  -- if the union keeps the entries of a table below theta, and an input below m ≤ theta is merged into the table
   pub union-below : (k m theta : ℕ) (kept now : Retained X) (listing : List X) → IsRetained key kept → m ≤ theta → theta ≤ kept.theta → AllByRecursion (λ x. 0 < key x) listing →
       unmarked now ≡ after_upserts (fold_key key) k (merge_step (fold_merges key merges refuses) never) (map Value (below key listing m)) (unmarked kept) →
       IsWithin (fold_key key) k m (unmarked (retained key now.entries (min m now.theta))) (joined (fold_key key) (fold_merges key merges refuses) (map Value (below key (below key kept.entries theta) m)) (map Value (below key listing m)))
@@ -61,13 +61,13 @@ module _ {X : Type 0} (key : X → ℕ) (merges : X → X → X) (refuses : X �
       (subst (λ ys. IsWithin fkey k m (record { entries = below fkey (map Value now.entries) (min m now.theta); theta = min m now.theta }) ys) whole_is low)
 
 module _ {X : Type 0} (key : X → ℕ) (merges : X → X → X) (keeps : KeepsKey key merges) where
-  -- entries join in any order
+  -- entries may be merged in any order
   pub joined-map_of : (whole xs : List X) → IsAscending key whole → IsApart key xs → joined key merges whole xs ≡ joined key merges whole (map_of key xs)
   joined-map_of whole xs up apart =
       same_map key _ _ (ascending-joined key merges keeps xs whole up) (ascending-joined key merges keeps (map_of key xs) whole up)
       (λ q. entry_at-joined key merges keeps xs whole q apart ∙ ap (λ o. either merges (entry_at key whole q) o) (sym (entry_at-map_of key xs q)) ∙ sym (entry_at-joined key merges keeps (map_of key xs) whole q (ascending-apart key (map_of key xs) (ascending-map_of key xs))))
 
-  -- what stands within a joined map has the value that the cut of the whole has
+  -- a retained map within a joined map has the value that the cut of the whole has
   pub joined-value : (k m : ℕ) (v : Retained X) (held xs : List X) → IsAscending key held → IsApart key xs → IsWithin key k m v (joined key merges (below key held m) (below key xs m)) → cut key k v.entries v.theta ≡ cut key k (joined key merges held (map_of key xs)) m
   joined-value k m v held xs up apart within =
       ap (λ ys. cut key k ys v.theta) within.entries_are
@@ -85,7 +85,7 @@ module _ {X : Type 0} (key : X → ℕ) (merges : X → X → X) (keeps : KeepsK
       ∙ ap (λ (t : ℕ). cut key k (joined key merges old.entries (map_of key xs)) t) m_is
       ∙ cut-joined key merges keeps k old.theta start old.entries (record { entries = map_of key xs; theta = theta }) up le)
 
-  -- where the union held nothing
+  -- if the union was empty
   pub first-value : (k start m : ℕ) (new : Retained X) (xs : List X) (theta : ℕ) → m ≡ min start theta → IsApart key xs → IsWithin key k m new (joined key merges [] (below key xs m)) →
       NonEmpty (cut key k new.entries new.theta) ≡ unite key merges k start (Empty ∷ NonEmpty (record { entries = map_of key xs; theta = theta }) ∷ [])
   first-value k start m new xs theta m_is apart within =

@@ -43,7 +43,7 @@ module _ {X : Type 0} (key : X → ℕ) (merges : X → X → X) (keeps : KeepsK
   ascending-joined_all [] whole up = up
   ascending-joined_all (xs ∷ maps) whole up = ascending-joined_all maps (joined key merges whole xs) (ascending-joined key merges keeps xs whole up)
 
-  -- a cut of a cut, where nothing lies above its theta
+  -- a cut of a cut, if nothing is above its theta
   pub cut-again : (k m s : ℕ) (whole : List X) → IsAscending key whole → m ≤ s → cut key k (joined key merges [] (cut key k whole m).entries) (min s (cut key k whole m).theta) ≡ cut key k whole m
   cut-again k m s whole up le =
       let within : IsWithin key k m (cut key k whole m) whole = within-cut key k m m whole up (inl refl) in
@@ -56,7 +56,7 @@ module _ {X : Type 0} (key : X → ℕ) (merges : X → X → X) (keeps : KeepsK
       ∙ cut_below key k whole (cut key k whole m).theta up
       ∙ cut_lawful key whole k m (cut key k whole m).theta up within.lawful
 
-  -- one more joins a cut as it would the whole
+  -- one more map merged into a cut has the same effect as merged into the whole
   pub cut-joined : (k m s : ℕ) (whole : List X) (w : Retained X) → IsAscending key whole → m ≤ s → cut key k (joined key merges whole w.entries) (min m w.theta) ≡ cut key k (joined key merges (joined key merges [] (cut key k whole m).entries) w.entries) (min (min s (cut key k whole m).theta) w.theta)
   cut-joined k m s whole w up le =
       let within : IsWithin key k m (cut key k whole m) whole = within-cut key k m m whole up (inl refl) in
@@ -105,6 +105,6 @@ module _ {X : Type 0} (key : X → ℕ) (merges : X → X → X) (keeps : KeepsK
   cut_of_united less k start (v ∷ vs) le =
       ap NonEmpty (cut_of_cut key less k (joined_all key merges [] (map (λ u. u.entries) (v ∷ vs))) (least start (map (λ u. u.theta) (v ∷ vs))) le (ascending-joined_all (map (λ u. u.entries) (v ∷ vs)) [] (ascending-nil key)))
 
-  -- a union cut to fewer is the union of those to begin with
+  -- a union cut to fewer nominal entries is the union at that number from the start
   pub cut_of_union : (less k start : ℕ) (values : List (Sketch X)) → less ≤ k → cut_value key less (unite key merges k start values) ≡ unite key merges less start values
   cut_of_union less k start values le = cut_of_united less k start (nonempties values) le

@@ -2,7 +2,7 @@ use Rattle.std.proofs.Common.{◌≡◌, ◌++◌, map}
 use Rattle.core_compact.specs.Mapped.{MakesInTurn}
 use Rattle.core_compact.proofs.compact_state.images.Given as goal
 
--- the images so far are those of the entries so far, and the others are to come
+-- the images so far are those of the entries so far, and the others follow
 abbrev pub invariant-call_at_each : goal.invariant-call_at_each
 invariant-call_at_each g l = record {
   to_come : l.fn.entries.items ≡ l.yielded ++ l.entry-iterator.rest.items;

@@ -3,7 +3,7 @@ use Rattle.core_laws.specs.Maps.{below}
 use Rattle.core_slots.specs.Layout.{filled}
 use Rattle.core_slots.proofs.gathering.take_below.Given as goal
 
--- the slots so far are free, the others are as they were, and what was below theta has come
+-- the slots so far are free, the others are unchanged, and the entries below theta were moved
 abbrev pub invariant-take_each : goal.invariant-take_each
 invariant-take_each g l =
     let key = g.E.SketchEntry.key in

@@ -3,6 +3,6 @@ use Rattle.core_slots.specs.Layout.{filled}
 use Rattle.core_slots.proofs.Lookups.{IsLeft}
 use Rattle.core_slots.proofs.lookup.leave_out_held.Given as goal
 
--- what is left so far
+-- the remaining hashes so far
 abbrev pub invariant-round : goal.invariant-round
 invariant-round g l = IsLeft g.E.SketchEntry.key (filled (map g.E.PathEntry.held l.slots)) l.theta l.fn.hashes l.hashes l.left

@@ -4,7 +4,7 @@ use Rattle.core_slots.specs.Rounds.{IsInRound}
 use Rattle.core_slots.proofs.Settled.{in_front, in_wait}
 use Rattle.core_slots.proofs.rounds.settle.Given as goal
 
--- so many are put before the round
+-- the entries put before the round
 abbrev pub invariant-rounds : goal.invariant-rounds
 invariant-rounds g l =
     let key = g.E.SketchEntry.key in
@@ -14,7 +14,7 @@ invariant-rounds g l =
     × IsInRound key l.lg (filled (map held l.initial.left) ++ filled (map held l.initial.slots)) [] (in_front held l.count l.left) (map held l.slots) (length (filled (map held l.initial.slots))) l.round put looked
     × (0 < l.count → l.round < 2 ^ l.lg) × (l.count ≤ length l.left) × (length l.left ≡ length l.initial.left)
 
--- and so many when it has come to a place
+-- and those put before it reaches a place
 abbrev pub invariant-look_on : goal.invariant-look_on
 invariant-look_on g l =
     let key = g.E.SketchEntry.key in
@@ -24,6 +24,6 @@ invariant-look_on g l =
     × IsInRound key l.lg (filled (map held l.fn.left) ++ filled (map held l.fn.slots)) (in_front held l.kept l.left) (in_wait held l.at l.count l.left) (map held l.slots) (length (filled (map held l.fn.slots))) l.round put looked
     × (length l.left ≡ length l.initial.left) × (l.kept ≤ l.at) × (length (in_front held l.kept l.left) ≡ l.kept)
 
--- the rounds that there may be
+-- how many rounds are left at most
 abbrev pub decreases-rounds : goal.decreases-rounds
 decreases-rounds g l = 2 ^ l.lg - l.round

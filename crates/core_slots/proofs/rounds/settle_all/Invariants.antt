@@ -3,7 +3,7 @@ use Rattle.core_slots.specs.Layout.{filled}
 use Rattle.core_slots.specs.Rounds.{IsInRound}
 use Rattle.core_slots.proofs.rounds.settle_all.Given as goal
 
--- so many are put, and the others wait
+-- some entries are put, and the others wait
 abbrev pub invariant-parts : goal.invariant-parts
 invariant-parts g l =
     let key = g.E.SketchEntry.key in
@@ -11,6 +11,6 @@ invariant-parts g l =
     (put : ℕ) × (l.placed ≡ l.initial.placed + put) × (l.initial.looks + put ≤ l.looks) × (2 * l.looks ≤ 2 * l.initial.looks + put * (put + 1))
     × IsInRound key l.lg (filled (map held l.initial.left.items)) [] (filled (map held l.left.items)) (map held l.slots) 0 0 put 0
 
--- what waits
+-- the waiting slots
 abbrev pub decreases-parts : goal.decreases-parts
 decreases-parts g l = length l.left.items

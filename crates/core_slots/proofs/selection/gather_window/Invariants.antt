@@ -5,7 +5,7 @@ use Rattle.core_slots.specs.Layout.{filled}
 use Rattle.core_slots.specs.Rank.{within}
 use Rattle.core_slots.proofs.selection.gather_window.Given as goal
 
--- the hashes that came, and those of the slots that are left, are all
+-- the gathered hashes, and those of the remaining slots, are all
 abbrev pub invariant-gather_blocks : goal.invariant-gather_blocks
 invariant-gather_blocks g l =
     let behind = map g.E.SketchEntry.key (filled (map g.E.PathEntry.held l.left)) in
@@ -16,6 +16,6 @@ invariant-gather_blocks g l =
       counted : l.less + rank hash_key behind l.low ≡ rank hash_key all l.low;
     }
 
--- the slots that are left
+-- the remaining slots
 abbrev pub decreases-gather_blocks : goal.decreases-gather_blocks
 decreases-gather_blocks g l = length l.left

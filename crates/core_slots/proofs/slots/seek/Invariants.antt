@@ -3,7 +3,7 @@ use Rattle.core_slots.specs.Layout.{HasOthers}
 use Rattle.core_slots.specs.Probe.{probe}
 use Rattle.core_slots.proofs.slots.seek.Given as goal
 
--- so many slots were looked at, and have other hashes
+-- the slots looked at have other hashes
 abbrev pub invariant-look : goal.invariant-look
 invariant-look g l =
     (n : ℕ) × (l.looks ≡ l.initial.looks + n) × (l.at ≡ probe l.hash l.lg n) × (n ≤ 2 ^ l.lg) × HasOthers g.E.SketchEntry.key l.lg (map g.E.PathEntry.held l.slots) l.hash n

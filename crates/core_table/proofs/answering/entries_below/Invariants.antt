@@ -3,7 +3,7 @@ use Rattle.core_slots.specs.Layout.{filled}
 use Rattle.core_table.specs.Marks.{AreMarked, under}
 use Rattle.core_table.proofs.answering.entries_below.Given as goal
 
--- the clones so far, and of what is left the entries below theta, are all
+-- the clones so far, and the remaining entries below theta, are all
 abbrev pub invariant-clone_each : goal.invariant-clone_each
 invariant-clone_each g l =
     let low = under g.E.SketchEntry.key (Some l.theta) g.E.PathEntry.held in
@@ -12,6 +12,6 @@ invariant-clone_each g l =
       told : l.clones.items ++ filled (map low l.left.slots.now) ≡ filled (map low l.slots);
     }
 
--- the entries below theta that are left
+-- the remaining entries below theta
 abbrev pub decreases-clone_each : goal.decreases-clone_each
 decreases-clone_each g l = length (filled (map (under g.E.SketchEntry.key (Some l.theta) g.E.PathEntry.held) l.left.slots.now))

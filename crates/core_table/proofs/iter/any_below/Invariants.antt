@@ -3,6 +3,6 @@ use Rattle.core_slots.specs.Layout.{filled}
 use Rattle.core_table.proofs.ListedBelow.{NoneBelow}
 use Rattle.core_table.proofs.iter.any_below.Given as goal
 
--- none so far holds an entry below theta, where none was found
+-- if none was found, none so far holds an entry below theta
 abbrev pub invariant-test_each : goal.invariant-test_each
 invariant-test_each g l = l.any ≡ false → NoneBelow g.E.SketchEntry.key l.theta (filled (map g.E.PathEntry.held (take l.slot-index l.block)))

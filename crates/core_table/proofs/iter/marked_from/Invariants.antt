@@ -3,10 +3,10 @@ use Rattle.core_slots.specs.Layout.{filled}
 use Rattle.core_table.specs.Marks.{under}
 use Rattle.core_table.proofs.iter.marked_from.Given as goal
 
--- what was passed holds nothing under the bound
+-- the passed slots have no entries under the bound
 abbrev pub invariant-pass_blocks : goal.invariant-pass_blocks
 invariant-pass_blocks g l = filled (map (under g.E.SketchEntry.key l.bound g.E.PathEntry.held) l.left) ≡ filled (map (under g.E.SketchEntry.key l.bound g.E.PathEntry.held) l.slots)
 
--- the slots that are left
+-- the remaining slots
 abbrev pub decreases-pass_blocks : goal.decreases-pass_blocks
 decreases-pass_blocks g l = length l.left

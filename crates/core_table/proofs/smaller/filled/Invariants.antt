@@ -3,7 +3,7 @@ use Rattle.core_laws.specs.Operators.{joined}
 use Rattle.core_table.proofs.FilledTables.{IsFilling, last}
 use Rattle.core_table.proofs.smaller.filled.Given as goal
 
--- what is left is put in where its keys are new, and that makes what putting all in makes
+-- the remaining entries have keys that are new in the table, and inserting them makes the map of all
 abbrev pub invariant-put_each : goal.invariant-put_each
 invariant-put_each g l =
     let key = g.E.SketchEntry.key in

@@ -2,7 +2,7 @@ use Rattle.std.proofs.Common.{◌≡◌, ◌^◌, take}
 use Rattle.theta_tables.specs.Commands.{after_commands, replies}
 use Rattle.theta_tables.proofs.run.run_table.Given as goal
 
--- the commands so far are replied to, and the table stands after them
+-- the commands so far are replied to, and the table is as after them
 abbrev pub invariant-commands : goal.invariant-commands
 invariant-commands g l = (let old = g.T.ThetaTable.map l.initial.table in record {
   replied : l.answer.items ≡ replies (2 ^ old.lg_nom) old.start (take l.command-index l.commands) old.kept;

@@ -6,7 +6,7 @@ use Rattle.core_slots.specs.Layout.{filled}
 use Rattle.core_slots.proofs.Layouts.{filled-append}
 use Rattle.core_slots.proofs.entry.TupleEntryPathEntry.free_slots.Goals as goal
 
--- a slot more, which holds nothing
+-- one more slot, without an entry
 more_free : {X : Type 0} (slots : List (Option X)) (o : Option X) → o ≡ None → filled (map (λ s. s) slots) ≡ [] → filled (map (λ s. s) (slots ++ o ∷ [])) ≡ []
 more_free slots o is before =
     ap filled (map-append (λ s. s) slots (o ∷ [])) ∙ filled-append (map (λ s. s) slots) (o ∷ []) ∙ ap (λ u. filled (map (λ s. s) slots) ++ filled (u ∷ [])) is ∙ append-nil (filled (map (λ s. s) slots)) ∙ before
