@@ -48,8 +48,8 @@ impl<E: SlotEntry, A: Allocator> Model for UpdatableState<E, A> {
 }
 
 impl<E: SlotEntry, A: Allocator> UpdatableState<E, A> {
-    /// An empty state with these settings, in memory of `alloc`. Refused with `InvalidArgument` for settings out of
-    /// range, and with `OutOfMemory`.
+    /// An empty state with these settings, in memory of `alloc`. Refused with `InvalidArgument` if a setting is out of
+    /// range or the seed hash is 0, and with `OutOfMemory`.
     pub fn new(alloc: A, settings: Settings) -> Result<Self, Error>
     where
         A: Drop,
