@@ -1,4 +1,4 @@
-//! Laws of the definitions alone, for every value and not only for those of a call.
+//! Laws of the definitions alone.
 ghost use Rattle.std.specs.Prelude.{◌≡◌, ℕ, List, ◌<◌, ◌^◌, ◌++◌};
 ghost use Rattle.core_compact.specs.CompactState.{Compact, IsCompact};
 ghost use Rattle.core_laws.specs.Entries.{hash_key};

@@ -152,8 +152,8 @@ impl<A: Allocator + Clone> ThetaSketch<A> {
     ///
     /// The value is hashed as std's `Hash` writes its bytes, and after a text `Hash` writes one more byte, 255. So
     /// `update("ann")` has another hash than in libraries of other languages, which hash the bytes of the text alone.
-    /// To get their hash, `write` the bytes to a `MurmurHash3X64128` of the sketch's seed, and pass `finish128().0 >>
-    /// 1` to `update_hash`.
+    /// To get their hash, `write` the bytes to a `MurmurHash3X64128` of the sketch's seed and pass `finish128().0 >> 1`
+    /// to `update_hash`.
     #[inline(always)]
     pub fn update<T: Hash + Drop>(&mut self, value: T) -> Result<(), Error>
         ensures nonempty { OnOk result (self.new.empty ≡ false) }

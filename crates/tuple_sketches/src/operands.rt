@@ -1,5 +1,5 @@
-//! The operators' calls, handed views of any entries. The borrow checker takes a view there whose entries are a type
-//! parameter, and none whose entries are tuples.
+//! The operators' calls on views, generic over the entries. The borrow checker accepts a view there if its entries are
+//! a type parameter, but not if they are tuples.
 ghost use Rattle.std.specs.Prelude.{◌≡◌, ◌||◌, ◌^◌, [], ◌∷◌, true, false, None, IfOk, IfErr, OnOk, MatchOption};
 ghost use Rattle.core_compact.specs.CompactState.{IsAnswer};
 ghost use Rattle.core_laws.specs.Cuts.{IsRetained};
@@ -21,7 +21,7 @@ use core_state::SketchView;
 use sketch_base::Error;
 use std::alloc::Allocator;
 
-/// Joins a view to a union: `UnionState::update`.
+/// Merges a view into a union: `UnionState::update`.
 pub(crate) fn join_view<
     'v,
     E: SlotEntry + Clone,
