@@ -27,8 +27,8 @@ pub trait ImageEntry<A: Allocator>: SketchEntry {
         ensures value { OnOk result (is_value self.now) }
         ensures refused { Refuses result None true };
 
-    /// Reads the entry that a beginning of the bytes spells, and moves past that beginning. It refuses with `InvalidData`
-    /// exactly if no beginning spells one, or with `OutOfMemory`; afterwards the cursor is unspecified.
+    /// Reads the entry that a prefix of the bytes spells, and moves past that prefix. It refuses with `InvalidData`
+    /// exactly if no prefix spells one, or with `OutOfMemory`; afterwards the cursor is unspecified.
     fn read(alloc: &A, slice: &mut SketchSlice<'_>) -> Result<Self, Error>
         ensures { Answers (λ x. λ rest. (first : List ℕ) × spells first x × (slice.old ≡ first ++ rest)) slice.new result };
 

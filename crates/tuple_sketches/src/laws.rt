@@ -37,7 +37,7 @@ pub fn trim_of_folds<S>()
     ensures { (k : ℕ) (v : Retained (TupleEntry S)) → unmarked (cut tuple_key k v.entries v.theta) ≡ cut (fold_key tuple_key) k (unmarked v).entries v.theta }
 {}
 
-/// A refused update leaves a mark in the whole map. The retained entries are the part of that map below theta.
+/// If the retained entries are the part of the whole map below theta, a refused update leaves a mark in the whole map.
 pub fn refused_update_marks<S, U>()
     ensures { (creates : Option S) (updates : S → U → Option S) (h : ℕ) (value : U) (v : Retained (TupleEntry S)) (whole : List (Fold (TupleEntry S))) (kind : ErrorKind) → map Value v.entries ≡ below (fold_key tuple_key) whole v.theta → upsert_refusal tuple_key h (update_step creates updates h value) v ≡ Some kind → has_mark (whole_upsert (fold_key tuple_key) h (folded_of tuple_key (update_step creates updates) h value) whole) ≡ true }
 {}
