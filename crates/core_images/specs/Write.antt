@@ -9,7 +9,7 @@ use Rattle.core_laws.specs.declared.TheConstants.{MAX_THETA}
 abbrev pub longs_of : {X : Type 0} → Compact X → ℕ
 longs_of s = if nat_lt s.theta MAX_THETA then 3 else (if length s.entries == 1 then 1 else 2)
 
--- the first eight bytes as they are written
+-- the first eight bytes of an image
 abbrev pub head : (longs family kind flags seed_hash : ℕ) → List ℕ
 head longs family kind flags seed_hash = longs ∷ 3 ∷ family ∷ kind ∷ 0 ∷ flags ∷ to_le_bytes w16 seed_hash
 

@@ -18,10 +18,10 @@ pub trait ImageEntry<A: Allocator>: SketchEntry {
     ghost spells: { List ℕ → Self → Type 0 };
     /// Which entries can be written.
     ghost is_value: { Self → Type 0 };
-    /// The bytes that are written of an entry.
+    /// The bytes written of an entry.
     ghost text: { Self → List ℕ };
 
-    /// Appends the entry's bytes. It refuses with `OutOfMemory` alone, and the target is not used afterwards.
+    /// Appends the entry's bytes. It refuses with `OutOfMemory` alone; then the contents of `bytes` are unspecified.
     fn write<B: Allocator>(&self, bytes: &mut SketchBytes<B>) -> Result<(), Error>
         ensures ok { OnOk result (bytes.new.bytes ≡ bytes.old.bytes ++ text self.now) }
         ensures value { OnOk result (is_value self.now) }
@@ -32,8 +32,8 @@ pub trait ImageEntry<A: Allocator>: SketchEntry {
     fn read(alloc: &A, slice: &mut SketchSlice<'_>) -> Result<Self, Error>
         ensures { Answers (λ x. λ rest. (first : List ℕ) × spells first x × (slice.old ≡ first ++ rest)) slice.new result };
 
-    /// Appends the bytes of each entry, in their order. It refuses with `OutOfMemory` alone, and the target is not used
-    /// afterwards.
+    /// Appends the bytes of each entry, in their order. It refuses with `OutOfMemory` alone; then the contents of
+    /// `bytes` are unspecified.
     fn write_each<B: Allocator>(entries: &[Self], bytes: &mut SketchBytes<B>) -> Result<(), Error>
         ensures ok { OnOk result (bytes.new.bytes ≡ bytes.old.bytes ++ flat_map text entries.now) }
         ensures values { OnOk result (AllByRecursion is_value entries.now) }

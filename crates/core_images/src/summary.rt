@@ -17,7 +17,7 @@ pub trait TupleSummaryValue<A: Allocator> {
     ghost spells: { List ℕ → Self → Type 0 };
     /// Which summaries are values: all that the type can store.
     ghost is_value: { Self → Type 0 };
-    /// The bytes that are written of a summary.
+    /// The bytes written of a summary.
     ghost text: { Self → List ℕ };
 
     /// The number of bytes that `serialize_value` writes. The summary is a value.
@@ -25,8 +25,8 @@ pub trait TupleSummaryValue<A: Allocator> {
         ensures size { result ≡ length (text self.now) }
         ensures value { is_value self.now };
 
-    /// Appends its bytes, as many as its `serialize_size`. It refuses with `OutOfMemory` alone, and the target is not used
-    /// afterwards.
+    /// Appends its bytes, as many as its `serialize_size`. It refuses with `OutOfMemory` alone; then the contents of
+    /// `bytes` are unspecified.
     fn serialize_value<B: Allocator>(&self, bytes: &mut SketchBytes<B>) -> Result<(), Error>
         ensures ok { OnOk result (bytes.new.bytes ≡ bytes.old.bytes ++ text self.now) }
         ensures value { OnOk result (is_value self.now) }

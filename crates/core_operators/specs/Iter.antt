@@ -4,7 +4,7 @@ use Rattle.core_table.specs.Gathering.{from_below}
 use Rattle.core_operators.specs.declared.iter.Source.{Source}
 use Rattle.core_operators.specs.declared.iter.Source.TheVariants.{Table, Slice}
 
--- what an iterator has left, and whether it knows how many these are
+-- what an iterator has left, and whether it knows how many items these are
 pub record Lending (X : Type 0) : Type 0 where
   pub rest : List X
   pub counted : Bool

@@ -91,7 +91,7 @@ impl<E: SlotEntry + Clone, P: UnionMergePolicy<E> + Drop, A: Allocator + Clone> 
     P,
     A,
 > {
-    /// Joins a sketch. An empty one changes nothing, and its seed is not checked.
+    /// Merges a sketch into the union. An empty sketch changes nothing, and its seed is not checked.
     ///
     /// Refused with `Failed` if the union has failed, whatever the input, and with `InvalidArgument` for a sketch of
     /// another seed; then nothing has changed. Refused with `OutOfMemory`, or with `Policy` if the policy refuses the

@@ -33,7 +33,7 @@ pub enum ThetaFamilySketchMetadata {
 pub trait KeySketch: Copy {
     type Hashes: Iterator<Item = u64>;
 
-    /// What it shows.
+    /// Its metadata and hashes, as contracts see them.
     ghost shown: { Self → Shown };
 
     /// The hashes that an iterator has left.
@@ -49,13 +49,13 @@ pub trait KeySketch: Copy {
         ensures all { rest result ≡ (shown self).hashes }
         ensures sound { IsShown (shown self) };
 
-    /// An iterator gives what it has left, in order.
+    /// An iterator yields the hashes that it has left, in their order.
     ghost yields: { (s : Self.Hashes) (r : Option ℕ) (t : Self.Hashes) → Self.Hashes.next_gives s r t → YieldsFirst rest s r t };
 
-    /// It may always be called.
+    /// `next` may always be called.
     ghost may_go_on: { (s : Self.Hashes) → Self.Hashes.can_next s };
 
-    /// It ends.
+    /// An iterator is finite.
     ghost ends: { (s : Self.Hashes) → IsFinite (Self.Hashes.remaining s) };
 }
 

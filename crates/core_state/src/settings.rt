@@ -29,7 +29,7 @@ impl Model for Settings {
 impl Default for Settings {
     ghost is_default = { λ b. b ≡ default_settings };
 
-    /// 4096 nominal entries, the greatest starting theta and the default seed.
+    /// Settings with 4096 nominal entries, the greatest starting theta and the default seed, 9001.
     fn default() -> Self {
         Settings {
             lg_k: DEFAULT_LG_K,

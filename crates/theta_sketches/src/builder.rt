@@ -34,7 +34,7 @@ impl Model for ThetaSketchBuilder {
 impl Default for ThetaSketchBuilder {
     ghost is_default = { λ b. b ≡ default_settings };
 
-    /// 4096 nominal entries, the greatest starting theta and the default seed.
+    /// A builder with 4096 nominal entries, the greatest starting theta and the default seed, 9001.
     fn default() -> Self {
         let settings = Settings::default();
         ThetaSketchBuilder { settings }
@@ -104,7 +104,7 @@ impl Model for ThetaUnionBuilder {
 impl Default for ThetaUnionBuilder {
     ghost is_default = { λ b. b ≡ default_settings };
 
-    /// 4096 nominal entries, the greatest starting theta and the default seed.
+    /// A builder with 4096 nominal entries, the greatest starting theta and the default seed, 9001.
     fn default() -> Self {
         let settings = Settings::default();
         ThetaUnionBuilder { settings }

@@ -1,4 +1,4 @@
-//! Theta sketches that no longer change.
+//! Compact theta sketches, which are immutable.
 ghost use Rattle.std.specs.Prelude.{◌≡◌, ◌≤◌, ◌&&◌, true, not, nat_lt, None, length, IfOk};
 ghost use Rattle.core_compact.specs.CompactState.{IsCompact, shown_of, compact_value};
 ghost use Rattle.core_laws.specs.Entries.{hash_key};
@@ -18,8 +18,8 @@ use sketch_base::Error;
 use std::alloc::{Allocator, Global};
 use std::marker::Model;
 
-/// A theta sketch that no longer changes: its hashes in a list, with its theta. Contracts see a record of these. The
-/// crate's documentation has an example.
+/// An immutable theta sketch: its hashes in a list, with its theta. Contracts see a record of these. The crate's
+/// documentation has an example.
 #[derive(Drop)]
 pub struct CompactThetaSketch<A: Allocator = Global> {
     state: CompactSketchState<ThetaEntry, A>,

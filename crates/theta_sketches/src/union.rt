@@ -69,7 +69,7 @@ impl<A: Allocator + Drop> ThetaUnion<A> {
 }
 
 impl<A: Allocator + Clone> ThetaUnion<A> {
-    /// Joins a sketch. An empty one changes nothing, and its seed is not checked.
+    /// Merges a sketch into the union. An empty sketch changes nothing, and its seed is not checked.
     ///
     /// Refused with `Failed` if the union has failed, whatever the input, and with `InvalidArgument` for a sketch of
     /// another seed; then nothing has changed. Refused with `OutOfMemory`; then the union has failed.

@@ -20,7 +20,7 @@ pub struct TupleSketchBuilder<P> {
 }
 
 impl<P> TupleSketchBuilder<P> {
-    /// A builder with this policy, 4096 nominal entries, the greatest starting theta and the default seed.
+    /// A builder with this policy, 4096 nominal entries, the greatest starting theta and the default seed, 9001.
     pub fn new(policy: P) -> Self
         ensures { result ≡ record { settings = default_settings; policy = policy } }
     {

@@ -1,4 +1,4 @@
-//! Tuple sketches that no longer change.
+//! Compact tuple sketches, which are immutable.
 ghost use Rattle.std.specs.Prelude.{◌≡◌, ◌≤◌, ◌&&◌, true, not, nat_lt, None, length, IfOk};
 ghost use Rattle.core_compact.specs.CompactState.{IsCompact, shown_of, compact_value};
 ghost use Rattle.core_laws.specs.Entries.{ClonesEqual};
@@ -19,8 +19,8 @@ use sketch_base::Error;
 use std::alloc::{Allocator, Global};
 use std::marker::Model;
 
-/// A tuple sketch that no longer changes: its entries in a list, with its theta. Contracts see a record of these.
-/// The crate's documentation has an example.
+/// An immutable tuple sketch: its entries in a list, with its theta. Contracts see a record of these. The crate's
+/// documentation has an example.
 #[derive(Drop)]
 pub struct CompactTupleSketch<S: Drop, A: Allocator = Global> {
     state: CompactSketchState<TupleEntry<S>, A>,
