@@ -17,8 +17,8 @@ use sketch_base::{DEFAULT_UPDATE_SEED, Error, ErrorKind, compute_seed_hash};
 use std::alloc::Allocator;
 use std::marker::Model;
 
-/// The difference of theta sketches of one seed: the hashes of one sketch that another lacks. Contracts see the seed's
-/// hash. The crate's documentation has an example.
+/// The difference operator for theta sketches of one seed: it returns the hashes of one sketch that another lacks.
+/// Contracts see the seed's hash. The crate's documentation has an example.
 #[derive(Debug, Clone, Copy)]
 pub struct ThetaANotB {
     seed_hash: u16,
@@ -35,7 +35,7 @@ impl Model for ThetaANotB {
 }
 
 impl ThetaANotB {
-    /// A difference for sketches of the default seed, 9001. It allocates nothing.
+    /// An operator for sketches of the default seed, 9001. It allocates nothing.
     ///
     /// Refused as `with_seed` is.
     pub fn default() -> Result<Self, Error>
@@ -45,7 +45,7 @@ impl ThetaANotB {
         ThetaANotB::with_seed(DEFAULT_UPDATE_SEED)
     }
 
-    /// A difference for sketches of this seed. It allocates nothing.
+    /// An operator for sketches of this seed. It allocates nothing.
     ///
     /// Refused with `InvalidArgument` for a seed whose seed hash is 0.
     pub fn with_seed(seed: u64) -> Result<Self, Error>
@@ -56,7 +56,7 @@ impl ThetaANotB {
         Ok(ThetaANotB { seed_hash })
     }
 
-    /// The hash of the seed of its sketches, of 16 bits. It isn't 0 if `with_seed` returned the difference.
+    /// The hash of the seed of its sketches, of 16 bits. It isn't 0 if `default` or `with_seed` returned the operator.
     pub fn seed_hash(&self) -> u16
         ensures { result ≡ self.now }
     {

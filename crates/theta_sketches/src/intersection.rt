@@ -112,9 +112,9 @@ impl<A: Allocator + Clone> ThetaIntersection<A> {
         Ok(())
     }
 
-    /// Returns its value, or `None` before its first sketch. The result is ordered if `ordered` is true, if it is
-    /// empty, or if it has one hash at the greatest theta. The intersection doesn't change. Refused with `OutOfMemory`
-    /// alone, and only if there is a value.
+    /// Returns its value as a compact sketch, or `None` before its first sketch. The result is ordered if `ordered` is
+    /// true, if it is empty, or if it has one hash at the greatest theta. The intersection doesn't change. Refused with
+    /// `OutOfMemory` alone, and only if there is a value.
     pub fn to_sketch(&self, ordered: bool) -> Result<Option<CompactThetaSketch<A>>, Error>
         ensures ok { IfOk result (IsAnswerIfAny hash_key self.now.result self.now.seed_hash ordered) }
         ensures refused { Refuses result None (is_some self.now.result) }

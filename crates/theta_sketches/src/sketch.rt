@@ -219,7 +219,7 @@ impl<A: Allocator + Clone> ThetaSketch<A> {
         self.state.trim()
     }
 
-    /// Returns its compact form, with the same value, untrimmed. The result is ordered if `ordered` is true, if it is
+    /// Returns a compact sketch of the same value, untrimmed. The result is ordered if `ordered` is true, if it is
     /// empty, or if it has one hash at the greatest theta. The sketch doesn't change. Refused with `OutOfMemory` alone.
     pub fn compact(&self, ordered: bool) -> Result<CompactThetaSketch<A>, Error>
         ensures ok { IfOk result (IsAnswer hash_key (sketch_value self.now) self.now.map.seed_hash ordered) }

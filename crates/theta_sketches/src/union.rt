@@ -87,8 +87,9 @@ impl<A: Allocator + Clone> ThetaUnion<A> {
         Ok(())
     }
 
-    /// Returns its value. The result is ordered if `ordered` is true, if it is empty, or if it has one hash at the
-    /// greatest theta. The union doesn't change. Refused with `Failed` if the union has failed, and with `OutOfMemory`.
+    /// Returns its value as a compact sketch. The result is ordered if `ordered` is true, if it is empty, or if it has
+    /// one hash at the greatest theta. The union doesn't change. Refused with `Failed` if the union has failed, and
+    /// with `OutOfMemory`.
     pub fn to_sketch(&self, ordered: bool) -> Result<CompactThetaSketch<A>, Error>
         ensures ok { IfOk result (IsAnswer hash_key (union_value hash_key self.now) self.now.seed_hash ordered) }
         ensures refused { Refuses result (failure self.now.failed) (not self.now.failed) }

@@ -19,8 +19,8 @@ use sketch_base::{DEFAULT_UPDATE_SEED, Error, ErrorKind, compute_seed_hash};
 use std::alloc::Allocator;
 use std::marker::Model;
 
-/// The difference of tuple sketches of one seed: the entries of one sketch whose keys another lacks. Contracts see the
-/// seed's hash.
+/// The difference operator for tuple sketches of one seed: it returns the entries of one sketch whose keys another
+/// lacks. Contracts see the seed's hash.
 ///
 /// ```
 /// let difference = TupleANotB::default()?;
@@ -42,7 +42,7 @@ impl Model for TupleANotB {
 }
 
 impl TupleANotB {
-    /// A difference for sketches of the default seed, 9001. It allocates nothing.
+    /// An operator for sketches of the default seed, 9001. It allocates nothing.
     ///
     /// Refused as `with_seed` is.
     pub fn default() -> Result<Self, Error>
@@ -52,7 +52,7 @@ impl TupleANotB {
         TupleANotB::with_seed(DEFAULT_UPDATE_SEED)
     }
 
-    /// A difference for sketches of this seed. It allocates nothing.
+    /// An operator for sketches of this seed. It allocates nothing.
     ///
     /// Refused with `InvalidArgument` for a seed whose seed hash is 0.
     pub fn with_seed(seed: u64) -> Result<Self, Error>
@@ -63,7 +63,7 @@ impl TupleANotB {
         Ok(TupleANotB { seed_hash })
     }
 
-    /// The hash of the seed of its sketches, of 16 bits. It isn't 0 if `with_seed` returned the difference.
+    /// The hash of the seed of its sketches, of 16 bits. It isn't 0 if `default` or `with_seed` returned the operator.
     pub fn seed_hash(&self) -> u16
         ensures { result ≡ self.now }
     {

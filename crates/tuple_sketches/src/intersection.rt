@@ -95,9 +95,9 @@ impl<P: SummaryCombinePolicy + Drop, A: Allocator + Clone> TupleIntersection<P, 
         meet_view(&mut self.state, sketch)
     }
 
-    /// Returns its value, or `None` before its first sketch. The result is ordered if `ordered` is true, if it is
-    /// empty, or if it has one entry at the greatest theta. The intersection doesn't change. Refused with `OutOfMemory`
-    /// alone, and only if there is a value. Clones of summaries must equal their originals.
+    /// Returns its value as a compact sketch, or `None` before its first sketch. The result is ordered if `ordered` is
+    /// true, if it is empty, or if it has one entry at the greatest theta. The intersection doesn't change. Refused
+    /// with `OutOfMemory` alone, and only if there is a value. Clones of summaries must equal their originals.
     pub fn to_sketch(
         &self,
         ordered: bool,

@@ -201,7 +201,7 @@ impl<P: SummaryPolicy, A: Allocator + Clone> TupleSketch<P, A> {
         self.state.trim()
     }
 
-    /// Returns its compact form, with the same value, untrimmed. The result is ordered if `ordered` is true, if it is
+    /// Returns a compact sketch of the same value, untrimmed. The result is ordered if `ordered` is true, if it is
     /// empty, or if it has one entry at the greatest theta. The sketch doesn't change. Refused with `OutOfMemory`
     /// alone. Clones of summaries must equal their originals.
     pub fn compact(&self, ordered: bool) -> Result<CompactTupleSketch<P::Summary, A>, Error>

@@ -87,9 +87,9 @@ impl<P: SummaryCombinePolicy + Drop, A: Allocator + Clone> TupleUnion<P, A> {
         join_view(&mut self.state, sketch)
     }
 
-    /// Returns its value. The result is ordered if `ordered` is true, if it is empty, or if it has one entry at the
-    /// greatest theta. The union doesn't change. Refused with `Failed` if the union has failed, and with `OutOfMemory`.
-    /// Clones of summaries must equal their originals.
+    /// Returns its value as a compact sketch. The result is ordered if `ordered` is true, if it is empty, or if it has
+    /// one entry at the greatest theta. The union doesn't change. Refused with `Failed` if the union has failed, and
+    /// with `OutOfMemory`. Clones of summaries must equal their originals.
     pub fn to_sketch(&self, ordered: bool) -> Result<CompactTupleSketch<P::Summary, A>, Error>
     where
         P::Summary: Clone,
