@@ -50,7 +50,7 @@ impl ThetaSketchBuilder {
         self
     }
 
-    /// Sets the resize factor: by how much the number of slots grows. Only `estimated_size` depends on it.
+    /// Sets the resize factor: by how much the number of slots grows. Of all results, only `estimated_size` depends on it.
     pub fn resize_factor(mut self, resize_factor: ResizeFactor) -> Self
         ensures { result ≡ record self { resize_factor = resize_factor } }
     {
@@ -120,7 +120,7 @@ impl ThetaUnionBuilder {
         self
     }
 
-    /// Sets the resize factor: by how much the number of slots grows. Only `estimated_size` depends on it.
+    /// Sets the resize factor: by how much the number of slots grows. Of all results, only `estimated_size` depends on it.
     pub fn resize_factor(mut self, resize_factor: ResizeFactor) -> Self
         ensures { result ≡ record self { resize_factor = resize_factor } }
     {
