@@ -1,4 +1,4 @@
--- Tests on hashes, and what they tell.
+-- Tests on hashes, and the facts that they decide.
 use Rattle.std.proofs.Common.{◌≡◌, ℕ, ◌<◌, ◌≤◌, ◌≢◌, ◌^◌, Bool, true, false, ◌&&◌, List, [], ◌∷◌, length, get_or, map, refl, sym, ap, subst, ◌∙◌, Some, ◌+◌, ◌-◌, zero, suc, arith, eqb, ltb, Less}
 use Rattle.std.specs.Bool.{Decides}
 use Rattle.std.specs.List.{AllByRecursion, AllPairs, IsAllAdjacentAnswer, slice_get}
@@ -67,7 +67,7 @@ from_within : (theta : ℕ) (xs : List ℕ) → AllByRecursion (λ h. 0 < h) xs 
 from_within theta [] a b = refl
 from_within theta (x ∷ xs) a b = rw (lt-ltb 0 x a.0, lt-ltb x theta b.0) (from_within theta xs a.1 b.1)
 
--- the four answers of the check
+-- the four results of the check
 pub outside : (theta : ℕ) (ordered : Bool) (xs : List ℕ) → is_within theta xs ≡ false → Decides false (AreHashes theta ordered xs)
 outside theta ordered xs e = (λ f. absurd (cc), λ good. let w = from_within theta xs good.nonzero good.below_theta in cc)
 
@@ -100,7 +100,7 @@ sorted_apart xs ys moved sorted =
           is_ascending_from ys (sorted_up ys (sorted_from_strictly_increasing ys (IsStrictlyIncreasing-from_distinct ys steps different))),
     )
 
--- what std's test of each element and the next answers is whether the keys ascend
+-- std's test of each element and the next returns whether the keys ascend
 
 module _ {X : Type 0} (key : X → ℕ) where
   all_adjacent : (xs : List X) → ((k : ℕ) (d : X) → suc k < length xs → true ≡ ltb (key (get_or xs k d)) (key (get_or xs (suc k) d))) → is_ascending (map key xs) ≡ true
@@ -125,7 +125,7 @@ module _ {X : Type 0} (key : X → ℕ) where
   adjacent_answer xs false some =
       sym (some_adjacent xs some.0 (omega (arith, some.1)) (λ d. subst (λ j. false ≡ ltb (key (get_or xs some.0 d)) (key (get_or xs j d))) (one_more some.0) (some.2 d)))
 
--- the rules of the hashes are the laws of what a sketch with them shows
+-- the rules of the hashes are the laws of a sketch that shows them
 
 module _ {X : Type 0} (key : X → ℕ) (p : Preamble) (h : ℕ) (xs : List X) where
   pub lawful_from : 0 < p.theta → p.theta ≤ MAX_THETA → length xs < 2 ^ 32 → AreHashes p.theta p.ordered (map key xs) → IsShown (shown_of key (state_behind p h xs))
@@ -168,7 +168,7 @@ and_false false = refl
 some_same : {X : Type 0} (x y : X) → Some x ≡ Some y → x ≡ y
 some_same x y e = ap (λ o. unwrap_or o x) e
 
--- where keys ascend from 0, all are below theta just where the last is
+-- if keys ascend from 0, all are below theta exactly if the last is
 module _ {X : Type 0} (key : X → ℕ) (theta : ℕ) where
   with_first : (x y : ℕ) (ys : List ℕ) → 0 < x → x < y → (w : Bool) → is_within theta (y ∷ ys) ≡ w → w ≡ is_within theta (x ∷ y ∷ ys)
   with_first x y ys low less true e =

@@ -30,7 +30,7 @@ module _ {X : Type 0} where
   drop_none : (n : ℕ) (xs : List X) → drop (zero * n) xs ≡ xs
   drop_none n xs = let none : zero * n ≡ 0 = omega arith in ap (λ i. drop i xs) none
 
-  -- what chunks and the rest of a list are turned into is what the list is
+  -- mapping the chunks and the rest of a list is mapping the list
   pub whole_chunks : {Y : Type 0} (f : X → List Y) (n k : ℕ) (xs : List X) → flat_map (λ b. flat_map f b) (first_chunks n k xs) ++ flat_map f (drop (k * n) xs) ≡ flat_map f xs
   whole_chunks f n zero xs = ap (flat_map f) (drop_none n xs)
   whole_chunks f n (suc k) xs =
@@ -52,7 +52,7 @@ module _ {X : Type 0} where
   length-chunks n zero xs = refl
   length-chunks n (suc k) xs = ap (λ (j : ℕ). suc j) (length-chunks n k (drop n xs))
 
--- the first bytes, eight by eight, and what is behind them
+-- the first bytes, eight by eight, and the bytes after them
 there_is : (k : ℕ) (bytes : List ℕ) → bytes ≡ flat_map (λ w. w) (first_chunks 8 k bytes) ++ drop (k * 8) bytes
 there_is zero bytes = sym (drop_none 8 bytes)
 there_is (suc k) bytes =
@@ -71,7 +71,7 @@ spelled (suc k) bytes le =
     let fewer = length-drop 8 bytes in
     (front, flat_map (λ w. w) (first_chunks 8 k (drop 8 bytes)), refl, (eight, word_number front eight), spelled k (drop 8 bytes) (omega arith))
 
--- the numbers of the first words are the hashes that the bytes hold
+-- the numbers of the first words are the hashes that the bytes spell
 pub words_held : (count m : ℕ) (bytes : List ℕ) → count ≤ m → m * 8 ≤ length bytes → Holds SpellsHash bytes count (map (from_le_bytes w64) (take count (first_chunks 8 m bytes)))
 words_held count m bytes few room =
     let same = fewer_chunks 8 count m bytes few in

@@ -1,4 +1,4 @@
--- What the bytes before the entries come to: the cases of the relation, read in one way.
+-- The layouts of images: each reading of the relation has a layout, and each layout is a reading.
 use Rattle.std.proofs.Common.{◌≡◌, ℕ, ◌*◌, ◌<◌, ◌≤◌, ◌⊎◌, Bool, true, false, cond, not, List, ◌++◌, length, Option, Some, None, refl, sym, ap, ◌∙◌, inl, inr, arith, eqb-true, ltb, leb, eqb, ◌&&◌, ◌||◌}
 use Rattle.std.proofs.lemmas.Bool.Decides.{nat_tests}
 use Rattle.core_compact.specs.CompactState.{Compact}
@@ -34,7 +34,7 @@ module _ {X : Type 0} (key : X → ℕ) (Spells : List ℕ → X → Type 0) (by
   abbrev pub Comes : Option Layout → Compact X → Type 0
   Comes l s = LeavesOpen key Spells bytes h l s
 
-  -- a layout leaves one state open at most
+  -- a layout allows at most one state
   pub comes_one : (one : (a b u v : List ℕ) (x y : X) → Spells a x → Spells b y → a ++ u ≡ b ++ v → (a ≡ b) × (x ≡ y)) → (l : Option Layout) (r s : Compact X) → Comes l r → Comes l s → r ≡ s
   comes_one one None r s p q = absurd p
   comes_one one (Some Empty) r s p q = p ∙ sym q
@@ -43,14 +43,14 @@ module _ {X : Type 0} (key : X → ℕ) (Spells : List ℕ → X → Type 0) (by
   pub along : (l m : Option Layout) (s : Compact X) → l ≡ m → Comes m s → Comes l s
   along l m s e p = rw e p
 
-  -- each reading is one that the layout leaves open
+  -- the layout allows each reading
   pub flagged_from : {s : Compact X} (longs : ℕ) → ReadsFlagged key Spells bytes longs h s → Comes (flagged_layout bytes longs h) s
   flagged_from longs (empty_image e) = along _ _ _ (flagged_empty bytes longs h e) refl
   flagged_from longs (single_image xs e s l f) = along _ _ _ (flagged_single bytes longs h e s l f.whole) (xs, refl, f)
   flagged_from longs (exact_image xs e s l f) = along _ _ _ (flagged_exact bytes longs h e s l f.whole) (xs, refl, f)
   flagged_from longs (estimating_image xs e s l f) = along _ _ _ (flagged_estimating bytes longs h e s l f.whole f.lawful.theta_low f.lawful.theta_high) (xs, refl, f)
 
-  -- the other way: a state that a choice by a test leaves open
+  -- the other way: a state that a choice by a test allows
   pub chosen : (t : Bool) (a b : Option Layout) (s : Compact X) → Comes (cond t a b) s → ((t ≡ true) × Comes a s) ⊎ ((t ≡ false) × Comes b s)
   chosen true a b s p = inl (refl, p)
   chosen false a b s p = inr (refl, p)
@@ -59,7 +59,7 @@ module _ {X : Type 0} (key : X → ℕ) (Spells : List ℕ → X → Type 0) (by
   unfolding admitted
   admitted_to p s q = elim (chosen (ltb 0 p.theta && leb p.theta MAX_THETA) (Some (Filled p)) None s q) [ inl f ↦ f.1 | inr f ↦ absurd f.1 ]
 
-  -- each state that the layout leaves open is a reading
+  -- each state that the layout allows is a reading
   pub flagged_to : (longs : ℕ) (s : Compact X) → 1 ≤ longs → longs ≤ 3 → Comes (flagged_layout bytes longs h) s → ReadsFlagged key Spells bytes longs h s
   unfolding flagged_layout
   flagged_to longs s low high q =

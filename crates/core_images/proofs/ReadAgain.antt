@@ -1,4 +1,4 @@
--- What is written is read again.
+-- A written image is read as its state.
 use Rattle.std.proofs.Common.{◌≡◌, ℕ, ◌^◌, ◌<◌, ◌≤◌, Bool, true, false, cond, not, List, [], ◌∷◌, ◌++◌, length, map, refl, sym, ap, subst, inl, inr, arith, lt-ltb, le-ltb, eq-eqb, eqb, bit_and}
 use Rattle.std.specs.Int.{w16, w64, to_le_bytes}
 use Rattle.std.specs.List.{AllByRecursion, flat_map}

@@ -1,4 +1,4 @@
--- What a reader has found, and what it has not.
+-- The entries that a reader found, and those that it didn't find.
 use Rattle.std.proofs.Common.{◌≡◌, ℕ, ◌+◌, ◌*◌, ◌/◌, ◌<◌, ◌≤◌, ◌^◌, List, [], ◌∷◌, ◌++◌, length, drop, map, Some, Result, Ok, Err, refl, sym, ap, ◌∙◌, subst, inl, inr, arith, append_assoc, length-append}
 use Rattle.sketch_base.specs.declared.error.ErrorKind.{ErrorKind}
 use Rattle.core_compact.specs.CompactState.{Compact, shown_of}
@@ -28,7 +28,7 @@ module _ {X : Type 0} (Spells : List ℕ → X → Type 0) (has_hash : (a : List
       let others = each_long xs s.1 s.4 in
       omega arith
 
-  -- bytes with room for fewer than `count` entries hold no `count` entries
+  -- bytes with room for fewer than `count` entries don't spell `count` entries
   pub too_many : (bytes : List ℕ) (count : ℕ) → length bytes / 8 < count → (xs : List X) × Holds Spells bytes count xs → ⊥
   too_many bytes count few found =
       let long = each_long found.0 found.1.text found.1.spelled in
@@ -37,7 +37,7 @@ module _ {X : Type 0} (Spells : List ℕ → X → Type 0) (has_hash : (a : List
       omega arith
 
 module _ {X : Type 0} (Spells : List ℕ → X → Type 0) (one : (a b u v : List ℕ) (x y : X) → Spells a x → Spells b y → a ++ u ≡ b ++ v → (a ≡ b) × (x ≡ y)) where
-  -- where no entry follows those that were read, there are no more
+  -- if no entry follows those that were read, there are no more
   pub next_of : (bytes text rest : List ℕ) (count : ℕ) (xs : List X) → bytes ≡ text ++ rest → SpellsEach Spells text xs → length xs < count
       → (ys : List X) × Holds Spells bytes count ys → (x : X) × (after : List ℕ) × ((first : List ℕ) × Spells first x × (rest ≡ first ++ after))
   next_of bytes text rest count xs e s less found =

@@ -3,14 +3,14 @@ use Rattle.std.specs.Prelude.{ℕ, ◌<◌, ◌≡◌, ◌≢◌, ◌&&◌, nat_
 use Rattle.std.specs.List.{AllByRecursion}
 use Rattle.core_laws.specs.Maps.{IsAscending}
 
--- the hashes are from 1 to below theta, distinct, and ascend where they are said to
+-- the hashes are distinct and from 1 to below theta, and ascend if `ordered` is true
 pub record AreHashes (theta : ℕ) (ordered : Bool) (hashes : List ℕ) : Type 0 where
   pub distinct : AllPairs (λ x y. x ≢ y) hashes
   pub nonzero : AllByRecursion (λ h. 0 < h) hashes
   pub below_theta : AllByRecursion (λ h. h < theta) hashes
   pub ascending : ordered ≡ true → IsAscending (λ h. h) hashes
 
--- whether each hash is above the one before it, the first above this one
+-- whether each hash is above the one before it, and the first above `last`
 abbrev pub ascends_from : ℕ → List ℕ → Bool
 ascends_from last [] = true
 ascends_from last (h ∷ hs) = nat_lt last h && ascends_from h hs

@@ -14,7 +14,7 @@ abbrev pub SpellsEach : {X : Type 0} → (List ℕ → X → Type 0) → List �
 SpellsEach Spells text [] = text ≡ []
 SpellsEach Spells text (x ∷ xs) = (first : List ℕ) × (rest : List ℕ) × (text ≡ first ++ rest) × Spells first x × SpellsEach Spells rest xs
 
--- the bytes begin with the spellings of these entries, and their number is `count`
+-- the bytes begin with the spellings of these entries, and there are `count` entries
 pub record Holds {X : Type 0} (Spells : List ℕ → X → Type 0) (bytes : List ℕ) (count : ℕ) (xs : List X) : Type 0 where
   pub text : List ℕ
   pub after : List ℕ
@@ -26,7 +26,7 @@ pub record Holds {X : Type 0} (Spells : List ℕ → X → Type 0) (bytes : List
 abbrev pub state_behind : {X : Type 0} → Preamble → (seed_hash : ℕ) → List X → Compact X
 state_behind p seed_hash xs = record { empty = false; entries = xs; theta = p.theta; seed_hash = seed_hash; ordered = p.ordered }
 
--- behind this preamble the bytes go on with the spellings of these entries, which keep the laws of what a sketch shows
+-- after this preamble the bytes have the spellings of these entries, and a sketch may show these entries
 pub record HasEntries {X : Type 0} (key : X → ℕ) (Spells : List ℕ → X → Type 0) (bytes : List ℕ) (p : Preamble) (h : ℕ) (xs : List X) : Type 0 where
   pub whole : p.start ≤ length bytes
   pub held : Holds Spells (drop p.start bytes) p.count xs

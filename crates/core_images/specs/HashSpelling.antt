@@ -1,4 +1,4 @@
--- That the spelling of a hash is one, and is what is written of it; and what holds of every spelling of fixed length.
+-- A hash has one spelling, the bytes that are written of it; and lemmas on spellings of fixed length.
 use Rattle.std.proofs.Common.{◌≡◌, ℕ, ◌^◌, ◌<◌, ◌≤◌, List, ◌++◌, length, take, refl, sym, ap, ◌∙◌, arith, take_all}
 use Rattle.std.proofs.lemmas.List.{take-append-le}
 use Rattle.std.proofs.lemmas.Nat.{from_le_bytes-to_le_bytes_4, from_le_bytes-to_le_bytes_8}
@@ -18,11 +18,11 @@ front n a u e =
     let all : length a ≤ n = omega arith in
     take-append-le n a u enough ∙ take_all n a all
 
--- bytes of one length that begin the same list are the same
+-- prefixes of one list are equal if they have the same length
 pub same_front : (n : ℕ) (a b u v : List ℕ) → length a ≡ n → length b ≡ n → a ++ u ≡ b ++ v → a ≡ b
 same_front n a b u v p q same = sym (front n a u p) ∙ ap (take n) same ∙ front n b v q
 
--- no spelling begins another, and each is of one hash
+-- no spelling is a prefix of another, and each spells one hash
 pub one_hash : (a b u v : List ℕ) (x y : ℕ) → SpellsHash a x → SpellsHash b y → a ++ u ≡ b ++ v → (a ≡ b) × (x ≡ y)
 one_hash a b u v x y p q same =
     let e = same_front 8 a b u v p.0 q.0 same in

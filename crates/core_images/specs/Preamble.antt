@@ -1,4 +1,4 @@
--- What stands before the entries of an image, at its places and as it is read.
+-- The preamble of an image, before its entries: its fields, and how it is read.
 use Rattle.std.specs.Prelude.{ℕ, ◌==◌, Bool, not, List, take, drop, slice_index, bit_and, ◌*◌, ◌≡◌, ◌≤◌, length, nat_lt, if◌then◌else◌, ⊤, ◌<◌, ◌&&◌, ◌||◌, nat_le, Option, Some, None}
 use Rattle.sketch_base.specs.Bytes.{number}
 use Rattle.core_laws.specs.declared.TheConstants.{MAX_THETA}
@@ -6,15 +6,15 @@ use Rattle.core_images.specs.declared.preamble.Preamble.{Preamble}
 use Rattle.core_images.specs.declared.preamble.Layout.{Layout}
 use Rattle.core_images.specs.declared.preamble.Layout.TheVariants.{Empty, Filled}
 
--- the number in the n bytes from place i on, the lowest byte first
+-- the number in the n bytes from offset i, the lowest byte first
 abbrev pub number_at : (n : ℕ) → List ℕ → (i : ℕ) → ℕ
 number_at n bytes i = number (take n (drop i bytes))
 
--- whether the byte at place i has this bit
+-- whether the byte at offset i has this bit
 abbrev pub has_bit : List ℕ → (i bit : ℕ) → Bool
 has_bit bytes i bit = not (bit_and (slice_index bytes i) bit == 0)
 
--- eight bytes are there, and begin with the count of preamble longs, the version and the family
+-- there are at least eight bytes; the first three are the count of preamble longs, the version and the family
 pub record Begins (bytes : List ℕ) (longs version family : ℕ) : Type 0 where
   pub whole : 8 ≤ length bytes
   pub longs_are : slice_index bytes 0 ≡ longs
@@ -48,7 +48,7 @@ announced longs count theta ordered = record { start = 8 * longs; count = count;
 unfoldable pub admitted : Preamble → Option Layout
 admitted p = if nat_lt 0 p.theta && nat_le p.theta MAX_THETA then Some (Filled p) else None
 
--- version 3, behind its first three bytes
+-- the layout of version 3, after its first three bytes
 unfoldable pub flagged_layout : List ℕ → (longs h : ℕ) → Option Layout
 flagged_layout bytes longs h =
     if is_empty bytes then Some Empty
@@ -57,7 +57,7 @@ flagged_layout bytes longs h =
     else (if longs == 2 then Some (Filled (announced 2 (count_at bytes) MAX_THETA (is_ordered bytes)))
     else admitted (announced 3 (count_at bytes) (theta_at bytes) (is_ordered bytes)))))
 
--- a preamble is whole, and its theta is from 1 to MAX_THETA
+-- the bytes have the whole preamble, and its theta is from 1 to MAX_THETA
 abbrev pub IsWholeLayout : List ℕ → Option Layout → Type 0
 IsWholeLayout bytes None = ⊤
 IsWholeLayout bytes (Some Empty) = ⊤

@@ -1,4 +1,4 @@
--- Which bytes are read as which state, in any family, and what a reader answers.
+-- Which bytes are read as which state, in any family, and what a reader returns.
 use Rattle.std.specs.Prelude.{◌≡◌, ◌⊎◌, List, ℕ, Result, Ok, Err, true, false, slice_index, Option, Some, None}
 use Rattle.sketch_base.specs.declared.error.ErrorKind.{ErrorKind}
 use Rattle.sketch_base.specs.declared.error.ErrorKind.TheVariants.{OutOfMemory, InvalidData}
@@ -9,21 +9,22 @@ use Rattle.core_images.specs.Preamble.{Begins, is_empty, is_ordered, seed_hash_a
 use Rattle.core_images.specs.declared.preamble.Layout.{Layout}
 use Rattle.core_images.specs.declared.preamble.Layout.TheVariants.{Empty, Filled}
 
--- an error tells that memory ran out, or that there is no such thing to read
+-- the error means that memory ran out, or that there is nothing to read
 abbrev pub IsRefused : ErrorKind → Type 0 → Type 0
 IsRefused e Something = (e ≡ OutOfMemory) ⊎ ((e ≡ InvalidData) × (Something → ⊥))
 
--- what is answered is what a beginning of the bytes spells, and the rest of them is left; InvalidData comes only where no beginning spells anything
+-- a prefix of the bytes spells the result, and the rest of them is left; InvalidData is returned only if no prefix
+-- spells anything
 abbrev pub Answers : {X : Type 0} → (X → List ℕ → Type 0) → (left : List ℕ) → Result X ErrorKind → Type 0
 Answers {X} Spelled left (Ok x) = Spelled x left
 Answers {X} Spelled left (Err e) = IsRefused e ((x : X) × (rest : List ℕ) × Spelled x rest)
 
--- what is answered is a reading; InvalidData comes only where there is none
+-- the result is a reading; InvalidData is returned only if there is none
 abbrev pub Finds : {X : Type 0} → (X → Type 0) → Result X ErrorKind → Type 0
 Finds {X} Reads (Ok x) = Reads x
 Finds {X} Reads (Err e) = IsRefused e ((x : X) × Reads x)
 
--- Version 3 behind its first three bytes: a case for the empty sketch, and one for each count of preamble longs.
+-- Version 3 after its first three bytes: a case for the empty sketch, and one for each count of preamble longs.
 pub data ReadsFlagged {X : Type 0} (key : X → ℕ) (Spells : List ℕ → X → Type 0) (bytes : List ℕ) (longs h : ℕ) : Compact X → Type 0 where
   empty_image : is_empty bytes ≡ true → ReadsFlagged key Spells bytes longs h (empty_compact h)
   single_image : (xs : List X) → is_empty bytes ≡ false → seed_hash_at bytes ≡ h → longs ≡ 1
@@ -40,7 +41,7 @@ pub data ReadsFlagged {X : Type 0} (key : X → ℕ) (Spells : List ℕ → X �
 abbrev pub ReadsCurrent : {X : Type 0} → (X → ℕ) → (List ℕ → X → Type 0) → (family kind : ℕ) → (bytes : List ℕ) → (h : ℕ) → Compact X → Type 0
 ReadsCurrent key Spells family kind bytes h s = (longs : ℕ) × Begins bytes longs 3 family × (slice_index bytes 3 ≡ kind) × ReadsFlagged key Spells bytes longs h s
 
--- the states that a layout leaves open, by what stands behind it
+-- a layout allows this state: by what it says, and by the bytes after the preamble
 abbrev pub LeavesOpen : {X : Type 0} → (X → ℕ) → (List ℕ → X → Type 0) → List ℕ → (h : ℕ) → Option Layout → Compact X → Type 0
 LeavesOpen key Spells bytes h None s = ⊥
 LeavesOpen key Spells bytes h (Some Empty) s = s ≡ empty_compact h

@@ -1,4 +1,5 @@
--- How images spell tuples: a hash, and behind it its summary, whose spelling is a parameter. Whole numbers are spelled by their bytes.
+-- How images spell tuples: a hash, then its summary, whose spelling is a parameter. Whole numbers are spelled by their
+-- bytes.
 use Rattle.std.specs.Prelude.{ℕ, ℤ, ◌≡◌, List, length, ◌++◌}
 use Rattle.std.specs.Int.{Width, w64, to_le_bytes, cast_signed}
 use Rattle.sketch_base.specs.Bytes.{number}
@@ -9,7 +10,7 @@ use Rattle.core_images.specs.Entry.{SpellsHash}
 abbrev pub SpellsTuple : {S : Type 0} → (List ℕ → S → Type 0) → List ℕ → TupleEntry S → Type 0
 SpellsTuple Spells bytes e = (first : List ℕ) × (rest : List ℕ) × (bytes ≡ first ++ rest) × SpellsHash first e.hash × Spells rest e.summary
 
--- an entry is a value where its summary is
+-- an entry is a value if its summary is
 abbrev pub is_tuple_value : {S : Type 0} → (S → Type 0) → TupleEntry S → Type 0
 is_tuple_value IsValue e = IsValue e.summary
 

@@ -1,4 +1,4 @@
--- That the spelling of a tuple is one, and is what is written of it; and that of a whole number.
+-- A tuple has one spelling, the bytes that are written of it; and so has a whole number.
 use Rattle.std.proofs.Common.{◌≡◌, ℕ, ℤ, ◌^◌, ◌<◌, ◌≤◌, List, ◌++◌, length, refl, sym, ap, ◌∙◌, arith, append_assoc, length-append, to_z-of_z}
 use Rattle.std.proofs.lemmas.List.{append_cancel_left}
 use mir.ValLaws.{of_z_fits}
@@ -9,7 +9,7 @@ use Rattle.core_slots.specs.declared.entry.TupleEntry.{TupleEntry}
 use Rattle.core_images.specs.HashSpelling.{one_hash, hash_written, number-four, number-eight, same_front}
 use Rattle.core_images.specs.Summary.{SpellsTuple, SpellsNumber, SpellsSigned, tuple_text}
 
--- no spelling begins another, and each is of one number
+-- no spelling is a prefix of another, and each spells one number
 pub one_number : (n : ℕ) (a b u v : List ℕ) (x y : ℕ) → SpellsNumber n a x → SpellsNumber n b y → a ++ u ≡ b ++ v → (a ≡ b) × (x ≡ y)
 one_number n a b u v x y p q same =
     let e = same_front n a b u v p.0 q.0 same in
@@ -20,7 +20,7 @@ one_signed w n a b u v x y p q same =
     let e = same_front n a b u v p.0 q.0 same in
     (e, p.1 ∙ ap (λ l. cast_signed w (number l)) e ∙ sym q.1)
 
--- what is written of a number spells it
+-- the bytes written of a number spell it
 pub four_written : (x : ℕ) → x < 2 ^ 32 → SpellsNumber 4 (to_le_bytes w32 x) x
 four_written x h = (refl, sym (number-four x h))
 
@@ -38,7 +38,7 @@ signed_eight_written x h =
     (refl, sym (ap (cast_signed w64) (number-eight (cast_unsigned w64 x) small) ∙ to_z-of_z h))
 
 module _ {S : Type 0} (Spells : List ℕ → S → Type 0) where
-  -- no spelling begins another, and each is of one entry
+  -- no spelling is a prefix of another, and each spells one entry
   pub one_tuple : (one : (a b u v : List ℕ) (x y : S) → Spells a x → Spells b y → a ++ u ≡ b ++ v → (a ≡ b) × (x ≡ y))
       → (a b u v : List ℕ) (x y : TupleEntry S) → SpellsTuple Spells a x → SpellsTuple Spells b y → a ++ u ≡ b ++ v → (a ≡ b) × (x ≡ y)
   one_tuple one a b u v x y p q same =
@@ -49,10 +49,10 @@ module _ {S : Type 0} (Spells : List ℕ → S → Type 0) where
       let summaries = one p.1 q.1 u v x.summary y.summary p.4 q.4 others in
       (p.2 ∙ (λ i. hashes.0 i ++ summaries.0 i) ∙ sym q.2, λ i. record { hash = hashes.1 i; summary = summaries.1 i })
 
-  -- what is written of an entry spells it
+  -- the bytes written of an entry spell it
   pub tuple_written : (text : S → List ℕ) (x : TupleEntry S) → x.hash < 2 ^ 64 → Spells (text x.summary) x.summary → SpellsTuple Spells (tuple_text text x) x
   tuple_written text x small s = (to_le_bytes w64 x.hash, text x.summary, refl, hash_written x.hash small, s)
 
-  -- a spelling has eight bytes at least
+  -- a spelling has at least eight bytes
   pub tuple_long : (a : List ℕ) (x : TupleEntry S) → SpellsTuple Spells a x → 8 ≤ length a
   tuple_long a x p = let e = ap length p.2 ∙ length-append p.0 p.1 in let eight = p.3.0 in omega arith

@@ -1,4 +1,4 @@
--- The image that is written of a state, in any family.
+-- The image of a state, in any family.
 use Rattle.std.specs.Prelude.{ℕ, ◌++◌, ◌==◌, List, [], ◌∷◌, length, nat_lt, if◌then◌else◌}
 use Rattle.std.specs.Int.{w16, w32, w64, to_le_bytes}
 use Rattle.std.specs.List.{flat_map}
@@ -9,18 +9,18 @@ use Rattle.core_laws.specs.declared.TheConstants.{MAX_THETA}
 abbrev pub longs_of : {X : Type 0} → Compact X → ℕ
 longs_of s = if nat_lt s.theta MAX_THETA then 3 else (if length s.entries == 1 then 1 else 2)
 
--- the first eight bytes as they are written
+-- the first eight bytes of an image
 abbrev pub head : (longs family kind flags seed_hash : ℕ) → List ℕ
 head longs family kind flags seed_hash = longs ∷ 3 ∷ family ∷ kind ∷ 0 ∷ flags ∷ to_le_bytes w16 seed_hash
 
--- a count of entries and four bytes of nothing
+-- a count of entries and four bytes of 0
 abbrev pub counted_bytes : (count : ℕ) → List ℕ
 counted_bytes count = to_le_bytes w32 count ++ 0 ∷ 0 ∷ 0 ∷ 0 ∷ []
 
 abbrev pub counted : {X : Type 0} → Compact X → List ℕ
 counted s = counted_bytes (length s.entries)
 
--- the image that is written of a state, in a family and kind, with each entry's text
+-- the image of a state, in a family and kind, with each entry's text
 abbrev pub written_image : {X : Type 0} → (X → List ℕ) → (family kind : ℕ) → Compact X → List ℕ
 written_image text family kind s =
     if s.empty then head 1 family kind 0x1e 0

@@ -1,4 +1,4 @@
-//! Whether entries that are read keep the rules.
+//! Checks of the entries of an image.
 ghost use Rattle.std.specs.Prelude.{◌≡◌, ◌≢◌, None, true, IfOk, AllPairs, map};
 ghost use Rattle.std.specs.Bool.{Decides};
 ghost use Rattle.core_images.specs.Check.{AreHashes, ascends_from, is_within};
@@ -8,7 +8,8 @@ use core_laws::SketchEntry;
 use sketch_base::Error;
 use std::alloc::Allocator;
 
-/// Whether each hash is above the one before it, and the first above 0. It goes through all, so that it can become vector code.
+/// Whether each hash is above the one before it, and the first above 0. It reads all hashes without a branch, so that
+/// it can become vector code.
 fn ascends_from_zero<E: SketchEntry>(entries: &[E]) -> bool
     ensures { result ≡ ascends_from 0 (map E.key entries.now) }
 {
@@ -22,7 +23,7 @@ fn ascends_from_zero<E: SketchEntry>(entries: &[E]) -> bool
     ascends
 }
 
-/// Of entries that ascend from 0, whether each hash is below theta: where the last is.
+/// Whether each hash is below theta, of entries that ascend from 0: tests the last.
 fn is_last_below<E: SketchEntry>(entries: &[E], theta: u64) -> bool
     requires { ascends_from 0 (map E.key entries.now) ≡ true }
     ensures { result ≡ is_within theta (map E.key entries.now) }
@@ -58,7 +59,7 @@ fn hashes_of<E: SketchEntry, A: Allocator>(alloc: A, entries: &[E]) -> Result<Ve
     Ok(hashes)
 }
 
-/// Whether no hash comes twice.
+/// Whether all hashes are distinct.
 fn are_distinct<E: SketchEntry, A: Allocator + Drop>(alloc: A, entries: &[E]) -> Result<bool, Error>
     ensures ok { IfOk result (λ b. Decides b (AllPairs (λ x y. x ≢ y) (map E.key entries.now))) }
     ensures refused { Refuses result None true }
@@ -68,7 +69,8 @@ fn are_distinct<E: SketchEntry, A: Allocator + Drop>(alloc: A, entries: &[E]) ->
     Ok(hashes.is_sorted_by(|hash, next| hash < next))
 }
 
-/// Whether entries keep the rules below a theta, and ascend where they are said to. Only entries that are not in order take memory.
+/// Whether the hashes are distinct and from 1 to below theta, and ascend if `ordered` is true. It allocates only if
+/// they don't ascend.
 pub(crate) fn are_entries<E: SketchEntry, A: Allocator + Drop>(
     alloc: A,
     entries: &[E],

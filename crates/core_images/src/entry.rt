@@ -11,36 +11,37 @@ use core_slots::ThetaEntry;
 use sketch_base::{Error, SketchBytes, SketchSlice};
 use std::alloc::Allocator;
 
-/// An entry that images spell: by the eight bytes of its hash, the lowest first, and perhaps more. What it keeps elsewhere, it
-/// keeps in memory of `A`.
+/// An entry that images spell: by the eight bytes of its hash, the lowest first, and perhaps more. What it stores
+/// outside itself is in memory of `A`.
 pub trait ImageEntry<A: Allocator>: SketchEntry {
     /// Which bytes spell which entry.
     ghost spells: { List ℕ → Self → Type 0 };
     /// Which entries can be written.
     ghost is_value: { Self → Type 0 };
-    /// The bytes that are written of an entry.
+    /// The bytes written of an entry.
     ghost text: { Self → List ℕ };
 
-    /// Appends the entry's bytes. It refuses with `OutOfMemory` alone, and the target is not used afterwards.
+    /// Appends the entry's bytes. It refuses with `OutOfMemory` alone; then the contents of `bytes` are unspecified.
     fn write<B: Allocator>(&self, bytes: &mut SketchBytes<B>) -> Result<(), Error>
         ensures ok { OnOk result (bytes.new.bytes ≡ bytes.old.bytes ++ text self.now) }
         ensures value { OnOk result (is_value self.now) }
         ensures refused { Refuses result None true };
 
-    /// Reads the entry that a beginning of the bytes spells, and moves past that beginning. It refuses with `InvalidData`
-    /// exactly where none does, or with `OutOfMemory`; nothing is said of the cursor afterwards.
+    /// Reads the entry that a prefix of the bytes spells, and moves past that prefix. It refuses with `InvalidData`
+    /// exactly if no prefix spells one, or with `OutOfMemory`; afterwards the cursor is unspecified.
     fn read(alloc: &A, slice: &mut SketchSlice<'_>) -> Result<Self, Error>
         ensures { Answers (λ x. λ rest. (first : List ℕ) × spells first x × (slice.old ≡ first ++ rest)) slice.new result };
 
-    /// Appends the bytes of each entry, in their order. It refuses with `OutOfMemory` alone, and the target is not used
-    /// afterwards.
+    /// Appends the bytes of each entry, in their order. It refuses with `OutOfMemory` alone; then the contents of
+    /// `bytes` are unspecified.
     fn write_each<B: Allocator>(entries: &[Self], bytes: &mut SketchBytes<B>) -> Result<(), Error>
         ensures ok { OnOk result (bytes.new.bytes ≡ bytes.old.bytes ++ flat_map text entries.now) }
         ensures values { OnOk result (AllByRecursion is_value entries.now) }
         ensures refused { Refuses result None true };
 
-    /// Reads `count` entries from the front of the bytes, in memory of the allocator. It refuses with `InvalidData` exactly
-    /// where the bytes hold no so many, or with `OutOfMemory`. It asks for room for no more entries than an eighth of the bytes.
+    /// Reads `count` entries from the front of the bytes, in memory of the allocator. It refuses with `InvalidData`
+    /// exactly if the bytes don't begin with `count` entries, or with `OutOfMemory`. It allocates room for at most one
+    /// entry per eight bytes.
     fn read_each(alloc: A, bytes: &[u8], count: u32) -> Result<Vec<Self, A>, Error>
     where
         Self: Drop,
@@ -48,13 +49,13 @@ pub trait ImageEntry<A: Allocator>: SketchEntry {
         ensures ok { IfOk result (λ v. Holds spells bytes.now count v.items) }
         ensures refused { IfErr result (λ e. IsRefused e ((xs : List Self) × Holds spells bytes.now count xs)) };
 
-    /// No spelling begins another, and each is of one entry.
+    /// No spelling is a prefix of another, and each spells one entry.
     ghost one_spelling: { (a b u v : List ℕ) (x y : Self) → spells a x → spells b y → a ++ u ≡ b ++ v → (a ≡ b) × (x ≡ y) };
 
-    /// What is written of a value spells it.
+    /// The bytes written of a value spell it.
     ghost text_spells: { (x : Self) → is_value x → Self.key x < 2 ^ 64 → spells (text x) x };
 
-    /// A spelling has eight bytes at least.
+    /// A spelling has at least eight bytes.
     ghost has_hash: { (a : List ℕ) (x : Self) → spells a x → 8 ≤ length a };
 }
 

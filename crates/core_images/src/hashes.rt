@@ -1,4 +1,4 @@
-//! Hashes alone, written and read many at a time.
+//! Writes and reads many hashes at a time.
 ghost use Rattle.std.specs.Prelude.{◌≡◌, ℕ, ◌++◌, List, None, true, IfOk, IfErr, OnOk};
 ghost use Rattle.std.specs.Int.{w64, to_le_bytes};
 ghost use Rattle.std.specs.List.{flat_map};
@@ -53,7 +53,7 @@ pub(crate) fn read_hashes<A: Allocator + Drop>(
     ensures refused { IfErr result (λ e. IsRefused e ((xs : List ℕ) × Holds SpellsHash bytes.now count xs)) }
 {
     let (words, _) = bytes.as_chunks::<8>();
-    // Each hash takes eight bytes, so no memory is asked for that the bytes could not fill.
+    // Each hash takes eight bytes: never allocate more than the bytes could fill.
     if words.len() < count as usize {
         return Err(Error::new(ErrorKind::InvalidData));
     }

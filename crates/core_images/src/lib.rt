@@ -1,7 +1,7 @@
 //! Images of compact states, generic over the entry: what the families' formats share. The rules are those of the
 //! DataSketches format, serial version 3; all numbers are little endian.
 //!
-//! An image begins with preamble longs, words of eight bytes that tell its version, family, flags, seed hash, count of
+//! An image begins with preamble longs: words of eight bytes with its version, family, flags, seed hash, count of
 //! entries and theta. The entries follow, each by its own spelling. Bytes after an image are ignored.
 #![tactic(auto)]
 

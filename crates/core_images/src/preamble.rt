@@ -1,13 +1,13 @@
-//! What stands before the entries of an image.
+//! The preamble of an image, before its entries.
 ghost use Rattle.std.specs.Prelude.{◌≡◌, ◌≤◌, length};
 ghost use Rattle.core_images.specs.Preamble.{announced, count_at, theta_at, seed_hash_at, admitted, flagged_layout};
 
 use core_laws::MAX_THETA;
 
-/// What an image tells of its entries before they begin.
+/// What a preamble says about the entries.
 #[derive(Debug, Clone, Copy)]
 pub struct Preamble {
-    /// The place of the first entry, in bytes.
+    /// The offset of the first entry, in bytes.
     pub start: usize,
     /// How many entries there are.
     pub count: u32,
@@ -17,7 +17,7 @@ pub struct Preamble {
     pub ordered: bool,
 }
 
-/// What an image is read as, up to its entries.
+/// What the preamble of an image is read as.
 #[derive(Debug, Clone, Copy)]
 pub enum Layout {
     /// The empty sketch.
@@ -26,7 +26,7 @@ pub enum Layout {
     Filled(Preamble),
 }
 
-/// The seed hash that an image tells, in its bytes 6 and 7.
+/// The seed hash of an image, in its bytes 6 and 7.
 pub fn seed_hash_at(bytes: &[u8]) -> u16
     requires { 8 ≤ length bytes.now }
     ensures { result ≡ seed_hash_at bytes.now }
@@ -34,7 +34,7 @@ pub fn seed_hash_at(bytes: &[u8]) -> u16
     u16::from_le_bytes([bytes[6], bytes[7]])
 }
 
-/// The count of entries that an image tells, in its bytes 8 to 11.
+/// The count of entries of an image, in its bytes 8 to 11.
 pub fn count_at(bytes: &[u8]) -> u32
     requires { 12 ≤ length bytes.now }
     ensures { result ≡ count_at bytes.now }
@@ -42,7 +42,7 @@ pub fn count_at(bytes: &[u8]) -> u32
     u32::from_le_bytes([bytes[8], bytes[9], bytes[10], bytes[11]])
 }
 
-/// The theta that an image tells, in its bytes 16 to 23.
+/// The theta of an image, in its bytes 16 to 23.
 pub fn theta_at(bytes: &[u8]) -> u64
     requires { 24 ≤ length bytes.now }
     ensures { result ≡ theta_at bytes.now }
@@ -64,7 +64,7 @@ pub fn announced(longs: u8, count: u32, theta: u64, ordered: bool) -> Preamble
     }
 }
 
-/// What is read behind a preamble: nothing where its theta is not from 1 to `MAX_THETA`.
+/// The layout with this preamble, or `None` if its theta is not from 1 to `MAX_THETA`.
 #[tactic(auto, unfolding(crate::specs::Preamble::admitted))]
 pub fn admitted(p: Preamble) -> Option<Layout>
     ensures { result ≡ admitted p }
@@ -76,7 +76,9 @@ pub fn admitted(p: Preamble) -> Option<Layout>
     }
 }
 
-/// What is read of version 3 under the reader's seed hash, of an image with `longs` preamble longs, from 1 to 3.
+/// The layout of an image of version 3 with `longs` preamble longs, from 1 to 3, under the reader's seed hash. It is
+/// `None` if the image isn't flagged empty and has another seed hash, ends within its preamble, or has a theta outside
+/// its range.
 #[tactic(auto, unfolding(crate::specs::Preamble::flagged_layout))]
 pub fn flagged_layout(bytes: &[u8], longs: u8, seed_hash: u16) -> Option<Layout>
     requires whole { 8 ≤ length bytes.now }

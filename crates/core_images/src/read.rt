@@ -9,8 +9,9 @@ use core_compact::CompactSketchState;
 use sketch_base::{Error, ErrorKind};
 use std::alloc::Allocator;
 
-/// Reads the state that stands behind a layout, under the reader's seed hash. It refuses with `InvalidData` exactly where
-/// none does, or with `OutOfMemory`. It asks for no more memory than entries of eight bytes could fill the bytes with.
+/// Reads the state that the bytes spell by this layout, under the reader's seed hash. It refuses with `InvalidData`
+/// exactly if they spell none, or with `OutOfMemory`. Besides what entries allocate themselves, it allocates room for
+/// at most one entry per eight bytes, and eight bytes per entry to compare hashes that don't ascend.
 pub fn read_behind<E: ImageEntry<A> + Drop, A: Allocator + Clone + Drop>(
     alloc: A,
     bytes: &[u8],

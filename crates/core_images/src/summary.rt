@@ -8,43 +8,43 @@ use core_slots::TupleEntry;
 use sketch_base::{Error, ErrorKind, SketchBytes, SketchSlice};
 use std::alloc::Allocator;
 
-/// A summary that images spell. What it keeps elsewhere, it keeps in memory of `A`.
+/// A summary that images spell. What it stores outside itself is in memory of `A`.
 ///
-/// A type names its values, the bytes that are written of each, and which beginnings of bytes spell which value: what is
-/// written of a value is read again, whatever follows it.
+/// A type defines which summaries are values, the bytes written of each, and which bytes spell which value. The bytes
+/// written of a value are read as that value, whatever bytes follow.
 pub trait TupleSummaryValue<A: Allocator> {
     /// Which bytes spell which summary.
     ghost spells: { List ℕ → Self → Type 0 };
-    /// Which summaries are values: all that the type can hold.
+    /// Which summaries are values: all that the type can store.
     ghost is_value: { Self → Type 0 };
-    /// The bytes that are written of a summary.
+    /// The bytes written of a summary.
     ghost text: { Self → List ℕ };
 
-    /// How many bytes are written of it. It is a value.
+    /// The number of bytes that `serialize_value` writes. The summary is a value.
     fn serialize_size(&self) -> usize
         ensures size { result ≡ length (text self.now) }
         ensures value { is_value self.now };
 
-    /// Appends its bytes, as many as its `serialize_size`. It refuses with `OutOfMemory` alone, and the target is not used
-    /// afterwards.
+    /// Appends its bytes, as many as its `serialize_size`. It refuses with `OutOfMemory` alone; then the contents of
+    /// `bytes` are unspecified.
     fn serialize_value<B: Allocator>(&self, bytes: &mut SketchBytes<B>) -> Result<(), Error>
         ensures ok { OnOk result (bytes.new.bytes ≡ bytes.old.bytes ++ text self.now) }
         ensures value { OnOk result (is_value self.now) }
         ensures refused { Refuses result None true };
 
-    /// Reads the summary that a beginning of the bytes spells, and moves past that beginning. It refuses with `InvalidData`
-    /// exactly where none does, or with `OutOfMemory`; nothing is said of the cursor afterwards.
+    /// Reads the summary that a prefix of the bytes spells, and moves past that prefix. It refuses with `InvalidData`
+    /// exactly if no prefix spells one, or with `OutOfMemory`; afterwards the cursor is unspecified.
     fn deserialize_value(alloc: &A, slice: &mut SketchSlice<'_>) -> Result<Self, Error>
         ensures { Answers (λ x. λ rest. (first : List ℕ) × spells first x × (slice.old ≡ first ++ rest)) slice.new result };
 
-    /// No spelling begins another, and each is of one summary.
+    /// No spelling is a prefix of another, and each spells one summary.
     ghost one_spelling: { (a b u v : List ℕ) (x y : Self) → spells a x → spells b y → a ++ u ≡ b ++ v → (a ≡ b) × (x ≡ y) };
 
-    /// What is written of a value spells it.
+    /// The bytes written of a value spell it.
     ghost text_spells: { (x : Self) → is_value x → spells (text x) x };
 }
 
-/// The eight bytes of its hash, and behind them its summary's.
+/// The eight bytes of its hash, then the bytes of its summary.
 impl<S: TupleSummaryValue<A> + Drop, A: Allocator> ImageEntry<A> for TupleEntry<S> {
     ghost use Rattle.core_images.specs.Summary.{SpellsTuple, is_tuple_value, tuple_text};
     ghost use Rattle.core_images.specs.SummarySpelling.{one_tuple, tuple_written, tuple_long};
@@ -82,7 +82,7 @@ impl<S: TupleSummaryValue<A> + Drop, A: Allocator> ImageEntry<A> for TupleEntry<
     where
         A: Drop,
     {
-        // Each entry takes eight bytes at least, so no memory is asked for that the bytes could not fill.
+        // Each entry takes at least eight bytes: never allocate room for more entries than the bytes can have.
         if bytes.len() / 8 < count as usize {
             return Err(Error::new(ErrorKind::InvalidData));
         }

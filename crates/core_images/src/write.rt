@@ -10,7 +10,7 @@ use core_laws::{MAX_THETA, SketchEntry};
 use sketch_base::{Error, Family, SketchBytes};
 use std::alloc::Allocator;
 
-/// Appends a count of entries and four bytes of nothing.
+/// Appends a count of entries and four bytes of 0.
 fn write_count<A: Allocator>(count: usize, bytes: &mut SketchBytes<A>) -> Result<(), Error>
     requires { count < 2 ^ 32 }
     ensures ok { OnOk result (bytes.new.bytes ≡ bytes.old.bytes ++ counted_bytes count) }
@@ -20,8 +20,9 @@ fn write_count<A: Allocator>(count: usize, bytes: &mut SketchBytes<A>) -> Result
     bytes.write_u32_le(0)
 }
 
-/// The image of a state, in the memory of `alloc`: as version 3 of a family, with the byte that a family may have for its
-/// kind. It refuses with `OutOfMemory` alone. Where it does not, every entry is a value, so that it is read again.
+/// Returns the image of a state, in memory of `alloc`: version 3 of this family, with `kind` in byte 3, where a family
+/// may store its kind of sketch. It refuses with `OutOfMemory` alone. If it does not refuse, every entry is a value, so
+/// that the image is read as the state.
 pub fn write_image<E: ImageEntry<A>, A: Allocator + Drop, B: Allocator>(
     alloc: A,
     state: &CompactSketchState<E, B>,
@@ -36,7 +37,7 @@ pub fn write_image<E: ImageEntry<A>, A: Allocator + Drop, B: Allocator>(
     write_image_with_capacity(alloc, state, family, kind, capacity)
 }
 
-/// The same, with memory for `capacity` bytes asked for at first: as many as the image will have, where a caller knows it.
+/// The same, but allocates `capacity` bytes at first: a caller who knows the size of the image avoids growing.
 pub fn write_image_with_capacity<E: ImageEntry<A>, A: Allocator + Drop, B: Allocator>(
     alloc: A,
     state: &CompactSketchState<E, B>,

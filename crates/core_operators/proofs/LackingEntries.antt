@@ -1,4 +1,4 @@
--- Differences of listings, and the states of what is kept.
+-- Differences of listings, and the states of the kept entries.
 use Rattle.std.proofs.Common.{◌+◌, inl, inr, take, drop, set, ◌≡◌, ℕ, suc, ◌<◌, ◌≤◌, ◌≢◌, ◌^◌, Bool, true, false, cond, ltb, leb, is_none, min, Result, Ok, Err, IfOk, IfErr, is_err, List, [], ◌∷◌, ◌++◌, length, map, Option, Some, None, refl, sym, ap, ◌∙◌, arith}
 use Rattle.std.specs.Prelude.{◌&&◌, ◌==◌, option_map}
 use Rattle.core_laws.proofs.maps.MappedEntries.{entry_at-map}
@@ -24,7 +24,7 @@ use Rattle.core_laws.proofs.maps.LookUps.{entry_at_rest, entry_at-filter_in, ent
 use Rattle.core_table.proofs.OtherOrders.{map_of-ascending, map_of-moved, each-map_of}
 use Rattle.core_compact.proofs.LawsOfShown.{IsShown-retained}
 
--- what is shown of a state of entries, in their own order and sorted
+-- what a state of entries shows, in their own order and sorted
 
 module _ {X : Type 0} (key : X → ℕ) (theta seed_hash : ℕ) where
   abbrev listed : List X → Bool → Compact X
@@ -103,11 +103,11 @@ module _ {X : Type 0} (key : X → ℕ) where
   none_low [] theta all = refl
   none_low (x ∷ xs) theta all = let e : ltb (key x) theta ≡ false = grind (arith, nat_tests, all.0) in rw e (none_low xs theta all.1)
 
-  -- of entries that ascend none is below theta from the first on that is not
+  -- if entries ascend and the first is not below theta, none is
   pub stops : (x : X) (left : List X) (theta : ℕ) → IsAscending key (x ∷ left) → theta ≤ key x → below key (x ∷ left) theta ≡ []
   stops x left theta up le = none_low (x ∷ left) theta (le, each-weaker _ _ (λ y lt. omega (arith, le, lt)) left (ascending-head key x left up))
 
-  -- where a test is of keys alone
+  -- filtering by a test of keys alone
   entry_at-keyed : (f : ℕ → Bool) (xs : List X) (q : ℕ) → entry_at key (filter (λ x. f (key x)) xs) q ≡ cond (f q) (entry_at key xs q) None
   entry_at-keyed f xs q =
       (elim (f q) as (λ b. f q ≡ b → entry_at key (filter (λ x. f (key x)) xs) q ≡ cond b (entry_at key xs q) None) [
@@ -121,11 +121,11 @@ module _ {X : Type 0} (key : X → ℕ) where
   both_tests false true o = refl
   both_tests false false o = refl
 
-  -- what of a listing is kept: below theta, and not among hashes
+  -- the kept entries of a listing: those below theta, and not among the hashes
   abbrev pub kept_of : List X → List ℕ → ℕ → List X
   kept_of listing hashes theta = lacking key hash_key (below key listing theta) hashes
 
-  -- hashes that are not below theta take nothing away
+  -- hashes that are not below theta make no difference
   pub kept_by_map : (xs : List X) (hs : List ℕ) (theta : ℕ) → kept_of xs (map_of hash_key (below hash_key hs theta)) theta ≡ kept_of xs hs theta
   kept_by_map xs hs theta =
       filter-and (λ x. is_none (entry_at hash_key (map_of hash_key (below hash_key hs theta)) (key x))) (λ x. ltb (key x) theta) xs
@@ -136,11 +136,11 @@ module _ {X : Type 0} (key : X → ℕ) where
       ]) refl)
       ∙ sym (filter-and (λ x. is_none (entry_at hash_key hs (key x))) (λ x. ltb (key x) theta) xs)
 
-  -- no hashes take nothing away from entries below theta
+  -- without hashes all entries below theta are kept
   pub kept_all : (xs : List X) (theta : ℕ) → AllByRecursion (λ x. key x < theta) xs → kept_of xs [] theta ≡ xs
   kept_all xs theta all = lacking-nil key hash_key (below key xs theta) ∙ below_all key xs theta all
 
-  -- what is kept of listings is what is kept of the maps that they make
+  -- the map of the kept entries is the difference of the maps, below theta
   pub kept_map : (xs : List X) (hs : List ℕ) (theta : ℕ) → map_of key (kept_of xs hs theta) ≡ below key (lacking key hash_key (map_of key xs) (map_of hash_key hs)) theta
   kept_map xs hs theta =
       same_map key _ _ (ascending-map_of key (kept_of xs hs theta)) (ascending-filter key _ _ (ascending-filter key _ _ (ascending-map_of key xs)))
@@ -154,7 +154,7 @@ module _ {X : Type 0} (key : X → ℕ) where
       ∙ ap (λ o. cond (ltb q theta) o None) (sym (entry_at-keyed (λ h. is_none (entry_at hash_key (map_of hash_key hs) h)) (map_of key xs) q))
       ∙ sym (entry_at-below key (lacking key hash_key (map_of key xs) (map_of hash_key hs)) theta q))
 
-  -- what is kept meets the laws of what is shown
+  -- a state of the kept entries meets the laws of a sketch
   pub shown_kept : (a : Shown) (listing : List X) (hs : List ℕ) (theta seed_hash : ℕ) → IsShown a → map key listing ≡ a.hashes → 0 < theta → theta ≤ a.theta → IsShown (shown_of key (listed key theta seed_hash (kept_of listing hs theta) a.ordered))
   shown_kept a listing hs theta seed_hash shown hashes low high = record {
     theta_low = low;
@@ -173,7 +173,7 @@ module _ {X : Type 0} (key : X → ℕ) where
     greatest = λ e. absurd (cc);
   }
 
-  -- one entry more: kept, or passed over
+  -- one entry more: kept, or skipped
   kept_step : (x : X) (left : List X) (hs : List ℕ) (theta : ℕ) (b : Bool) → (ltb (key x) theta && is_none (entry_at hash_key hs (key x))) ≡ b → kept_of (x ∷ left) hs theta ≡ cond b (x ∷ kept_of left hs theta) (kept_of left hs theta)
   kept_step x left hs theta b =
       elim (ltb (key x) theta) as (λ t. (t && is_none (entry_at hash_key hs (key x))) ≡ b → lacking key hash_key (cond t (x ∷ below key left theta) (below key left theta)) hs ≡ cond b (x ∷ kept_of left hs theta) (kept_of left hs theta)) [
@@ -205,7 +205,7 @@ below_more done h left theta lt =
     let e : ltb h theta ≡ true = grind (arith, nat_tests) in
     rw e (append_assoc done (h ∷ []) (below hash_key left theta))
 
--- what a search in hashes that ascend tells
+-- a search in ascending hashes fails exactly if the hash is not among them
 pub search_tells : (hs : List ℕ) (h : ℕ) (r : Result ℕ ℕ) → IsAscending hash_key hs → IfOk r (IsAt hash_key hs h) → IfErr r (IsGapFor hash_key hs h) → is_err r ≡ is_none (entry_at hash_key hs h)
 search_tells hs h (Ok at) up found absent = ap is_none (sym (entry_at_place hash_key hs h at 0 up found))
 search_tells hs h (Err at) up found absent = ap is_none (sym (entry_at_gap hash_key hs h at absent))
@@ -215,17 +215,18 @@ module _ {X Y : Type 0} (key : X → ℕ) (other : Y → ℕ) (theta : ℕ) wher
   none_mapped None = refl
   none_mapped (Some y) = refl
 
-  -- what is to be kept of entries: below theta, and not among others
+  -- the entries to keep: those below theta, and not among the others
   abbrev pub to_keep : List X → List Y → List X
   to_keep left others = lacking key other (below key left theta) others
 
-  -- entries and others that ascend are read side by side: what is kept so far and what is to be kept of what is left is what is to be kept in all
+  -- ascending entries and others are read side by side: the entries kept so far, then those to keep among the entries
+  -- left, are all entries to keep
   pub record IsSifting (whole left : List X) (others : List Y) (kept : List X) : Type 0 where
     pub rest : kept ++ to_keep left others ≡ whole
     pub ascending : IsAscending key left
     pub others_ascend : IsAscending other others
 
-  -- one that is less than all entries takes nothing away
+  -- an other that is less than all entries makes no difference
   lesser_other : (y : Y) (others : List Y) (left : List X) → AllByRecursion (λ x. other y < key x) left → to_keep left (y ∷ others) ≡ to_keep left others
   lesser_other y others [] all = refl
   lesser_other y others (x ∷ left) all =
@@ -237,7 +238,7 @@ module _ {X Y : Type 0} (key : X → ℕ) (other : Y → ℕ) (theta : ℕ) wher
         | false ↦ on
       ]
 
-  -- an entry below theta is kept where no other has its hash
+  -- an entry below theta is kept if no other has its hash
   kept_first : (x : X) (left : List X) (others : List Y) → key x < theta → entry_at other others (key x) ≡ None → to_keep (x ∷ left) others ≡ x ∷ to_keep left others
   kept_first x left others lt absent = let e : ltb (key x) theta ≡ true = grind (arith, nat_tests) in rw (e, absent) refl
 
@@ -271,7 +272,8 @@ module _ {X Y : Type 0} (key : X → ℕ) (other : Y → ℕ) (theta : ℕ) wher
           others_ascend = ascending-tail other y others was.others_ascend;
         }
 
-  -- one comparison more, by numbers alone: the entry is written behind those that are kept, and counts where it is less; each list goes on where its first isn't the greater
+  -- one comparison more, by numbers alone: the entry is written after the kept ones, and counts if it is less; a list
+  -- advances if its first isn't the greater
   module _ {R : Type 0} (at : R → X) (whole : List X) (r : R) (left : List X) (y : Y) (others : List Y) (kept : List R) (count : ℕ) (room : count < length kept) (lt : key (at r) < theta)
       (was : IsSifting whole (at r ∷ left) (y ∷ others) (map at (take count kept))) where
     abbrev after : (more passed others_passed : ℕ) → Type 0
@@ -305,7 +307,7 @@ module _ {X Y : Type 0} (key : X → ℕ) (other : Y → ℕ) (theta : ℕ) wher
           ]
         ]
 
-  -- the same told by what is at the front of both lists, and by the numbers that the comparisons come to
+  -- the same, stated by the fronts of both lists and by the numbers that the comparisons return
   pub sifted_on : {R : Type 0} (at : R → X) (whole left : List X) (others : List Y) (r : R) (y : Y) (kept : List R) (count hash other_hash more passed others_passed : ℕ)
       → Some (at r) ≡ slice_get left 0 → Some y ≡ slice_get others 0 → count < length kept → hash ≡ key (at r) → other_hash ≡ other y → hash < theta
       → more ≡ cond (ltb hash other_hash) 1 0 → passed ≡ cond (leb hash other_hash) 1 0 → others_passed ≡ cond (leb other_hash hash) 1 0
@@ -317,7 +319,7 @@ module _ {X Y : Type 0} (key : X → ℕ) (other : Y → ℕ) (theta : ℕ) wher
       let z_is : z ≡ y = cc in
       rw (more_is, passed_is, others_passed_is, hash_is, known_is, x_is, z_is) (sifted_more at whole r left y others kept count room (rw (← hash_is) lt) (rw (x_is, z_is) at was))
 
-  -- where either list is at its end, or the first entry is not below theta, all that is below theta is to be kept
+  -- if either list is at its end, or the first entry is not below theta, all entries below theta are kept
   pub whole_at_end : (left : List X) (others : List Y) → None ≡ slice_get left 0 → to_keep left others ≡ below key left theta
   whole_at_end [] others none = refl
   whole_at_end (x ∷ left) others none = absurd (cc)
@@ -333,13 +335,13 @@ module _ {X Y : Type 0} (key : X → ℕ) (other : Y → ℕ) (theta : ℕ) wher
       let none : below key (z ∷ left) theta ≡ [] = stops key z left theta up (rw z_is le) in
       ap (λ xs. lacking key other xs others) none ∙ sym none
 
-  -- others by their hashes alone
+  -- the others may be replaced by their hashes
   pub kept_of_hashes : (left : List X) (others : List Y) → to_keep left others ≡ lacking key hash_key (below key left theta) (map other others)
   kept_of_hashes left others = filter-agree (λ x. is_none (entry_at other others (key x))) (λ x. is_none (entry_at hash_key (map other others) (key x))) (below key left theta) (λ x.
       none_mapped (entry_at other others (key x)) ∙ ap is_none (sym (entry_at-map other other hash_key (λ y. refl) others (key x))))
 
 module _ {X : Type 0} (key : X → ℕ) where
-  -- the difference of what two sketches show is what is kept
+  -- the difference of two sketches has the kept entries
   minus_value : (a b : Shown) (listing : List X) (hs : List ℕ) (theta : ℕ) → a.empty ≡ false → b.empty ≡ false → theta ≡ min a.theta b.theta →
       minus key hash_key (shown_value key a listing) (shown_value hash_key b hs) ≡ unless_nothing (record { entries = map_of key (kept_of key listing hs theta); theta = theta })
   minus_value a b listing hs theta first second theta_is =

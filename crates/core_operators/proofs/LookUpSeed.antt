@@ -1,4 +1,4 @@
--- The seed of tables in which hashes are only looked up.
+-- The seed of tables for looking up hashes.
 use Rattle.std.proofs.Common.{◌≡◌, refl, sym, arith}
 use Rattle.sketch_base.specs.Seed.{seed_hash}
 use Rattle.sketch_base.specs.Murmur.{murmur, finished, avalanche, after_blocks, mixed_1, mixed_2, word}

@@ -1,4 +1,4 @@
--- A union that goes on with fewer nominal entries.
+-- A union that is lowered to fewer nominal entries.
 use Rattle.std.proofs.Common.{◌≡◌, ℕ, ◌<◌, ◌≤◌, ◌^◌, Bool, true, false, cond, eqb, List, [], refl, sym, ap, ◌∙◌, subst, arith}
 use Rattle.std.proofs.lemmas.Bool.Decides.{nat_tests}
 use Rattle.std.proofs.Math.Pow.{pow_mono}
@@ -14,7 +14,7 @@ use Rattle.core_laws.proofs.cuts.WithinWholeMaps.{below-below, cut_below, cut_of
 use Rattle.core_laws.proofs.insertions.Cases.{cut_theta}
 
 module _ {X : Type 0} (key : X → ℕ) where
-  -- what a table of fewer nominal entries retains below its theta is the cut of what the union held
+  -- the entries of a table with fewer nominal entries, below its theta, are the cut of the union's entries
   held_lowered : (k : ℕ) (xs : List X) (theta : ℕ) → IsAscending key xs → retained key (cut key k xs theta).entries (cut key k xs theta).theta ≡ cut key k (below key xs theta) theta
   held_lowered k xs theta up =
       let t : ℕ = (cut key k xs theta).theta in
@@ -30,7 +30,7 @@ module _ {X : Type 0} (key : X → ℕ) where
     abbrev pub smaller : Union X P
     smaller = record u { held = fewer; lg_k = lg_k }
 
-    -- cut to its own nominal entries a value stays as it is
+    -- cutting a value to its own nominal entries doesn't change it
     pub value_same : lg_k ≡ u.lg_k → IsAscending key u.held.entries → union_value key u ≡ cut_value key (2 ^ lg_k) (union_value key u)
     value_same same up =
         let k : ℕ = 2 ^ u.lg_k in
@@ -38,7 +38,7 @@ module _ {X : Type 0} (key : X → ℕ) where
         subst (λ (l : ℕ). union_value key u ≡ cut_value key (2 ^ l) (union_value key u)) (sym same)
         (elim u.empty as (λ b. cond b Empty (NonEmpty (cut key k u.held.entries u.held.theta)) ≡ cut_value key k (cond b Empty (NonEmpty (cut key k u.held.entries u.held.theta)))) [ true ↦ refl | false ↦ ap NonEmpty (sym once) ])
 
-    -- and to fewer it is that of the smaller union, whatever pair was held
+    -- cut to fewer, it is the value of the smaller union, for all retained entries and thetas
     pub value_fewer : lg_k ≤ u.lg_k → IsAscending key u.held.entries → union_value key smaller ≡ cut_value key (2 ^ lg_k) (union_value key u)
     value_fewer le up =
         let power : 2 ^ lg_k ≤ 2 ^ u.lg_k = pow_mono {i = lg_k} {j = u.lg_k} le in
@@ -60,7 +60,7 @@ module _ {X : Type 0} (key : X → ℕ) where
           theta_within = omega arith;
         }
 
-    -- what it is made with, and what it holds: the same or the cut
+    -- its settings, and its entries: the same or the cut
     pub lowered_made : lowered key lg_k u ≡ record u { held = (lowered key lg_k u).held; lg_k = lg_k }
     lowered_made =
         (elim (eqb lg_k u.lg_k) as (λ b. eqb lg_k u.lg_k ≡ b → cond b u smaller ≡ record u { held = (cond b u smaller).held; lg_k = lg_k }) [
@@ -75,7 +75,7 @@ module _ {X : Type 0} (key : X → ℕ) where
     lowered_is differs = let e : eqb lg_k u.lg_k ≡ false = grind (arith, nat_tests) in sym (ap (λ b. cond b u smaller) e)
 
   module _ {P : Type 0} (empty failed : Bool) (policy : P) where
-    -- a union over what a table retains below a theta
+    -- a union over the entries of a table below a theta
     abbrev pub over : MapTable X → ℕ → Union X P
     over t theta = record { empty = empty; failed = failed; held = retained key t.kept.entries theta; lg_k = t.lg_nom; start = t.start; seed_hash = t.seed_hash; policy = policy }
 

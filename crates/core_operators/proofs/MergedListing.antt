@@ -34,7 +34,7 @@ module _ {X : Type 0} (key : X → ℕ) where
   below_keeps : (xs : List X) (t q : ℕ) (w : X) → entry_at key (below key xs t) q ≡ Some w → entry_at key xs q ≡ Some w
   below_keeps xs t q w found = cond_some (ltb q t) (entry_at key xs q) w (sym (entry_at-below key xs t q) ∙ found)
 
-  -- what a rebuild keeps was there
+  -- a rebuild keeps only entries that were there
   rebuilt_keeps : (k : ℕ) (xs : List X) (theta q : ℕ) (w : X) → entry_at key (rebuilt key k xs theta).entries q ≡ Some w → entry_at key xs q ≡ Some w
   unfolding rebuilt
   rebuilt_keeps k xs theta q w =
@@ -43,7 +43,7 @@ module _ {X : Type 0} (key : X → ℕ) where
         | false ↦ λ found. found
       ]
 
-  -- what is left of a listing, and what the table has by then at its keys
+  -- the entries left of a listing, and what the table has at their keys
   pub record IsMerging (listing first left now : List X) (ordered : Bool) : Type 0 where
     pub apart : IsApart key left
     pub among : (q : ℕ) (x : X) → entry_at key left q ≡ Some x → entry_at key listing q ≡ Some x
@@ -54,7 +54,7 @@ module _ {X : Type 0} (key : X → ℕ) where
   merging-start listing first ordered apart in_order = record { apart = apart; among = λ q x found. found; untouched = λ q x w found there. there; in_order = in_order }
 
 module _ {X : Type 0} (key : X → ℕ) (merges : X → X → X) (refuses : X → X → Bool) (keeps : KeepsKey key merges) where
-  -- an insertion leaves other keys as they were, or drops them
+  -- an insertion doesn't change the entries of other keys, or drops them
   upsert_elsewhere : (k : ℕ) (x : X) (v : Retained X) (q : ℕ) (w : X) → key x ≢ q → entry_at key (after_upsert key k (key x) (merge_step merges refuses x) v).entries q ≡ Some w → entry_at key v.entries q ≡ Some w
   upsert_elsewhere k x v q w differs =
       (elim (is_screened (key x) v.theta) as (λ b. is_screened (key x) v.theta ≡ b → entry_at key (after_upsert key k (key x) (merge_step merges refuses x) v).entries q ≡ Some w → entry_at key v.entries q ≡ Some w) [
@@ -73,7 +73,7 @@ module _ {X : Type 0} (key : X → ℕ) (merges : X → X → X) (refuses : X �
             ]) refl
       ]) refl
 
-  -- the keys that are left are not the one that was
+  -- the keys that are left differ from the first
   not_first : (x : X) (left : List X) (q : ℕ) (y : X) → entry_at key left (key x) ≡ None → entry_at key left q ≡ Some y → key x ≢ q
   not_first x left q y none found tie = let there : entry_at key left q ≡ None = subst (λ (h : ℕ). entry_at key left h ≡ None) tie none in none_some (sym there ∙ found)
 
@@ -87,7 +87,7 @@ module _ {X : Type 0} (key : X → ℕ) (merges : X → X → X) (refuses : X �
     in_order = λ e. ascending-tail key x left (so_far.in_order e);
   }
 
-  -- an entry that is passed over
+  -- an entry that is skipped
   pub merging-passed : (listing first left now : List X) (x : X) (ordered : Bool) → IsMerging key listing first (x ∷ left) now ordered → IsMerging key listing first left now ordered
   merging-passed listing first left now x ordered so_far = record {
     apart = so_far.apart.1;
@@ -117,13 +117,13 @@ module _ {X : Type 0} (key : X → ℕ) (merges : X → X → X) (refuses : X �
             ]) refl
       ]) refl
 
-  -- what is not below theta changes nothing
+  -- entries that are not below theta change nothing
   screened_all : (k : ℕ) (xs : List X) (u : Retained (Fold X)) → AllByRecursion (λ x. u.theta ≤ key x) xs → after_upserts (fold_key key) k (merge_step (fold_merges key merges refuses) never) (map Value xs) u ≡ u
   screened_all k [] u all = refl
   screened_all k (x ∷ xs) u all =
       ap (λ v. after_upserts (fold_key key) k (merge_step (fold_merges key merges refuses) never) (map Value xs) v) (screened_case (fold_key key) k (key x) (merge_step (fold_merges key merges refuses) never (Value x)) u (is_screened_true (key x) u.theta (inr all.0))).after_is ∙ screened_all k xs u all.1
 
-  -- what is below theta of keys from h on, where h is at least the lesser of theta and t, is from t on
+  -- if all keys are at least h, and h is at least the lesser of theta and t, the keys below theta are at least t
   from_lesser : (xs : List X) (theta t h : ℕ) → min theta t ≤ h → AllByRecursion (λ x. h ≤ key x) xs → AllByRecursion (λ x. t ≤ key x) (below key xs theta)
   from_lesser [] theta t h le all = tt
   from_lesser (x ∷ xs) theta t h le all =
@@ -132,7 +132,7 @@ module _ {X : Type 0} (key : X → ℕ) (merges : X → X → X) (refuses : X �
         | false ↦ λ e. from_lesser xs theta t h le all.1
       ]) refl
 
-  -- entries that are passed over because they are not below the lesser theta change nothing
+  -- entries that are skipped because they are not below the lesser theta change nothing
   from_below_folds : (k theta : ℕ) (v : Retained X) (xs : List X) →
       after_upserts (fold_key key) k (merge_step (fold_merges key merges refuses) never) (map Value (below key (from_below key (min theta v.theta) xs) theta)) (unmarked v) ≡ after_upserts (fold_key key) k (merge_step (fold_merges key merges refuses) never) (map Value (below key xs theta)) (unmarked v)
   from_below_folds k theta v [] = refl
@@ -179,7 +179,7 @@ module _ {X : Type 0} (key : X → ℕ) (merges : X → X → X) (refuses : X �
       rw (lt-ltb (key x) theta lt) (ap (λ u. after_upserts (fold_key key) k (merge_step (fold_merges key merges refuses) never) (map Value (below key left theta)) u) (unmarked-upsert key merges refuses k x v allowed))
 
 module _ {X : Type 0} (key : X → ℕ) where
-  -- an entry from theta on is none of those below it
+  -- an entry at or above theta is not among those below it
   pub below_passed : (theta : ℕ) (left : List X) (x : X) → theta ≤ key x → below key (x ∷ left) theta ≡ below key left theta
   below_passed theta left x le = let e : ltb (key x) theta ≡ false = grind (arith, nat_tests) in rw e refl
 

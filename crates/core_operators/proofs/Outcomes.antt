@@ -1,4 +1,4 @@
--- What an update makes of an intersection.
+-- The value of an intersection after an update.
 use Rattle.std.proofs.Common.{◌≡◌, ℕ, Bool, true, false, cond, eqb, not, List, [], ◌∷◌, map, length, min, Some, refl, sym, ap, ◌∙◌, arith}
 use Rattle.std.specs.Prelude.{◌&&◌}
 use Rattle.std.specs.Option.{option_map}
@@ -20,13 +20,13 @@ module _ {X : Type 0} where
   none_retained : (key : X → ℕ) → IsRetained key (none_below MAX_THETA)
   none_retained key = record { ascending = ascending-nil key; nonzero = tt; below_theta = tt; theta_low = omega arith; theta_high = omega arith }
 
-  -- an outcome that is begun and isn't Empty is what is held
+  -- the value of an outcome that is begun and isn't Empty is the table's
   pub held_value : (o : Outcome) (v : Retained X) → is_settled_outcome o ≡ false → is_begun o ≡ true → outcome_value o v ≡ Some (NonEmpty v)
   held_value Unbegun v a b = absurd (cc)
   held_value Nothing v a b = absurd (cc)
   held_value Held v a b = refl
 
-  -- what a sketch value keeps holds of what an intersection holds, where it does of its table
+  -- the laws of retained entries hold for an intersection's value if they hold for its table
   pub held_retained : (key : X → ℕ) (o : Outcome) (v : Retained X) → IsRetained key v → IsRetained key (held_of (outcome_value o v))
   held_retained key Unbegun v kept = none_retained key
   held_retained key Nothing v kept = none_retained key
@@ -46,7 +46,7 @@ module _ {X : Type 0} (key : X → ℕ) where
       first ∙ sym some
 
 module _ {X : Type 0} (key : X → ℕ) (merges : X → X → X) (refuses : X → X → Bool) where
-  -- the outcome over what is shared is the meet of what is held and what comes
+  -- the outcome with the shared entries is the meet of the retained and the incoming entries
   pub met_value : (old new : Retained X) (listing : List X) (theta : ℕ) (o : Outcome) →
       unmarked new ≡ shared (fold_key key) (fold_merges key merges refuses) (unmarked old) (unmarked (record { entries = map_of key listing; theta = theta })) →
       o ≡ cond (is_nothing_left new.theta (length old.entries) (length listing) (length new.entries)) Nothing Held →
@@ -73,7 +73,7 @@ module _ {X : Type 0} (key : X → ℕ) (merges : X → X → X) (refuses : X �
         | false ↦ ap (λ u. Some (NonEmpty u)) is_shared
       ]
 
-  -- where nothing is held, nothing is shared, below the lesser theta
+  -- if no entries are retained, none are shared, and theta is the lesser
   pub met_nothing : (old : Retained X) (listing : List X) (theta : ℕ) → length old.entries ≡ 0 →
       option_map unmarked_value (Some (NonEmpty (record { entries = old.entries; theta = min old.theta theta }))) ≡ Some (meet_next (fold_key key) (fold_merges key merges refuses) (Some (NonEmpty (unmarked old))) (NonEmpty (unmarked (record { entries = map_of key listing; theta = theta }))))
   met_nothing old listing theta none =

@@ -1,4 +1,4 @@
--- What a table and a listing share.
+-- The entries that a table and a listing share.
 use Rattle.std.proofs.Common.{◌≡◌, ℕ, ◌<◌, ◌≤◌, ◌≢◌, Bool, true, false, cond, ltb, eqb, List, [], ◌∷◌, ◌++◌, map, length, min, Option, Some, None, refl, sym, ap, ◌∙◌, subst, arith}
 use Rattle.std.specs.List.{AllByRecursion}
 use Rattle.std.specs.Option.{option_map, option_map_or}
@@ -18,12 +18,12 @@ use Rattle.core_laws.proofs.maps.MapsOfLists.{entry_at-map_of, ascending-map_of}
 use Rattle.core_laws.proofs.cuts.WithinWholeMaps.{found_key}
 use Rattle.core_laws.specs.Entries.{KeepsKey}
 
--- a merge of the one that comes in with the one that is held
+-- a merge with its arguments swapped: the incoming entry first
 abbrev pub turned_round : {X : Type 0} → (X → X → X) → X → X → X
 turned_round merges y x = merges x y
 
 module _ {X : Type 0} (key : X → ℕ) where
-  -- what is left of a listing that is read
+  -- the entries left of a listing that is read
   pub record IsReading (listing left : List X) (ordered : Bool) : Type 0 where
     pub apart : IsApart key left
     pub among : (q : ℕ) (x : X) → entry_at key left q ≡ Some x → entry_at key listing q ≡ Some x
@@ -45,7 +45,7 @@ module _ {X : Type 0} (key : X → ℕ) where
   only_one : (x : X) (q : ℕ) (y : X) → entry_at key (x ∷ []) q ≡ Some y → x ≡ y
   only_one x q y = elim (eqb (key x) q) as (λ b. cond b (Some x) None ≡ Some y → x ≡ y) [ true ↦ λ e. (cc) | false ↦ λ e. absurd (cc) ]
 
-  -- the entry that is refused is one of the listing
+  -- a refused entry is one of the listing
   pub reading-refused : (refuses : X → X → Bool) (held listing left : List X) (x : X) (ordered : Bool) → IsReading listing (x ∷ left) ordered → IsMergeRefused key refuses held (x ∷ []) → IsMergeRefused key refuses held listing
   reading-refused refuses held listing left x ordered so_far refused =
       let here : key refused.new_entry ≡ refused.at = found_key key (x ∷ []) refused.at refused.new_entry refused.comes in
@@ -91,7 +91,7 @@ module _ {X : Type 0} (key : X → ℕ) (merges : X → X → X) (keeps : KeepsK
         | false ↦ λ e f. absurd (cc)
       ]) refl (sym (entry_at-below key ys t q) ∙ found)
 
-  -- what is shared below a theta is below it
+  -- the shared entries below a theta are below it
   pub common_low : (xs ys : List X) (t : ℕ) → AllByRecursion (λ z. key z < t) (common key merges xs (below key ys t))
   common_low [] ys t = tt
   common_low (x ∷ xs) ys t =
@@ -101,7 +101,7 @@ module _ {X : Type 0} (key : X → ℕ) (merges : X → X → X) (keeps : KeepsK
         | None ↦ λ f. rw f rest
       ]) refl
 
-  -- what is not below a theta shares nothing below it
+  -- entries that are not below a theta share nothing below it
   pub common_past : (xs ys : List X) (t : ℕ) → AllByRecursion (λ x. t ≤ key x) xs → common key merges xs (below key ys t) ≡ []
   common_past [] ys t all = refl
   common_past (x ∷ xs) ys t all =
@@ -119,7 +119,7 @@ module _ {X : Type 0} (key : X → ℕ) (merges : X → X → X) (keeps : KeepsK
   both_turned (Some x) (Some y) = refl
 
 module _ {X : Type 0} (key : X → ℕ) (merges : X → X → X) (keeps : KeepsKey key merges) where
-  -- a listing that is read against a map shares what its map does
+  -- a listing shares the same entries with a map as the map of the listing
   pub common-map_of : (held listing : List X) (t : ℕ) → IsAscending key held → map_of key (common key (turned_round merges) listing (below key held t)) ≡ below key (common key merges held (map_of key listing)) t
   common-map_of held listing t up =
       same_map key _ _ (ascending-map_of key (common key (turned_round merges) listing (below key held t))) (ascending-filter key _ _ (ascending-common key merges keeps held (map_of key listing) up))
@@ -156,18 +156,18 @@ module _ {X : Type 0} (key : X → ℕ) where
   each-unmarked P (x ∷ xs) all = (all.0, each-unmarked P xs all.1)
 
 module _ {X : Type 0} (key : X → ℕ) (merges : X → X → X) (refuses : X → X → Bool) where
-  -- what is read of a listing against a map below a theta
+  -- the folds that a listing and a map share below a theta
   abbrev pub read_from : (listing held : List X) (t : ℕ) → List (Fold X)
   read_from listing held t = common (fold_key key) (turned_round (fold_merges key merges refuses)) (map Value listing) (map Value (below key held t))
 
-  -- the entry that one gives, or none
+  -- the fold that one entry shares, or none
   abbrev pub read_one : (held : List X) (t : ℕ) → X → Option (Fold X)
   read_one held t x = option_map (λ w. fold_merges key merges refuses (Value w) (Value x)) (entry_at key (below key held t) (key x))
 
   one_low : (held : List X) (t : ℕ) (x : X) → key x < t → entry_at key (below key held t) (key x) ≡ entry_at key held (key x)
   one_low held t x lt = let e : ltb (key x) t ≡ true = grind (arith, nat_tests) in entry_at-below key held t (key x) ∙ ap (λ b. cond b (entry_at key held (key x)) None) e
 
-  -- what one gives past the theta, where its key isn't held, where the policy combines, and where it refuses
+  -- the fold of one entry: past the theta, if its key isn't in the map, if the policy combines, and if it refuses
   pub one_past : (held : List X) (t : ℕ) (x : X) → t ≤ key x → None ≡ read_one held t x
   one_past held t x le =
       let e : ltb (key x) t ≡ false = grind (arith, nat_tests) in
@@ -190,7 +190,7 @@ module _ {X : Type 0} (key : X → ℕ) (merges : X → X → X) (refuses : X �
   keeps_turned : (y x : Fold X) → fold_key key y ≡ fold_key key x → fold_key key (turned_round (fold_merges key merges refuses) y x) ≡ fold_key key x
   keeps_turned = turned_keeps (fold_key key) (fold_merges key merges refuses) (fold_keeps key merges refuses keeps)
 
-  -- what is read is as a table may have it
+  -- the entries read may be a table's
   pub record IsRead (items : List X) (t n : ℕ) : Type 0 where
     pub apart : IsApart key items
     pub nonzero : AllByRecursion (λ x. 0 < key x) items
@@ -212,7 +212,7 @@ module _ {X : Type 0} (key : X → ℕ) (merges : X → X → X) (refuses : X �
         few = omega (arith, short, ap length is, length-map items marked, length-map listing marked);
       }
 
-  -- what is left of an ascending listing, past a theta, is not read
+  -- the rest of an ascending listing, past a theta, is not read
   pub read_past : (listing left held : List X) (x : X) (t : ℕ) → IsReading key listing (x ∷ left) true → t ≤ key x → read_from key merges refuses (x ∷ left) held t ≡ []
   read_past listing left held x t so_far le =
       let all : AllByRecursion (λ y. t ≤ key y) (x ∷ left) = (le, each-weaker _ _ (λ y lt. omega (arith, le, lt)) left (ascending-head key x left (so_far.in_order refl))) in
@@ -233,7 +233,7 @@ module _ {X : Type 0} (key : X → ℕ) (merges : X → X → X) (refuses : X �
   pub read_none : (left held : List X) (x : X) (t : ℕ) → None ≡ read_one key merges refuses held t x → read_from key merges refuses (x ∷ left) held t ≡ read_from key merges refuses left held t
   read_none left held x t is = rw (one_read held x t None is) refl
 
-  -- the map of what is read is what is shared
+  -- the map of the entries read is the shared map
   pub read_shares : (held : Retained X) (listing items : List X) (theta : ℕ) → IsAscending key held.entries → map Value items ≡ read_from key merges refuses listing held.entries (min held.theta theta) →
       unmarked (record { entries = map_of key items; theta = min held.theta theta }) ≡ shared (fold_key key) (fold_merges key merges refuses) (unmarked held) (unmarked (record { entries = map_of key listing; theta = theta }))
   read_shares held listing items theta up all =
@@ -246,7 +246,7 @@ module _ {X : Type 0} (key : X → ℕ) (merges : X → X → X) (refuses : X �
       ∙ ap (λ ys. below fk (common fk fm (map Value held.entries) ys) t) (sym (marked-map_of key listing)) in
       ap (λ ys. record { entries = ys; theta = t }) entries
 
-  -- one more is read
+  -- one more entry is read
   pub more_read : (items left held : List X) (x : X) (t : ℕ) (o : Option X) (all : List (Fold X)) → option_map Value o ≡ read_one key merges refuses held t x → map Value items ++ read_from key merges refuses (x ∷ left) held t ≡ all →
       map Value (option_map_or (λ z. items ++ z ∷ []) o items) ++ read_from key merges refuses left held t ≡ all
   more_read items left held x t None all is so_far = ap (λ ys. map Value items ++ ys) (sym (read_none left held x t is)) ∙ so_far

@@ -1,4 +1,4 @@
--- What a sketch tells of itself, read back.
+-- The metadata of a sketch, read back.
 use Rattle.std.proofs.Common.{◌≡◌, ℕ, Bool, true, false, cond, length, refl}
 use Rattle.core_laws.specs.Shown.{Shown}
 use Rattle.core_operators.specs.View.{metadata_of}

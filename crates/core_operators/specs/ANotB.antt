@@ -8,12 +8,14 @@ use Rattle.core_laws.specs.Maps.{below}
 use Rattle.core_laws.specs.Operators.{lacking, minus}
 use Rattle.core_laws.specs.Shown.{Shown, shown_value}
 
--- what a difference is refused with: another seed, which is asked of the second only where the first isn't empty, and of neither that is
+-- the error of a difference: another seed hash of a sketch. No seed hash is checked if the first is empty, nor that of
+-- an empty second
 abbrev pub difference_refusal : (seed_hash : ℕ) → Shown → Shown → Option ErrorKind
 difference_refusal seed_hash a b =
     if a.empty then None else if not (seed_hash == a.seed_hash) then Some InvalidArgument else if b.empty then None else if not (seed_hash == b.seed_hash) then Some InvalidArgument else None
 
--- a state is the difference of two sketches, of which the first lends these entries: ordered if that is asked or the first is
+-- the state is the difference of two sketches, the first with these entries, and a result to be ordered if `asked` is
+-- true or the first is
 abbrev pub IsDifference : {X : Type 0} → (X → ℕ) → (a : Shown) → List X → (b : Shown) → (asked : Bool) → Compact X → Type 0
 IsDifference key a entries b asked s = IsAnswer key (minus key hash_key (shown_value key a entries) (shown_value hash_key b b.hashes)) a.seed_hash (asked || a.ordered) s
 

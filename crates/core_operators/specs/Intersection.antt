@@ -17,23 +17,23 @@ use Rattle.core_laws.specs.Shown.{Shown, shown_value}
 use Rattle.core_table.specs.HashTable.{MapTable}
 use Rattle.core_laws.specs.Operators.{common, meet_next, shared}
 
--- an intersection: its value, if there was an input yet, and what it was made with
+-- an intersection: its value, if there was an input, its seed hash and its policy
 pub record Intersection (X P : Type 0) : Type 0 where
   pub result : Option (Sketch X)
   pub seed_hash : ℕ
   pub policy : P
 
--- an intersection that has seen nothing
+-- a new intersection
 abbrev pub new_intersection : {X P : Type 0} → (hash : ℕ) → P → Intersection X P
 new_intersection hash policy = record { result = None; seed_hash = hash; policy = policy }
 
--- the value that an outcome stands for, over what is held
+-- the value of an intersection: by its outcome, and by what its table retains
 abbrev pub outcome_value : {X : Type 0} → Outcome → Retained X → Option (Sketch X)
 outcome_value Unbegun v = None
 outcome_value Nothing v = Some Empty
 outcome_value Held v = Some (NonEmpty v)
 
--- whether an outcome is Empty, and so stays, and whether there was an input
+-- whether the value is Empty, and so stays; below, whether there was an input
 abbrev pub is_settled_outcome : Outcome → Bool
 is_settled_outcome Unbegun = false
 is_settled_outcome Nothing = true
@@ -44,36 +44,38 @@ is_begun Unbegun = false
 is_begun Nothing = true
 is_begun Held = true
 
--- what holds of every intersection: it has fewer than 2^32 entries
+-- the invariant of an intersection: it has fewer than 2^32 entries
 pub record IsIntersection {X P : Type 0} (i : Intersection X P) : Type 0 where
   pub few : option_map_or count_of i.result 0 < 2 ^ 32
 
--- whether the value is Empty already, and so stays
+-- whether the value is Empty, and so stays
 abbrev pub is_settled : {X : Type 0} → Option (Sketch X) → Bool
 is_settled None = false
 is_settled (Some Empty) = true
 is_settled (Some (NonEmpty v)) = false
 
--- what is held: no entries below the greatest theta, until there is a value that isn't Empty
+-- the retained entries and theta of a value: no entries and the greatest theta if there is none or it is Empty
 abbrev pub held_of : {X : Type 0} → Option (Sketch X) → Retained X
 held_of None = none_below MAX_THETA
 held_of (Some Empty) = none_below MAX_THETA
 held_of (Some (NonEmpty v)) = v
 
--- what the making of an intersection or a difference is refused with: a seed whose hash is 0
+-- the error of creating an intersection or a difference, for a seed whose hash is 0
 abbrev pub seed_refusal : (seed : ℕ) → Option ErrorKind
 seed_refusal seed = if seed_hash seed == 0 then Some InvalidArgument else None
 
--- what an update is refused with before anything is read: once Empty it accepts all, an empty input is taken unchecked, another seed is refused
+-- the error of an update before any entry is read: once Empty every input is accepted, an empty input is not checked,
+-- another seed is refused
 abbrev pub intersect_refusal : {X P : Type 0} → Intersection X P → Shown → Option ErrorKind
 intersect_refusal i s = if is_settled i.result || s.empty then None else if i.seed_hash == s.seed_hash then None else Some InvalidArgument
 
--- the value of new is that of old and the input's in common, and nothing of it has a mark
+-- the new value is the intersection of the old value and the input's, and no entry of it has a mark
 abbrev pub IsMet : {X P : Type 0} → (X → ℕ) → (X → X → X) → (X → X → Bool) → (old new : Intersection X P) → Shown → List X → Type 0
 IsMet key merges refuses old new s listing =
     option_map unmarked_value new.result ≡ Some (meet_next (fold_key key) (fold_merges key merges refuses) (option_map unmarked_value old.result) (unmarked_value (shown_value key s listing)))
 
--- an update broke off: neither the input nor the value is Empty, and memory ran out, or the policy refused at a shared key below the lesser theta
+-- an update broke off: neither the input nor the value is Empty, and memory ran out, or the policy refused the entries
+-- of a shared key below the lesser theta
 pub record IsCutShort {X : Type 0} (key : X → ℕ) (refuses : X → X → Bool) (old : Option (Sketch X)) (s : Shown) (entries : List X) (kind : ErrorKind) : Type 0 where
   pub nonempty : s.empty ≡ false
   pub unsettled : is_settled old ≡ false
@@ -103,11 +105,11 @@ abbrev pub IsSharedFold : {X : Type 0} → (key : X → ℕ) → (merges : X →
 IsSharedFold key merges refuses held theta incoming entry =
     option_map Value entry ≡ option_map (λ x. fold_merges key merges refuses (Value x) (Value incoming)) (entry_at key (below key held.kept.entries theta) (key incoming))
 
--- whether keys are shared by none, though both maps have some and nothing was cut away
+-- whether two maps share no keys, though both have some and theta is the greatest
 abbrev pub is_nothing_left : (theta held come shared : ℕ) → Bool
 is_nothing_left theta held come shared = theta == MAX_THETA && (not (held == 0) && (not (come == 0) && shared == 0))
 
--- the answer that has this value, or none where there is no value
+-- the result has this value, or there is neither a result nor a value
 abbrev pub IsAnswerIfAny : {X : Type 0} → (X → ℕ) → Option (Sketch X) → (hash : ℕ) → (asked : Bool) → Option (Compact X) → Type 0
 IsAnswerIfAny key None hash asked None = ⊤
 IsAnswerIfAny key None hash asked (Some s) = ⊥

@@ -18,7 +18,7 @@ use Rattle.core_slots.specs.Entry.{tuple_key}
 use Rattle.core_slots.specs.declared.entry.TupleEntry.{TupleEntry}
 use Rattle.core_table.specs.HashTable.{MapTable}
 
--- a union: whether it is empty still, whether it broke off, what it holds, and what it was made with
+-- a union: whether it is empty, whether it has failed, its retained entries and theta, its settings and its policy
 pub record Union (X P : Type 0) : Type 0 where
   pub empty : Bool
   pub failed : Bool
@@ -28,48 +28,51 @@ pub record Union (X P : Type 0) : Type 0 where
   pub seed_hash : ℕ
   pub policy : P
 
--- a union that has seen nothing
+-- an empty union
 abbrev pub empty_union : {X P : Type 0} → (lg_k start hash : ℕ) → P → Union X P
 empty_union lg_k start hash policy = record { empty = true; failed = false; held = none_below start; lg_k = lg_k; start = start; seed_hash = hash; policy = policy }
 
--- the value of a union: what it holds, cut to its nominal entries
+-- the value of a union: its retained entries, cut to its nominal entries
 abbrev pub union_value : {X P : Type 0} → (X → ℕ) → Union X P → Sketch X
 union_value key u = if u.empty then Empty else NonEmpty (cut key (2 ^ u.lg_k) u.held.entries u.held.theta)
 
--- the nominal entries of a union are those of a sketch. One that hasn't failed holds no keys and its start while it is empty, and never a theta above its start
+-- the invariant of a union: its nominal entries are in range. If it hasn't failed, its theta is at most its start, and
+-- if it is also empty, it has no entries and its theta is its start
 pub record IsUnion {X P : Type 0} (u : Union X P) : Type 0 where
   pub lg_k_low : MIN_LG_K ≤ u.lg_k
   pub lg_k_high : u.lg_k ≤ MAX_LG_K
   pub theta_high : u.failed ≡ false → u.held.theta ≤ u.start
   pub none_held : u.failed ≡ false → u.empty ≡ true → u.held ≡ none_below u.start
 
--- a union that holds what a table with some theta retains below a theta of its own
+-- a union whose theta is at least 1 and at most its table's
 pub record IsUnionBelow {X P : Type 0} (table_theta : ℕ) (u : Union X P) : Type 0 where
   pub union : IsUnion u
   pub theta_low : 0 < u.held.theta
   pub theta_within : u.held.theta ≤ table_theta
 
--- what an update is refused with before anything is merged: a failed union refuses all, an empty input is taken unchecked, another seed is refused
+-- the error of an update before anything is merged: a failed union refuses every input, an empty input is not checked,
+-- another seed is refused
 abbrev pub update_refusal : {X P : Type 0} → Union X P → Shown → Option ErrorKind
 update_refusal u s = if u.failed then Some Failed else if s.empty then None else if u.seed_hash == s.seed_hash then None else Some InvalidArgument
 
--- what a union that has failed answers
+-- the error of a failed union
 abbrev pub failure : Bool → Option ErrorKind
 failure failed = if failed then Some Failed else None
 
--- what lowering a union's nominal entries is refused with: a failed union refuses every `lg_k`, any other all but those from the least to its own
+-- the error of lowering a union's nominal entries: a failed union refuses every `lg_k`, any other all but those from
+-- `MIN_LG_K` to its own
 abbrev pub lower_refusal : {X P : Type 0} → Union X P → (lg_k : ℕ) → Option ErrorKind
 lower_refusal u lg_k = if u.failed then Some Failed else if nat_le MIN_LG_K lg_k && nat_le lg_k u.lg_k then None else Some InvalidArgument
 
--- whether lowering takes memory: only to fewer nominal entries, if they are not refused
+-- whether lowering allocates: only if `lg_k` is less than its own and not refused
 abbrev pub lower_allocates : {X P : Type 0} → Union X P → (lg_k : ℕ) → Bool
 lower_allocates u lg_k = not u.failed && (nat_le MIN_LG_K lg_k && nat_lt lg_k u.lg_k)
 
--- a union with fewer nominal entries: it holds what it held, cut to those. With its own it is unchanged
+-- a union lowered to 2^`lg_k` nominal entries: its retained entries are cut to those. With its own `lg_k` it is unchanged
 abbrev pub lowered : {X P : Type 0} → (X → ℕ) → (lg_k : ℕ) → Union X P → Union X P
 lowered key lg_k u = if lg_k == u.lg_k then u else record u { held = cut key (2 ^ lg_k) u.held.entries u.held.theta; lg_k = lg_k }
 
--- a nonempty input joined: the union holds all of the joined map below some lawful theta, and no mark of a refusal
+-- a nonempty input was merged: the union retains all of the joined map below some lawful theta, and no mark of a refusal
 pub record IsJoined {X P : Type 0} (key : X → ℕ) (merges : X → X → X) (refuses : X → X → Bool) (old new : Union X P) (theta : ℕ) (entries : List X) : Type 0 where
   pub whole : (let m = min old.held.theta theta in IsWithin (fold_key key) (2 ^ old.lg_k) m (unmarked new.held) (joined (fold_key key) (fold_merges key merges refuses) (map Value (below key old.held.entries m)) (map Value (below key entries m))))
   pub made_with : new ≡ record old { empty = false; held = new.held }
@@ -88,7 +91,7 @@ abbrev pub UnitesShown : {X P : Type 0} → (key : X → ℕ) → (merges : X �
 UnitesShown key merges refuses old new s listing =
     s.empty ≡ false → unmarked_value (union_value key new) ≡ unite (fold_key key) (fold_merges key merges refuses) (2 ^ old.lg_k) old.start (unmarked_value (union_value key old) ∷ unmarked_value (shown_value key s listing) ∷ [])
 
--- a policy refuses what is held at some key with what comes in there
+-- a policy refuses the retained and the incoming entry of some key
 pub record IsMergeRefused {X : Type 0} (key : X → ℕ) (refuses : X → X → Bool) (held come : List X) : Type 0 where
   pub at : ℕ
   pub held_entry : X
@@ -101,7 +104,7 @@ pub record IsMergeRefused {X : Type 0} (key : X → ℕ) (refuses : X → X → 
 abbrev pub IsMergeRefusal : {X : Type 0} → (key : X → ℕ) → (refuses : X → X → Bool) → (held : List X) → (theta : ℕ) → (entries : List X) → ErrorKind → Type 0
 IsMergeRefusal key refuses held theta entries kind = (kind ≡ OutOfMemory) ⊎ ((kind ≡ Policy) × IsMergeRefused key refuses (below key held theta) entries)
 
--- a merge broke off: memory ran out, or the policy refused at a key below the least theta; the union has failed
+-- a merge broke off: memory ran out, or the policy refused the entries of a key below the least theta; the union has failed
 pub record IsBroken {X P : Type 0} (key : X → ℕ) (refuses : X → X → Bool) (old new : Union X P) (s : Shown) (entries : List X) (kind : ErrorKind) : Type 0 where
   pub nonempty : s.empty ≡ false
   pub why : (kind ≡ OutOfMemory) ⊎ ((kind ≡ Policy) × IsMergeRefused key refuses (below key old.held.entries (min old.held.theta s.theta)) entries)

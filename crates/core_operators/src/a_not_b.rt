@@ -1,4 +1,4 @@
-//! Differences: what of one sketch another lacks.
+//! Differences: the entries of one sketch whose hashes another lacks.
 ghost use Rattle.std.specs.Prelude.{◌≡◌, ◌+◌, ◌<◌, ◌≤◌, ◌==◌, ◌&&◌, ◌||◌, ◌++◌, if◌then◌else◌, true, false, None, is_none, nat_lt, length, map, take, IfOk, OnOk};
 ghost use Rattle.std.specs.Option.{ForSome};
 ghost use Rattle.core_compact.specs.CompactState.{IsCompactOf, shown_of, is_answer_ordered};
@@ -19,15 +19,15 @@ use core_table::SketchHashTable;
 use sketch_base::{Error, ErrorKind};
 use std::alloc::{AllocError, Allocator};
 
-/// The entries of `a` whose hashes `b` lacks, below the lesser theta, in memory of `alloc` or a clone of it.
+/// Returns the entries of `a` whose hashes `b` lacks, below the lesser theta, in memory of `alloc` or a clone of it.
 ///
-/// An empty `a` gives an empty state with its own seed hash, and then no seed is checked. An empty `b` gives the value of
-/// `a`, and its own seed is not checked. Where neither is empty, no entry is left and the lesser theta is `MAX_THETA`, the
-/// state is empty. It is ordered where that is asked or `a` is ordered, and where it is empty or has one entry at the
-/// greatest theta.
+/// If `a` is empty, the result is an empty state with the seed hash of `a`, and no seed is checked. If `b` is empty,
+/// the result has the value of `a`, and the seed of `b` is not checked. If neither is empty, no entry is left and the
+/// lesser theta is `MAX_THETA`, the result is empty. The result is ordered if `ordered` is true or `a` is ordered, if
+/// it is empty, or if it has one entry at the greatest theta.
 ///
-/// Refused with `InvalidArgument` where `a` isn't empty and it, or a `b` that isn't empty, has another seed hash than
-/// `seed_hash`; with `OutOfMemory` where memory is. The inputs stay as they are.
+/// Refused with `InvalidArgument` if `a` isn't empty and it, or a `b` that isn't empty, has another seed hash than
+/// `seed_hash`, and with `OutOfMemory`. The inputs don't change.
 pub fn compute<S: EntrySketch, T: KeySketch, A: Allocator + Clone>(
     alloc: A,
     seed_hash: u16,
@@ -44,8 +44,8 @@ where
     subtract::<S, T, ThetaEntry, A>(alloc, seed_hash, a, b, None, ordered)
 }
 
-/// The same difference of a `b` that lends its entries. It is faster than `compute` if both are compact and ordered: then
-/// it reads both side by side and builds no table.
+/// The same difference for a `b` whose entries can be read, not only its hashes. If both sketches are compact and
+/// ordered, it is faster than `compute`: it reads both side by side and builds no table.
 pub fn compute_with_entries<S: EntrySketch, T: EntrySketch, A: Allocator + Clone>(
     alloc: A,
     seed_hash: u16,
@@ -63,7 +63,7 @@ where
     subtract::<S, T, T::Entry, A>(alloc, seed_hash, a, b, others.as_slice(), ordered)
 }
 
-/// The difference of two sketches, of which the second may have its entries in a slice, in the order of its hashes.
+/// The difference of two sketches. `others` are the entries of `b` in the order of its hashes, if they are in a slice.
 fn subtract<S: EntrySketch, T: KeySketch, F: SketchEntry, A: Allocator + Clone>(
     alloc: A,
     seed_hash: u16,
@@ -97,7 +97,7 @@ where
     }
 }
 
-/// The difference of a sketch that isn't empty, of this seed hash and theta, and any other.
+/// The difference of `a`, which isn't empty and has this seed hash, theta and order, and any `b`.
 fn difference<S: EntrySketch, T: KeySketch, F: SketchEntry, A: Allocator + Clone>(
     alloc: A,
     seed_hash: u16,
@@ -145,14 +145,14 @@ where
     }
 }
 
-/// Whether `count` entries below `theta` are those of an empty sketch: none, and nothing was cut away.
+/// Whether `count` entries at `theta` make an empty sketch: there are none, and theta is the greatest.
 fn leaves_nothing(count: usize, theta: u64) -> bool
     ensures { result ≡ (count == 0 && theta == MAX_THETA) }
 {
     count == 0 && theta == MAX_THETA
 }
 
-/// Clones of the entries below a theta whose hashes another sketch, of `b_count` hashes, lacks, in their order.
+/// Clones of the entries of `a` below theta whose hashes `b` lacks, in the order of `a`. `b` has `b_count` hashes.
 fn kept_entries<S: EntrySketch, T: KeySketch, F: SketchEntry, A: Allocator + Clone>(
     alloc: A,
     a: S,
@@ -186,19 +186,19 @@ where
     lacking_by_search(alloc, a, &keys, theta, a_ordered)
 }
 
-/// How many entries are kept, at most, before they are cloned.
+/// How many entries `sift` keeps at most before they are cloned.
 const BLOCK: usize = 64;
 
-/// What a comparison of entries with others has kept, and what is left to compare.
+/// How many entries `sift` kept, and what is left to compare.
 #[derive(Drop)]
 struct Sifted<'a, 'b, E, F> {
-    /// How many were kept.
+    /// How many entries were kept.
     count: usize,
     entries: &'a [E],
     others: &'b [F],
 }
 
-/// 1 if so, otherwise 0.
+/// 1 if `so` is true, otherwise 0.
 #[inline(always)]
 fn number_if(so: bool) -> usize
     ensures value { result ≡ if so then 1 else 0 }
@@ -207,9 +207,9 @@ fn number_if(so: bool) -> usize
     so as usize
 }
 
-/// Writes the first entries below theta whose hashes others lack to the front of `kept`: of all that are left, or as many as
-/// there is room for. Entries and others ascend. Which of two hashes is less is as good as random, so it takes no branch on
-/// that.
+/// Writes the entries below theta whose hashes `others` lacks to the front of `kept`, in their order, until `kept` is
+/// full or one of the lists ends or theta is reached. Both lists ascend. Which of two hashes is less is as good as
+/// random, so there is no branch on it.
 #[inline(always)]
 fn sift<'a, 'b, E: SketchEntry, F: SketchEntry>(
     entries: &'a [E],
@@ -254,7 +254,7 @@ fn sift<'a, 'b, E: SketchEntry, F: SketchEntry>(
     }
 }
 
-/// Appends clones of lent entries.
+/// Appends clones of entries.
 fn push_lent<E: Clone + Drop, A: Allocator>(
     entries: &mut Vec<E, A>,
     lent: &[&E],
@@ -268,7 +268,7 @@ fn push_lent<E: Clone + Drop, A: Allocator>(
     Ok(())
 }
 
-/// Appends clones of those of some entries that ascend that are below theta.
+/// Appends clones of the entries below theta. The entries ascend.
 fn push_below<E: SketchEntry + Clone + Drop, A: Allocator>(
     kept: &mut Vec<E, A>,
     entries: &[E],
@@ -287,7 +287,7 @@ fn push_below<E: SketchEntry + Clone + Drop, A: Allocator>(
     Ok(())
 }
 
-/// One pass over entries and others that ascend.
+/// The difference of two ascending lists, below theta, in one pass over both.
 fn lacking_by_scan<E: SketchEntry + Clone + Drop, F: SketchEntry, A: Allocator>(
     alloc: A,
     entries: &[E],
@@ -317,7 +317,8 @@ fn lacking_by_scan<E: SketchEntry + Clone + Drop, F: SketchEntry, A: Allocator>(
     Ok(kept)
 }
 
-/// Each entry looked up in a table of hashes. Where the entries ascend, it stops at the first that is not below theta.
+/// The difference of a sketch and a table of hashes, below theta: looks up each entry. If the entries ascend, it stops
+/// at the first that is not below theta.
 fn lacking_by_search<S: EntrySketch, A: Allocator>(
     alloc: A,
     a: S,
@@ -354,12 +355,12 @@ fn is_kept<A: Allocator>(keys: &SketchHashTable<ThetaEntry, A>, hash: u64, theta
     hash < theta && keys.entry(hash).is_none()
 }
 
-/// The seed of tables in which hashes are only looked up, and its seed hash.
+/// The seed of tables for looking up hashes. `LOOK_UP_SEED_HASH` is its seed hash.
 const LOOK_UP_SEED: u64 = 9001;
 
 const LOOK_UP_SEED_HASH: u16 = 0x93cc;
 
-/// A table of the hashes of a sketch below a theta, of which there are `count` at most.
+/// A table of the hashes of a sketch below theta. The sketch has at most `count` hashes.
 fn keys_of<T: KeySketch, A: Allocator + Clone>(
     alloc: A,
     sketch: T,
@@ -377,8 +378,8 @@ fn keys_of<T: KeySketch, A: Allocator + Clone>(
     table_of(keys, theta, LOOK_UP_SEED, LOOK_UP_SEED_HASH)
 }
 
-/// The hashes of a sketch below a theta, in their order, with room for `room` from the start. Where they ascend, it stops at
-/// the first that is not below theta.
+/// The hashes of a sketch below theta, in their order. The vector has room for `room` hashes from the start. If the
+/// hashes ascend, it stops at the first that is not below theta.
 fn hashes_below<T: KeySketch, A: Allocator>(
     alloc: A,
     sketch: T,
@@ -405,7 +406,7 @@ fn hashes_below<T: KeySketch, A: Allocator>(
     Ok(keys)
 }
 
-/// The state of entries that ascend or not, sorted where that is asked and they aren't known to ascend.
+/// A state of these entries. They are sorted if `asked` is true and they aren't known to ascend.
 fn state_of<E: SketchEntry + Drop, A: Allocator>(
     entries: Vec<E, A>,
     theta: u64,
@@ -423,7 +424,7 @@ fn state_of<E: SketchEntry + Drop, A: Allocator>(
     CompactSketchState::non_empty(entries, theta, seed_hash, ordered)
 }
 
-/// Entries of different hashes, ascending.
+/// Sorts entries of distinct hashes by hash.
 fn sorted<E: SketchEntry + Drop, A: Allocator>(mut entries: Vec<E, A>) -> Vec<E, A>
     requires { IsApart E.key entries.items }
     ensures { result.items ≡ map_of E.key entries.items }

@@ -22,22 +22,22 @@ use sketch_base::{Error, ErrorKind, compute_seed_hash};
 use std::alloc::{Allocator, Global};
 use std::marker::Model;
 
-/// What the inputs of an intersection have come to.
+/// What the value of an intersection is.
 #[derive(Clone, Copy)]
 enum Outcome {
-    /// There was no input yet.
+    /// There was no input yet, so there is no value.
     Unbegun,
-    /// Empty, and so it stays.
+    /// The value is Empty, and stays so.
     Nothing,
-    /// What the table holds.
+    /// The value is the table's entries and theta.
     Held,
 }
 
-/// An intersection of sketches that are handed over one by one.
+/// An intersection of sketches, passed one by one.
 ///
 /// It has no value before its first input. Its value has the hashes that all inputs share, below their least theta; the
-/// entries of a hash are combined by the policy, in the order of the calls. It is Empty once an input is, or once inputs
-/// with hashes and at the greatest theta share none. A refused update leaves it as it was.
+/// policy combines the entries of a hash, in the order of the calls. The value is Empty once an input is, or once
+/// inputs that have hashes share none while theta is still the greatest. A refused update changes nothing.
 #[derive(Drop)]
 pub struct IntersectionState<E: SlotEntry, P, A: Allocator = Global> {
     outcome: Outcome,
@@ -56,7 +56,7 @@ impl<E: SlotEntry, P, A: Allocator> Model for IntersectionState<E, P, A> {
 }
 
 impl<E: SlotEntry + Drop, P: Drop, A: Allocator + Drop> IntersectionState<E, P, A> {
-    /// An intersection of sketches of this seed, which has seen none. It takes no memory.
+    /// A new intersection of sketches of this seed, without a value. It allocates nothing.
     ///
     /// Refused with `InvalidArgument` for a seed whose seed hash is 0.
     pub fn new(alloc: A, seed: u64, policy: P) -> Result<Self, Error>
@@ -74,14 +74,14 @@ impl<E: SlotEntry + Drop, P: Drop, A: Allocator + Drop> IntersectionState<E, P, 
 }
 
 impl<E: SlotEntry, P, A: Allocator> IntersectionState<E, P, A> {
-    /// Whether there was an input, and so there is a value.
+    /// Whether there was an input, so that there is a value.
     pub fn has_result(&self) -> bool
         ensures { result ≡ is_some self.now.result }
     {
         has_begun(self.outcome)
     }
 
-    /// How many bytes the slots of its table take, free ones too.
+    /// Bytes taken by the slots of its table, including free ones.
     pub fn estimated_size(&self) -> usize {
         self.table.estimated_size()
     }
@@ -92,13 +92,14 @@ impl<
     P: IntersectionMergePolicy<E> + Drop,
     A: Allocator + Clone,
 > IntersectionState<E, P, A> {
-    /// Intersects with a sketch. In this order: once Empty it accepts every sketch unchecked and stays Empty; an empty sketch
-    /// makes it Empty, and its seed is not checked; a sketch of another seed is refused; the first sketch is taken whole;
-    /// of each other one only the hashes that are held too stay, below the lesser theta, each entry combined by the policy
-    /// with the one that comes in. Where that leaves none, of some on either side and at the greatest theta, it is Empty.
+    /// Intersects with a sketch. The first rule that applies is used: once Empty, the intersection accepts every sketch
+    /// unchecked and stays Empty; an empty sketch makes it Empty, and its seed is not checked; a sketch of another seed
+    /// is refused; the first sketch is copied as it is; with any other sketch, it keeps only the hashes that both have
+    /// below the lesser theta, and the policy combines each retained entry with the incoming one. If both had hashes,
+    /// none is left and theta is the greatest, the value becomes Empty.
     ///
-    /// Refused with `InvalidArgument` for a sketch of another seed, with `OutOfMemory`, or with `Policy` where the policy
-    /// refuses at a shared hash below the lesser theta; then nothing has changed.
+    /// Refused with `InvalidArgument` for a sketch of another seed, with `OutOfMemory`, or with `Policy` if the policy
+    /// refuses the entries of a shared hash below the lesser theta; then nothing has changed.
     pub fn update<S: EntrySketch<Entry = E>>(&mut self, sketch: S) -> Result<(), Error>
         requires clones_equal { ClonesEqual E.is_clone }
         ensures met { OnOk result (IsMet E.key (P.merges self.old.policy) (P.refuses self.old.policy) self.old self.new (S.shown sketch) (S.listing sketch)) }
@@ -108,7 +109,7 @@ impl<
         ensures sound { IsIntersection self.old }
         ensures held { IsRetained E.key (held_of self.old.result) }
     {
-        // Asked for what its contract tells of the table: every entry that is held keeps the laws of a sketch value.
+        // Called for its contract: the table's entries keep the laws of a sketch value.
         let _ = self.table.retention_theta();
         if is_settled(self.outcome) {
             return Ok(());
@@ -141,8 +142,9 @@ impl<
         }
     }
 
-    /// Its value, or `None` before its first input. Ordered where that is asked, or it is Empty or has one entry at the
-    /// greatest theta. The intersection stays as it is. Refused with `OutOfMemory` alone, and only where there is a value.
+    /// Returns its value, or `None` before its first input. The result is ordered if `ordered` is true, if it is empty,
+    /// or if it has one entry at the greatest theta. The intersection doesn't change. Refused with `OutOfMemory` alone,
+    /// and only if there is a value.
     pub fn to_compact_sketch_state(
         &self,
         ordered: bool,
@@ -162,11 +164,11 @@ impl<
     }
 }
 
-/// Keeps of what a table holds the hashes that a sketch shares with it, below the lesser theta, and tells what that is.
-/// The sketch isn't empty, and shows this theta and order, and `count` hashes.
+/// Keeps only those entries of a table whose hashes a sketch has too, below the lesser theta, and returns the outcome.
+/// The sketch isn't empty, and has this theta and order, and `count` hashes.
 ///
-/// Refused with `OutOfMemory`, or with `Policy` where the policy refuses at a shared hash below the lesser theta; then the
-/// table is as it was.
+/// Refused with `OutOfMemory`, or with `Policy` if the policy refuses the entries of a shared hash below the lesser
+/// theta; then the table is unchanged.
 fn meet_held<S: EntrySketch, P: IntersectionMergePolicy<S::Entry>, A: Allocator + Clone>(
     table: &mut SketchHashTable<S::Entry, A>,
     sketch: S,
@@ -220,8 +222,8 @@ fn has_begun(outcome: Outcome) -> bool
     }
 }
 
-/// The outcome where `held` hashes were held, `come` came in, and `shared` of them are left below `theta`: Empty where none
-/// is left of some on either side though nothing was cut away.
+/// The outcome if the table had `held` hashes, the sketch `come`, and both share `shared` below `theta`: Empty if both
+/// had some, share none, and theta is the greatest.
 fn outcome_of(theta: u64, held: usize, come: usize, shared: usize) -> Outcome
     ensures { result ≡ if is_nothing_left theta held come shared then Nothing else Held }
 {

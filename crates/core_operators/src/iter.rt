@@ -1,4 +1,4 @@
-//! Iterators over the entries that views lend. Contracts see of each what it has left.
+//! Iterators over the entries of views. Contracts see the items that an iterator has left.
 ghost use Rattle.std.specs.Prelude.{◌≡◌, ◌↔◌, Some, true, false, length, map, IsSome, IfSome};
 ghost use Rattle.core_laws.specs.Maps.{IsLent};
 ghost use Rattle.core_table.specs.Gathering.{from_below};
@@ -16,7 +16,7 @@ enum Source<'a, E: SlotEntry> {
     Slice(&'a [E]),
 }
 
-/// The entries of a table or of a slice, lent one by one: a table's in an open order, a slice's in its own.
+/// Iterates over the entries of a table, in an unspecified order, or of a slice, in its order.
 #[derive(Drop)]
 pub struct EntryIter<'a, E: SlotEntry> {
     source: Source<'a, E>,
@@ -44,7 +44,7 @@ impl<'a, E: SlotEntry> EntryIter<'a, E> {
 }
 
 impl<'a, E: SlotEntry> EntryIter<'a, E> {
-    /// The entries of a table, each once, in an open order.
+    /// The entries of a table, each once, in an unspecified order.
     pub fn of_table<A: Allocator>(table: &'a SketchHashTable<E, A>) -> Self
         ensures lent { result ≡ record { rest = table.entry.now.lends; counted = false } }
         ensures each_once { IsLent E.key table.entry.now.map.kept.entries table.entry.now.lends }
@@ -55,7 +55,7 @@ impl<'a, E: SlotEntry> EntryIter<'a, E> {
     }
 }
 
-/// The entries from the first on that is below a theta.
+/// The rest of the entries from the first that is below theta.
 #[inline(always)]
 fn entries_from_below<'a, E: SlotEntry>(entries: &'a [E], theta: u64) -> &'a [E]
     ensures { result.now ≡ from_below E.key theta entries.entry.now }
@@ -71,7 +71,7 @@ fn entries_from_below<'a, E: SlotEntry>(entries: &'a [E], theta: u64) -> &'a [E]
 }
 
 impl<'a, E: SlotEntry> EntryIter<'a, E> {
-    /// The entries that are left, where these stand in a slice.
+    /// The entries that are left, if they are in a slice.
     #[inline(always)]
     pub fn as_slice(&self) -> Option<&'a [E]>
         ensures left { IfSome result (λ s. s.now ≡ self.now.rest) }
@@ -85,7 +85,7 @@ impl<'a, E: SlotEntry> EntryIter<'a, E> {
 }
 
 impl<'a, E: SlotEntry> EntryIter<'a, E> {
-    /// Passes over the entries in front whose hashes are not below theta.
+    /// Skips the entries in front whose hashes are not below theta.
     #[inline(always)]
     pub fn pass_to_below(&mut self, theta: u64)
         ensures { self.new ≡ record { rest = from_below E.key theta self.old.rest; counted = self.old.counted } }
@@ -115,7 +115,7 @@ impl<'a, E: SlotEntry> Iterator for EntryIter<'a, E> {
         }
     }
 
-    /// Exact over a slice; else at least none, and at most a number that is no less than the entries left.
+    /// Exact over a slice. Over a table the lower bound is 0, and the upper bound is at least the entries left.
     fn size_hint(&self) -> (usize, Option<usize>)
         ensures lower { IsWithinCount result.0 (item_count (λ s. s.rest) self.now) }
         ensures upper { IfSome result.1 (UpTo (item_count (λ s. s.rest) self.now)) }
@@ -166,7 +166,7 @@ impl<'a, E: SlotEntry> Iterator for HashIter<'a, E> {
         Some(entry.hash())
     }
 
-    /// That of the entries.
+    /// The same as that of the entries.
     fn size_hint(&self) -> (usize, Option<usize>)
         ensures lower { IsWithinCount result.0 (item_count (λ s. s.rest) self.now) }
         ensures upper { IfSome result.1 (UpTo (item_count (λ s. s.rest) self.now)) }

@@ -1,7 +1,7 @@
-//! Union, intersection and difference of sketches, over every entry type, policy and view that keeps the laws.
+//! Union, intersection and difference of sketches, generic over every entry type, policy and view that keeps the laws.
 //!
-//! An operator takes sketches as views, by what they show, and combines the entries of a shared hash by a policy. Its
-//! contract is an equation between the values of its inputs and its own.
+//! An operator takes views of sketches, and combines the entries of a shared hash by a policy. Its contract is an
+//! equation between the values of its inputs and its own value.
 #![tactic(auto)]
 
 pub mod a_not_b;

@@ -16,7 +16,8 @@ use core_table::SketchHashTable;
 use sketch_base::Error;
 use std::alloc::{AllocError, Allocator};
 
-/// The step that merges an entry that comes in: combined with the one that is there, or cloned.
+/// The step that merges an incoming entry: it combines it with the retained entry of its hash, or clones it if there is
+/// none.
 pub(crate) struct MergeStep<'a, E: SketchEntry + Clone, P> {
     policy: &'a P,
     incoming: &'a E,
@@ -50,7 +51,7 @@ pub(crate) fn is_past(ordered: bool, hash: u64, theta: u64) -> bool
     ordered && hash >= theta
 }
 
-/// The next entry to be merged; of entries in no known order the next below a theta.
+/// The next entry to merge. If the order isn't known, entries that are not below theta are skipped.
 #[inline(always)]
 fn next_entry<'a, E: SlotEntry>(
     entries: &mut EntryIter<'a, E>,
@@ -65,8 +66,8 @@ fn next_entry<'a, E: SlotEntry>(
     entries.next()
 }
 
-/// Whether a hash is not below one of two thetas. Each is compared by itself: the second is the table's, which an insertion asks
-/// then, and so is known.
+/// Whether a hash is not below one of two thetas. Each is compared by itself: the second is the table's, which an
+/// insertion compares next, so that its result is known.
 #[inline(always)]
 fn is_past_either(hash: u64, theta: u64, own_theta: u64) -> bool
     ensures { IsTrue result ↔ (min theta own_theta ≤ hash) }
@@ -74,9 +75,9 @@ fn is_past_either(hash: u64, theta: u64, own_theta: u64) -> bool
     hash >= theta || hash >= own_theta
 }
 
-/// Merges entries that ascend into the table of a union, in their order. It stops at the first that is not below a theta or
-/// that the table screens; no policy sees those. Each entry takes few instructions here: a loop that also goes over slots, or
-/// asks for the order, takes twice as many.
+/// Merges ascending entries into the table of a union, in their order. It stops at the first that is not below theta or
+/// that the table screens; the policy never sees those. Each entry takes few instructions here: a loop that also walks
+/// over slots, or tests the order, takes twice as many.
 #[inline(never)]
 fn merge_ascending<E: SlotEntry + Clone, P: UnionMergePolicy<E>, A: Allocator + Clone>(
     table: &mut SketchHashTable<E, A>,
@@ -105,8 +106,8 @@ fn merge_ascending<E: SlotEntry + Clone, P: UnionMergePolicy<E>, A: Allocator + 
     Ok(())
 }
 
-/// Merges the entries that a sketch lends below a theta into the table of a union, in their order; no policy sees the others.
-/// Where they ascend it stops at the first that is not below that theta or that the table screens.
+/// Merges the entries of a sketch below theta into the table of a union, one by one, in their order; the policy never
+/// sees the others. If they ascend, it stops at the first that is not below theta or that the table screens.
 fn merge_lent<S: EntrySketch, P: UnionMergePolicy<S::Entry>, A: Allocator + Clone>(
     table: &mut SketchHashTable<S::Entry, A>,
     sketch: S,
@@ -144,8 +145,8 @@ where
     Ok(())
 }
 
-/// Merges the entries of a sketch below a theta into the table of a union, in their order; no policy sees the others. Where they
-/// ascend it stops at the first that is not below that theta or that the table screens.
+/// Merges the entries of a sketch below theta into the table of a union, in their order; the policy never sees the
+/// others. If they ascend, it stops at the first that is not below theta or that the table screens.
 pub(crate) fn merge_entries<S: EntrySketch, P: UnionMergePolicy<S::Entry>, A: Allocator + Clone>(
     table: &mut SketchHashTable<S::Entry, A>,
     sketch: S,

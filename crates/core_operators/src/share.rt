@@ -1,4 +1,4 @@
-//! What a table and a sketch share, and tables of it.
+//! The entries that a table and a sketch share, and tables built of entries.
 ghost use Rattle.std.specs.Prelude.{◌≡◌, ◌==◌, ◌<◌, ◌≤◌, ◌^◌, ◌⊎◌, [], ◌∷◌, ◌++◌, Some, None, true, if◌then◌else◌, map, min, length, IfOk, IfErr, OnOk};
 ghost use Rattle.std.specs.List.{AllByRecursion};
 ghost use Rattle.std.specs.Option.{option_map_or};
@@ -19,7 +19,7 @@ use core_table::SketchHashTable;
 use sketch_base::Error;
 use std::alloc::{AllocError, Allocator};
 
-/// The binary logarithm of the slots of a table for `count` entries, and 0, for no slots, where `count` is 0.
+/// The binary logarithm of the number of slots of a table for `count` entries; 0, for no slots, if `count` is 0.
 fn lg_slots_for(count: usize) -> u8
     ensures { result ≡ if count == 0 then 0 else lg_size_for count }
 {
@@ -29,7 +29,7 @@ fn lg_slots_for(count: usize) -> u8
     SketchHashTable::<ThetaEntry>::lg_size_from_count_for_rebuild(count)
 }
 
-/// A table of entries of distinct hashes, with just the slots that these need. Refused with `OutOfMemory` alone.
+/// A table of entries of distinct hashes, with only the slots that they need. Refused with `OutOfMemory` alone.
 pub(crate) fn table_of<E: SlotEntry + Drop, A: Allocator + Clone>(
     entries: Vec<E, A>,
     theta: u64,
@@ -61,7 +61,7 @@ pub(crate) fn table_of<E: SlotEntry + Drop, A: Allocator + Clone>(
     Ok(table)
 }
 
-/// The entries of a sketch, in its order. Refused with `OutOfMemory` alone.
+/// Clones of the entries of a sketch, in its order. Refused with `OutOfMemory` alone.
 pub(crate) fn cloned_entries<S: EntrySketch, A: Allocator>(
     alloc: A,
     sketch: S,
@@ -80,7 +80,7 @@ where
     Ok(entries)
 }
 
-/// A table like another, of all entries of a sketch, below its theta. Refused with `OutOfMemory` alone.
+/// A table of all entries of a sketch, with its theta, and with the seed of `like`. Refused with `OutOfMemory` alone.
 pub(crate) fn copied_table<S: EntrySketch, A: Allocator + Clone>(
     like: &SketchHashTable<S::Entry, A>,
     sketch: S,
@@ -102,7 +102,8 @@ where
     table_of(entries, theta, like.seed(), like.seed_hash())
 }
 
-/// What a policy makes of an entry that comes in and the one that a table has of its hash, if that is below theta.
+/// Combines the table's entry of the incoming entry's hash with the incoming entry by the policy; `None` if the table
+/// has none or the hash is not below theta.
 fn shared_entry<E: SlotEntry + Clone, P: IntersectionMergePolicy<E>, A: Allocator>(
     held: &SketchHashTable<E, A>,
     incoming: &E,
@@ -143,8 +144,8 @@ fn push_found<E: Drop, A: Allocator>(
     }
 }
 
-/// The entries of a sketch whose hashes a table has too, below theta, combined by the policy, in the sketch's order. Where
-/// that ascends it stops at the first that is not below theta.
+/// The entries that a table and a sketch share below theta, combined by the policy, in the sketch's order. If the
+/// sketch's hashes ascend, it stops at the first that is not below theta.
 fn shared_entries<S: EntrySketch, P: IntersectionMergePolicy<S::Entry>, A: Allocator + Clone>(
     held: &SketchHashTable<S::Entry, A>,
     sketch: S,
@@ -174,8 +175,8 @@ where
     Ok(entries)
 }
 
-/// A table of what a table and a sketch of some theta share, below the lesser theta. The policy combines each entry of the
-/// table with that of the sketch. Refused with `OutOfMemory`, or as the policy refuses.
+/// A table of the entries that a table and a sketch of this theta share below the lesser theta. The policy combines
+/// each entry of the table with that of the sketch. Refused with `OutOfMemory`, or with `Policy` if the policy refuses.
 pub(crate) fn shared_table<
     S: EntrySketch,
     P: IntersectionMergePolicy<S::Entry>,

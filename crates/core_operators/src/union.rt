@@ -20,13 +20,13 @@ use sketch_base::{Error, ErrorKind};
 use std::alloc::{Allocator, Global};
 use std::marker::Model;
 
-/// A union of sketches that are handed over one by one.
+/// A union of sketches, passed one by one.
 ///
 /// Its value is the joined map of its inputs below their least theta and its own starting theta, cut to its nominal
-/// entries k; a key that inputs share is combined by the policy, in the order of the calls. Where a merge breaks off,
-/// the union has failed, and every update and answer is refused with `Failed` until it is reset.
+/// entries k; the policy combines the entries of a key that inputs share, in the order of the calls. If a merge breaks
+/// off, the union has failed: until it is reset, each of its calls that may fail is refused with `Failed`.
 ///
-/// Its theta is at most its table's. What the table retains from that theta on is no part of the union any more.
+/// Its theta is at most its table's. Entries of the table at or above the union's theta no longer belong to the union.
 #[derive(Drop)]
 pub struct UnionState<E: SlotEntry, P, A: Allocator = Global> {
     empty: bool,
@@ -48,10 +48,9 @@ impl<E: SlotEntry, P, A: Allocator> Model for UnionState<E, P, A> {
 }
 
 impl<E: SlotEntry + Drop, P: Drop, A: Allocator + Drop> UnionState<E, P, A> {
-    /// A union of 2^`lg_k` nominal entries, with `lg_k` from 4 to 26, and a starting theta from 1 to `MAX_THETA`.
+    /// An empty union of 2^`lg_k` nominal entries, with `lg_k` from 4 to 26, and a starting theta from 1 to `MAX_THETA`.
     ///
-    /// Refused with `InvalidArgument` outside these ranges, and for a seed whose seed hash is 0; with `OutOfMemory` where
-    /// memory is.
+    /// Refused with `InvalidArgument` outside these ranges and for a seed whose seed hash is 0, and with `OutOfMemory`.
     pub fn new(
         alloc: A,
         lg_k: u8,
@@ -73,7 +72,7 @@ impl<E: SlotEntry + Drop, P: Drop, A: Allocator + Drop> UnionState<E, P, A> {
         })
     }
 
-    /// Makes it empty again, and ends a failure. It takes no memory.
+    /// Makes it empty again, and ends a failure. It allocates nothing.
     pub fn reset(&mut self)
         ensures { self.new ≡ empty_union self.old.lg_k self.old.start self.old.seed_hash self.old.policy }
     {
@@ -89,11 +88,11 @@ impl<E: SlotEntry + Clone, P: UnionMergePolicy<E> + Drop, A: Allocator + Clone> 
     P,
     A,
 > {
-    /// Joins a sketch. An empty one changes nothing, and its seed is not checked.
+    /// Merges a sketch into the union. An empty sketch changes nothing, and its seed is not checked.
     ///
-    /// Refused with `Failed` where the union has failed, whatever the input, and with `InvalidArgument` for a sketch of
-    /// another seed; then nothing has changed. Refused with `OutOfMemory`, or with `Policy` where the policy refuses at a
-    /// key below every theta so far; then the union has failed.
+    /// Refused with `Failed` if the union has failed, whatever the input, and with `InvalidArgument` for a sketch of
+    /// another seed; then nothing has changed. Refused with `OutOfMemory`, or with `Policy` if the policy refuses the
+    /// entries of a key below every theta so far; then the union has failed.
     pub fn update<S: EntrySketch<Entry = E>>(&mut self, sketch: S) -> Result<(), Error>
         requires clones_equal { ClonesEqual E.is_clone }
         ensures skipped { OnOk result ((S.shown sketch).empty ≡ true → self.new ≡ self.old) }
@@ -104,7 +103,7 @@ impl<E: SlotEntry + Clone, P: UnionMergePolicy<E> + Drop, A: Allocator + Clone> 
         ensures sound { IsUnion self.old }
         ensures held { IsRetained E.key self.old.held }
     {
-        // Asked for what its contract tells of the table: every entry that is held keeps the laws of a sketch value.
+        // Called for its contract: the table's entries keep the laws of a sketch value.
         let _ = self.table.retention_theta();
         if self.failed {
             return Err(Error::new(ErrorKind::Failed));
@@ -133,12 +132,12 @@ impl<E: SlotEntry + Clone, P: UnionMergePolicy<E> + Drop, A: Allocator + Clone> 
         }
     }
 
-    /// Lowers the nominal entries to 2^`lg_k`, at least 2^4 and no more than now. The union's value is cut to those, later updates
-    /// and answers keep no more, and so do those after a `reset`. An empty union stays empty. Its own `lg_k` changes nothing and
-    /// takes no memory.
+    /// Lowers the nominal entries to 2^`lg_k`, at least 2^4 and no more than now. The union's value is cut to those,
+    /// and later values have no more, also after a `reset`. An empty union stays empty. With its own `lg_k` nothing
+    /// changes, and nothing is allocated.
     ///
     /// Refused, in this order, with `Failed` if the union has failed, with `InvalidArgument` if `lg_k` isn't from 4 to its own,
-    /// and with `OutOfMemory`; the union is unchanged: a new table is made aside.
+    /// and with `OutOfMemory`; then the union is unchanged, because the new table is built beside the old one.
     pub fn lower_lg_k(&mut self, lg_k: u8) -> Result<(), Error>
         requires clones_equal { ClonesEqual E.is_clone }
         ensures after { OnOk result (self.new ≡ lowered E.key lg_k self.old) }
@@ -166,13 +165,13 @@ impl<E: SlotEntry + Clone, P: UnionMergePolicy<E> + Drop, A: Allocator + Clone> 
         Ok(())
     }
 
-    /// How many bytes the slots of its table take, free ones too.
+    /// Bytes taken by the slots of its table, including free ones.
     pub fn estimated_size(&self) -> usize {
         self.table.estimated_size()
     }
 
-    /// Its value, ordered where that is asked, or it is empty or has one entry at the greatest theta. The union stays as it
-    /// is. Refused with `Failed` where the union has failed, and with `OutOfMemory`.
+    /// Returns its value. The result is ordered if `ordered` is true, if it is empty, or if it has one entry at the
+    /// greatest theta. The union doesn't change. Refused with `Failed` if the union has failed, and with `OutOfMemory`.
     pub fn to_compact_sketch_state(&self, ordered: bool) -> Result<CompactSketchState<E, A>, Error>
         requires clones_equal { ClonesEqual E.is_clone }
         ensures ok { IfOk result (IsAnswer E.key (union_value E.key self.now) self.now.seed_hash ordered) }
@@ -185,7 +184,7 @@ impl<E: SlotEntry + Clone, P: UnionMergePolicy<E> + Drop, A: Allocator + Clone> 
             let alloc = self.table.allocator().clone()?;
             return Ok(CompactSketchState::empty(alloc, self.table.seed_hash()));
         }
-        // Asked for what its contract tells of the table: its entries ascend.
+        // Called for its contract: the table's entries ascend, in the model.
         let _ = self.table.retention_theta();
         self.table.to_cut_state(self.theta, ordered)
     }

@@ -1,4 +1,4 @@
-//! Sketches as operators take them: by what they show.
+//! Traits of the views that operators take.
 ghost use Rattle.std.specs.Prelude.{◌≡◌, ℕ, List, map, Option};
 ghost use Rattle.std.specs.Iterator.{YieldsFirst, IsFinite};
 ghost use Rattle.core_operators.specs.View.{metadata_of};
@@ -7,7 +7,7 @@ ghost use Rattle.core_laws.specs.Shown.{Shown, IsShown};
 use crate::iter::EntryIter;
 use core_slots::SlotEntry;
 
-/// What a sketch tells of itself.
+/// The metadata of a sketch.
 #[derive(Debug, Clone, Copy)]
 pub enum ThetaFamilySketchMetadata {
     /// No update was accepted.
@@ -28,44 +28,45 @@ pub enum ThetaFamilySketchMetadata {
     },
 }
 
-/// A sketch that shows its hashes: distinct, from 1 to below theta, as many as it tells, ascending where it is ordered, and none where it is empty.
+/// A sketch whose hashes can be read. They are distinct, from 1 to below theta, as many as `num_retained`, ascending if
+/// the sketch is ordered, and none if it is empty.
 pub trait KeySketch: Copy {
     type Hashes: Iterator<Item = u64>;
 
-    /// What it shows.
+    /// Its metadata and hashes, as contracts see them.
     ghost shown: { Self → Shown };
 
     /// The hashes that an iterator has left.
     ghost rest: { Self.Hashes → List ℕ };
 
-    /// What it tells of itself.
+    /// Its metadata.
     fn metadata(self) -> ThetaFamilySketchMetadata
         ensures told { result ≡ metadata_of (shown self) }
         ensures is_sound { IsShown (shown self) };
 
-    /// Its hashes, each once.
+    /// An iterator over its hashes, each once.
     fn hashes(self) -> Self::Hashes
         ensures all { rest result ≡ (shown self).hashes }
         ensures sound { IsShown (shown self) };
 
-    /// An iterator gives what it has left, in order.
+    /// An iterator yields the hashes that it has left, in their order.
     ghost yields: { (s : Self.Hashes) (r : Option ℕ) (t : Self.Hashes) → Self.Hashes.next_gives s r t → YieldsFirst rest s r t };
 
-    /// It may always be called.
+    /// `next` may always be called.
     ghost may_go_on: { (s : Self.Hashes) → Self.Hashes.can_next s };
 
-    /// It ends.
+    /// An iterator is finite.
     ghost ends: { (s : Self.Hashes) → IsFinite (Self.Hashes.remaining s) };
 }
 
-/// A sketch that lends its entries, which have its hashes in the same order.
+/// A sketch whose entries can be read, in the order of its hashes.
 pub trait EntrySketch: KeySketch {
     type Entry: SlotEntry;
 
     /// Its entries, in the order of its hashes.
     ghost listing: { Self → List Self.Entry };
 
-    /// Its entries, each once.
+    /// An iterator over its entries, each once.
     fn entries(&self) -> EntryIter<'_, Self::Entry>
         ensures all { result.rest ≡ listing self.now }
         ensures hashes { map Self.Entry.key (listing self.now) ≡ (Self.shown self.now).hashes }

@@ -1,4 +1,4 @@
--- What a sketch that takes updates shows, and what a trim keeps of it.
+-- The view of a sketch that takes updates, and its invariant after a call.
 use Rattle.std.proofs.Common.{◌≡◌, ℕ, ◌≤◌, ◌^◌, true, false, cond, List, [], length, map, refl, sym, ap, ◌∙◌, arith}
 use Rattle.std.proofs.Math.Pow.{pow_mono}
 use Rattle.std.proofs.lemmas.List.Sorted.{length_permutation}
@@ -15,7 +15,7 @@ use Rattle.core_compact.proofs.LawsOfShown.{IsShown-none, shown-lent}
 use Rattle.core_laws.proofs.maps.MapsOfLists.{nothing}
 
 module _ {X : Type 0} (key : X → ℕ) where
-  -- a sketch shows what meets the laws
+  -- what a sketch shows meets the laws
   pub shown-sketch : (s : Updatable X) → IsUpdatable s → IsTable key s.map → IsLent key s.map.kept.entries s.lends → IsShown (sketch_shows key s)
   shown-sketch s sound table lent =
       (elim s.empty as (λ b. s.empty ≡ b → IsShown (record { empty = b; theta = theta_of (cond b Empty (NonEmpty s.map.kept)); seed_hash = s.map.seed_hash; ordered = false; hashes = map key s.lends })) [
@@ -34,7 +34,7 @@ module _ {X : Type 0} (key : X → ℕ) where
   count-sketch s sound =
       (elim s.empty as (λ b. s.empty ≡ b → length s.map.kept.entries ≡ count_of (cond b Empty (NonEmpty s.map.kept))) [ true ↦ λ e. ap (λ v. length v.entries) (sound.none_yet e) | false ↦ λ e. refl ]) refl
 
-  -- a trim leaves a sketch one
+  -- a trim keeps the invariant
   pub updatable-trimmed : (s : Updatable X) (m : MapTable X) (lends : List X) → IsUpdatable s → m ≡ record s.map { kept = cut key (2 ^ s.map.lg_nom) s.map.kept.entries s.map.kept.theta } → IsUpdatable (record { empty = s.empty; map = m; lends = lends })
   updatable-trimmed s m lends sound after = record {
     lg_k_low = rw (ap (λ t. t.lg_nom) after) sound.lg_k_low;
@@ -46,7 +46,7 @@ module _ {X : Type 0} (key : X → ℕ) where
         ∙ sym (ap (λ t. none_below t.start) after);
   }
 
-  -- and so does a call that leaves its map as it was
+  -- and so does a call that doesn't change the map
   pub updatable-same : (s : Updatable X) (m : MapTable X) (lends : List X) → IsUpdatable s → m ≡ s.map → IsUpdatable (record { empty = s.empty; map = m; lends = lends })
   updatable-same s m lends sound same = record {
     lg_k_low = rw same sound.lg_k_low;
@@ -54,7 +54,7 @@ module _ {X : Type 0} (key : X → ℕ) where
     none_yet = λ e. ap (λ t. t.kept) same ∙ sound.none_yet e ∙ sym (ap (λ t. none_below t.start) same);
   }
 
-  -- the value that a sketch shows is its own
+  -- the value that a sketch shows is its value
   pub shown-sketch_value : (s : Updatable X) → IsLent key s.map.kept.entries s.lends → shown_value key (sketch_shows key s) s.lends ≡ sketch_value s
   shown-sketch_value s lent =
       elim s.empty as (λ b. cond b Empty (NonEmpty (record { entries = map_of key s.lends; theta = theta_of (cond b Empty (NonEmpty s.map.kept)) })) ≡ cond b Empty (NonEmpty s.map.kept)) [

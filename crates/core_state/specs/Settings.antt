@@ -1,4 +1,4 @@
--- What a sketch or a union is built with.
+-- The settings of a sketch or a union.
 use Rattle.std.specs.Prelude.{ℕ}
 use Rattle.sketch_base.specs.declared.seed.TheConstants.{DEFAULT_UPDATE_SEED}
 use Rattle.core_laws.specs.declared.TheConstants.{MAX_THETA, DEFAULT_LG_K}
@@ -12,6 +12,6 @@ pub record Settings : Type 0 where
   pub starting_theta : ℕ
   pub seed : ℕ
 
--- those of a new builder
+-- the settings of a new builder
 abbrev pub default_settings : Settings
 default_settings = record { lg_k = DEFAULT_LG_K; resize_factor = X8; starting_theta = MAX_THETA; seed = DEFAULT_UPDATE_SEED }

@@ -7,13 +7,14 @@ use Rattle.core_table.specs.HashTable.{MapTable, after_hashes, hash_allocates}
 use Rattle.core_laws.specs.Cuts.{none_below}
 use Rattle.core_laws.specs.Shown.{Shown}
 
--- a sketch: whether no update was accepted yet, what its table holds, and the open order in which it lends its entries
+-- a sketch: whether it is empty, as no update was accepted yet, its table, and its entries in the unspecified order of
+-- its iterator
 pub record Updatable (X : Type 0) : Type 0 where
   pub empty : Bool
   pub map : MapTable X
   pub lends : List X
 
--- what holds of every sketch: its nominal entries are those of a sketch, and an empty one has none and its starting theta
+-- the invariant of a sketch: its nominal entries are in range, and if it is empty, it has no entries and its starting theta
 pub record IsUpdatable {X : Type 0} (s : Updatable X) : Type 0 where
   pub lg_k_low : MIN_LG_K ≤ s.map.lg_nom
   pub lg_k_high : s.map.lg_nom ≤ MAX_LG_K
@@ -23,7 +24,7 @@ pub record IsUpdatable {X : Type 0} (s : Updatable X) : Type 0 where
 abbrev pub sketch_value : {X : Type 0} → Updatable X → Sketch X
 sketch_value s = if s.empty then Empty else NonEmpty s.map.kept
 
--- what a sketch shows, never as ordered
+-- what a sketch shows; it is never ordered
 abbrev pub sketch_shows : {X : Type 0} → (X → ℕ) → Updatable X → Shown
 sketch_shows key s = record { empty = s.empty; theta = theta_of (sketch_value s); seed_hash = s.map.seed_hash; ordered = false; hashes = map key s.lends }
 

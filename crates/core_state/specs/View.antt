@@ -13,12 +13,12 @@ abbrev pub viewed_shows : {X Z S : Type 0} → (X → ℕ) → Viewed X Z S → 
 viewed_shows key (Mutable sketch) = sketch_shows key sketch.now
 viewed_shows key (Compact sketch) = shown_of key sketch.now
 
--- what an iterator over its entries has at first: whether it knows how many these are tells a compact sketch
+-- what an iterator over its entries has at first; it knows how many only over a compact sketch
 abbrev pub viewed_lending : {X Z S : Type 0} → Viewed X Z S → Lending X
 viewed_lending (Mutable sketch) = record { rest = sketch.now.lends; counted = false }
 viewed_lending (Compact sketch) = record { rest = sketch.now.entries; counted = true }
 
--- the same of a view
+-- the same for a view
 abbrev pub shows : {X Z S : Type 0} → (X → ℕ) → SketchView X Z S → Shown
 shows key view = viewed_shows key view.sketch
 

@@ -1,4 +1,4 @@
-//! What sketches estimate, as a fraction and as a decimal number.
+//! Estimates, as fractions and as decimal numbers.
 ghost use Rattle.std.specs.Prelude.{◌≡◌, ◌<◌, ◌≤◌, ◌*◌, ◌^◌, if◌then◌else◌};
 ghost use Rattle.core_laws.specs.declared.TheConstants.{MAX_THETA};
 ghost use Rattle.core_state.specs.Fraction.{compact_fraction, decimal_of};
@@ -9,8 +9,8 @@ use core_laws::{MAX_THETA, SketchEntry};
 use std::alloc::Allocator;
 use std::fmt;
 
-/// The fraction of so many entries at a theta: the entries times `MAX_THETA`, over theta, not reduced; 0 over 1 for an empty
-/// sketch.
+/// The estimate of `count` entries at a theta: `count` times `MAX_THETA`, over theta, not reduced; 0 over 1 for an
+/// empty sketch.
 pub(crate) fn fraction(empty: bool, count: usize, theta: u64) -> (u128, u128)
     ensures { result ≡ (if empty then (0, 1) else (count * MAX_THETA, theta)) }
 {
@@ -20,8 +20,8 @@ pub(crate) fn fraction(empty: bool, count: usize, theta: u64) -> (u128, u128)
     (count as u128 * MAX_THETA as u128, theta as u128)
 }
 
-/// The fraction whose quotient estimates how many distinct values a compact sketch has seen: its entries times `MAX_THETA`,
-/// over theta, not reduced; 0 over 1 for an empty one.
+/// The estimated number of distinct values that a compact sketch has seen, as a fraction: its retained entries times
+/// `MAX_THETA`, over theta, not reduced; 0 over 1 for an empty sketch.
 pub fn compact_fraction<E: SketchEntry, A: Allocator>(
     state: &CompactSketchState<E, A>,
 ) -> (u128, u128)
@@ -34,10 +34,10 @@ pub fn compact_fraction<E: SketchEntry, A: Allocator>(
     )
 }
 
-/// The most decimals that a `Decimal` may have.
+/// The greatest number of decimals of a `Decimal`.
 pub const MAX_PLACES: u32 = 19;
 
-/// A number of so many decimals, from 0 to 19, not below 0: the whole part and the decimals after it as one number.
+/// A decimal number of at least 0, with 0 to 19 decimals: its whole part, and its decimals as one number.
 #[derive(Debug, Clone, Copy, PartialEq, Eq)]
 pub struct Decimal {
     whole: u128,
@@ -60,7 +60,7 @@ impl Decimal {
         self.decimals
     }
 
-    /// How many decimals it has.
+    /// How many decimals it has, from 0 to 19.
     pub fn places(&self) -> u32
         ensures { result ≡ self.now.places }
     {
@@ -68,7 +68,7 @@ impl Decimal {
     }
 }
 
-/// Its whole part, and behind a point just so many decimals; no point where there are none.
+/// Prints the whole part, a point and all `places` decimals; no point if `places` is 0.
 impl fmt::Display for Decimal {
     fn fmt<W: fmt::Write>(&self, f: &mut fmt::Formatter<W>) -> fmt::Result {
         let Decimal {
@@ -85,7 +85,8 @@ impl fmt::Display for Decimal {
     }
 }
 
-/// A fraction as a decimal number of so many decimals, rounded down. The divisor is a theta, from 1 to `MAX_THETA`.
+/// The quotient of a fraction as a decimal number with `places` decimals, from 0 to 19, rounded down. The divisor is a
+/// theta, from 1 to `MAX_THETA`.
 pub fn estimate_decimal(fraction: (u128, u128), places: u32) -> Decimal
     requires low { 0 < fraction.1 }
     requires high { fraction.1 ≤ MAX_THETA }
@@ -101,7 +102,8 @@ pub fn estimate_decimal(fraction: (u128, u128), places: u32) -> Decimal
     }
 }
 
-/// The estimate of a compact sketch as a decimal number of at most 19 decimals, rounded down; 0 for an empty one.
+/// The estimate of a compact sketch as a decimal number with `places` decimals, from 0 to 19, rounded down; 0 for an
+/// empty sketch.
 pub fn compact_decimal<E: SketchEntry, A: Allocator>(
     state: &CompactSketchState<E, A>,
     places: u32,

@@ -7,7 +7,8 @@ use core_operators::EntryIter;
 use core_slots::ThetaEntry;
 use std::marker::Model;
 
-/// The entries of a theta sketch, each once: a mutable sketch's in an open order, a compact one's in its own.
+/// Iterates over the entries of a theta sketch, each once: those of a mutable sketch in an unspecified order, those of
+/// a compact sketch in its order.
 #[derive(Drop)]
 pub struct ThetaSketchIter<'a> {
     entries: EntryIter<'a, ThetaEntry>,
@@ -23,7 +24,7 @@ impl<'a> Model for ThetaSketchIter<'a> {
 }
 
 impl<'a> ThetaSketchIter<'a> {
-    /// Over these entries.
+    /// Iterates over these entries.
     pub fn over(entries: EntryIter<'a, ThetaEntry>) -> Self
         ensures { result ≡ entries.entry }
     {
@@ -43,7 +44,8 @@ impl<'a> Iterator for ThetaSketchIter<'a> {
         Some(*entry)
     }
 
-    /// Exact over a compact sketch; else at least none, and at most a number that is no less than the entries left.
+    /// Exact over a compact sketch. Over a mutable sketch the lower bound is 0, and the upper bound is at least the
+    /// entries left.
     fn size_hint(&self) -> (usize, Option<usize>)
         ensures lower { IsWithinCount result.0 (item_count (λ s. s.rest) self.now) }
         ensures upper { IfSome result.1 (UpTo (item_count (λ s. s.rest) self.now)) }

@@ -1,5 +1,5 @@
-//! What sketches of both families share above the table: their updatable state, the views of it and of compact states, the
-//! settings behind their builders, and what they estimate.
+//! What sketches of both families share above the table: the updatable state, views of it and of compact states, the
+//! settings behind the builders, and estimates.
 //!
 //! Everything is generic in the entry. A sketch's value is Empty, or its retained entries as a map with a theta.
 #![tactic(auto)]

@@ -1,4 +1,4 @@
-//! What a sketch or a union is built with.
+//! The settings of a sketch or a union.
 ghost use Rattle.std.specs.Prelude.{◌≡◌};
 ghost use Rattle.core_state.specs.Settings.{default_settings};
 
@@ -7,7 +7,7 @@ use core_table::ResizeFactor;
 use sketch_base::DEFAULT_UPDATE_SEED;
 use std::marker::Model;
 
-/// What a sketch or a union is built with. Nothing is checked here; what is built of it is refused where it may not be.
+/// The settings of a sketch or a union. Nothing is checked here: building refuses settings that are out of range.
 #[derive(Debug, Clone, Copy)]
 pub struct Settings {
     lg_k: u8,
@@ -29,7 +29,7 @@ impl Model for Settings {
 impl Default for Settings {
     ghost is_default = { λ b. b ≡ default_settings };
 
-    /// 4096 nominal entries, the greatest starting theta and the default seed.
+    /// Settings with 4096 nominal entries, the greatest starting theta and the default seed, 9001.
     fn default() -> Self {
         Settings {
             lg_k: DEFAULT_LG_K,
@@ -41,7 +41,7 @@ impl Default for Settings {
 }
 
 impl Settings {
-    /// With 2^`lg_k` nominal entries; a sketch or a union may have `lg_k` from 4 to 26.
+    /// Sets 2^`lg_k` nominal entries. A sketch or a union takes `lg_k` from 4 to 26.
     pub fn with_lg_k(mut self, lg_k: u8) -> Self
         ensures { result ≡ record self { lg_k = lg_k } }
     {
@@ -49,7 +49,7 @@ impl Settings {
         self
     }
 
-    /// With this resize factor, which changes no answer.
+    /// Sets the resize factor: by how much a table grows. It changes no value.
     pub fn with_resize_factor(mut self, resize_factor: ResizeFactor) -> Self
         ensures { result ≡ record self { resize_factor = resize_factor } }
     {
@@ -57,7 +57,7 @@ impl Settings {
         self
     }
 
-    /// With this starting theta; a sketch or a union may have one from 1 to `MAX_THETA`.
+    /// Sets the starting theta. A sketch or a union takes one from 1 to `MAX_THETA`.
     pub fn with_starting_theta(mut self, starting_theta: u64) -> Self
         ensures { result ≡ record self { starting_theta = starting_theta } }
     {
@@ -65,7 +65,7 @@ impl Settings {
         self
     }
 
-    /// With this seed; none may have one whose seed hash is 0.
+    /// Sets the seed. A sketch or a union takes none whose seed hash is 0.
     pub fn with_seed(mut self, seed: u64) -> Self
         ensures { result ≡ record self { seed = seed } }
     {
@@ -80,21 +80,21 @@ impl Settings {
         self.lg_k
     }
 
-    /// By how much a table grows.
+    /// The resize factor.
     pub fn resize_factor(&self) -> ResizeFactor
         ensures { result ≡ self.now.resize_factor }
     {
         self.resize_factor
     }
 
-    /// The theta that an empty table begins with, of 63 bits.
+    /// The theta of an empty table, of 63 bits.
     pub fn starting_theta(&self) -> u64
         ensures { result ≡ self.now.starting_theta }
     {
         self.starting_theta
     }
 
-    /// The seed that values are hashed under.
+    /// The seed for hashing values.
     pub fn seed(&self) -> u64
         ensures { result ≡ self.now.seed }
     {

@@ -28,7 +28,7 @@ use std::alloc::{Allocator, Global};
 use std::hash::Hash;
 use std::marker::Model;
 
-/// A table of entries, and whether no update was accepted yet. Its value is Empty until one is.
+/// A table of entries, and whether it is empty: no update was accepted yet. Until then its value is Empty.
 #[derive(Drop)]
 pub struct UpdatableState<E: SlotEntry, A: Allocator = Global> {
     table: SketchHashTable<E, A>,
@@ -46,8 +46,8 @@ impl<E: SlotEntry, A: Allocator> Model for UpdatableState<E, A> {
 }
 
 impl<E: SlotEntry, A: Allocator> UpdatableState<E, A> {
-    /// An empty state of these settings, in memory of `alloc`. Refused with `InvalidArgument` for settings that no sketch may
-    /// have, and with `OutOfMemory`.
+    /// An empty state with these settings, in memory of `alloc`. Refused with `InvalidArgument` if a setting is out of
+    /// range or the seed hash is 0, and with `OutOfMemory`.
     pub fn new(alloc: A, settings: Settings) -> Result<Self, Error>
     where
         A: Drop,
@@ -65,7 +65,7 @@ impl<E: SlotEntry, A: Allocator> UpdatableState<E, A> {
         Ok(UpdatableState { table, empty: true })
     }
 
-    /// Whether no update was accepted since it was made or last reset.
+    /// Whether no update was accepted since it was created or last reset.
     pub fn is_empty(&self) -> bool
         ensures { result ≡ self.now.empty }
     {
@@ -79,7 +79,7 @@ impl<E: SlotEntry, A: Allocator> UpdatableState<E, A> {
         !self.empty && self.table.retention_theta() < MAX_THETA
     }
 
-    /// The theta of its value: from 1 to `MAX_THETA`, and `MAX_THETA` where it is empty.
+    /// The theta of its value, from 1 to `MAX_THETA`. It is `MAX_THETA` if the state is empty.
     pub fn theta64(&self) -> u64
         ensures { result ≡ theta_of (sketch_value self.now) }
     {
@@ -100,8 +100,8 @@ impl<E: SlotEntry, A: Allocator> UpdatableState<E, A> {
         self.table.num_retained()
     }
 
-    /// The fraction whose quotient estimates how many distinct values were seen: the retained entries times `MAX_THETA`, over
-    /// theta, not reduced; 0 over 1 where it is empty.
+    /// The estimated number of distinct values seen, as a fraction: the retained entries times `MAX_THETA`, over theta,
+    /// not reduced; 0 over 1 if it is empty.
     pub fn estimate_fraction(&self) -> (u128, u128)
         ensures { result ≡ fraction_of (sketch_value self.now) }
     {
@@ -112,7 +112,7 @@ impl<E: SlotEntry, A: Allocator> UpdatableState<E, A> {
         )
     }
 
-    /// The estimate as a decimal number of at most 19 decimals, rounded down; 0 where it is empty.
+    /// The estimate as a decimal number with `places` decimals, from 0 to 19, rounded down; 0 if it is empty.
     pub fn estimate_decimal(&self, places: u32) -> Decimal
         requires few { places ≤ MAX_PLACES }
         ensures { result ≡ decimal_of (fraction_of (sketch_value self.now)) places }
@@ -142,7 +142,7 @@ impl<E: SlotEntry, A: Allocator> UpdatableState<E, A> {
         self.table.hash(value)
     }
 
-    /// Its entries, each once, in an open order.
+    /// Its entries, each once, in an unspecified order.
     pub fn entries(&self) -> EntryIter<'_, E>
         ensures lent { result ≡ record { rest = self.now.lends; counted = false } }
         ensures each_once { IsLent E.key self.now.map.kept.entries self.now.lends }
@@ -150,14 +150,14 @@ impl<E: SlotEntry, A: Allocator> UpdatableState<E, A> {
         EntryIter::of_table(&self.table)
     }
 
-    /// How many bytes the slots of its table take, free ones too.
+    /// Bytes taken by the slots of its table, including free ones.
     pub fn estimated_size(&self) -> usize {
         self.table.estimated_size()
     }
 }
 
 impl<E: SlotEntry + Drop, A: Allocator> UpdatableState<E, A> {
-    /// Makes it empty again, with its starting theta. It takes no memory.
+    /// Makes it empty again, with its starting theta. It allocates nothing.
     pub fn reset(&mut self)
         ensures empty { self.new.empty ≡ true }
         ensures map { self.new.map ≡ after_reset self.old.map }
@@ -168,10 +168,10 @@ impl<E: SlotEntry + Drop, A: Allocator> UpdatableState<E, A> {
 }
 
 impl<E: SlotEntry + Drop, A: Allocator + Clone> UpdatableState<E, A> {
-    /// Takes in a hash, by a step on the entry that has it. One that is 0 or at least theta is not retained, but makes the
-    /// state nonempty all the same.
+    /// Applies a step to the entry of a hash: the step changes the retained entry, or may create one. A hash that is 0
+    /// or at least theta is not retained, but the state becomes nonempty.
     ///
-    /// Refused with what the step refuses, or with `OutOfMemory`; then nothing has changed, emptiness included.
+    /// Refused with the step's error, or with `OutOfMemory`; then nothing has changed, emptiness included.
     #[inline(always)]
     pub fn upsert<S: UpsertStep<E> + Drop>(&mut self, hash: u64, step: S) -> Result<(), Error>
         requires keeps_hash { (x : E) → E.key x ≡ hash → E.key ((S.means step).writes x) ≡ hash }
@@ -187,9 +187,10 @@ impl<E: SlotEntry + Drop, A: Allocator + Clone> UpdatableState<E, A> {
         Ok(())
     }
 
-    /// Where more than k entries are retained, lowers theta to the (k+1)th smallest hash and keeps the k below it.
+    /// If more than k entries are retained, where k is 2^`lg_k`, lowers theta to the (k+1)th smallest hash and keeps
+    /// the k entries below it.
     ///
-    /// Refused with `OutOfMemory` alone, and only where more than k are retained; then nothing has changed.
+    /// Refused with `OutOfMemory` alone, and only if more than k are retained; then nothing has changed.
     pub fn trim(&mut self) -> Result<(), Error>
         ensures same_emptiness { self.new.empty ≡ self.old.empty }
         ensures after { OnOk result (self.new.map ≡ trimmed E.key self.old.map) }
@@ -202,8 +203,8 @@ impl<E: SlotEntry + Drop, A: Allocator + Clone> UpdatableState<E, A> {
 }
 
 impl<E: SlotEntry + Clone, A: Allocator + Clone> UpdatableState<E, A> {
-    /// Its compact form, of the same value, untrimmed. It is ordered where that is asked, or it is empty or has one entry at
-    /// the greatest theta. Refused with `OutOfMemory` alone.
+    /// Its compact form, with the same value, untrimmed. The result is ordered if `ordered` is true, if it is empty, or
+    /// if it has one entry at the greatest theta. Refused with `OutOfMemory` alone.
     pub fn compact(&self, ordered: bool) -> Result<CompactSketchState<E, A>, Error>
         requires clones_equal { ClonesEqual E.is_clone }
         ensures ok { IfOk result (IsAnswer E.key (sketch_value self.now) self.now.map.seed_hash ordered) }
@@ -220,8 +221,8 @@ impl<E: SlotEntry + Clone, A: Allocator + Clone> UpdatableState<E, A> {
 }
 
 impl<A: Allocator + Clone> UpdatableState<ThetaEntry, A> {
-    /// Takes in a hash, which is its own entry. One that is 0 or at least theta is not retained, but makes the state nonempty
-    /// all the same.
+    /// Inserts a hash, which is its own entry. A hash that is 0 or at least theta is not retained, but the state
+    /// becomes nonempty.
     ///
     /// Refused with `OutOfMemory` alone, and only for a new hash below theta; then nothing has changed, emptiness included.
     #[inline(always)]
@@ -237,11 +238,11 @@ impl<A: Allocator + Clone> UpdatableState<ThetaEntry, A> {
         Ok(())
     }
 
-    /// Takes in hashes in their order, each as `insert_hash` does; the slots of up to 256 of them are looked at side by side.
-    /// The state is nonempty then, unless it was empty and there were none.
+    /// Inserts hashes in their order, each as `insert_hash` does; the slots of up to 256 of them are read side by side.
+    /// Afterwards the state is nonempty, unless it was empty and there were no hashes.
     ///
-    /// Refused with `OutOfMemory` alone, and only at a new hash below theta; then just the hashes before that one have been
-    /// taken in, and the same call may be made again.
+    /// Refused with `OutOfMemory` alone, and only at a new hash below theta; then exactly the hashes before it have
+    /// been inserted, and the same call may be repeated.
     pub fn insert_hashes(&mut self, hashes: &[u64]) -> Result<(), Error>
         ensures after { OnOk result (self.new.map ≡ after_hashes hashes.now self.old.map) }
         ensures empty { OnOk result (self.new.empty ≡ (self.old.empty && length hashes.now == 0)) }
@@ -251,7 +252,7 @@ impl<A: Allocator + Clone> UpdatableState<ThetaEntry, A> {
         let Some((first, others)) = hashes.split_first() else {
             return Ok(());
         };
-        // The first goes alone: the state is nonempty from it on, also where a later one is refused.
+        // The first goes alone: from it on the state is nonempty, even if a later one is refused.
         self.insert_hash(*first)?;
         self.table.insert_hashes(others)
     }

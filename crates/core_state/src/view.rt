@@ -32,7 +32,7 @@ impl<'a, E: SlotEntry, A: Allocator> Clone for Viewed<'a, E, A> {
 
 impl<'a, E: SlotEntry, A: Allocator> Copy for Viewed<'a, E, A> {}
 
-/// A view of a mutable or a compact sketch. A mutable one is seen as not ordered.
+/// A view of a mutable or a compact sketch. A view of a mutable sketch is not ordered.
 pub struct SketchView<'a, E: SlotEntry, A: Allocator = Global> {
     sketch: Viewed<'a, E, A>,
 }
@@ -82,7 +82,7 @@ impl<'a, E: SlotEntry, A: Allocator> SketchView<'a, E, A> {
         }
     }
 
-    /// The sketch's theta, from 1 to `MAX_THETA`, which it is for an empty sketch.
+    /// The sketch's theta, from 1 to `MAX_THETA`. It is `MAX_THETA` for an empty sketch.
     pub fn theta64(&self) -> u64
         ensures { result ≡ (shows E.key self.now).theta }
     {
@@ -102,7 +102,7 @@ impl<'a, E: SlotEntry, A: Allocator> SketchView<'a, E, A> {
         }
     }
 
-    /// Whether the hashes are known to ascend: never so for a mutable sketch.
+    /// Whether the hashes are known to ascend. It is false for a mutable sketch.
     pub fn is_ordered(&self) -> bool
         ensures { result ≡ (shows E.key self.now).ordered }
     {
@@ -125,7 +125,8 @@ impl<'a, E: SlotEntry, A: Allocator> SketchView<'a, E, A> {
 }
 
 impl<'a, A: Allocator> SketchView<'a, ThetaEntry, A> {
-    /// The sketch's entries, each once: a mutable sketch's in an open order, a compact one's in its own.
+    /// The sketch's entries, each once: those of a mutable sketch in an unspecified order, those of a compact sketch in
+    /// its order.
     pub fn iter(&self) -> ThetaSketchIter<'a>
         ensures lent { result ≡ lending self.now }
         ensures sound { IsShown (shows hash_key self.now) }
@@ -136,7 +137,8 @@ impl<'a, A: Allocator> SketchView<'a, ThetaEntry, A> {
 }
 
 impl<'a, S: Drop, A: Allocator> SketchView<'a, TupleEntry<S>, A> {
-    /// The sketch's entries, each once, lent: a mutable sketch's in an open order, a compact one's in its own.
+    /// References to the sketch's entries, each once: those of a mutable sketch in an unspecified order, those of a
+    /// compact sketch in its order.
     pub fn iter(&self) -> EntryIter<'a, TupleEntry<S>>
         ensures lent { result ≡ lending self.now }
         ensures sound { IsShown (shows tuple_key self.now) }
@@ -155,7 +157,7 @@ fn lent<'a, E: SlotEntry, A: Allocator>(view: SketchView<'a, E, A>) -> EntryIter
     }
 }
 
-/// What a view tells of its sketch.
+/// The metadata of a view's sketch.
 fn told<'a, E: SlotEntry, A: Allocator>(view: SketchView<'a, E, A>) -> ThetaFamilySketchMetadata
     ensures told { result ≡ metadata_of (shows E.key view.entry) }
     ensures sound { IsShown (shows E.key view.entry) }
@@ -174,7 +176,7 @@ fn told<'a, E: SlotEntry, A: Allocator>(view: SketchView<'a, E, A>) -> ThetaFami
     }
 }
 
-/// The hashes of a view's entries, in the order in which these are lent.
+/// The hashes of a view's entries, in the order of the entries.
 fn hashes_of<'a, E: SlotEntry, A: Allocator>(view: SketchView<'a, E, A>) -> HashIter<'a, E>
     ensures all { result.rest ≡ (shows E.key view.entry).hashes }
     ensures sound { IsShown (shows E.key view.entry) }

@@ -1,4 +1,4 @@
--- What the bytes before the entries of a theta image come to: the cases of the relation, read in one way.
+-- The layouts of theta images: each reading of the relation has a layout, and each layout is a reading.
 use Rattle.std.proofs.Common.{◌≡◌, ℕ, ◌*◌, ◌<◌, ◌≤◌, ◌⊎◌, Bool, true, false, cond, not, List, length, slice_index, Option, Some, None, refl, ◌∙◌, inl, inr, arith, le-ltb, eqb-true, subst, ltb, leb, eqb, ◌&&◌, ◌||◌}
 use Rattle.std.proofs.lemmas.Bool.Decides.{nat_tests}
 use Rattle.std.proofs.lemmas.Bool.{cases_eq}
@@ -69,7 +69,7 @@ module _ (bytes : List ℕ) (h : ℕ) where
   unflagged_start p told (vacant_image w e) = w
   unflagged_start p told (filled_image xs e t f) = f.whole
 
-  -- each reading is one that the layout leaves open
+  -- the layout allows each reading
   pub theta_from : {s : Compact ℕ} → SpellsSketch bytes h s → Comes (theta_layout bytes h) s
   theta_from (version_3 longs s b r) = comes_along _ _ _ (begins_3 bytes longs h b) (flagged_from hash_key SpellsHash bytes h longs r)
   theta_from (version_2_empty b) = comes_along _ _ _ (begins_2 bytes 1 h b ∙ version_2_of_1 bytes h) refl
@@ -122,7 +122,7 @@ module _ (bytes : List ℕ) (h : ℕ) where
             version_1 longs s b (unflagged_to _ _ s more c.1)
       ]
 
-  -- each state that the layout leaves open is a reading
+  -- each state that the layout allows is a reading
   pub theta_to : (s : Compact ℕ) → Comes (theta_layout bytes h) s → SpellsSketch bytes h s
   unfolding theta_layout
   theta_to s q =

@@ -10,16 +10,17 @@ use Rattle.core_images.specs.Entry.{HasEntries, state_behind, SpellsHash}
 use Rattle.core_laws.specs.declared.TheConstants.{MAX_THETA}
 use Rattle.core_images.specs.declared.preamble.Preamble.{Preamble}
 
--- a preamble of no entries at the greatest theta: where there are no flags, it is of the empty sketch
+-- a preamble of no entries at the greatest theta: without flags, it means the empty sketch
 abbrev pub is_vacant : Preamble → Bool
 is_vacant p = p.count == 0 && p.theta == MAX_THETA
 
--- Versions 1 and 2 behind such a preamble: the seed hash that the image tells is asked only of a sketch that is not empty.
+-- Versions 1 and 2 with this preamble: the seed hash of the image is checked only if the sketch is not empty.
 pub data ReadsUnflagged (bytes : List ℕ) (p : Preamble) (told h : ℕ) : Compact ℕ → Type 0 where
   vacant_image : p.start ≤ length bytes → is_vacant p ≡ true → ReadsUnflagged bytes p told h (empty_compact h)
   filled_image : (xs : List ℕ) → is_vacant p ≡ false → told ≡ h → HasEntries hash_key SpellsHash bytes p h xs → ReadsUnflagged bytes p told h (state_behind p h xs)
 
--- A beginning of the bytes spells the sketch, under the reader's seed hash h: a case for each version and count of preamble longs.
+-- A prefix of the bytes spells the sketch, under the reader's seed hash h: a case for each version and count of
+-- preamble longs.
 pub data SpellsSketch (bytes : List ℕ) (h : ℕ) : Compact ℕ → Type 0 where
   version_3 : (longs : ℕ) (s : Compact ℕ) → Begins bytes longs 3 3 → ReadsFlagged hash_key SpellsHash bytes longs h s → SpellsSketch bytes h s
   version_2_empty : Begins bytes 1 2 3 → SpellsSketch bytes h (empty_compact h)
@@ -39,6 +40,6 @@ pub record Reads (bytes : List ℕ) (h : ℕ) (s : Compact ℕ) : Type 0 where
 abbrev pub IsReadable : List ℕ → (h : ℕ) → Type 0
 IsReadable bytes h = (s : Compact ℕ) × Reads bytes h s
 
--- the image that is written of a sketch
+-- the image of a sketch
 abbrev pub written : Compact ℕ → List ℕ
 written = written_image (λ hash. to_le_bytes w64 hash) 3 0

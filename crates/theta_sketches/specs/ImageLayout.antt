@@ -1,4 +1,4 @@
--- Reading the bytes before the entries of a theta image in one way: what the cases of the relation come to.
+-- How the bytes before the entries of a theta image are read: the cases of the relation SpellsSketch, as a function.
 use Rattle.std.specs.Prelude.{ℕ, ◌*◌, ◌==◌, ◌&&◌, ◌||◌, not, nat_lt, nat_le, true, List, length, slice_index, Option, Some, None, if◌then◌else◌}
 use Rattle.core_images.specs.Preamble.{announced, seed_hash_at, count_at, theta_at, admitted, flagged_layout}
 use Rattle.core_laws.specs.declared.TheConstants.{MAX_THETA}
@@ -7,18 +7,18 @@ use Rattle.core_images.specs.declared.preamble.Layout.TheVariants.{Empty}
 use Rattle.core_images.specs.declared.preamble.Preamble.{Preamble}
 use Rattle.theta_sketches.specs.Image.{is_vacant}
 
--- versions 1 and 2, behind a preamble
+-- versions 1 and 2, with a preamble
 unfoldable pub unflagged_layout : Preamble → (told h : ℕ) → Option Layout
 unflagged_layout p told h = if is_vacant p then Some Empty else (if told == h then admitted p else None)
 
--- version 2, behind its first three bytes
+-- version 2, after its first three bytes
 unfoldable pub version_2_layout : List ℕ → (longs h : ℕ) → Option Layout
 version_2_layout bytes longs h =
     if longs == 1 then Some Empty
     else (if nat_lt (length bytes) (8 * longs) then None
     else unflagged_layout (announced longs (count_at bytes) (if longs == 2 then MAX_THETA else theta_at bytes) true) (seed_hash_at bytes) h)
 
--- version 1, behind its first three bytes
+-- version 1, after its first three bytes
 unfoldable pub version_1_layout : List ℕ → (h : ℕ) → Option Layout
 version_1_layout bytes h = if nat_lt (length bytes) 24 then None else unflagged_layout (announced 3 (count_at bytes) (theta_at bytes) true) h h
 

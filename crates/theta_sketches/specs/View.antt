@@ -10,7 +10,7 @@ use Rattle.core_state.specs.View.{shows, lending, lends}
 abbrev pub view_shows : {Z S : Type 0} → SketchView ℕ Z S → Shown
 view_shows view = shows hash_key view
 
--- what an iterator over its entries has at first: whether it knows how many these are tells a compact sketch
+-- what an iterator over its entries has at first; it knows how many only over a compact sketch
 abbrev pub view_lending : {Z S : Type 0} → SketchView ℕ Z S → Lending ℕ
 view_lending view = lending view
 

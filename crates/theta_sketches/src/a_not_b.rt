@@ -17,8 +17,8 @@ use sketch_base::{DEFAULT_UPDATE_SEED, Error, ErrorKind, compute_seed_hash};
 use std::alloc::Allocator;
 use std::marker::Model;
 
-/// The difference of theta sketches of one seed: the hashes of the one that the other lacks. Contracts see the seed's hash.
-/// The crate's comment has an example.
+/// The difference operator for theta sketches of one seed: it returns the hashes of one sketch that another lacks.
+/// Contracts see the seed's hash. The crate's documentation has an example.
 #[derive(Debug, Clone, Copy)]
 pub struct ThetaANotB {
     seed_hash: u16,
@@ -35,7 +35,7 @@ impl Model for ThetaANotB {
 }
 
 impl ThetaANotB {
-    /// For sketches of the default seed, 9001. It takes no memory.
+    /// An operator for sketches of the default seed, 9001. It allocates nothing.
     ///
     /// Refused as `with_seed` is.
     pub fn default() -> Result<Self, Error>
@@ -45,7 +45,7 @@ impl ThetaANotB {
         ThetaANotB::with_seed(DEFAULT_UPDATE_SEED)
     }
 
-    /// For sketches of this seed. It takes no memory.
+    /// An operator for sketches of this seed. It allocates nothing.
     ///
     /// Refused with `InvalidArgument` for a seed whose seed hash is 0.
     pub fn with_seed(seed: u64) -> Result<Self, Error>
@@ -56,22 +56,22 @@ impl ThetaANotB {
         Ok(ThetaANotB { seed_hash })
     }
 
-    /// The hash of the seed of its sketches, of 16 bits, other than 0 for what `with_seed` made.
+    /// The hash of the seed of its sketches, of 16 bits. It isn't 0 if `default` or `with_seed` returned the operator.
     pub fn seed_hash(&self) -> u16
         ensures { result ≡ self.now }
     {
         self.seed_hash
     }
 
-    /// The hashes of `a` that `b` lacks, below the lesser theta, in memory of `alloc` or a clone of it.
+    /// Returns the hashes of `a` that `b` lacks, below the lesser theta, in memory of `alloc` or a clone of it.
     ///
-    /// An empty `a` gives an empty sketch with its own seed hash, and then no seed is checked. An empty `b` gives the value
-    /// of `a`, and its own seed is not checked. Where neither is empty, no hash is left and the lesser theta is `MAX_THETA`,
-    /// the sketch is empty. It is ordered where that is asked or `a` is ordered, and where it is empty or has one hash at the
-    /// greatest theta.
+    /// If `a` is empty, the result is an empty sketch with the seed hash of `a`, and no seed is checked. If `b` is
+    /// empty, the result has the value of `a`, and the seed of `b` is not checked. If neither is empty, no hash is left
+    /// and the lesser theta is `MAX_THETA`, the result is empty. The result is ordered if `ordered` is true or `a` is
+    /// ordered, if it is empty, or if it has one hash at the greatest theta.
     ///
-    /// Refused with `InvalidArgument` where `a` isn't empty and it, or a `b` that isn't empty, is of another seed; with
-    /// `OutOfMemory` where memory is. The inputs stay as they are.
+    /// Refused with `InvalidArgument` if `a` isn't empty and it, or a `b` that isn't empty, is of another seed, and
+    /// with `OutOfMemory`. The inputs don't change.
     pub fn compute<A: Allocator + Clone, B: Allocator, C: Allocator>(
         &self,
         alloc: A,

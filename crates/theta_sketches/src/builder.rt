@@ -15,7 +15,7 @@ use sketch_base::Error;
 use std::alloc::Allocator;
 use std::marker::Model;
 
-/// Builds a theta sketch. Nothing is checked before `build`. The crate's comment has an example.
+/// Builds a theta sketch. Nothing is checked before `build`. The crate's documentation has an example.
 #[derive(Debug, Drop)]
 pub struct ThetaSketchBuilder {
     settings: Settings,
@@ -34,7 +34,7 @@ impl Model for ThetaSketchBuilder {
 impl Default for ThetaSketchBuilder {
     ghost is_default = { λ b. b ≡ default_settings };
 
-    /// 4096 nominal entries, the greatest starting theta and the default seed.
+    /// A builder with 4096 nominal entries, the greatest starting theta and the default seed, 9001.
     fn default() -> Self {
         let settings = Settings::default();
         ThetaSketchBuilder { settings }
@@ -42,7 +42,7 @@ impl Default for ThetaSketchBuilder {
 }
 
 impl ThetaSketchBuilder {
-    /// With 2^`lg_k` nominal entries; `build` wants `lg_k` from 4 to 26.
+    /// Sets 2^`lg_k` nominal entries; `build` requires `lg_k` from 4 to 26.
     pub fn lg_k(mut self, lg_k: u8) -> Self
         ensures { result ≡ record self { lg_k = lg_k } }
     {
@@ -50,7 +50,7 @@ impl ThetaSketchBuilder {
         self
     }
 
-    /// With this resize factor, by which its slots grow. Of all answers only `estimated_size` depends on it.
+    /// Sets the resize factor: by how much the number of slots grows. Of all results, only `estimated_size` depends on it.
     pub fn resize_factor(mut self, resize_factor: ResizeFactor) -> Self
         ensures { result ≡ record self { resize_factor = resize_factor } }
     {
@@ -58,7 +58,7 @@ impl ThetaSketchBuilder {
         self
     }
 
-    /// With this starting theta; `build` wants it from 1 to `MAX_THETA`.
+    /// Sets the starting theta; `build` requires it from 1 to `MAX_THETA`.
     pub fn starting_theta(mut self, starting_theta: u64) -> Self
         ensures { result ≡ record self { starting_theta = starting_theta } }
     {
@@ -66,7 +66,7 @@ impl ThetaSketchBuilder {
         self
     }
 
-    /// With this seed; `build` refuses one whose seed hash is 0.
+    /// Sets the seed; `build` refuses one whose seed hash is 0.
     pub fn seed(mut self, seed: u64) -> Self
         ensures { result ≡ record self { seed = seed } }
     {
@@ -74,8 +74,8 @@ impl ThetaSketchBuilder {
         self
     }
 
-    /// An empty sketch in memory of `alloc`. Refused with `InvalidArgument` for settings that no sketch may have, and with
-    /// `OutOfMemory`.
+    /// Builds an empty sketch in memory of `alloc`. Refused with `InvalidArgument` if a setting is out of range or the
+    /// seed hash is 0, and with `OutOfMemory`.
     pub fn build<A: Allocator + Drop>(self, alloc: A) -> Result<ThetaSketch<A>, Error>
         ensures empty { IfOk result (λ s. s.empty ≡ true) }
         ensures made { IfOk result (λ s. s.map ≡ empty_table self.lg_k self.starting_theta self.seed) }
@@ -85,7 +85,7 @@ impl ThetaSketchBuilder {
     }
 }
 
-/// Builds a theta union. Nothing is checked before `build`. The crate's comment has an example.
+/// Builds a theta union. Nothing is checked before `build`. The crate's documentation has an example.
 #[derive(Debug, Clone, Drop)]
 pub struct ThetaUnionBuilder {
     settings: Settings,
@@ -104,7 +104,7 @@ impl Model for ThetaUnionBuilder {
 impl Default for ThetaUnionBuilder {
     ghost is_default = { λ b. b ≡ default_settings };
 
-    /// 4096 nominal entries, the greatest starting theta and the default seed.
+    /// A builder with 4096 nominal entries, the greatest starting theta and the default seed, 9001.
     fn default() -> Self {
         let settings = Settings::default();
         ThetaUnionBuilder { settings }
@@ -112,7 +112,7 @@ impl Default for ThetaUnionBuilder {
 }
 
 impl ThetaUnionBuilder {
-    /// With 2^`lg_k` nominal entries; `build` wants `lg_k` from 4 to 26.
+    /// Sets 2^`lg_k` nominal entries; `build` requires `lg_k` from 4 to 26.
     pub fn lg_k(mut self, lg_k: u8) -> Self
         ensures { result ≡ record self { lg_k = lg_k } }
     {
@@ -120,7 +120,7 @@ impl ThetaUnionBuilder {
         self
     }
 
-    /// With this resize factor, by which its slots grow. Of all answers only `estimated_size` depends on it.
+    /// Sets the resize factor: by how much the number of slots grows. Of all results, only `estimated_size` depends on it.
     pub fn resize_factor(mut self, resize_factor: ResizeFactor) -> Self
         ensures { result ≡ record self { resize_factor = resize_factor } }
     {
@@ -128,7 +128,7 @@ impl ThetaUnionBuilder {
         self
     }
 
-    /// With this starting theta; `build` wants it from 1 to `MAX_THETA`.
+    /// Sets the starting theta; `build` requires it from 1 to `MAX_THETA`.
     pub fn starting_theta(mut self, starting_theta: u64) -> Self
         ensures { result ≡ record self { starting_theta = starting_theta } }
     {
@@ -136,7 +136,7 @@ impl ThetaUnionBuilder {
         self
     }
 
-    /// With this seed; `build` refuses one whose seed hash is 0.
+    /// Sets the seed; `build` refuses one whose seed hash is 0.
     pub fn seed(mut self, seed: u64) -> Self
         ensures { result ≡ record self { seed = seed } }
     {
@@ -144,8 +144,8 @@ impl ThetaUnionBuilder {
         self
     }
 
-    /// An empty union in memory of `alloc`. Refused with `InvalidArgument` for settings that no union may have, and with
-    /// `OutOfMemory`.
+    /// Builds an empty union in memory of `alloc`. Refused with `InvalidArgument` if a setting is out of range or the
+    /// seed hash is 0, and with `OutOfMemory`.
     pub fn build<A: Allocator + Drop>(self, alloc: A) -> Result<ThetaUnion<A>, Error>
         ensures made { IfOk result (λ u. u ≡ empty_union self.lg_k self.starting_theta (seed_hash self.seed) u.policy) }
         ensures refused { Refuses result (settings_refusal self.lg_k self.starting_theta self.seed) true }

@@ -1,4 +1,4 @@
-//! Theta sketches that no longer change.
+//! Compact theta sketches, which are immutable.
 ghost use Rattle.std.specs.Prelude.{◌≡◌, ◌≤◌, ◌&&◌, true, not, nat_lt, None, length, IfOk};
 ghost use Rattle.core_compact.specs.CompactState.{IsCompact, shown_of, compact_value};
 ghost use Rattle.core_laws.specs.Entries.{hash_key};
@@ -18,8 +18,8 @@ use sketch_base::Error;
 use std::alloc::{Allocator, Global};
 use std::marker::Model;
 
-/// A theta sketch that no longer changes: its hashes in a list, with its theta. Contracts see a record of these. The crate's
-/// comment has an example.
+/// An immutable theta sketch: its hashes in a list, with its theta. Contracts see a record of these. The crate's
+/// documentation has an example.
 #[derive(Drop)]
 pub struct CompactThetaSketch<A: Allocator = Global> {
     state: CompactSketchState<ThetaEntry, A>,
@@ -56,7 +56,7 @@ impl<A: Allocator> CompactThetaSketch<A> {
         ThetaSketchView::of_compact(&self.state)
     }
 
-    /// Whether it is empty: no update was accepted, or an operator answered so.
+    /// Whether it is empty: no update was accepted, or an operator returned an empty result.
     pub fn is_empty(&self) -> bool
         ensures { result ≡ self.now.empty }
     {
@@ -70,7 +70,7 @@ impl<A: Allocator> CompactThetaSketch<A> {
         self.state.is_estimation_mode()
     }
 
-    /// Its theta, from 1 to `MAX_THETA`, which it is for an empty sketch.
+    /// Its theta, from 1 to `MAX_THETA`. It is `MAX_THETA` for an empty sketch.
     pub fn theta64(&self) -> u64
         ensures { result ≡ self.now.theta }
     {
@@ -85,7 +85,7 @@ impl<A: Allocator> CompactThetaSketch<A> {
         self.state.retained_entries().len()
     }
 
-    /// The fraction whose quotient estimates how many distinct values were seen, not reduced: the retained hashes times
+    /// The estimated number of distinct values seen, as a fraction that is not reduced: the retained hashes times
     /// `MAX_THETA`, below 2^95, over theta, from 1 to `MAX_THETA`; 0 over 1 for an empty sketch.
     pub fn estimate_fraction(&self) -> (u128, u128)
         ensures { result ≡ compact_fraction self.now }
@@ -115,21 +115,21 @@ impl<A: Allocator> CompactThetaSketch<A> {
         self.state.seed_hash()
     }
 
-    /// Its entries, in its order: ascending where it is ordered.
+    /// Its entries, in its order: ascending if it is ordered.
     pub fn iter(&self) -> ThetaSketchIter<'_>
         ensures { result ≡ record { rest = self.now.entries; counted = true } }
     {
         ThetaSketchIter::over(EntryIter::of_slice(self.state.retained_entries()))
     }
 
-    /// How many bytes its hashes take.
+    /// Bytes taken by its hashes.
     pub fn estimated_size(&self) -> usize {
         size_of_val(self.state.retained_entries())
     }
 }
 
 impl<A: Allocator + Clone> CompactThetaSketch<A> {
-    /// The same sketch again, in memory of a clone of its allocator. Refused with `OutOfMemory` alone.
+    /// Returns a copy of the sketch, in memory of a clone of its allocator. Refused with `OutOfMemory` alone.
     pub fn clone(&self) -> Result<Self, Error>
         ensures ok { IfOk result (λ s. s ≡ self.now) }
         ensures refused { Refuses result None true }

@@ -1,6 +1,6 @@
 //! Images of theta sketches, in the DataSketches format of family 3. All numbers are little endian.
 //!
-//! Serial version 3 is written and read. Versions 1 and 2 are read: they have no flags, and are ordered.
+//! Serial version 3 is written and read. Versions 1 and 2 are only read: they have no flags, and their hashes are ordered.
 ghost use Rattle.std.specs.Prelude.{◌≡◌, ◌≤◌, None, true, length, IfOk, IfErr};
 ghost use Rattle.sketch_base.specs.Seed.{seed_hash};
 ghost use Rattle.sketch_base.specs.declared.seed.TheConstants.{DEFAULT_UPDATE_SEED};
@@ -18,8 +18,9 @@ use core_laws::MAX_THETA;
 use sketch_base::{DEFAULT_UPDATE_SEED, Error, ErrorKind, Family, compute_seed_hash};
 use std::alloc::Allocator;
 
-/// What stands behind a preamble of version 1 or 2, which has no flags: nothing of an empty sketch, else its hashes under the
-/// told seed hash, or `None` where that is another than the reader's or the preamble is none that may stand there.
+/// The layout of an image of version 1 or 2, which have no flags, with this preamble and the seed hash `told`. No
+/// entries at the greatest theta mean the empty sketch, and then the seed hash is not checked. Otherwise hashes follow,
+/// or it is `None` if `told` isn't the reader's seed hash or theta is out of range.
 #[tactic(auto, unfolding(crate::specs::ImageLayout::unflagged_layout))]
 fn unflagged_layout(p: Preamble, told: u16, seed_hash: u16) -> Option<Layout>
     ensures { result ≡ unflagged_layout p told seed_hash }
@@ -33,8 +34,8 @@ fn unflagged_layout(p: Preamble, told: u16, seed_hash: u16) -> Option<Layout>
     }
 }
 
-/// What stands in an image of version 2 behind its first three bytes, of 1, 2 or 3 preamble longs of 8 bytes each: an empty
-/// sketch, one at the greatest theta, or one with a theta of its own; `None` where the bytes end within the preamble.
+/// The layout of an image of version 2. By its preamble longs, of 8 bytes each, it is an empty sketch (1), a sketch at
+/// the greatest theta (2), or one with a theta of its own (3). It is `None` if the bytes end within the preamble.
 #[tactic(auto, unfolding(crate::specs::ImageLayout::version_2_layout))]
 fn version_2_layout(bytes: &[u8], longs: u8, seed_hash: u16) -> Option<Layout>
     requires whole { 8 ≤ length bytes.now }
@@ -60,8 +61,8 @@ fn version_2_layout(bytes: &[u8], longs: u8, seed_hash: u16) -> Option<Layout>
     )
 }
 
-/// What stands in an image of version 1 behind its first three bytes: its preamble has always three longs and tells no seed
-/// hash; `None` where the bytes end within it.
+/// The layout of an image of version 1: its preamble always has three longs, and no seed hash. It is `None` if the
+/// bytes end within the preamble.
 #[tactic(auto, unfolding(crate::specs::ImageLayout::version_1_layout))]
 fn version_1_layout(bytes: &[u8], seed_hash: u16) -> Option<Layout>
     ensures { result ≡ version_1_layout bytes.now seed_hash }
@@ -76,8 +77,8 @@ fn version_1_layout(bytes: &[u8], seed_hash: u16) -> Option<Layout>
     )
 }
 
-/// What stands in an image of any version by its preamble, or `None` where there is no theta sketch of 1 to 3 preamble longs
-/// and of version 1, 2 or 3.
+/// The layout of an image by its preamble, or `None` if it isn't a theta sketch of version 1, 2 or 3 with 1 to 3
+/// preamble longs.
 #[tactic(auto, unfolding(crate::specs::ImageLayout::theta_layout))]
 fn theta_layout(bytes: &[u8], seed_hash: u16) -> Option<Layout>
     ensures { result ≡ theta_layout bytes.now seed_hash }
@@ -94,7 +95,7 @@ fn theta_layout(bytes: &[u8], seed_hash: u16) -> Option<Layout>
 }
 
 impl<A: Allocator + Clone + Drop> CompactThetaSketch<A> {
-    /// The sketch's image, in memory of a clone of its allocator. Refused with `OutOfMemory` alone.
+    /// Returns the sketch's image, in memory of a clone of its allocator. Refused with `OutOfMemory` alone.
     pub fn serialize(&self) -> Result<Vec<u8, A>, Error>
         ensures ok { IfOk result (λ v. v.items ≡ written self.now) }
         ensures refused { Refuses result None true }
@@ -103,7 +104,7 @@ impl<A: Allocator + Clone + Drop> CompactThetaSketch<A> {
         write_image(alloc, self.state(), Family::THETA, 0)
     }
 
-    /// The sketch that a beginning of the bytes spells, under the seed of sketches for which no other is asked.
+    /// Reads the sketch that the bytes begin with, under the default seed, 9001. Bytes after the image are ignored.
     ///
     /// Refused as `deserialize_with_seed` is.
     pub fn deserialize(alloc: A, bytes: &[u8]) -> Result<Self, Error>
@@ -113,13 +114,14 @@ impl<A: Allocator + Clone + Drop> CompactThetaSketch<A> {
         CompactThetaSketch::deserialize_with_seed(alloc, bytes, DEFAULT_UPDATE_SEED)
     }
 
-    /// The sketch that a beginning of the bytes spells, under this seed. Bytes after the image are ignored.
+    /// Reads the sketch that the bytes begin with, under this seed. Bytes after the image are ignored.
     ///
-    /// Refused with `InvalidData` only where the seed hash is 0 or the bytes spell no sketch: they end too early, are of
-    /// another family or version, have not 1 to 3 preamble longs, tell another seed hash, a theta that isn't from 1 to
-    /// `MAX_THETA`, or hashes that repeat, do not ascend where they are said to, or are not from 1 to below theta. An empty
-    /// sketch's seed hash is not asked. Refused with `OutOfMemory` where memory is, also for such bytes: it asks for no more
-    /// than the bytes could fill with hashes, and as much again to compare hashes that do not ascend.
+    /// Refused with `InvalidData` only if the seed hash is 0 or the bytes begin with no sketch: they end too early,
+    /// have another family or version, don't have 1 to 3 preamble longs, have another seed hash, a theta that isn't
+    /// from 1 to `MAX_THETA`, or hashes that repeat, don't ascend though the image is ordered, or aren't from 1 to
+    /// below theta. The seed hash of an empty sketch is not checked. Refused with `OutOfMemory` if memory runs out,
+    /// also for such bytes: it allocates at most what the bytes could fill with hashes, and as much again to compare
+    /// hashes that don't ascend.
     pub fn deserialize_with_seed(alloc: A, bytes: &[u8], seed: u64) -> Result<Self, Error>
         ensures ok { IfOk result (λ s. Reads bytes.now (seed_hash seed) s) }
         ensures refused { IfErr result (λ e. IsRefused e (IsReadable bytes.now (seed_hash seed))) }

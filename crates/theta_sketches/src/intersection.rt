@@ -19,7 +19,7 @@ use sketch_base::{DEFAULT_UPDATE_SEED, Error};
 use std::alloc::{Allocator, Global};
 use std::marker::Model;
 
-/// An intersection's policy that changes nothing: entries are hashes alone, so the one that is held stays.
+/// An intersection's policy that changes nothing: entries are hashes alone, so the retained one stays.
 #[derive(Debug, Clone, Copy)]
 struct NoopIntersectionPolicy;
 
@@ -35,11 +35,11 @@ impl IntersectionMergePolicy<ThetaEntry> for NoopIntersectionPolicy {
     ghost keeps_hash = { λ p x y same. same };
 }
 
-/// An intersection of theta sketches that are handed over one by one. The crate's comment has an example.
+/// An intersection of theta sketches, passed one by one. The crate's documentation has an example.
 ///
-/// It has no value before its first sketch. Its value has the hashes that all its sketches share, below their least theta.
-/// It is empty once a sketch is, or once sketches with hashes and at the greatest theta share none. A refused update
-/// leaves it as it was.
+/// It has no value before its first sketch. Its value has the hashes that all its sketches share, below their least
+/// theta. The value is empty once a sketch is, or once sketches that have hashes share none while theta is still the
+/// greatest. A refused update changes nothing.
 #[derive(Drop)]
 pub struct ThetaIntersection<A: Allocator = Global> {
     state: IntersectionState<ThetaEntry, NoopIntersectionPolicy, A>,
@@ -56,7 +56,7 @@ impl<A: Allocator> Model for ThetaIntersection<A> {
 }
 
 impl<A: Allocator + Drop> ThetaIntersection<A> {
-    /// An intersection of sketches of the default seed, 9001, which has seen none. It takes no memory.
+    /// A new intersection of sketches of the default seed, 9001, without a value. It allocates nothing.
     ///
     /// Refused as `with_seed` is.
     pub fn default(alloc: A) -> Result<Self, Error>
@@ -66,7 +66,7 @@ impl<A: Allocator + Drop> ThetaIntersection<A> {
         ThetaIntersection::with_seed(alloc, DEFAULT_UPDATE_SEED)
     }
 
-    /// An intersection of sketches of this seed, which has seen none. It takes no memory.
+    /// A new intersection of sketches of this seed, without a value. It allocates nothing.
     ///
     /// Refused with `InvalidArgument` for a seed whose seed hash is 0.
     pub fn with_seed(alloc: A, seed: u64) -> Result<Self, Error>
@@ -79,23 +79,24 @@ impl<A: Allocator + Drop> ThetaIntersection<A> {
 }
 
 impl<A: Allocator> ThetaIntersection<A> {
-    /// Whether it has seen a sketch, and so has a value.
+    /// Whether a sketch was passed to it, so that it has a value.
     pub fn has_result(&self) -> bool
         ensures { result ≡ is_some self.now.result }
     {
         self.state.has_result()
     }
 
-    /// How many bytes the slots of its table take, free ones too: eight a slot, and none before its first sketch.
+    /// Bytes taken by the slots of its table, including free ones: eight per slot, and none before its first sketch.
     pub fn estimated_size(&self) -> usize {
         self.state.estimated_size()
     }
 }
 
 impl<A: Allocator + Clone> ThetaIntersection<A> {
-    /// Intersects with a sketch. In this order: once empty it accepts every sketch unchecked and stays empty; an empty sketch
-    /// makes it empty, and its seed is not checked; a sketch of another seed is refused; the first sketch is taken whole; of
-    /// each other one only the hashes that are held too stay, below the lesser theta.
+    /// Intersects with a sketch. The first rule that applies is used: once empty, the intersection accepts every sketch
+    /// unchecked and stays empty; an empty sketch makes it empty, and its seed is not checked; a sketch of another seed
+    /// is refused; the first sketch is copied as it is; with any other sketch, it keeps only the hashes that both have
+    /// below the lesser theta. If both had hashes, none is left and theta is the greatest, the value becomes empty.
     ///
     /// Refused with `InvalidArgument` for a sketch of another seed, and with `OutOfMemory`; then nothing has changed.
     pub fn update<B: Allocator>(&mut self, sketch: ThetaSketchView<'_, B>) -> Result<(), Error>
@@ -110,8 +111,9 @@ impl<A: Allocator + Clone> ThetaIntersection<A> {
         Ok(())
     }
 
-    /// Its value, or `None` before its first sketch. Ordered where that is asked, or it is empty or has one hash at the
-    /// greatest theta. The intersection stays as it is. Refused with `OutOfMemory` alone, and only where there is a value.
+    /// Returns its value as a compact sketch, or `None` before its first sketch. The result is ordered if `ordered` is
+    /// true, if it is empty, or if it has one hash at the greatest theta. The intersection doesn't change. Refused with
+    /// `OutOfMemory` alone, and only if there is a value.
     pub fn to_sketch(&self, ordered: bool) -> Result<Option<CompactThetaSketch<A>>, Error>
         ensures ok { IfOk result (IsAnswerIfAny hash_key self.now.result self.now.seed_hash ordered) }
         ensures refused { Refuses result None (is_some self.now.result) }

@@ -1,16 +1,16 @@
-//! Laws of the definitions, which no sketch takes part in.
+//! Laws of the definitions alone.
 ghost use Rattle.std.specs.Prelude.{◌≡◌, ℕ, List, ◌<◌, ◌^◌, ◌++◌};
 ghost use Rattle.core_compact.specs.CompactState.{Compact, IsCompact};
 ghost use Rattle.core_laws.specs.Entries.{hash_key};
 ghost use Rattle.theta_sketches.specs.Image.{Reads, written};
 
-/// Bytes are read as one sketch at most.
+/// Bytes are read as at most one sketch.
 pub fn one_reading()
     ensures { (bytes : List ℕ) (h : ℕ) (r s : Compact ℕ) → Reads bytes h r → Reads bytes h s → r ≡ s }
 {}
 
-/// What is written of a sketch is read as that sketch again, whatever follows it: of every sketch that keeps the laws of
-/// compact sketches, and whose seed hash is from 1 to 65535.
+/// The image of a sketch is read as that sketch, whatever bytes follow it, if the sketch keeps the laws of compact
+/// sketches and its seed hash is from 1 to 65535.
 pub fn read_again()
     ensures { (s : Compact ℕ) (rest : List ℕ) → IsCompact hash_key s → 0 < s.seed_hash → s.seed_hash < 2 ^ 16 → Reads (written s ++ rest) s.seed_hash s }
 {}

@@ -1,9 +1,13 @@
-//! Theta sketches: distinct counts over streams, their compact forms, their unions, intersections and differences.
+//! Theta sketches: estimates of how many distinct values a stream has, with compact forms, unions, intersections,
+//! differences and images.
 //!
-//! A theta sketch retains the smallest hashes of a stream below its theta. Contracts see its value: Empty, or the
-//! retained hashes as a map, ascending, with the theta. Every call is stated on that value.
+//! A theta sketch retains the hashes of a stream's values that are below its theta. If they become too many, it lowers
+//! theta and drops the greatest hashes; the estimate follows from the number of retained hashes and theta. In
+//! contracts, the value of a sketch is Empty, or the retained hashes as a map, ascending, with the theta. The contract
+//! of every call is stated on that value.
 //!
-//! Two days' visitors: those of either day, of both, of the first alone; and an image of the first result, read again.
+//! The visitors of two days: of either day, of both days, of the first day alone. The last lines write an image of the
+//! first result and read it.
 //!
 //! ```
 //! let mut monday = ThetaSketchBuilder::default().lg_k(14).build(alloc)?;

@@ -1,4 +1,4 @@
-//! How theta operators combine entries: they are hashes alone, so the first stays.
+//! How theta unions combine entries: these are hashes alone, so the retained one stays.
 ghost use Rattle.std.specs.Prelude.{false};
 ghost use Rattle.core_laws.specs.Entries.{first_hash};
 

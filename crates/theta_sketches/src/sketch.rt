@@ -24,7 +24,8 @@ use std::alloc::{Allocator, Global};
 use std::hash::Hash;
 use std::marker::Model;
 
-/// A theta sketch that takes updates. Its value is Empty until the first one is accepted. The crate's comment has an example.
+/// A theta sketch that takes updates. Its value is Empty until the first update is accepted. The crate's documentation
+/// has an example.
 #[derive(Drop)]
 pub struct ThetaSketch<A: Allocator = Global> {
     state: UpdatableState<ThetaEntry, A>,
@@ -74,7 +75,7 @@ impl<A: Allocator> ThetaSketch<A> {
         self.state.is_estimation_mode()
     }
 
-    /// The theta of its value: from 1 to `MAX_THETA`, and `MAX_THETA` for an empty sketch, whatever its starting theta.
+    /// The theta of its value, from 1 to `MAX_THETA`. It is `MAX_THETA` for an empty sketch, whatever its starting theta.
     pub fn theta64(&self) -> u64
         ensures { result ≡ theta_of (sketch_value self.now) }
     {
@@ -90,7 +91,7 @@ impl<A: Allocator> ThetaSketch<A> {
         self.state.num_retained()
     }
 
-    /// The fraction whose quotient estimates how many distinct values were seen, not reduced: the retained hashes times
+    /// The estimated number of distinct values seen, as a fraction that is not reduced: the retained hashes times
     /// `MAX_THETA`, below 2^95, over theta, from 1 to `MAX_THETA`; 0 over 1 for an empty sketch.
     pub fn estimate_fraction(&self) -> (u128, u128)
         ensures { result ≡ fraction_of (sketch_value self.now) }
@@ -120,7 +121,7 @@ impl<A: Allocator> ThetaSketch<A> {
         self.state.seed_hash()
     }
 
-    /// Its entries, each once, in an open order.
+    /// Its entries, each once, in an unspecified order.
     pub fn iter(&self) -> ThetaSketchIter<'_>
         ensures lent { result ≡ record { rest = self.now.lends; counted = false } }
         ensures each_once { IsLent hash_key self.now.map.kept.entries self.now.lends }
@@ -128,12 +129,12 @@ impl<A: Allocator> ThetaSketch<A> {
         ThetaSketchIter::over(self.state.entries())
     }
 
-    /// How many bytes the slots of its table take, free ones too: eight a slot, of which there are 32 to 2^(`lg_k` + 1).
+    /// Bytes taken by the slots of its table, including free ones: eight per slot, with 32 to 2^(`lg_k` + 1) slots.
     pub fn estimated_size(&self) -> usize {
         self.state.estimated_size()
     }
 
-    /// Makes it empty again, with its starting theta. It takes no memory.
+    /// Makes it empty again, with its starting theta. It allocates nothing.
     pub fn reset(&mut self)
         ensures empty { self.new.empty ≡ true }
         ensures map { self.new.map ≡ after_reset self.old.map }
@@ -143,12 +144,12 @@ impl<A: Allocator> ThetaSketch<A> {
 }
 
 impl<A: Allocator + Clone> ThetaSketch<A> {
-    /// Takes in a value, by its hash under the sketch's seed. Refused as `update_hash` is.
+    /// Updates the sketch with a value, by its hash under the sketch's seed. Refused as `update_hash` is.
     ///
-    /// The value is hashed as std's `Hash` hands over its bytes, and behind a text std writes one byte more, 255. So
-    /// `update("ann")` gives another hash than libraries in other languages, which hash the bytes of the text alone. For
-    /// theirs, hash the bytes yourself and hand half of the first half to `update_hash`: `write` the bytes to a
-    /// `MurmurHash3X64128` of the sketch's seed, and take `finish128().0 >> 1`.
+    /// The value is hashed as std's `Hash` writes its bytes, and after a text `Hash` writes one more byte, 255. So
+    /// `update("ann")` has another hash than in libraries of other languages, which hash the bytes of the text alone.
+    /// To get their hash, `write` the bytes to a `MurmurHash3X64128` of the sketch's seed and pass `finish128().0 >> 1`
+    /// to `update_hash`.
     #[inline(always)]
     pub fn update<T: Hash + Drop>(&mut self, value: T) -> Result<(), Error>
         ensures nonempty { OnOk result (self.new.empty ≡ false) }
@@ -161,7 +162,7 @@ impl<A: Allocator + Clone> ThetaSketch<A> {
         self.update_hash(hash)
     }
 
-    /// Takes in a hash. One that is 0 or at least theta is not retained, but makes the sketch nonempty all the same.
+    /// Updates the sketch with a hash. A hash that is 0 or at least theta is not retained, but the sketch becomes nonempty.
     ///
     /// Refused with `OutOfMemory` alone, and only for a new hash below theta; then nothing has changed, emptiness included.
     #[inline(always)]
@@ -175,15 +176,15 @@ impl<A: Allocator + Clone> ThetaSketch<A> {
         self.state.insert_hash(hash)
     }
 
-    /// Takes in hashes in their order, each as `update_hash` does. The sketch is nonempty then, unless it was empty and there
-    /// were none.
+    /// Updates the sketch with hashes in their order, each as `update_hash` does. Afterwards the sketch is nonempty,
+    /// unless it was empty and there were no hashes.
     ///
-    /// Where a sketch is large and retains most of the hashes already, this takes half the time of one call for each, since the
-    /// slots of up to 256 hashes are waited for together. So hand over a few hundred at a time. Where most are new, or the
-    /// sketch is small, one call for each is as fast or faster.
+    /// If the sketch is large and retains most of the hashes already, this takes half the time of one call per hash,
+    /// because it waits for the slots of up to 256 hashes together. So pass a few hundred at a time. If most hashes are
+    /// new, or the sketch is small, one call per hash is as fast or faster.
     ///
-    /// Refused with `OutOfMemory` alone, and only at a new hash below theta; then just the hashes before that one have been
-    /// taken in. The same call may then be made again: what was taken in before changes nothing.
+    /// Refused with `OutOfMemory` alone, and only at a new hash below theta; then exactly the hashes before it have
+    /// been inserted. The same call may be repeated: hashes that were inserted before change nothing.
     ///
     /// ```
     /// use theta_sketches::ThetaSketchBuilder;
@@ -201,10 +202,10 @@ impl<A: Allocator + Clone> ThetaSketch<A> {
         self.state.insert_hashes(hashes)
     }
 
-    /// Where more than k hashes are retained, k being its 2^`lg_k` nominal entries, lowers theta to the (k+1)th smallest and
-    /// keeps the k below it.
+    /// If more than k hashes are retained, where k is 2^`lg_k`, lowers theta to the (k+1)th smallest and keeps the k
+    /// hashes below it.
     ///
-    /// Refused with `OutOfMemory` alone, and only where more than k are retained; then nothing has changed.
+    /// Refused with `OutOfMemory` alone, and only if more than k are retained; then nothing has changed.
     pub fn trim(&mut self) -> Result<(), Error>
         ensures same_emptiness { self.new.empty ≡ self.old.empty }
         ensures after { OnOk result (self.new.map ≡ trimmed hash_key self.old.map) }
@@ -214,8 +215,8 @@ impl<A: Allocator + Clone> ThetaSketch<A> {
         self.state.trim()
     }
 
-    /// Its compact form, of the same value, untrimmed. It is ordered where that is asked, or it is empty or has one hash at
-    /// the greatest theta. The sketch stays as it is. Refused with `OutOfMemory` alone.
+    /// Returns a compact sketch of the same value, untrimmed. The result is ordered if `ordered` is true, if it is
+    /// empty, or if it has one hash at the greatest theta. The sketch doesn't change. Refused with `OutOfMemory` alone.
     pub fn compact(&self, ordered: bool) -> Result<CompactThetaSketch<A>, Error>
         ensures ok { IfOk result (IsAnswer hash_key (sketch_value self.now) self.now.map.seed_hash ordered) }
         ensures refused { Refuses result None true }

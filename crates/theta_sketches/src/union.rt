@@ -20,11 +20,12 @@ use sketch_base::Error;
 use std::alloc::{Allocator, Global};
 use std::marker::Model;
 
-/// A union of theta sketches that are handed over one by one.
+/// A union of theta sketches, passed one by one.
 ///
-/// Its value has the united hashes below the least theta of its inputs and its own start; where these are more than k, its
-/// 2^`lg_k` nominal entries, the k least, below the (k+1)th. Where memory is refused to an update the union has failed, until
-/// it is reset. The crate's comment has an example.
+/// Its value has the hashes of all its inputs below their least theta and its own starting theta. If these are more
+/// than k, its 2^`lg_k` nominal entries, the value has the k least, and its theta is the (k+1)th. If memory runs out in
+/// an update, the union has failed: until it is reset, `update`, `to_sketch` and `lower_lg_k` are refused with
+/// `Failed`. The crate's documentation has an example.
 #[derive(Drop)]
 pub struct ThetaUnion<A: Allocator = Global> {
     state: UnionState<ThetaEntry, NoopUnionPolicy, A>,
@@ -56,7 +57,7 @@ impl<A: Allocator + Drop> ThetaUnion<A> {
         Ok(ThetaUnion { state })
     }
 
-    /// Makes it empty again, and ends a failure. It takes no memory.
+    /// Makes it empty again, and ends a failure. It allocates nothing.
     pub fn reset(&mut self)
         ensures { self.new ≡ empty_union self.old.lg_k self.old.start self.old.seed_hash self.old.policy }
     {
@@ -65,9 +66,9 @@ impl<A: Allocator + Drop> ThetaUnion<A> {
 }
 
 impl<A: Allocator + Clone> ThetaUnion<A> {
-    /// Joins a sketch. An empty one changes nothing, and its seed is not checked.
+    /// Merges a sketch into the union. An empty sketch changes nothing, and its seed is not checked.
     ///
-    /// Refused with `Failed` where the union has failed, whatever the input, and with `InvalidArgument` for a sketch of
+    /// Refused with `Failed` if the union has failed, whatever the input, and with `InvalidArgument` for a sketch of
     /// another seed; then nothing has changed. Refused with `OutOfMemory`; then the union has failed.
     pub fn update<B: Allocator>(&mut self, sketch: ThetaSketchView<'_, B>) -> Result<(), Error>
         ensures skipped { OnOk result ((view_shows sketch.entry).empty ≡ true → self.new ≡ self.old) }
@@ -83,8 +84,9 @@ impl<A: Allocator + Clone> ThetaUnion<A> {
         Ok(())
     }
 
-    /// Its value, ordered where that is asked, or it is empty or has one hash at the greatest theta. The union stays as it is.
-    /// Refused with `Failed` where the union has failed, and with `OutOfMemory`.
+    /// Returns its value as a compact sketch. The result is ordered if `ordered` is true, if it is empty, or if it has
+    /// one hash at the greatest theta. The union doesn't change. Refused with `Failed` if the union has failed, and
+    /// with `OutOfMemory`.
     pub fn to_sketch(&self, ordered: bool) -> Result<CompactThetaSketch<A>, Error>
         ensures ok { IfOk result (IsAnswer hash_key (union_value hash_key self.now) self.now.seed_hash ordered) }
         ensures refused { Refuses result (failure self.now.failed) (not self.now.failed) }
@@ -93,12 +95,12 @@ impl<A: Allocator + Clone> ThetaUnion<A> {
         Ok(CompactThetaSketch::of_state(state))
     }
 
-    /// Lowers the nominal entries to 2^`lg_k`, at least 2^4 and no more than now. The union's value is cut to those, later updates
-    /// and answers keep no more, and so do those after a `reset`. An empty union stays empty. Its own `lg_k` changes nothing and
-    /// takes no memory.
+    /// Lowers the nominal entries to 2^`lg_k`, at least 2^4 and no more than now. The union's value is cut to those,
+    /// and later values have no more, also after a `reset`. An empty union stays empty. With its own `lg_k` nothing
+    /// changes, and nothing is allocated.
     ///
     /// Refused, in this order, with `Failed` if the union has failed, with `InvalidArgument` if `lg_k` isn't from 4 to its own,
-    /// and with `OutOfMemory`; the union is unchanged.
+    /// and with `OutOfMemory`; then the union is unchanged.
     pub fn lower_lg_k(&mut self, lg_k: u8) -> Result<(), Error>
         ensures after { OnOk result (self.new ≡ lowered hash_key lg_k self.old) }
         ensures value { OnOk result (union_value hash_key self.new ≡ cut_value hash_key (2 ^ lg_k) (union_value hash_key self.old)) }
@@ -110,7 +112,7 @@ impl<A: Allocator + Clone> ThetaUnion<A> {
         self.state.lower_lg_k(lg_k)
     }
 
-    /// How many bytes the slots of its table take, free ones too: eight a slot, of which there are 32 to 2^(`lg_k` + 1).
+    /// Bytes taken by the slots of its table, including free ones: eight per slot, with 32 to 2^(`lg_k` + 1) slots.
     pub fn estimated_size(&self) -> usize {
         self.state.estimated_size()
     }

@@ -1,4 +1,4 @@
-//! Read-only views of theta sketches, which operators take.
+//! Read-only views of theta sketches, for operators.
 ghost use Rattle.std.specs.Prelude.{◌≡◌};
 ghost use Rattle.core_compact.specs.CompactState.{compact_value, shown_of};
 ghost use Rattle.core_laws.specs.Entries.{hash_key};
@@ -12,7 +12,8 @@ use core_slots::ThetaEntry;
 use core_state::SketchView;
 use std::alloc::{Allocator, Global};
 
-/// A view of a mutable or a compact theta sketch. A mutable one is seen as not ordered. The crate's comment has an example.
+/// A view of a mutable or a compact theta sketch. A view of a mutable sketch is not ordered. The crate's documentation
+/// has an example.
 pub type ThetaSketchView<'a, A = Global> = SketchView<'a, ThetaEntry, A>;
 
 impl<'a, A: Allocator> From<&'a ThetaSketch<A>> for SketchView<'a, ThetaEntry, A> {

@@ -1,4 +1,4 @@
--- What the bytes before the entries of a tuple image come to: the relation, read in one way.
+-- The layouts of tuple images: each reading of the relation has a layout, and each layout is a reading.
 use Rattle.std.proofs.Common.{◌≡◌, ℕ, ◌≤◌, ◌⊎◌, Bool, true, false, cond, not, List, length, slice_index, Option, None, refl, inl, inr, arith, ltb, leb, eqb, ◌&&◌, ◌||◌}
 use Rattle.std.proofs.lemmas.Bool.Decides.{nat_tests}
 use Rattle.std.proofs.lemmas.Bool.{cases_eq}
@@ -40,11 +40,11 @@ module _ {S : Type 0} (Spells : List ℕ → S → Type 0) (bytes : List ℕ) (h
       let kind = type_test (slice_index bytes 3) r.type_read in
       grind (arith, nat_tests, b.whole, b.longs_are, b.longs_low, b.longs_high, b.family_is, version, kind)
 
-  -- each reading is one that the layout leaves open
+  -- the layout allows each reading
   pub tuple_from : (s : Compact (TupleEntry S)) → SpellsSketch Spells bytes h s → Comes (tuple_layout bytes h) s
   tuple_from s r = along tuple_key (SpellsTuple Spells) bytes h _ _ s (begun s r) (flagged_from tuple_key (SpellsTuple Spells) bytes h r.longs r.filled)
 
-  -- each state that the layout leaves open is a reading
+  -- each state that the layout allows is a reading
   pub tuple_to : (s : Compact (TupleEntry S)) → Comes (tuple_layout bytes h) s → SpellsSketch Spells bytes h s
   unfolding tuple_layout
   tuple_to s q =

@@ -17,7 +17,7 @@ IsVersion version = (version ≡ 3) ⊎ (version ≡ 1)
 abbrev pub IsSketchType : ℕ → Type 0
 IsSketchType kind = (kind ≡ 1) ⊎ (kind ≡ 5)
 
--- a beginning of the bytes spells the sketch, under the reader's seed hash h
+-- a prefix of the bytes spells the sketch, under the reader's seed hash h
 pub record SpellsSketch {S : Type 0} (Spells : List ℕ → S → Type 0) (bytes : List ℕ) (h : ℕ) (s : Compact (TupleEntry S)) : Type 0 where
   pub longs : ℕ
   pub version : ℕ
@@ -39,6 +39,6 @@ IsReadable {S} Spells bytes h = (s : Compact (TupleEntry S)) × Reads Spells byt
 abbrev pub HasValues : {S : Type 0} → (S → Type 0) → Compact (TupleEntry S) → Type 0
 HasValues IsValue s = AllByRecursion (is_tuple_value IsValue) s.entries
 
--- the image that is written of a sketch, with each summary's text
+-- the image of a sketch, with each summary's text
 abbrev pub written : {S : Type 0} → (S → List ℕ) → Compact (TupleEntry S) → List ℕ
 written text = written_image (tuple_text text) 9 1

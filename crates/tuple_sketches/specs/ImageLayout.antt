@@ -1,4 +1,4 @@
--- Reading the bytes before the entries of a tuple image in one way.
+-- How the bytes before the entries of a tuple image are read, as a function.
 use Rattle.std.specs.Prelude.{ℕ, ◌==◌, ◌&&◌, ◌||◌, Bool, not, nat_lt, nat_le, List, length, slice_index, Option, None, if◌then◌else◌}
 use Rattle.core_images.specs.Preamble.{flagged_layout}
 use Rattle.core_images.specs.declared.preamble.Layout.{Layout}

@@ -16,8 +16,8 @@ use sketch_base::{DEFAULT_UPDATE_SEED, Error, ErrorKind, compute_seed_hash};
 use std::alloc::Allocator;
 use std::marker::Model;
 
-/// The difference of tuple sketches of one seed: the entries of the one whose keys the other lacks. Contracts see the seed's
-/// hash.
+/// The difference operator for tuple sketches of one seed: it returns the entries of one sketch whose keys another
+/// lacks. Contracts see the seed's hash.
 ///
 /// ```
 /// let difference = TupleANotB::default()?;
@@ -39,7 +39,7 @@ impl Model for TupleANotB {
 }
 
 impl TupleANotB {
-    /// For sketches of the default seed, 9001. It takes no memory.
+    /// An operator for sketches of the default seed, 9001. It allocates nothing.
     ///
     /// Refused as `with_seed` is.
     pub fn default() -> Result<Self, Error>
@@ -49,7 +49,7 @@ impl TupleANotB {
         TupleANotB::with_seed(DEFAULT_UPDATE_SEED)
     }
 
-    /// For sketches of this seed. It takes no memory.
+    /// An operator for sketches of this seed. It allocates nothing.
     ///
     /// Refused with `InvalidArgument` for a seed whose seed hash is 0.
     pub fn with_seed(seed: u64) -> Result<Self, Error>
@@ -60,24 +60,23 @@ impl TupleANotB {
         Ok(TupleANotB { seed_hash })
     }
 
-    /// The hash of the seed of its sketches, of 16 bits, other than 0 for what `with_seed` made.
+    /// The hash of the seed of its sketches, of 16 bits. It isn't 0 if `default` or `with_seed` returned the operator.
     pub fn seed_hash(&self) -> u16
         ensures { result ≡ self.now }
     {
         self.seed_hash
     }
 
-    /// The entries of `a` whose keys `b` lacks, with their summaries, below the lesser theta, in memory of `alloc` or a clone
-    /// of it. The summaries of `b` may be of any type, and are not read.
+    /// Returns the entries of `a` whose keys `b` lacks, with their summaries, below the lesser theta, in memory of
+    /// `alloc` or a clone of it. The summaries of `b` may have any type, and are not read.
     ///
-    /// An empty `a` gives an empty sketch with its own seed hash, and then no seed is checked. An empty `b` gives the value
-    /// of `a`, and its own seed is not checked. Where neither is empty, no entry is left and the lesser theta is
-    /// `MAX_THETA`, the sketch is empty. It is ordered where that is asked or `a` is ordered, and where it is empty or has
-    /// one entry at the greatest theta.
+    /// If `a` is empty, the result is an empty sketch with the seed hash of `a`, and no seed is checked. If `b` is
+    /// empty, the result has the value of `a`, and the seed of `b` is not checked. If neither is empty, no entry is
+    /// left and the lesser theta is `MAX_THETA`, the result is empty. The result is ordered if `ordered` is true or `a`
+    /// is ordered, if it is empty, or if it has one entry at the greatest theta.
     ///
-    /// Refused with `InvalidArgument` where `a` isn't empty and it, or a `b` that isn't empty, is of another seed; with
-    /// `OutOfMemory` where memory is. The inputs stay as they are. A caller knows that clones of summaries equal their
-    /// originals.
+    /// Refused with `InvalidArgument` if `a` isn't empty and it, or a `b` that isn't empty, is of another seed, and
+    /// with `OutOfMemory`. The inputs don't change. Clones of summaries must equal their originals.
     pub fn compute<S: Clone, T: Drop, A: Allocator + Clone, B: Allocator, C: Allocator>(
         &self,
         alloc: A,

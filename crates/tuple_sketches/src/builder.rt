@@ -12,7 +12,7 @@ use core_table::ResizeFactor;
 use sketch_base::Error;
 use std::alloc::Allocator;
 
-/// Builds a tuple sketch under a policy. Nothing is checked before `build`. The crate's comment has an example.
+/// Builds a tuple sketch under a policy. Nothing is checked before `build`. The crate's documentation has an example.
 #[derive(Debug, Drop)]
 pub struct TupleSketchBuilder<P> {
     settings: Settings,
@@ -20,7 +20,7 @@ pub struct TupleSketchBuilder<P> {
 }
 
 impl<P> TupleSketchBuilder<P> {
-    /// Under this policy, with 4096 nominal entries, the greatest starting theta and the default seed.
+    /// A builder with this policy, 4096 nominal entries, the greatest starting theta and the default seed, 9001.
     pub fn new(policy: P) -> Self
         ensures { result ≡ record { settings = default_settings; policy = policy } }
     {
@@ -28,7 +28,7 @@ impl<P> TupleSketchBuilder<P> {
         TupleSketchBuilder { settings, policy }
     }
 
-    /// With 2^`lg_k` nominal entries; `build` wants `lg_k` from 4 to 26.
+    /// Sets 2^`lg_k` nominal entries; `build` requires `lg_k` from 4 to 26.
     pub fn lg_k(mut self, lg_k: u8) -> Self
         ensures { result ≡ record self { settings = record self.settings { lg_k = lg_k } } }
     {
@@ -36,7 +36,7 @@ impl<P> TupleSketchBuilder<P> {
         self
     }
 
-    /// With this resize factor, by which its slots grow. Of all answers only `estimated_size` depends on it.
+    /// Sets the resize factor: by how much the number of slots grows. Of all results, only `estimated_size` depends on it.
     pub fn resize_factor(mut self, resize_factor: ResizeFactor) -> Self
         ensures { result ≡ record self { settings = record self.settings { resize_factor = resize_factor } } }
     {
@@ -44,7 +44,7 @@ impl<P> TupleSketchBuilder<P> {
         self
     }
 
-    /// With this starting theta; `build` wants it from 1 to `MAX_THETA`.
+    /// Sets the starting theta; `build` requires it from 1 to `MAX_THETA`.
     pub fn starting_theta(mut self, starting_theta: u64) -> Self
         ensures { result ≡ record self { settings = record self.settings { starting_theta = starting_theta } } }
     {
@@ -52,7 +52,7 @@ impl<P> TupleSketchBuilder<P> {
         self
     }
 
-    /// With this seed; `build` refuses one whose seed hash is 0.
+    /// Sets the seed; `build` refuses one whose seed hash is 0.
     pub fn seed(mut self, seed: u64) -> Self
         ensures { result ≡ record self { settings = record self.settings { seed = seed } } }
     {
@@ -62,8 +62,8 @@ impl<P> TupleSketchBuilder<P> {
 }
 
 impl<P: SummaryPolicy + Drop> TupleSketchBuilder<P> {
-    /// An empty sketch in memory of `alloc`. Refused with `InvalidArgument` for settings that no sketch may have, and with
-    /// `OutOfMemory`.
+    /// Builds an empty sketch in memory of `alloc`. Refused with `InvalidArgument` if a setting is out of range or the
+    /// seed hash is 0, and with `OutOfMemory`.
     pub fn build<A: Allocator + Drop>(self, alloc: A) -> Result<TupleSketch<P, A>, Error>
         ensures empty { IfOk result (λ s. s.state.empty ≡ true) }
         ensures made { IfOk result (λ s. s.state.map ≡ empty_table self.settings.lg_k self.settings.starting_theta self.settings.seed) }

@@ -1,4 +1,4 @@
-//! Tuple sketches that no longer change.
+//! Compact tuple sketches, which are immutable.
 ghost use Rattle.std.specs.Prelude.{◌≡◌, ◌≤◌, ◌&&◌, true, not, nat_lt, None, length, IfOk};
 ghost use Rattle.core_compact.specs.CompactState.{IsCompact, shown_of, compact_value};
 ghost use Rattle.core_laws.specs.Entries.{ClonesEqual};
@@ -19,8 +19,8 @@ use sketch_base::Error;
 use std::alloc::{Allocator, Global};
 use std::marker::Model;
 
-/// A tuple sketch that no longer changes: its entries in a list, with its theta. Contracts see a record of these.
-/// The crate's comment has an example.
+/// An immutable tuple sketch: its entries in a list, with its theta. Contracts see a record of these. The crate's
+/// documentation has an example.
 #[derive(Drop)]
 pub struct CompactTupleSketch<S: Drop, A: Allocator = Global> {
     state: CompactSketchState<TupleEntry<S>, A>,
@@ -57,7 +57,7 @@ impl<S: Drop, A: Allocator> CompactTupleSketch<S, A> {
         TupleSketchView::of_compact(&self.state)
     }
 
-    /// Whether it is empty: no update was accepted, or an operator answered so.
+    /// Whether it is empty: no update was accepted, or an operator returned an empty result.
     pub fn is_empty(&self) -> bool
         ensures { result ≡ self.now.empty }
     {
@@ -71,7 +71,7 @@ impl<S: Drop, A: Allocator> CompactTupleSketch<S, A> {
         self.state.is_estimation_mode()
     }
 
-    /// Its theta, from 1 to `MAX_THETA`, which it is for an empty sketch.
+    /// Its theta, from 1 to `MAX_THETA`. It is `MAX_THETA` for an empty sketch.
     pub fn theta64(&self) -> u64
         ensures { result ≡ self.now.theta }
     {
@@ -86,7 +86,7 @@ impl<S: Drop, A: Allocator> CompactTupleSketch<S, A> {
         self.state.retained_entries().len()
     }
 
-    /// The fraction whose quotient estimates how many distinct keys were seen, not reduced: the retained entries times
+    /// The estimated number of distinct keys seen, as a fraction that is not reduced: the retained entries times
     /// `MAX_THETA`, below 2^95, over theta, from 1 to `MAX_THETA`; 0 over 1 for an empty sketch.
     pub fn estimate_fraction(&self) -> (u128, u128)
         ensures { result ≡ compact_fraction self.now }
@@ -116,22 +116,22 @@ impl<S: Drop, A: Allocator> CompactTupleSketch<S, A> {
         self.state.seed_hash()
     }
 
-    /// Its entries, in its order: ascending by hash where it is ordered.
+    /// Its entries, in its order: ascending by hash if it is ordered.
     pub fn iter(&self) -> TupleSketchIter<'_, S>
         ensures { result ≡ record { rest = self.now.entries; counted = true } }
     {
         EntryIter::of_slice(self.state.retained_entries())
     }
 
-    /// How many bytes its entries take, without what their summaries hold elsewhere.
+    /// Bytes taken by its entries, without memory that summaries own elsewhere.
     pub fn estimated_size(&self) -> usize {
         size_of_val(self.state.retained_entries())
     }
 }
 
 impl<S: Clone, A: Allocator + Clone> CompactTupleSketch<S, A> {
-    /// The same sketch again, in memory of a clone of its allocator. Refused with `OutOfMemory` alone. A caller knows that
-    /// clones of summaries equal their originals.
+    /// Returns a copy of the sketch, in memory of a clone of its allocator. Refused with `OutOfMemory` alone. Clones of
+    /// summaries must equal their originals.
     pub fn clone(&self) -> Result<Self, Error>
         requires clones_equal { ClonesEqual S.is_clone }
         ensures ok { IfOk result (λ s. s ≡ self.now) }

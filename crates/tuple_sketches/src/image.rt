@@ -20,13 +20,13 @@ use core_slots::TupleEntry;
 use sketch_base::{DEFAULT_UPDATE_SEED, Error, ErrorKind, Family, compute_seed_hash};
 use std::alloc::Allocator;
 
-/// The version of images as they are written, byte 1 of an image.
+/// The version of written images, in byte 1 of an image.
 pub const SERIAL_VERSION: u8 = 3;
 
 /// The older version that is read too.
 pub const SERIAL_VERSION_LEGACY: u8 = 1;
 
-/// The sketch type of images as they are written, byte 3 of an image.
+/// The sketch type of written images, in byte 3 of an image.
 pub const SKETCH_TYPE: u8 = 1;
 
 /// The older sketch type that is read too.
@@ -49,8 +49,8 @@ fn is_sketch_type(kind: u8) -> bool
     kind == SKETCH_TYPE || kind == SKETCH_TYPE_LEGACY
 }
 
-/// What stands in an image by its preamble, or `None` where there is no tuple sketch of 1 to 3 preamble longs, and of a version
-/// and sketch type that are read.
+/// The layout of an image by its preamble, or `None` if it isn't a tuple sketch with 1 to 3 preamble longs and with a
+/// version and sketch type that are read.
 #[tactic(auto, unfolding(crate::specs::ImageLayout::tuple_layout))]
 fn tuple_layout(bytes: &[u8], seed_hash: u16) -> Option<Layout>
     ensures { result ≡ tuple_layout bytes.now seed_hash }
@@ -65,7 +65,7 @@ fn tuple_layout(bytes: &[u8], seed_hash: u16) -> Option<Layout>
     }
 }
 
-/// How many bytes an image of these entries takes with a preamble of three longs, or the greatest number where it is more.
+/// The number of bytes of an image of these entries with a preamble of three longs, at most 2^64 - 1.
 fn greatest_size<S: TupleSummaryValue<A>, A: Allocator>(entries: &[TupleEntry<S>]) -> usize
     ensures { result ≡ min (24 + length (flat_map (tuple_text S.text) entries.now)) (2 ^ 64 - 1) }
 {
@@ -79,8 +79,9 @@ fn greatest_size<S: TupleSummaryValue<A>, A: Allocator>(entries: &[TupleEntry<S>
 }
 
 impl<S: TupleSummaryValue<A> + Drop, A: Allocator + Clone + Drop> CompactTupleSketch<S, A> {
-    /// The sketch's image, in memory of a clone of its allocator. Refused with `OutOfMemory` alone, also where a summary
-    /// refuses to be written. Where it is not refused, every summary is a value, so that the image is read as this sketch.
+    /// Returns the sketch's image, in memory of a clone of its allocator. Refused with `OutOfMemory` alone, also if
+    /// writing a summary is refused. If it isn't refused, every summary is a value, so that the image is read as this
+    /// sketch.
     pub fn serialize(&self) -> Result<Vec<u8, A>, Error>
         ensures ok { IfOk result (λ v. v.items ≡ written S.text self.now) }
         ensures values { OnOk result (HasValues S.is_value self.now) }
@@ -91,7 +92,7 @@ impl<S: TupleSummaryValue<A> + Drop, A: Allocator + Clone + Drop> CompactTupleSk
         write_image_with_capacity(alloc, self.state(), Family::TUPLE, SKETCH_TYPE, capacity)
     }
 
-    /// The sketch that a beginning of the bytes spells, under the seed of sketches for which no other is asked.
+    /// Reads the sketch that the bytes begin with, under the default seed, 9001. Bytes after the image are ignored.
     ///
     /// Refused as `deserialize_with_seed` is.
     pub fn deserialize(alloc: A, bytes: &[u8]) -> Result<Self, Error>
@@ -101,14 +102,15 @@ impl<S: TupleSummaryValue<A> + Drop, A: Allocator + Clone + Drop> CompactTupleSk
         CompactTupleSketch::deserialize_with_seed(alloc, bytes, DEFAULT_UPDATE_SEED)
     }
 
-    /// The sketch that a beginning of the bytes spells, under this seed. Bytes after the image are ignored.
+    /// Reads the sketch that the bytes begin with, under this seed. Bytes after the image are ignored.
     ///
-    /// Refused with `InvalidData` only where the seed hash is 0 or the bytes spell no sketch: they end too early, are of
-    /// another family, version or sketch type, have not 1 to 3 preamble longs, tell another seed hash, a theta that isn't from
-    /// 1 to `MAX_THETA`, or hashes that repeat, do not ascend where they are said to, or are not from 1 to below theta, or go
-    /// on behind a hash with what spells no summary. An empty sketch's seed hash is not asked. Refused with `OutOfMemory`
-    /// where memory is, also for such bytes: it asks for no more entries than the bytes could fill with their hashes, for
-    /// eight bytes an entry to compare hashes that do not ascend, and for what a summary asks for.
+    /// Refused with `InvalidData` only if the seed hash is 0 or the bytes begin with no sketch: they end too early,
+    /// have another family, version or sketch type, don't have 1 to 3 preamble longs, have another seed hash, a theta
+    /// that isn't from 1 to `MAX_THETA`, hashes that repeat, don't ascend though the image is ordered, or aren't from 1
+    /// to below theta, or bytes after a hash that spell no summary. The seed hash of an empty sketch is not checked.
+    /// Refused with `OutOfMemory` if memory runs out, also for such bytes: it allocates at most as many entries as the
+    /// bytes could fill with their hashes, eight bytes per entry to compare hashes that don't ascend, and what reading
+    /// summaries allocates.
     pub fn deserialize_with_seed(alloc: A, bytes: &[u8], seed: u64) -> Result<Self, Error>
         ensures ok { IfOk result (λ s. Reads S.spells bytes.now (seed_hash seed) s) }
         ensures refused { IfErr result (λ e. IsRefused e (IsReadable S.spells bytes.now (seed_hash seed))) }

@@ -19,19 +19,19 @@ use core_slots::TupleEntry;
 use sketch_base::{DEFAULT_UPDATE_SEED, Error};
 use std::alloc::{Allocator, Global};
 
-/// An intersection of tuple sketches that are handed over one by one.
+/// An intersection of tuple sketches, passed one by one.
 ///
-/// It has no value before its first sketch. Its value has the keys that all its sketches share, below their least theta, and
-/// the summaries of a key are combined by its policy, in the order of the sketches. It is empty once a sketch is, or once
-/// sketches with keys and at the greatest theta share none. A refused update leaves it as it was.
-/// The crate's comment has an example.
+/// It has no value before its first sketch. Its value has the keys that all its sketches share, below their least
+/// theta; its policy combines the summaries of a key, in the order of the sketches. The value is empty once a sketch
+/// is, or once sketches that have keys share none while theta is still the greatest. A refused update changes nothing.
+/// The crate's documentation has an example.
 #[derive(Drop)]
 pub struct TupleIntersection<P: SummaryPolicy, A: Allocator = Global> {
     state: IntersectionState<TupleEntry<P::Summary>, P, A>,
 }
 
 impl<P: SummaryPolicy + Drop, A: Allocator + Drop> TupleIntersection<P, A> {
-    /// An intersection of sketches of the default seed, 9001, under this policy, which has seen none. It takes no memory.
+    /// A new intersection of sketches of the default seed, 9001, under this policy, without a value. It allocates nothing.
     ///
     /// Refused as `with_seed` is.
     pub fn new(alloc: A, policy: P) -> Result<Self, Error>
@@ -41,7 +41,7 @@ impl<P: SummaryPolicy + Drop, A: Allocator + Drop> TupleIntersection<P, A> {
         TupleIntersection::with_seed(alloc, policy, DEFAULT_UPDATE_SEED)
     }
 
-    /// An intersection of sketches of this seed, under this policy, which has seen none. It takes no memory.
+    /// A new intersection of sketches of this seed, under this policy, without a value. It allocates nothing.
     ///
     /// Refused with `InvalidArgument` for a seed whose seed hash is 0.
     pub fn with_seed(alloc: A, policy: P, seed: u64) -> Result<Self, Error>
@@ -54,29 +54,30 @@ impl<P: SummaryPolicy + Drop, A: Allocator + Drop> TupleIntersection<P, A> {
 }
 
 impl<P: SummaryPolicy, A: Allocator> TupleIntersection<P, A> {
-    /// Whether it has seen a sketch, and so has a value.
+    /// Whether a sketch was passed to it, so that it has a value.
     pub fn has_result(&self) -> bool
         ensures { result ≡ is_some self.now.state.result }
     {
         self.state.has_result()
     }
 
-    /// How many bytes the slots of its table take, free ones too, without what summaries hold elsewhere. There are none
-    /// before its first sketch.
+    /// Bytes taken by the slots of its table, including free ones, without memory that summaries own elsewhere. There
+    /// are no slots before its first sketch.
     pub fn estimated_size(&self) -> usize {
         self.state.estimated_size()
     }
 }
 
 impl<P: SummaryCombinePolicy + Drop, A: Allocator + Clone> TupleIntersection<P, A> {
-    /// Intersects with a sketch. In this order: once empty it accepts every sketch unchecked and stays empty; an empty sketch
-    /// makes it empty, and its seed is not checked; a sketch of another seed is refused; the first sketch is taken whole; of
-    /// each other one only the keys that are held too stay, below the lesser theta, which it then has, each summary combined
-    /// with the one that comes in. Where that leaves none, of some on either side and at the greatest theta, it is empty.
+    /// Intersects with a sketch. The first rule that applies is used: once empty, the intersection accepts every sketch
+    /// unchecked and stays empty; an empty sketch makes it empty, and its seed is not checked; a sketch of another seed
+    /// is refused; the first sketch is copied as it is; with any other sketch, it keeps only the keys that both have
+    /// below the lesser theta, which becomes its theta, and the policy combines each retained summary with the incoming
+    /// one. If both had keys, none is left and theta is the greatest, the value becomes empty.
     ///
-    /// Refused with `InvalidArgument` for a sketch of another seed, with `OutOfMemory`, and with `Policy` where the policy
-    /// refuses the summaries of a shared key below the lesser theta; then nothing has changed. A caller knows that clones of
-    /// summaries equal their originals.
+    /// Refused with `InvalidArgument` for a sketch of another seed, with `OutOfMemory`, and with `Policy` if the policy
+    /// refuses the summaries of a shared key below the lesser theta; then nothing has changed. Clones of summaries must
+    /// equal their originals.
     pub fn update<B: Allocator>(
         &mut self,
         sketch: TupleSketchView<'_, P::Summary, B>,
@@ -94,9 +95,9 @@ impl<P: SummaryCombinePolicy + Drop, A: Allocator + Clone> TupleIntersection<P, 
         meet_view(&mut self.state, sketch)
     }
 
-    /// Its value, or `None` before its first sketch. Ordered where that is asked, or it is empty or has one entry at the
-    /// greatest theta. The intersection stays as it is. Refused with `OutOfMemory` alone, and only where there is a value. A
-    /// caller knows that clones of summaries equal their originals.
+    /// Returns its value as a compact sketch, or `None` before its first sketch. The result is ordered if `ordered` is
+    /// true, if it is empty, or if it has one entry at the greatest theta. The intersection doesn't change. Refused
+    /// with `OutOfMemory` alone, and only if there is a value. Clones of summaries must equal their originals.
     pub fn to_sketch(
         &self,
         ordered: bool,

@@ -1,5 +1,4 @@
-//! Laws of the definitions, which no sketch takes part in: those of leaves of every family at the entries and steps of tuples,
-//! and those of images.
+//! Laws of the definitions alone: the laws of leaves at the entries and steps of tuples, and those of images.
 ghost use Rattle.std.specs.Prelude.{◌≡◌, ℕ, ◌<◌, ◌≤◌, ◌^◌, List, ◌++◌, ◌∷◌, [], None, Option, Some, map, true, false};
 ghost use Rattle.sketch_base.specs.declared.error.ErrorKind.{ErrorKind};
 ghost use Rattle.core_laws.specs.Cuts.{Retained, cut};
@@ -32,40 +31,41 @@ pub fn allowed_update<S, U>()
     ensures { (creates : Option S) (updates : S → U → Option S) (k h : ℕ) (value : U) (v : Retained (TupleEntry S)) → upsert_refusal tuple_key h (update_step creates updates h value) v ≡ None → unmarked (after_upsert tuple_key k h (update_step creates updates h value) v) ≡ after_upsert (fold_key tuple_key) k h (folded_of tuple_key (update_step creates updates) h value) (unmarked v) }
 {}
 
-/// A trim of entries is a trim of folds. So each step of a leaf that isn't refused is one on folds; a reset leaves nothing to
-/// fold.
+/// A trim of entries is a trim of folds. So each step of a leaf, if it isn't refused, is a step on folds; after a reset
+/// there is nothing to fold.
 pub fn trim_of_folds<S>()
     ensures { (k : ℕ) (v : Retained (TupleEntry S)) → unmarked (cut tuple_key k v.entries v.theta) ≡ cut (fold_key tuple_key) k (unmarked v).entries v.theta }
 {}
 
-/// An update that is refused leaves a mark in the whole map that what is retained is a part of.
+/// If the retained entries are the part of the whole map below theta, a refused update leaves a mark in the whole map.
 pub fn refused_update_marks<S, U>()
     ensures { (creates : Option S) (updates : S → U → Option S) (h : ℕ) (value : U) (v : Retained (TupleEntry S)) (whole : List (Fold (TupleEntry S))) (kind : ErrorKind) → map Value v.entries ≡ below (fold_key tuple_key) whole v.theta → upsert_refusal tuple_key h (update_step creates updates h value) v ≡ Some kind → has_mark (whole_upsert (fold_key tuple_key) h (folded_of tuple_key (update_step creates updates) h value) whole) ≡ true }
 {}
 
-/// A leaf's value, in folds, is a sample of the whole map of what was added, and its theta is lawful.
+/// A leaf's value, in folds, is a sample of the whole map of everything added, and its theta is lawful.
 pub fn tuple_leaf_is_sample<S, U>()
     ensures sample { (creates : Option S) (updates : S → U → Option S) (k start : ℕ) (steps : List (LeafStep U)) → start ≤ MAX_THETA → IsSample (fold_key tuple_key) (leaf (fold_key tuple_key) (folded_of tuple_key (update_step creates updates)) k start steps) (whole (fold_key tuple_key) (folded_of tuple_key (update_step creates updates)) steps) }
     ensures lawful { (creates : Option S) (updates : S → U → Option S) (k start : ℕ) (steps : List (LeafStep U)) → start ≤ MAX_THETA → IsLawfulValue (fold_key tuple_key) k start (leaf (fold_key tuple_key) (folded_of tuple_key (update_step creates updates)) k start steps) (whole (fold_key tuple_key) (folded_of tuple_key (update_step creates updates)) steps) }
 {}
 
-/// A leaf that isn't empty and whose last step is a trim retains the k folds of least hash of the whole map of what was added.
+/// A leaf that isn't empty and whose last step is a trim retains the k folds of least hash of the whole map of
+/// everything added.
 pub fn trimmed_tuple_leaf<S, U>()
     ensures { (creates : Option S) (updates : S → U → Option S) (k start : ℕ) (steps : List (LeafStep U)) → start ≤ MAX_THETA → is_updated steps false ≡ true → leaf (fold_key tuple_key) (folded_of tuple_key (update_step creates updates)) k start (steps ++ Trim ∷ []) ≡ NonEmpty (cut (fold_key tuple_key) k (whole (fold_key tuple_key) (folded_of tuple_key (update_step creates updates)) steps) start) }
 {}
 
-/// Bytes are read as one sketch at most.
+/// Bytes are read as at most one sketch.
 pub fn one_reading<S: TupleSummaryValue<A>, A: Allocator>()
     ensures { (bytes : List ℕ) (h : ℕ) (r s : Compact (TupleEntry S)) → Reads S.spells bytes h r → Reads S.spells bytes h s → r ≡ s }
 {}
 
-/// What is written of a sketch is read as that sketch again, whatever follows it: of every sketch that keeps the laws of
-/// compact sketches, whose summaries are values, and whose seed hash is from 1 to 65535.
+/// The image of a sketch is read as that sketch, whatever bytes follow it, if the sketch keeps the laws of compact
+/// sketches, its summaries are values, and its seed hash is from 1 to 65535.
 pub fn read_again<S: TupleSummaryValue<A>, A: Allocator>()
     ensures { (s : Compact (TupleEntry S)) (rest : List ℕ) → IsCompact tuple_key s → HasValues S.is_value s → 0 < s.seed_hash → s.seed_hash < 2 ^ 16 → Reads S.spells (written S.text s ++ rest) s.seed_hash s }
 {}
 
-/// What is written of every empty sketch.
+/// The image of every empty sketch is `EMPTY_SKETCH_BYTES`.
 pub fn written_of_empty<S>()
     ensures { (text : S → List ℕ) (seed_hash : ℕ) → written text (empty_compact seed_hash) ≡ EMPTY_SKETCH_BYTES }
 {}

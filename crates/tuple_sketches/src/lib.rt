@@ -1,12 +1,14 @@
-//! Tuple sketches: a summary beside each distinct key of a stream, as a sum, a count or a greatest value.
+//! Tuple sketches: estimates of how many distinct keys a stream has, with a summary for each retained key, such as a
+//! sum, a count or a greatest value.
 //!
-//! A tuple sketch retains the entries of smallest hash below its theta, as a theta sketch retains hashes, and beside each
-//! hash a summary. Its policy says how a summary begins, how it takes in a value, and where it refuses. Contracts see a
-//! sketch's state (its emptiness, its table as a map with a theta, and what it lends) and its policy; `sketch_value` is the
-//! value of a state: Empty, or the retained entries as a map, ascending by hash, with the theta. Over whole streams a
-//! tuple sketch is a leaf, as a theta sketch is, whose values are what a key's summaries fold to (`laws`).
+//! A tuple sketch retains entries whose hashes are below its theta, as a theta sketch retains hashes; beside its hash,
+//! each entry has a summary. The sketch's policy creates the summary of a new key, updates it with each value, and may
+//! refuse either. Contracts see a sketch's state (whether it is empty, its table as a map with a theta, and its entries
+//! in the order of `iter`) and its policy. The value of a state is `sketch_value`: Empty, or the retained entries as a
+//! map, ascending by hash, with the theta. Over whole streams a tuple sketch is a leaf, as a theta sketch is, with the
+//! folds of each key's summaries as its entries (`laws`).
 //!
-//! The visits of each visitor in one compact sketch, and their sum, which is 8:
+//! A compact sketch of the visits of each visitor, and the sum of all visits, which is 8:
 //!
 //! ```
 //! fn visits(alloc: Global) -> Result<CompactTupleSketch<u64>, Error> {
@@ -28,7 +30,7 @@
 //! let total = total(view.iter());
 //! ```
 //!
-//! The visits of two days together, and of those who came on both days:
+//! The visits of two days together, and of the visitors of both days:
 //!
 //! ```
 //! let sums = DefaultUnionPolicy::<u64>::default();
@@ -43,7 +45,7 @@
 //! let on_both_days = intersection.to_sketch(true)?;
 //! ```
 //!
-//! To bytes and back, for summaries that spell themselves (`TupleSummaryValue`):
+//! To bytes and back, for summaries that implement `TupleSummaryValue`:
 //!
 //! ```
 //! let image = together.serialize()?;

@@ -1,5 +1,5 @@
-//! The operators' calls, handed views of any entries. The borrow checker takes a view there whose entries are a type
-//! parameter, and none whose entries are tuples.
+//! The operators' calls on views, generic over the entries. The borrow checker accepts a view there if its entries are
+//! a type parameter, but not if they are tuples.
 ghost use Rattle.std.specs.Prelude.{◌≡◌, ◌||◌, ◌^◌, [], ◌∷◌, true, None, IfOk, IfErr, OnOk};
 ghost use Rattle.core_laws.specs.Cuts.{IsRetained};
 ghost use Rattle.core_laws.specs.Entries.{ClonesEqual};
@@ -17,7 +17,7 @@ use core_state::SketchView;
 use sketch_base::Error;
 use std::alloc::Allocator;
 
-/// Joins a view to a union: `UnionState::update`.
+/// Merges a view into a union: `UnionState::update`.
 pub(crate) fn join_view<
     'v,
     E: SlotEntry + Clone,

@@ -26,8 +26,9 @@ use sketch_base::Error;
 use std::alloc::{Allocator, Global};
 use std::hash::Hash;
 
-/// A tuple sketch that takes updates: beside each hash it keeps a summary of the values that came with it, as its policy
-/// makes and updates them. Its value is Empty until the first update is accepted. The crate's comment has an example.
+/// A tuple sketch that takes updates: beside each hash it keeps a summary of the values of that key, which its policy
+/// creates and updates. Its value is Empty until the first update is accepted. The crate's documentation has an
+/// example.
 #[derive(Drop)]
 pub struct TupleSketch<P: SummaryPolicy, A: Allocator = Global> {
     state: UpdatableState<TupleEntry<P::Summary>, A>,
@@ -71,7 +72,7 @@ impl<P: SummaryPolicy, A: Allocator> TupleSketch<P, A> {
         self.state.is_estimation_mode()
     }
 
-    /// The theta of its value: from 1 to `MAX_THETA`, and `MAX_THETA` for an empty sketch, whatever its starting theta.
+    /// The theta of its value, from 1 to `MAX_THETA`. It is `MAX_THETA` for an empty sketch, whatever its starting theta.
     pub fn theta64(&self) -> u64
         ensures { result ≡ theta_of (sketch_value self.now.state) }
     {
@@ -87,7 +88,7 @@ impl<P: SummaryPolicy, A: Allocator> TupleSketch<P, A> {
         self.state.num_retained()
     }
 
-    /// The fraction whose quotient estimates how many distinct keys were seen, not reduced: the retained entries times
+    /// The estimated number of distinct keys seen, as a fraction that is not reduced: the retained entries times
     /// `MAX_THETA`, below 2^95, over theta, from 1 to `MAX_THETA`; 0 over 1 for an empty sketch.
     pub fn estimate_fraction(&self) -> (u128, u128)
         ensures { result ≡ fraction_of (sketch_value self.now.state) }
@@ -117,7 +118,7 @@ impl<P: SummaryPolicy, A: Allocator> TupleSketch<P, A> {
         self.state.seed_hash()
     }
 
-    /// Its entries, each once, in an open order.
+    /// Its entries, each once, in an unspecified order.
     pub fn iter(&self) -> TupleSketchIter<'_, P::Summary>
         ensures lent { result ≡ record { rest = self.now.state.lends; counted = false } }
         ensures each_once { IsLent tuple_key self.now.state.map.kept.entries self.now.state.lends }
@@ -125,13 +126,13 @@ impl<P: SummaryPolicy, A: Allocator> TupleSketch<P, A> {
         self.state.entries()
     }
 
-    /// How many bytes the slots of its table take, free ones too, without what summaries hold elsewhere. There are 32 to
-    /// 2^(`lg_k` + 1) slots.
+    /// Bytes taken by the slots of its table, including free ones, without memory that summaries own elsewhere. There
+    /// are 32 to 2^(`lg_k` + 1) slots.
     pub fn estimated_size(&self) -> usize {
         self.state.estimated_size()
     }
 
-    /// Makes it empty again, with its starting theta. It takes no memory.
+    /// Makes it empty again, with its starting theta. It allocates nothing.
     pub fn reset(&mut self)
         ensures empty { self.new.state.empty ≡ true }
         ensures map { self.new.state.map ≡ after_reset self.old.state.map }
@@ -142,11 +143,11 @@ impl<P: SummaryPolicy, A: Allocator> TupleSketch<P, A> {
 }
 
 impl<P: SummaryPolicy, A: Allocator + Clone> TupleSketch<P, A> {
-    /// Takes in a value at a key, by the key's hash under the sketch's seed. Refused as `update_hash` is.
+    /// Updates the summary of a key with a value, by the key's hash under the sketch's seed. Refused as `update_hash` is.
     ///
-    /// A key is hashed as std's `Hash` hands over its bytes, and behind a text std writes one byte more, 255, where
-    /// libraries in other languages hash the bytes of the text alone. For the same hash as theirs, `write` the bytes to a
-    /// `MurmurHash3X64128` of the sketch's seed, and hand `finish128().0 >> 1` to `update_hash`.
+    /// A key is hashed as std's `Hash` writes its bytes, and after a text `Hash` writes one more byte, 255, while
+    /// libraries in other languages hash the bytes of the text alone. To get their hash, `write` the bytes to a
+    /// `MurmurHash3X64128` of the sketch's seed, and pass `finish128().0 >> 1` to `update_hash`.
     #[inline(always)]
     pub fn update<K: Hash + Drop, U: Drop>(&mut self, key: K, value: U) -> Result<(), Error>
     where
@@ -162,12 +163,12 @@ impl<P: SummaryPolicy, A: Allocator + Clone> TupleSketch<P, A> {
         self.update_hash(hash, value)
     }
 
-    /// Takes in a value at a hash: the policy updates the summary that the sketch has there, or one that it creates for a new
-    /// hash. A hash that is 0 or at least theta is not retained, and no policy is called, but the sketch becomes nonempty all
-    /// the same.
+    /// Updates the summary of a hash with a value: the policy updates the retained summary, or one that it creates for
+    /// a new hash. A hash that is 0 or at least theta is not retained, and no policy is called, but the sketch becomes
+    /// nonempty.
     ///
-    /// Refused with `Policy` where the policy refuses to create or to update, and with `OutOfMemory`; neither can come for a
-    /// hash that is 0 or at least theta. Then nothing has changed, emptiness and summaries included.
+    /// Refused with `Policy` if the policy refuses to create or to update, and with `OutOfMemory`; then nothing has
+    /// changed, emptiness and summaries included. A hash that is 0 or at least theta is never refused.
     #[inline(always)]
     pub fn update_hash<U: Drop>(&mut self, hash: u64, value: U) -> Result<(), Error>
     where
@@ -183,10 +184,10 @@ impl<P: SummaryPolicy, A: Allocator + Clone> TupleSketch<P, A> {
         self.state.upsert(hash, step)
     }
 
-    /// Where more than k entries are retained, k being its 2^`lg_k` nominal entries, lowers theta to the (k+1)th smallest
-    /// hash and keeps the k below it.
+    /// If more than k entries are retained, where k is 2^`lg_k`, lowers theta to the (k+1)th smallest hash and keeps
+    /// the k entries below it.
     ///
-    /// Refused with `OutOfMemory` alone, and only where more than k are retained; then nothing has changed.
+    /// Refused with `OutOfMemory` alone, and only if more than k are retained; then nothing has changed.
     pub fn trim(&mut self) -> Result<(), Error>
         ensures same_emptiness { self.new.state.empty ≡ self.old.state.empty }
         ensures after { OnOk result (self.new.state.map ≡ trimmed tuple_key self.old.state.map) }
@@ -197,9 +198,9 @@ impl<P: SummaryPolicy, A: Allocator + Clone> TupleSketch<P, A> {
         self.state.trim()
     }
 
-    /// Its compact form, of the same value, untrimmed. It is ordered where that is asked, or it is empty or has one entry at
-    /// the greatest theta. The sketch stays as it is. Refused with `OutOfMemory` alone. A caller knows that clones of
-    /// summaries equal their originals.
+    /// Returns a compact sketch of the same value, untrimmed. The result is ordered if `ordered` is true, if it is
+    /// empty, or if it has one entry at the greatest theta. The sketch doesn't change. Refused with `OutOfMemory`
+    /// alone. Clones of summaries must equal their originals.
     pub fn compact(&self, ordered: bool) -> Result<CompactTupleSketch<P::Summary, A>, Error>
     where
         P::Summary: Clone,

@@ -22,12 +22,13 @@ use core_state::Settings;
 use sketch_base::Error;
 use std::alloc::{Allocator, Global};
 
-/// A union of tuple sketches that are handed over one by one.
+/// A union of tuple sketches, passed one by one.
 ///
-/// Its value has the joined entries below the least theta of its inputs and its own start; where these are more than k, its
-/// 2^`lg_k` nominal entries, the k of least hash, below the (k+1)th. The summaries of a key that inputs share are combined by
-/// its policy, in the order of the inputs. Where memory or the policy refuses an update the union has failed, until it is
-/// reset. The crate's comment has an example.
+/// Its value has the entries of all its inputs below their least theta and its own starting theta. If these are more
+/// than k, its 2^`lg_k` nominal entries, the value has the k of least hash, and its theta is the (k+1)th hash. Its
+/// policy combines the summaries of a key that inputs share, in the order of the inputs. If memory runs out in an
+/// update, or the policy refuses, the union has failed: until it is reset, `update`, `to_sketch` and `lower_lg_k` are
+/// refused with `Failed`. The crate's documentation has an example.
 #[derive(Drop)]
 pub struct TupleUnion<P: SummaryPolicy, A: Allocator = Global> {
     state: UnionState<TupleEntry<P::Summary>, P, A>,
@@ -49,7 +50,7 @@ impl<P: SummaryPolicy + Drop, A: Allocator + Drop> TupleUnion<P, A> {
         Ok(TupleUnion { state })
     }
 
-    /// Makes it empty again, and ends a failure. It takes no memory.
+    /// Makes it empty again, and ends a failure. It allocates nothing.
     pub fn reset(&mut self)
         ensures { self.new.state ≡ empty_union self.old.state.lg_k self.old.state.start self.old.state.seed_hash self.old.state.policy }
     {
@@ -58,12 +59,12 @@ impl<P: SummaryPolicy + Drop, A: Allocator + Drop> TupleUnion<P, A> {
 }
 
 impl<P: SummaryCombinePolicy + Drop, A: Allocator + Clone> TupleUnion<P, A> {
-    /// Joins a sketch. An empty one changes nothing, and its seed is not checked.
+    /// Merges a sketch into the union. An empty sketch changes nothing, and its seed is not checked.
     ///
-    /// Refused with `Failed` where the union has failed, whatever the input, and with `InvalidArgument` for a sketch of
-    /// another seed; then nothing has changed. Refused with `OutOfMemory`, or with `Policy` where the policy refuses the
-    /// summaries of a key below every theta so far; then the union has failed. A caller knows that clones of summaries equal
-    /// their originals.
+    /// Refused with `Failed` if the union has failed, whatever the input, and with `InvalidArgument` for a sketch of
+    /// another seed; then nothing has changed. Refused with `OutOfMemory`, or with `Policy` if the policy refuses the
+    /// summaries of a key below every theta so far; then the union has failed. Clones of summaries must equal their
+    /// originals.
     pub fn update<B: Allocator>(
         &mut self,
         sketch: TupleSketchView<'_, P::Summary, B>,
@@ -83,9 +84,9 @@ impl<P: SummaryCombinePolicy + Drop, A: Allocator + Clone> TupleUnion<P, A> {
         join_view(&mut self.state, sketch)
     }
 
-    /// Its value, ordered where that is asked, or it is empty or has one entry at the greatest theta. The union stays as it
-    /// is. Refused with `Failed` where the union has failed, and with `OutOfMemory`. A caller knows that clones of summaries
-    /// equal their originals.
+    /// Returns its value as a compact sketch. The result is ordered if `ordered` is true, if it is empty, or if it has
+    /// one entry at the greatest theta. The union doesn't change. Refused with `Failed` if the union has failed, and
+    /// with `OutOfMemory`. Clones of summaries must equal their originals.
     pub fn to_sketch(&self, ordered: bool) -> Result<CompactTupleSketch<P::Summary, A>, Error>
     where
         P::Summary: Clone,
@@ -97,12 +98,12 @@ impl<P: SummaryCombinePolicy + Drop, A: Allocator + Clone> TupleUnion<P, A> {
         Ok(CompactTupleSketch::of_state(state))
     }
 
-    /// Lowers the nominal entries to 2^`lg_k`, at least 2^4 and no more than now. The union's value is cut to those, later updates
-    /// and answers keep no more, and so do those after a `reset`. An empty union stays empty. Its own `lg_k` changes nothing and
-    /// takes no memory.
+    /// Lowers the nominal entries to 2^`lg_k`, at least 2^4 and no more than now. The union's value is cut to those,
+    /// and later values have no more, also after a `reset`. An empty union stays empty. With its own `lg_k` nothing
+    /// changes, and nothing is allocated.
     ///
     /// Refused, in this order, with `Failed` if the union has failed, with `InvalidArgument` if `lg_k` isn't from 4 to its own,
-    /// and with `OutOfMemory`; the union is unchanged. No policy is called. Clones of summaries must equal their
+    /// and with `OutOfMemory`; then the union is unchanged. No policy is called. Clones of summaries must equal their
     /// originals.
     pub fn lower_lg_k(&mut self, lg_k: u8) -> Result<(), Error>
     where
@@ -118,8 +119,8 @@ impl<P: SummaryCombinePolicy + Drop, A: Allocator + Clone> TupleUnion<P, A> {
         self.state.lower_lg_k(lg_k)
     }
 
-    /// How many bytes the slots of its table take, free ones too, without what summaries hold elsewhere. There are 32 to
-    /// 2^(`lg_k` + 1) slots.
+    /// Bytes taken by the slots of its table, including free ones, without memory that summaries own elsewhere. There
+    /// are 32 to 2^(`lg_k` + 1) slots.
     pub fn estimated_size(&self) -> usize
     where
         P::Summary: Clone,

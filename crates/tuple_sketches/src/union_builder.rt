@@ -13,8 +13,8 @@ use core_table::ResizeFactor;
 use sketch_base::Error;
 use std::alloc::Allocator;
 
-/// Builds a tuple union, whose policy combines the summaries of a key that its inputs share. Nothing is checked before
-/// `build`. The crate's comment has an example.
+/// Builds a tuple union under a policy, which combines the summaries of a key that its inputs share. Nothing is checked
+/// before `build`. The crate's documentation has an example.
 #[derive(Debug, Drop)]
 pub struct TupleUnionBuilder<P> {
     settings: Settings,
@@ -22,7 +22,7 @@ pub struct TupleUnionBuilder<P> {
 }
 
 impl<P> TupleUnionBuilder<P> {
-    /// Under this policy, with 4096 nominal entries, the greatest starting theta and the default seed.
+    /// A builder with this policy, 4096 nominal entries, the greatest starting theta and the default seed, 9001.
     pub fn new(policy: P) -> Self
         ensures { result ≡ record { settings = default_settings; policy = policy } }
     {
@@ -30,7 +30,7 @@ impl<P> TupleUnionBuilder<P> {
         TupleUnionBuilder { settings, policy }
     }
 
-    /// With 2^`lg_k` nominal entries; `build` wants `lg_k` from 4 to 26.
+    /// Sets 2^`lg_k` nominal entries; `build` requires `lg_k` from 4 to 26.
     pub fn lg_k(mut self, lg_k: u8) -> Self
         ensures { result ≡ record self { settings = record self.settings { lg_k = lg_k } } }
     {
@@ -38,7 +38,7 @@ impl<P> TupleUnionBuilder<P> {
         self
     }
 
-    /// With this resize factor, by which its slots grow. Of all answers only `estimated_size` depends on it.
+    /// Sets the resize factor: by how much the number of slots grows. Of all results, only `estimated_size` depends on it.
     pub fn resize_factor(mut self, resize_factor: ResizeFactor) -> Self
         ensures { result ≡ record self { settings = record self.settings { resize_factor = resize_factor } } }
     {
@@ -46,7 +46,7 @@ impl<P> TupleUnionBuilder<P> {
         self
     }
 
-    /// With this starting theta; `build` wants it from 1 to `MAX_THETA`.
+    /// Sets the starting theta; `build` requires it from 1 to `MAX_THETA`.
     pub fn starting_theta(mut self, starting_theta: u64) -> Self
         ensures { result ≡ record self { settings = record self.settings { starting_theta = starting_theta } } }
     {
@@ -54,7 +54,7 @@ impl<P> TupleUnionBuilder<P> {
         self
     }
 
-    /// With this seed; `build` refuses one whose seed hash is 0.
+    /// Sets the seed; `build` refuses one whose seed hash is 0.
     pub fn seed(mut self, seed: u64) -> Self
         ensures { result ≡ record self { settings = record self.settings { seed = seed } } }
     {
@@ -64,8 +64,8 @@ impl<P> TupleUnionBuilder<P> {
 }
 
 impl<P: SummaryPolicy + Drop> TupleUnionBuilder<P> {
-    /// An empty union in memory of `alloc`. Refused with `InvalidArgument` for settings that no union may have, and with
-    /// `OutOfMemory`.
+    /// Builds an empty union in memory of `alloc`. Refused with `InvalidArgument` if a setting is out of range or the
+    /// seed hash is 0, and with `OutOfMemory`.
     pub fn build<A: Allocator + Drop>(self, alloc: A) -> Result<TupleUnion<P, A>, Error>
         ensures made { IfOk result (λ u. u.state ≡ empty_union self.settings.lg_k self.settings.starting_theta (seed_hash self.settings.seed) self.policy) }
         ensures refused { Refuses result (settings_refusal self.settings.lg_k self.settings.starting_theta self.settings.seed) true }

@@ -1,4 +1,4 @@
-//! Read-only views of tuple sketches, which operators take, and the entries that they lend.
+//! Read-only views of tuple sketches, for operators, and iterators over their entries.
 ghost use Rattle.std.specs.Prelude.{◌≡◌};
 ghost use Rattle.core_compact.specs.CompactState.{compact_value, shown_of};
 ghost use Rattle.core_state.specs.Updatable.{sketch_shows, sketch_value};
@@ -14,13 +14,13 @@ use core_slots::TupleEntry;
 use core_state::SketchView;
 use std::alloc::{Allocator, Global};
 
-/// A view of a mutable or a compact tuple sketch, whatever its summaries. A mutable one is seen as not ordered.
-/// The crate's comment has an example.
+/// A view of a mutable or a compact tuple sketch, with any summaries. A view of a mutable sketch is not ordered. The
+/// crate's documentation has an example.
 pub type TupleSketchView<'a, S, A = Global> = SketchView<'a, TupleEntry<S>, A>;
 
-/// The entries of a tuple sketch, lent one by one, each once: a mutable sketch's in an open order, a compact one's in its
-/// own. Its `size_hint` is exact over a compact sketch; else at least none, and at most a number that is no less than the
-/// entries left.
+/// Iterates over references to the entries of a tuple sketch, each once: those of a mutable sketch in an unspecified
+/// order, those of a compact sketch in its order. Its `size_hint` is exact over a compact sketch. Over a mutable sketch
+/// the lower bound is 0, and the upper bound is at least the entries left.
 pub type TupleSketchIter<'a, S> = EntryIter<'a, TupleEntry<S>>;
 
 impl<'a, P: SummaryPolicy, A: Allocator> From<&'a TupleSketch<P, A>>

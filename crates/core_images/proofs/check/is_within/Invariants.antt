@@ -2,6 +2,6 @@ use Rattle.std.proofs.Common.{◌≡◌, drop, map}
 use Rattle.core_images.specs.Check.{is_within}
 use Rattle.core_images.proofs.check.is_within.Given as goal
 
--- what is left is within just where all is
+-- the rest is within exactly if all is
 abbrev pub invariant-test_each : goal.invariant-test_each
 invariant-test_each g l = is_within l.theta (map g.E.SketchEntry.key (drop l.entry-index l.entries)) ≡ is_within l.theta (map g.E.SketchEntry.key l.entries)

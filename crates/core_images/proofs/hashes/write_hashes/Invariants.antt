@@ -3,7 +3,7 @@ use Rattle.std.specs.Int.{w64, to_le_bytes}
 use Rattle.std.specs.List.{flat_map}
 use Rattle.core_images.proofs.hashes.write_hashes.Given as goal
 
--- the bytes of the blocks so far stand at the end
+-- the bytes of the blocks so far are appended
 abbrev pub invariant-write_blocks : goal.invariant-write_blocks
 invariant-write_blocks g l = l.bytes.bytes ≡ l.initial.bytes.bytes ++ flat_map (λ b. flat_map (to_le_bytes w64) b) (take l.block-index l.blocks)
 

@@ -3,7 +3,7 @@ use Rattle.core_laws.specs.Maps.{IsAscending, below}
 use Rattle.core_laws.specs.Entries.{hash_key}
 use Rattle.core_operators.proofs.a_not_b.hashes_below.Given as goal
 
--- the hashes so far and those below theta of what is left are all that are below theta
+-- the hashes so far, then those left that are below theta, are all hashes below theta
 abbrev pub invariant-collect_each : goal.invariant-collect_each
 invariant-collect_each g l = record {
   may_go_on : (goal.iterator-collect_each g).can_next l.hash-iterator;

@@ -2,7 +2,7 @@ use Rattle.std.proofs.Common.{length}
 use Rattle.core_operators.proofs.LackingEntries.{IsSifting, to_keep}
 use Rattle.core_operators.proofs.a_not_b.lacking_by_scan.Given as goal
 
--- what is kept so far, and how far both lists are read
+-- the entries kept so far, and how far both lists are read
 abbrev pub invariant-sift_blocks : goal.invariant-sift_blocks
 invariant-sift_blocks g l =
     let key = g.E.SketchEntry.key in

@@ -3,7 +3,7 @@ use Rattle.core_laws.specs.Maps.{IsAscending}
 use Rattle.core_operators.proofs.LackingEntries.{kept_of}
 use Rattle.core_operators.proofs.a_not_b.lacking_by_search.Given as goal
 
--- what is kept so far and what would be of what is left is what would be of all
+-- the entries kept so far, then those to keep among the entries left, are those to keep of all
 abbrev pub invariant-look_up_each : goal.invariant-look_up_each
 invariant-look_up_each g l =
     let key = g.S.Entry.SketchEntry.key in

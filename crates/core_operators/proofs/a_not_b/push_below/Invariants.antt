@@ -2,7 +2,7 @@ use Rattle.std.proofs.Common.{◌≡◌, ◌++◌, drop}
 use Rattle.core_laws.specs.Maps.{IsAscending, below}
 use Rattle.core_operators.proofs.a_not_b.push_below.Given as goal
 
--- what is kept so far and what is below theta of what is left is what is to be kept in all
+-- the entries kept so far, then those left that are below theta, are all entries to keep
 abbrev pub invariant-push_each : goal.invariant-push_each
 invariant-push_each g l =
     let key = g.E.SketchEntry.key in

@@ -7,14 +7,14 @@ use Rattle.std.proofs.lemmas.Bool.Decides.{nat_tests}
 use Rattle.core_operators.proofs.a_not_b.sift.Goals as goal
 use Rattle.core_operators.proofs.a_not_b.sift.Goals.{else-compare_each-test, then-compare_each-test+in_default, then-compare_each-test+in-Some+in_default-first, then-compare_each-test+in-Some+in-Some-first+then-hash-theta}
 
--- all that is behind a place
+-- a slice up to the end is all of the rest
 behind : {X : Type 0} (xs : List X) (n : ℕ) → take (length xs - n) (drop n xs) ≡ drop n xs
 behind xs n = take_all (length xs - n) (drop n xs) (omega (arith, length-drop n xs))
 
 in_slices : {X Y : Type 0} (key : X → ℕ) (other : Y → ℕ) (theta : ℕ) (whole left : List X) (others : List Y) (kept : List X) (n m : ℕ) → IsSifting key other theta whole (drop n left) (drop m others) kept → IsSifting key other theta whole (take (length left - n) (drop n left)) (take (length others - m) (drop m others)) kept
 in_slices key other theta whole left others kept n m is = rw (behind left n, behind others m) is
 
--- what is kept was passed over
+-- a kept entry is also read past
 kept_is_passed : (hash other_hash : ℕ) → cond (ltb hash other_hash) 1 0 ≤ cond (leb hash other_hash) 1 0
 kept_is_passed hash other_hash = grind (arith, nat_tests)
 

@@ -6,7 +6,8 @@ use Rattle.core_laws.specs.Folds.{Value, fold_key, fold_merges, unmarked, never}
 use Rattle.core_operators.proofs.MergedListing.{IsMerging}
 use Rattle.core_operators.proofs.merge.merge_ascending.Given as goal
 
--- what merging the entries that are left below theta gives is what merging all of those gives; the table has at their keys nothing but what it had at first
+-- merging the entries left below theta results in the same map as merging all of those; at their keys the table has
+-- only entries that it had at first
 abbrev pub invariant-merge_in_order : goal.invariant-merge_in_order
 invariant-merge_in_order g l =
     let key = g.E.SketchEntry.key in

@@ -1,7 +1,7 @@
 use Rattle.std.proofs.Common.{◌≡◌, ◌++◌, length}
 use Rattle.core_operators.proofs.share.cloned_entries.Given as goal
 
--- the entries so far and those that are left are all
+-- the entries so far, then those that are left, are all
 abbrev pub invariant-clone_each : goal.invariant-clone_each
 invariant-clone_each g l = record {
   all : l.entries.items ++ l.entry-iterator.rest ≡ g.S.EntrySketch.listing l.fn.sketch;

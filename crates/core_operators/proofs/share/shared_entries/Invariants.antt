@@ -3,7 +3,7 @@ use Rattle.core_laws.specs.Folds.{Value}
 use Rattle.core_operators.proofs.SharedEntries.{IsReading, read_from}
 use Rattle.core_operators.proofs.share.shared_entries.Given as goal
 
--- what was read, and what is to be read of the entries that are left, is what is read of all
+-- the entries found so far, then those to be found among the entries that are left, are those found in all
 abbrev pub invariant-share_each : goal.invariant-share_each
 invariant-share_each g l =
     let key = g.S.Entry.SketchEntry.key in

@@ -3,7 +3,7 @@ use Rattle.core_laws.specs.Operators.{joined}
 use Rattle.core_table.proofs.FilledTables.{IsFilling, last}
 use Rattle.core_operators.proofs.share.table_of.Given as goal
 
--- what is left is put in where its keys are new, and that makes what putting all in makes
+-- inserting the entries that are left, each if its key is new, results in the same map as inserting all
 abbrev pub invariant-put_each : goal.invariant-put_each
 invariant-put_each g l =
     let key = g.E.SketchEntry.key in

@@ -3,6 +3,6 @@ use Rattle.std.specs.List.{flat_map}
 use Rattle.core_images.specs.Summary.{tuple_text}
 use Rattle.tuple_sketches.proofs.image.greatest_size.Given as goal
 
--- the size of what the entries so far take
+-- the size of the entries so far
 abbrev pub invariant-add_each : goal.invariant-add_each
 invariant-add_each g l = l.size ≡ min (24 + length (flat_map (tuple_text g.S.TupleSummaryValue.text) (take l.entry-index l.entries))) (2 ^ 64 - 1)

@@ -3,7 +3,7 @@ use Rattle.std.specs.List.{AllByRecursion, flat_map}
 use Rattle.core_images.specs.Summary.{is_tuple_value, tuple_text}
 use Rattle.core_images.proofs.summary.TupleEntryImageEntry.write_each.Given as goal
 
--- the texts of the entries so far stand at the end, and these are values
+-- the texts of the entries so far are appended, and these entries are values
 abbrev pub invariant-write_each : goal.invariant-write_each
 invariant-write_each g l =
     let summary = g.S.TupleSummaryValue in

@@ -9,17 +9,17 @@ use Rattle.core_state.specs.Updatable.{Updatable}
 use Rattle.core_table.specs.HashTable.{MapTable, after_hashes}
 use Rattle.core_state.proofs.updatable.UpdatableState+ThetaEntry+A.insert_hashes.Goals as goal
 
--- what has a first hash is not empty
+-- a list with a first hash is not empty
 some_there : (b : Bool) (hash : ℕ) (hashes : List ℕ) → (b && (length (hash ∷ hashes) == 0)) ≡ false
 some_there true hash hashes = grind (arith, nat_tests)
 some_there false hash hashes = refl
 
--- what has none is empty if it was
+-- without hashes the state is empty if it was
 none_there : (b : Bool) → b ≡ (b && (0 == 0))
 none_there true = refl
 none_there false = refl
 
--- behind a first hash that was inserted
+-- after a first hash that was inserted
 stopped_behind : (first : ℕ) (hashes others : List ℕ) (old mid new : MapTable ℕ) (was now : Bool) → hashes ≡ first ∷ others → mid ≡ after_hashes (first ∷ []) old → now ≡ false →
     StopsAt others (λ front hash. (new ≡ after_hashes front mid) × IsTrue (upsert_allocates hash_key hash (hash_step hash) new.kept)) →
     StopsAt hashes (λ front hash. (new ≡ after_hashes front old) × (now ≡ (was && (length front == 0))) × IsTrue (upsert_allocates hash_key hash (hash_step hash) new.kept))
