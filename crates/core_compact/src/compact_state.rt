@@ -50,7 +50,10 @@ impl<E: SketchEntry, A: Allocator> CompactSketchState<E, A> {
     /// The state of a sketch that is not empty, though it may have no entries: fewer than 2^32 of them, with distinct
     /// hashes from 1 to below theta, ascending if it is ordered.
     pub fn non_empty(entries: Vec<E, A>, theta: u64, seed_hash: u16, ordered: bool) -> Self
-        requires { IsShown (shown_of E.key (record { empty = false; entries = entries.items; theta = theta; seed_hash = seed_hash; ordered = ordered })) }
+        requires { IsShown (
+            shown_of E.key (
+            record
+            { empty = false; entries = entries.items; theta = theta; seed_hash = seed_hash; ordered = ordered })) }
         ensures { result ≡ record { empty = false; entries = entries.items; theta = theta; seed_hash = seed_hash; ordered = ordered } }
     {
         CompactSketchState {
@@ -132,7 +135,10 @@ impl<E: SketchEntry + Drop, A: Allocator + Clone> CompactSketchState<E, A> {
         requires callable { (g : G) (x : E) → ComesTo G.step f self.entries g x → G.pre g x }
         requires keeps_hash { (g : G) (x : E) (y : F) (next : G) → ComesTo G.step f self.entries g x → G.step g x y next → F.key y ≡ E.key x }
         ensures entries { IfOk result (λ s. (last : G) × MakesInTurn G.step f self.entries s.entries last) }
-        ensures same { IfOk result (λ s. s ≡ record { empty = self.empty; entries = s.entries; theta = self.theta; seed_hash = self.seed_hash; ordered = self.ordered }) }
+        ensures same { IfOk result (λ s.
+            s
+            ≡ record
+            { empty = self.empty; entries = s.entries; theta = self.theta; seed_hash = self.seed_hash; ordered = self.ordered }) }
         ensures refused { Refuses result None true }
     {
         let alloc = self.entries.allocator().clone()?;

@@ -1,7 +1,7 @@
 //! Writing images.
-ghost use Rattle.std.specs.Prelude.{◌≡◌, ◌<◌, ◌^◌, ◌++◌, None, true, length, IfOk, OnOk};
+ghost use Rattle.std.specs.Prelude.{◌≡◌, ◌<◌, ◌^◌, ◌++◌, None, true, IfOk, OnOk};
 ghost use Rattle.std.specs.List.{AllByRecursion};
-ghost use Rattle.core_images.specs.Write.{written_image, counted_bytes, longs_of};
+ghost use Rattle.core_images.specs.Write.{written_image, counted_bytes};
 ghost use Rattle.core_laws.specs.Refusal.{Refuses};
 
 use crate::entry::ImageEntry;

@@ -22,3 +22,8 @@ IsDifference key a entries b asked s = IsAnswer key (minus key hash_key (shown_v
 -- the entries below a theta whose keys others lack
 abbrev pub lacking_below : {X Y : Type 0} → (X → ℕ) → (Y → ℕ) → (theta : ℕ) → List X → List Y → List X
 lacking_below key other_key theta entries others = lacking key other_key (below key entries theta) others
+
+-- a state is the difference of two sketches of hashes, given with their hashes: ordered if that is asked or the first is
+abbrev pub IsHashDifference : (a : Shown) → List ℕ → (b : Shown) → List ℕ → (asked : Bool) → Compact ℕ → Type 0
+IsHashDifference a hashes b others asked s =
+    IsAnswer hash_key (minus hash_key hash_key (shown_value hash_key a hashes) (shown_value hash_key b others)) a.seed_hash (asked || a.ordered) s

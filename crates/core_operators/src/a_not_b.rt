@@ -219,10 +219,14 @@ fn sift<'a, 'b, E: SketchEntry, F: SketchEntry>(
 ) -> Sifted<'a, 'b, E, F>
     requires ascending { IsAscending E.key entries.now }
     requires others_ascend { IsAscending F.key others.now }
-    ensures kept { let left = lacking_below E.key F.key theta in map (λ x. x.now) (take result.count kept.new) ++ left result.entries.now result.others.now ≡ left entries.entry.now others.entry.now }
+    ensures kept { let left = lacking_below E.key F.key theta in
+        map (λ x. x.now) (take result.count kept.new) ++ left result.entries.now result.others.now
+        ≡ left entries.entry.now others.entry.now }
     ensures ascending { IsAscending E.key result.entries.now }
     ensures others_ascend { IsAscending F.key result.others.now }
-    ensures whole { result.count < 64 → lacking E.key F.key (below E.key result.entries.now theta) result.others.now ≡ below E.key result.entries.now theta }
+    ensures whole { result.count < 64
+        → lacking E.key F.key (below E.key result.entries.now theta) result.others.now
+        ≡ below E.key result.entries.now theta }
     ensures few { result.count ≤ 64 }
     ensures room { length kept.new ≡ 64 }
     ensures fewer { result.count + length result.entries.now ≤ length entries.entry.now }
@@ -414,7 +418,10 @@ fn state_of<E: SketchEntry + Drop, A: Allocator>(
     asked: bool,
     ascending: bool,
 ) -> CompactSketchState<E, A>
-    requires { IsShown (shown_of E.key (record { empty = false; entries = entries.items; theta = theta; seed_hash = seed_hash; ordered = ascending })) }
+    requires { IsShown (
+        shown_of E.key (
+        record
+        { empty = false; entries = entries.items; theta = theta; seed_hash = seed_hash; ordered = ascending })) }
     ensures { IsCompactOf E.key (record { entries = map_of E.key entries.items; theta = theta }) seed_hash (asked || ascending) result }
 {
     if asked && !ascending {

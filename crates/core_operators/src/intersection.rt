@@ -102,7 +102,9 @@ impl<
     /// refuses the entries of a shared hash below the lesser theta; then nothing has changed.
     pub fn update<S: EntrySketch<Entry = E>>(&mut self, sketch: S) -> Result<(), Error>
         requires clones_equal { ClonesEqual E.is_clone }
-        ensures met { OnOk result (IsMet E.key (P.merges self.old.policy) (P.refuses self.old.policy) self.old self.new (S.shown sketch) (S.listing sketch)) }
+        ensures met { OnOk result (
+            IsMet E.key (P.merges self.old.policy) (P.refuses self.old.policy) self.old self.new (S.shown sketch)
+            (S.listing sketch)) }
         ensures made_with { self.new ≡ record self.old { result = self.new.result } }
         ensures accepted { OnOk result (intersect_refusal self.old (S.shown sketch) ≡ None) }
         ensures refused { IfErr result (IsIntersectError E.key (P.refuses self.old.policy) self.old self.new (S.shown sketch) (S.listing sketch)) }
@@ -185,10 +187,16 @@ where
     requires of_theta { theta ≡ (S.shown sketch).theta }
     requires counted { count ≡ length (S.shown sketch).hashes }
     requires few { length table.old.map.kept.entries < 2 ^ 32 }
-    ensures met { IfOk result (λ o. IsMetMap S.Entry.key (P.merges policy.now) (P.refuses policy.now) table.old.map theta (S.listing sketch) (outcome_value o table.new.map.kept)) }
+    ensures met { IfOk result (λ o.
+        IsMetMap S.Entry.key (P.merges policy.now) (P.refuses policy.now) table.old.map theta (S.listing sketch)
+        (outcome_value o table.new.map.kept)) }
     ensures few { IfOk result (λ o. option_map_or count_of (outcome_value o table.new.map.kept) 0 < 2 ^ 32) }
     ensures same_seed { IfOk result (λ _. table.new.map.seed_hash ≡ table.old.map.seed_hash) }
-    ensures refused { let kept = table.old.map.kept in IfErr result (λ e. (table.new ≡ table.old) × IsMergeRefusal S.Entry.key (P.refuses policy.now) kept.entries (min kept.theta theta) (S.listing sketch) e) }
+    ensures refused { let kept = table.old.map.kept in
+        IfErr result (λ e.
+        (table.new ≡ table.old)
+        × IsMergeRefusal S.Entry.key (P.refuses policy.now) kept.entries (min kept.theta theta) (S.listing sketch)
+        e) }
 {
     let held = table.num_retained();
     if held == 0 {

@@ -58,7 +58,8 @@ fn next_entry<'a, E: SlotEntry>(
     ordered: bool,
     theta: u64,
 ) -> Option<&'a E>
-    ensures { let asked = still_asked E.key ordered theta entries.old.rest in MatchOption result (asked ≡ []) (λ x. asked ≡ x.now ∷ entries.new.rest) }
+    ensures { let asked = still_asked E.key ordered theta entries.old.rest in
+        MatchOption result (asked ≡ []) (λ x. asked ≡ x.now ∷ entries.new.rest) }
 {
     if !ordered {
         entries.pass_to_below(theta);
@@ -121,7 +122,9 @@ where
     requires in_order { ordered ≡ (S.shown sketch).ordered }
     requires of_sketch { MIN_LG_K ≤ table.old.map.lg_nom }
     ensures listed { map S.Entry.key (S.listing sketch) ≡ (S.shown sketch).hashes }
-    ensures after { OnOk result (HasMerged S.Entry.key (P.merges policy.now) (P.refuses policy.now) (S.listing sketch) theta table.old.map table.new.map) }
+    ensures after { OnOk result (
+        HasMerged S.Entry.key (P.merges policy.now) (P.refuses policy.now) (S.listing sketch) theta table.old.map
+        table.new.map) }
     ensures made_with { table.new.map ≡ record table.old.map { kept = table.new.map.kept } }
     ensures refused { IfErr result (IsMergeRefusal S.Entry.key (P.refuses policy.now) table.old.map.kept.entries theta (S.listing sketch)) }
 {
@@ -160,7 +163,9 @@ where
     requires in_order { ordered ≡ (S.shown sketch).ordered }
     requires of_sketch { MIN_LG_K ≤ table.old.map.lg_nom }
     ensures listed { map S.Entry.key (S.listing sketch) ≡ (S.shown sketch).hashes }
-    ensures after { OnOk result (HasMerged S.Entry.key (P.merges policy.now) (P.refuses policy.now) (S.listing sketch) theta table.old.map table.new.map) }
+    ensures after { OnOk result (
+        HasMerged S.Entry.key (P.merges policy.now) (P.refuses policy.now) (S.listing sketch) theta table.old.map
+        table.new.map) }
     ensures made_with { table.new.map ≡ record table.old.map { kept = table.new.map.kept } }
     ensures refused { IfErr result (IsMergeRefusal S.Entry.key (P.refuses policy.now) table.old.map.kept.entries theta (S.listing sketch)) }
 {

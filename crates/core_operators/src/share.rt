@@ -157,7 +157,9 @@ where
     S::Entry: Clone,
     requires clones_equal { ClonesEqual S.Entry.is_clone }
     requires in_order { ordered ≡ (S.shown sketch).ordered }
-    ensures all { IfOk result (λ v. AreSharedFolds S.Entry.key (P.merges policy.now) (P.refuses policy.now) held.now.map theta (S.listing sketch) v.items) }
+    ensures all { IfOk result (λ v.
+        AreSharedFolds S.Entry.key (P.merges policy.now) (P.refuses policy.now) held.now.map theta
+        (S.listing sketch) v.items) }
     ensures listed { map S.Entry.key (S.listing sketch) ≡ (S.shown sketch).hashes }
     ensures refused { IfErr result (IsMergeRefusal S.Entry.key (P.refuses policy.now) held.now.map.kept.entries theta (S.listing sketch)) }
 {
@@ -194,11 +196,15 @@ where
     requires in_order { ordered ≡ (S.shown sketch).ordered }
     requires told { theta ≡ (S.shown sketch).theta }
     requires sound { IsShown (S.shown sketch) }
-    ensures kept { IfOk result (λ t. IsSharedMap S.Entry.key (P.merges policy.now) (P.refuses policy.now) held.now.map theta (S.listing sketch) t.map) }
+    ensures kept { IfOk result (λ t.
+        IsSharedMap S.Entry.key (P.merges policy.now) (P.refuses policy.now) held.now.map theta (S.listing sketch)
+        t.map) }
     ensures few { IfOk result (λ t. length t.map.kept.entries < 2 ^ 32) }
     ensures same_seed { IfOk result (λ t. t.map.seed_hash ≡ held.now.map.seed_hash) }
     ensures listed { IfOk result (λ t. map S.Entry.key (S.listing sketch) ≡ (S.shown sketch).hashes) }
-    ensures refused { let kept = held.now.map.kept in IfErr result (IsMergeRefusal S.Entry.key (P.refuses policy.now) kept.entries (min kept.theta theta) (S.listing sketch)) }
+    ensures refused { let kept = held.now.map.kept in
+        IfErr result (
+        IsMergeRefusal S.Entry.key (P.refuses policy.now) kept.entries (min kept.theta theta) (S.listing sketch)) }
 {
     let lesser = held.retention_theta().min(theta);
     let entries = shared_entries(held, sketch, policy, ordered, lesser)?;

@@ -96,8 +96,12 @@ impl<E: SlotEntry + Clone, P: UnionMergePolicy<E> + Drop, A: Allocator + Clone> 
     pub fn update<S: EntrySketch<Entry = E>>(&mut self, sketch: S) -> Result<(), Error>
         requires clones_equal { ClonesEqual E.is_clone }
         ensures skipped { OnOk result ((S.shown sketch).empty ≡ true → self.new ≡ self.old) }
-        ensures joined { OnOk result (JoinsShown E.key (P.merges self.old.policy) (P.refuses self.old.policy) self.old self.new (S.shown sketch) (S.listing sketch)) }
-        ensures united { OnOk result (UnitesShown E.key (P.merges self.old.policy) (P.refuses self.old.policy) self.old self.new (S.shown sketch) (S.listing sketch)) }
+        ensures joined { OnOk result (
+            JoinsShown E.key (P.merges self.old.policy) (P.refuses self.old.policy) self.old self.new
+            (S.shown sketch) (S.listing sketch)) }
+        ensures united { OnOk result (
+            UnitesShown E.key (P.merges self.old.policy) (P.refuses self.old.policy) self.old self.new
+            (S.shown sketch) (S.listing sketch)) }
         ensures accepted { OnOk result (update_refusal self.old (S.shown sketch) ≡ None) }
         ensures refused { IfErr result (IsUpdateError E.key (P.refuses self.old.policy) self.old self.new (S.shown sketch) (S.listing sketch)) }
         ensures sound { IsUnion self.old }

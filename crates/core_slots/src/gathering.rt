@@ -97,7 +97,9 @@ pub(crate) fn put_gathered<E: SlotEntry + Drop, A: Allocator + Clone>(
     requires kept { length (below E.key (with_entry E.key (slot_map E.key E.held slots.old.items) entry) theta) ≤ kept }
     requires few { kept < 2 ^ 40 }
     ensures laid_out { OnOk result (IsLaidOut E.key lg (map E.held slots.new.items)) }
-    ensures map { OnOk result (slot_map E.key E.held slots.new.items ≡ below E.key (with_entry E.key (slot_map E.key E.held slots.old.items) entry) theta) }
+    ensures map { OnOk result (
+        slot_map E.key E.held slots.new.items
+        ≡ below E.key (with_entry E.key (slot_map E.key E.held slots.old.items) entry) theta) }
     ensures placed { OnOk result (placed.new ≡ placed.old + length (entries_in E.held slots.new.items)) }
     ensures err { OnErr result (slots.new.items ≡ slots.old.items) }
     ensures placed_err { OnErr result (placed.new ≡ placed.old) }

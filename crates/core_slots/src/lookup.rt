@@ -37,7 +37,8 @@ fn blank_held<E: SlotEntry>(slots: &[E::Slot], lg: u8, step: usize, hashes: &mut
     requires small { lg < 40 }
     requires near { step < 2 ^ 40 }
     requires size { length slots.now ≡ 2 ^ lg }
-    ensures blanked { EachIndex hashes.old (λ p. IsBlanked E.key (entries_in E.held slots.now) (slice_index hashes.old p) (slice_index hashes.new p)) }
+    ensures blanked { EachIndex hashes.old (λ p.
+        IsBlanked E.key (entries_in E.held slots.now) (slice_index hashes.old p) (slice_index hashes.new p)) }
 {
     'blank_each: for hash in hashes.iter_mut() {
         let at = slot_after(*hash, lg, step);
@@ -83,7 +84,8 @@ pub fn leave_out_held<E: SlotEntry>(
     requires small { lg < 40 }
     requires size { length slots.now ≡ 2 ^ lg }
     requires positive { 0 < theta }
-    ensures left { LeavesOut (IsRedundant E.key (record { entries = entries_in E.held slots.now; theta = theta })) hashes.old (take result hashes.new) }
+    ensures left { LeavesOut (IsRedundant E.key (record { entries = entries_in E.held slots.now; theta = theta })) hashes.old
+        (take result hashes.new) }
     ensures unscreened { AllByRecursion (λ h. is_screened h theta ≡ false) (take result hashes.new) }
     ensures few { result ≤ length hashes.old }
 {

@@ -80,12 +80,15 @@ fn settle<E: SlotEntry>(
     requires room { length (entries_in E.held left.old) + length (entries_in E.held slots.old) ≤ 2 ^ lg }
     ensures size { length left.new ≡ length left.old }
     ensures laid_out { IsLaidOut E.key lg (map E.held slots.new) }
-    ensures found { (q : ℕ) → entry_at E.key (entries_in E.held slots.new) q ≡ entry_at E.key (entries_in E.held left.old ++ entries_in E.held slots.old) q }
+    ensures found { (q : ℕ)
+        → entry_at E.key (entries_in E.held slots.new) q
+        ≡ entry_at E.key (entries_in E.held left.old ++ entries_in E.held slots.old) q }
     ensures all { (q : ℕ) → times_in E.key E.held q slots.new ≡ times_in E.key E.held q left.old + times_in E.key E.held q slots.old }
     ensures count { length (entries_in E.held slots.new) ≡ length (entries_in E.held left.old) + length (entries_in E.held slots.old) }
     ensures placed { placed.new ≡ placed.old + length (entries_in E.held left.old) }
     ensures looked { looks.old + (placed.new - placed.old) ≤ looks.new }
-    ensures looks { 2 * looks.new + twice_sum_to (length (entries_in E.held slots.old)) ≤ 2 * looks.old + twice_sum_to (length (entries_in E.held slots.new)) }
+    ensures looks { 2 * looks.new + twice_sum_to (length (entries_in E.held slots.old))
+        ≤ 2 * looks.old + twice_sum_to (length (entries_in E.held slots.new)) }
 {
     let mut count = left.len();
     let mut round = 0;

@@ -235,7 +235,9 @@ pub fn put_spread<E: SlotEntry + Drop, A: Allocator + Clone>(
     requires room { length (entries_in E.held slots.old.items) + 1 ≤ 2 ^ new_lg }
     requires nonzero { 0 < E.key entry }
     ensures laid_out { OnOk result (IsLaidOut E.key new_lg (map E.held slots.new.items)) }
-    ensures map { OnOk result (slot_map E.key E.held slots.new.items ≡ below E.key (with_entry E.key (slot_map E.key E.held slots.old.items) entry) theta) }
+    ensures map { OnOk result (
+        slot_map E.key E.held slots.new.items
+        ≡ below E.key (with_entry E.key (slot_map E.key E.held slots.old.items) entry) theta) }
     ensures placed { OnOk result (placed.new ≡ placed.old + length (entries_in E.held slots.new.items)) }
     ensures err { OnErr result (slots.new.items ≡ slots.old.items) }
     ensures placed_err { OnErr result (placed.new ≡ placed.old) }

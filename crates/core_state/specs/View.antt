@@ -1,9 +1,10 @@
 -- What views of sketches show, of either family.
-use Rattle.std.specs.Prelude.{ℕ, List, true, false}
-use Rattle.core_compact.specs.CompactState.{shown_of}
+use Rattle.std.specs.Prelude.{ℕ, ◌≡◌, List, true, false}
+use Rattle.core_compact.specs.CompactState as state
+use Rattle.core_compact.specs.CompactState.{compact_value, shown_of}
 use Rattle.core_operators.specs.Iter.{Lending}
-use Rattle.core_state.specs.Updatable.{sketch_shows}
-use Rattle.core_laws.specs.Shown.{Shown}
+use Rattle.core_state.specs.Updatable.{Updatable, sketch_shows, sketch_value}
+use Rattle.core_laws.specs.Shown.{Shown, shown_value}
 use Rattle.core_state.specs.declared.view.SketchView.{SketchView}
 use Rattle.core_state.specs.declared.view.Viewed.{Viewed}
 use Rattle.core_state.specs.declared.view.Viewed.TheVariants.{Mutable, Compact}
@@ -27,3 +28,10 @@ lending view = viewed_lending view.sketch
 
 abbrev pub lends : {X Z S : Type 0} → SketchView X Z S → List X
 lends view = (lending view).rest
+
+-- a view shows a sketch that takes updates, or a compact one: its settings, its entries and its value
+abbrev pub ViewsSketch : {X Z S : Type 0} → (key : X → ℕ) → SketchView X Z S → Updatable X → Type 0
+ViewsSketch key view s = (shows key view ≡ sketch_shows key s) × (lends view ≡ s.lends) × (shown_value key (shows key view) (lends view) ≡ sketch_value s)
+
+abbrev pub ViewsCompact : {X Z S : Type 0} → (key : X → ℕ) → SketchView X Z S → state.Compact X → Type 0
+ViewsCompact key view s = (shows key view ≡ shown_of key s) × (lends view ≡ s.entries) × (shown_value key (shows key view) (lends view) ≡ compact_value key s)

@@ -473,7 +473,9 @@ impl<E: SlotEntry + Clone, A: Allocator + Clone> SketchHashTable<E, A> {
         requires small { self.now.map.lg_nom ≤ MAX_LG_K }
         requires low { 0 < theta }
         requires high { theta ≤ self.now.map.kept.theta }
-        ensures ok { IfOk result (IsCompactOf E.key (cut E.key (2 ^ self.now.map.lg_nom) self.now.map.kept.entries theta) self.now.map.seed_hash ordered) }
+        ensures ok { IfOk result (
+            IsCompactOf E.key (cut E.key (2 ^ self.now.map.lg_nom) self.now.map.kept.entries theta)
+            self.now.map.seed_hash ordered) }
         ensures refused { Refuses result None true }
     {
         let nominal = nominal_size(self.lg_nom_size);
@@ -674,11 +676,14 @@ impl<S: Drop, A: Allocator + Clone> SketchHashTable<TupleEntry<S>, A> {
         step: U,
     ) -> Result<bool, Error>
         requires room { let h = key_hash self.old.map (T.hash_input key) in IsTrue (may_insert tuple_key h self.old.map) }
-        ensures ok { let h = key_hash self.old.map (T.hash_input key) in IfOk result (λ created. created ≡ creates_tuple h (U.means step) self.old.map.kept) }
+        ensures ok { let h = key_hash self.old.map (T.hash_input key) in
+            IfOk result (λ created. created ≡ creates_tuple h (U.means step) self.old.map.kept) }
         ensures after { let h = key_hash self.old.map (T.hash_input key) in OnOk result (self.new.map ≡ after_tuple h (U.means step) self.old.map) }
         ensures err { OnErr result (self.new.map ≡ self.old.map) }
-        ensures refused { let h = key_hash self.old.map (T.hash_input key) in RefusesUpsert result tuple_key h (entry_step h (U.means step)) self.old.map.kept }
-        ensures memory { let h = key_hash self.old.map (T.hash_input key) in RefusesBelowThreshold result tuple_key h (entry_step h (U.means step)) self.old }
+        ensures refused { let h = key_hash self.old.map (T.hash_input key) in
+            RefusesUpsert result tuple_key h (entry_step h (U.means step)) self.old.map.kept }
+        ensures memory { let h = key_hash self.old.map (T.hash_input key) in
+            RefusesBelowThreshold result tuple_key h (entry_step h (U.means step)) self.old }
         ensures ticked { IfOk result (λ created. self.new.counts ≡ record (counts_after self.old created) { looks = self.new.counts.looks }) }
         ensures unticked { OnErr result (self.new.counts ≡ record self.old.counts { looks = self.new.counts.looks }) }
         ensures sized { IfOk result (λ created. self.new.layout.lg_cur ≡ lg_cur_after self.old created) }

@@ -105,14 +105,17 @@ pub(crate) fn put_entry<E: SlotEntry + Drop, A: Allocator + Clone>(
     requires inside { at < length slots.old.items }
     ensures laid_out { IfOk result (λ s. IsLaidOut E.key s.lg_cur (map E.held slots.new.items)) }
     ensures counted { IfOk result (λ s. s.count ≡ length (entries_in E.held slots.new.items)) }
-    ensures after { IfOk result (λ s. kept_in E.key E.held slots.new.items s.theta ≡ after_put E.key sizes (slot_map E.key E.held slots.old.items) entry) }
+    ensures after { IfOk result (λ s.
+        kept_in E.key E.held slots.new.items s.theta
+        ≡ after_put E.key sizes (slot_map E.key E.held slots.old.items) entry) }
     ensures sized { IfOk result (λ s. HasSize s.lg_cur sizes.lg_nom sizes.grow s.count) }
     ensures size { IfOk result (λ s. s.lg_cur ≡ size_after sizes.lg_cur sizes.lg_nom sizes.grow sizes.count) }
     ensures most { IfOk result (λ s. s.most ≡ threshold s.lg_cur sizes.lg_nom) }
     ensures count { IfOk result (λ s. s.count ≡ count_after sizes.lg_cur sizes.lg_nom sizes.count) }
     ensures room { sizes.count < threshold sizes.lg_cur sizes.lg_nom → IsOk result }
     ensures err { OnErr result (slots.new.items ≡ slots.old.items) }
-    ensures looks { 2 * counts.new.looks ≤ 2 * counts.old.looks + (counts.new.placed - counts.old.placed) * (counts.new.placed - counts.old.placed + 1) }
+    ensures looks { 2 * counts.new.looks
+        ≤ 2 * counts.old.looks + (counts.new.placed - counts.old.placed) * (counts.new.placed - counts.old.placed + 1) }
     ensures looked { counts.old.looks + (counts.new.placed - counts.old.placed) ≤ counts.new.looks }
     ensures ticked { OnOk result (counts.new ≡ record (ticked sizes.lg_cur sizes.lg_nom sizes.count counts.old) { looks = counts.new.looks }) }
     ensures unticked { OnErr result (counts.new ≡ record counts.old { looks = counts.new.looks }) }
@@ -147,13 +150,16 @@ fn overflow<E: SlotEntry + Drop, A: Allocator + Clone>(
     requires full { threshold sizes.lg_cur sizes.lg_nom < sizes.count + 1 }
     ensures laid_out { IfOk result (λ s. IsLaidOut E.key s.lg_cur (map E.held slots.new.items)) }
     ensures counted { IfOk result (λ s. s.count ≡ length (entries_in E.held slots.new.items)) }
-    ensures after { IfOk result (λ s. kept_in E.key E.held slots.new.items s.theta ≡ after_put E.key sizes (slot_map E.key E.held slots.old.items) entry) }
+    ensures after { IfOk result (λ s.
+        kept_in E.key E.held slots.new.items s.theta
+        ≡ after_put E.key sizes (slot_map E.key E.held slots.old.items) entry) }
     ensures sized { IfOk result (λ s. HasSize s.lg_cur sizes.lg_nom sizes.grow s.count) }
     ensures size { IfOk result (λ s. s.lg_cur ≡ size_after sizes.lg_cur sizes.lg_nom sizes.grow sizes.count) }
     ensures most { IfOk result (λ s. s.most ≡ threshold s.lg_cur sizes.lg_nom) }
     ensures count { IfOk result (λ s. s.count ≡ count_after sizes.lg_cur sizes.lg_nom sizes.count) }
     ensures err { OnErr result (slots.new.items ≡ slots.old.items) }
-    ensures looks { 2 * counts.new.looks ≤ 2 * counts.old.looks + (counts.new.placed - counts.old.placed) * (counts.new.placed - counts.old.placed + 1) }
+    ensures looks { 2 * counts.new.looks
+        ≤ 2 * counts.old.looks + (counts.new.placed - counts.old.placed) * (counts.new.placed - counts.old.placed + 1) }
     ensures looked { counts.old.looks + (counts.new.placed - counts.old.placed) ≤ counts.new.looks }
     ensures ticked { OnOk result (counts.new ≡ record (ticked sizes.lg_cur sizes.lg_nom sizes.count counts.old) { looks = counts.new.looks }) }
     ensures unticked { OnErr result (counts.new ≡ record counts.old { looks = counts.new.looks }) }
@@ -183,7 +189,8 @@ fn grow<E: SlotEntry + Drop, A: Allocator + Clone>(
     ensures after { OnOk result (slot_map E.key E.held slots.new.items ≡ with_entry E.key (slot_map E.key E.held slots.old.items) entry) }
     ensures same { IfOk result (λ s. s ≡ grown sizes) }
     ensures err { OnErr result (slots.new.items ≡ slots.old.items) }
-    ensures looks { 2 * counts.new.looks ≤ 2 * counts.old.looks + (counts.new.placed - counts.old.placed) * (counts.new.placed - counts.old.placed + 1) }
+    ensures looks { 2 * counts.new.looks
+        ≤ 2 * counts.old.looks + (counts.new.placed - counts.old.placed) * (counts.new.placed - counts.old.placed + 1) }
     ensures looked { counts.old.looks + (counts.new.placed - counts.old.placed) ≤ counts.new.looks }
     ensures ticked { OnOk result (counts.new ≡ record (ticked_if false true (2 ^ sizes.lg_nom) sizes.count counts.old) { looks = counts.new.looks }) }
     ensures unticked { OnErr result (counts.new ≡ record counts.old { looks = counts.new.looks }) }
@@ -224,13 +231,18 @@ fn rebuild<E: SlotEntry + Drop, A: Allocator + Clone>(
     requires large { 8 ≤ 2 ^ sizes.lg_nom }
     requires inside { at < length slots.old.items }
     ensures laid_out { OnOk result (IsLaidOut E.key sizes.lg_cur (map E.held slots.new.items)) }
-    ensures after { IfOk result (λ s. kept_in E.key E.held slots.new.items s.theta ≡ after_put E.key sizes (slot_map E.key E.held slots.old.items) entry) }
+    ensures after { IfOk result (λ s.
+        kept_in E.key E.held slots.new.items s.theta
+        ≡ after_put E.key sizes (slot_map E.key E.held slots.old.items) entry) }
     ensures same { IfOk result (λ s. s ≡ record sizes { count = 2 ^ sizes.lg_nom; theta = s.theta }) }
     ensures count { OnOk result (length (entries_in E.held slots.new.items) ≡ 2 ^ sizes.lg_nom) }
     ensures err { OnErr result (slots.new.items ≡ slots.old.items) }
-    ensures looks { 2 * counts.new.looks ≤ 2 * counts.old.looks + (counts.new.placed - counts.old.placed) * (counts.new.placed - counts.old.placed + 1) }
+    ensures looks { 2 * counts.new.looks
+        ≤ 2 * counts.old.looks + (counts.new.placed - counts.old.placed) * (counts.new.placed - counts.old.placed + 1) }
     ensures looked { counts.old.looks + (counts.new.placed - counts.old.placed) ≤ counts.new.looks }
-    ensures ticked { OnOk result (counts.new ≡ record (ticked_if false false (2 ^ sizes.lg_nom) sizes.count counts.old) { looks = counts.new.looks }) }
+    ensures ticked { OnOk result (
+        counts.new
+        ≡ record (ticked_if false false (2 ^ sizes.lg_nom) sizes.count counts.old) { looks = counts.new.looks }) }
     ensures unticked { OnErr result (counts.new ≡ record counts.old { looks = counts.new.looks }) }
 {
     let nominal = nominal_size(sizes.lg_nom);
@@ -290,7 +302,9 @@ pub(crate) fn write_at<E: SlotEntry + Drop, S: UpsertStep<E> + Drop>(
     ensures ok { OnOk result (IsWritten at (S.means step).writes (map E.held slots.old) (map E.held slots.new)) }
     ensures err { OnErr result (map E.held slots.new ≡ map E.held slots.old) }
     ensures size { length slots.new ≡ length slots.old }
-    ensures refused { (x : E) → slot (map E.held slots.old) at ≡ Some x → Refuses result ((S.means step).refuses_existing x) (S.means step).allocates }
+    ensures refused { (x : E)
+        → slot (map E.held slots.old) at ≡ Some x
+        → Refuses result ((S.means step).refuses_existing x) (S.means step).allocates }
 {
     let slot = mem::replace(&mut slots[at], E::free_slot());
     match E::from_slot(slot) {
@@ -320,7 +334,8 @@ pub(crate) fn cut_slots<E: SlotEntry + Drop, A: Allocator + Clone>(
     requires many { nominal < length (entries_in E.held slots.old.items) }
     requires room { length (entries_in E.held slots.old.items) ≤ 2 ^ lg }
     ensures laid_out { OnOk result (IsLaidOut E.key lg (map E.held slots.new.items)) }
-    ensures after { IfOk result (λ theta. IsCutOf E.key nominal (slot_map E.key E.held slots.old.items) (kept_in E.key E.held slots.new.items theta)) }
+    ensures after { IfOk result (λ theta.
+        IsCutOf E.key nominal (slot_map E.key E.held slots.old.items) (kept_in E.key E.held slots.new.items theta)) }
     ensures count { OnOk result (length (entries_in E.held slots.new.items) ≡ nominal) }
     ensures placed { OnOk result (placed.new ≡ placed.old + nominal) }
     ensures placed_err { OnErr result (placed.new ≡ placed.old) }

@@ -153,7 +153,8 @@ pub(crate) fn first_in<'a, E: SlotEntry + 'a>(
 ) -> (Option<&'a E>, Marked<'a, E>)
     requires marked { AreMarked (map (under E.key bound E.held) left.slots.now) left.ahead left.marks }
     ensures marked { AreMarked (map (under E.key bound E.held) result.1.slots.now) result.1.ahead result.1.marks }
-    ensures first { filled (map (under E.key bound E.held) left.entry.slots.now) ≡ filled (option_copied result.0 ∷ map (under E.key bound E.held) result.1.slots.now) }
+    ensures first { filled (map (under E.key bound E.held) left.entry.slots.now)
+        ≡ filled (option_copied result.0 ∷ map (under E.key bound E.held) result.1.slots.now) }
     ensures none { result.0 ≡ None → filled (map (under E.key bound E.held) left.entry.slots.now) ≡ [] }
 {
     let rest = marked_ahead(left, bound);

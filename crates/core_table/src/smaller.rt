@@ -21,7 +21,10 @@ pub(crate) fn filled<E: SlotEntry + Drop, A: Allocator + Clone>(
     requires nonzero { AllByRecursion (λ x. 0 < E.key x) entries.items }
     requires below_theta { AllByRecursion (λ x. E.key x < table.map.kept.theta) entries.items }
     requires few { length entries.items ≤ 2 ^ table.map.lg_nom }
-    ensures after { IfOk result (λ t. t.map ≡ record table.map { kept = record { entries = map_of E.key entries.items; theta = table.map.kept.theta } }) }
+    ensures after { IfOk result (λ t.
+        t.map
+        ≡ record table.map
+        { kept = record { entries = map_of E.key entries.items; theta = table.map.kept.theta } }) }
     ensures grows { IfOk result (λ t. t.layout.grow ≡ table.layout.grow) }
     ensures refused { Refuses result None true }
 {

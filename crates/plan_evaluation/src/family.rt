@@ -91,16 +91,29 @@ pub trait SketchFamily<A: Allocator> {
         requires own { made_sketch self.now sketch.old }
         ensures still { made_sketch self.now sketch.new }
         ensures nonempty { OnOk result ((state sketch.new).empty ≡ false) }
-        ensures after { OnOk result ((state sketch.new).map ≡ record (state sketch.old).map { kept = after_upsert (rules self.now).key (2 ^ (state sketch.old).map.lg_nom) hash ((rules self.now).step_of hash value) (state sketch.old).map.kept }) }
-        ensures strict { IfErr result (λ e. RefusedFor e strict (upsert_refusal (rules self.now).key hash ((rules self.now).step_of hash value) (state sketch.old).map.kept ≡ Some e)) }
-        ensures accepted { OnOk result (upsert_refusal (rules self.now).key hash ((rules self.now).step_of hash value) (state sketch.old).map.kept ≡ None) };
+        ensures after { OnOk result (
+            (state sketch.new).map
+            ≡ record (state sketch.old).map
+            { kept = after_upsert (rules self.now).key (2 ^ (state sketch.old).map.lg_nom) hash ((rules self.now).step_of hash value) (state sketch.old).map.kept }) }
+        ensures strict { IfErr result (λ e.
+            RefusedFor e strict (
+            upsert_refusal (rules self.now).key hash ((rules self.now).step_of hash value)
+            (state sketch.old).map.kept
+            ≡ Some e)) }
+        ensures accepted { OnOk result (
+            upsert_refusal (rules self.now).key hash ((rules self.now).step_of hash value)
+            (state sketch.old).map.kept
+            ≡ None) };
 
     /// Trims a sketch. Refused with `OutOfMemory` alone; then nothing is said of what the sketch holds.
     fn trim(&self, sketch: &mut Self::Sketch) -> Result<(), Error>
         requires own { made_sketch self.now sketch.old }
         ensures still { made_sketch self.now sketch.new }
         ensures same_emptiness { (state sketch.new).empty ≡ (state sketch.old).empty }
-        ensures after { OnOk result ((state sketch.new).map ≡ record (state sketch.old).map { kept = cut (rules self.now).key (2 ^ (state sketch.old).map.lg_nom) (state sketch.old).map.kept.entries (state sketch.old).map.kept.theta }) }
+        ensures after { OnOk result (
+            (state sketch.new).map
+            ≡ record (state sketch.old).map
+            { kept = cut (rules self.now).key (2 ^ (state sketch.old).map.lg_nom) (state sketch.old).map.kept.entries (state sketch.old).map.kept.theta }) }
         ensures refused { Refuses result None true };
 
     /// Makes a sketch empty again.
@@ -112,7 +125,9 @@ pub trait SketchFamily<A: Allocator> {
 
     /// The compact form of a sketch. Refused with `OutOfMemory` alone.
     fn compact(&self, sketch: &Self::Sketch, ordered: bool) -> Result<Self::Compact, Error>
-        ensures ok { IfOk result (λ c. IsAnswer (rules self.now).key (sketch_value (state sketch.now)) (state sketch.now).map.seed_hash ordered (listed c)) }
+        ensures ok { IfOk result (λ c.
+            IsAnswer (rules self.now).key (sketch_value (state sketch.now)) (state sketch.now).map.seed_hash ordered
+            (listed c)) }
         ensures refused { Refuses result None true };
 
     /// A new union. Refused with `InvalidArgument` for an `lg_k` that isn't from 4 to 26, a `start` that isn't from 1 to
@@ -134,10 +149,19 @@ pub trait SketchFamily<A: Allocator> {
         requires same_seed { (united union.old).seed_hash ≡ (came (rules self.now).key state listed part.now).seed_hash }
         requires at_work { (united union.old).failed ≡ false }
         ensures still { made_union self.now union.new }
-        ensures joins { OnOk result (Joins (rules self.now).key (folds_of (rules self.now) (refuses self.now)) (united union.old) (united union.new) (came (rules self.now).key state listed part.now).value) }
-        ensures made_with { OnOk result (united union.new ≡ record (united union.old) { empty = (united union.new).empty; held = (united union.new).held }) }
-        ensures holds { OnOk result (HoldsMore (folds_of (rules self.now) (refuses self.now)) (holds self.now union.old) (holds self.now union.new) (came (rules self.now).key state listed part.now).value) }
-        ensures refused { IfErr result (λ e. RefusedFor e strict (MarksJoined (folds_of (rules self.now) (refuses self.now)) (holds self.now union.old) (came (rules self.now).key state listed part.now).value)) };
+        ensures joins { OnOk result (
+            Joins (rules self.now).key (folds_of (rules self.now) (refuses self.now)) (united union.old)
+            (united union.new) (came (rules self.now).key state listed part.now).value) }
+        ensures made_with { OnOk result (
+            united union.new
+            ≡ record (united union.old) { empty = (united union.new).empty; held = (united union.new).held }) }
+        ensures holds { OnOk result (
+            HoldsMore (folds_of (rules self.now) (refuses self.now)) (holds self.now union.old)
+            (holds self.now union.new) (came (rules self.now).key state listed part.now).value) }
+        ensures refused { IfErr result (λ e.
+            RefusedFor e strict (
+            MarksJoined (folds_of (rules self.now) (refuses self.now)) (holds self.now union.old)
+            (came (rules self.now).key state listed part.now).value)) };
 
     /// Lowers the nominal entries of a union that has not failed. Refused with `InvalidArgument` if `lg_k` isn't from 4 to the
     /// union's, and with `OutOfMemory`; what the union holds then is unspecified.
@@ -145,7 +169,9 @@ pub trait SketchFamily<A: Allocator> {
         requires own { made_union self.now union.old }
         requires at_work { (united union.old).failed ≡ false }
         ensures still { made_union self.now union.new }
-        ensures cuts { OnOk result (union_value (rules self.now).key (united union.new) ≡ cut_value (rules self.now).key (2 ^ lg_k) (union_value (rules self.now).key (united union.old))) }
+        ensures cuts { OnOk result (
+            union_value (rules self.now).key (united union.new)
+            ≡ cut_value (rules self.now).key (2 ^ lg_k) (union_value (rules self.now).key (united union.old))) }
         ensures made_with { OnOk result (united union.new ≡ record (united union.old) { held = (united union.new).held; lg_k = lg_k }) }
         ensures holds { OnOk result ((whole : List (Fold Self.Entry)) → holds self.now union.old whole → holds self.now union.new whole) }
         ensures refused { Refuses result (lower_refusal (united union.old) lg_k) true };
@@ -153,7 +179,9 @@ pub trait SketchFamily<A: Allocator> {
     /// The value of a union that has not failed. Refused with `OutOfMemory` alone.
     fn joined(&self, union: &Self::Union, ordered: bool) -> Result<Self::Compact, Error>
         requires at_work { (united union.now).failed ≡ false }
-        ensures ok { IfOk result (λ c. IsAnswer (rules self.now).key (union_value (rules self.now).key (united union.now)) (united union.now).seed_hash ordered (listed c)) }
+        ensures ok { IfOk result (λ c.
+            IsAnswer (rules self.now).key (union_value (rules self.now).key (united union.now))
+            (united union.now).seed_hash ordered (listed c)) }
         ensures refused { Refuses result None true };
 
     /// A new intersection. Refused with `InvalidArgument` for a seed whose seed hash is 0, and with `OutOfMemory`.
@@ -172,9 +200,18 @@ pub trait SketchFamily<A: Allocator> {
         requires own { made_intersection self.now intersection.old }
         requires same_seed { (met intersection.old).seed_hash ≡ (came (rules self.now).key state listed part.now).seed_hash }
         ensures still { made_intersection self.now intersection.new }
-        ensures meets { OnOk result (let f = folds_of (rules self.now) (refuses self.now) in option_map unmarked_value (met intersection.new).result ≡ Some (meet_next f.key f.merges (option_map unmarked_value (met intersection.old).result) (came (rules self.now).key state listed part.now).value)) }
+        ensures meets { OnOk result (
+            let f = folds_of (rules self.now) (refuses self.now) in
+            option_map unmarked_value (met intersection.new).result
+            ≡ Some (
+            meet_next f.key f.merges (option_map unmarked_value (met intersection.old).result)
+            (came (rules self.now).key state listed part.now).value)) }
         ensures made_with { OnOk result (met intersection.new ≡ record (met intersection.old) { result = (met intersection.new).result }) }
-        ensures refused { IfErr result (λ e. RefusedFor e strict (MarksMet (folds_of (rules self.now) (refuses self.now)) (option_map unmarked_value (met intersection.old).result) (came (rules self.now).key state listed part.now).value)) };
+        ensures refused { IfErr result (λ e.
+            RefusedFor e strict (
+            MarksMet (folds_of (rules self.now) (refuses self.now))
+            (option_map unmarked_value (met intersection.old).result)
+            (came (rules self.now).key state listed part.now).value)) };
 
     /// The value of an intersection, or `None` before its first part. Refused with `OutOfMemory` alone.
     fn shared(
@@ -182,7 +219,9 @@ pub trait SketchFamily<A: Allocator> {
         intersection: &Self::Intersection,
         ordered: bool,
     ) -> Result<Option<Self::Compact>, Error>
-        ensures ok { IfOk result (λ c. IsAnswerIfAny (rules self.now).key (met intersection.now).result (met intersection.now).seed_hash ordered (option_map listed c)) }
+        ensures ok { IfOk result (λ c.
+            IsAnswerIfAny (rules self.now).key (met intersection.now).result (met intersection.now).seed_hash
+            ordered (option_map listed c)) }
         ensures refused { Refuses result None true };
 
     /// A difference. Refused with `InvalidArgument` for a seed whose seed hash is 0, and with `OutOfMemory`.
@@ -201,7 +240,12 @@ pub trait SketchFamily<A: Allocator> {
     ) -> Result<Self::Compact, Error>
         requires first_seed { difference_seed difference.now ≡ (came (rules self.now).key state listed first.now).seed_hash }
         requires second_seed { difference_seed difference.now ≡ (came (rules self.now).key state listed second.now).seed_hash }
-        ensures ok { let f = folds_of (rules self.now) (refuses self.now) in let a = came (rules self.now).key state listed first.now in let b = came (rules self.now).key state listed second.now in IfOk result (λ c. IsFoldAnswer (rules self.now).key (minus f.key f.key a.value b.value) a.seed_hash (ordered || a.ordered) (listed c)) }
+        ensures ok { let f = folds_of (rules self.now) (refuses self.now) in
+            let a = came (rules self.now).key state listed first.now in
+            let b = came (rules self.now).key state listed second.now in
+            IfOk result (λ c.
+            IsFoldAnswer (rules self.now).key (minus f.key f.key a.value b.value) a.seed_hash (ordered || a.ordered)
+            (listed c)) }
         ensures refused { Refuses result None true };
 
     /// A sketch of this seed, written and read back. It is gone before its image is read. Refused with `OutOfMemory` alone, also

@@ -64,7 +64,9 @@ fn show_text<'a, A: Allocator, E: ShownEntry + 'a, B: Allocator>(
     alloc: A,
     sketch: SketchView<'a, E, B>,
 ) -> Result<String<A>, AllocError>
-    ensures { IfOk result (λ text. string_bytes text ≡ let shown = shows E.key sketch.entry in shown_text E.texts shown.empty shown.theta (lends sketch.entry)) }
+    ensures { IfOk result (λ text.
+        string_bytes text
+        ≡ let shown = shows E.key sketch.entry in shown_text E.texts shown.empty shown.theta (lends sketch.entry)) }
 {
     let mut text = String::new(alloc);
     put_head(

@@ -1,13 +1,9 @@
 //! Differences of theta sketches.
 ghost use Rattle.std.specs.Prelude.{◌≡◌, ◌||◌, true, false, IfOk};
 ghost use Rattle.sketch_base.specs.Seed.{seed_hash};
-ghost use Rattle.core_compact.specs.CompactState.{IsAnswer};
 ghost use Rattle.core_operators.specs.ANotB.{difference_refusal};
-ghost use Rattle.core_laws.specs.Entries.{hash_key};
 ghost use Rattle.core_operators.specs.Intersection.{seed_refusal};
-ghost use Rattle.core_laws.specs.Operators.{minus};
 ghost use Rattle.core_laws.specs.Refusal.{Refuses};
-ghost use Rattle.core_laws.specs.Shown.{shown_value};
 ghost use Rattle.theta_sketches.specs.View.{view_shows, view_lends};
 
 use crate::compact_sketch::CompactThetaSketch;
@@ -79,7 +75,8 @@ impl ThetaANotB {
         b: ThetaSketchView<'_, C>,
         ordered: bool,
     ) -> Result<CompactThetaSketch<A>, Error>
-        ensures ok { IfOk result (IsAnswer hash_key (minus hash_key hash_key (shown_value hash_key (view_shows a.entry) (view_lends a.entry)) (shown_value hash_key (view_shows b.entry) (view_lends b.entry))) (view_shows a.entry).seed_hash (ordered || (view_shows a.entry).ordered)) }
+        ensures ok { IfOk result (
+            IsHashDifference (view_shows a.entry) (view_lends a.entry) (view_shows b.entry) (view_lends b.entry) ordered) }
         ensures refused { Refuses result (difference_refusal self.now (view_shows a.entry) (view_shows b.entry)) true }
     {
         let state = a_not_b::compute_with_entries(alloc, self.seed_hash, a, b, ordered)?;

@@ -100,7 +100,11 @@ impl<A: Allocator + Clone> ThetaIntersection<A> {
     ///
     /// Refused with `InvalidArgument` for a sketch of another seed, and with `OutOfMemory`; then nothing has changed.
     pub fn update<B: Allocator>(&mut self, sketch: ThetaSketchView<'_, B>) -> Result<(), Error>
-        ensures met { OnOk result (self.new.result ≡ Some (meet_next hash_key first_hash self.old.result (shown_value hash_key (view_shows sketch.entry) (view_lends sketch.entry)))) }
+        ensures met { OnOk result (
+            self.new.result
+            ≡ Some (
+            meet_next hash_key first_hash self.old.result (
+            shown_value hash_key (view_shows sketch.entry) (view_lends sketch.entry)))) }
         ensures made_with { self.new ≡ record self.old { result = self.new.result } }
         ensures accepted { OnOk result (intersect_refusal self.old (view_shows sketch.entry) ≡ None) }
         ensures refused { IfErr result (IsHashIntersectError self.old self.new (view_shows sketch.entry)) }

@@ -198,7 +198,9 @@ fn put_entry<E: SketchEntry + Drop, A: Allocator>(
     requires nonzero { 0 < E.key entry }
     requires small { E.key entry < theta }
     requires nominal_high { nominal ≤ 2 ^ 32 }
-    ensures ok { IfOk result (λ new_theta. record { entries = entries.new.items; theta = new_theta } ≡ rebuilt E.key nominal (with_entry E.key entries.old.items entry) theta) }
+    ensures ok { IfOk result (λ new_theta.
+        record { entries = entries.new.items; theta = new_theta }
+        ≡ rebuilt E.key nominal (with_entry E.key entries.old.items entry) theta) }
     ensures err { OnErr result (entries.new.items ≡ entries.old.items) }
 {
     entries.insert(at, entry)?;

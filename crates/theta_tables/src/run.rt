@@ -22,8 +22,13 @@ pub fn run_table<T: ThetaTable<ThetaEntry>, A: Allocator>(
     commands: &[TableCommand],
 ) -> Result<Vec<TableReply, A>, Error>
     requires of_sketch { MIN_LG_K ≤ (T.map table.old).lg_nom }
-    ensures ok { IfOk result (λ answer. answer.items ≡ replies (2 ^ (T.map table.old).lg_nom) (T.map table.old).start commands.now (T.map table.old).kept) }
-    ensures after { OnOk result (T.map table.new ≡ record (T.map table.old) { kept = after_commands (2 ^ (T.map table.old).lg_nom) (T.map table.old).start commands.now (T.map table.old).kept }) }
+    ensures ok { IfOk result (λ answer.
+        answer.items
+        ≡ replies (2 ^ (T.map table.old).lg_nom) (T.map table.old).start commands.now (T.map table.old).kept) }
+    ensures after { OnOk result (
+        T.map table.new
+        ≡ record (T.map table.old)
+        { kept = after_commands (2 ^ (T.map table.old).lg_nom) (T.map table.old).start commands.now (T.map table.old).kept }) }
     ensures err { OnErr result (IsAfterBeginning commands.now (T.map table.old) (T.map table.new)) }
     ensures refused { Refuses result None (nat_lt 0 (length commands.now)) }
 {
@@ -42,7 +47,10 @@ fn run_command<T: ThetaTable<ThetaEntry>>(
 ) -> Result<TableReply, Error>
     requires of_sketch { MIN_LG_K ≤ (T.map table.old).lg_nom }
     ensures ok { IfOk result (λ told. told ≡ reply (2 ^ (T.map table.old).lg_nom) (T.map table.old).start command (T.map table.old).kept) }
-    ensures after { OnOk result (T.map table.new ≡ record (T.map table.old) { kept = after_command (2 ^ (T.map table.old).lg_nom) (T.map table.old).start command (T.map table.old).kept }) }
+    ensures after { OnOk result (
+        T.map table.new
+        ≡ record (T.map table.old)
+        { kept = after_command (2 ^ (T.map table.old).lg_nom) (T.map table.old).start command (T.map table.old).kept }) }
     ensures err { OnErr result (T.map table.new ≡ T.map table.old) }
     ensures refused { Refuses result None true }
 {

@@ -32,9 +32,13 @@ pub trait ThetaTable<E: SketchEntry> {
         requires makes_hash { ForSome (S.means step).makes (λ x. E.key x ≡ hash) }
         requires room { IsTrue (may_insert E.key hash (map self.old)) }
         ensures ok { IfOk result (λ created. created ≡ creates E.key hash (S.means step) (map self.old).kept) }
-        ensures after { OnOk result (map self.new ≡ record (map self.old) { kept = after_upsert E.key (2 ^ (map self.old).lg_nom) hash (S.means step) (map self.old).kept }) }
+        ensures after { OnOk result (
+            map self.new
+            ≡ record (map self.old)
+            { kept = after_upsert E.key (2 ^ (map self.old).lg_nom) hash (S.means step) (map self.old).kept }) }
         ensures err { OnErr result (map self.new ≡ map self.old) }
-        ensures refused { Refuses result (upsert_refusal E.key hash (S.means step) (map self.old).kept) (upsert_allocates E.key hash (S.means step) (map self.old).kept) };
+        ensures refused { Refuses result (upsert_refusal E.key hash (S.means step) (map self.old).kept)
+            (upsert_allocates E.key hash (S.means step) (map self.old).kept) };
 
     /// The retained entry of a hash.
     fn entry(&self, hash: u64) -> Option<&E>
@@ -44,7 +48,10 @@ pub trait ThetaTable<E: SketchEntry> {
     ///
     /// Refused with `OutOfMemory` alone, and only if more than k are retained; then nothing has changed.
     fn trim(&mut self) -> Result<(), Error>
-        ensures after { OnOk result (map self.new ≡ record (map self.old) { kept = cut E.key (2 ^ (map self.old).lg_nom) (map self.old).kept.entries (map self.old).kept.theta }) }
+        ensures after { OnOk result (
+            map self.new
+            ≡ record (map self.old)
+            { kept = cut E.key (2 ^ (map self.old).lg_nom) (map self.old).kept.entries (map self.old).kept.theta }) }
         ensures err { OnErr result (map self.new ≡ map self.old) }
         ensures refused { Refuses result None (nat_lt (2 ^ (map self.old).lg_nom) (length (map self.old).kept.entries)) };
 

@@ -85,10 +85,15 @@ impl<P: SummaryCombinePolicy + Drop, A: Allocator + Clone> TupleIntersection<P, 
     where
         P::Summary: Clone,
         requires clones_equal { ClonesEqual P.Summary.is_clone }
-        ensures met { OnOk result (IsMet tuple_key (combined (P.combines self.old.state.policy)) (combine_refused (P.combines self.old.state.policy)) self.old.state self.new.state (shows tuple_key sketch.entry) (lends sketch.entry)) }
+        ensures met { OnOk result (
+            IsMet tuple_key (combined (P.combines self.old.state.policy))
+            (combine_refused (P.combines self.old.state.policy)) self.old.state self.new.state
+            (shows tuple_key sketch.entry) (lends sketch.entry)) }
         ensures made_with { self.new.state ≡ record self.old.state { result = self.new.state.result } }
         ensures accepted { OnOk result (intersect_refusal self.old.state (shows tuple_key sketch.entry) ≡ None) }
-        ensures refused { IfErr result (IsIntersectError tuple_key (combine_refused (P.combines self.old.state.policy)) self.old.state self.new.state (shows tuple_key sketch.entry) (lends sketch.entry)) }
+        ensures refused { IfErr result (
+            IsIntersectError tuple_key (combine_refused (P.combines self.old.state.policy)) self.old.state
+            self.new.state (shows tuple_key sketch.entry) (lends sketch.entry)) }
         ensures sound { IsIntersection self.old.state }
         ensures held { IsRetained tuple_key (held_of self.old.state.result) }
     {

@@ -29,10 +29,16 @@ where
     E::Slot: 'v,
     requires clones_equal { ClonesEqual E.is_clone }
     ensures skipped { OnOk result ((shows E.key view.entry).empty ≡ true → union.new ≡ union.old) }
-    ensures joined { OnOk result (JoinsShown E.key (P.merges union.old.policy) (P.refuses union.old.policy) union.old union.new (shows E.key view.entry) (lends view.entry)) }
-    ensures united { OnOk result (UnitesShown E.key (P.merges union.old.policy) (P.refuses union.old.policy) union.old union.new (shows E.key view.entry) (lends view.entry)) }
+    ensures joined { OnOk result (
+        JoinsShown E.key (P.merges union.old.policy) (P.refuses union.old.policy) union.old union.new
+        (shows E.key view.entry) (lends view.entry)) }
+    ensures united { OnOk result (
+        UnitesShown E.key (P.merges union.old.policy) (P.refuses union.old.policy) union.old union.new
+        (shows E.key view.entry) (lends view.entry)) }
     ensures accepted { OnOk result (update_refusal union.old (shows E.key view.entry) ≡ None) }
-    ensures refused { IfErr result (IsUpdateError E.key (P.refuses union.old.policy) union.old union.new (shows E.key view.entry) (lends view.entry)) }
+    ensures refused { IfErr result (
+        IsUpdateError E.key (P.refuses union.old.policy) union.old union.new (shows E.key view.entry)
+        (lends view.entry)) }
     ensures sound { IsUnion union.old }
     ensures held { IsRetained E.key union.old.held }
 {
@@ -50,10 +56,14 @@ pub(crate) fn meet_view<
 where
     E::Slot: 'v,
     requires clones_equal { ClonesEqual E.is_clone }
-    ensures met { OnOk result (IsMet E.key (P.merges intersection.old.policy) (P.refuses intersection.old.policy) intersection.old intersection.new (shows E.key view.entry) (lends view.entry)) }
+    ensures met { OnOk result (
+        IsMet E.key (P.merges intersection.old.policy) (P.refuses intersection.old.policy) intersection.old
+        intersection.new (shows E.key view.entry) (lends view.entry)) }
     ensures made_with { intersection.new ≡ record intersection.old { result = intersection.new.result } }
     ensures accepted { OnOk result (intersect_refusal intersection.old (shows E.key view.entry) ≡ None) }
-    ensures refused { IfErr result (IsIntersectError E.key (P.refuses intersection.old.policy) intersection.old intersection.new (shows E.key view.entry) (lends view.entry)) }
+    ensures refused { IfErr result (
+        IsIntersectError E.key (P.refuses intersection.old.policy) intersection.old intersection.new
+        (shows E.key view.entry) (lends view.entry)) }
     ensures sound { IsIntersection intersection.old }
     ensures held { IsRetained E.key (held_of intersection.old.result) }
 {

@@ -153,11 +153,18 @@ impl<P: SummaryPolicy, A: Allocator + Clone> TupleSketch<P, A> {
     where
         P: SummaryUpdatePolicy<U>,
         ensures nonempty { OnOk result (self.new.state.empty ≡ false) }
-        ensures after { let h = key_hash self.old.state.map (K.hash_input key) in OnOk result (self.new.state.map ≡ after_insertion tuple_key h (update_step (P.creates self.old.policy) (P.updates self.old.policy) h value) self.old.state.map) }
+        ensures after { let h = key_hash self.old.state.map (K.hash_input key) in
+            OnOk result (
+            self.new.state.map
+            ≡ after_insertion tuple_key h
+            (update_step (P.creates self.old.policy) (P.updates self.old.policy) h value) self.old.state.map) }
         ensures same_policy { self.new.policy ≡ self.old.policy }
         ensures err_empty { OnErr result (self.new.state.empty ≡ self.old.state.empty) }
         ensures err { OnErr result (self.new.state.map ≡ self.old.state.map) }
-        ensures refused { let h = key_hash self.old.state.map (K.hash_input key) in let step = update_step (P.creates self.old.policy) (P.updates self.old.policy) h value in Refuses result (upsert_refusal tuple_key h step self.old.state.map.kept) (upsert_allocates tuple_key h (record step { allocates = P.takes_memory self.old.policy }) self.old.state.map.kept) }
+        ensures refused { let h = key_hash self.old.state.map (K.hash_input key) in
+            let step = update_step (P.creates self.old.policy) (P.updates self.old.policy) h value in
+            Refuses result (upsert_refusal tuple_key h step self.old.state.map.kept)
+            (upsert_allocates tuple_key h (record step { allocates = P.takes_memory self.old.policy }) self.old.state.map.kept) }
     {
         let hash = self.state.hash(key);
         self.update_hash(hash, value)
@@ -174,11 +181,17 @@ impl<P: SummaryPolicy, A: Allocator + Clone> TupleSketch<P, A> {
     where
         P: SummaryUpdatePolicy<U>,
         ensures nonempty { OnOk result (self.new.state.empty ≡ false) }
-        ensures after { OnOk result (self.new.state.map ≡ after_insertion tuple_key hash (update_step (P.creates self.old.policy) (P.updates self.old.policy) hash value) self.old.state.map) }
+        ensures after { OnOk result (
+            self.new.state.map
+            ≡ after_insertion tuple_key hash
+            (update_step (P.creates self.old.policy) (P.updates self.old.policy) hash value)
+            self.old.state.map) }
         ensures same_policy { self.new.policy ≡ self.old.policy }
         ensures err_empty { OnErr result (self.new.state.empty ≡ self.old.state.empty) }
         ensures err { OnErr result (self.new.state.map ≡ self.old.state.map) }
-        ensures refused { let step = update_step (P.creates self.old.policy) (P.updates self.old.policy) hash value in Refuses result (upsert_refusal tuple_key hash step self.old.state.map.kept) (upsert_allocates tuple_key hash (record step { allocates = P.takes_memory self.old.policy }) self.old.state.map.kept) }
+        ensures refused { let step = update_step (P.creates self.old.policy) (P.updates self.old.policy) hash value in
+            Refuses result (upsert_refusal tuple_key hash step self.old.state.map.kept)
+            (upsert_allocates tuple_key hash (record step { allocates = P.takes_memory self.old.policy }) self.old.state.map.kept) }
     {
         let step = UpdateStep::new(&self.policy, hash, value);
         self.state.upsert(hash, step)

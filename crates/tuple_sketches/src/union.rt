@@ -73,11 +73,17 @@ impl<P: SummaryCombinePolicy + Drop, A: Allocator + Clone> TupleUnion<P, A> {
         P::Summary: Clone,
         requires clones_equal { ClonesEqual P.Summary.is_clone }
         ensures skipped { OnOk result ((shows tuple_key sketch.entry).empty ≡ true → self.new.state ≡ self.old.state) }
-        ensures united { OnOk result (UnitesSummaries (P.combines self.old.state.policy) self.old.state self.new.state (shows tuple_key sketch.entry) (lends sketch.entry)) }
-        ensures joined { OnOk result (JoinsSummaries (P.combines self.old.state.policy) self.old.state self.new.state (shows tuple_key sketch.entry) (lends sketch.entry)) }
+        ensures united { OnOk result (
+            UnitesSummaries (P.combines self.old.state.policy) self.old.state self.new.state
+            (shows tuple_key sketch.entry) (lends sketch.entry)) }
+        ensures joined { OnOk result (
+            JoinsSummaries (P.combines self.old.state.policy) self.old.state self.new.state
+            (shows tuple_key sketch.entry) (lends sketch.entry)) }
         ensures made_with { OnOk result (self.new.state ≡ record self.old.state { empty = self.new.state.empty; held = self.new.state.held }) }
         ensures accepted { OnOk result (update_refusal self.old.state (shows tuple_key sketch.entry) ≡ None) }
-        ensures refused { IfErr result (IsUpdateError tuple_key (combine_refused (P.combines self.old.state.policy)) self.old.state self.new.state (shows tuple_key sketch.entry) (lends sketch.entry)) }
+        ensures refused { IfErr result (
+            IsUpdateError tuple_key (combine_refused (P.combines self.old.state.policy)) self.old.state
+            self.new.state (shows tuple_key sketch.entry) (lends sketch.entry)) }
         ensures sound { IsUnion self.old.state }
         ensures held { IsRetained tuple_key self.old.state.held }
     {

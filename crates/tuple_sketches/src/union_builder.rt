@@ -67,7 +67,10 @@ impl<P: SummaryPolicy + Drop> TupleUnionBuilder<P> {
     /// Builds an empty union in memory of `alloc`. Refused with `InvalidArgument` if a setting is out of range or the
     /// seed hash is 0, and with `OutOfMemory`.
     pub fn build<A: Allocator + Drop>(self, alloc: A) -> Result<TupleUnion<P, A>, Error>
-        ensures made { IfOk result (λ u. u.state ≡ empty_union self.settings.lg_k self.settings.starting_theta (seed_hash self.settings.seed) self.policy) }
+        ensures made { IfOk result (λ u.
+            u.state
+            ≡ empty_union self.settings.lg_k self.settings.starting_theta (seed_hash self.settings.seed)
+            self.policy) }
         ensures refused { Refuses result (settings_refusal self.settings.lg_k self.settings.starting_theta self.settings.seed) true }
     {
         let TupleUnionBuilder { settings, policy } = self;

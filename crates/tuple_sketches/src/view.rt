@@ -1,10 +1,7 @@
 //! Read-only views of tuple sketches, for operators, and iterators over their entries.
 ghost use Rattle.std.specs.Prelude.{◌≡◌};
-ghost use Rattle.core_compact.specs.CompactState.{compact_value, shown_of};
-ghost use Rattle.core_state.specs.Updatable.{sketch_shows, sketch_value};
-ghost use Rattle.core_laws.specs.Shown.{shown_value};
-ghost use Rattle.core_state.specs.View.{shows, lends};
 ghost use Rattle.core_slots.specs.Entry.{tuple_key};
+ghost use Rattle.core_state.specs.View.{ViewsSketch, ViewsCompact};
 
 use crate::compact_sketch::CompactTupleSketch;
 use crate::sketch::TupleSketch;
@@ -25,7 +22,7 @@ pub type TupleSketchIter<'a, S> = EntryIter<'a, TupleEntry<S>>;
 
 impl<'a, P: SummaryPolicy, A: Allocator> From<&'a TupleSketch<P, A>>
     for SketchView<'a, TupleEntry<P::Summary>, A> {
-    ghost from_gives = { λ sketch view. (shows tuple_key view ≡ sketch_shows tuple_key sketch.now.state) × (lends view ≡ sketch.now.state.lends) × (shown_value tuple_key (shows tuple_key view) (lends view) ≡ sketch_value sketch.now.state) };
+    ghost from_gives = { λ sketch view. ViewsSketch tuple_key view sketch.now.state };
 
     fn from(sketch: &'a TupleSketch<P, A>) -> Self {
         sketch.as_view()
@@ -34,7 +31,7 @@ impl<'a, P: SummaryPolicy, A: Allocator> From<&'a TupleSketch<P, A>>
 
 impl<'a, S: Drop, A: Allocator> From<&'a CompactTupleSketch<S, A>>
     for SketchView<'a, TupleEntry<S>, A> {
-    ghost from_gives = { λ sketch view. (shows tuple_key view ≡ shown_of tuple_key sketch.now) × (lends view ≡ sketch.now.entries) × (shown_value tuple_key (shows tuple_key view) (lends view) ≡ compact_value tuple_key sketch.now) };
+    ghost from_gives = { λ sketch view. ViewsCompact tuple_key view sketch.now };
 
     fn from(sketch: &'a CompactTupleSketch<S, A>) -> Self {
         sketch.as_view()
