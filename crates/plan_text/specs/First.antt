@@ -11,7 +11,7 @@ use Rattle.plan_text.specs.Faults.{a_command, fault_at, fault_of}
 abbrev pub IsSpelled : Said → Type 0
 IsSpelled lines = (command : Command Global) × Say lines command
 
--- how many lines are left where reading stops, the one at fault included
+-- the number of lines left where reading stops, including the line at fault
 abbrev pub left_at : Stop → ℕ
 left_at (syntax left) = left
 left_at (limit left) = left
@@ -54,6 +54,6 @@ abbrev pub MissingBegins : Type 0
 MissingBegins = (lines : Said) → HasFault lines (syntax 0)
     → (IsSpelled lines → ⊥) × ((more : Said) × IsSpelled (lines ++ more))
 
--- a text has no fault exactly where it spells a command
+-- a text has no fault exactly if it spells a command
 abbrev pub FaultlessIsSpelled : Type 0
 FaultlessIsSpelled = (text : List ℕ) → (fault_of text ≡ None) ↔ ((command : Command Global) × Spells text command)
