@@ -32,7 +32,7 @@ twice false = refl
 pub made_new : {X : Type 0} (lg_k start seed : ℕ) (t : MapTable X) → t ≡ empty_table lg_k start seed → t ≡ record (empty_table lg_k start seed) { kept = t.kept }
 made_new {X} lg_k start seed t made = (let with : Retained X → MapTable X = λ v. record (empty_table lg_k start seed) { kept = v } in made ∙ ap with (sym (ap (λ u. u.kept) made)))
 
--- what it was made with stays
+-- its settings don't change
 pub made_stepped : {X : Type 0} (lg_k start seed : ℕ) (old new : MapTable X) → old ≡ record (empty_table lg_k start seed) { kept = old.kept } → new ≡ record old { kept = new.kept } → new ≡ record (empty_table lg_k start seed) { kept = new.kept }
 made_stepped {X} lg_k start seed old new made after = (let again : MapTable X → MapTable X = λ t. record t { kept = new.kept } in after ∙ ap again made)
 
