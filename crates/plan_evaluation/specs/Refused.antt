@@ -24,7 +24,7 @@ RefusedFor e strict why = (e ≡ OutOfMemory) ⊎ ((e ≡ Policy) × IsTrue stri
 abbrev pub HoldsMore : {X V : Type 0} → (f : Family (Fold X) V) → (old new : List (Fold X) → Type 0) → Sketch (Fold X) → Type 0
 HoldsMore {X} f old new v = (whole come : List (Fold X)) → IsAscending f.key whole → IsAscending f.key come → old whole → IsAllBelow f.key v come → new (joined f.key f.merges whole come)
 
--- for each such pair of whole maps: if the union's policy refuses the part, the two joined have a mark
+-- for each of these pairs of whole maps: if the union's policy refuses the part, the two joined have a mark
 abbrev pub MarksJoined : {X V : Type 0} → (f : Family (Fold X) V) → (holds : List (Fold X) → Type 0) → Sketch (Fold X) → Type 0
 MarksJoined {X} f holds v = (whole come : List (Fold X)) → IsAscending f.key whole → IsAscending f.key come → holds whole → IsAllBelow f.key v come → has_mark (joined f.key f.merges whole come) ≡ true
 
