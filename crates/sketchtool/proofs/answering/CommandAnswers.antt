@@ -53,7 +53,7 @@ some_kind kind = Some kind
 same_line : (a b : List ℕ) → some_line a ≡ some_line b → a ≡ b
 same_line a b e = cc
 
--- whatever its policies say, a plan is refused for an argument alone
+-- apart from policies and memory, a plan is refused for an argument alone
 for_argument : (fits : Bool) (kind : ErrorKind) → cond fits None (Some InvalidArgument) ≡ some_kind kind → kind ≡ InvalidArgument
 for_argument true kind e = absurd cc
 for_argument false kind e = cc
