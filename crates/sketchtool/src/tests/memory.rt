@@ -187,7 +187,7 @@ const ANSWERED: [(&str, &str); 5] = [
     ),
 ];
 
-/// Whether a run that is refused the request of this number makes no such request; its status and what it wrote.
+/// Whether a run makes at most `refused` requests for memory; and its status and what it wrote, if the next one is refused.
 fn answer_without(alloc: Global, text: &str, refused: u64) -> (bool, u8, Vec<u8>) {
     let heap = Refusing::new(alloc);
     heap.restart(Refusal::Only(refused));

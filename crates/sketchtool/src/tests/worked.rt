@@ -57,7 +57,7 @@ const WORKED: [(&[Piece], &str); 15] = [
         &[Lines("tuple image\nvia unordered\nleaf 5 max 0\n")],
         "01030901001e0000\n",
     ),
-    // One update, whose hash is 0 and so is dropped.
+    // One update with the hash 0, which is never retained.
     (
         &[Lines("theta show\nunion 5 max 1\nleaf 5 max 1\nadd 0\n")],
         "empty no\ntheta 9223372036854775807\ncount 0\n",
