@@ -7,7 +7,7 @@ use std::test::Fail;
 use theta_core::{MAX_THETA, ThetaHashTable};
 use theta_sketches::{ThetaIntersection, ThetaSketch, ThetaSketchBuilder};
 
-/// The hashes from a first to a last, or, where a start is given, the first alone below that start.
+/// The hashes from a first to a last; or, if there is a start, the first hash alone, with that start.
 type Part = (u64, u64, Option<u64>);
 
 fn part_of(alloc: Global, part: &Part) -> Result<ThetaSketch, Error> {
@@ -44,7 +44,7 @@ fn met(alloc: Global, parts: &[Part], compact: bool) -> Result<ThetaIntersection
     Ok(intersection)
 }
 
-/// Its emptiness, theta and hashes, ascending, once it has seen a sketch.
+/// The value of an intersection, once it has seen a sketch.
 fn value_in(alloc: Global, intersection: &ThetaIntersection) -> Result<Option<Value>, Error> {
     match intersection.to_sketch(true)? {
         Some(answer) => Ok(Some(value_of(alloc, &answer)?)),
@@ -52,7 +52,7 @@ fn value_in(alloc: Global, intersection: &ThetaIntersection) -> Result<Option<Va
     }
 }
 
-/// Whether an answer is ordered, order asked or not.
+/// Whether an answer is ordered, with or without a requested order.
 fn is_ordered(intersection: &ThetaIntersection, asked: bool) -> Result<Option<bool>, Error> {
     match intersection.to_sketch(asked)? {
         Some(answer) => Ok(Some(answer.is_ordered())),
@@ -60,8 +60,8 @@ fn is_ordered(intersection: &ThetaIntersection, asked: bool) -> Result<Option<bo
     }
 }
 
-/// What an intersection holds, whether its answers are ordered where that is not asked and where it is, and whether it has
-/// one.
+/// The value of an intersection, whether its answers are ordered without and with a requested order, and whether it has
+/// a result.
 type Told = (Option<Value>, [Option<bool>; 2], bool);
 
 fn told_of(alloc: Global, intersection: &ThetaIntersection) -> Result<Told, Error> {
@@ -78,7 +78,7 @@ fn told_in(alloc: Global, parts: &[Part], compact: bool) -> Result<Told, Error> 
     told_of(alloc, &intersection)
 }
 
-/// The parts, and then emptiness, theta and the hashes.
+/// The parts, then emptiness, theta and the hashes.
 type Row<'a> = (&'a [Part], bool, u64, (u64, u64));
 
 fn wanted_in(alloc: Global, row: Row<'_>) -> Result<Told, AllocError> {
@@ -143,8 +143,8 @@ fn refusal_of_another(
     Ok(kind_of(intersection.update(other.as_view())))
 }
 
-/// The refusal of a sketch of another seed by an intersection of parts, whether it has a result then, and its value before and
-/// after.
+/// Why an intersection of parts refuses a sketch of another seed, whether it has a result then, and its value before
+/// and after.
 type Refused = ((Option<ErrorKind>, bool), Option<Value>, Option<Value>);
 
 fn refused_after(alloc: Global, parts: &[Part]) -> Result<Refused, Error> {
@@ -161,7 +161,7 @@ fn refused_by(alloc: Global, intersection: &mut ThetaIntersection) -> Result<Ref
 
 #[test]
 fn intersections_want_one_seed(rt: HostRuntime) -> Result<(), Fail> {
-    // The parts before, the refusal of a sketch of another seed, and whether there is a value then.
+    // The parts before, the refusal of a sketch of another seed, and whether there is a result then.
     let cases: [(&[Part], Option<ErrorKind>, bool); 3] = [
         (&[], Some(ErrorKind::InvalidArgument), false),
         (&[(1, 9, None)], Some(ErrorKind::InvalidArgument), true),

@@ -1,4 +1,4 @@
-//! A sketch beside a plain table that is given the same hashes.
+//! A sketch against a plain table with the same hashes.
 
 use crate::common::ascending;
 use sketch_base::Error;
@@ -11,7 +11,7 @@ use theta_tables::{PlainTable, TableCommand, ThetaTable, run_table};
 /// A count, theta and the hashes, ascending.
 type Told = (usize, u64, Vec<u64>);
 
-/// What a sketch of 32 nominal entries tells after updates with these hashes.
+/// The count, theta and hashes of a sketch of 32 nominal entries after updates with these hashes.
 fn told_by_a_sketch(alloc: Global, hashes: &[u64]) -> Result<Told, Error> {
     let mut sketch = ThetaSketchBuilder::default().lg_k(5).build(alloc)?;
     for hash in hashes {
@@ -30,7 +30,7 @@ fn insertions(alloc: Global, hashes: &[u64]) -> Result<Vec<TableCommand>, AllocE
     Ok(commands)
 }
 
-/// What a plain table of 32 nominal entries tells after it was given these hashes.
+/// The count, theta and hashes of a plain table of 32 nominal entries after insertions of these hashes.
 fn told_by_a_list(alloc: Global, hashes: &[u64]) -> Result<Told, Error> {
     let commands = insertions(alloc, hashes)?;
     let mut table: PlainTable<ThetaEntry> = PlainTable::new(
@@ -48,7 +48,7 @@ fn told_by_a_list(alloc: Global, hashes: &[u64]) -> Result<Told, Error> {
     Ok((table.num_retained(), table.retention_theta(), listed))
 }
 
-/// So many hashes below a limit, by a generator that begins at 20240917.
+/// `count` hashes below a limit, by a generator that begins at 20240917.
 fn random_hashes(alloc: Global, count: u64, limit: u64) -> Result<Vec<u64>, AllocError> {
     let mut hashes = Vec::new(alloc);
     let mut state: u64 = 20_240_917;

@@ -15,7 +15,7 @@ const FACTORS: [ResizeFactor; 4] = [
     ResizeFactor::X8,
 ];
 
-/// A table that was given the hashes from 1 to the last, or from the last to 1.
+/// A table after insertions of the hashes from 1 to the last, or from the last to 1.
 fn table_of(
     alloc: Global,
     lg_k: u8,
@@ -43,8 +43,8 @@ fn value_of(alloc: Global, table: &ThetaHashTable) -> Result<(u64, Vec<u64>), Al
     Ok((table.retention_theta(), hashes))
 }
 
-/// The hashes are from 1 to the last: the nominal logarithm, the last, whether they descend, whether a trim follows, theta, and the
-/// last that is kept.
+/// For the hashes from 1 to a last: the nominal logarithm, the last, whether they descend, whether a trim follows,
+/// theta, and the last retained hash.
 type Row = (u8, u64, bool, bool, u64, u64);
 
 fn value_in(alloc: Global, factor: ResizeFactor, row: Row) -> Result<(u64, Vec<u64>), Error> {
@@ -96,7 +96,7 @@ fn told(alloc: Global, state: &CompactSketchState<ThetaEntry>) -> Result<Told, A
     Ok((others, hashes))
 }
 
-/// The state of a table that was given the hashes from 61 to 1.
+/// The state of a table after insertions of the hashes from 61 to 1.
 fn state_of(alloc: Global, ordered: bool) -> Result<CompactSketchState<ThetaEntry>, Error> {
     let table = table_of(alloc, 5, ResizeFactor::X8, 61, true)?;
     if table.num_retained() < 4294967296 {

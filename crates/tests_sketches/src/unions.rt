@@ -7,7 +7,7 @@ use std::test::Fail;
 use theta_core::MAX_THETA;
 use theta_sketches::{ThetaUnion, ThetaUnionBuilder};
 
-/// A union of 32 nominal entries that was given sketches, each of the hashes from a first to a last.
+/// A union of 32 nominal entries, updated with sketches of the hashes from a first to a last.
 fn union_of(alloc: Global, start: u64, parts: &[(u64, u64)]) -> Result<ThetaUnion, Error> {
     let builder = ThetaUnionBuilder::default().lg_k(5);
     let mut union = builder.starting_theta(start).build(alloc)?;
@@ -23,7 +23,7 @@ fn value_in(alloc: Global, union: &ThetaUnion, ordered: bool) -> Result<Value, E
     Ok(value_of(alloc, &answer)?)
 }
 
-/// The value of a union in an answer that is not ordered and in one that is, and that of the union once it is reset.
+/// The value of a union in an unordered answer and in an ordered one, and that of the union after a reset.
 type Told = (Value, Value, Value);
 
 fn values_in(alloc: Global, union: &ThetaUnion) -> Result<(Value, Value), Error> {
@@ -51,7 +51,7 @@ fn wanted_of(
 
 #[test]
 fn unions_keep_the_least(rt: HostRuntime) -> Result<(), Fail> {
-    // The starting theta, the parts, and then emptiness, theta and the hashes.
+    // The starting theta, the parts, then emptiness, theta and the hashes.
     let cases: [(u64, &[(u64, u64)], bool, u64, (u64, u64)); 7] = [
         (MAX_THETA, &[], true, MAX_THETA, (1, 0)),
         (MAX_THETA, &[(1, 0)], true, MAX_THETA, (1, 0)),
