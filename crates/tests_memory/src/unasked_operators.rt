@@ -1,5 +1,5 @@
-//! Calls on unions, intersections and differences that take no memory: each is made while all memory is refused, and asks for
-//! none.
+//! Calls on unions, intersections and differences that need no memory: each is made while all memory is refused, and
+//! requests none.
 
 use refusing_allocator::{Refusal, Refusing};
 use sketch_base::{Error, ErrorKind};
@@ -12,12 +12,12 @@ use theta_sketches::{
     ThetaUnion, ThetaUnionBuilder,
 };
 
-/// What an operator is handed.
+/// An input of an operator.
 #[derive(Clone, Copy, Debug)]
 enum Input {
     /// The hashes 1 to 40, of the default seed.
     Filled,
-    /// The hashes 41 to 80, of the default seed: with `Filled` too many for the slots of a union.
+    /// The hashes 41 to 80, of the default seed: together with `Filled` too many for the slots of a union.
     More,
     Empty,
     /// An empty compact sketch.
@@ -28,7 +28,7 @@ enum Input {
     OtherEmpty,
 }
 
-/// The sketches behind the inputs of the default seed.
+/// The sketches of the inputs of the default seed.
 #[derive(Drop)]
 struct Own {
     filled: ThetaSketch,
@@ -50,7 +50,7 @@ impl Own {
     }
 }
 
-/// The sketches behind the inputs of another seed.
+/// The sketches of the inputs of another seed.
 #[derive(Drop)]
 struct Others {
     filled: ThetaSketch,
@@ -67,7 +67,7 @@ impl Others {
     }
 }
 
-/// The sketches behind the inputs.
+/// The sketches of all inputs.
 #[derive(Drop)]
 struct Inputs {
     own: Own,
@@ -105,14 +105,14 @@ enum Call {
     Reset,
 }
 
-/// What an operator has seen.
+/// The sketches that an operator has seen.
 #[derive(Clone, Copy, Debug)]
 enum Before {
     Nothing,
     Filled,
-    /// An empty sketch, behind another one.
+    /// An empty sketch, for an intersection after another one.
     Empty,
-    /// A sketch at which memory for more slots was refused.
+    /// A sketch for which memory was refused.
     Failure,
 }
 
@@ -120,7 +120,7 @@ const INVALID: Option<ErrorKind> = Some(ErrorKind::InvalidArgument);
 
 const FAILED: Option<ErrorKind> = Some(ErrorKind::Failed);
 
-/// Has a union see this.
+/// Updates a union with these sketches.
 fn prepare_union<'a>(
     heap: &'a Heap,
     union: &mut ThetaUnion<&'a Heap>,
@@ -160,7 +160,7 @@ fn call_union<'a>(
     }
 }
 
-/// Why a call on a union that has seen this is refused, and how often it asks for memory, all of which is refused.
+/// Why a call on a union that has seen these sketches is refused if all memory is, and the number of its requests.
 fn asked_of_union(
     heap: &Heap,
     inputs: &Inputs,
@@ -224,7 +224,7 @@ fn unions_ask_for_nothing(rt: HostRuntime) -> Result<(), Fail> {
     Ok(())
 }
 
-/// Has an intersection see this.
+/// Updates an intersection with these sketches.
 fn prepare_intersection<'a>(
     heap: &'a Heap,
     intersection: &mut ThetaIntersection<&'a Heap>,
@@ -261,7 +261,7 @@ fn call_intersection<'a>(
     }
 }
 
-/// Why a call on an intersection that has seen this is refused, and how often it asks for memory, all of which is refused.
+/// Why a call on an intersection that has seen these sketches is refused if all memory is, and the number of its requests.
 fn asked_of_intersection(
     heap: &Heap,
     inputs: &Inputs,
@@ -314,13 +314,13 @@ fn intersections_ask_for_nothing(rt: HostRuntime) -> Result<(), Fail> {
     Ok(())
 }
 
-/// Why an intersection of a seed is refused, and how often it asks for memory.
+/// Why an intersection of a seed is refused, and the number of its requests for memory.
 fn asked_of_seed(heap: &Heap, seed: u64) -> (Option<ErrorKind>, u64) {
     let kind = kind_of(ThetaIntersection::with_seed(heap, seed));
     (kind, heap.seen())
 }
 
-/// Why a difference is refused, and how often it asks for memory.
+/// Why a difference is refused, and the number of its requests for memory.
 fn asked_of_difference(
     heap: &Heap,
     inputs: &Inputs,
