@@ -1,4 +1,4 @@
-//! Keys, compact forms, views and what they lend.
+//! Keys, compact forms, views and their entries.
 
 use crate::common::{Sums, ascending, sums_of, tenfold, total};
 use std::alloc::Global;
@@ -9,7 +9,7 @@ use tuple_sketches::{
     TupleSketchBuilder, TupleSketchView,
 };
 
-/// The visits of each visitor, by the sketches' doc comment.
+/// The visits of each visitor, as in the doc comment of the sketches.
 fn visits(alloc: Global) -> Result<CompactTupleSketch<u64>, Error> {
     let policy = DefaultUpdatePolicy::<u64>::default();
     let mut sketch = TupleSketchBuilder::new(policy).lg_k(14).build(alloc)?;
@@ -34,7 +34,7 @@ fn murmur(seed: u64, text: &str) -> u64 {
     hasher.finish128().0 >> 1
 }
 
-/// What a sketch of sums has after a key with 1, twice.
+/// The entries of a sketch of sums after two updates with a key and 1.
 fn seen_twice(alloc: Global, seed: u64, key: &str) -> Result<Vec<(u64, u64)>, Error> {
     let policy = DefaultUpdatePolicy::<u64>::default();
     let mut sketch = TupleSketchBuilder::new(policy).seed(seed).build(alloc)?;
@@ -64,7 +64,7 @@ fn state_of(sketch: &CompactTupleSketch<u64>) -> (bool, u64, bool) {
     (sketch.is_empty(), sketch.theta64(), sketch.is_ordered())
 }
 
-/// What a compact form and its copy tell.
+/// The emptiness, theta and order of a compact form and of its copy.
 fn told_twice(alloc: Global, last: u64, ordered: bool) -> Result<[(bool, u64, bool); 2], Error> {
     let compact = compact_of(alloc, last, ordered)?;
     let copy = compact.clone()?;
@@ -79,7 +79,7 @@ fn copied(alloc: Global, last: u64, ordered: bool) -> Result<Vec<(u64, u64)>, Er
 
 #[test]
 fn compact_forms(rt: HostRuntime) -> Result<(), Fail> {
-    // The last hash, whether order is asked, and then order and theta.
+    // The last hash, whether order is requested, then order and theta.
     let rows = [
         (0, false, true, MAX_THETA),
         (1, false, true, MAX_THETA),
@@ -100,7 +100,7 @@ fn compact_forms(rt: HostRuntime) -> Result<(), Fail> {
     Ok(())
 }
 
-/// A sketch's emptiness, theta and count, as it tells them and as its view does.
+/// A sketch's emptiness, theta and count, by its accessors and by those of its view.
 fn twice_told(sketch: &Sums) -> [(bool, u64, usize); 2] {
     let view = TupleSketchView::from(sketch);
     [
@@ -111,7 +111,7 @@ fn twice_told(sketch: &Sums) -> [(bool, u64, usize); 2] {
 
 #[test]
 fn sketches_are_trimmed_and_reset(rt: HostRuntime) -> Result<(), Fail> {
-    // The last hash, and then theta and how many are kept.
+    // The last hash, then theta and the number of retained hashes.
     for (last, theta, kept) in [(32, MAX_THETA, 32), (33, 33, 32), (40, 33, 32)] {
         let mut sketch = sums_of(rt.alloc(), last)?;
         sketch.trim()?;
@@ -124,25 +124,25 @@ fn sketches_are_trimmed_and_reset(rt: HostRuntime) -> Result<(), Fail> {
     Ok(())
 }
 
-/// How many entries a view and its copy tell, whatever its summaries are.
+/// The number of entries of a view and of its copy, for summaries of any type.
 fn counted_twice<S: Drop>(view: TupleSketchView<'_, S>) -> [usize; 2] {
     let copy = view;
     [view.num_retained(), copy.num_retained()]
 }
 
-/// What a sketch lends.
+/// The entries of a sketch's view.
 fn lent_by_sketch(alloc: Global, last: u64) -> Result<Vec<(u64, u64)>, Error> {
     let sketch = sums_of(alloc, last)?;
     Ok(ascending(alloc, sketch.as_view().iter())?)
 }
 
-/// What a compact form lends.
+/// The entries of a compact form's view.
 fn lent_by_compact(alloc: Global, last: u64) -> Result<Vec<(u64, u64)>, Error> {
     let compact = compact_of(alloc, last, false)?;
     Ok(ascending(alloc, compact.as_view().iter())?)
 }
 
-/// How many entries a view of a compact form and its copy tell, and its iterator before the first.
+/// The number of entries of a compact form's view and of its copy, and the size hint of the form's iterator.
 fn counted(alloc: Global, last: u64) -> Result<([usize; 2], (usize, Option<usize>)), Error> {
     let compact = compact_of(alloc, last, false)?;
     Ok((counted_twice(compact.as_view()), compact.iter().size_hint()))

@@ -18,7 +18,7 @@ enum Operator {
     Difference,
 }
 
-/// Why an update and then an answer were refused, and the sum of the answer without a refusal, if the operator has one.
+/// Why an update and then an answer were refused, and the sum of an answer without a refused request, if there is one.
 type Told = (Option<ErrorKind>, Option<ErrorKind>, Option<u64>);
 
 /// The sum of an answer, if there is one.
@@ -56,7 +56,7 @@ fn unite(
     Ok(((updated, answered, sum_of(union.to_sketch(true))), seen))
 }
 
-/// Meets two views, with one request of the second update and the answer refused.
+/// Intersects two views, with one request of the second update and the answer refused.
 fn meet(
     heap: &Heap,
     a: TupleSketchView<'_, u64>,
@@ -74,7 +74,7 @@ fn meet(
     Ok(((updated, answered, sum), seen))
 }
 
-/// Takes the keys of one view from another, with one request refused.
+/// The difference of two views, with one request refused.
 fn subtract(
     heap: &Heap,
     a: TupleSketchView<'_, u64>,
@@ -90,7 +90,7 @@ fn subtract(
     Ok(((None, answered, sum), seen))
 }
 
-/// How a call to lower a union ended, whether it made the request that was to be refused, and the union's sums right after it,
+/// Why a call to lower a union is refused, whether it made the refused request, and the union's sums right after it,
 /// after the same call again, and after a reset and one sketch.
 type Lowered = (Option<ErrorKind>, bool, [Option<u64>; 3]);
 
@@ -143,7 +143,8 @@ fn refused_lowering_leaves_a_union_as_it_was(rt: HostRuntime) -> Result<(), Fail
     Ok(())
 }
 
-/// Why a union of 2^5 nominal entries refuses to go on with 2^3, 2^4, 2^5 and 2^6, with every request for memory refused.
+/// Why a union of 2^5 nominal entries refuses to be lowered to 2^3, 2^4, 2^5 and 2^6, with every request for memory
+/// refused.
 fn refusals_to_lower<'a>(
     heap: &'a Heap,
     union: &mut TupleUnion<DefaultUnionPolicy<u64>, &'a Heap>,
@@ -159,7 +160,7 @@ fn refusals_to_lower<'a>(
     kinds
 }
 
-/// Those refusals of a union that has one sketch, and of the same union after it has failed.
+/// The refusals to lower a union with one sketch, and the same union after it has failed.
 fn refusals_before_and_after(
     alloc: Global,
     heap: &Heap,
@@ -186,7 +187,7 @@ fn lowering_refuses_in_order(rt: HostRuntime) -> Result<(), Fail> {
     Ok(())
 }
 
-/// What stands with each request of an operator refused in turn, until none was: once for each outcome, in their order.
+/// The outcomes of an operator with each request refused in turn, until none was; equal ones in a row count once.
 fn in_turn(
     heap: &Heap,
     operator: Operator,
@@ -227,7 +228,7 @@ fn refused_requests_of_operators(rt: HostRuntime) -> Result<(), Fail> {
     let failed = Some(ErrorKind::Failed);
     let heap = Refusing::new(rt.alloc());
     let a = sums_of(rt.alloc(), 60)?;
-    // A union fails, and an intersection stays as it was.
+    // A union fails, and an intersection is unchanged.
     let rows = [
         (Operator::Union, (refused, failed, None), 20400),
         (Operator::Intersection, (refused, None, Some(18300)), 4200),
