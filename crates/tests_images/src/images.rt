@@ -312,7 +312,7 @@ fn sketch_below(alloc: Global, start: u64, hashes: &[u64]) -> Result<ThetaSketch
     Ok(sketch)
 }
 
-// The image of the compact form of such a sketch.
+// The image of the compact form of `sketch_below`.
 fn image_of(alloc: Global, start: u64, hashes: &[u64], ordered: bool) -> Result<Vec<u8>, Error> {
     let compact = sketch_below(alloc, start, hashes)?.compact(ordered)?;
     compact.serialize()

@@ -19,9 +19,9 @@ pub(crate) enum Reading<'a> {
 pub(crate) const EXACT: u64 = MAX_THETA;
 
 /// A sketch's emptiness and order, its theta, the number of its hashes, its seed hash, and the hashes.
-type Told = ((bool, bool), (u64, usize, u16), Vec<u64>);
+type Found = ((bool, bool), (u64, usize, u16), Vec<u64>);
 
-fn told_of(alloc: Global, sketch: &CompactThetaSketch) -> Result<Told, Error> {
+fn found_in(alloc: Global, sketch: &CompactThetaSketch) -> Result<Found, Error> {
     let hashes: Vec<u64> = sketch.iter().map(|entry| entry.hash()).collect(alloc)?;
     let flags = (sketch.is_empty(), sketch.is_ordered());
     let numbers = (sketch.theta64(), sketch.num_retained(), sketch.seed_hash());
@@ -29,9 +29,9 @@ fn told_of(alloc: Global, sketch: &CompactThetaSketch) -> Result<Told, Error> {
 }
 
 /// The sketch that is read from the bytes under the default seed, or why they are refused.
-fn read(alloc: Global, bytes: &[u8]) -> Result<Result<Told, ErrorKind>, Error> {
+fn read(alloc: Global, bytes: &[u8]) -> Result<Result<Found, ErrorKind>, Error> {
     match CompactThetaSketch::deserialize(alloc, bytes) {
-        Ok(sketch) => Ok(Ok(told_of(alloc, &sketch)?)),
+        Ok(sketch) => Ok(Ok(found_in(alloc, &sketch)?)),
         Err(refused) => Ok(Err(refused.kind())),
     }
 }
@@ -43,7 +43,7 @@ fn list(alloc: Global, hashes: &[u64]) -> Result<Vec<u64>, AllocError> {
 }
 
 /// The wanted reading, in the form of `read`.
-fn wanted(alloc: Global, want: Reading<'_>) -> Result<Result<Told, ErrorKind>, AllocError> {
+fn wanted(alloc: Global, want: Reading<'_>) -> Result<Result<Found, ErrorKind>, AllocError> {
     match want {
         Reading::Refused => Ok(Err(ErrorKind::InvalidData)),
         Reading::Empty => Ok(Ok(((true, true), (EXACT, 0, 0x93cc), Vec::new(alloc)))),
@@ -61,8 +61,8 @@ pub(crate) fn assert_reads(
     name: &str,
     want: Reading<'_>,
 ) -> Result<(), Error> {
-    let told = read(rt.alloc(), bytes)?;
-    assert_eq!(rt; told, wanted(rt.alloc(), want)?, "{name}");
+    let found = read(rt.alloc(), bytes)?;
+    assert_eq!(rt; found, wanted(rt.alloc(), want)?, "{name}");
     Ok(())
 }
 

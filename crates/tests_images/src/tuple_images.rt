@@ -107,8 +107,8 @@ fn reads_tuple_images(rt: HostRuntime) -> Result<(), Fail> {
         ),
     ];
     for (name, text, want) in cases {
-        let told = read_text::<u64>(rt.alloc(), text)?;
-        assert_eq!(rt; told, wanted(rt.alloc(), want)?, "{name}");
+        let found = read_text::<u64>(rt.alloc(), text)?;
+        assert_eq!(rt; found, wanted(rt.alloc(), want)?, "{name}");
     }
     Ok(())
 }
@@ -134,8 +134,8 @@ fn reads_negative_summaries(rt: HostRuntime) -> Result<(), Fail> {
         ),
     ];
     for (name, text, want) in cases {
-        let told = read_text::<i32>(rt.alloc(), text)?;
-        assert_eq!(rt; told, wanted(rt.alloc(), want)?, "{name}");
+        let found = read_text::<i32>(rt.alloc(), text)?;
+        assert_eq!(rt; found, wanted(rt.alloc(), want)?, "{name}");
     }
     Ok(())
 }
@@ -220,7 +220,7 @@ fn sums_of(alloc: Global, values: &[u64]) -> Result<TupleSketch<DefaultUpdatePol
     Ok(sketch)
 }
 
-// The ordered image of such a sketch.
+// The ordered image of `sums_of`.
 fn image_of(alloc: Global, values: &[u64]) -> Result<Vec<u8>, Error> {
     let compact = sums_of(alloc, values)?.compact(true)?;
     compact.serialize()

@@ -15,12 +15,12 @@ pub(crate) enum TupleReading<'a, S> {
 }
 
 /// A sketch's emptiness and order, its theta, the number of its entries, its seed hash, and the entries.
-pub(crate) type TupleTold<S> = ((bool, bool), (u64, usize, u16), Vec<(u64, S)>);
+pub(crate) type TupleFound<S> = ((bool, bool), (u64, usize, u16), Vec<(u64, S)>);
 
-fn told_of<S: Copy>(
+fn found_in<S: Copy>(
     alloc: Global,
     sketch: &CompactTupleSketch<S>,
-) -> Result<TupleTold<S>, AllocError> {
+) -> Result<TupleFound<S>, AllocError> {
     let pairs = sketch.iter().map(|entry| (entry.hash(), *entry.summary()));
     let pairs: Vec<(u64, S)> = pairs.collect(alloc)?;
     let flags = (sketch.is_empty(), sketch.is_ordered());
@@ -32,9 +32,9 @@ fn told_of<S: Copy>(
 pub(crate) fn read<S: TupleSummaryValue<Global> + Copy>(
     alloc: Global,
     bytes: &[u8],
-) -> Result<Result<TupleTold<S>, ErrorKind>, Error> {
+) -> Result<Result<TupleFound<S>, ErrorKind>, Error> {
     match CompactTupleSketch::<S>::deserialize(alloc, bytes) {
-        Ok(sketch) => Ok(Ok(told_of(alloc, &sketch)?)),
+        Ok(sketch) => Ok(Ok(found_in(alloc, &sketch)?)),
         Err(refused) => Ok(Err(refused.kind())),
     }
 }
@@ -43,7 +43,7 @@ pub(crate) fn read<S: TupleSummaryValue<Global> + Copy>(
 pub(crate) fn read_text<S: TupleSummaryValue<Global> + Copy>(
     alloc: Global,
     text: &str,
-) -> Result<Result<TupleTold<S>, ErrorKind>, Error> {
+) -> Result<Result<TupleFound<S>, ErrorKind>, Error> {
     let bytes = bytes_of(alloc, text)?;
     read(alloc, &bytes)
 }
@@ -60,7 +60,7 @@ fn list<S: Copy>(alloc: Global, pairs: &[(u64, S)]) -> Result<Vec<(u64, S)>, All
 pub(crate) fn wanted<S: Copy>(
     alloc: Global,
     want: TupleReading<'_, S>,
-) -> Result<Result<TupleTold<S>, ErrorKind>, AllocError> {
+) -> Result<Result<TupleFound<S>, ErrorKind>, AllocError> {
     match want {
         TupleReading::Refused => Ok(Err(ErrorKind::InvalidData)),
         TupleReading::Empty => Ok(Ok(((true, true), (MAX_THETA, 0, 0x93cc), Vec::new(alloc)))),

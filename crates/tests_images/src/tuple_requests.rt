@@ -67,8 +67,8 @@ fn writings_of_tuples_ask_once(rt: HostRuntime) -> Result<(), Fail> {
         ("01 03 09 01 00 1e 00 00", 24, 8),
         (DESCENDING, 24 + 2 * 16, 48),
     ] {
-        let told = written(rt.alloc(), &heap, text)?;
-        assert_eq!(rt; told, (1, asked, size), "{text}");
+        let found = written(rt.alloc(), &heap, text)?;
+        assert_eq!(rt; found, (1, asked, size), "{text}");
     }
     Ok(())
 }

@@ -115,8 +115,8 @@ fn reads_in_pieces(rt: HostRuntime) -> Result<(), Fail> {
         (1000, 1000),
     ] {
         let said = image_in_pieces(rt.alloc(), Key::Line, TEXT, piece, size, None)?;
-        let told = (said.0.as_slice(), said.1, said.2);
-        assert_eq!(rt; told, (IMAGE, 5, TEXT.len()), "in {piece}");
+        let found = (said.0.as_slice(), said.1, said.2);
+        assert_eq!(rt; found, (IMAGE, 5, TEXT.len()), "in {piece}");
     }
     Ok(())
 }

@@ -20,7 +20,7 @@ type Heap = Refusing<Global>;
 
 /// The outcome of a call.
 #[derive(Clone, Copy, Debug, PartialEq, Eq)]
-enum Told {
+enum Outcome {
     /// The wanted answer.
     Answered,
     /// Another answer.
@@ -29,12 +29,12 @@ enum Told {
     Failed(io::ErrorKind),
 }
 
-fn told_of(answer: Result<bool, Unread>) -> Told {
+fn outcome_of(answer: Result<bool, Unread>) -> Outcome {
     match answer {
-        Ok(true) => Told::Answered,
-        Ok(false) => Told::Mistaken,
-        Err(Unread::Refused(error)) => Told::Refused(error.kind()),
-        Err(Unread::Failed(error)) => Told::Failed(error.kind()),
+        Ok(true) => Outcome::Answered,
+        Ok(false) => Outcome::Mistaken,
+        Err(Unread::Refused(error)) => Outcome::Refused(error.kind()),
+        Err(Unread::Failed(error)) => Outcome::Failed(error.kind()),
     }
 }
 
@@ -221,8 +221,8 @@ fn inputs_in(alloc: Global) -> io::Result<Inputs> {
     Ok(Inputs { texts, images })
 }
 
-fn make(heap: &Heap, inputs: &Inputs, call: Call) -> Told {
-    told_of(match call {
+fn make(heap: &Heap, inputs: &Inputs, call: Call) -> Outcome {
+    outcome_of(match call {
         Call::SketchReader => sketches_reader(heap),
         Call::SketchSources => sketches_sources(heap, inputs.texts.as_slice()),
         Call::Unite => unites(heap, inputs.images.as_slice()),
@@ -237,22 +237,22 @@ fn make(heap: &Heap, inputs: &Inputs, call: Call) -> Told {
 fn in_turn(rt: &impl Abort, heap: &Heap, inputs: &Inputs, call: Call) -> u64 {
     for refused in 0..u64::MAX {
         heap.restart(Refusal::Only(refused));
-        let told = make(heap, inputs, call);
+        let outcome = make(heap, inputs, call);
         let seen = heap.seen();
         heap.restart(Refusal::Never);
         if seen <= refused {
-            assert_eq!(rt; told, Told::Answered, "{call:?} at {refused}");
+            assert_eq!(rt; outcome, Outcome::Answered, "{call:?} at {refused}");
             return refused;
         }
-        let is_memory = told == Told::Refused(ErrorKind::OutOfMemory)
-            || told == Told::Failed(io::ErrorKind::OutOfMemory);
-        assert!(rt; is_memory, "{call:?} at {refused}: {told:?}");
+        let is_memory = outcome == Outcome::Refused(ErrorKind::OutOfMemory)
+            || outcome == Outcome::Failed(io::ErrorKind::OutOfMemory);
+        assert!(rt; is_memory, "{call:?} at {refused}: {outcome:?}");
     }
     0
 }
 
 #[test]
-fn tells_of_memory(rt: HostRuntime) -> Result<(), Fail> {
+fn reports_memory(rt: HostRuntime) -> Result<(), Fail> {
     let inputs = inputs_in(rt.alloc())?;
     let heap = Refusing::new(rt.alloc());
     for call in [
@@ -288,7 +288,7 @@ fn taken_in<'a>(
     failure: Option<io::ErrorKind>,
     missing: Option<io::ErrorKind>,
     unites: bool,
-) -> (Told, usize) {
+) -> (Outcome, usize) {
     let mut sources: Texts<'a> = Texts {
         left: all,
         failure,
@@ -300,41 +300,41 @@ fn taken_in<'a>(
         sketched(alloc, lg_k, &mut sources)
     };
     (
-        told_of(answer),
+        outcome_of(answer),
         all.len().saturating_sub(sources.left.len()),
     )
 }
 
 #[test]
-fn tells_of_sources(rt: HostRuntime) -> Result<(), Fail> {
+fn reports_sources(rt: HostRuntime) -> Result<(), Fail> {
     let inputs = inputs_in(rt.alloc())?;
     let pipe = Some(io::ErrorKind::BrokenPipe);
     let none = Some(io::ErrorKind::NotFound);
-    let size = Told::Refused(ErrorKind::InvalidArgument);
-    let image = Told::Refused(ErrorKind::InvalidData);
+    let size = Outcome::Refused(ErrorKind::InvalidArgument);
+    let image = Outcome::Refused(ErrorKind::InvalidData);
     for (lg_k, failure, missing, unites, wanted) in [
-        (4, None, None, false, (Told::Answered, 2)),
-        (26, None, None, false, (Told::Answered, 2)),
+        (4, None, None, false, (Outcome::Answered, 2)),
+        (26, None, None, false, (Outcome::Answered, 2)),
         (
             12,
             pipe,
             None,
             false,
-            (Told::Failed(io::ErrorKind::BrokenPipe), 1),
+            (Outcome::Failed(io::ErrorKind::BrokenPipe), 1),
         ),
         (
             12,
             pipe,
             None,
             true,
-            (Told::Failed(io::ErrorKind::BrokenPipe), 1),
+            (Outcome::Failed(io::ErrorKind::BrokenPipe), 1),
         ),
         (
             12,
             None,
             none,
             false,
-            (Told::Failed(io::ErrorKind::NotFound), 2),
+            (Outcome::Failed(io::ErrorKind::NotFound), 2),
         ),
         (3, pipe, None, false, (size, 0)),
         (27, pipe, None, false, (size, 0)),
@@ -342,7 +342,7 @@ fn tells_of_sources(rt: HostRuntime) -> Result<(), Fail> {
         (27, pipe, None, true, (size, 0)),
         (12, None, None, true, (image, 1)),
     ] {
-        let told = taken_in(
+        let outcome = taken_in(
             rt.alloc(),
             lg_k,
             inputs.texts.as_slice(),
@@ -350,7 +350,7 @@ fn tells_of_sources(rt: HostRuntime) -> Result<(), Fail> {
             missing,
             unites,
         );
-        assert_eq!(rt; told, wanted, "{lg_k} {unites}");
+        assert_eq!(rt; outcome, wanted, "{lg_k} {unites}");
     }
     Ok(())
 }

@@ -52,8 +52,8 @@ fn attempt<'a>(
 
 /// Asserts that the answer is a refusal of memory, at the last request.
 fn assert_refused<T: Drop>(rt: &impl Abort, answer: Result<T, Error>, seen: u64, refused: u64) {
-    let told = (kind_of(answer), seen.saturating_sub(refused));
-    assert_eq!(rt; told, (Some(ErrorKind::OutOfMemory), 1), "at {refused}");
+    let found = (kind_of(answer), seen.saturating_sub(refused));
+    assert_eq!(rt; found, (Some(ErrorKind::OutOfMemory), 1), "at {refused}");
 }
 
 /// Asserts that the intersection is unchanged.
@@ -65,8 +65,8 @@ fn assert_unchanged<'a>(
     refused: u64,
 ) -> Result<(), Error> {
     let now = make(alloc, intersection, Call::Answer(true))?;
-    let told = (intersection.has_result(), &now);
-    assert_eq!(rt; told, (before.is_some(), before), "at {refused}");
+    let found = (intersection.has_result(), &now);
+    assert_eq!(rt; found, (before.is_some(), before), "at {refused}");
     Ok(())
 }
 

@@ -84,8 +84,8 @@ fn counts_too_great_ask_for_nothing(rt: HostRuntime) -> Result<(), Fail> {
     ];
     for layout in LAYOUTS {
         for (count, lacking, wanted) in cases {
-            let told = asked_of_two(rt.alloc(), &heap, layout, count, lacking)?;
-            assert_eq!(rt; told, wanted, "{layout:?}, {count}, {lacking}");
+            let found = asked_of_two(rt.alloc(), &heap, layout, count, lacking)?;
+            assert_eq!(rt; found, wanted, "{layout:?}, {count}, {lacking}");
         }
     }
     Ok(())

@@ -144,8 +144,8 @@ fn assert_in_turn<'a>(
     (call, wanted, size, theta): Row,
 ) -> Result<(), Error> {
     let (asked, answer) = in_turn(rt, heap, sketch, call)?;
-    let told = (asked, answer, sketch.theta64());
-    assert_eq!(rt; told, (wanted, Ok(size), theta), "{call:?}");
+    let found = (asked, answer, sketch.theta64());
+    assert_eq!(rt; found, (wanted, Ok(size), theta), "{call:?}");
     Ok(())
 }
 
@@ -194,8 +194,8 @@ fn refused_calls_change_nothing(rt: HostRuntime) -> Result<(), Fail> {
         assert_in_turn(&rt, &heap, &mut sketch, row)?;
     }
     assert_holds(&rt, &heap, &sketch, 32)?;
-    let told = in_turn(&rt, &heap, &mut sketch, Call::Reset)?;
-    assert_eq!(rt; (told, sketch.is_empty()), (((0, 0), Ok(0)), true));
+    let found = in_turn(&rt, &heap, &mut sketch, Call::Reset)?;
+    assert_eq!(rt; (found, sketch.is_empty()), (((0, 0), Ok(0)), true));
     Ok(())
 }
 
@@ -233,7 +233,7 @@ fn shown_by<'a>(union: &ThetaUnion<&'a Heap>) -> Result<(u64, usize), Error> {
 }
 
 /// A union's theta and the number of its hashes, after a reset and an update.
-fn told_anew<'a>(
+fn found_anew<'a>(
     union: &mut ThetaUnion<&'a Heap>,
     view: ThetaSketchView<'_>,
 ) -> Result<(u64, usize), Error> {
@@ -261,8 +261,8 @@ fn update_twice(
         return Ok((kind, None));
     }
     let kinds = [kind_of(union.update(first)), kind_of(union.to_sketch(true))];
-    let told = told_anew(&mut union, second)?;
-    Ok((kind, Some((kinds, told))))
+    let found = found_anew(&mut union, second)?;
+    Ok((kind, Some((kinds, found))))
 }
 
 /// Updates a union of the hashes 46 to 90 with the hashes 1 to 45, so that it is rebuilt.
@@ -278,12 +278,12 @@ fn refused_updates_leave_a_union_failed(rt: HostRuntime) -> Result<(), Fail> {
     let failed = [Some(ErrorKind::Failed), Some(ErrorKind::Failed)];
     let wanted = (Some(ErrorKind::OutOfMemory), Some((failed, (33, 32))));
     for refused in 0..u64::MAX {
-        let told = updated(rt.alloc(), &heap, refused)?;
-        if told.1.is_none() {
-            assert_eq!(rt; (refused > 0, told.0), (true, None));
+        let found = updated(rt.alloc(), &heap, refused)?;
+        if found.1.is_none() {
+            assert_eq!(rt; (refused > 0, found.0), (true, None));
             break;
         }
-        assert_eq!(rt; told, wanted, "at {refused}");
+        assert_eq!(rt; found, wanted, "at {refused}");
     }
     Ok(())
 }
@@ -325,13 +325,13 @@ fn refused_answers_leave_a_union_as_it_was(rt: HostRuntime) -> Result<(), Fail> 
     let heap = Refusing::new(rt.alloc());
     let union = union_of_45(rt.alloc(), &heap)?;
     for refused in 0..u64::MAX {
-        let told = answered(rt.alloc(), &heap, &union, refused)?;
-        if told.1.0 <= refused {
+        let found = answered(rt.alloc(), &heap, &union, refused)?;
+        if found.1.0 <= refused {
             let wanted = (Ok(numbers(rt.alloc(), 1, 32)?), (2, (65 + 32) * 8));
-            assert_eq!(rt; told, wanted);
+            assert_eq!(rt; found, wanted);
             break;
         }
-        assert_eq!(rt; told.0, Err(ErrorKind::OutOfMemory), "at {refused}");
+        assert_eq!(rt; found.0, Err(ErrorKind::OutOfMemory), "at {refused}");
     }
     Ok(())
 }
@@ -361,7 +361,7 @@ fn lowered(alloc: Global, heap: &Heap, refused: u64) -> Result<Lowered, Error> {
     union.lower_lg_k(5)?;
     let again = shown_by(&union)?;
     let sketch = sketch_of(alloc, 9001, 1, 45)?;
-    let anew = told_anew(&mut union, sketch.as_view())?;
+    let anew = found_anew(&mut union, sketch.as_view())?;
     Ok((kind, asked, [after, again, anew]))
 }
 

@@ -104,7 +104,7 @@ type Row = (u8, ResizeFactor, u64, u64);
 
 /// The insertions of a row that request memory and their requests, theta after them, the requests of a trim, and the
 /// hashes after it, ascending.
-fn told(
+fn found(
     rt: &impl Abort,
     heap: &Heap,
     row: Row,
@@ -120,7 +120,7 @@ fn told(
 }
 
 /// Asserts the requests, theta and hashes of a row.
-fn assert_told(
+fn assert_found(
     rt: &impl Abort,
     heap: &Heap,
     row: Row,
@@ -128,7 +128,7 @@ fn assert_told(
     trims: Asked,
     kept: u64,
 ) -> Result<(), Error> {
-    let answer = told(rt, heap, row)?;
+    let answer = found(rt, heap, row)?;
     assert_eq!(rt; answer.0.as_slice(), insertions, "of {row:?}");
     assert_eq!(rt; (answer.1, answer.2), (row.3, trims), "of {row:?}");
     assert_eq!(rt; answer.3, numbers(*heap.inner(), 1, kept)?, "of {row:?}");
@@ -143,16 +143,16 @@ fn refused_insertions_change_nothing(rt: HostRuntime) -> Result<(), Fail> {
     let heap = Refusing::new(rt.alloc());
     let at_full_size = (5, ResizeFactor::X1, 61, 33);
     let rebuilt = (2, (65 + 33) * 8);
-    assert_told(&rt, &heap, at_full_size, &[(61, rebuilt)], (0, 0), 32)?;
+    assert_found(&rt, &heap, at_full_size, &[(61, rebuilt)], (0, 0), 32)?;
     let grown_once = (5, ResizeFactor::X2, 62, 34);
     let insertions = [(17, (1, 64 * 8)), (61, rebuilt)];
-    assert_told(&rt, &heap, grown_once, &insertions, (2, 65 * 8 + 64), 32)?;
+    assert_found(&rt, &heap, grown_once, &insertions, (2, 65 * 8 + 64), 32)?;
     let by_eight = (7, ResizeFactor::X8, 242, 130);
     let insertions = [(17, (1, 256 * 8)), (241, (2, (257 + 129) * 8))];
-    assert_told(&rt, &heap, by_eight, &insertions, (2, 257 * 8 + 256), 128)?;
+    assert_found(&rt, &heap, by_eight, &insertions, (2, 257 * 8 + 256), 128)?;
     let not_rebuilt = (6, ResizeFactor::X2, 100, MAX_THETA);
     let insertions = [(17, (1, 64 * 8)), (33, (1, 128 * 8))];
-    assert_told(&rt, &heap, not_rebuilt, &insertions, (2, 129 * 8 + 128), 64)?;
+    assert_found(&rt, &heap, not_rebuilt, &insertions, (2, 129 * 8 + 128), 64)?;
     Ok(())
 }
 

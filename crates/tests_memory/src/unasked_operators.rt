@@ -101,7 +101,7 @@ enum Call {
     Update(Input),
     Answer(bool),
     Lower(u8),
-    Tell,
+    Read,
     Reset,
 }
 
@@ -149,7 +149,7 @@ fn call_union<'a>(
         Call::Update(input) => kind_of(union.update(inputs.view(input))),
         Call::Answer(ordered) => kind_of(union.to_sketch(ordered)),
         Call::Lower(lg_k) => kind_of(union.lower_lg_k(lg_k)),
-        Call::Tell => {
+        Call::Read => {
             let _size = union.estimated_size();
             None
         }
@@ -196,7 +196,7 @@ fn assert_unions_ask_for_nothing(
         (Before::Filled, Call::Lower(5), None),
         (Before::Filled, Call::Lower(3), INVALID),
         (Before::Filled, Call::Lower(6), INVALID),
-        (Before::Filled, Call::Tell, None),
+        (Before::Filled, Call::Read, None),
         (Before::Filled, Call::Reset, None),
         (Before::Failure, Call::Lower(5), FAILED),
         (Before::Failure, Call::Lower(4), FAILED),
@@ -210,8 +210,8 @@ fn assert_unions_ask_for_nothing(
         (Before::Failure, Call::Reset, None),
     ];
     for (before, call, refusal) in cases {
-        let told = asked_of_union(heap, inputs, before, call)?;
-        assert_eq!(rt; told, (refusal, 0), "{call:?} after {before:?}");
+        let found = asked_of_union(heap, inputs, before, call)?;
+        assert_eq!(rt; found, (refusal, 0), "{call:?} after {before:?}");
     }
     Ok(())
 }
@@ -254,8 +254,8 @@ fn call_intersection<'a>(
     match call {
         Call::Update(input) => kind_of(intersection.update(inputs.view(input))),
         Call::Answer(ordered) => kind_of(intersection.to_sketch(ordered)),
-        Call::Lower(_) | Call::Tell | Call::Reset => {
-            let _told = (intersection.has_result(), intersection.estimated_size());
+        Call::Lower(_) | Call::Read | Call::Reset => {
+            let _found = (intersection.has_result(), intersection.estimated_size());
             None
         }
     }
@@ -293,15 +293,15 @@ fn assert_intersections_ask_for_nothing(
         (Before::Filled, Call::Update(Input::Compact), None),
         (Before::Filled, Call::Update(Input::OtherEmpty), None),
         (Before::Filled, Call::Update(Input::Other), INVALID),
-        (Before::Filled, Call::Tell, None),
+        (Before::Filled, Call::Read, None),
         (Before::Empty, Call::Update(Input::Filled), None),
         (Before::Empty, Call::Update(Input::Other), None),
         (Before::Empty, Call::Update(Input::Compact), None),
-        (Before::Empty, Call::Tell, None),
+        (Before::Empty, Call::Read, None),
     ];
     for (before, call, refusal) in cases {
-        let told = asked_of_intersection(heap, inputs, before, call)?;
-        assert_eq!(rt; told, (refusal, 0), "{call:?} after {before:?}");
+        let found = asked_of_intersection(heap, inputs, before, call)?;
+        assert_eq!(rt; found, (refusal, 0), "{call:?} after {before:?}");
     }
     Ok(())
 }
@@ -343,8 +343,8 @@ fn assert_differences_ask_for_nothing(
         (Input::Other, Input::Empty),
         (Input::Filled, Input::Other),
     ] {
-        let told = asked_of_difference(heap, inputs, a, b)?;
-        assert_eq!(rt; told, (INVALID, 0), "{a:?}, {b:?}");
+        let found = asked_of_difference(heap, inputs, a, b)?;
+        assert_eq!(rt; found, (INVALID, 0), "{a:?}, {b:?}");
     }
     Ok(())
 }

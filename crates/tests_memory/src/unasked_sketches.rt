@@ -14,7 +14,7 @@ enum Call {
     Update(u64),
     Value(&'static str),
     Trim,
-    Tell,
+    Read,
     Iterate,
     View,
     Reset,
@@ -26,7 +26,7 @@ fn make<'a>(sketch: &mut ThetaSketch<&'a Heap>, call: Call) -> Result<usize, Err
         Call::Update(hash) => sketch.update_hash(hash)?,
         Call::Value(text) => sketch.update(text)?,
         Call::Trim => sketch.trim()?,
-        Call::Tell => {
+        Call::Read => {
             let _flags = (sketch.is_empty(), sketch.is_estimation_mode());
             let _numbers = (sketch.theta64(), sketch.lg_k(), sketch.seed_hash());
             let _fraction = sketch.estimate_fraction();
@@ -88,8 +88,8 @@ fn asked<'a>(
     sketch: &mut ThetaSketch<&'a Heap>,
     call: Call,
 ) -> (Option<usize>, u64) {
-    let told = make(sketch, call).ok();
-    (told, heap.seen())
+    let found = make(sketch, call).ok();
+    (found, heap.seen())
 }
 
 #[test]
@@ -105,7 +105,7 @@ fn sketches_ask_for_nothing(rt: HostRuntime) -> Result<(), Fail> {
         (Call::Update(30), 31),
         (Call::Value("apple"), 31),
         (Call::Trim, 31),
-        (Call::Tell, 512),
+        (Call::Read, 512),
         (Call::Iterate, 31),
         (Call::View, 93),
         (Call::Reset, 0),
@@ -114,8 +114,8 @@ fn sketches_ask_for_nothing(rt: HostRuntime) -> Result<(), Fail> {
     ];
     heap.restart(Refusal::From(0));
     for (call, wanted) in calls {
-        let told = asked(&heap, &mut sketch, call);
-        assert_eq!(rt; told, (Some(wanted), 0), "{call:?}");
+        let found = asked(&heap, &mut sketch, call);
+        assert_eq!(rt; found, (Some(wanted), 0), "{call:?}");
     }
     Ok(())
 }
@@ -132,13 +132,13 @@ fn sketches_below_a_theta_ask_for_nothing(rt: HostRuntime) -> Result<(), Fail> {
         (Call::Update(32), 32),
         (Call::Update(1), 32),
         (Call::Trim, 32),
-        (Call::Tell, 512),
+        (Call::Read, 512),
         (Call::View, 96),
     ];
     heap.restart(Refusal::From(0));
     for (call, wanted) in calls {
-        let told = asked(&heap, &mut sketch, call);
-        assert_eq!(rt; told, (Some(wanted), 0), "{call:?}");
+        let found = asked(&heap, &mut sketch, call);
+        assert_eq!(rt; found, (Some(wanted), 0), "{call:?}");
     }
     assert_eq!(rt; (seen_in(&compact), heap.seen()), (128, 0));
     Ok(())

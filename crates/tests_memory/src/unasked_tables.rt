@@ -15,7 +15,7 @@ enum Call {
     Insert(u64),
     Value(&'static str),
     Trim,
-    Tell,
+    Read,
     Look(u64),
     Hash(&'static str),
     Entries,
@@ -39,7 +39,7 @@ fn make<'a>(table: &mut ThetaHashTable<&'a Heap>, call: Call) -> Result<usize, E
             }
         }
         Call::Trim => table.trim()?,
-        Call::Tell => {
+        Call::Read => {
             let _ = (table.seed(), table.seed_hash(), table.lg_nom_size());
             let _ = table.allocator().seen();
             return Ok(table.estimated_size());
@@ -107,8 +107,8 @@ fn asked<'a>(
     table: &mut ThetaHashTable<&'a Heap>,
     call: Call,
 ) -> (Option<usize>, u64) {
-    let told = make(table, call).ok();
-    (told, heap.seen())
+    let found = make(table, call).ok();
+    (found, heap.seen())
 }
 
 #[test]
@@ -124,7 +124,7 @@ fn tables_ask_for_nothing(rt: HostRuntime) -> Result<(), Fail> {
         (Call::Insert(apple), 2),
         (Call::Value("apple"), 2),
         (Call::Trim, 2),
-        (Call::Tell, 512),
+        (Call::Read, 512),
         (Call::Look(apple), 1),
         (Call::Look(5), 0),
         (Call::Hash("cherry"), 0),
@@ -137,8 +137,8 @@ fn tables_ask_for_nothing(rt: HostRuntime) -> Result<(), Fail> {
     ];
     heap.restart(Refusal::From(0));
     for (call, wanted) in calls {
-        let told = asked(&heap, &mut table, call);
-        assert_eq!(rt; told, (Some(wanted), 0), "{call:?}");
+        let found = asked(&heap, &mut table, call);
+        assert_eq!(rt; found, (Some(wanted), 0), "{call:?}");
     }
     Ok(())
 }
@@ -168,13 +168,13 @@ fn made(heap: &Heap, constructor: Constructor) -> Option<ErrorKind> {
         }
         Constructor::EmptyState => {
             let state: CompactSketchState<ThetaEntry, _> = CompactSketchState::empty(heap, 5);
-            told_of(&state)
+            read_all(&state)
         }
     }
 }
 
 /// Reads a state by all its accessors.
-fn told_of<'a>(state: &CompactSketchState<ThetaEntry, &'a Heap>) -> Option<ErrorKind> {
+fn read_all<'a>(state: &CompactSketchState<ThetaEntry, &'a Heap>) -> Option<ErrorKind> {
     let _flags = (
         state.is_empty(),
         state.is_estimation_mode(),

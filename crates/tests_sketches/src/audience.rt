@@ -37,7 +37,7 @@ fn without_c(alloc: Global, either: ThetaSketchView<'_>) -> Result<CompactThetaS
 }
 
 /// The hashes of an audience, and its estimate as an exact fraction.
-fn told(alloc: Global) -> Result<(Vec<u64>, (u128, u128)), Error> {
+fn found(alloc: Global) -> Result<(Vec<u64>, (u128, u128)), Error> {
     let answer = audience(alloc)?;
     let fraction = answer.estimate_fraction();
     Ok((ascending(alloc, answer.iter())?, fraction))
@@ -45,8 +45,8 @@ fn told(alloc: Global) -> Result<(Vec<u64>, (u128, u128)), Error> {
 
 #[test]
 fn audience_example(rt: HostRuntime) -> Result<(), Fail> {
-    let told = told(rt.alloc())?;
-    assert_eq!(rt; told.0.as_slice(), [11, 13, 14].as_slice());
-    assert_eq!(rt; told.1, (27670116110564327421, 9223372036854775807));
+    let found = found(rt.alloc())?;
+    assert_eq!(rt; found.0.as_slice(), [11, 13, 14].as_slice());
+    assert_eq!(rt; found.1, (27670116110564327421, 9223372036854775807));
     Ok(())
 }

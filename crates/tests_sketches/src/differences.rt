@@ -163,8 +163,8 @@ fn differences_want_one_seed(rt: HostRuntime) -> Result<(), Fail> {
         ((123, 9), (9001, 0), None),
     ];
     for (a, b, kind) in cases {
-        let told = refused(rt.alloc(), a, b)?;
-        assert_eq!(rt; told, (kind, true), "of {a:?} and {b:?}");
+        let found = refused(rt.alloc(), a, b)?;
+        assert_eq!(rt; found, (kind, true), "of {a:?} and {b:?}");
     }
     assert_eq!(rt; kind_of(ThetaANotB::with_seed(50541)), refusal);
     Ok(())
@@ -219,8 +219,8 @@ fn without_two(alloc: Global, a: ThetaSketchView<'_>, asked: bool) -> Result<Val
 fn differences_are_cut_at_the_lesser_theta(rt: HostRuntime) -> Result<(), Fail> {
     for asked in [false, true] {
         let value = left_below_four(rt.alloc(), asked)?;
-        let told = (value.0, value.1, value.2.as_slice());
-        assert_eq!(rt; told, (false, 4, [1, 3].as_slice()), "asked {asked}");
+        let found = (value.0, value.1, value.2.as_slice());
+        assert_eq!(rt; found, (false, 4, [1, 3].as_slice()), "asked {asked}");
     }
     Ok(())
 }

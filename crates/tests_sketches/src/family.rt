@@ -52,7 +52,7 @@ fn sevens(alloc: Global) -> Result<UpdatableState<ThetaEntry>, Error> {
 }
 
 /// Whether the state of `sevens` is empty, the number of its entries, that of its compact state, and its estimate.
-fn told(alloc: Global) -> Result<((bool, usize, usize), String), Error> {
+fn found(alloc: Global) -> Result<((bool, usize, usize), String), Error> {
     let state = sevens(alloc)?;
     let compacted = state.compact(true)?.retained_entries().len();
     let numbers = (state.is_empty(), state.num_retained(), compacted);
@@ -61,8 +61,8 @@ fn told(alloc: Global) -> Result<((bool, usize, usize), String), Error> {
 
 #[test]
 fn a_step_makes_one_entry(rt: HostRuntime) -> Result<(), Fail> {
-    let told = told(rt.alloc())?;
-    assert_eq!(rt; told.0, (false, 1, 1));
-    assert_eq!(rt; told.1.as_str(), "1.00");
+    let found = found(rt.alloc())?;
+    assert_eq!(rt; found.0, (false, 1, 1));
+    assert_eq!(rt; found.1.as_str(), "1.00");
     Ok(())
 }

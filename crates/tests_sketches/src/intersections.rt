@@ -62,9 +62,9 @@ fn is_ordered(intersection: &ThetaIntersection, asked: bool) -> Result<Option<bo
 
 /// The value of an intersection, whether its answers are ordered without and with a requested order, and whether it has
 /// a result.
-type Told = (Option<Value>, [Option<bool>; 2], bool);
+type Found = (Option<Value>, [Option<bool>; 2], bool);
 
-fn told_of(alloc: Global, intersection: &ThetaIntersection) -> Result<Told, Error> {
+fn found_in(alloc: Global, intersection: &ThetaIntersection) -> Result<Found, Error> {
     let orders = [
         is_ordered(intersection, false)?,
         is_ordered(intersection, true)?,
@@ -73,15 +73,15 @@ fn told_of(alloc: Global, intersection: &ThetaIntersection) -> Result<Told, Erro
     Ok((value, orders, intersection.has_result()))
 }
 
-fn told_in(alloc: Global, parts: &[Part], compact: bool) -> Result<Told, Error> {
+fn found_after(alloc: Global, parts: &[Part], compact: bool) -> Result<Found, Error> {
     let intersection = met(alloc, parts, compact)?;
-    told_of(alloc, &intersection)
+    found_in(alloc, &intersection)
 }
 
 /// The parts, then emptiness, theta and the hashes.
 type Row<'a> = (&'a [Part], bool, u64, (u64, u64));
 
-fn wanted_in(alloc: Global, row: Row<'_>) -> Result<Told, AllocError> {
+fn wanted_in(alloc: Global, row: Row<'_>) -> Result<Found, AllocError> {
     let (_, empty, theta, (first, last)) = row;
     let one = first == last && theta == MAX_THETA;
     let value = value_between(alloc, empty, theta, (first, last))?;
@@ -126,9 +126,9 @@ fn intersections_keep_what_all_share(rt: HostRuntime) -> Result<(), Fail> {
     ];
     for row in rows {
         for compact in [false, true] {
-            let told = told_in(rt.alloc(), row.0, compact)?;
+            let found = found_after(rt.alloc(), row.0, compact)?;
             let wanted = wanted_in(rt.alloc(), row)?;
-            assert_eq!(rt; told, wanted, "of {row:?}, {compact}");
+            assert_eq!(rt; found, wanted, "of {row:?}, {compact}");
         }
     }
     Ok(())
@@ -168,9 +168,9 @@ fn intersections_want_one_seed(rt: HostRuntime) -> Result<(), Fail> {
         (&[(1, 0, None)], None, true),
     ];
     for (parts, refusal, begun) in cases {
-        let told = refused_after(rt.alloc(), parts)?;
-        assert_eq!(rt; told.0, (refusal, begun), "after {parts:?}");
-        assert_eq!(rt; told.1, told.2, "after {parts:?}");
+        let found = refused_after(rt.alloc(), parts)?;
+        assert_eq!(rt; found.0, (refusal, begun), "after {parts:?}");
+        assert_eq!(rt; found.1, found.2, "after {parts:?}");
     }
     let kind = kind_of(ThetaIntersection::with_seed(rt.alloc(), 50541));
     assert_eq!(rt; kind, Some(ErrorKind::InvalidArgument));

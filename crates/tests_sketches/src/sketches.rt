@@ -21,14 +21,14 @@ fn started(alloc: Global, start: u64, given: Option<u64>) -> Result<ThetaSketch,
 }
 
 /// A sketch's emptiness and theta, the number of its hashes, and the fraction.
-fn told_of(
+fn found_after(
     alloc: Global,
     start: u64,
     given: Option<u64>,
 ) -> Result<((bool, u64, usize), (u128, u128)), Error> {
     let sketch = started(alloc, start, given)?;
-    let told = (sketch.is_empty(), sketch.theta64(), sketch.num_retained());
-    Ok((told, sketch.estimate_fraction()))
+    let found = (sketch.is_empty(), sketch.theta64(), sketch.num_retained());
+    Ok((found, sketch.estimate_fraction()))
 }
 
 #[test]
@@ -45,7 +45,7 @@ fn screened_updates_make_nonempty(rt: HostRuntime) -> Result<(), Fail> {
     for (start, given, empty, theta, fraction) in cases {
         let wanted = ((empty, theta, 0), fraction);
         assert_eq!(rt;
-            told_of(rt.alloc(), start, given)?,
+            found_after(rt.alloc(), start, given)?,
             wanted,
             "at {start}, {given:?}"
         );
@@ -110,9 +110,9 @@ fn compact_forms(rt: HostRuntime) -> Result<(), Fail> {
 fn trimmed(alloc: Global, last: u64) -> Result<((u64, usize), (bool, usize)), Error> {
     let mut sketch = sketch_of(alloc, 9001, 1, last)?;
     sketch.trim()?;
-    let told = (sketch.theta64(), sketch.num_retained());
+    let found = (sketch.theta64(), sketch.num_retained());
     sketch.reset();
-    Ok((told, (sketch.is_empty(), sketch.num_retained())))
+    Ok((found, (sketch.is_empty(), sketch.num_retained())))
 }
 
 #[test]
@@ -202,7 +202,7 @@ fn shown(alloc: Global, sketch: &ThetaSketch) -> Result<Value, AllocError> {
 /// of its form and of the form's image.
 type Counted = ((bool, [bool; 2]), (Value, Value, Value));
 
-fn told_of_numbers(alloc: Global, sketch: &ThetaSketch, ordered: bool) -> Result<Counted, Error> {
+fn found_of_numbers(alloc: Global, sketch: &ThetaSketch, ordered: bool) -> Result<Counted, Error> {
     let value = shown(alloc, sketch)?;
     let (form, again, estimates) = compacted(alloc, sketch, ordered)?;
     let modes = [sketch.is_estimation_mode(), estimates];
@@ -211,7 +211,7 @@ fn told_of_numbers(alloc: Global, sketch: &ThetaSketch, ordered: bool) -> Result
 
 fn counted_in(alloc: Global, lg_k: u8, bound: i32, ordered: bool) -> Result<Counted, Error> {
     let sketch = counted(alloc, lg_k, bound)?;
-    told_of_numbers(alloc, &sketch, ordered)
+    found_of_numbers(alloc, &sketch, ordered)
 }
 
 #[test]
@@ -222,11 +222,11 @@ fn counts_numbers(rt: HostRuntime) -> Result<(), Fail> {
         (5, 5000, true, false),
         (5, 5000, true, true),
     ] {
-        let told = counted_in(rt.alloc(), lg_k, bound, ordered)?;
+        let found = counted_in(rt.alloc(), lg_k, bound, ordered)?;
         let wanted = (!estimates, [estimates, estimates]);
-        assert_eq!(rt; told.0, wanted, "at {lg_k}, {ordered}");
-        assert_eq!(rt; told.1.1, told.1.0, "at {lg_k}, {ordered}");
-        assert_eq!(rt; told.1.2, told.1.0, "at {lg_k}, {ordered}, read again");
+        assert_eq!(rt; found.0, wanted, "at {lg_k}, {ordered}");
+        assert_eq!(rt; found.1.1, found.1.0, "at {lg_k}, {ordered}");
+        assert_eq!(rt; found.1.2, found.1.0, "at {lg_k}, {ordered}, read again");
     }
     Ok(())
 }
@@ -258,7 +258,7 @@ fn hint_of(alloc: Global, last: u64) -> Result<Hint, Error> {
 }
 
 #[test]
-fn sizes_are_told(rt: HostRuntime) -> Result<(), Fail> {
+fn size_hints_hold(rt: HostRuntime) -> Result<(), Fail> {
     for (last, count) in [(0, 0), (1, 1), (40, 40)] {
         let exact = (count, Some(count));
         assert_eq!(rt;

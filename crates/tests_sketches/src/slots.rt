@@ -129,8 +129,8 @@ fn tables_grow_and_are_rebuilt(rt: HostRuntime) -> Result<(), Fail> {
         (12, ResizeFactor::X1, 7681, (8192, 7680, 4096, 4097)),
     ];
     for (lg_k, factor, last, wanted) in rows {
-        let (told, _) = shown_after(rt.alloc(), lg_k, factor, last)?;
-        assert_eq!(rt; told, wanted, "of {lg_k}, {factor:?}, {last}");
+        let (found, _) = shown_after(rt.alloc(), lg_k, factor, last)?;
+        assert_eq!(rt; found, wanted, "of {lg_k}, {factor:?}, {last}");
     }
     Ok(())
 }
@@ -152,8 +152,8 @@ fn starting_sizes_come_to_the_target(rt: HostRuntime) {
         (0, 255, 1, 255),
     ];
     for (target, least, factor, wanted) in rows {
-        let told = starting_sub_multiple(target, least, factor);
-        assert_eq!(rt; told, wanted, "of {target}, {least}, {factor}");
+        let found = starting_sub_multiple(target, least, factor);
+        assert_eq!(rt; found, wanted, "of {target}, {least}, {factor}");
     }
 }
 
@@ -195,8 +195,8 @@ fn builders_hand_on_the_resize_factor(rt: HostRuntime) -> Result<(), Fail> {
         (ResizeFactor::X8, 65, 1024),
     ];
     for (factor, last, wanted) in rows {
-        let told = built_slots(rt.alloc(), factor, last)?;
-        assert_eq!(rt; told, (wanted, wanted), "of {factor:?}, {last}");
+        let found = built_slots(rt.alloc(), factor, last)?;
+        assert_eq!(rt; found, (wanted, wanted), "of {factor:?}, {last}");
     }
     Ok(())
 }

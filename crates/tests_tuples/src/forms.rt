@@ -65,7 +65,11 @@ fn state_of(sketch: &CompactTupleSketch<u64>) -> (bool, u64, bool) {
 }
 
 /// The emptiness, theta and order of a compact form and of its copy.
-fn told_twice(alloc: Global, last: u64, ordered: bool) -> Result<[(bool, u64, bool); 2], Error> {
+fn states_of_both(
+    alloc: Global,
+    last: u64,
+    ordered: bool,
+) -> Result<[(bool, u64, bool); 2], Error> {
     let compact = compact_of(alloc, last, ordered)?;
     let copy = compact.clone()?;
     Ok([state_of(&compact), state_of(&copy)])
@@ -88,8 +92,8 @@ fn compact_forms(rt: HostRuntime) -> Result<(), Fail> {
         (61, true, true, 33),
     ];
     for (last, asked, ordered, theta) in rows {
-        let told = told_twice(rt.alloc(), last, asked)?;
-        assert_eq!(rt; told, [(last == 0, theta, ordered); 2], "at {last}");
+        let found = states_of_both(rt.alloc(), last, asked)?;
+        assert_eq!(rt; found, [(last == 0, theta, ordered); 2], "at {last}");
         let kept = copied(rt.alloc(), last, asked)?;
         assert_eq!(rt;
             kept,
@@ -101,7 +105,7 @@ fn compact_forms(rt: HostRuntime) -> Result<(), Fail> {
 }
 
 /// A sketch's emptiness, theta and count, by its accessors and by those of its view.
-fn twice_told(sketch: &Sums) -> [(bool, u64, usize); 2] {
+fn counts_of_both(sketch: &Sums) -> [(bool, u64, usize); 2] {
     let view = TupleSketchView::from(sketch);
     [
         (sketch.is_empty(), sketch.theta64(), sketch.num_retained()),
@@ -116,10 +120,10 @@ fn sketches_are_trimmed_and_reset(rt: HostRuntime) -> Result<(), Fail> {
         let mut sketch = sums_of(rt.alloc(), last)?;
         sketch.trim()?;
         let wanted = (false, theta, kept);
-        assert_eq!(rt; twice_told(&sketch), [wanted, wanted], "at {last}");
+        assert_eq!(rt; counts_of_both(&sketch), [wanted, wanted], "at {last}");
         sketch.reset();
         let wanted = (true, MAX_THETA, 0);
-        assert_eq!(rt; twice_told(&sketch), [wanted, wanted], "at {last}");
+        assert_eq!(rt; counts_of_both(&sketch), [wanted, wanted], "at {last}");
     }
     Ok(())
 }
@@ -154,8 +158,8 @@ fn entries_are_lent(rt: HostRuntime) -> Result<(), Fail> {
         let wanted = tenfold(rt.alloc(), last)?;
         assert_eq!(rt; lent_by_sketch(rt.alloc(), last)?, wanted, "at {last}");
         assert_eq!(rt; lent_by_compact(rt.alloc(), last)?, wanted, "at {last}");
-        let told = counted(rt.alloc(), last)?;
-        assert_eq!(rt; told, ([count; 2], (count, Some(count))), "at {last}");
+        let found = counted(rt.alloc(), last)?;
+        assert_eq!(rt; found, ([count; 2], (count, Some(count))), "at {last}");
     }
     Ok(())
 }

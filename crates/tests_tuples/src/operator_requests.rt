@@ -19,7 +19,7 @@ enum Operator {
 }
 
 /// Why an update and then an answer were refused, and the sum of an answer without a refused request, if there is one.
-type Told = (Option<ErrorKind>, Option<ErrorKind>, Option<u64>);
+type Outcome = (Option<ErrorKind>, Option<ErrorKind>, Option<u64>);
 
 /// The sum of an answer, if there is one.
 fn sum_of<'a>(answer: Result<CompactTupleSketch<u64, &'a Heap>, Error>) -> Option<u64> {
@@ -44,7 +44,7 @@ fn unite(
     a: TupleSketchView<'_, u64>,
     b: TupleSketchView<'_, u64>,
     refused: u64,
-) -> Result<(Told, u64), Error> {
+) -> Result<(Outcome, u64), Error> {
     let builder = TupleUnionBuilder::new(DefaultUnionPolicy::<u64>::default());
     let mut union = builder.resize_factor(ResizeFactor::X2).build(heap)?;
     union.update(b)?;
@@ -62,7 +62,7 @@ fn meet(
     a: TupleSketchView<'_, u64>,
     b: TupleSketchView<'_, u64>,
     refused: u64,
-) -> Result<(Told, u64), Error> {
+) -> Result<(Outcome, u64), Error> {
     let mut intersection = TupleIntersection::new(heap, DefaultUnionPolicy::<u64>::default())?;
     intersection.update(a)?;
     heap.restart(Refusal::Only(refused));
@@ -80,7 +80,7 @@ fn subtract(
     a: TupleSketchView<'_, u64>,
     b: TupleSketchView<'_, u64>,
     refused: u64,
-) -> Result<(Told, u64), Error> {
+) -> Result<(Outcome, u64), Error> {
     let difference = TupleANotB::default()?;
     heap.restart(Refusal::Only(refused));
     let answered = kind_of(difference.compute(heap, a, b, true));
@@ -193,16 +193,16 @@ fn in_turn(
     operator: Operator,
     a: TupleSketchView<'_, u64>,
     b: TupleSketchView<'_, u64>,
-) -> Result<Vec<Told>, Error> {
-    let mut outcomes: Vec<Told> = Vec::new(*heap.inner());
+) -> Result<Vec<Outcome>, Error> {
+    let mut outcomes: Vec<Outcome> = Vec::new(*heap.inner());
     for refused in 0..u64::MAX {
-        let (told, seen) = match operator {
+        let (outcome, seen) = match operator {
             Operator::Union => unite(heap, a, b, refused)?,
             Operator::Intersection => meet(heap, a, b, refused)?,
             Operator::Difference => subtract(heap, a, b, refused)?,
         };
-        if outcomes.last().copied() != Some(told) {
-            outcomes.push(told)?;
+        if outcomes.last().copied() != Some(outcome) {
+            outcomes.push(outcome)?;
         }
         if seen <= refused {
             break;
@@ -217,7 +217,7 @@ fn outcomes(
     heap: &Heap,
     operator: Operator,
     a: TupleSketchView<'_, u64>,
-) -> Result<Vec<Told>, Error> {
+) -> Result<Vec<Outcome>, Error> {
     let b = sums_of(alloc, 20)?;
     in_turn(heap, operator, a, b.as_view())
 }
@@ -235,11 +235,11 @@ fn refused_requests_of_operators(rt: HostRuntime) -> Result<(), Fail> {
     ];
     for (operator, broken, sum) in rows {
         let wanted = [broken, (None, refused, Some(sum)), (None, None, Some(sum))];
-        let told = outcomes(rt.alloc(), &heap, operator, a.as_view())?;
-        assert_eq!(rt; told.as_slice(), wanted.as_slice(), "of {operator:?}");
+        let found = outcomes(rt.alloc(), &heap, operator, a.as_view())?;
+        assert_eq!(rt; found.as_slice(), wanted.as_slice(), "of {operator:?}");
     }
     let wanted = [(None, refused, Some(16200)), (None, None, Some(16200))];
-    let told = outcomes(rt.alloc(), &heap, Operator::Difference, a.as_view())?;
-    assert_eq!(rt; told.as_slice(), wanted.as_slice());
+    let found = outcomes(rt.alloc(), &heap, Operator::Difference, a.as_view())?;
+    assert_eq!(rt; found.as_slice(), wanted.as_slice());
     Ok(())
 }

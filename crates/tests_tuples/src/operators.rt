@@ -224,8 +224,8 @@ fn a_refused_sum_ends_a_union_and_leaves_an_intersection(rt: HostRuntime) -> Res
         (&[(2, 1), (5, 1), (7, u64::MAX)], EACH),
     ];
     for (held, part) in rows {
-        let told = united(rt.alloc(), sums, &[held, part])?;
-        assert_eq!(rt; told, (refusal, None), "of {held:?}");
+        let found = united(rt.alloc(), sums, &[held, part])?;
+        assert_eq!(rt; found, (refusal, None), "of {held:?}");
         let left = (refusal, listed(rt.alloc(), held)?);
         assert_eq!(rt; met(rt.alloc(), sums, &[held, part])?, left, "of {held:?}");
     }
@@ -353,8 +353,8 @@ fn a_failed_union_refuses_all_until_its_reset(rt: HostRuntime) -> Result<(), Fai
     let mut union = failed(rt.alloc())?;
     assert_eq!(rt; answered(&union), (None, refused));
     for part in [ONE, NONE] {
-        let told = joined(rt.alloc(), &mut union, part)?;
-        assert_eq!(rt; told, refused, "of {part:?}");
+        let found = joined(rt.alloc(), &mut union, part)?;
+        assert_eq!(rt; found, refused, "of {part:?}");
     }
     union.reset();
     assert_eq!(rt; answered(&union), (Some(true), None));
@@ -404,11 +404,11 @@ fn sketches_of_another_seed_are_refused(rt: HostRuntime) -> Result<(), Fail> {
         (123, 123, refused, refused),
     ];
     for (seed, other, met, left) in rows {
-        let told = (
+        let found = (
             met_under(rt.alloc(), seed)?,
             left_under(rt.alloc(), seed, a.as_view(), other)?,
         );
-        assert_eq!(rt; told, (met, left), "under {seed} and {other}");
+        assert_eq!(rt; found, (met, left), "under {seed} and {other}");
     }
     Ok(())
 }

@@ -133,8 +133,8 @@ fn refusals_change_nothing(rt: HostRuntime) -> Result<(), Fail> {
     ];
     for (start, hash, value, wanted) in rows {
         let mut sketch = counting(rt.alloc(), start)?;
-        let told = after_value(&mut sketch, hash, value);
-        assert_eq!(rt; told, wanted, "{value} at {hash}, from {start}");
+        let found = after_value(&mut sketch, hash, value);
+        assert_eq!(rt; found, wanted, "{value} at {hash}, from {start}");
     }
     Ok(())
 }
@@ -151,8 +151,8 @@ fn a_refused_value_leaves_the_summary(rt: HostRuntime) -> Result<(), Fail> {
         (1, (refused, false, Some(0))),
     ];
     for (value, wanted) in rows {
-        let told = after_value(&mut sketch, 9, value);
-        assert_eq!(rt; told, wanted, "after {value}");
+        let found = after_value(&mut sketch, 9, value);
+        assert_eq!(rt; found, wanted, "after {value}");
     }
     Ok(())
 }

@@ -89,7 +89,7 @@ enum Call {
     Compact(bool),
     /// A clone of its compact form.
     Copy,
-    Tell,
+    Read,
     View,
     Reset,
 }
@@ -109,7 +109,7 @@ fn make<A: Allocator + Clone + Drop>(sketch: &mut Lists<A>, call: Call) -> Resul
             let copy = answer.clone()?;
             return Ok(copy.num_retained());
         }
-        Call::Tell => return Ok(told(sketch)),
+        Call::Read => return Ok(read_all(sketch)),
         Call::View => return Ok(lent_by_view(sketch)),
         Call::Reset => sketch.reset(),
     }
@@ -117,7 +117,7 @@ fn make<A: Allocator + Clone + Drop>(sketch: &mut Lists<A>, call: Call) -> Resul
 }
 
 /// Calls all accessors of a sketch, and returns the number of entries that its iterator returns.
-fn told<A: Allocator + Clone + Drop>(sketch: &Lists<A>) -> usize {
+fn read_all<A: Allocator + Clone + Drop>(sketch: &Lists<A>) -> usize {
     let _flags = (sketch.is_empty(), sketch.is_estimation_mode());
     let _numbers = (sketch.theta64(), sketch.lg_k(), sketch.seed_hash());
     let _fraction = sketch.estimate_fraction();
@@ -222,7 +222,7 @@ fn assert_calls_change_nothing<A: Allocator + Clone + Drop>(
         (Call::Update(0, 5), 0, 0, 42, 43),
         (Call::Update(43, 5), 0, 0, 42, 43),
         (Call::Key("apple", 5), 0, 0, 42, 43),
-        (Call::Tell, 0, 0, 42, 43),
+        (Call::Read, 0, 0, 42, 43),
         (Call::View, 0, 0, 42, 43),
         (Call::Update(1, 5), 1, u64::MAX, 42, 43),
         (Call::Compact(false), 43, u64::MAX, 42, 43),
@@ -239,8 +239,8 @@ fn assert_calls_change_nothing<A: Allocator + Clone + Drop>(
     let wanted = (false, 33, kept(*heap.inner())?);
     assert_eq!(rt; shown(*heap.inner(), &sketch)?, wanted);
     let (refused, size) = in_turn(rt, heap, &mut sketch, Call::Reset)?;
-    let told = (refused, size, sketch.is_empty(), sketch.theta64());
-    assert_eq!(rt; told, (0, 0, true, MAX_THETA));
+    let found = (refused, size, sketch.is_empty(), sketch.theta64());
+    assert_eq!(rt; found, (0, 0, true, MAX_THETA));
     Ok(())
 }
 
@@ -277,9 +277,9 @@ fn a_refused_first_key_leaves_the_sketch_empty(rt: HostRuntime) -> Result<(), Fa
     // The policy requests memory in `create` or in `update`; the table already has a slot.
     for ahead in [true, false] {
         assert_eq!(rt; created(&heap, ahead)?, u64::from(ahead));
-        let (refused, told) = first_key(&rt, &heap, &heap, ahead)?;
+        let (refused, found) = first_key(&rt, &heap, &heap, ahead)?;
         assert!(rt; refused >= 1, "{refused} with {ahead}");
-        assert_eq!(rt; told, (1, false), "with {ahead}");
+        assert_eq!(rt; found, (1, false), "with {ahead}");
     }
     Ok(())
 }

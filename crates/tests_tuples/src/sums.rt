@@ -19,9 +19,9 @@ fn summed<S: CheckedSum>(
     for value in values {
         refused = kind_of(sketch.update_hash(9, *value));
     }
-    let told = (sketch.is_empty(), sketch.num_retained());
+    let found = (sketch.is_empty(), sketch.num_retained());
     let sum = sketch.iter().next().map(|entry| *entry.summary());
-    Ok((refused, told, sum))
+    Ok((refused, found, sum))
 }
 
 /// Adds two values at key 9, and asserts the sum and whether the second value is refused.
@@ -31,8 +31,8 @@ fn hold<S: CheckedSum + PartialEq + Debug>(
     rows: &[([S; 2], Option<ErrorKind>, S)],
 ) -> Result<(), Error> {
     for (values, refused, sum) in rows {
-        let told = summed(alloc, values)?;
-        assert_eq!(rt; told, (*refused, (false, 1), Some(*sum)), "{values:?}");
+        let found = summed(alloc, values)?;
+        assert_eq!(rt; found, (*refused, (false, 1), Some(*sum)), "{values:?}");
     }
     Ok(())
 }

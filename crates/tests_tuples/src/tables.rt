@@ -80,7 +80,7 @@ fn table_of(alloc: Global) -> Result<Table, Error> {
 type Made = (Option<bool>, Option<ErrorKind>);
 
 /// The answer of an insertion.
-fn told(answer: Result<bool, Error>) -> Made {
+fn made_by(answer: Result<bool, Error>) -> Made {
     match answer {
         Ok(made) => (Some(made), None),
         Err(error) => (None, Some(error.kind())),
@@ -90,7 +90,7 @@ fn told(answer: Result<bool, Error>) -> Made {
 /// Inserts a hash, if the table has room.
 fn insert(table: &mut Table, hash: u64, step: AddStep) -> Made {
     if table.has_room() {
-        told(table.try_insert_hash(hash, step))
+        made_by(table.try_insert_hash(hash, step))
     } else {
         (None, None)
     }
@@ -144,7 +144,7 @@ fn steps_write_and_make_sums(rt: HostRuntime) -> Result<(), Fail> {
 /// Inserts a text, if the table has room.
 fn insert_text(table: &mut Table, text: &str, step: AddStep) -> Made {
     if table.has_room() {
-        told(table.try_insert(text, step))
+        made_by(table.try_insert(text, step))
     } else {
         (None, None)
     }
@@ -155,8 +155,8 @@ fn texts_are_inserted_at_their_hashes(rt: HostRuntime) -> Result<(), Fail> {
     let mut table = table_of(rt.alloc())?;
     let hash = table.hash("apple");
     for (value, made, sum) in [(3, true, 3), (4, false, 7)] {
-        let told = insert_text(&mut table, "apple", adds(value));
-        assert_eq!(rt; told, (Some(made), None), "of {value}");
+        let found = insert_text(&mut table, "apple", adds(value));
+        assert_eq!(rt; found, (Some(made), None), "of {value}");
         let pairs = held(rt.alloc(), &table)?;
         assert_eq!(rt; pairs.as_slice(), [(hash, sum)].as_slice());
     }
