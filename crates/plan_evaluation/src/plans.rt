@@ -41,10 +41,11 @@ use tuple_sketches::{
 /// theta, and if it is empty that map has no keys.
 ///
 /// If the plan merges leaves of one start, the value is the k-minimum of the hashes from 1 on that were added after the leaves'
-/// last resets, whatever the order and grouping and whether parts go through images. The premises: the root is a union,
-/// perhaps behind images; every leaf and every other union has at least its nominal entries, where a union counts with
-/// the least that it is lowered to; no union starts below the leaves; and some leaf is updated. If the plan is a leaf
-/// that isn't empty and whose last step is a trim, the value is the k-minimum of the hashes that were added to it.
+/// last resets, whatever the order and grouping, and whether or not parts go through images. The premises: the root is a
+/// union, perhaps through images; every leaf and every other union has at least the root's nominal entries, counting
+/// for a union the least that it is lowered to; no union starts below the leaves; and some leaf is updated. If the plan
+/// is a leaf that isn't empty and whose last step is a trim, the value is the k-minimum of the hashes that were added
+/// to it.
 ///
 /// Refused with `InvalidArgument` if the seed hash is 0, if some node's `lg_k` is outside 4 to 26 or its start outside 1 to
 /// `MAX_THETA`, or if a union is lowered to an `lg_k` outside 4 to its least so far; and with `OutOfMemory`.

@@ -14,7 +14,7 @@ use std::marker::Model;
 #[derive(Drop)]
 pub struct Items<T, A: Allocator = Global> {
     items: Vec<T, A>,
-    /// The levels of the item that has most; 0 if there is none.
+    /// The greatest number of levels among the items; 0 if there are none.
     levels: u8,
 }
 
@@ -29,7 +29,7 @@ impl<T, A: Allocator> Model for Items<T, A> {
     ghost view = { λ it. it.items.items };
 }
 
-/// The levels of the item that has most; 0 if there is none.
+/// The greatest number of levels among the items; 0 if there are none.
 fn greatest_levels<T: Levels>(items: &[T]) -> u8 {
     let mut greatest = 0;
     for item in items {
@@ -83,7 +83,7 @@ impl<V, A: Allocator> Items<LeafStep<V>, A> {
 }
 
 impl<T, A: Allocator> Items<T, A> {
-    /// The levels of the item that has most; 0 if there is none.
+    /// The greatest number of levels among the items; 0 if there are none.
     pub(crate) fn held_levels(&self) -> u8 {
         self.levels
     }

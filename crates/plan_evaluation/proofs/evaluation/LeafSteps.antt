@@ -62,7 +62,7 @@ module _ {X V : Type 0} (f : Family (Fold X) V) (lawful : IsFamily f) (lg_k star
     more : take (i + 1) steps ≡ take i steps ++ get_or steps i d ∷ []
     more = take_more steps i d lt
 
-    -- what is retained after one more step
+    -- the retained entries after one more step
     pub kept_stepped : (old new : MapTable X) → unmarked old.kept ≡ leaf_from f.key f.step_of (2 ^ lg_k) start (take i steps) (none_below start) → old ≡ record (empty_table lg_k start seed) { kept = old.kept } →
         unmarked new.kept ≡ leaf_step f.key f.step_of (2 ^ old.lg_nom) old.start (get_or steps i d) (unmarked old.kept) →
         unmarked new.kept ≡ leaf_from f.key f.step_of (2 ^ lg_k) start (take (i + 1) steps) (none_below start)

@@ -1,4 +1,4 @@
--- Facts on what a call answers.
+-- Facts on the answers of calls.
 use Rattle.std.proofs.Common.{Result, Ok, Err, inl, inr}
 use Rattle.std.specs.Prelude.{Bool, OnOk, IfErr}
 use Rattle.sketch_base.specs.declared.error.ErrorKind.{ErrorKind}
