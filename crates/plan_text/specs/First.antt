@@ -7,7 +7,7 @@ use Rattle.plan_text.specs.Reading.{Said, Stop, syntax, limit}
 use Rattle.plan_text.specs.Spelling.{Say, Spells, command_levels}
 use Rattle.plan_text.specs.Faults.{a_command, fault_at, fault_of}
 
--- these lines are a command's, of any number of levels
+-- these lines are those of a command with any number of levels
 abbrev pub IsSpelled : Said → Type 0
 IsSpelled lines = (command : Command Global) × Say lines command
 

@@ -1,4 +1,4 @@
-//! One item in memory of its own, for the fields of a plan.
+//! One item in a box, for the fields of a plan.
 ghost use Rattle.std.specs.Prelude.{◌≡◌, MatchResult};
 ghost use Rattle.sketch_base.specs.declared.error.ErrorKind.TheVariants.{InvalidArgument};
 

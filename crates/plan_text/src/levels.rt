@@ -1,4 +1,4 @@
-//! How many levels a plan has.
+//! The number of levels of a plan.
 
 use crate::plan::{Plan, UnionPart};
 use std::alloc::Allocator;

@@ -18,7 +18,7 @@ pub enum Line {
     Node(NodeLine),
     /// A step of a leaf.
     Step(StepLine),
-    /// Lowers a union's nominal entries to 2 to the power of this.
+    /// Lowers a union's nominal entries to 2 to this power.
     Lower(u8),
 }
 
@@ -46,7 +46,7 @@ pub enum StepLine {
     Reset,
 }
 
-/// How many digits a number has at most.
+/// The most digits of a number.
 const MAX_DIGITS: usize = 20;
 
 /// Any 19 digits spell a number below 2^64.

@@ -5,13 +5,13 @@ use crate::items::Items;
 pub use core_laws::LeafStep as Step;
 use std::alloc::{Allocator, Global};
 
-/// A part of a union of P.
+/// A part of a union, whose plans have the type `P`.
 #[derive(Drop)]
 pub enum UnionPart<P> {
     /// A plan to unite.
     Of(P),
-    /// Lowers the union's nominal entries from here on to 2 to the power of this: from 4 to the least before it in its union, or
-    /// the evaluation is refused.
+    /// Lowers the union's nominal entries from here on to 2 to this power. The power must be from 4 to the least before
+    /// it in its union, or the evaluation is refused.
     Lower(u8),
 }
 

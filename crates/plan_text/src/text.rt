@@ -29,7 +29,7 @@ pub fn next_line(text: &[u8]) -> Option<(&[u8], &[u8])>
     Some((line, rest))
 }
 
-/// How many lines a text has.
+/// The number of lines of a text.
 pub fn line_count(text: &[u8]) -> u64
     ensures { result ≡ length (lines_of text.now) }
 {

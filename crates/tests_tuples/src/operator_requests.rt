@@ -37,8 +37,8 @@ fn sum_if_any<'a>(answer: Result<Option<CompactTupleSketch<u64, &'a Heap>>, Erro
     }
 }
 
-/// Unites two views, the latter first, with one request of the second update and the answer refused. Slots for 33 keys have
-/// to grow.
+/// Unites two views, the second one first, with one request of the second update and the answer refused. Slots grow for
+/// 33 keys.
 fn unite(
     heap: &Heap,
     a: TupleSketchView<'_, u64>,
@@ -94,7 +94,7 @@ fn subtract(
 /// after the same call again, and after a reset and one sketch.
 type Lowered = (Option<ErrorKind>, bool, [Option<u64>; 3]);
 
-/// Unites two views, the latter first, and lowers the union with one request refused.
+/// Unites two views, the second one first, and lowers the union with one request refused.
 fn lower(
     heap: &Heap,
     a: TupleSketchView<'_, u64>,

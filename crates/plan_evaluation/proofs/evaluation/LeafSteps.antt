@@ -73,7 +73,7 @@ module _ {X V : Type 0} (f : Family (Fold X) V) (lawful : IsFamily f) (lg_k star
         ∙ sym (leaf_from-append f.key f.step_of lawful.steps (2 ^ lg_k) start (take i steps) (get_or steps i d ∷ []) (none_below start))
         ∙ ap (λ ss. leaf_from f.key f.step_of (2 ^ lg_k) start ss (none_below start)) (sym more)
 
-    -- and on emptiness
+    -- the same for emptiness
     pub empty_stepped : (old new : Bool) → old ≡ not (is_updated (take i steps) false) → new ≡ not (updated_step (get_or steps i d) (not old)) → new ≡ not (is_updated (take (i + 1) steps) false)
     empty_stepped old new was after =
         after ∙ ap (λ b. not (updated_step (get_or steps i d) (not b))) was

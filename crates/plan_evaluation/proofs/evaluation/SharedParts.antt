@@ -16,7 +16,7 @@ use Rattle.plan_values.specs.WholeStreams.{whole_in, shared_of}
 use Rattle.plan_evaluation.specs.Came.{come_to}
 use Rattle.plan_evaluation.specs.Refused.{MarksMet}
 
--- maps that are met in turn, and one more
+-- maps that are intersected in turn, and one more
 common_all-more : {X : Type 0} (key : X → ℕ) (merges : X → X → X) (whole : List X) (maps : List (List X)) (last : List X) → common_all key merges whole (maps ++ last ∷ []) ≡ common key merges (common_all key merges whole maps) last
 common_all-more key merges whole [] last = refl
 common_all-more key merges whole (xs ∷ maps) last = common_all-more key merges (common key merges whole xs) maps last

@@ -36,7 +36,7 @@ impl<'a> Pieces<'a> {
         }
     }
 
-    /// How many reads there were.
+    /// The number of reads.
     pub fn reads(&self) -> u64 {
         self.reads
     }

@@ -36,7 +36,7 @@ fn reads_in_pieces(rt: HostRuntime) -> Result<(), Fail> {
     Ok(())
 }
 
-/// The status of a run whose reads fail after these bytes, and how many bytes it wrote.
+/// The status of a run whose reads fail after these bytes, and the number of bytes it wrote.
 fn answer_to_failure(alloc: Global, front: &[u8], piece: usize) -> (u8, usize) {
     let mut reader = Pieces::new(front, piece, After::Failure);
     let (status, written) = answer_to(alloc, &mut reader);
