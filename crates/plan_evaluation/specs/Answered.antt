@@ -1,4 +1,4 @@
--- What a plan is evaluated to: one ordered sketch.
+-- The result of a plan: one ordered sketch.
 use Rattle.std.specs.Prelude.{ℕ, ◌≡◌, true, false, map}
 use Rattle.core_compact.specs.CompactState.{Compact, empty_compact, compact_value}
 use Rattle.core_laws.specs.Cuts.{Retained}
@@ -10,11 +10,11 @@ abbrev pub ordered_sketch : {X : Type 0} → Sketch X → (seed_hash : ℕ) → 
 ordered_sketch Empty seed_hash = empty_compact seed_hash
 ordered_sketch (NonEmpty v) seed_hash = record { empty = false; entries = v.entries; theta = v.theta; seed_hash = seed_hash; ordered = true }
 
--- the ordered sketch whose value is this one, of which nothing is a mark
+-- the ordered sketch with this value, which has no mark
 abbrev pub IsSketchOf : {X : Type 0} → (X → ℕ) → Sketch (Fold X) → (seed_hash : ℕ) → Compact X → Type 0
 IsSketchOf key v seed_hash s = (unmarked_value (compact_value key s) ≡ v) × (s ≡ ordered_sketch (compact_value key s) seed_hash)
 
--- a sketch isn't empty and is ordered, and it has these hashes and this theta
+-- a sketch isn't empty, is ordered, and has these hashes and this theta
 pub record HasKeys {X : Type 0} (key : X → ℕ) (v : Retained ℕ) (s : Compact X) : Type 0 where
   pub nonempty : s.empty ≡ false
   pub hashes : map key s.entries ≡ v.entries

@@ -1,4 +1,4 @@
--- What a node of a plan comes to, in any family: a leaf that an operator sees as it is, or a compact sketch.
+-- The result of a node of a plan, in any family: a leaf that an operator sees as it is, or a compact sketch.
 use Rattle.std.specs.Prelude.{ℕ, ◌≡◌, ◌||◌, ◌^◌, Bool, true, false, [], ◌∷◌, Option, Some, None}
 use Rattle.core_compact.specs.CompactState.{Compact as State, IsAnswer, compact_value}
 use Rattle.core_laws.specs.Folds.{Fold, unmarked_value}
@@ -13,36 +13,37 @@ use Rattle.plan_values.specs.Value.{value_in}
 use Rattle.plan_evaluation.specs.declared.evaluated.Evaluated.{Evaluated}
 use Rattle.plan_evaluation.specs.declared.evaluated.Evaluated.TheVariants.{Mutable, Compact}
 
--- what an operator sees of a part: its value, in folds, its seed hash, and whether it is ordered, which a leaf never is
+-- a part as an operator sees it: its value in folds, its seed hash, and whether it is ordered, which a leaf never is
 pub record Part (X : Type 0) : Type 0 where
   pub value : Sketch (Fold X)
   pub seed_hash : ℕ
   pub ordered : Bool
 
--- the part that a node is, where a family's sketches have these states and its compact sketches list these
+-- the result of a node as an operator sees it, from the state of its sketch or its compact sketch
 abbrev pub came : {X S C : Type 0} → (X → ℕ) → (S → Updatable X) → (C → State X) → Evaluated S C → Part X
 came key state listed (Mutable sketch) = record { value = unmarked_value (sketch_value (state sketch)); seed_hash = (state sketch).map.seed_hash; ordered = false }
 came key state listed (Compact sketch) = record { value = unmarked_value (compact_value key (listed sketch)); seed_hash = (listed sketch).seed_hash; ordered = (listed sketch).ordered }
 
--- a compact sketch is the answer that has this value, in folds
+-- a compact sketch is the answer with this value in folds
 abbrev pub IsFoldAnswer : {X : Type 0} → (X → ℕ) → Sketch (Fold X) → (seed_hash : ℕ) → (asked : Bool) → State X → Type 0
 IsFoldAnswer key v seed_hash asked s = (unmarked_value (compact_value key s) ≡ v) × IsAnswer key (compact_value key s) seed_hash asked s
 
--- a node has this value: a leaf as it is, and any other node as an answer, ordered where that is asked or where it orders itself
+-- a node's result has this value: a leaf's sketch as it is, and any other node's answer, ordered if that was requested
+-- (`asked`) or if the node orders it (`own`)
 abbrev pub HasValue : {X S C : Type 0} → (X → ℕ) → (S → Updatable X) → (C → State X) → Evaluated S C → (leaf : Bool) → Sketch (Fold X) → (seed_hash : ℕ) → (asked own : Bool) → Type 0
 HasValue key state listed (Mutable sketch) leaf v seed_hash asked own = (leaf ≡ true) × (own ≡ false) × (unmarked_value (sketch_value (state sketch)) ≡ v) × ((state sketch).map.seed_hash ≡ seed_hash)
 HasValue key state listed (Compact sketch) leaf v seed_hash asked own = (leaf ≡ false) × IsFoldAnswer key v seed_hash (asked || own) (listed sketch)
 
--- what a plan comes to where an order is asked or not, f being the family's folds
+-- the result of a plan, with or without a requested order, in the folds f of the family
 abbrev pub ComesTo : {X V Z S C : Type 0} → (X → ℕ) → (S → Updatable X) → (C → State X) → (f : Family (Fold X) V) → (seed_hash : ℕ) → Plan V Z → (asked : Bool) → Evaluated S C → Type 0
 ComesTo key state listed f seed_hash p asked e = HasValue key state listed e (is_leaf f p) (value_in f p) seed_hash asked (orders_itself f p)
 
--- a union takes in a value: an empty one changes nothing
+-- a union merges a value; an empty one changes nothing
 abbrev pub Joins : {X P V : Type 0} → (X → ℕ) → (f : Family (Fold X) V) → (old new : Union X P) → Sketch (Fold X) → Type 0
 Joins key f old new Empty = new ≡ old
 Joins key f old new (NonEmpty v) = unmarked_value (union_value key new) ≡ unite f.key f.merges (2 ^ old.lg_k) old.start (unmarked_value (union_value key old) ∷ NonEmpty v ∷ [])
 
--- what an intersection has come to, which is Empty before any sketch
+-- the value of an intersection: Empty before its first part
 abbrev pub come_to : {X : Type 0} → Option (Sketch X) → Sketch X
 come_to None = Empty
 come_to (Some v) = v

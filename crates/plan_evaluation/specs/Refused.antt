@@ -1,4 +1,4 @@
--- Where a family's policies refuse: the whole maps have a mark.
+-- If a family's policies refuse, the whole maps have a mark.
 use Rattle.std.specs.Prelude.{ℕ, ◌≡◌, ◌≤◌, ◌⊎◌, Bool, true, IsTrue, List, Option, Some, None}
 use Rattle.sketch_base.specs.declared.error.ErrorKind.{ErrorKind}
 use Rattle.sketch_base.specs.declared.error.ErrorKind.TheVariants.{OutOfMemory, Policy}
@@ -16,28 +16,28 @@ use Rattle.plan_values.specs.Family.{Family}
 use Rattle.plan_values.specs.Refusals.{may_refuse}
 use Rattle.plan_values.specs.Value.{plan_refusal}
 
--- memory ran out, or a policy refused: one of a family whose policies may, for this reason
+-- memory was refused, or a policy of a family whose policies may refuse did so, for this reason
 abbrev pub RefusedFor : ErrorKind → (strict : Bool) → (why : Type 0) → Type 0
 RefusedFor e strict why = (e ≡ OutOfMemory) ⊎ ((e ≡ Policy) × IsTrue strict × why)
 
--- whatever whole map a union holds and whatever one a part samples: joined they have what the union holds after the part
+-- for each whole map that a union holds and each one that a part samples: after the part, the union holds the two joined
 abbrev pub HoldsMore : {X V : Type 0} → (f : Family (Fold X) V) → (old new : List (Fold X) → Type 0) → Sketch (Fold X) → Type 0
 HoldsMore {X} f old new v = (whole come : List (Fold X)) → IsAscending f.key whole → IsAscending f.key come → old whole → IsAllBelow f.key v come → new (joined f.key f.merges whole come)
 
--- and where its policy refuses the part they have a mark
+-- for each of these pairs of whole maps: if the union's policy refuses the part, the two joined have a mark
 abbrev pub MarksJoined : {X V : Type 0} → (f : Family (Fold X) V) → (holds : List (Fold X) → Type 0) → Sketch (Fold X) → Type 0
 MarksJoined {X} f holds v = (whole come : List (Fold X)) → IsAscending f.key whole → IsAscending f.key come → holds whole → IsAllBelow f.key v come → has_mark (joined f.key f.merges whole come) ≡ true
 
--- whatever whole maps an intersection and a part sample: what they share has a mark
+-- for all whole maps that an intersection and a part sample: their common part has a mark
 abbrev pub MarksMet : {X V : Type 0} → (f : Family (Fold X) V) → (so_far : Option (Sketch (Fold X))) → Sketch (Fold X) → Type 0
 MarksMet f None v = ⊥
 MarksMet {X} f (Some u) v = (whole come : List (Fold X)) → IsAllBelow f.key u whole → IsAllBelow f.key v come → has_mark (common f.key f.merges whole come) ≡ true
 
--- whatever whole map a sketch has all of below its theta: after the step it has a mark
+-- for each whole map that a sketch retains all of below its theta: after the step the map has a mark
 abbrev pub MarksStepped : {X V : Type 0} → (f : Family (Fold X) V) → Retained (Fold X) → LeafStep V → Type 0
 MarksStepped {X} f kept step = (whole : List (Fold X)) → kept.theta ≤ MAX_THETA → kept.entries ≡ below f.key whole kept.theta → has_mark (whole_step f.key f.step_of step whole) ≡ true
 
--- what the evaluation of a plan is refused with: its settings, want of memory, or a policy that a mark in some whole map speaks of,
+-- why the evaluation of a plan is refused: its settings, or memory, or a policy that leaves a mark in some whole map
 -- before the first setting out of range
 abbrev pub IsPlanRefused : {X V Z : Type 0} → (f : Family (Fold X) V) → (strict : Bool) → (seed : ℕ) → Plan V Z → ErrorKind → Type 0
 IsPlanRefused f strict seed p e = (plan_refusal seed p ≡ Some e) ⊎ RefusedFor e strict (IsTrue (may_refuse f seed p))

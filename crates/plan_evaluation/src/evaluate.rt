@@ -21,15 +21,17 @@ use plan_text::{Plan, Step, UnionPart};
 use sketch_base::Error;
 use std::alloc::Allocator;
 
-/// What a node of a plan comes to: a leaf as it is, any other node ordered exactly where that is asked, where it orders itself,
-/// where it is empty, and where it has one entry at the greatest theta. An operator is built first; then it takes
-/// in its parts one by one, a leaf as it is, any other node compacted, in whatever order. A `Lower` among a union's parts lowers
-/// its nominal entries at that place.
+/// Evaluates a node of a plan. A leaf's result is its sketch as it is. The result of any other node is a compact
+/// sketch. It is ordered exactly if `ordered` is set, if the node orders it (an image that is written ordered or of an
+/// ordered sketch, or a difference with an ordered first operand), if it is empty, or if it has one entry at the
+/// greatest theta. An operator is built first; then its parts are evaluated and passed to it one by one, a leaf's
+/// sketch as it is, any other as a compact sketch, which needn't be ordered. A `Lower` among a union's parts lowers its
+/// nominal entries at that place.
 ///
 /// Refused with `InvalidArgument` if the seed hash is 0, if some node's `lg_k` isn't from 4 to 26 or its start isn't from 1 to
 /// `MAX_THETA`, or if a `Lower` isn't from 4 to the least `lg_k` before it in its union; with `OutOfMemory`; and with `Policy`
 /// only if a beginning of some leaf's steps, or of the parts of some union or intersection, folds to a refusal, and no setting
-/// that comes before it in the order of work is out of range.
+/// before it in the order of work is out of range.
 pub fn evaluate<F: SketchFamily<A>, A: Allocator + Clone, B: Allocator>(
     family: &F,
     alloc: &A,
@@ -89,7 +91,7 @@ pub fn evaluate<F: SketchFamily<A>, A: Allocator + Clone, B: Allocator>(
     }
 }
 
-/// What a node came to as a compact sketch, a leaf's ordered where that is asked. Refused with `OutOfMemory` alone.
+/// The result of a node as a compact sketch; a leaf's is ordered if `ordered` is set. Refused with `OutOfMemory` alone.
 pub fn compacted<F: SketchFamily<A>, A: Allocator>(
     family: &F,
     evaluated: Evaluated<F::Sketch, F::Compact>,
@@ -104,7 +106,7 @@ pub fn compacted<F: SketchFamily<A>, A: Allocator>(
     }
 }
 
-/// What an intersection of this seed has come to; it is Empty if it has seen no part.
+/// The value of an intersection of this seed; Empty before its first part. Refused with `OutOfMemory` alone.
 fn shared<F: SketchFamily<A>, A: Allocator + Clone>(
     family: &F,
     alloc: &A,

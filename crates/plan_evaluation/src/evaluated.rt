@@ -1,6 +1,6 @@
-//! What nodes of plans come to.
+//! The results of nodes of plans.
 
-/// What a node of a plan comes to: a leaf's sketch, which an operator sees as it is, or a compact sketch.
+/// The result of a node of a plan: a leaf's sketch, which an operator sees as it is, or a compact sketch.
 #[derive(Drop)]
 pub enum Evaluated<S, C> {
     /// A leaf.

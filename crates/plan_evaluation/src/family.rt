@@ -1,4 +1,4 @@
-//! What plans need of a family of sketches.
+//! The calls of a family of sketches that plans need.
 ghost use Rattle.std.specs.Prelude.{◌≡◌, ◌<◌, ◌||◌, ◌^◌, true, false, not, None, Some, [], IfOk, IfErr, OnOk, option_map};
 ghost use Rattle.sketch_base.specs.Seed.{seed_hash};
 ghost use Rattle.core_compact.specs.CompactState.{IsAnswer};
@@ -22,16 +22,16 @@ use core_laws::SketchEntry;
 use sketch_base::Error;
 use std::alloc::Allocator;
 
-/// A family of sketches and its operators, by their public calls. Its contracts are those of the calls, told of any family:
-/// values are told in folds, of which nothing here is a mark.
+/// A family of sketches and its operators, by their public calls. Its contracts are those of the calls, in terms of any
+/// family. Values are given in folds, and no fold here is a mark.
 pub trait SketchFamily<A: Allocator> {
-    /// What its sketches retain.
+    /// A retained entry.
     type Entry: SketchEntry;
-    /// What comes with an update's hash.
+    /// The value that an update carries beside its hash.
     type Value: Copy;
-    /// A sketch that takes updates.
+    /// A sketch that can be updated.
     type Sketch: Drop;
-    /// A sketch that no longer changes.
+    /// A compact sketch.
     type Compact: Drop;
     /// A union of its sketches.
     type Union: Drop;
@@ -48,15 +48,15 @@ pub trait SketchFamily<A: Allocator> {
     ghost use Rattle.core_operators.specs.Intersection.{Intersection as Intersections};
     ghost use Rattle.plan_values.specs.Family.{Family as Families};
 
-    /// Its keys, merges and steps, and the merges that it refuses.
+    /// Its keys, merges and steps; and the merges that it refuses.
     ghost rules: { Self → Families Self.Entry Self.Value };
 
     ghost refuses: { Self → Self.Entry → Self.Entry → Bool };
 
-    /// Whether a policy of it may refuse at all.
+    /// Whether a policy of the family may refuse at all.
     ghost strict: { Bool };
 
-    /// What is seen of its sketches, and of its operators but for their policies.
+    /// The states of its sketches, and of its operators without their policies.
     ghost state: { Self.Sketch → Updatable Self.Entry };
 
     ghost listed: { Self.Compact → State Self.Entry };
@@ -70,7 +70,7 @@ pub trait SketchFamily<A: Allocator> {
     /// Whether a union holds all of a whole map below its theta.
     ghost holds: { Self → Self.Union → List (Fold Self.Entry) → Type 0 };
 
-    /// Whether it made a sketch, a union, an intersection: whether these have its policies.
+    /// Whether a sketch, a union or an intersection has the family's policies.
     ghost made_sketch: { Self → Self.Sketch → Type 0 };
 
     ghost made_union: { Self → Self.Union → Type 0 };
@@ -85,8 +85,8 @@ pub trait SketchFamily<A: Allocator> {
         ensures made { IfOk result (λ s. (state s).map ≡ empty_table lg_k start seed) }
         ensures refused { Refuses result (settings_refusal lg_k start seed) true };
 
-    /// Adds a value at a hash. Refused with `OutOfMemory`, or with `Policy` where the family's rules refuse the value there; then
-    /// nothing is said of what the sketch holds.
+    /// Adds a value at a hash. Refused with `OutOfMemory`, or with `Policy` if the family's rules refuse the value
+    /// there. If refused, the sketch's contents are unspecified.
     fn add(&self, sketch: &mut Self::Sketch, hash: u64, value: Self::Value) -> Result<(), Error>
         requires own { made_sketch self.now sketch.old }
         ensures still { made_sketch self.now sketch.new }
@@ -105,7 +105,7 @@ pub trait SketchFamily<A: Allocator> {
             (state sketch.old).map.kept
             ≡ None) };
 
-    /// Trims a sketch. Refused with `OutOfMemory` alone; then nothing is said of what the sketch holds.
+    /// Trims a sketch. Refused with `OutOfMemory` alone; then the sketch's contents are unspecified.
     fn trim(&self, sketch: &mut Self::Sketch) -> Result<(), Error>
         requires own { made_sketch self.now sketch.old }
         ensures still { made_sketch self.now sketch.new }
@@ -138,8 +138,9 @@ pub trait SketchFamily<A: Allocator> {
         ensures holds { IfOk result (λ u. holds self.now u []) }
         ensures refused { Refuses result (settings_refusal lg_k start seed) true };
 
-    /// Hands a part of the union's seed over to a union that has not failed. Refused with `OutOfMemory`, or with `Policy` where
-    /// the whole maps of the union and the part, joined, have a mark; then nothing is said of what the union holds.
+    /// Merges a part of the union's seed into a union that has not failed. Refused with `OutOfMemory`, or with `Policy`
+    /// if the joined whole maps of the union and the part have a mark. If refused, the union's contents are
+    /// unspecified.
     fn join(
         &self,
         union: &mut Self::Union,
@@ -163,8 +164,8 @@ pub trait SketchFamily<A: Allocator> {
             MarksJoined (folds_of (rules self.now) (refuses self.now)) (holds self.now union.old)
             (came (rules self.now).key state listed part.now).value)) };
 
-    /// Lowers the nominal entries of a union that has not failed. Refused with `InvalidArgument` if `lg_k` isn't from 4 to the
-    /// union's, and with `OutOfMemory`; what the union holds then is unspecified.
+    /// Lowers the nominal entries of a union that has not failed. Refused with `InvalidArgument` if `lg_k` isn't from 4
+    /// to the union's, and with `OutOfMemory`. If refused, the union's contents are unspecified.
     fn lower(&self, union: &mut Self::Union, lg_k: u8) -> Result<(), Error>
         requires own { made_union self.now union.old }
         requires at_work { (united union.old).failed ≡ false }
@@ -190,8 +191,8 @@ pub trait SketchFamily<A: Allocator> {
         ensures made { IfOk result (λ i. met i ≡ new_intersection (seed_hash seed) tt) }
         ensures refused { Refuses result (seed_refusal seed) true };
 
-    /// Hands a part of the intersection's seed over to it. Refused with `OutOfMemory`, or with `Policy` where what the whole maps
-    /// share has a mark; then nothing is said of what the intersection holds.
+    /// Intersects with a part of the intersection's seed. Refused with `OutOfMemory`, or with `Policy` if the common
+    /// part of the whole maps has a mark. If refused, the intersection's contents are unspecified.
     fn meet(
         &self,
         intersection: &mut Self::Intersection,
@@ -229,7 +230,8 @@ pub trait SketchFamily<A: Allocator> {
         ensures ok { IfOk result (λ d. difference_seed d ≡ seed_hash seed) }
         ensures refused { Refuses result (seed_refusal seed) true };
 
-    /// What the first part of a difference's seed has and the second lacks. Refused with `OutOfMemory` alone.
+    /// The difference of two parts of this seed, ordered if `ordered` is set or the first part is ordered. Refused with
+    /// `OutOfMemory` alone.
     fn lacking(
         &self,
         difference: &Self::Difference,
@@ -248,8 +250,8 @@ pub trait SketchFamily<A: Allocator> {
             (listed c)) }
         ensures refused { Refuses result None true };
 
-    /// A sketch of this seed, written and read back. It is gone before its image is read. Refused with `OutOfMemory` alone, also
-    /// where a summary refuses to be written.
+    /// Writes a sketch of this seed as an image and reads it back. The sketch is dropped before its image is read.
+    /// Refused with `OutOfMemory` alone, also if a summary can't be written.
     fn through_image(
         &self,
         alloc: A,

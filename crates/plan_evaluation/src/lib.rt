@@ -1,8 +1,8 @@
-//! What plans of sketches come to, through the public calls of the sketches alone: the one sketch that a plan is evaluated
-//! to, with the plan's value and all of the whole streams' map below its theta. One evaluation serves both families; what it
-//! needs of a family is the trait `SketchFamily`.
+//! Evaluates plans of sketches by the public calls of the sketches alone. A plan is evaluated to one sketch, with the
+//! plan's value and all of the whole streams' map below its theta. One evaluation serves both families; the trait
+//! `SketchFamily` lists what it needs of a family.
 //!
-//! What a text asks for, evaluated under the default seed:
+//! Evaluates the plan of a text under the default seed:
 //!
 //! ```
 //! match read_plan(alloc, text)? {

@@ -38,16 +38,17 @@ use tuple_sketches::{
 };
 
 /// The sketch of a plan under a seed, ordered. Its value is the plan's: it retains all of the whole streams' map below its
-/// theta, and where it is empty that map has no keys.
+/// theta, and if it is empty that map has no keys.
 ///
 /// If the plan merges leaves of one start, the value is the k-minimum of the hashes from 1 on that were added after the leaves'
-/// last resets, whatever the order and grouping and whether parts go through images. The premises: the root is a union, perhaps
-/// behind images; every leaf and every other union has at least its nominal entries, a union's being the least that it is lowered
-/// to; no union starts below the leaves; and some leaf is updated. If the plan is a leaf that isn't empty and whose last step is
-/// a trim, the value is the k-minimum of the hashes that were added to it.
+/// last resets, whatever the order and grouping, and whether or not parts go through images. The premises: the root is a
+/// union, perhaps through images; every leaf and every other union has at least the root's nominal entries, counting
+/// for a union the least that it is lowered to; no union starts below the leaves; and some leaf is updated. If the plan
+/// is a leaf that isn't empty and whose last step is a trim, the value is the k-minimum of the hashes that were added
+/// to it.
 ///
 /// Refused with `InvalidArgument` if the seed hash is 0, if some node's `lg_k` is outside 4 to 26 or its start outside 1 to
-/// `MAX_THETA`, or if a union is lowered to what is outside 4 to its least `lg_k` so far; and with `OutOfMemory`.
+/// `MAX_THETA`, or if a union is lowered to an `lg_k` outside 4 to its least so far; and with `OutOfMemory`.
 pub fn evaluate_theta<A: Allocator + Clone, B: Allocator>(
     alloc: A,
     plan: &Plan<(), B>,
@@ -66,18 +67,18 @@ pub fn evaluate_theta<A: Allocator + Clone, B: Allocator>(
 /// The sketch of a plan of tuples under a seed and two policies, ordered: `update_policy` makes and updates the summaries of
 /// leaves, `combine_policy` combines those of a key that parts of a union or an intersection share, in the order of the
 /// parts. Its value is the plan's, in folds, none of which is a refusal: it retains all of the whole streams' map below its
-/// theta, and where it is empty that map has no keys.
+/// theta, and if it is empty that map has no keys.
 ///
-/// Where the plan merges leaves as `evaluate_theta` says, its keys and theta are the k-minimum of the hashes that were added,
-/// whatever the policies and whatever theta leaves and inner unions came to, each key with its fold over the whole streams.
-/// Where the plan is a leaf that isn't empty and whose last step is a trim, they are the k-minimum of those that were added
-/// to it.
+/// If the plan merges leaves under the premises of `evaluate_theta`, its keys and theta are the k-minimum of the hashes
+/// that were added, whatever the policies and whatever the thetas of leaves and inner unions, and each key has its fold
+/// over the whole streams. If the plan is a leaf that isn't empty and whose last step is a trim, they are the k-minimum
+/// of those that were added to it.
 ///
 /// Refused with `InvalidArgument` if the seed hash is 0, if some node's `lg_k` is outside 4 to 26 or its start outside 1 to
-/// `MAX_THETA`, or if a union is lowered to what is outside 4 to its least `lg_k` so far; with `OutOfMemory`, also if a summary
-/// refuses to be written to an image; and with `Policy` only if a beginning of some leaf's steps, or of the parts of some union
-/// or intersection, folds to a refusal at some key, and no setting that comes before it in the order of work is out of range. The
-/// first refusal ends the evaluation. Clones of summaries must equal their originals.
+/// `MAX_THETA`, or if a union is lowered to an `lg_k` outside 4 to its least so far; with `OutOfMemory`, also if a
+/// summary can't be written to an image; and with `Policy` only if a beginning of some leaf's steps, or of the parts of
+/// some union or intersection, folds to a refusal at some key, and no setting before it in the order of work is out of
+/// range. The first refusal ends the evaluation. Clones of summaries must equal their originals.
 pub fn evaluate_tuple<
     S: Clone + TupleSummaryValue<A>,
     U: Copy + Drop,
@@ -110,13 +111,14 @@ pub fn evaluate_tuple<
 /// The sketch of a plan of tuples whose summaries are sums: a leaf adds each value of a key to its summary, from 0 on, and
 /// operators add the summaries of a key that their parts share.
 ///
-/// Where the plan has only leaves, unions and images, each summary is the whole-number sum of all values that were added at
-/// its key after the leaves' last resets, in any order and grouping. For the rest it is as `evaluate_tuple` says: where the
-/// plan merges leaves, or is a leaf that ends by a trim, the keys and theta are the k-minimum of the hashes that were added.
+/// If the plan has only leaves, unions and images, each summary is the whole-number sum of all values that were added
+/// at its key after the leaves' last resets, in any order and grouping. The rest is as for `evaluate_tuple`: if the
+/// plan merges leaves, or is a leaf that ends by a trim, the keys and theta are the k-minimum of the hashes that were
+/// added.
 ///
-/// Refused as `evaluate_tuple` is: with `Policy` only where a beginning of some leaf's steps, or of the parts of some union or
-/// intersection, sums up to a number out of the bounds of its type. A caller knows that clones of summaries equal their
-/// originals.
+/// Refused as `evaluate_tuple` is: with `Policy` only if a beginning of some leaf's steps, or of the parts of some
+/// union or intersection, has a sum out of the bounds of its type. The caller must know that clones of summaries equal
+/// their originals.
 pub fn evaluate_sums<
     S: CheckedSum + TupleSummaryValue<A> + Drop,
     A: Allocator + Clone,

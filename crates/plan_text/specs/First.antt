@@ -1,4 +1,4 @@
--- The fault of a text is the first one, measured by what is spelled without a limit on levels.
+-- The fault of a text is the first one, measured by commands with any number of levels.
 use Rattle.std.specs.Prelude.{◌≡◌, ◌↔◌, ℕ, suc, ◌≤◌, ◌<◌, List, [], ◌∷◌, ◌++◌, length, Option, Some, None}
 use Rattle.std.specs.declared.alloc.Global.{Global}
 use Rattle.plan_text.specs.declared.line.Line.{Line}
@@ -7,11 +7,11 @@ use Rattle.plan_text.specs.Reading.{Said, Stop, syntax, limit}
 use Rattle.plan_text.specs.Spelling.{Say, Spells, command_levels}
 use Rattle.plan_text.specs.Faults.{a_command, fault_at, fault_of}
 
--- these lines are a command's, of any number of levels
+-- these lines are those of a command with any number of levels
 abbrev pub IsSpelled : Said → Type 0
 IsSpelled lines = (command : Command Global) × Say lines command
 
--- how many lines are left where reading stops, the one at fault included
+-- the number of lines left where reading stops, including the line at fault
 abbrev pub left_at : Stop → ℕ
 left_at (syntax left) = left
 left_at (limit left) = left
@@ -20,17 +20,17 @@ left_at (limit left) = left
 abbrev pub HasFault : Said → Stop → Type 0
 HasFault lines fault = fault_at 64 lines (a_command ∷ []) ≡ Some fault
 
--- nothing spelled begins with the lines up to a line at fault in its syntax
+-- no command begins with the lines up to a syntax fault
 abbrev pub NothingBegins : Type 0
 NothingBegins = (front : Said) (faulty : Option Line) (rest more : Said)
     → HasFault (front ++ faulty ∷ rest) (syntax (suc (length rest))) → IsSpelled (front ++ faulty ∷ more) → ⊥
 
--- the lines before the place of a fault begin something spelled
+-- the lines before a fault begin a command
 abbrev pub FrontBegins : Type 0
 FrontBegins = (front rest : Said) (fault : Stop) → left_at fault ≤ length rest → HasFault (front ++ rest) fault
     → (more : Said) × IsSpelled (front ++ more)
 
--- the lines up to a node of one level too many begin something spelled
+-- the lines up to a node of one level too many begin a command
 abbrev pub DeepBegins : Type 0
 DeepBegins = (front : Said) (deep : Option Line) (rest : Said) → HasFault (front ++ deep ∷ rest) (limit (suc (length rest)))
     → (more : Said) × IsSpelled (front ++ deep ∷ more)
@@ -49,11 +49,11 @@ FrontIsFaultless = (front rest more : Said) (fault other : Stop) → left_at fau
 abbrev pub SpellsOne : Type 0
 SpellsOne = (text : List ℕ) (first second : Command Global) → Spells text first → Spells text second → first ≡ second
 
--- lines after which one is missing are not spelled as they are, but begin something spelled
+-- lines after which one is missing spell no command, but begin one
 abbrev pub MissingBegins : Type 0
 MissingBegins = (lines : Said) → HasFault lines (syntax 0)
     → (IsSpelled lines → ⊥) × ((more : Said) × IsSpelled (lines ++ more))
 
--- a text has no fault exactly where it spells a command
+-- a text has no fault exactly if it spells a command
 abbrev pub FaultlessIsSpelled : Type 0
 FaultlessIsSpelled = (text : List ℕ) → (fault_of text ≡ None) ↔ ((command : Command Global) × Spells text command)

@@ -10,23 +10,23 @@ use denote.Ref.{Bor}
 abbrev pub words : List ℕ → List (List ℕ)
 words line = slice_split (λ byte. byte == 32) line
 
--- the words of what comes after a word, if anything does
+-- the words after a word, if any text follows it
 abbrev pub more_words : Option (Bor (List ℕ)) → List (List ℕ)
 more_words None = []
 more_words (Some rest) = words rest.now
 
--- 1 to 20 digits of a value below 2 ^ 64; leading zeros count as digits
+-- a number is 1 to 20 digits with a value below 2 ^ 64; leading zeros count as digits
 abbrev pub number : List ℕ → Option ℕ
 number word =
     if all_ascii_digits word && nat_lt 0 (length word) && nat_le (length word) 20 && nat_lt (digits_value 10 word) (2 ^ 64)
     then Some (digits_value 10 word) else None
 
--- a number up to a limit
+-- a number, if it is at most a limit
 abbrev pub at_most : ℕ → Option ℕ → Option ℕ
 at_most limit None = None
 at_most limit (Some n) = if nat_le n limit then Some n else None
 
--- the number that a word spells, up to a limit
+-- the number that a word spells, if it is at most a limit
 abbrev pub small : ℕ → List ℕ → Option ℕ
 small limit word = at_most limit (number word)
 
@@ -34,7 +34,7 @@ small limit word = at_most limit (number word)
 abbrev pub start_of : List ℕ → Option ℕ
 start_of word = if bytes_eq word (codes "max") then Some MAX_THETA else number word
 
--- a text begins with a word of digits alone that spells this number, and this is what comes behind it
+-- a text begins with a word of digits that spells this number, followed by `rest`
 pub record BeginsWithNumber (text : List ℕ) (value : ℕ) (rest : List ℕ) : Type 0 where
   pub word : List ℕ
   pub parts : text ≡ word ++ rest

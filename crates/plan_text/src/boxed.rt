@@ -1,4 +1,4 @@
-//! One item in memory of its own, for the fields of a plan.
+//! One item in a box, for the fields of a plan.
 ghost use Rattle.std.specs.Prelude.{◌≡◌, MatchResult};
 ghost use Rattle.sketch_base.specs.declared.error.ErrorKind.TheVariants.{InvalidArgument};
 
@@ -7,12 +7,12 @@ use sketch_base::{Error, ErrorKind};
 use std::alloc::{Allocator, Global};
 use std::marker::Model;
 
-/// A box that contracts see as what it holds, so that two plans are equal where they have equal
-/// parts. It is made of a `Box` and takes no memory. It knows how many levels that has: at most 63.
+/// A box whose value in contracts is the boxed item, so that two plans are equal if they have equal parts. It wraps a
+/// `Box`, so it allocates nothing itself. It stores the number of levels of its item: at most 63.
 #[derive(Drop)]
 pub struct Boxed<T, A: Allocator = Global> {
     held: Box<T, A>,
-    /// The levels of what it holds.
+    /// The levels of the item.
     levels: u8,
 }
 
@@ -25,11 +25,11 @@ impl<T, A: Allocator> Model for Boxed<T, A> {
 }
 
 impl<T: Levels + Drop, A: Allocator> Boxed<T, A> {
-    /// What a box holds. A box of `MAX_LEVELS` levels is refused, and dropped.
+    /// Wraps a box. A box whose item has `MAX_LEVELS` levels is refused and dropped.
     ///
     /// # Errors
     ///
-    /// `InvalidArgument` if it has as many levels as a plan may have, since a plan that holds it would have one more.
+    /// `InvalidArgument` if the item has `MAX_LEVELS` levels, since a plan around it would have one more.
     pub fn from_box(held: Box<T, A>) -> Result<Boxed<T, A>, Error>
         ensures { MatchResult result (λ b. b ≡ held.value) (λ e. e ≡ InvalidArgument) }
     {
@@ -40,7 +40,7 @@ impl<T: Levels + Drop, A: Allocator> Boxed<T, A> {
         }
     }
 
-    /// The same, of what has fewer than `MAX_LEVELS` levels.
+    /// Wraps a box whose item has fewer than `MAX_LEVELS` levels.
     pub(crate) fn of_fewer(held: Box<T, A>) -> Boxed<T, A>
         ensures { result ≡ held.value }
     {
@@ -50,12 +50,12 @@ impl<T: Levels + Drop, A: Allocator> Boxed<T, A> {
 }
 
 impl<T, A: Allocator> Boxed<T, A> {
-    /// The levels of what it holds.
+    /// The levels of the item.
     pub(crate) fn held_levels(&self) -> u8 {
         self.levels
     }
 
-    /// What it holds, lent.
+    /// The item, by reference.
     pub fn get(&self) -> &T
         ensures { result.now ≡ self.now }
     {

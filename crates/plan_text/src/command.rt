@@ -1,9 +1,9 @@
-//! What a text asks for.
+//! The command that a text spells.
 
 use crate::plan::Plan;
 use std::alloc::{Allocator, Global};
 
-/// Of which sketches a plan is.
+/// The kind of sketches of a plan.
 #[derive(Clone, Copy)]
 pub enum Family {
     /// Theta sketches, whose updates carry a hash and nothing else.
@@ -12,16 +12,16 @@ pub enum Family {
     Tuple,
 }
 
-/// What is to be answered of the sketch that a plan comes to.
+/// The form in which a plan's sketch is answered.
 #[derive(Clone, Copy)]
 pub enum Form {
-    /// Its emptiness, its theta and what it retains.
+    /// Whether it is empty, its theta and its retained entries.
     Show,
     /// Its ordered image.
     Image,
 }
 
-/// What a text asks for: a plan of a family, and the form of its answer.
+/// The command that a text spells: a plan of a family, and the form of its answer.
 #[derive(Drop)]
 pub enum Command<A: Allocator = Global> {
     /// A plan of theta sketches.

@@ -12,7 +12,7 @@ use crate::step_value::{StepValue, step_of};
 use crate::text::next_line;
 use std::alloc::{AllocError, Allocator};
 
-/// What the first line says, and the text after it, if there is a line that says anything.
+/// What the first line says and the text after it; `None` if there is no line or the text may not have it.
 fn next(text: &[u8]) -> Option<(Line, &[u8])>
     ensures { MatchOption result (first_of (says text.now) ≡ None) (λ x. says text.now ≡ Some x.0 ∷ says x.1.now) }
 {
@@ -47,7 +47,7 @@ fn node_line(text: &[u8]) -> Result<(NodeLine, &[u8]), ReadError<'_>>
     }
 }
 
-/// The step that the first line says, of whatever family, and the text after it.
+/// The step that the first line says, of either family, and the text after it.
 #[inline(always)]
 fn step_line(text: &[u8]) -> Result<(StepLine, &[u8]), ReadError<'_>>
     ensures { Gives (λ x. (x.0, says x.1.now)) result (first_as step_in (says text.now)) }
@@ -58,7 +58,7 @@ fn step_line(text: &[u8]) -> Result<(StepLine, &[u8]), ReadError<'_>>
     }
 }
 
-/// The same, by the line's words.
+/// As `step_line`, reading the line word by word.
 #[inline(never)]
 fn any_step_line(text: &[u8]) -> Result<(StepLine, &[u8]), ReadError<'_>>
     ensures { Gives (λ x. (x.0, says x.1.now)) result (first_as step_in (says text.now)) }
@@ -84,7 +84,7 @@ fn step<V: StepValue>(text: &[u8]) -> Result<(Step<V>, &[u8]), ReadError<'_>>
     }
 }
 
-/// `count` steps, and the text after them. Memory is taken as steps are read.
+/// `count` steps, and the text after them. Memory is allocated as steps are read.
 fn steps<'a, V: StepValue, A: Allocator + Clone>(
     alloc: &A,
     count: u32,
@@ -102,7 +102,7 @@ fn steps<'a, V: StepValue, A: Allocator + Clone>(
     Ok((steps, rest))
 }
 
-/// The logarithm to which the first line lowers a union's nominal entries, and the text after it; none for any other line.
+/// If the first line lowers a union's nominal entries: the logarithm that it lowers them to, and the text after it.
 fn lower_line(text: &[u8]) -> Option<(u8, &[u8])>
     ensures { MatchOption result (lower_first (says text.now) ≡ None) (λ x. lower_first (says text.now) ≡ Some (x.0, says x.1.now)) }
 {
@@ -113,7 +113,7 @@ fn lower_line(text: &[u8]) -> Option<(u8, &[u8])>
     }
 }
 
-/// A plan in memory of its own.
+/// A plan in a box.
 fn boxed<V: StepValue, A: Allocator + Clone>(
     alloc: &A,
     plan: Plan<V, A>,

@@ -1,21 +1,21 @@
-//! Why a text gives no command.
+//! Why a text has no command.
 ghost use Rattle.std.specs.Prelude.{◌≡◌};
 ghost use Rattle.plan_text.specs.declared.fault.ReadError.TheVariants.{Memory};
 
 use std::alloc::{AllocError, AllocFailed};
 
-/// Why a text gives no command. Lines are numbered from 1.
+/// Why a text has no command. Lines are numbered from 1.
 #[derive(Clone, Copy)]
 pub enum Fault {
-    /// The first line that is not as wanted; where a line is missing, one past the last line.
+    /// The number of the first line that is not as wanted; if a line is missing, one past the last line.
     Syntax(u64),
-    /// A node of one level too many, at this line.
+    /// The number of a line that begins a node of one level too many.
     Limit(u64),
     /// Memory was refused.
     Memory,
 }
 
-/// Why reading stopped, at the first line of what is left of the text.
+/// Why reading stopped, with the text from the line where it stopped.
 #[derive(Drop)]
 pub enum ReadError<'a> {
     Memory,

@@ -8,13 +8,13 @@ use sketch_base::{Error, ErrorKind};
 use std::alloc::{Allocator, Global};
 use std::marker::Model;
 
-/// A vector that contracts see as the list of its items, so that two plans are equal where they
-/// have equal steps and parts. It is made of a `Vec` and gives it back, and takes no memory. It knows how many levels its
-/// items have: at most 63.
+/// A vector whose value in contracts is the list of its items, so that two plans are equal if they have equal steps and
+/// parts. It wraps a `Vec` and returns it, so it allocates nothing itself. It stores the greatest number of levels
+/// among its items: at most 63.
 #[derive(Drop)]
 pub struct Items<T, A: Allocator = Global> {
     items: Vec<T, A>,
-    /// The levels of the item that has most; 0 if there is none.
+    /// The greatest number of levels among the items; 0 if there are none.
     levels: u8,
 }
 
@@ -29,7 +29,7 @@ impl<T, A: Allocator> Model for Items<T, A> {
     ghost view = { λ it. it.items.items };
 }
 
-/// The levels of the item that has most; 0 if there is none.
+/// The greatest number of levels among the items; 0 if there are none.
 fn greatest_levels<T: Levels>(items: &[T]) -> u8 {
     let mut greatest = 0;
     for item in items {
@@ -39,11 +39,11 @@ fn greatest_levels<T: Levels>(items: &[T]) -> u8 {
 }
 
 impl<T: Levels + Drop, A: Allocator> Items<T, A> {
-    /// The parts of a plan, looked at one by one. If one has `MAX_LEVELS` levels, all are refused, and dropped.
+    /// Wraps the parts of a plan and checks each one. If one has `MAX_LEVELS` levels, all are refused and dropped.
     ///
     /// # Errors
     ///
-    /// `InvalidArgument` if a part has as many levels as a plan may have, since a plan that holds it would have one more.
+    /// `InvalidArgument` if a part has `MAX_LEVELS` levels, since a plan around it would have one more.
     pub fn from_parts(parts: Vec<T, A>) -> Result<Items<T, A>, Error>
         ensures { MatchResult result (λ it. it ≡ parts.items) (λ e. e ≡ InvalidArgument) }
     {
@@ -58,7 +58,7 @@ impl<T: Levels + Drop, A: Allocator> Items<T, A> {
         }
     }
 
-    /// The same, of parts that have fewer than `MAX_LEVELS` levels.
+    /// Wraps parts that have fewer than `MAX_LEVELS` levels.
     pub(crate) fn of_fewer(parts: Vec<T, A>) -> Items<T, A>
         ensures { result ≡ parts.items }
     {
@@ -71,7 +71,7 @@ impl<T: Levels + Drop, A: Allocator> Items<T, A> {
 }
 
 impl<V, A: Allocator> Items<LeafStep<V>, A> {
-    /// The steps of a leaf, which have no levels.
+    /// Wraps the steps of a leaf, which have no levels.
     pub fn from_steps(steps: Vec<LeafStep<V>, A>) -> Items<LeafStep<V>, A>
         ensures { result ≡ steps.items }
     {
@@ -83,12 +83,12 @@ impl<V, A: Allocator> Items<LeafStep<V>, A> {
 }
 
 impl<T, A: Allocator> Items<T, A> {
-    /// The levels of the item that has most; 0 if there is none.
+    /// The greatest number of levels among the items; 0 if there are none.
     pub(crate) fn held_levels(&self) -> u8 {
         self.levels
     }
 
-    /// A vector of the items.
+    /// The items as a vector.
     pub fn into_vec(self) -> Vec<T, A>
         ensures { result.items ≡ self }
     {
@@ -96,7 +96,7 @@ impl<T, A: Allocator> Items<T, A> {
         items
     }
 
-    /// The items, lent.
+    /// The items as a slice.
     pub fn as_slice(&self) -> &[T]
         ensures { result.now ≡ self.now }
     {

@@ -1,11 +1,10 @@
 //! Laws of the definitions.
 ghost use Rattle.plan_text.specs.First.{NothingBegins, FrontBegins, FrontIsFaultless, DeepBegins, DeepIsDeep, MissingBegins, FaultlessIsSpelled, SpellsOne};
 
-/// The fault of a text is the first one, measured by what is spelled without a limit on levels:
-/// nothing spelled begins with the lines up to a line at fault in its syntax, the lines before any
-/// fault begin something spelled and have no fault whatever follows them, the lines up to a node of
-/// one level too many begin something spelled, and all of that has more than 64 levels; lines after
-/// which one is missing are not spelled, but begin something spelled.
+/// The fault of a text is the first one, measured by commands with any number of levels. No command begins with the
+/// lines up to a syntax fault. The lines before any fault begin a command, and have no fault whatever follows them. The
+/// lines up to a node of one level too many begin a command, and each such command has more than 64 levels. Lines after
+/// which one is missing spell no command, but begin one.
 pub fn first_fault()
     ensures nothing { NothingBegins }
     ensures front { FrontBegins }
@@ -20,7 +19,7 @@ pub fn one_command()
     ensures { SpellsOne }
 {}
 
-/// A text has no fault exactly where it spells a command.
+/// A text has no fault exactly if it spells a command.
 pub fn fault_or_command()
     ensures { FaultlessIsSpelled }
 {}

@@ -1,15 +1,15 @@
-//! How many levels a plan has.
+//! The number of levels of a plan.
 
 use crate::plan::{Plan, UnionPart};
 use std::alloc::Allocator;
 
-/// How many levels a plan has at most, whether it is read or built.
+/// The most levels that a plan may have, whether it is read or built.
 pub const MAX_LEVELS: u8 = 64;
 
-/// What has levels.
+/// A plan or a part of one, with its number of levels.
 pub trait Levels {
-    /// The number of levels, from 0 to `MAX_LEVELS`, in constant time: 1 for a leaf, one more than the part that has most for
-    /// any other plan, and 0 for what is no plan.
+    /// The number of levels, from 0 to `MAX_LEVELS`, in constant time: 1 for a leaf, one more than the part with the
+    /// most for any other plan, and 0 for a `Lower`.
     fn levels(&self) -> u8;
 }
 

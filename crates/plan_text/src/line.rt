@@ -12,18 +12,17 @@ use core_laws::MAX_THETA;
 /// A line that the text may have.
 #[derive(Clone, Copy)]
 pub enum Line {
-    /// The first line: of which sketches the plan after it is, and the form of its answer.
+    /// The first line: the family of the plan after it, and the form of its answer.
     Command(Family, Form),
     /// A node of a plan, before its steps or its parts.
     Node(NodeLine),
     /// A step of a leaf.
     Step(StepLine),
-    /// Lowers a union's nominal entries to 2 to the power of this.
+    /// Lowers a union's nominal entries to 2 to this power.
     Lower(u8),
 }
 
-/// A line that begins a node. Each number and count is what the line spells, also where no sketch
-/// may have it.
+/// A line that begins a node. Each number and count is as the line spells it, even if no sketch may have it.
 #[derive(Clone, Copy)]
 pub enum NodeLine {
     /// A leaf, with `count` steps on the lines after it.
@@ -34,26 +33,26 @@ pub enum NodeLine {
     Meet { count: u32 },
     /// A difference, with two plans on the lines after it.
     Minus,
-    /// A plan on the lines after it, to be written, ordered or not, and read back.
+    /// Writes the plan on the lines after it as an image, ordered or not, and reads it back.
     Via { ordered: bool },
 }
 
 /// A line that is a step of a leaf.
 #[derive(Clone, Copy)]
 pub enum StepLine {
-    /// An update with this hash, and with this number where one stands behind the hash.
+    /// An update with this hash, and the number after the hash if there is one.
     Add(u64, Option<u64>),
     Trim,
     Reset,
 }
 
-/// How many digits a number has at most.
+/// The most digits of a number.
 const MAX_DIGITS: usize = 20;
 
-/// So many digits spell a number below 2^64, whatever they are.
+/// Any 19 digits spell a number below 2^64.
 const SMALL_DIGITS: usize = 19;
 
-/// The first word, and what comes after the space behind it.
+/// The first word, and the text after the space that ends it.
 fn word(line: &[u8]) -> (&[u8], Option<&[u8]>)
     ensures { words line.now ≡ result.0.now ∷ more_words result.1 }
 {
@@ -63,7 +62,7 @@ fn word(line: &[u8]) -> (&[u8], Option<&[u8]>)
     }
 }
 
-/// The number that a word spells, if it spells one.
+/// The number that a word spells: 1 to 20 digits of a value below 2^64.
 fn number(word: &[u8]) -> Option<u64>
     ensures { result ≡ number word.now }
 {
@@ -80,8 +79,8 @@ fn number(word: &[u8]) -> Option<u64>
     Some(value)
 }
 
-/// The number that the digits at the front of a text spell, and the text from the first byte that is no digit.
-/// `None` says nothing of the text: it has no such byte, or no digit or more than 19 of them before it.
+/// The number that the digits at the front of a text spell, and the text after them. `None` if there is no digit, if
+/// there are more than 19, or if the text ends with them.
 #[inline(always)]
 fn number_before(text: &[u8]) -> Option<(u64, &[u8])>
     ensures { IfSome result (λ x. BeginsWithNumber text.now x.0 x.1.now) }
@@ -103,8 +102,8 @@ fn number_before(text: &[u8]) -> Option<(u64, &[u8])>
     None
 }
 
-/// An update that the first line says in so few digits that no test of its numbers is needed, and the text
-/// after that line. `None` says nothing of the text.
+/// The update that the first line says, and the text after that line. `None` for any other line, and for some updates:
+/// those with a number of more than 19 digits, and one on a last line without LF.
 #[inline(always)]
 pub fn plain_add(text: &[u8]) -> Option<(StepLine, &[u8])>
     ensures { IfSome result (λ x. says text.now ≡ Some (line.Step x.0) ∷ says x.1.now) }
@@ -126,7 +125,7 @@ pub fn plain_add(text: &[u8]) -> Option<(StepLine, &[u8])>
     }
 }
 
-/// The starting theta that a word spells, if it spells one.
+/// The starting theta that a word spells: `max`, or a number.
 fn start_of(word: &[u8]) -> Option<u64>
     ensures { result ≡ start_of word.now }
 {
@@ -136,7 +135,7 @@ fn start_of(word: &[u8]) -> Option<u64>
     number(word)
 }
 
-/// What is asked, if a word says so.
+/// The form of the answer that a word names: `show` or `image`.
 fn form_of(word: &[u8]) -> Option<Form>
     ensures { result ≡ form_of word.now }
 {
@@ -149,7 +148,7 @@ fn form_of(word: &[u8]) -> Option<Form>
     None
 }
 
-/// Whether an image is to be ordered, if a word says so.
+/// Whether an image is to be ordered: `ordered` or `unordered`.
 fn order_of(word: &[u8]) -> Option<bool>
     ensures { result ≡ order_of word.now }
 {
@@ -240,7 +239,7 @@ fn four_words(first: &[u8], second: &[u8], third: &[u8], fourth: &[u8]) -> Optio
     None
 }
 
-/// What a line says, if it is one that the text may have.
+/// What a line says; `None` if the text may not have that line.
 pub fn line_of(line: &[u8]) -> Option<Line>
     ensures { result ≡ said (words line.now) }
 {

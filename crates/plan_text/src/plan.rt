@@ -5,21 +5,21 @@ use crate::items::Items;
 pub use core_laws::LeafStep as Step;
 use std::alloc::{Allocator, Global};
 
-/// A part of a union of P.
+/// A part of a union, whose plans have the type `P`.
 #[derive(Drop)]
 pub enum UnionPart<P> {
-    /// What is united.
+    /// A plan to unite.
     Of(P),
-    /// Lowers the union's nominal entries from here on to 2 to the power of this: from 4 to the least before it in its union, or
-    /// the evaluation is refused.
+    /// Lowers the union's nominal entries from here on to 2 to this power. The power must be from 4 to the least before
+    /// it in its union, or the evaluation is refused.
     Lower(u8),
 }
 
 /// A part of a union: a plan, or a lowering of the union's nominal entries.
 pub type Part<V, A = Global> = UnionPart<Plan<V, A>>;
 
-/// What is evaluated. It has at most `MAX_LEVELS` levels, however it was made, since its boxes and lists of parts refuse what has
-/// as many. So neither its evaluation nor its drop runs out of stack.
+/// An expression of sketches. It has at most `MAX_LEVELS` levels, however it was made, since its boxes and lists of
+/// parts refuse plans that have as many. So neither its evaluation nor its drop runs out of stack.
 #[derive(Drop)]
 pub enum Plan<V, A: Allocator = Global> {
     /// A sketch that is updated step by step.
@@ -40,12 +40,12 @@ pub enum Plan<V, A: Allocator = Global> {
     },
     /// The intersection of its parts, in their order.
     Meet {
-        /// At least one: the intersection of none is empty.
+        /// A text has at least one; the intersection of no parts is empty.
         parts: Items<Plan<V, A>, A>,
     },
-    /// The difference: what of the first the second lacks.
+    /// The difference: the entries of the first whose hashes the second doesn't have.
     Minus(Boxed<Plan<V, A>, A>, Boxed<Plan<V, A>, A>),
-    /// What its part comes to, written and read back.
+    /// The sketch of its part, written as an image and read back.
     Via {
         /// Whether the image is to be ordered.
         ordered: bool,

@@ -47,7 +47,7 @@ fn command<'a, A: Allocator + Clone>(alloc: &A, text: &'a [u8]) -> Result<Comman
     }
 }
 
-/// The number of the first line of what is left of a text, from 1.
+/// The number, from 1, of the first line of the rest of a text.
 fn line_number(text: &[u8], rest: &[u8]) -> u64
     ensures { result ≡ length (lines_of text.now) - length (lines_of rest.now) + 1 }
 {
@@ -56,13 +56,14 @@ fn line_number(text: &[u8], rest: &[u8]) -> u64
 
 /// The command that a text spells, or the text's first fault. Nothing is evaluated.
 ///
-/// Lines end with LF, which the last may lack; words are separated by one space. The text is read from its beginning to its end,
-/// the first line of each part of a union twice, and once more to number the line of a fault; no line is copied.
+/// Each line ends with LF, but the last one may end without it; words are separated by one space. The text is read once
+/// from beginning to end, the first line of each part of a union twice, and all of it once more to number the line of a
+/// fault; no line is copied.
 ///
 /// # Errors
 ///
-/// `Fault::Syntax` and `Fault::Limit` where the text spells no command; `Fault::Memory` where
-/// memory was refused, in place of any other answer.
+/// `Fault::Syntax` or `Fault::Limit` if the text spells no command; `Fault::Memory`, in place of any other answer, if
+/// memory was refused.
 pub fn read_plan<A: Allocator + Clone>(alloc: A, text: &[u8]) -> Result<Command<A>, Fault>
     ensures spelled { IfOk result (λ command. Spells text.now command) }
     ensures only { (command : Commands A) → Spells text.now command → MatchResult result (λ c. c ≡ command) (λ e. e ≡ Fault.Memory) }

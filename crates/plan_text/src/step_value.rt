@@ -1,18 +1,19 @@
-//! What an update of a plan carries beside its hash, and the lines that say such updates.
+//! What an update of a plan carries beside its hash, and the lines that say updates.
 ghost use Rattle.std.specs.Prelude.{◌≡◌};
 ghost use Rattle.plan_text.specs.Reading.{step_of};
 
 use crate::line::StepLine;
 use crate::plan::Step;
 
-/// What an update carries beside its hash. Each kind of value is said by other lines.
+/// What an update carries beside its hash. Each kind of value has its own form of line.
 pub trait StepValue: Copy + Drop {
     ghost use Rattle.std.specs.Prelude.{ℕ, Option};
 
-    // the value that the number behind a hash says, or that no number says, if it says one
+    // the value for the number after a hash (`None`: no number follows); `None` if this kind of value has no such line
     ghost as_value: { Option ℕ → Option Self };
 
-    /// The value that the number behind a hash says, or that no number says, if it says one.
+    /// The value for the number after a hash, where `None` means that no number follows. Returns `None` if this kind of
+    /// value is not written so.
     fn from_number(number: Option<u64>) -> Option<Self>
         ensures { result ≡ as_value number };
 }
@@ -42,7 +43,7 @@ impl StepValue for u64 {
     }
 }
 
-/// The step that a line says, if it says one with such a value.
+/// The step that a line says; `None` if its update isn't of this kind of value.
 pub fn step_of<V: StepValue>(line: StepLine) -> Option<Step<V>>
     ensures { result ≡ step_of V.as_value line }
 {

@@ -2,7 +2,7 @@
 ghost use Rattle.std.specs.Prelude.{◌≡◌, ◌≢◌, ◌<◌, ◌∷◌, ◌++◌, [], ℕ, length, slice_index, IfNone, IfSome, MatchOption};
 ghost use Rattle.plan_text.specs.Text.{lines_of};
 
-/// What comes before the first of such bytes, and what comes after it, if there is one.
+/// The text before the first byte `at` and the text after it; `None` if there is no such byte.
 pub fn cut(text: &[u8], at: u8) -> Option<(&[u8], &[u8])>
     ensures none { IfNone result ((k : ℕ) → k < length text.now → slice_index text.now k ≢ at) }
     ensures before { IfSome result (λ x. (k : ℕ) → k < length x.0.now → slice_index x.0.now k ≢ at) }
@@ -16,7 +16,7 @@ pub fn cut(text: &[u8], at: u8) -> Option<(&[u8], &[u8])>
     None
 }
 
-/// The first line, and the text after it, if there is a line.
+/// The first line and the text after it; `None` if the text is empty.
 pub fn next_line(text: &[u8]) -> Option<(&[u8], &[u8])>
     ensures { MatchOption result (lines_of text.now ≡ []) (λ x. lines_of text.now ≡ x.0.now ∷ lines_of x.1.now) }
 {
@@ -29,7 +29,7 @@ pub fn next_line(text: &[u8]) -> Option<(&[u8], &[u8])>
     Some((line, rest))
 }
 
-/// How many lines a text has.
+/// The number of lines of a text.
 pub fn line_count(text: &[u8]) -> u64
     ensures { result ≡ length (lines_of text.now) }
 {

@@ -20,7 +20,7 @@ use Rattle.plan_values.proofs.MergedSums.{makes_fold}
 use Rattle.plan_values.proofs.NodeEquations.{whole_leaf}
 
 module _ {X V : Type 0} (f : Family X V) (lawful : IsFamily f) (makes_some : (h : ℕ) (u : V) → is_some (f.step_of h u).makes ≡ true) where
-  -- of an entry and a hash that are found at one key
+  -- an entry and a hash found at one key
   same_hash : (q : ℕ) (o : Option X) (p : Option ℕ) → is_some o ≡ is_some p → ((x : X) → o ≡ Some x → f.key x ≡ q) → ((h : ℕ) → p ≡ Some h → h ≡ q) → option_map f.key o ≡ p
   same_hash q None None same one two = refl
   same_hash q None (Some h) same one two = absurd (cc)
@@ -41,7 +41,7 @@ module _ {X V : Type 0} (f : Family X V) (lawful : IsFamily f) (makes_some : (h 
         (λ q. entry_at-map f.key f.key hash_key (λ x. refl) (whole_in f p) q
         ∙ same_hash q (entry_at f.key (whole_in f p) q) (entry_at hash_key (whole_hashes p) q) (found_alike q) (λ x e. found_key f.key (whole_in f p) q x e) (λ h e. found_key hash_key (whole_hashes p) q h e))
 
-  -- those of a leaf
+  -- a leaf's keys
   pub leaf_keys : (Z : Type 0) (steps : List (LeafStep V)) → map f.key (whole f.key f.step_of steps) ≡ added steps
   leaf_keys Z steps =
       ap (map f.key) (sym (whole_leaf Z f 0 0 steps)) ∙ keys_are_hashes {Z = Z} (plan.Leaf 0 0 steps) (unites_leaf Z 0 0 steps) ∙ whole_leaf Z hashes 0 0 steps

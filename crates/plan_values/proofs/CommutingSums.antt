@@ -1,4 +1,4 @@
--- Merges of folds commute where sums are checked.
+-- Merges of folds are commutative if sums are checked.
 use Rattle.std.proofs.Common.{◌≡◌, ℕ, false, Option, Some, None, is_none, refl, sym, ap, ◌∙◌}
 use Rattle.std.specs.Prelude.{ℤ, if◌then◌else◌}
 use Rattle.std.specs.Option.{option_map, option_map_or}
@@ -19,7 +19,7 @@ within_commutes : (least greatest x y : ℤ) → sum_within least greatest x y �
 within_commutes least greatest x y = ap (λ (z : ℤ). if is_within least greatest z then Some z else None) (+ℤ_comm x y)
 
 module _ {S : Type 0} (whole_number : S → ℤ) (distinct : (x y : S) → whole_number x ≡ whole_number y → x ≡ y) where
-  -- options of numbers that are the same are the same
+  -- options of equal numbers are equal
   same_option : (o p : Option S) → option_map whole_number o ≡ option_map whole_number p → o ≡ p
   same_option None None e = refl
   same_option None (Some y) e = absurd (cc)

@@ -1,4 +1,4 @@
--- The families whose steps and merges keep hashes: hashes, folds of a family that does, and tuples.
+-- Families whose steps and merges keep hashes: hashes, tuples, and the folds of a family that keeps them.
 use Rattle.std.proofs.Common.{Bool, Option}
 use Rattle.core_laws.proofs.insertions.FoldedSteps.{folded-keeps}
 use Rattle.core_laws.proofs.insertions.Leaves.{hash_keeps}

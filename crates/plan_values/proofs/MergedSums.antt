@@ -88,7 +88,7 @@ within_sum least greatest x y z e =
     ]) e
 
 module _ {S : Type 0} (whole_number : S → ℤ) (least greatest : ℤ) (zero : S) (sums : S → S → Option S) (zero_is : whole_number zero ≡ pos 0) (summed : (x y : S) → option_map whole_number (sums x y) ≡ sum_within least greatest (whole_number x) (whole_number y)) where
-  -- a sum that there is
+  -- a sum that isn't refused
   sum_is : (x y s : S) → sums x y ≡ Some s → whole_number s ≡ whole_number x +ℤ whole_number y
   sum_is x y s e = within_sum least greatest (whole_number x) (whole_number y) (whole_number s) (sym (summed x y) ∙ ap (λ o. option_map whole_number o) e)
 
@@ -98,7 +98,7 @@ module _ {S : Type 0} (whole_number : S → ℤ) (least greatest : ℤ) (zero : 
   amount-append : (us vs : List S) → amount (us ++ vs) ≡ amount us +ℤ amount vs
   amount-append us vs = ap total (map-append whole_number us vs) ∙ total-append (map whole_number us) (map whole_number vs)
 
-  -- what is found at a hash sums these values: no fold sums none, and a mark tells nothing
+  -- the fold found at a hash is the sum of these values: no fold for no values, and a mark for any
   abbrev SumsUp : Option (Fold (TupleEntry S)) → List S → Type 0
   SumsUp None us = us ≡ []
   SumsUp (Some (Value e)) us = whole_number e.summary ≡ amount us
@@ -166,7 +166,7 @@ module _ {S : Type 0} (whole_number : S → ℤ) (least greatest : ℤ) (zero : 
         | false ↦ λ uncarried. absurd (no_value _ e (merge_lacks folds (tuple_folds_keep (Some zero) sums sums) h p uncarried unites) found)
       ]) refl
 
-  -- what is retained stands in the whole map
+  -- a retained entry is in the whole map
   found_below : (key : Fold (TupleEntry S) → ℕ) (xs : List (Fold (TupleEntry S))) (t q : ℕ) (x : Fold (TupleEntry S)) → entry_at key (below key xs t) q ≡ Some x → entry_at key xs q ≡ Some x
   found_below key xs t q x found =
       (elim (ltb q t) as (λ b. cond b (entry_at key xs q) None ≡ Some x → entry_at key xs q ≡ Some x) [

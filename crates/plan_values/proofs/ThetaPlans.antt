@@ -1,4 +1,5 @@
--- Theta plans that are accepted: all of their whole streams below their theta, and the k least where they merge or are trimmed.
+-- Accepted theta plans: they have all of their whole streams below their theta, and the k least if they merge or are
+-- trimmed.
 use Rattle.std.proofs.Common.{◌≡◌, ℕ, ◌^◌, true, false, List, [], ◌∷◌, ◌++◌, None}
 use Rattle.core_laws.specs.Entries.{hash_key}
 use Rattle.core_laws.specs.Leaf.{is_updated, added, kmin}

@@ -1,4 +1,4 @@
--- Where nothing is refused, operators on values without marks are those on the values.
+-- If nothing is refused, operators on values without marks are those on the values.
 use Rattle.std.proofs.Common.{◌≡◌, ℕ, true, false, cond, eqb, not, List, [], ◌∷◌, map, length, min, Option, Some, None, is_some, refl, sym, ap, ◌∙◌}
 use Rattle.std.specs.Prelude.{◌&&◌, is_none}
 use Rattle.std.specs.Option.{option_map, option_map_or}

@@ -1,4 +1,4 @@
--- What a plan is worth.
+-- The value of a plan.
 use Rattle.std.specs.Prelude.{ℕ, ◌^◌, ◌&&◌, nat_le, Bool, true, List, [], ◌∷◌, is_none, if◌then◌else◌, Option, Some, None}
 use Rattle.std.specs.List.{list_all}
 use Rattle.sketch_base.specs.declared.error.ErrorKind.{ErrorKind}
@@ -15,7 +15,8 @@ use Rattle.plan_text.specs.declared.plan.Plan.TheOpen.{Plan-F}
 use Rattle.plan_text.specs.declared.plan.Plan.TheFolds.{fold-Plan}
 use Rattle.plan_values.specs.Family.{Family, hashes}
 
--- the value of a node: of a leaf by its steps, of an operator by the values of its parts, a union with the least nominal entries that it is lowered to, and of what is written and read its own
+-- the value of a node: of a leaf by its steps, of an operator by the values of its parts, where a union has the least
+-- nominal entries that it is lowered to, and of an image the value of its part
 abbrev pub node_value : {X V Z : Type 0} → Family X V → Plan-F V Z (Sketch X) → Sketch X
 node_value f (Plan-F.Leaf lg_k start steps) = leaf f.key f.step_of (2 ^ lg_k) start steps
 node_value f (Plan-F.Union lg_k start parts) = unite f.key f.merges (2 ^ least lg_k (lowers_of parts)) start (plans_of parts)
@@ -35,11 +36,12 @@ value_of = value_in hashes
 abbrev pub may_be_built : (lg_k start seed : ℕ) → Bool
 may_be_built lg_k start seed = is_none (settings_refusal lg_k start seed)
 
--- whether an operator of no settings may be built
+-- whether an operator without settings may be built with this seed
 abbrev pub may_have_seed : (seed : ℕ) → Bool
 may_have_seed seed = is_none (seed_refusal seed)
 
--- whether a union of this `lg_k` may be lowered to these, one after the other: each from the least that a sketch may have to the one before it, the first to the union's own
+-- whether a union of this `lg_k` may be lowered to these in turn: each is from the least that a sketch may have to the one
+-- before it, the first to the union's own
 abbrev pub may_be_lowered : (lg_k : ℕ) → List ℕ → Bool
 may_be_lowered lg_k [] = true
 may_be_lowered lg_k (l ∷ ls) = (nat_le MIN_LG_K l && nat_le l lg_k) && may_be_lowered l ls
@@ -55,6 +57,6 @@ node_fits seed (Plan-F.Via ordered part) = part
 abbrev pub fits : {V Z : Type 0} → (seed : ℕ) → Plan V Z → Bool
 fits {V} {Z} seed = fold-Plan V Z Bool (node_fits seed)
 
--- what the evaluation of a plan is refused with: settings that no sketch may have, a union that may not be lowered so, or a seed
+-- the error that refuses a plan: for settings that no sketch may have, a lowering that its union may not have, or the seed
 abbrev pub plan_refusal : {V Z : Type 0} → (seed : ℕ) → Plan V Z → Option ErrorKind
 plan_refusal seed plan = if fits seed plan then None else Some InvalidArgument

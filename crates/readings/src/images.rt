@@ -1,11 +1,10 @@
-//! Answers of readers of images.
+//! The answers of the readers of images.
 use std::alloc::{AllocError, Global};
 use std::fmt::Display;
 use theta_sketches::{CompactThetaSketch, ErrorKind};
 use tuple_sketches::{CompactTupleSketch, TupleSummaryValue};
 
-/// Puts what a sketch says of itself before its entries: whether it is empty, its theta, its seed hash, and whether its
-/// hashes ascend.
+/// Appends the head of a sketch: whether it is empty, its theta, its seed hash, and whether it is ordered.
 fn put_head(
     text: &mut String,
     empty: bool,
@@ -18,7 +17,7 @@ fn put_head(
     write!(text, "{held} {theta} {seed_hash} {order}")
 }
 
-/// Puts a theta sketch: its head and its hashes in its order.
+/// Appends a theta sketch: its head and its hashes in its order.
 pub fn put_theta_sketch(text: &mut String, sketch: &CompactThetaSketch) -> Result<(), AllocError> {
     put_head(
         text,
@@ -34,7 +33,7 @@ pub fn put_theta_sketch(text: &mut String, sketch: &CompactThetaSketch) -> Resul
     Ok(())
 }
 
-/// Puts a tuple sketch: its head, and each hash and its summary in its order.
+/// Appends a tuple sketch: its head, and each hash and its summary in its order.
 pub fn put_tuple_sketch<S: Display + Copy>(
     text: &mut String,
     sketch: &CompactTupleSketch<S>,
@@ -54,7 +53,7 @@ pub fn put_tuple_sketch<S: Display + Copy>(
     Ok(())
 }
 
-/// Puts what the image of a theta sketch is read as.
+/// Appends the theta sketch of an image, or why there is none.
 pub fn put_theta(text: &mut String, alloc: Global, bytes: &[u8]) -> Result<(), AllocError> {
     match CompactThetaSketch::deserialize(alloc, bytes) {
         Ok(sketch) => put_theta_sketch(text, &sketch),
@@ -62,7 +61,7 @@ pub fn put_theta(text: &mut String, alloc: Global, bytes: &[u8]) -> Result<(), A
     }
 }
 
-/// Puts what the image of a tuple sketch with summaries of a type is read as.
+/// Appends the tuple sketch of an image, with summaries of type `S`, or why there is none.
 pub fn put_tuple<S: TupleSummaryValue<Global> + Display + Copy>(
     text: &mut String,
     alloc: Global,
@@ -74,7 +73,7 @@ pub fn put_tuple<S: TupleSummaryValue<Global> + Display + Copy>(
     }
 }
 
-/// Puts the kind of an error.
+/// Appends the kind of an error.
 pub fn put_refusal(text: &mut String, kind: ErrorKind) -> Result<(), AllocError> {
     let word = match kind {
         ErrorKind::InvalidArgument => "argument",

@@ -1,9 +1,9 @@
-//! Prints, for each line of standard input, what a reader of this project makes of the bytes in it.
+//! Prints the answer of a reader of this project for each line of standard input.
 //!
 //! A line is the name of a reader, a space, and bytes in hexadecimal. `theta`, `u32`, `i32`, `u64` and `i64` read an image,
 //! of a theta sketch or of a tuple sketch with summaries of that type; `plan` reads and evaluates the text of a plan. The
-//! answer is one line: a sketch, or one word that says why there is none, behind it the line of a fault. `checks/` compares
-//! these lines with those of readers that share no code with this project.
+//! answer is one line: a sketch, or the reason why there is none. A text's fault is reported with the number of its line.
+//! `checks/` compares these answers with those of readers that share no code with this project.
 #![tactic(auto)]
 
 mod images;
@@ -14,7 +14,7 @@ use lines::{cut_at, cut_line};
 use std::alloc::{AllocError, Global};
 use std::io::{self, Read, Write};
 
-/// Puts what the reader of this name makes of the bytes.
+/// Appends the answer of the reader of this name.
 fn put_answer(
     text: &mut String,
     alloc: Global,
@@ -32,7 +32,7 @@ fn put_answer(
     }
 }
 
-/// Puts the answer to a line.
+/// Appends the answer to a line; an empty line if it is not a name and bytes in hexadecimal.
 fn put_line(text: &mut String, alloc: Global, line: &[u8]) -> Result<(), AllocError> {
     if let Some((name, digits)) = cut_at(line, b' ') {
         if let Some(bytes) = read_hex(alloc, digits)? {
@@ -42,7 +42,7 @@ fn put_line(text: &mut String, alloc: Global, line: &[u8]) -> Result<(), AllocEr
     text.push('\n')
 }
 
-/// The answers to all lines of an input; what stands behind its last LF has none.
+/// The answers to all lines of an input; bytes after the last LF have no answer.
 fn answers_to(alloc: Global, input: &[u8]) -> Result<String, AllocError> {
     let mut text = String::new(alloc);
     let mut rest = input;

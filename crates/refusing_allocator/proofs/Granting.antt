@@ -1,4 +1,4 @@
--- `grants` at a call: what it is handed, and that the caller has a Boolean and its lifetime back. Assumes `Logic`.
+-- `grants` at a call: its arguments, and that the caller receives a Boolean and its lifetime back. Assumes `Logic`.
 use Rattle.std.proofs.Common.{◌≡◌, ℕ, ◌^◌, ◌<◌, Bool, List, [], ◌∷◌, refl, ap, w64}
 use seplogic.Ra.Ura.{Ura}
 use mir.Val.{Val, vbool, vint, vptr}

@@ -1,7 +1,7 @@
-//! An allocator for tests: it counts the requests for memory and their bytes, and refuses those that a test names.
+//! An allocator for tests: it counts the requests for memory and their bytes, and refuses the requests that a test chooses.
 //!
-//! What it grants it takes from another allocator, to which it gives each block back. A test passes it by
-//! reference, so that it can ask for the count and name other requests while the memory is in use.
+//! It takes granted memory from another allocator, and returns each block to it. A test passes it by reference, so that
+//! the test can read the count and choose other requests while the memory is in use.
 #![tactic(auto)]
 
 use std::alloc::{AllocError, Allocator};
@@ -18,7 +18,7 @@ pub enum Refusal {
     From(u64),
 }
 
-/// How many requests were seen, for how many bytes in all, and which of them are refused.
+/// The number of requests so far, their bytes in all, and which requests are refused.
 #[derive(Drop)]
 struct Requests {
     seen: Cell<u64>,
@@ -27,7 +27,7 @@ struct Requests {
 }
 
 impl Requests {
-    /// Counts a request for `size` bytes, and answers whether it is granted.
+    /// Counts a request for `size` bytes, and returns whether it is granted.
     fn grants(&self, size: usize) -> bool {
         let request = self.seen.get();
         self.seen.set(request.saturating_add(1));
@@ -40,9 +40,9 @@ impl Requests {
     }
 }
 
-/// An allocator that passes each request on to another one, but for those that are refused.
+/// An allocator that passes each request to another one, except those that it refuses.
 ///
-/// To make a block larger or smaller is one request, and to give one back is none.
+/// Making a block larger or smaller is one request; returning a block is none.
 #[derive(Drop)]
 pub struct Refusing<B: Allocator> {
     inner: B,
@@ -62,25 +62,25 @@ impl<B: Allocator> Refusing<B> {
         }
     }
 
-    /// Counts requests and bytes from 0 again, and from here on refuses those of `refusal`.
+    /// Counts requests and bytes from 0 again, and refuses the requests of `refusal` from now on.
     pub fn restart(&self, refusal: Refusal) {
         self.requests.seen.set(0);
         self.requests.bytes.set(0);
         self.requests.refusal.set(refusal);
     }
 
-    /// The allocator that grants the requests. What is asked of it directly is neither counted nor refused.
+    /// The allocator that grants the requests. A request to it directly is neither counted nor refused.
     pub fn inner(&self) -> &B {
         &self.inner
     }
 
-    /// How many requests came since the last `restart`, refused ones included.
+    /// The number of requests since the last `restart`, including the refused ones.
     pub fn seen(&self) -> u64 {
         self.requests.seen.get()
     }
 
-    /// For how many bytes the requests since the last `restart` were in all, refused ones included; `u64::MAX` if they were for
-    /// more. A block that is made larger or smaller counts with its new size.
+    /// The bytes of all requests since the last `restart`, including the refused ones; `u64::MAX` if there are more. A
+    /// block that is made larger or smaller counts with its new size.
     pub fn bytes(&self) -> u64 {
         self.requests.bytes.get()
     }

@@ -1,4 +1,4 @@
--- What is written for an input.
+-- The output for an input.
 use Rattle.std.specs.Prelude.{◌≡◌, ℕ, List, [], ◌∷◌, ◌++◌, ◌+◌, ◌/◌, ◌%◌, length, codes, nat_lt, IsTrue, Bool, true, false, if◌then◌else◌, Option, Some, None, decimal}
 use Rattle.std.specs.Int.{w64, to_le_bytes}
 use Rattle.std.specs.List.{flat_map}
@@ -38,7 +38,7 @@ number_line n = ended_line (decimal n)
 abbrev pub tuple_line : TupleEntry ℕ → List ℕ
 tuple_line e = ended_line (decimal e.hash ++ 32 ∷ decimal e.summary)
 
--- whether a sketch is empty, its theta, and how many entries it retains
+-- the first lines of `show`: whether the sketch is empty, its theta, and the number of its retained entries
 abbrev pub shown_head : Bool → ℕ → ℕ → List ℕ
 shown_head empty theta count =
     ended_line (codes "empty " ++ (if empty then codes "yes" else codes "no"))
@@ -56,7 +56,7 @@ hex_byte byte = hex_digit (byte / 16) ∷ hex_digit (byte % 16) ∷ []
 abbrev pub hex_line : List ℕ → List ℕ
 hex_line bytes = ended_line (flat_map hex_byte bytes)
 
--- the texts of the sketches of a family: the line of an entry, and the image that is written of a sketch
+-- the texts of the sketches of a family: the line of an entry, and the image of a sketch
 pub record Texts (X : Type 0) : Type 0 where
   pub line : X → List ℕ
   pub image : Compact X → List ℕ
@@ -69,7 +69,7 @@ theta_texts = record { line = number_line; image = written }
 abbrev pub tuple_texts : Texts (TupleEntry ℕ)
 tuple_texts = record { line = tuple_line; image = written_tuples (λ summary. to_le_bytes w64 summary) }
 
--- the text of `show`: this, and then the entries, one on a line
+-- the text of `show`: the first lines, then the entries, one per line
 abbrev pub shown_text : {X : Type 0} → Texts X → Bool → ℕ → List X → List ℕ
 shown_text texts empty theta entries = shown_head empty theta (length entries) ++ flat_map texts.line entries
 
@@ -78,7 +78,7 @@ abbrev pub shown : {X : Type 0} → Texts X → Sketch X → List ℕ
 shown texts Empty = shown_text texts true MAX_THETA []
 shown texts (NonEmpty v) = shown_text texts false v.theta v.entries
 
--- the text of `image` for a value: what is written of its ordered sketch
+-- the text of `image` for a value: the image of its ordered sketch
 abbrev pub imaged : {X : Type 0} → Texts X → Sketch X → (seed_hash : ℕ) → List ℕ
 imaged texts v seed_hash = hex_line (texts.image (ordered_sketch v seed_hash))
 
@@ -92,7 +92,7 @@ abbrev pub value_text : {X : Type 0} → Texts X → Form → Sketch X → List 
 value_text texts Show v = shown texts v
 value_text texts Image v = imaged texts v (seed_hash DEFAULT_UPDATE_SEED)
 
--- `error`, a line's number and what it is at fault in
+-- `error`, the number of a line and the kind of its fault
 abbrev pub fault_line : ℕ → List ℕ → List ℕ
 fault_line line kind = ended_line (codes "error " ++ decimal line ++ 32 ∷ kind)
 
@@ -105,7 +105,7 @@ policy_line = ended_line (codes "error policy")
 abbrev pub memory_line : List ℕ
 memory_line = ended_line (codes "error memory")
 
--- the line of a refused evaluation; of want of memory another tells
+-- the line of an evaluation refused for an argument or by a policy
 abbrev pub refusal_line : ErrorKind → Option (List ℕ)
 refusal_line InvalidArgument = Some argument_line
 refusal_line Policy = Some policy_line
@@ -115,23 +115,23 @@ refusal_line _ = None
 abbrev pub sums : Family (Fold (TupleEntry ℕ)) ℕ
 sums = tuple_folds (Some 0) (unsigned_sum 64) (unsigned_sum 64)
 
--- the text shows what a command asks of its plan's value, which has no mark where the plan is of tuple sketches
+-- the text shows the value of a command's plan in the command's form; for tuple sketches that value has no mark
 abbrev pub Shows : {Z : Type 0} → Command Z → List ℕ → Type 0
 Shows (Theta form plan) text = text ≡ value_text theta_texts form (value_of plan)
 Shows (Tuple form plan) text = (v : Sketch (TupleEntry ℕ)) × (unmarked_value v ≡ value_in sums plan) × (text ≡ value_text tuple_texts form v)
 
--- what the evaluation of a command's plan is refused with, whatever its policies say
+-- why the evaluation of a command's plan is refused, apart from policies and memory
 abbrev pub command_refusal : {Z : Type 0} → Command Z → Option ErrorKind
 command_refusal (Theta form plan) = plan_refusal DEFAULT_UPDATE_SEED plan
 command_refusal (Tuple form plan) = plan_refusal DEFAULT_UPDATE_SEED plan
 
--- whether a policy may refuse the evaluation of a command's plan: theta sketches have none that does
+-- whether a policy may refuse the evaluation of a command's plan; never for theta sketches
 abbrev pub may_break : {Z : Type 0} → Command Z → Bool
 may_break (Theta form plan) = false
 may_break (Tuple form plan) = may_refuse sums DEFAULT_UPDATE_SEED plan
 
--- the status and the text that may answer an input: what answers its command, an evaluation refused for an argument or by a
--- policy, the first fault of the input, or want of memory
+-- the status and the text that may answer an input: the answer to its command, an evaluation refused for an argument or
+-- by a policy, the first fault of the input, or refused memory
 pub data Answers (Z : Type 0) (input : List ℕ) : ℕ → List ℕ → Type 0 where
   shows : (command : Command Z) (text : List ℕ) → Spells input command → command_refusal command ≡ None → Shows command text → Answers Z input 0 text
   argument : (command : Command Z) → Spells input command → command_refusal command ≡ Some InvalidArgument → Answers Z input 1 argument_line

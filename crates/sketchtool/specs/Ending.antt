@@ -5,7 +5,7 @@ use Rattle.sketchtool.specs.declared.run.Ending.{Ending}
 use Rattle.sketchtool.specs.declared.run.Ending.TheVariants.{Answered, NotRead, NotWritten}
 use Rattle.sketchtool.specs.Answer.{Answers}
 
--- the exit status: the answer's, or 2 where a read or a write failed
+-- the exit status: the answer's, or 2 if a read or a write failed
 abbrev pub status_of : Ending → ℕ
 status_of (Answered status) = status
 status_of NotRead = 2

@@ -18,7 +18,7 @@ use tuple_sketches::CompactTupleSketch;
 trait ShownEntry: SlotEntry {
     ghost texts: { Texts Self };
 
-    /// Puts the line.
+    /// Appends the line.
     fn put_line<A: Allocator>(&self, text: &mut String<A>) -> Result<(), AllocError>
         ensures { OnOk result (string_bytes text.new ≡ string_bytes text.old ++ texts.line self.now) };
 }
@@ -44,7 +44,7 @@ impl ShownEntry for TupleEntry<u64> {
     }
 }
 
-/// Puts what stands before the entries.
+/// Appends the lines before the entries.
 fn put_head<A: Allocator>(
     text: &mut String<A>,
     empty: bool,
@@ -59,7 +59,8 @@ fn put_head<A: Allocator>(
     writeln!(text, "count {count}")
 }
 
-/// The text of `show` for a sketch: whether it is empty, its theta, how many entries it retains, and these in its order.
+/// The text of `show` for a sketch: whether it is empty, its theta, the number of its retained entries, and these in
+/// its order.
 fn show_text<'a, A: Allocator, E: ShownEntry + 'a, B: Allocator>(
     alloc: A,
     sketch: SketchView<'a, E, B>,
@@ -106,7 +107,7 @@ fn refused_text<A: Allocator + Clone>(
     Ok((1, text))
 }
 
-/// Puts a byte as two digits of lower-case hexadecimal.
+/// Appends a byte as two digits of lower-case hexadecimal.
 fn put_byte<A: Allocator>(text: &mut String<A>, byte: u8) -> Result<(), AllocError>
     ensures { OnOk result (string_bytes text.new ≡ string_bytes text.old ++ hex_byte byte) }
 {
@@ -125,7 +126,7 @@ fn hex_text<A: Allocator>(alloc: A, bytes: &[u8]) -> Result<String<A>, AllocErro
     Ok(text)
 }
 
-/// The text of a sketch in the form that is asked for.
+/// The text of a theta sketch in this form.
 fn sketch_text<A: Allocator, B: Allocator + Clone>(
     alloc: A,
     form: Form,
@@ -144,7 +145,7 @@ fn sketch_text<A: Allocator, B: Allocator + Clone>(
     }
 }
 
-/// The text of a tuple sketch in the form that is asked for.
+/// The text of a tuple sketch in this form.
 fn tuple_text<A: Allocator, B: Allocator + Clone>(
     alloc: A,
     form: Form,
@@ -210,7 +211,7 @@ fn command_answer<A: Allocator + Clone>(
     }
 }
 
-/// The status and the text that answer an input: 0 and what its command shows, or 1 and a fault.
+/// The status and the text that answer an input: 0 and the answer to its command, or 1 and a fault.
 pub fn answer<A: Allocator + Clone>(alloc: &A, input: &[u8]) -> Result<(u8, String<A>), AllocError>
     ensures { IfOk result (λ x. Answers A input.now x.0 (string_bytes x.1)) }
 {

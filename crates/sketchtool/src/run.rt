@@ -8,10 +8,10 @@ use crate::answer::answer;
 use std::alloc::{AllocError, Allocator};
 use std::io::{ErrorKind, Read, Write};
 
-/// How many reads a run makes at most.
+/// The most reads that a run makes.
 const READS: u32 = 1 << 24;
 
-/// How many bytes each read asks for.
+/// The number of bytes that each read requests.
 const READ_BYTES: usize = 4096;
 
 /// Why an input was not read to its end.
@@ -28,7 +28,7 @@ impl From<AllocError> for Unread {
     }
 }
 
-/// All that is left of a reader.
+/// All remaining bytes of a reader.
 fn read_all<A: Allocator, R: Read>(alloc: A, reader: &mut R) -> Result<Vec<u8, A>, Unread>
     ensures all { IfOk result (λ text. IfSome (R.remaining reader.old) (λ bytes. text.items ≡ bytes)) }
     ensures end { IfOk result (λ _. IsAtEnd (R.remaining reader.new)) }
@@ -52,17 +52,16 @@ fn read_all<A: Allocator, R: Read>(alloc: A, reader: &mut R) -> Result<Vec<u8, A
 /// How a run ended.
 #[derive(Debug, Clone, Copy, PartialEq, Eq)]
 pub enum Ending {
-    /// An answer of this status was written: 0 where it is what a command asks for, 1 where it is
-    /// a fault.
+    /// An answer of this status was written: 0 if it is the answer to a command, 1 if it is a fault.
     Answered(u8),
     /// A read failed, and nothing was written.
     NotRead,
-    /// A write failed, and nothing is said of how much was written.
+    /// A write failed; how much was written is unspecified.
     NotWritten,
 }
 
 impl Ending {
-    /// The exit status: the answer's, or 2 where a read or a write failed.
+    /// The exit status: the answer's, or 2 if a read or a write failed.
     pub fn status(self) -> u8
         ensures { result ≡ status_of self }
     {
@@ -84,12 +83,10 @@ fn put<W: Write>(writer: &mut W, text: &[u8], status: u8) -> Ending
     }
 }
 
-/// Answers all that a reader has: reads to its end, and only then writes the answer, whole, and
-/// nothing else.
+/// Answers the whole input of a reader: reads to its end, and only then writes the answer, whole, and nothing else.
 ///
-/// Each read asks for at least 4096 bytes, and one that was interrupted is made again. Any other failure of
-/// a read ends the run, whatever the reader would give later, and so does an input that has not
-/// ended after 2^24 reads.
+/// Each read requests at least 4096 bytes, and an interrupted read is repeated. Any other failure of a read ends the
+/// run, even if the reader could continue, and so does an input that has not ended after 2^24 reads.
 pub fn run<A: Allocator + Clone, R: Read, W: Write>(
     alloc: A,
     reader: &mut R,

@@ -1,5 +1,5 @@
-//! What no clause says: answers to texts taken from outside, how much each read asks for, and what
-//! becomes of reads and writes that fail.
+//! Facts that no clause states: the answers to texts from outside, the bytes that each read requests, and the effect of
+//! failed reads and writes.
 
 mod fakes;
 mod faults;
@@ -28,7 +28,7 @@ fn answer_to_text(alloc: Global, text: &str) -> (u8, Vec<u8>) {
     answer_to(alloc, &mut reader)
 }
 
-/// The theta plan that a text asks to show.
+/// The theta plan of a text.
 fn theta_plan(alloc: Global, text: &str) -> Option<Plan<()>> {
     match read_plan(alloc, text.as_bytes()) {
         Ok(Command::Theta(_, plan)) => Some(plan),
@@ -37,7 +37,7 @@ fn theta_plan(alloc: Global, text: &str) -> Option<Plan<()>> {
     }
 }
 
-/// The tuple plan that a text asks to show.
+/// The tuple plan of a text.
 fn tuple_plan(alloc: Global, text: &str) -> Option<Plan<u64>> {
     match read_plan(alloc, text.as_bytes()) {
         Ok(Command::Tuple(_, plan)) => Some(plan),

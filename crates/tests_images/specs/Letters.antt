@@ -1,8 +1,8 @@
--- Bytes that are spelled by their count and then themselves.
+-- Bytes that are spelled as their count, then the bytes.
 use Rattle.std.proofs.Common.{◌≡◌, ℕ, ◌<◌, ◌≤◌, List, [], ◌∷◌, ◌++◌, length, take, refl, sym, ap, ◌∙◌, arith, take_all}
 use Rattle.std.proofs.lemmas.List.{take-append-le}
 
--- the bytes tell how many there are, and then these
+-- a text spells bytes: their number, then the bytes
 abbrev pub SpellsLetters : List ℕ → List ℕ → Type 0
 SpellsLetters text x = text ≡ length x ∷ x
 

@@ -243,7 +243,7 @@ fn reads_crafted_images(rt: HostRuntime) -> Result<(), Fail> {
     Ok(())
 }
 
-/// Reads each true beginning of the bytes that a text tells, and wants a refusal.
+/// Reads each proper prefix of the bytes that a text spells, and asserts that it is refused.
 fn assert_beginnings_refused(rt: &(impl Abort + AllocGlobal), text: &str) -> Result<(), Error> {
     let bytes = bytes_of(rt.alloc(), text)?;
     for size in 0..bytes.len() {
@@ -279,7 +279,7 @@ fn seed_without_hash() -> Option<u64> {
     None
 }
 
-// The seed hash of what is read of an empty sketch's image under a seed.
+// The seed hash of the sketch that is read from an empty sketch's image under a seed.
 fn read_under(alloc: Global, seed: u64) -> Result<u16, Error> {
     let bytes = bytes_of(alloc, EMPTY)?;
     let sketch = CompactThetaSketch::deserialize_with_seed(alloc, &bytes, seed)?;
@@ -312,19 +312,19 @@ fn sketch_below(alloc: Global, start: u64, hashes: &[u64]) -> Result<ThetaSketch
     Ok(sketch)
 }
 
-// The image of its compact sketch.
+// The image of the compact form of `sketch_below`.
 fn image_of(alloc: Global, start: u64, hashes: &[u64], ordered: bool) -> Result<Vec<u8>, Error> {
     let compact = sketch_below(alloc, start, hashes)?.compact(ordered)?;
     compact.serialize()
 }
 
-// The image of what is read of an image.
+// The image of the sketch that is read from an image.
 fn written_again(alloc: Global, image: &[u8]) -> Result<Vec<u8>, Error> {
     let sketch = CompactThetaSketch::deserialize(alloc, image)?;
     sketch.serialize()
 }
 
-// The image of a compact sketch, and that of what is read of it.
+// The image of a compact sketch, and that of the sketch that is read from it.
 fn images_of(
     alloc: Global,
     start: u64,
@@ -336,7 +336,7 @@ fn images_of(
     Ok((image, again))
 }
 
-// The bytes that a text tells, as the image and as that of what is read of it.
+// The bytes that a text spells, twice: as an image, and as the image of the sketch that is read from it.
 fn twice(alloc: Global, text: &str) -> Result<(Vec<u8>, Vec<u8>), AllocError> {
     let image = bytes_of(alloc, text)?;
     Ok((image, bytes_of(alloc, text)?))
@@ -385,7 +385,7 @@ fn writes_images(rt: HostRuntime) -> Result<(), Fail> {
     Ok(())
 }
 
-// Read as exact, an image of three preamble longs is written with one.
+// An image of three preamble longs that is read as exact is written with one.
 fn written_short(alloc: Global) -> Result<Vec<u8>, Error> {
     let image = bytes_of(
         alloc,
@@ -427,7 +427,7 @@ fn image_of_both(
     answer.serialize()
 }
 
-// The image of every second number from one and from another first.
+// The image of the union of every second number from one first and from another.
 fn united(alloc: Global, first: u64, second: u64) -> Result<Vec<u8>, Error> {
     let first = every_second(alloc, first)?;
     let second = every_second(alloc, second)?;
@@ -460,13 +460,13 @@ fn unites_to_one_image(rt: HostRuntime) -> Result<(), Fail> {
     Ok(())
 }
 
-// What is read of the image, not ordered, of the odd numbers to 200.
+// The sketch that is read from the unordered image of the odd numbers to 200.
 fn sent(alloc: Global) -> Result<CompactThetaSketch, Error> {
     let image = every_second(alloc, 1)?.compact(false)?.serialize()?;
     CompactThetaSketch::deserialize(alloc, &image)
 }
 
-// The same, one of them sent as an image that is not ordered.
+// The image of the union of the odd numbers, sent as an unordered image, and the even ones.
 fn united_with_sent(alloc: Global) -> Result<Vec<u8>, Error> {
     let odd = sent(alloc)?;
     let even = every_second(alloc, 2)?;
@@ -480,7 +480,7 @@ fn unites_through_an_image(rt: HostRuntime) -> Result<(), Fail> {
     Ok(())
 }
 
-// The image of a union that was given the hashes from 1 to a last.
+// The image of a union, updated with the hashes from 1 to a last.
 fn image_of_union(alloc: Global, last: u64) -> Result<Vec<u8>, Error> {
     let mut union = ThetaUnionBuilder::default().lg_k(5).build(alloc)?;
     add(&mut union, sketch_of(alloc, 9001, 1, last)?)?;
@@ -488,7 +488,7 @@ fn image_of_union(alloc: Global, last: u64) -> Result<Vec<u8>, Error> {
     answer.serialize()
 }
 
-// A union of 2^5 nominal entries keeps 32 hashes without a cut, and cuts 33 below the greatest.
+// A union of 2^5 nominal entries retains 32 hashes without a cut, and cuts 33 hashes below the greatest.
 #[test]
 fn writes_where_a_union_cuts(rt: HostRuntime) -> Result<(), Fail> {
     for (last, head) in [

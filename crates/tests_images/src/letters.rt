@@ -1,4 +1,4 @@
-//! A summary of a width of its own.
+//! A summary of variable width.
 
 use sketch_base::{Error, ErrorKind, SketchBytes, SketchSlice};
 use std::alloc::{Allocator, Global};
@@ -7,7 +7,7 @@ use std::test::Fail;
 use tests_sketches::common::bytes_of;
 use tuple_sketches::{CompactTupleSketch, TupleSummaryValue};
 
-/// Up to 255 bytes. Contracts see the bytes.
+/// Up to 255 bytes. Its value in contracts is the bytes.
 #[derive(Drop)]
 struct Letters {
     bytes: Vec<u8>,
@@ -23,7 +23,7 @@ impl Model for Letters {
     ghost invariant = { λ s. length s.bytes.items < 256 };
 }
 
-/// One byte that tells how many there are, and then these.
+/// One byte with the number of bytes, then the bytes.
 impl TupleSummaryValue<Global> for Letters {
     ghost use Rattle.std.specs.Prelude.{◌∷◌, ◌<◌, length};
     ghost use Rattle.tests_images.specs.Letters.{SpellsLetters, one_letters, letters_written};
@@ -59,7 +59,7 @@ impl TupleSummaryValue<Global> for Letters {
 // One key with two letters.
 const TWO_LETTERS: &str = "01 03 09 01 00 1a cc 93 05 00 00 00 00 00 00 00 02 61 62";
 
-// The hash and the letters of the first entry that is read, or why the bytes are refused.
+// The hash and the letters of the first entry of an image, or why the bytes are refused.
 fn first_of(alloc: Global, bytes: &[u8]) -> Result<Result<(u64, Vec<u8>), ErrorKind>, Error> {
     let sketch = match CompactTupleSketch::<Letters>::deserialize(alloc, bytes) {
         Ok(sketch) => sketch,
@@ -74,7 +74,7 @@ fn first_of(alloc: Global, bytes: &[u8]) -> Result<Result<(u64, Vec<u8>), ErrorK
     Ok(Ok((hash, letters)))
 }
 
-// The same of an image from whose end some bytes are cut.
+// The same for an image without its last `cut` bytes.
 fn first_of_cut(
     alloc: Global,
     image: &str,
@@ -93,7 +93,7 @@ fn reads_summaries_of_any_width(rt: HostRuntime) -> Result<(), Fail> {
     Ok(())
 }
 
-// The image of what is read of an image.
+// The image of the sketch that is read from an image.
 fn written_again(alloc: Global, text: &str) -> Result<Vec<u8>, Error> {
     let image = bytes_of(alloc, text)?;
     let sketch = CompactTupleSketch::<Letters>::deserialize(alloc, &image)?;

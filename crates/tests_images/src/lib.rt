@@ -1,4 +1,4 @@
-//! Tests of images of theta and tuple sketches, by their bytes, with values from outside. It has no code of its own.
+//! Tests of images of theta and tuple sketches, by their bytes, with values from outside.
 #![tactic(auto)]
 
 #[cfg(test)]

@@ -1,4 +1,4 @@
-//! Images as text, and what is read of them.
+//! Images as text, and their readings.
 use sketch_base::{Error, ErrorKind};
 use std::alloc::{AllocError, AllocGlobal, Global};
 use std::process::Abort;
@@ -6,7 +6,7 @@ use tests_sketches::common::bytes_of;
 use theta_core::MAX_THETA;
 use theta_sketches::CompactThetaSketch;
 
-/// What an image is to be read as.
+/// The reading that is wanted of an image.
 #[derive(Debug, Clone, Copy)]
 pub(crate) enum Reading<'a> {
     Refused,
@@ -18,20 +18,20 @@ pub(crate) enum Reading<'a> {
 /// The theta of an exact sketch.
 pub(crate) const EXACT: u64 = MAX_THETA;
 
-/// A sketch's emptiness and order, its theta and how many hashes it has, its seed hash, and the hashes.
-type Told = ((bool, bool), (u64, usize, u16), Vec<u64>);
+/// A sketch's emptiness and order, its theta, the number of its hashes, its seed hash, and the hashes.
+type Found = ((bool, bool), (u64, usize, u16), Vec<u64>);
 
-fn told_of(alloc: Global, sketch: &CompactThetaSketch) -> Result<Told, Error> {
+fn found_in(alloc: Global, sketch: &CompactThetaSketch) -> Result<Found, Error> {
     let hashes: Vec<u64> = sketch.iter().map(|entry| entry.hash()).collect(alloc)?;
     let flags = (sketch.is_empty(), sketch.is_ordered());
     let numbers = (sketch.theta64(), sketch.num_retained(), sketch.seed_hash());
     Ok((flags, numbers, hashes))
 }
 
-/// What is read of the bytes under the default seed, or why they are refused.
-fn read(alloc: Global, bytes: &[u8]) -> Result<Result<Told, ErrorKind>, Error> {
+/// The sketch that is read from the bytes under the default seed, or why they are refused.
+fn read(alloc: Global, bytes: &[u8]) -> Result<Result<Found, ErrorKind>, Error> {
     match CompactThetaSketch::deserialize(alloc, bytes) {
-        Ok(sketch) => Ok(Ok(told_of(alloc, &sketch)?)),
+        Ok(sketch) => Ok(Ok(found_in(alloc, &sketch)?)),
         Err(refused) => Ok(Err(refused.kind())),
     }
 }
@@ -42,8 +42,8 @@ fn list(alloc: Global, hashes: &[u64]) -> Result<Vec<u64>, AllocError> {
     Ok(list)
 }
 
-/// What is to be read.
-fn wanted(alloc: Global, want: Reading<'_>) -> Result<Result<Told, ErrorKind>, AllocError> {
+/// The wanted reading, in the form of `read`.
+fn wanted(alloc: Global, want: Reading<'_>) -> Result<Result<Found, ErrorKind>, AllocError> {
     match want {
         Reading::Refused => Ok(Err(ErrorKind::InvalidData)),
         Reading::Empty => Ok(Ok(((true, true), (EXACT, 0, 0x93cc), Vec::new(alloc)))),
@@ -54,19 +54,19 @@ fn wanted(alloc: Global, want: Reading<'_>) -> Result<Result<Told, ErrorKind>, A
     }
 }
 
-/// Reads the bytes under the default seed, and compares what comes.
+/// Reads the bytes under the default seed, and asserts the wanted reading.
 pub(crate) fn assert_reads(
     rt: &(impl Abort + AllocGlobal),
     bytes: &[u8],
     name: &str,
     want: Reading<'_>,
 ) -> Result<(), Error> {
-    let told = read(rt.alloc(), bytes)?;
-    assert_eq!(rt; told, wanted(rt.alloc(), want)?, "{name}");
+    let found = read(rt.alloc(), bytes)?;
+    assert_eq!(rt; found, wanted(rt.alloc(), want)?, "{name}");
     Ok(())
 }
 
-/// Reads the bytes that a text tells, and compares what comes.
+/// Reads the bytes that a text spells, and asserts the wanted reading.
 pub(crate) fn assert_text_reads(
     rt: &(impl Abort + AllocGlobal),
     text: &str,

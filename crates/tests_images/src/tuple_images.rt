@@ -107,8 +107,8 @@ fn reads_tuple_images(rt: HostRuntime) -> Result<(), Fail> {
         ),
     ];
     for (name, text, want) in cases {
-        let told = read_text::<u64>(rt.alloc(), text)?;
-        assert_eq!(rt; told, wanted(rt.alloc(), want)?, "{name}");
+        let found = read_text::<u64>(rt.alloc(), text)?;
+        assert_eq!(rt; found, wanted(rt.alloc(), want)?, "{name}");
     }
     Ok(())
 }
@@ -134,13 +134,13 @@ fn reads_negative_summaries(rt: HostRuntime) -> Result<(), Fail> {
         ),
     ];
     for (name, text, want) in cases {
-        let told = read_text::<i32>(rt.alloc(), text)?;
-        assert_eq!(rt; told, wanted(rt.alloc(), want)?, "{name}");
+        let found = read_text::<i32>(rt.alloc(), text)?;
+        assert_eq!(rt; found, wanted(rt.alloc(), want)?, "{name}");
     }
     Ok(())
 }
 
-/// How many bytes the first true beginning of an image has that is not refused as data, if there is one.
+/// The length of the first proper prefix of an image that is not refused as data, if there is one.
 fn accepted_beginning<S: TupleSummaryValue<Global> + Drop>(
     alloc: Global,
     text: &str,
@@ -170,7 +170,7 @@ fn refuses_beginnings_of_tuple_images(rt: HostRuntime) -> Result<(), Fail> {
     Ok(())
 }
 
-// The image of what is read of the bytes that a text tells.
+// The image of the sketch that is read from the bytes that a text spells.
 fn written_again<S: TupleSummaryValue<Global> + Drop>(
     alloc: Global,
     text: &str,
@@ -220,7 +220,7 @@ fn sums_of(alloc: Global, values: &[u64]) -> Result<TupleSketch<DefaultUpdatePol
     Ok(sketch)
 }
 
-// Its ordered image.
+// The ordered image of `sums_of`.
 fn image_of(alloc: Global, values: &[u64]) -> Result<Vec<u8>, Error> {
     let compact = sums_of(alloc, values)?.compact(true)?;
     compact.serialize()
@@ -235,7 +235,7 @@ fn writes_sums(rt: HostRuntime) -> Result<(), Fail> {
     Ok(())
 }
 
-// The seed hash of what is read of an empty sketch's image under a seed.
+// The seed hash of the sketch that is read from an empty sketch's image under a seed.
 fn read_under(alloc: Global, seed: u64) -> Result<u16, Error> {
     let sketch = CompactTupleSketch::<u64>::deserialize_with_seed(
         alloc,

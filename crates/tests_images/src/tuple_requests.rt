@@ -1,5 +1,5 @@
-//! How often reading and writing images of tuple sketches asks for memory, and for how many bytes: reading never for more entries
-//! than the bytes could hold, and writing once.
+//! The requests for memory of reading and writing images of tuple sketches: reading never requests more entries than
+//! the bytes can hold, and writing makes one request.
 use refusing_allocator::{Refusal, Refusing};
 use sketch_base::{Error, ErrorKind};
 use std::alloc::{AllocError, Global};
@@ -12,7 +12,7 @@ const REFUSED: Option<ErrorKind> = Some(ErrorKind::InvalidData);
 const DESCENDING: &str =
     "02 03 09 01 00 0a cc 93 02 00 00 00 00 00 00 00 09 00 00 00 00 00 00 00 02 00 00 00 00 00 00 00 07 00 00 00 00 00 00 00 01 00 00 00 00 00 00 00";
 
-// How often the reading of the bytes that a text spells asks for memory, for how many bytes in all, and why it is refused.
+// The number of requests of reading the bytes that a text spells, their bytes in all, and why the reading is refused.
 fn asked(
     alloc: Global,
     heap: &Heap,
@@ -27,7 +27,7 @@ fn asked(
 #[test]
 fn readings_of_tuples_ask_for_little(rt: HostRuntime) -> Result<(), Fail> {
     let heap = Refusing::new(rt.alloc());
-    // An image, and what its reading asks for: 16 bytes for each entry, and eight more where the hashes don't ascend.
+    // An image, and its reading: it requests 16 bytes for each entry, and eight more if the hashes don't ascend.
     let cases = [
         ("01 03 09 01 00 1e 00 00", (0, 0, None)),
         (
@@ -50,7 +50,7 @@ fn readings_of_tuples_ask_for_little(rt: HostRuntime) -> Result<(), Fail> {
     Ok(())
 }
 
-// How often the writing of what is read of the bytes asks for memory, for how many bytes in all, and how many it writes.
+// The number of requests of writing the sketch of an image, their bytes in all, and the number of bytes written.
 fn written(alloc: Global, heap: &Heap, text: &str) -> Result<(u64, u64, usize), Error> {
     let image = bytes_of(alloc, text)?;
     let sketch = CompactTupleSketch::<u64, &Heap>::deserialize(heap, &image)?;
@@ -62,18 +62,18 @@ fn written(alloc: Global, heap: &Heap, text: &str) -> Result<(u64, u64, usize), 
 #[test]
 fn writings_of_tuples_ask_once(rt: HostRuntime) -> Result<(), Fail> {
     let heap = Refusing::new(rt.alloc());
-    // An image, for how many bytes its writing asks, a preamble of 24 and 16 for each entry, and how many it has.
+    // An image, the bytes that its writing requests, a preamble of 24 and 16 for each entry, and the bytes that it has.
     for (text, asked, size) in [
         ("01 03 09 01 00 1e 00 00", 24, 8),
         (DESCENDING, 24 + 2 * 16, 48),
     ] {
-        let told = written(rt.alloc(), &heap, text)?;
-        assert_eq!(rt; told, (1, asked, size), "{text}");
+        let found = written(rt.alloc(), &heap, text)?;
+        assert_eq!(rt; found, (1, asked, size), "{text}");
     }
     Ok(())
 }
 
-// Why a refused request refuses a reading, or the writing of what was read.
+// Why a reading is refused if one request is, and why writing the sketch that was read is.
 fn refused(
     alloc: Global,
     heap: &Heap,

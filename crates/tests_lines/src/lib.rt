@@ -1,5 +1,5 @@
-//! Tests of sketches of lines: readers that give a byte at a time or fail, blocks of every size, texts split in many ways, with
-//! images from outside, and each request for memory refused in turn. It has no code of its own.
+//! Tests of sketches of lines: readers that return a byte at a time or fail, blocks of every size, texts split in many
+//! ways, with images from outside, and each request for memory refused in turn.
 #![tactic(auto)]
 
 #[cfg(test)]

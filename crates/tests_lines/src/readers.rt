@@ -10,7 +10,7 @@ use std::io::{Error, ErrorKind, Read};
 use std::test::Fail;
 use theta_sketches::ThetaSketch;
 
-/// Looks on, and counts.
+/// Counts the lines and bytes that were read.
 #[derive(Drop)]
 pub struct Counter {
     pub lines: u64,
@@ -24,8 +24,8 @@ impl Watch for Counter {
     }
 }
 
-/// A reader that gives its text in pieces of so many bytes at most, is interrupted once before them, and fails once behind them,
-/// if it is to, before it ends.
+/// A reader that is interrupted once, returns its text in pieces of at most `piece` bytes, fails once if `failure` is
+/// set, and then ends.
 #[derive(Drop)]
 struct Pieces<'a> {
     text: &'a [u8],
@@ -56,8 +56,8 @@ impl Read for Pieces<'_> {
     }
 }
 
-/// The image of a text's lines in hexadecimal, through a reader of such pieces and a block of so many bytes, and how many
-/// lines and bytes were seen; no image where it is refused.
+/// The image of a text's lines in hexadecimal, through a `Pieces` reader and a block of `size` bytes, and the numbers
+/// of lines and bytes that were seen; no image if the call fails.
 fn image_in_pieces(
     alloc: Global,
     key: Key,
@@ -88,18 +88,18 @@ fn image_in_pieces(
 const TEXT: &[u8] =
     b"ann\nbob\n\nann\r\nann\nzoe, whose name is longer than any other of them, and longer than a block";
 
-/// Its image, by a program in Python that knows the public definition of the hash.
+/// The image of `TEXT`, by a program in Python that has the public definition of the hash.
 const IMAGE: &[u8] =
     b"02030300001acc930500000000000000dc8d24339151380f5f1032909707cc27e431a1d6eceaec2f39151d0e0dd45d67fc08309e1c5ed36b\n";
 
 /// A text of fields.
 const LOG: &[u8] = b"1,ann,in\n2,bob\nalone\n3\n4,,out,in\n5,ann";
 
-/// The image of its second fields.
+/// The image of the second fields of `LOG`.
 const SECOND: &[u8] =
     b"02030300001acc930500000000000000dc8d24339151380fa9a4fac7413eb50fe94a3798b195c0105f1032909707cc27fc08309e1c5ed36b\n";
 
-/// The image of its first fields.
+/// The image of the first fields of `LOG`.
 const FIRST: &[u8] =
     b"02030300001acc93060000000000000055d3073b4c21c309a9a4fac7413eb50fe94a3798b195c010e9f8c8f87cf2984d47966c9b779fe569576b95d52278ad7c\n";
 
@@ -115,8 +115,8 @@ fn reads_in_pieces(rt: HostRuntime) -> Result<(), Fail> {
         (1000, 1000),
     ] {
         let said = image_in_pieces(rt.alloc(), Key::Line, TEXT, piece, size, None)?;
-        let told = (said.0.as_slice(), said.1, said.2);
-        assert_eq!(rt; told, (IMAGE, 5, TEXT.len()), "in {piece}");
+        let found = (said.0.as_slice(), said.1, said.2);
+        assert_eq!(rt; found, (IMAGE, 5, TEXT.len()), "in {piece}");
     }
     Ok(())
 }
@@ -143,7 +143,8 @@ fn fails_with_a_read(rt: HostRuntime) -> Result<(), Fail> {
     Ok(())
 }
 
-/// The image in hexadecimal of what a sketch has after a reader of such pieces has failed so, and the kind of the failure.
+/// The image in hexadecimal of a sketch after its `Pieces` reader has failed with this kind, and the kind that the call
+/// reports.
 fn kept_after_failure(
     alloc: Global,
     text: &[u8],
@@ -175,7 +176,7 @@ fn kept_after_failure(
     Ok((hex_line(alloc, image.as_slice())?, failed))
 }
 
-/// Of a text, the lines that end before a failure are kept, and not the line that it breaks off.
+/// The lines that end before a failure are kept, but not the line that it cuts off.
 #[test]
 fn keeps_lines_before_a_failure(rt: HostRuntime) -> Result<(), Fail> {
     let cut = b"ann\nbob\nann\nzo";
@@ -192,7 +193,7 @@ fn keeps_lines_before_a_failure(rt: HostRuntime) -> Result<(), Fail> {
     Ok(())
 }
 
-/// Each kind of failure but an interruption.
+/// Each kind of failure except an interruption.
 const LASTING: [ErrorKind; 40] = [
     ErrorKind::NotFound,
     ErrorKind::PermissionDenied,
@@ -236,7 +237,7 @@ const LASTING: [ErrorKind; 40] = [
     ErrorKind::Other,
 ];
 
-/// Each failure but an interruption ends the call, whatever the reader would give later.
+/// Each failure except an interruption ends the call, even if the reader could continue.
 #[test]
 fn ends_with_each_failure(rt: HostRuntime) -> Result<(), Fail> {
     for kind in LASTING {

@@ -1,5 +1,5 @@
-//! Why lines and images are not taken in: requests for memory that are refused one after another, sources that fail, and images
-//! that are none.
+//! Why sketches of lines and of images are refused: requests for memory that are refused one after another, sources
+//! that fail, and bytes that are no image.
 ghost use Rattle.std.specs.Prelude.{None};
 
 use crate::readers::Counter;
@@ -18,10 +18,10 @@ use std::test::Fail;
 
 type Heap = Refusing<Global>;
 
-/// What a call came to.
+/// The outcome of a call.
 #[derive(Clone, Copy, Debug, PartialEq, Eq)]
-enum Told {
-    /// The answer that is wanted.
+enum Outcome {
+    /// The wanted answer.
     Answered,
     /// Another answer.
     Mistaken,
@@ -29,16 +29,16 @@ enum Told {
     Failed(io::ErrorKind),
 }
 
-fn told_of(answer: Result<bool, Unread>) -> Told {
+fn outcome_of(answer: Result<bool, Unread>) -> Outcome {
     match answer {
-        Ok(true) => Told::Answered,
-        Ok(false) => Told::Mistaken,
-        Err(Unread::Refused(error)) => Told::Refused(error.kind()),
-        Err(Unread::Failed(error)) => Told::Failed(error.kind()),
+        Ok(true) => Outcome::Answered,
+        Ok(false) => Outcome::Mistaken,
+        Err(Unread::Refused(error)) => Outcome::Refused(error.kind()),
+        Err(Unread::Failed(error)) => Outcome::Failed(error.kind()),
     }
 }
 
-/// A text in memory, whose reader fails at its end or ends there.
+/// A text in memory. Its reader ends after the text, or fails there.
 #[derive(Drop)]
 struct Text<'a> {
     text: &'a [u8],
@@ -62,8 +62,8 @@ impl Read for Text<'_> {
     }
 }
 
-/// Texts in memory: the readers of all fail at their end, or end there, and where some are to be missing the next one can't be
-/// opened after the last.
+/// Texts in memory. Each reader ends after its text, or fails there. If `missing` is set, opening a text after the last
+/// one fails.
 #[derive(Drop)]
 struct Texts<'a> {
     left: &'a [Vec<u8>],
@@ -99,8 +99,8 @@ fn whole_texts<'a>(left: &'a [Vec<u8>]) -> Texts<'a> {
     }
 }
 
-/// Two texts, and the images of the lines of either, of both, of what they share, and of what the first has and the second
-/// lacks, by a program in Python that knows the public definition of the hash.
+/// Two texts, and the images of the lines of each, of their union, of their intersection and of their difference, by a
+/// program in Python that has the public definition of the hash.
 const FIRST_TEXT: &[u8] = b"ann\nbob\n\nann\r\nann\n";
 
 const SECOND_TEXT: &[u8] = b"alone\n3\n\nbob\nann";
@@ -137,7 +137,7 @@ fn digits_of(line: &[u8]) -> &[u8] {
     }
 }
 
-/// The bytes that a line of digits spells; none where it spells none.
+/// The bytes that a line of digits spells; no bytes if it spells none.
 fn bytes_of<'a>(alloc: &'a Heap, line: &[u8]) -> Result<Vec<u8, &'a Heap>, Unread> {
     match read_hex(alloc, digits_of(line))? {
         Some(bytes) => Ok(bytes),
@@ -145,7 +145,7 @@ fn bytes_of<'a>(alloc: &'a Heap, line: &[u8]) -> Result<Vec<u8, &'a Heap>, Unrea
     }
 }
 
-/// Whether an image is the one of these digits.
+/// Whether an image has these digits.
 fn is_image(alloc: &Heap, image: Vec<u8, &Heap>, wanted: &[u8]) -> Result<bool, Unread> {
     let line = hex_line(alloc, image.as_slice())?;
     Ok(line.as_slice() == wanted)
@@ -187,7 +187,7 @@ fn lacks(heap: &Heap) -> Result<bool, Unread> {
     is_image(heap, image_of(&sketch)?, FIRST_ALONE)
 }
 
-/// Texts that lie in memory, and their images.
+/// Texts in memory, and their images.
 #[derive(Drop)]
 struct Inputs {
     texts: Vec<Vec<u8>>,
@@ -221,8 +221,8 @@ fn inputs_in(alloc: Global) -> io::Result<Inputs> {
     Ok(Inputs { texts, images })
 }
 
-fn make(heap: &Heap, inputs: &Inputs, call: Call) -> Told {
-    told_of(match call {
+fn make(heap: &Heap, inputs: &Inputs, call: Call) -> Outcome {
+    outcome_of(match call {
         Call::SketchReader => sketches_reader(heap),
         Call::SketchSources => sketches_sources(heap, inputs.texts.as_slice()),
         Call::Unite => unites(heap, inputs.images.as_slice()),
@@ -231,28 +231,28 @@ fn make(heap: &Heap, inputs: &Inputs, call: Call) -> Told {
     })
 }
 
-/// Makes a call with its first, its second and each later request for memory refused, until none was: each time it has to tell
-/// so, and in the end it has to answer. A refusal while a source is read to its end is told as the source's failure. Tells how
-/// many were refused.
+/// Makes a call with its first, its second and each later request for memory refused, until none was. Asserts that it
+/// reports each refusal, and that it answers in the end. A refusal while a source is read to its end is reported as the
+/// source's failure. Returns the number of refused requests.
 fn in_turn(rt: &impl Abort, heap: &Heap, inputs: &Inputs, call: Call) -> u64 {
     for refused in 0..u64::MAX {
         heap.restart(Refusal::Only(refused));
-        let told = make(heap, inputs, call);
+        let outcome = make(heap, inputs, call);
         let seen = heap.seen();
         heap.restart(Refusal::Never);
         if seen <= refused {
-            assert_eq!(rt; told, Told::Answered, "{call:?} at {refused}");
+            assert_eq!(rt; outcome, Outcome::Answered, "{call:?} at {refused}");
             return refused;
         }
-        let is_memory = told == Told::Refused(ErrorKind::OutOfMemory)
-            || told == Told::Failed(io::ErrorKind::OutOfMemory);
-        assert!(rt; is_memory, "{call:?} at {refused}: {told:?}");
+        let is_memory = outcome == Outcome::Refused(ErrorKind::OutOfMemory)
+            || outcome == Outcome::Failed(io::ErrorKind::OutOfMemory);
+        assert!(rt; is_memory, "{call:?} at {refused}: {outcome:?}");
     }
     0
 }
 
 #[test]
-fn tells_of_memory(rt: HostRuntime) -> Result<(), Fail> {
+fn reports_memory(rt: HostRuntime) -> Result<(), Fail> {
     let inputs = inputs_in(rt.alloc())?;
     let heap = Refusing::new(rt.alloc());
     for call in [
@@ -279,8 +279,8 @@ fn united(alloc: Global, lg_k: u8, sources: &mut Texts<'_>) -> Result<bool, Unre
     Ok(true)
 }
 
-/// What becomes of texts whose readers fail at their end, or after which one is missing, with this size: sketched, or united as
-/// images. Tells how many were opened, too.
+/// The outcome of sketching texts with this size, or of uniting them as images, if their readers fail at their end or
+/// opening a further text fails; and the number of texts that were opened.
 fn taken_in<'a>(
     alloc: Global,
     lg_k: u8,
@@ -288,7 +288,7 @@ fn taken_in<'a>(
     failure: Option<io::ErrorKind>,
     missing: Option<io::ErrorKind>,
     unites: bool,
-) -> (Told, usize) {
+) -> (Outcome, usize) {
     let mut sources: Texts<'a> = Texts {
         left: all,
         failure,
@@ -300,41 +300,41 @@ fn taken_in<'a>(
         sketched(alloc, lg_k, &mut sources)
     };
     (
-        told_of(answer),
+        outcome_of(answer),
         all.len().saturating_sub(sources.left.len()),
     )
 }
 
 #[test]
-fn tells_of_sources(rt: HostRuntime) -> Result<(), Fail> {
+fn reports_sources(rt: HostRuntime) -> Result<(), Fail> {
     let inputs = inputs_in(rt.alloc())?;
     let pipe = Some(io::ErrorKind::BrokenPipe);
     let none = Some(io::ErrorKind::NotFound);
-    let size = Told::Refused(ErrorKind::InvalidArgument);
-    let image = Told::Refused(ErrorKind::InvalidData);
+    let size = Outcome::Refused(ErrorKind::InvalidArgument);
+    let image = Outcome::Refused(ErrorKind::InvalidData);
     for (lg_k, failure, missing, unites, wanted) in [
-        (4, None, None, false, (Told::Answered, 2)),
-        (26, None, None, false, (Told::Answered, 2)),
+        (4, None, None, false, (Outcome::Answered, 2)),
+        (26, None, None, false, (Outcome::Answered, 2)),
         (
             12,
             pipe,
             None,
             false,
-            (Told::Failed(io::ErrorKind::BrokenPipe), 1),
+            (Outcome::Failed(io::ErrorKind::BrokenPipe), 1),
         ),
         (
             12,
             pipe,
             None,
             true,
-            (Told::Failed(io::ErrorKind::BrokenPipe), 1),
+            (Outcome::Failed(io::ErrorKind::BrokenPipe), 1),
         ),
         (
             12,
             None,
             none,
             false,
-            (Told::Failed(io::ErrorKind::NotFound), 2),
+            (Outcome::Failed(io::ErrorKind::NotFound), 2),
         ),
         (3, pipe, None, false, (size, 0)),
         (27, pipe, None, false, (size, 0)),
@@ -342,7 +342,7 @@ fn tells_of_sources(rt: HostRuntime) -> Result<(), Fail> {
         (27, pipe, None, true, (size, 0)),
         (12, None, None, true, (image, 1)),
     ] {
-        let told = taken_in(
+        let outcome = taken_in(
             rt.alloc(),
             lg_k,
             inputs.texts.as_slice(),
@@ -350,7 +350,7 @@ fn tells_of_sources(rt: HostRuntime) -> Result<(), Fail> {
             missing,
             unites,
         );
-        assert_eq!(rt; told, wanted, "{lg_k} {unites}");
+        assert_eq!(rt; outcome, wanted, "{lg_k} {unites}");
     }
     Ok(())
 }

@@ -1,4 +1,4 @@
-//! Texts that are split over parts in many ways, sketched apart and united.
+//! Texts that are split into parts in many ways; the parts are sketched separately and united.
 use crate::readers::Counter;
 use line_sketches::{Texts, image_of, image_of_texts, sketch_sources, unite_images};
 use lines::{Key, cut_line};
@@ -6,7 +6,7 @@ use std::alloc::Global;
 use std::io;
 use std::test::Fail;
 
-/// 300 lines, of which 200 are distinct, and a last one without an LF.
+/// 300 lines, 200 of them distinct, and a last one without an LF.
 fn text(alloc: Global) -> io::Result<String> {
     let mut text = String::new(alloc);
     for i in 0..300u32 {
@@ -18,7 +18,7 @@ fn text(alloc: Global) -> io::Result<String> {
     Ok(text)
 }
 
-/// A text, cut behind every so many lines.
+/// A text, cut after each `every` lines.
 fn parts_of(alloc: Global, text: &[u8], every: u32) -> io::Result<Vec<Vec<u8>>> {
     let mut parts = Vec::new(alloc);
     let mut part = Vec::new(alloc);
@@ -56,7 +56,7 @@ fn image_at_once(alloc: Global, texts: &[Vec<u8>]) -> io::Result<Vec<u8>> {
     }
 }
 
-/// The image of the union of the images of texts that are sketched apart, in their order or the other way.
+/// The image of the union of the images of texts that are sketched separately, in their order or reversed.
 fn united(alloc: Global, texts: &[Vec<u8>], reversed: bool) -> io::Result<Vec<u8>> {
     let mut images = Vec::new(alloc);
     for i in 0..texts.len() {
@@ -73,7 +73,7 @@ fn united(alloc: Global, texts: &[Vec<u8>], reversed: bool) -> io::Result<Vec<u8
     }
 }
 
-/// The same by one call, whose contract has what the image is.
+/// The image of the lines of texts by one call, whose contract states the image.
 fn united_by_one_call(alloc: Global, texts: &[Vec<u8>]) -> Vec<u8> {
     let mut counter = Counter { lines: 0, bytes: 0 };
     match image_of_texts(alloc, Key::Line, 5, texts, &mut counter) {

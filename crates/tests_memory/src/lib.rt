@@ -1,5 +1,5 @@
-//! Tests of memory over the public calls of the theta sketches: how often a call asks for it, that calls which need none
-//! ask for none, and what stands after each request that is refused.
+//! Tests of memory over the public calls of the theta sketches: the number and the bytes of a call's requests, that
+//! calls which need no memory request none, and the state after each refused request.
 #![tactic(auto)]
 
 #[cfg(test)]

@@ -1,4 +1,4 @@
-//! Many hashes handed over at once, with one request for memory refused.
+//! Many hashes passed in one call, with one request for memory refused.
 
 use refusing_allocator::{Refusal, Refusing};
 use sketch_base::{Error, ErrorKind};
@@ -7,8 +7,8 @@ use std::test::Fail;
 use tests_sketches::common::{Heap, Value, after_each, kind_of, mixed_hashes, shown_of};
 use theta_sketches::{ResizeFactor, ThetaSketch, ThetaSketchBuilder};
 
-/// What a sketch of 32 nominal entries, whose slots double, is after hashes that are handed over while one request for memory
-/// is refused; why, if it came to that request; and what it is after the same hashes once more.
+/// The value of a sketch of 32 nominal entries, whose slots double, after a call with these hashes while one request
+/// for memory is refused; why the call failed, if it did; and the value after the same call once more.
 fn after_refusal<'a>(
     heap: &'a Heap,
     hashes: &[u64],
@@ -26,7 +26,7 @@ fn after_refusal<'a>(
     Ok((part, why, shown_of(*heap.inner(), &sketch)?))
 }
 
-/// How many of the first hashes a sketch has taken in, if it is what a first part of them makes.
+/// The number of hashes, from the first on, that give a sketch this value; `None` if there is no such number.
 fn taken(alloc: Global, hashes: &[u64], value: &Value) -> Result<Option<usize>, Error> {
     for count in 0..hashes.len().saturating_add(1) {
         if after_each(alloc, 5, &hashes[..count])? == *value {
@@ -36,8 +36,9 @@ fn taken(alloc: Global, hashes: &[u64], value: &Value) -> Result<Option<usize>, 
     Ok(None)
 }
 
-/// For the first request, the second and each later one, until none was refused: how many hashes were taken in where it was
-/// refused; `None` where that is no first part of them, the error is another, or the same hashes once more don't come to all.
+/// For the first request, the second and each later one, until none was refused: the number of hashes that the refused
+/// call inserted. `None` if these weren't the first of them, the error is another, or the same call once more doesn't
+/// complete them.
 fn taken_in_turn(heap: &Heap, hashes: &[u64]) -> Result<Vec<Option<usize>>, Error> {
     let alloc = *heap.inner();
     let whole = after_each(alloc, 5, hashes)?;
@@ -59,7 +60,7 @@ fn some_first_part_is_taken_in(rt: HostRuntime) -> Result<(), Fail> {
     let hashes = mixed_hashes(rt.alloc(), 90, 70)?;
     let counts = taken_in_turn(&heap, &hashes)?;
     assert!(rt; counts.len() >= 2, "{counts:?}");
-    // 16 entries stand in the first 32 slots, behind two hashes that are not retained, before memory is asked for.
+    // The first request comes after two hashes that are not retained and 16 entries, which the first 32 slots hold.
     assert!(rt; counts.iter().all(|count| *count >= Some(18)), "{counts:?}");
     Ok(())
 }

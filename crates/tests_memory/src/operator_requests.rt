@@ -18,7 +18,7 @@ enum Call<'v> {
     Answer(bool),
 }
 
-/// Makes a call, and answers what an answer has.
+/// Makes a call, and returns the value of its answer.
 fn make<'a>(
     alloc: Global,
     intersection: &mut ThetaIntersection<&'a Heap>,
@@ -36,7 +36,7 @@ fn make<'a>(
     }
 }
 
-/// Makes a call with one request refused. Tells what it answered, and how many requests it came to.
+/// Makes a call with one request refused. Returns its answer, and the number of its requests.
 fn attempt<'a>(
     heap: &'a Heap,
     intersection: &mut ThetaIntersection<&'a Heap>,
@@ -50,13 +50,13 @@ fn attempt<'a>(
     (answer, seen)
 }
 
-/// The answer has to be a refusal of memory, at the last request.
+/// Asserts that the answer is a refusal of memory, at the last request.
 fn assert_refused<T: Drop>(rt: &impl Abort, answer: Result<T, Error>, seen: u64, refused: u64) {
-    let told = (kind_of(answer), seen.saturating_sub(refused));
-    assert_eq!(rt; told, (Some(ErrorKind::OutOfMemory), 1), "at {refused}");
+    let found = (kind_of(answer), seen.saturating_sub(refused));
+    assert_eq!(rt; found, (Some(ErrorKind::OutOfMemory), 1), "at {refused}");
 }
 
-/// The intersection has to be as it was.
+/// Asserts that the intersection is unchanged.
 fn assert_unchanged<'a>(
     rt: &impl Abort,
     alloc: Global,
@@ -65,13 +65,13 @@ fn assert_unchanged<'a>(
     refused: u64,
 ) -> Result<(), Error> {
     let now = make(alloc, intersection, Call::Answer(true))?;
-    let told = (intersection.has_result(), &now);
-    assert_eq!(rt; told, (before.is_some(), before), "at {refused}");
+    let found = (intersection.has_result(), &now);
+    assert_eq!(rt; found, (before.is_some(), before), "at {refused}");
     Ok(())
 }
 
-/// Makes a call with its first, its second and each later request refused, until none was. Each time the intersection has to be
-/// as before. Tells how many were refused, and what the call answered in the end.
+/// Makes a call with its first, its second and each later request refused, until none was. Asserts after each refusal
+/// that the intersection is unchanged. Returns the number of refused requests, and the answer of the last call.
 fn in_turn<'a>(
     rt: &impl Abort,
     heap: &'a Heap,
@@ -91,7 +91,7 @@ fn in_turn<'a>(
     Err(Error::new(ErrorKind::Failed))
 }
 
-/// Refuses the requests of an answer, and compares it with the hashes from a first to a last.
+/// Refuses the requests of an answer in turn, and compares it with the hashes from a first to a last.
 fn assert_answer<'a>(
     rt: &impl Abort,
     heap: &'a Heap,
@@ -109,7 +109,8 @@ fn assert_answer<'a>(
     Ok(())
 }
 
-/// Refuses the requests of an update and then those of answers, and compares each answer with the hashes from a first to a last.
+/// Refuses the requests of an update in turn, then those of answers, and compares each answer with the hashes from a
+/// first to a last.
 fn assert_met<'a>(
     rt: &impl Abort,
     heap: &'a Heap,
@@ -123,7 +124,7 @@ fn assert_met<'a>(
     assert_answer(rt, heap, intersection, true, (from, to))
 }
 
-/// Meets an intersection with the hashes from a first to a last.
+/// Updates an intersection with the hashes from a first to a last, by `assert_met`.
 fn assert_met_with<'a>(
     rt: &impl Abort,
     heap: &'a Heap,
@@ -139,7 +140,7 @@ fn assert_met_with<'a>(
 fn refused_calls_leave_an_intersection_as_it_was(rt: HostRuntime) -> Result<(), Fail> {
     let heap = Refusing::new(rt.alloc());
     let mut intersection = ThetaIntersection::default(&heap)?;
-    // The hashes of an input, and those that are left.
+    // The hashes of an input, and those of the intersection after it.
     for (input, left) in [
         ((1, 40), (1, 40)),
         ((11, 50), (11, 40)),
@@ -150,7 +151,7 @@ fn refused_calls_leave_an_intersection_as_it_was(rt: HostRuntime) -> Result<(), 
     Ok(())
 }
 
-/// Takes one view's hashes from another's with one request refused. Tells the answer, and how many requests it came to.
+/// The difference of two views with one request refused, and the number of requests.
 fn attempt_difference<'a>(
     heap: &'a Heap,
     a: ThetaSketchView<'_>,
@@ -174,7 +175,7 @@ fn value_in<'a>(
     Ok(value_of(alloc, &answer)?)
 }
 
-/// How many requests of a difference are refused one after another, until none was, and the answer then.
+/// The number of requests of a difference that were refused one after another, until none was, and the answer then.
 fn difference_in_turn(
     rt: &impl Abort,
     heap: &Heap,
@@ -191,7 +192,7 @@ fn difference_in_turn(
     Err(Error::new(ErrorKind::Failed))
 }
 
-/// A view has to have the hashes from a first to a last.
+/// Asserts that a view has the hashes from a first to a last.
 fn assert_hashes(
     rt: &impl Abort,
     alloc: Global,
@@ -203,7 +204,7 @@ fn assert_hashes(
     Ok(())
 }
 
-/// Refuses the requests of a difference of the hashes 1 to 40 and 11 to 50, and compares its answer and its inputs.
+/// Refuses the requests of a difference of the hashes 1 to 40 and 11 to 50 in turn, and compares its answer and its inputs.
 fn assert_left(
     rt: &impl Abort,
     heap: &Heap,
@@ -218,7 +219,7 @@ fn assert_left(
     assert_hashes(rt, alloc, b, (11, 50))
 }
 
-/// The other view is lent by a sketch or by its ordered compact form.
+/// The same for a second view of a sketch or of its ordered compact form.
 fn assert_left_without(
     rt: &impl Abort,
     heap: &Heap,
@@ -233,7 +234,7 @@ fn assert_left_without(
     assert_left(rt, heap, a, b.as_view())
 }
 
-/// Each view is lent by a sketch or by its ordered compact form.
+/// The same for views of a sketch or of its ordered compact form.
 fn assert_left_by(rt: &impl Abort, heap: &Heap, ordered: bool, compact: bool) -> Result<(), Error> {
     if ordered {
         let a = compact_of(*heap.inner(), 1, 40, true)?;

@@ -1,4 +1,4 @@
-//! How often reading an image asks for memory, and for how many bytes: never for more entries than the bytes could hold.
+//! The requests for memory of reading an image: never for more entries than the bytes can hold.
 
 use refusing_allocator::{Refusal, Refusing};
 use sketch_base::{Error, ErrorKind};
@@ -9,7 +9,7 @@ use theta_core::image::{Layout, Preamble, read_behind};
 use theta_core::{MAX_THETA, ThetaEntry};
 use theta_sketches::CompactThetaSketch;
 
-/// How often a reading asks for memory, for how many bytes in all, and why it is refused.
+/// The number of a reading's requests for memory, their bytes in all, and why the reading is refused.
 type Asked = (u64, u64, Option<ErrorKind>);
 
 fn asked(heap: &Heap, bytes: &[u8]) -> Asked {
@@ -23,7 +23,7 @@ const REFUSED: Option<ErrorKind> = Some(ErrorKind::InvalidData);
 /// The theta 100.
 const THETA: &str = "64 00 00 00 00 00 00 00";
 
-/// What stands before the count, and behind it and four bytes of nothing; then come hashes.
+/// The bytes before the count, and those after it and four zero bytes; the hashes follow.
 const LAYOUTS: [(&str, &str); 6] = [
     ("02 03 03 00 00 1a cc 93", ""),
     ("03 03 03 00 00 1a cc 93", THETA),
@@ -33,7 +33,7 @@ const LAYOUTS: [(&str, &str); 6] = [
     ("03 01 03 00 00 00 00 00", THETA),
 ];
 
-/// An image of a layout that tells so many hashes, and has 7 and 9.
+/// An image of a layout, with this count of hashes and the two hashes 7 and 9.
 fn image_of_two(
     alloc: Global,
     (head, theta): (&str, &str),
@@ -56,7 +56,7 @@ fn add_two(image: &mut Vec<u8>) -> Result<(), AllocError> {
     image.extend_from_slice(&9u64.to_le_bytes())
 }
 
-/// What the reading of an image of two hashes that lacks so many bytes asks for.
+/// The requests of reading an image of two hashes without its last `lacking` bytes.
 fn asked_of_two(
     alloc: Global,
     heap: &Heap,
@@ -71,7 +71,8 @@ fn asked_of_two(
 #[test]
 fn counts_too_great_ask_for_nothing(rt: HostRuntime) -> Result<(), Fail> {
     let heap = Refusing::new(rt.alloc());
-    // The count in an image of two hashes, how many bytes it lacks, and what its reading asks for: eight bytes for each hash.
+    // The count in an image of two hashes, the number of bytes that it lacks, and its reading: it requests eight bytes
+    // per hash.
     let cases = [
         (0, 0, (0, 0, None)),
         (1, 0, (1, 8, None)),
@@ -83,14 +84,14 @@ fn counts_too_great_ask_for_nothing(rt: HostRuntime) -> Result<(), Fail> {
     ];
     for layout in LAYOUTS {
         for (count, lacking, wanted) in cases {
-            let told = asked_of_two(rt.alloc(), &heap, layout, count, lacking)?;
-            assert_eq!(rt; told, wanted, "{layout:?}, {count}, {lacking}");
+            let found = asked_of_two(rt.alloc(), &heap, layout, count, lacking)?;
+            assert_eq!(rt; found, wanted, "{layout:?}, {count}, {lacking}");
         }
     }
     Ok(())
 }
 
-/// What the reading of the bytes that a text spells asks for.
+/// The requests of reading the bytes that a text spells.
 fn asked_of_text(alloc: Global, heap: &Heap, text: &str) -> Result<Asked, AllocError> {
     let image = bytes_of(alloc, text)?;
     Ok(asked(heap, &image))
@@ -99,7 +100,7 @@ fn asked_of_text(alloc: Global, heap: &Heap, text: &str) -> Result<Asked, AllocE
 #[test]
 fn readings_ask_for_little(rt: HostRuntime) -> Result<(), Fail> {
     let heap = Refusing::new(rt.alloc());
-    // An image, and what its reading asks for: once for the entries, and once more for their hashes where these do not ascend.
+    // An image, and its reading: one request for the entries, and one more for their hashes if these don't ascend.
     let cases = [
         ("", (0, 0, REFUSED)),
         ("01 03 03 00 00 1e 00 00", (0, 0, None)),
@@ -131,7 +132,7 @@ fn readings_ask_for_little(rt: HostRuntime) -> Result<(), Fail> {
     Ok(())
 }
 
-/// For how many entries there is room once the entries behind 16 bytes are read.
+/// The number of entries for which there is room after the entries that follow 16 bytes are read.
 fn room_behind(heap: &Heap, bytes: &[u8], count: u32) -> Result<usize, Error> {
     if bytes.len() < 16 {
         return Err(Error::new(ErrorKind::InvalidData));

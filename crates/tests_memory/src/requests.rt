@@ -18,12 +18,12 @@ enum Call {
     Trim,
     Compact(bool),
     Image,
-    /// What its unordered image is read as.
+    /// Writes its unordered image and reads it.
     Read,
     Reset,
 }
 
-/// How many entries a compact form has.
+/// The number of entries of a compact form.
 fn compact_size<'a>(sketch: &ThetaSketch<&'a Heap>, ordered: bool) -> Result<usize, Error> {
     let answer = sketch.compact(ordered)?;
     Ok(answer.num_retained())
@@ -35,14 +35,14 @@ fn image_of<'a>(sketch: &ThetaSketch<&'a Heap>, ordered: bool) -> Result<Vec<u8,
     answer.serialize()
 }
 
-/// How many entries are read of the unordered image.
+/// The number of entries read from the unordered image.
 fn read_size<'a>(heap: &'a Heap, sketch: &ThetaSketch<&'a Heap>) -> Result<usize, Error> {
     let image = image_of(sketch, false)?;
     let read = CompactThetaSketch::deserialize(heap, image.as_slice())?;
     Ok(read.num_retained())
 }
 
-/// Makes a call, and tells how many entries its answer has, or how many bytes.
+/// Makes a call, and returns the number of entries of its answer, or of its bytes for an image.
 fn make<'a>(
     heap: &'a Heap,
     sketch: &mut ThetaSketch<&'a Heap>,
@@ -65,10 +65,10 @@ fn shown<'a>(alloc: Global, sketch: &ThetaSketch<&'a Heap>) -> Result<Value, All
     Ok((sketch.is_empty(), sketch.theta64(), hashes))
 }
 
-/// How often a call asks for memory, and for how many bytes in all.
+/// The number of a call's requests for memory, and their bytes in all.
 type Asked = (u64, u64);
 
-/// Makes a call with one request refused. Returns its answer, and what it asked for.
+/// Makes a call with one request refused. Returns its answer and its requests.
 fn attempt<'a>(
     heap: &'a Heap,
     sketch: &mut ThetaSketch<&'a Heap>,
@@ -85,7 +85,7 @@ fn attempt<'a>(
     }
 }
 
-/// The sketch has to be as it was.
+/// Asserts that the sketch is unchanged.
 fn assert_shown<'a>(
     rt: &impl Abort,
     heap: &'a Heap,
@@ -97,8 +97,8 @@ fn assert_shown<'a>(
     Ok(())
 }
 
-/// Makes a call with its first, its second and each later request refused, until none was. Each time the sketch has to be
-/// as before. Returns what the call asks for if nothing is refused, and its answer then.
+/// Makes a call with its first, its second and each later request refused, until none was. Asserts after each refusal
+/// that the sketch is unchanged. Returns the requests of the call if none is refused, and its answer then.
 fn in_turn<'a>(
     rt: &impl Abort,
     heap: &'a Heap,
@@ -117,7 +117,7 @@ fn in_turn<'a>(
     Err(Error::new(ErrorKind::Failed))
 }
 
-/// What a sketch asks for in all while it is updated with hashes.
+/// All requests of a sketch while it is updated with hashes.
 fn update_in_turn<'a>(
     rt: &impl Abort,
     heap: &'a Heap,
@@ -134,7 +134,7 @@ fn update_in_turn<'a>(
     Ok(all)
 }
 
-/// The call, what it asks for, how much it answers, and theta after it.
+/// The call, its requests, its answer, and theta after it.
 type Row = (Call, Asked, usize, u64);
 
 fn assert_in_turn<'a>(
@@ -144,8 +144,8 @@ fn assert_in_turn<'a>(
     (call, wanted, size, theta): Row,
 ) -> Result<(), Error> {
     let (asked, answer) = in_turn(rt, heap, sketch, call)?;
-    let told = (asked, answer, sketch.theta64());
-    assert_eq!(rt; told, (wanted, Ok(size), theta), "{call:?}");
+    let found = (asked, answer, sketch.theta64());
+    assert_eq!(rt; found, (wanted, Ok(size), theta), "{call:?}");
     Ok(())
 }
 
@@ -161,13 +161,13 @@ fn assert_holds<'a>(
     Ok(())
 }
 
-// A hash has eight bytes, in a slot, in a compact form, and in an image behind a preamble of 24. Those from 1 on are in ascending
-// slots, so a reading asks for no more than the hashes.
+// A hash has eight bytes, in a slot, in a compact form, and in an image after a preamble of 24. The hashes from 1 on are in
+// ascending slots, so a reading requests no more than the hashes.
 #[test]
 fn refused_calls_change_nothing(rt: HostRuntime) -> Result<(), Fail> {
     let heap = Refusing::new(rt.alloc());
     let mut sketch = ThetaSketchBuilder::default().lg_k(5).build(&heap)?;
-    // The 61st hash has the sketch select among 64 slots and gather 32 hashes.
+    // At the 61st hash the sketch selects among 64 slots and gathers 32 hashes.
     let rebuild = (65 + 33) * 8;
     let mut hashes = numbers(rt.alloc(), 1, 61)?;
     let ascending = update_in_turn(&rt, &heap, &mut sketch, &hashes)?;
@@ -176,7 +176,7 @@ fn refused_calls_change_nothing(rt: HostRuntime) -> Result<(), Fail> {
     sketch.reset();
     hashes = numbers(rt.alloc(), 1, 100)?;
     hashes.reverse();
-    // The 61st hash, and again the 90th.
+    // The same at the 61st hash and at the 90th.
     let descending = update_in_turn(&rt, &heap, &mut sketch, &hashes)?;
     assert_eq!(rt; descending, (4, 2 * rebuild));
     let rows: [Row; 9] = [
@@ -194,12 +194,12 @@ fn refused_calls_change_nothing(rt: HostRuntime) -> Result<(), Fail> {
         assert_in_turn(&rt, &heap, &mut sketch, row)?;
     }
     assert_holds(&rt, &heap, &sketch, 32)?;
-    let told = in_turn(&rt, &heap, &mut sketch, Call::Reset)?;
-    assert_eq!(rt; (told, sketch.is_empty()), (((0, 0), Ok(0)), true));
+    let found = in_turn(&rt, &heap, &mut sketch, Call::Reset)?;
+    assert_eq!(rt; (found, sketch.is_empty()), (((0, 0), Ok(0)), true));
     Ok(())
 }
 
-/// A union that was given a sketch. Its slots grow at the 17th hash.
+/// A union, updated with a sketch. Its slots grow at the 17th hash.
 fn union_with<'a>(
     heap: &'a Heap,
     view: ThetaSketchView<'_>,
@@ -212,7 +212,7 @@ fn union_with<'a>(
     Ok(union)
 }
 
-/// Updates a union with one request refused. Tells why the update was, and whether it came to that request.
+/// Updates a union with one request refused. Returns why the update is refused, and whether it made that request.
 fn attempt_update<'a>(
     heap: &'a Heap,
     union: &mut ThetaUnion<&'a Heap>,
@@ -226,14 +226,14 @@ fn attempt_update<'a>(
     (kind, is_refused)
 }
 
-/// A union's theta and how many hashes it retains.
+/// A union's theta and the number of its hashes.
 fn shown_by<'a>(union: &ThetaUnion<&'a Heap>) -> Result<(u64, usize), Error> {
     let answer = union.to_sketch(true)?;
     Ok((answer.theta64(), answer.num_retained()))
 }
 
-/// A union's theta and how many hashes it has, once it is reset and updated.
-fn told_anew<'a>(
+/// A union's theta and the number of its hashes, after a reset and an update.
+fn found_anew<'a>(
     union: &mut ThetaUnion<&'a Heap>,
     view: ThetaSketchView<'_>,
 ) -> Result<(u64, usize), Error> {
@@ -242,7 +242,8 @@ fn told_anew<'a>(
     shown_by(union)
 }
 
-/// Why an update is refused; and, where memory was, why the next update and the next answer are, and what the union tells anew.
+/// Why an update is refused; and, if memory was, why the next update and the next answer are refused, and the union's
+/// theta and number of hashes after a reset and an update.
 type Updated = (
     Option<ErrorKind>,
     Option<([Option<ErrorKind>; 2], (u64, usize))>,
@@ -260,11 +261,11 @@ fn update_twice(
         return Ok((kind, None));
     }
     let kinds = [kind_of(union.update(first)), kind_of(union.to_sketch(true))];
-    let told = told_anew(&mut union, second)?;
-    Ok((kind, Some((kinds, told))))
+    let found = found_anew(&mut union, second)?;
+    Ok((kind, Some((kinds, found))))
 }
 
-/// A union of the hashes 46 to 90 is updated with the hashes 1 to 45, so that it is rebuilt.
+/// Updates a union of the hashes 46 to 90 with the hashes 1 to 45, so that it is rebuilt.
 fn updated(alloc: Global, heap: &Heap, refused: u64) -> Result<Updated, Error> {
     let first = sketch_of(alloc, 9001, 46, 90)?;
     let second = sketch_of(alloc, 9001, 1, 45)?;
@@ -277,12 +278,12 @@ fn refused_updates_leave_a_union_failed(rt: HostRuntime) -> Result<(), Fail> {
     let failed = [Some(ErrorKind::Failed), Some(ErrorKind::Failed)];
     let wanted = (Some(ErrorKind::OutOfMemory), Some((failed, (33, 32))));
     for refused in 0..u64::MAX {
-        let told = updated(rt.alloc(), &heap, refused)?;
-        if told.1.is_none() {
-            assert_eq!(rt; (refused > 0, told.0), (true, None));
+        let found = updated(rt.alloc(), &heap, refused)?;
+        if found.1.is_none() {
+            assert_eq!(rt; (refused > 0, found.0), (true, None));
             break;
         }
-        assert_eq!(rt; told, wanted, "at {refused}");
+        assert_eq!(rt; found, wanted, "at {refused}");
     }
     Ok(())
 }
@@ -304,7 +305,7 @@ fn hashes_of<'a>(
     }
 }
 
-/// Calls for a union's answer with one request refused. Returns the hashes or the refusal, and what the call asked for.
+/// The hashes of a union's answer with one request refused, or why it is refused, and the requests of the call.
 fn answered<'a>(
     alloc: Global,
     heap: &'a Heap,
@@ -318,24 +319,24 @@ fn answered<'a>(
     Ok((hashes_of(alloc, answer)?, asked))
 }
 
-// An answer that is cut asks for hashes to select from, as many as there are slots and one, and for those that it has.
+// An answer that is cut requests hashes to select from, one more than there are slots, and its own hashes.
 #[test]
 fn refused_answers_leave_a_union_as_it_was(rt: HostRuntime) -> Result<(), Fail> {
     let heap = Refusing::new(rt.alloc());
     let union = union_of_45(rt.alloc(), &heap)?;
     for refused in 0..u64::MAX {
-        let told = answered(rt.alloc(), &heap, &union, refused)?;
-        if told.1.0 <= refused {
+        let found = answered(rt.alloc(), &heap, &union, refused)?;
+        if found.1.0 <= refused {
             let wanted = (Ok(numbers(rt.alloc(), 1, 32)?), (2, (65 + 32) * 8));
-            assert_eq!(rt; told, wanted);
+            assert_eq!(rt; found, wanted);
             break;
         }
-        assert_eq!(rt; told.0, Err(ErrorKind::OutOfMemory), "at {refused}");
+        assert_eq!(rt; found.0, Err(ErrorKind::OutOfMemory), "at {refused}");
     }
     Ok(())
 }
 
-/// A union of 2^7 nominal entries that has taken in the hashes 1 to 90.
+/// A union of 2^7 nominal entries with the hashes 1 to 90.
 fn wide_union<'a>(alloc: Global, heap: &'a Heap) -> Result<ThetaUnion<&'a Heap>, Error> {
     let mut union = ThetaUnionBuilder::default().lg_k(7).build(heap)?;
     let first = sketch_of(alloc, 9001, 1, 45)?;
@@ -345,8 +346,8 @@ fn wide_union<'a>(alloc: Global, heap: &'a Heap) -> Result<ThetaUnion<&'a Heap>,
     Ok(union)
 }
 
-/// How a call to lower a union ended, what it asked for, and what the union shows right after it, after the same call again, and
-/// after a reset and one sketch.
+/// Why a call to lower a union is refused, its requests, and the union's theta and number of hashes right after it,
+/// after the same call again, and after a reset and one sketch.
 type Lowered = (Option<ErrorKind>, Asked, [(u64, usize); 3]);
 
 /// Lowers a union with one request refused.
@@ -360,11 +361,11 @@ fn lowered(alloc: Global, heap: &Heap, refused: u64) -> Result<Lowered, Error> {
     union.lower_lg_k(5)?;
     let again = shown_by(&union)?;
     let sketch = sketch_of(alloc, 9001, 1, 45)?;
-    let anew = told_anew(&mut union, sketch.as_view())?;
+    let anew = found_anew(&mut union, sketch.as_view())?;
     Ok((kind, asked, [after, again, anew]))
 }
 
-// A smaller table asks for hashes to select from, as many as there are slots and one, for those that stay, and for 64 slots.
+// A smaller table requests hashes to select from, one more than there are slots, the hashes that it keeps, and 64 slots.
 #[test]
 fn refused_lowering_leaves_a_union_as_it_was(rt: HostRuntime) -> Result<(), Fail> {
     let heap = Refusing::new(rt.alloc());

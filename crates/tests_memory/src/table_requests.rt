@@ -8,10 +8,10 @@ use std::test::Fail;
 use tests_sketches::common::{Heap, numbers};
 use theta_core::{MAX_THETA, ResizeFactor, ThetaHashTable};
 
-/// How many bytes a table's slots take, theta, and its hashes in the order in which it lends them.
+/// The bytes of a table's slots, theta, and its hashes in the order of its iterator.
 type Shown = (usize, u64, Vec<u64>);
 
-/// What a table shows, in memory that is not refused.
+/// The state of a table, in memory that is not refused.
 fn shown<'a>(alloc: Global, table: &ThetaHashTable<&'a Heap>) -> Result<Shown, AllocError> {
     let mut hashes = Vec::new(alloc);
     for entry in table.iter_entries() {
@@ -27,7 +27,7 @@ enum Call {
     Trim,
 }
 
-/// Makes a call, and tells how many entries there are then.
+/// Makes a call, and returns the number of entries after it.
 fn make<'a>(table: &mut ThetaHashTable<&'a Heap>, call: Call) -> Result<usize, Error> {
     match call {
         Call::Insert(hash) => {
@@ -40,10 +40,10 @@ fn make<'a>(table: &mut ThetaHashTable<&'a Heap>, call: Call) -> Result<usize, E
     Ok(table.num_retained())
 }
 
-/// How often a call asks for memory, and for how many bytes in all.
+/// The number of a call's requests for memory, and their bytes in all.
 type Asked = (u64, u64);
 
-/// Makes a call with one request refused. Returns its answer, and what it asked for.
+/// Makes a call with one request refused. Returns its answer and its requests.
 fn attempt<'a>(
     heap: &'a Heap,
     table: &mut ThetaHashTable<&'a Heap>,
@@ -60,8 +60,8 @@ fn attempt<'a>(
     }
 }
 
-/// Makes a call with its first, its second and each later request refused, until none was. Each time the table has to be as
-/// before. Returns what the call asks for if nothing is refused.
+/// Makes a call with its first, its second and each later request refused, until none was. Asserts after each refusal
+/// that the table is unchanged. Returns the requests of the call if none is refused.
 fn in_turn<'a>(
     rt: &impl Abort,
     heap: &'a Heap,
@@ -81,7 +81,7 @@ fn in_turn<'a>(
     Err(Error::new(ErrorKind::Failed))
 }
 
-/// Inserts the hashes from the last down to 1, each in turn. Returns each insertion that asks for memory, and what it asks for.
+/// Inserts the hashes from the last down to 1 by `in_turn`. Returns each insertion that requests memory, and its requests.
 fn inserted<'a>(
     rt: &impl Abort,
     heap: &'a Heap,
@@ -102,9 +102,9 @@ fn inserted<'a>(
 /// The nominal logarithm, the resize factor, the last hash, and theta once the hashes from the last down to 1 are inserted.
 type Row = (u8, ResizeFactor, u64, u64);
 
-/// What a table shows: the insertions that ask for memory and what they ask for, theta then, what a trim asks for, and the
+/// The insertions of a row that request memory and their requests, theta after them, the requests of a trim, and the
 /// hashes after it, ascending.
-fn told(
+fn found(
     rt: &impl Abort,
     heap: &Heap,
     row: Row,
@@ -119,8 +119,8 @@ fn told(
     Ok((asked, theta, trims, hashes))
 }
 
-/// A table has to tell this.
-fn assert_told(
+/// Asserts the requests, theta and hashes of a row.
+fn assert_found(
     rt: &impl Abort,
     heap: &Heap,
     row: Row,
@@ -128,30 +128,31 @@ fn assert_told(
     trims: Asked,
     kept: u64,
 ) -> Result<(), Error> {
-    let answer = told(rt, heap, row)?;
+    let answer = found(rt, heap, row)?;
     assert_eq!(rt; answer.0.as_slice(), insertions, "of {row:?}");
     assert_eq!(rt; (answer.1, answer.2), (row.3, trims), "of {row:?}");
     assert_eq!(rt; answer.3, numbers(*heap.inner(), 1, kept)?, "of {row:?}");
     Ok(())
 }
 
-// A slot has eight bytes. Growth asks for the new slots; a rebuild or a trim of few slots for as many hashes as there are slots
-// and one, to select from; and then a rebuild for a slot for each entry that it keeps and one more, a trim for a byte a slot.
+// A slot has eight bytes. Growth requests the new slots. A rebuild or a trim of few slots requests hashes to select
+// from: one more than there are slots. Then a rebuild requests one slot more than it keeps entries, and a trim one byte
+// per slot.
 #[test]
 fn refused_insertions_change_nothing(rt: HostRuntime) -> Result<(), Fail> {
     let heap = Refusing::new(rt.alloc());
     let at_full_size = (5, ResizeFactor::X1, 61, 33);
     let rebuilt = (2, (65 + 33) * 8);
-    assert_told(&rt, &heap, at_full_size, &[(61, rebuilt)], (0, 0), 32)?;
+    assert_found(&rt, &heap, at_full_size, &[(61, rebuilt)], (0, 0), 32)?;
     let grown_once = (5, ResizeFactor::X2, 62, 34);
     let insertions = [(17, (1, 64 * 8)), (61, rebuilt)];
-    assert_told(&rt, &heap, grown_once, &insertions, (2, 65 * 8 + 64), 32)?;
+    assert_found(&rt, &heap, grown_once, &insertions, (2, 65 * 8 + 64), 32)?;
     let by_eight = (7, ResizeFactor::X8, 242, 130);
     let insertions = [(17, (1, 256 * 8)), (241, (2, (257 + 129) * 8))];
-    assert_told(&rt, &heap, by_eight, &insertions, (2, 257 * 8 + 256), 128)?;
+    assert_found(&rt, &heap, by_eight, &insertions, (2, 257 * 8 + 256), 128)?;
     let not_rebuilt = (6, ResizeFactor::X2, 100, MAX_THETA);
     let insertions = [(17, (1, 64 * 8)), (33, (1, 128 * 8))];
-    assert_told(&rt, &heap, not_rebuilt, &insertions, (2, 129 * 8 + 128), 64)?;
+    assert_found(&rt, &heap, not_rebuilt, &insertions, (2, 129 * 8 + 128), 64)?;
     Ok(())
 }
 
@@ -166,14 +167,14 @@ fn large_table<'a>(heap: &'a Heap) -> Result<(ThetaHashTable<&'a Heap>, u64), Er
     Ok((table, hash))
 }
 
-/// What the rebuild of such a table asks for, and how many hashes it retains then.
+/// The requests of the rebuild of `large_table`, and the number of hashes that it retains then.
 fn rebuilt(rt: &impl Abort, heap: &Heap) -> Result<(Asked, usize), Error> {
     let (mut table, next) = large_table(heap)?;
     let asked = in_turn(rt, heap, &mut table, Call::Insert(next))?;
     Ok((asked, table.num_retained()))
 }
 
-// It asks for 2^16 slots and one more, and to select from for fewer hashes than a sixteenth of its slots.
+// The rebuild requests 2^16 + 1 slots, and hashes to select from: fewer than a sixteenth of its slots.
 #[test]
 fn large_rebuilds_ask_for_half_of_the_slots(rt: HostRuntime) -> Result<(), Fail> {
     let heap = Refusing::new(rt.alloc());

@@ -1,5 +1,5 @@
-//! Calls on unions, intersections and differences that take no memory: each is made while all memory is refused, and asks for
-//! none.
+//! Calls on unions, intersections and differences that need no memory: each is made while all memory is refused, and
+//! requests none.
 
 use refusing_allocator::{Refusal, Refusing};
 use sketch_base::{Error, ErrorKind};
@@ -12,12 +12,12 @@ use theta_sketches::{
     ThetaUnion, ThetaUnionBuilder,
 };
 
-/// What an operator is handed.
+/// An input of an operator.
 #[derive(Clone, Copy, Debug)]
 enum Input {
     /// The hashes 1 to 40, of the default seed.
     Filled,
-    /// The hashes 41 to 80, of the default seed: with `Filled` too many for the slots of a union.
+    /// The hashes 41 to 80, of the default seed: together with `Filled` too many for the slots of a union.
     More,
     Empty,
     /// An empty compact sketch.
@@ -28,7 +28,7 @@ enum Input {
     OtherEmpty,
 }
 
-/// The sketches behind the inputs of the default seed.
+/// The sketches of the inputs of the default seed.
 #[derive(Drop)]
 struct Own {
     filled: ThetaSketch,
@@ -50,7 +50,7 @@ impl Own {
     }
 }
 
-/// The sketches behind the inputs of another seed.
+/// The sketches of the inputs of another seed.
 #[derive(Drop)]
 struct Others {
     filled: ThetaSketch,
@@ -67,7 +67,7 @@ impl Others {
     }
 }
 
-/// The sketches behind the inputs.
+/// The sketches of all inputs.
 #[derive(Drop)]
 struct Inputs {
     own: Own,
@@ -101,18 +101,18 @@ enum Call {
     Update(Input),
     Answer(bool),
     Lower(u8),
-    Tell,
+    Read,
     Reset,
 }
 
-/// What an operator has seen.
+/// The sketches that an operator has seen.
 #[derive(Clone, Copy, Debug)]
 enum Before {
     Nothing,
     Filled,
-    /// An empty sketch, behind another one.
+    /// An empty sketch, for an intersection after another one.
     Empty,
-    /// A sketch at which memory for more slots was refused.
+    /// A sketch for which memory was refused.
     Failure,
 }
 
@@ -120,7 +120,7 @@ const INVALID: Option<ErrorKind> = Some(ErrorKind::InvalidArgument);
 
 const FAILED: Option<ErrorKind> = Some(ErrorKind::Failed);
 
-/// Has a union see this.
+/// Updates a union with these sketches.
 fn prepare_union<'a>(
     heap: &'a Heap,
     union: &mut ThetaUnion<&'a Heap>,
@@ -149,7 +149,7 @@ fn call_union<'a>(
         Call::Update(input) => kind_of(union.update(inputs.view(input))),
         Call::Answer(ordered) => kind_of(union.to_sketch(ordered)),
         Call::Lower(lg_k) => kind_of(union.lower_lg_k(lg_k)),
-        Call::Tell => {
+        Call::Read => {
             let _size = union.estimated_size();
             None
         }
@@ -160,7 +160,7 @@ fn call_union<'a>(
     }
 }
 
-/// Why a call on a union that has seen this is refused, and how often it asks for memory, all of which is refused.
+/// Why a call on a union that has seen these sketches is refused if all memory is, and the number of its requests.
 fn asked_of_union(
     heap: &Heap,
     inputs: &Inputs,
@@ -196,7 +196,7 @@ fn assert_unions_ask_for_nothing(
         (Before::Filled, Call::Lower(5), None),
         (Before::Filled, Call::Lower(3), INVALID),
         (Before::Filled, Call::Lower(6), INVALID),
-        (Before::Filled, Call::Tell, None),
+        (Before::Filled, Call::Read, None),
         (Before::Filled, Call::Reset, None),
         (Before::Failure, Call::Lower(5), FAILED),
         (Before::Failure, Call::Lower(4), FAILED),
@@ -210,8 +210,8 @@ fn assert_unions_ask_for_nothing(
         (Before::Failure, Call::Reset, None),
     ];
     for (before, call, refusal) in cases {
-        let told = asked_of_union(heap, inputs, before, call)?;
-        assert_eq!(rt; told, (refusal, 0), "{call:?} after {before:?}");
+        let found = asked_of_union(heap, inputs, before, call)?;
+        assert_eq!(rt; found, (refusal, 0), "{call:?} after {before:?}");
     }
     Ok(())
 }
@@ -224,7 +224,7 @@ fn unions_ask_for_nothing(rt: HostRuntime) -> Result<(), Fail> {
     Ok(())
 }
 
-/// Has an intersection see this.
+/// Updates an intersection with these sketches.
 fn prepare_intersection<'a>(
     heap: &'a Heap,
     intersection: &mut ThetaIntersection<&'a Heap>,
@@ -254,14 +254,14 @@ fn call_intersection<'a>(
     match call {
         Call::Update(input) => kind_of(intersection.update(inputs.view(input))),
         Call::Answer(ordered) => kind_of(intersection.to_sketch(ordered)),
-        Call::Lower(_) | Call::Tell | Call::Reset => {
-            let _told = (intersection.has_result(), intersection.estimated_size());
+        Call::Lower(_) | Call::Read | Call::Reset => {
+            let _found = (intersection.has_result(), intersection.estimated_size());
             None
         }
     }
 }
 
-/// Why a call on an intersection that has seen this is refused, and how often it asks for memory, all of which is refused.
+/// Why a call on an intersection that has seen these sketches is refused if all memory is, and the number of its requests.
 fn asked_of_intersection(
     heap: &Heap,
     inputs: &Inputs,
@@ -293,15 +293,15 @@ fn assert_intersections_ask_for_nothing(
         (Before::Filled, Call::Update(Input::Compact), None),
         (Before::Filled, Call::Update(Input::OtherEmpty), None),
         (Before::Filled, Call::Update(Input::Other), INVALID),
-        (Before::Filled, Call::Tell, None),
+        (Before::Filled, Call::Read, None),
         (Before::Empty, Call::Update(Input::Filled), None),
         (Before::Empty, Call::Update(Input::Other), None),
         (Before::Empty, Call::Update(Input::Compact), None),
-        (Before::Empty, Call::Tell, None),
+        (Before::Empty, Call::Read, None),
     ];
     for (before, call, refusal) in cases {
-        let told = asked_of_intersection(heap, inputs, before, call)?;
-        assert_eq!(rt; told, (refusal, 0), "{call:?} after {before:?}");
+        let found = asked_of_intersection(heap, inputs, before, call)?;
+        assert_eq!(rt; found, (refusal, 0), "{call:?} after {before:?}");
     }
     Ok(())
 }
@@ -314,13 +314,13 @@ fn intersections_ask_for_nothing(rt: HostRuntime) -> Result<(), Fail> {
     Ok(())
 }
 
-/// Why an intersection of a seed is refused, and how often it asks for memory.
+/// Why an intersection of a seed is refused, and the number of its requests for memory.
 fn asked_of_seed(heap: &Heap, seed: u64) -> (Option<ErrorKind>, u64) {
     let kind = kind_of(ThetaIntersection::with_seed(heap, seed));
     (kind, heap.seen())
 }
 
-/// Why a difference is refused, and how often it asks for memory.
+/// Why a difference is refused, and the number of its requests for memory.
 fn asked_of_difference(
     heap: &Heap,
     inputs: &Inputs,
@@ -343,8 +343,8 @@ fn assert_differences_ask_for_nothing(
         (Input::Other, Input::Empty),
         (Input::Filled, Input::Other),
     ] {
-        let told = asked_of_difference(heap, inputs, a, b)?;
-        assert_eq!(rt; told, (INVALID, 0), "{a:?}, {b:?}");
+        let found = asked_of_difference(heap, inputs, a, b)?;
+        assert_eq!(rt; found, (INVALID, 0), "{a:?}, {b:?}");
     }
     Ok(())
 }

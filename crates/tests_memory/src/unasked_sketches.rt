@@ -1,4 +1,5 @@
-//! Calls on sketches, and on what they lend, that take no memory: each is made while all memory is refused, and asks for none.
+//! Calls on sketches, their views and iterators that need no memory: each is made while all memory is refused, and
+//! requests none.
 
 use refusing_allocator::{Refusal, Refusing};
 use sketch_base::{Error, SketchBytes};
@@ -13,19 +14,19 @@ enum Call {
     Update(u64),
     Value(&'static str),
     Trim,
-    Tell,
+    Read,
     Iterate,
     View,
     Reset,
 }
 
-/// Makes a call, and answers a number that it came to.
+/// Makes a call, and returns a number from its answer, or the number of retained entries.
 fn make<'a>(sketch: &mut ThetaSketch<&'a Heap>, call: Call) -> Result<usize, Error> {
     match call {
         Call::Update(hash) => sketch.update_hash(hash)?,
         Call::Value(text) => sketch.update(text)?,
         Call::Trim => sketch.trim()?,
-        Call::Tell => {
+        Call::Read => {
             let _flags = (sketch.is_empty(), sketch.is_estimation_mode());
             let _numbers = (sketch.theta64(), sketch.lg_k(), sketch.seed_hash());
             let _fraction = sketch.estimate_fraction();
@@ -38,7 +39,7 @@ fn make<'a>(sketch: &mut ThetaSketch<&'a Heap>, call: Call) -> Result<usize, Err
     Ok(sketch.num_retained())
 }
 
-/// How many entries a sketch lends.
+/// The number of entries that a sketch's iterator returns.
 fn lent_by<'a>(sketch: &ThetaSketch<&'a Heap>) -> usize {
     let mut lent = 0usize;
     for _entry in sketch.iter() {
@@ -47,7 +48,7 @@ fn lent_by<'a>(sketch: &ThetaSketch<&'a Heap>) -> usize {
     lent
 }
 
-/// How many entries a view lends, in all three ways together.
+/// The number of entries of a view, summed over its three iterators.
 fn seen_through<'a>(view: ThetaSketchView<'_, &'a Heap>) -> usize {
     let _flags = (view.is_empty(), view.is_ordered());
     let _numbers = (view.theta64(), view.seed_hash(), view.num_retained());
@@ -58,7 +59,7 @@ fn seen_through<'a>(view: ThetaSketchView<'_, &'a Heap>) -> usize {
         .saturating_add(view.iter().count())
 }
 
-/// How many entries a compact sketch and its view lend.
+/// The number of entries of a compact sketch and of its view, summed over their iterators.
 fn seen_in<'a>(sketch: &CompactThetaSketch<&'a Heap>) -> usize {
     let _flags = (
         sketch.is_empty(),
@@ -72,7 +73,7 @@ fn seen_in<'a>(sketch: &CompactThetaSketch<&'a Heap>) -> usize {
     lent.saturating_add(sketch.iter().count())
 }
 
-/// A sketch that was given the hashes from 1 to a last.
+/// A sketch updated with the hashes from 1 to a last.
 fn sketch_to<'a>(heap: &'a Heap, last: u64) -> Result<ThetaSketch<&'a Heap>, Error> {
     let mut sketch = ThetaSketchBuilder::default().lg_k(5).build(heap)?;
     for hash in 1..=last {
@@ -81,14 +82,14 @@ fn sketch_to<'a>(heap: &'a Heap, last: u64) -> Result<ThetaSketch<&'a Heap>, Err
     Ok(sketch)
 }
 
-/// What a call comes to, or nothing where it is refused, and how often memory was asked for.
+/// The number that a call returns, or `None` if it is refused; and the number of requests for memory so far.
 fn asked<'a>(
     heap: &'a Heap,
     sketch: &mut ThetaSketch<&'a Heap>,
     call: Call,
 ) -> (Option<usize>, u64) {
-    let told = make(sketch, call).ok();
-    (told, heap.seen())
+    let found = make(sketch, call).ok();
+    (found, heap.seen())
 }
 
 #[test]
@@ -96,7 +97,7 @@ fn sketches_ask_for_nothing(rt: HostRuntime) -> Result<(), Fail> {
     let heap = Refusing::new(rt.alloc());
     let mut sketch = sketch_to(&heap, 30)?;
     sketch.update("apple")?;
-    // A call, and what it comes to.
+    // A call, and the number that it returns.
     let calls = [
         (Call::Update(0), 31),
         (Call::Update(MAX_THETA), 31),
@@ -104,7 +105,7 @@ fn sketches_ask_for_nothing(rt: HostRuntime) -> Result<(), Fail> {
         (Call::Update(30), 31),
         (Call::Value("apple"), 31),
         (Call::Trim, 31),
-        (Call::Tell, 512),
+        (Call::Read, 512),
         (Call::Iterate, 31),
         (Call::View, 93),
         (Call::Reset, 0),
@@ -113,8 +114,8 @@ fn sketches_ask_for_nothing(rt: HostRuntime) -> Result<(), Fail> {
     ];
     heap.restart(Refusal::From(0));
     for (call, wanted) in calls {
-        let told = asked(&heap, &mut sketch, call);
-        assert_eq!(rt; told, (Some(wanted), 0), "{call:?}");
+        let found = asked(&heap, &mut sketch, call);
+        assert_eq!(rt; found, (Some(wanted), 0), "{call:?}");
     }
     Ok(())
 }
@@ -124,20 +125,20 @@ fn sketches_below_a_theta_ask_for_nothing(rt: HostRuntime) -> Result<(), Fail> {
     let heap = Refusing::new(rt.alloc());
     let mut sketch = sketch_to(&heap, 61)?;
     let compact = sketch.compact(false)?;
-    // A call, and what it comes to.
+    // A call, and the number that it returns.
     let calls = [
         (Call::Update(33), 32),
         (Call::Update(34), 32),
         (Call::Update(32), 32),
         (Call::Update(1), 32),
         (Call::Trim, 32),
-        (Call::Tell, 512),
+        (Call::Read, 512),
         (Call::View, 96),
     ];
     heap.restart(Refusal::From(0));
     for (call, wanted) in calls {
-        let told = asked(&heap, &mut sketch, call);
-        assert_eq!(rt; told, (Some(wanted), 0), "{call:?}");
+        let found = asked(&heap, &mut sketch, call);
+        assert_eq!(rt; found, (Some(wanted), 0), "{call:?}");
     }
     assert_eq!(rt; (seen_in(&compact), heap.seen()), (128, 0));
     Ok(())

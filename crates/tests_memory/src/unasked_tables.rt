@@ -1,5 +1,5 @@
-//! Calls on tables, their entries and compact states that take no memory: each is made while all memory is refused, and asks
-//! for none.
+//! Calls on tables, their entries and compact states that need no memory: each is made while all memory is refused, and
+//! requests none.
 
 use refusing_allocator::{Refusal, Refusing};
 use sketch_base::{Error, ErrorKind, compute_seed_hash};
@@ -9,13 +9,13 @@ use theta_core::{
     CompactSketchState, EntryIter, HashIter, MAX_THETA, ResizeFactor, ThetaEntry, ThetaHashTable,
 };
 
-/// A call on a table that holds the hash of "apple".
+/// A call on a table with the hash of "apple".
 #[derive(Clone, Copy, Debug)]
 enum Call {
     Insert(u64),
     Value(&'static str),
     Trim,
-    Tell,
+    Read,
     Look(u64),
     Hash(&'static str),
     Entries,
@@ -25,7 +25,7 @@ enum Call {
     Reset,
 }
 
-/// Makes a call, and answers a number that it came to.
+/// Makes a call, and returns a number from its answer, or the number of retained entries.
 fn make<'a>(table: &mut ThetaHashTable<&'a Heap>, call: Call) -> Result<usize, Error> {
     match call {
         Call::Insert(hash) => {
@@ -39,7 +39,7 @@ fn make<'a>(table: &mut ThetaHashTable<&'a Heap>, call: Call) -> Result<usize, E
             }
         }
         Call::Trim => table.trim()?,
-        Call::Tell => {
+        Call::Read => {
             let _ = (table.seed(), table.seed_hash(), table.lg_nom_size());
             let _ = table.allocator().seen();
             return Ok(table.estimated_size());
@@ -63,7 +63,7 @@ fn make<'a>(table: &mut ThetaHashTable<&'a Heap>, call: Call) -> Result<usize, E
     Ok(table.num_retained())
 }
 
-/// How many entries its iterator gives.
+/// The number of entries that a table's iterator returns.
 fn entries_in<'a>(table: &ThetaHashTable<&'a Heap>) -> usize {
     let mut seen = 0usize;
     for _entry in table.iter_entries() {
@@ -72,7 +72,7 @@ fn entries_in<'a>(table: &ThetaHashTable<&'a Heap>) -> usize {
     seen
 }
 
-/// How many entries it lends.
+/// The number of entries in an `EntryIter` of a table.
 fn lent_by<'a>(table: &ThetaHashTable<&'a Heap>) -> usize {
     let mut seen = 0usize;
     for _entry in EntryIter::of_table(table) {
@@ -81,7 +81,7 @@ fn lent_by<'a>(table: &ThetaHashTable<&'a Heap>) -> usize {
     seen
 }
 
-/// How many hashes it lends.
+/// The number of hashes in a `HashIter` of a table.
 fn hashes_in<'a>(table: &ThetaHashTable<&'a Heap>) -> usize {
     let mut seen = 0usize;
     for _hash in HashIter::new(EntryIter::of_table(table)) {
@@ -101,14 +101,14 @@ fn table_of_two<'a>(heap: &'a Heap) -> Result<ThetaHashTable<&'a Heap>, Error> {
     Ok(table)
 }
 
-/// What a call comes to, or nothing where it is refused, and how often memory was asked for.
+/// The number that a call returns, or `None` if it is refused; and the number of requests for memory so far.
 fn asked<'a>(
     heap: &'a Heap,
     table: &mut ThetaHashTable<&'a Heap>,
     call: Call,
 ) -> (Option<usize>, u64) {
-    let told = make(table, call).ok();
-    (told, heap.seen())
+    let found = make(table, call).ok();
+    (found, heap.seen())
 }
 
 #[test]
@@ -116,7 +116,7 @@ fn tables_ask_for_nothing(rt: HostRuntime) -> Result<(), Fail> {
     let heap = Refusing::new(rt.alloc());
     let mut table = table_of_two(&heap)?;
     let apple = table.hash("apple");
-    // A call, and what it comes to.
+    // A call, and the number that it returns.
     let calls = [
         (Call::Insert(0), 2),
         (Call::Insert(MAX_THETA), 2),
@@ -124,7 +124,7 @@ fn tables_ask_for_nothing(rt: HostRuntime) -> Result<(), Fail> {
         (Call::Insert(apple), 2),
         (Call::Value("apple"), 2),
         (Call::Trim, 2),
-        (Call::Tell, 512),
+        (Call::Read, 512),
         (Call::Look(apple), 1),
         (Call::Look(5), 0),
         (Call::Hash("cherry"), 0),
@@ -137,8 +137,8 @@ fn tables_ask_for_nothing(rt: HostRuntime) -> Result<(), Fail> {
     ];
     heap.restart(Refusal::From(0));
     for (call, wanted) in calls {
-        let told = asked(&heap, &mut table, call);
-        assert_eq!(rt; told, (Some(wanted), 0), "{call:?}");
+        let found = asked(&heap, &mut table, call);
+        assert_eq!(rt; found, (Some(wanted), 0), "{call:?}");
     }
     Ok(())
 }
@@ -146,13 +146,13 @@ fn tables_ask_for_nothing(rt: HostRuntime) -> Result<(), Fail> {
 /// A constructor of a table or of a compact state.
 #[derive(Clone, Copy, Debug)]
 enum Constructor {
-    /// Of a nominal logarithm, a starting theta and a seed.
+    /// With a nominal logarithm, a starting theta and a seed.
     Table(u8, u64, u64),
     WithoutSlots,
     EmptyState,
 }
 
-/// Makes it, and answers why it is refused.
+/// Calls a constructor, and returns why it is refused.
 fn made(heap: &Heap, constructor: Constructor) -> Option<ErrorKind> {
     match constructor {
         Constructor::Table(lg_k, start, seed) => {
@@ -168,13 +168,13 @@ fn made(heap: &Heap, constructor: Constructor) -> Option<ErrorKind> {
         }
         Constructor::EmptyState => {
             let state: CompactSketchState<ThetaEntry, _> = CompactSketchState::empty(heap, 5);
-            told_of(&state)
+            read_all(&state)
         }
     }
 }
 
 /// Reads a state by all its accessors.
-fn told_of<'a>(state: &CompactSketchState<ThetaEntry, &'a Heap>) -> Option<ErrorKind> {
+fn read_all<'a>(state: &CompactSketchState<ThetaEntry, &'a Heap>) -> Option<ErrorKind> {
     let _flags = (
         state.is_empty(),
         state.is_estimation_mode(),

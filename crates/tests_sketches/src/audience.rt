@@ -17,7 +17,7 @@ fn visitors(alloc: Global, hashes: &[u64]) -> Result<ThetaSketch, Error> {
     Ok(sketch)
 }
 
-/// Who was seen in A or B.
+/// The visitors of A or B.
 fn either(alloc: Global) -> Result<CompactThetaSketch, Error> {
     let mut either = ThetaUnionBuilder::default().build(alloc)?;
     add(&mut either, visitors(alloc, &[11, 12, 13])?)?;
@@ -25,7 +25,7 @@ fn either(alloc: Global) -> Result<CompactThetaSketch, Error> {
     either.to_sketch(false)
 }
 
-/// Who was seen in A or B, but not in C.
+/// The visitors of A or B, but not of C.
 fn audience(alloc: Global) -> Result<CompactThetaSketch, Error> {
     let either = either(alloc)?;
     without_c(alloc, either.as_view())
@@ -36,8 +36,8 @@ fn without_c(alloc: Global, either: ThetaSketchView<'_>) -> Result<CompactThetaS
     ThetaANotB::default()?.compute(alloc, either, c.as_view(), true)
 }
 
-/// The hashes of an audience, and how many they are as an exact fraction.
-fn told(alloc: Global) -> Result<(Vec<u64>, (u128, u128)), Error> {
+/// The hashes of an audience, and its estimate as an exact fraction.
+fn found(alloc: Global) -> Result<(Vec<u64>, (u128, u128)), Error> {
     let answer = audience(alloc)?;
     let fraction = answer.estimate_fraction();
     Ok((ascending(alloc, answer.iter())?, fraction))
@@ -45,8 +45,8 @@ fn told(alloc: Global) -> Result<(Vec<u64>, (u128, u128)), Error> {
 
 #[test]
 fn audience_example(rt: HostRuntime) -> Result<(), Fail> {
-    let told = told(rt.alloc())?;
-    assert_eq!(rt; told.0.as_slice(), [11, 13, 14].as_slice());
-    assert_eq!(rt; told.1, (27670116110564327421, 9223372036854775807));
+    let found = found(rt.alloc())?;
+    assert_eq!(rt; found.0.as_slice(), [11, 13, 14].as_slice());
+    assert_eq!(rt; found.1, (27670116110564327421, 9223372036854775807));
     Ok(())
 }

@@ -1,4 +1,4 @@
-//! What tests share: sketches and tables of rows from outside, and memory that is refused.
+//! Helpers for all tests: sketches, values from outside, and memory that is refused.
 
 use refusing_allocator::Refusing;
 use sketch_base::{Error, ErrorKind};
@@ -7,7 +7,7 @@ use theta_sketches::{
     CompactThetaSketch, ThetaSketch, ThetaSketchBuilder, ThetaSketchIter, ThetaUnion,
 };
 
-/// Memory whose requests are counted, and refused where a test wants.
+/// Memory whose requests are counted, and refused if a test wants that.
 pub type Heap = Refusing<Global>;
 
 /// Why a call was refused.
@@ -31,7 +31,7 @@ pub fn numbers(alloc: Global, first: u64, last: u64) -> Result<Vec<u64>, AllocEr
     Ok(numbers)
 }
 
-/// A sketch of 32 nominal entries that was given the hashes from the first to the last.
+/// A sketch of 32 nominal entries, updated with the hashes from the first to the last.
 pub fn sketch_of(alloc: Global, seed: u64, first: u64, last: u64) -> Result<ThetaSketch, Error> {
     let builder = ThetaSketchBuilder::default().lg_k(5).seed(seed);
     let mut sketch = builder.build(alloc)?;
@@ -41,7 +41,8 @@ pub fn sketch_of(alloc: Global, seed: u64, first: u64, last: u64) -> Result<Thet
     Ok(sketch)
 }
 
-/// The compact form of a sketch of the default seed, of 32 nominal entries, that was given the hashes from the first to the last.
+/// The compact form of a sketch of the default seed and 32 nominal entries, updated with the hashes from the first to
+/// the last.
 pub fn compact_of(
     alloc: Global,
     first: u64,
@@ -70,8 +71,8 @@ pub fn value_between(
     Ok((empty, theta, numbers(alloc, first, last)?))
 }
 
-/// Hashes in no order, `count` of them, of which at most `distinct` are different. The first is 0, and the second is more than
-/// any hash.
+/// `count` hashes in no order, at most `distinct` of them different. The first is 0, and the second is above every
+/// possible hash.
 pub fn mixed_hashes(alloc: Global, count: u64, distinct: u64) -> Result<Vec<u64>, AllocError> {
     let mut hashes = Vec::new(alloc);
     for number in 0..count {
@@ -82,13 +83,13 @@ pub fn mixed_hashes(alloc: Global, count: u64, distinct: u64) -> Result<Vec<u64>
     Ok(hashes)
 }
 
-/// The emptiness, theta and hashes of a sketch that takes updates.
+/// The emptiness, theta and hashes of an updatable sketch.
 pub fn shown_of<A: Allocator>(alloc: Global, sketch: &ThetaSketch<A>) -> Result<Value, AllocError> {
     let hashes = ascending(alloc, sketch.iter())?;
     Ok((sketch.is_empty(), sketch.theta64(), hashes))
 }
 
-/// What a sketch of 2^`lg_k` nominal entries is after hashes, with one call for each.
+/// The value of a sketch of 2^`lg_k` nominal entries after hashes, with one call for each.
 pub fn after_each(alloc: Global, lg_k: u8, hashes: &[u64]) -> Result<Value, Error> {
     let mut sketch = ThetaSketchBuilder::default().lg_k(lg_k).build(alloc)?;
     for hash in hashes {
@@ -106,7 +107,7 @@ pub fn value_of<A: Allocator>(
     Ok((sketch.is_empty(), sketch.theta64(), hashes))
 }
 
-/// The bytes that a text of hexadecimal digits and spaces tells.
+/// The bytes that a text of hexadecimal digits and spaces spells.
 pub fn bytes_of(alloc: Global, text: &str) -> Result<Vec<u8>, AllocError> {
     let mut bytes = Vec::new(alloc);
     let mut high = None;

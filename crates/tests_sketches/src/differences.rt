@@ -7,7 +7,7 @@ use std::test::Fail;
 use theta_core::{MAX_THETA, SketchEntry, a_not_b};
 use theta_sketches::{ThetaANotB, ThetaSketch, ThetaSketchBuilder, ThetaSketchView};
 
-/// The emptiness, theta and hashes, ascending, of what is left of one view without another's hashes, and whether it is ordered.
+/// The value of the difference of two views, and whether it is ordered.
 fn left_of(
     alloc: Global,
     a: ThetaSketchView<'_>,
@@ -18,7 +18,7 @@ fn left_of(
     Ok((value_of(alloc, &answer)?, answer.is_ordered()))
 }
 
-/// The hashes of a difference whose second sketch is read by its hashes alone.
+/// The hashes of a difference that reads only the hashes of the second sketch.
 fn left_by_hashes(
     alloc: Global,
     a: ThetaSketchView<'_>,
@@ -41,7 +41,7 @@ fn differences_need_hashes_alone(rt: HostRuntime) -> Result<(), Fail> {
     Ok(())
 }
 
-/// What is left of a view without the hashes from a first to a last, lent by a sketch or by its ordered compact form.
+/// The difference of a view and the hashes from a first to a last, in a sketch or in its ordered compact form.
 fn left_without(
     alloc: Global,
     a: ThetaSketchView<'_>,
@@ -57,13 +57,13 @@ fn left_without(
     left_of(alloc, a, b.as_view(), asked)
 }
 
-/// The hashes of both, and then emptiness, theta and the hashes that are left.
+/// The hashes of both, then the emptiness, theta and hashes of the difference.
 type Row = ((u64, u64), (u64, u64), bool, u64, (u64, u64));
 
-/// Whether each sketch is lent as its ordered compact form, and whether order is asked.
+/// Whether each sketch is passed as its ordered compact form, and whether order is requested.
 type Way = (bool, bool, bool);
 
-/// What is left, and whether it is ordered.
+/// The difference, and whether it is ordered.
 fn left_in(alloc: Global, row: Row, way: Way) -> Result<(Value, bool), Error> {
     let ((first, last), b, ..) = row;
     let (ordered, compact, asked) = way;
@@ -75,7 +75,7 @@ fn left_in(alloc: Global, row: Row, way: Way) -> Result<(Value, bool), Error> {
     left_without(alloc, a.as_view(), b, compact, asked)
 }
 
-/// What is to be left, and whether it is to be ordered.
+/// The difference that is wanted, and whether it must be ordered.
 fn wanted_in(alloc: Global, row: Row, way: Way) -> Result<(Value, bool), AllocError> {
     let (_, _, empty, theta, (from, to)) = row;
     let (ordered, _, asked) = way;
@@ -117,7 +117,7 @@ fn differences_keep_what_the_other_lacks(rt: HostRuntime) -> Result<(), Fail> {
     Ok(())
 }
 
-/// Whether what a difference of seed 123 leaves of one view without another's hashes has the seed hash of the one view.
+/// Whether a difference of seed 123 has the seed hash of the first view.
 fn keeps_seed_hash(
     alloc: Global,
     a: ThetaSketchView<'_>,
@@ -127,8 +127,8 @@ fn keeps_seed_hash(
     Ok(left.seed_hash() == a.seed_hash())
 }
 
-/// Why the difference is refused of sketches of a seed that have the hashes from 1 to a last; and, where it is not, whether it
-/// keeps the seed hash.
+/// Why a difference of two sketches is refused, each with a seed and the hashes from 1 to a last; if it isn't refused,
+/// whether it keeps the seed hash.
 fn refused(
     alloc: Global,
     (seed, last): (u64, u64),
@@ -163,8 +163,8 @@ fn differences_want_one_seed(rt: HostRuntime) -> Result<(), Fail> {
         ((123, 9), (9001, 0), None),
     ];
     for (a, b, kind) in cases {
-        let told = refused(rt.alloc(), a, b)?;
-        assert_eq!(rt; told, (kind, true), "of {a:?} and {b:?}");
+        let found = refused(rt.alloc(), a, b)?;
+        assert_eq!(rt; found, (kind, true), "of {a:?} and {b:?}");
     }
     assert_eq!(rt; kind_of(ThetaANotB::with_seed(50541)), refusal);
     Ok(())
@@ -178,7 +178,7 @@ fn words(alloc: Global, words: &[&str]) -> Result<ThetaSketch, Error> {
     Ok(sketch)
 }
 
-/// How many words are left of a view's without "banana".
+/// The number of words of a view other than "banana".
 fn left_without_banana(alloc: Global, a: ThetaSketchView<'_>) -> Result<usize, Error> {
     let b = words(alloc, &["banana"])?;
     let answer = ThetaANotB::default()?.compute(alloc, a, b.as_view(), true)?;
@@ -204,7 +204,7 @@ fn two_below_four(alloc: Global) -> Result<ThetaSketch, Error> {
     Ok(sketch)
 }
 
-/// What is left of the hashes 1 to 5 without the hash 2, below the theta 4.
+/// The difference of the hashes 1 to 5 and the hash 2, below the theta 4.
 fn left_below_four(alloc: Global, asked: bool) -> Result<Value, Error> {
     let a = sketch_of(alloc, 9001, 1, 5)?;
     without_two(alloc, a.as_view(), asked)
@@ -219,8 +219,8 @@ fn without_two(alloc: Global, a: ThetaSketchView<'_>, asked: bool) -> Result<Val
 fn differences_are_cut_at_the_lesser_theta(rt: HostRuntime) -> Result<(), Fail> {
     for asked in [false, true] {
         let value = left_below_four(rt.alloc(), asked)?;
-        let told = (value.0, value.1, value.2.as_slice());
-        assert_eq!(rt; told, (false, 4, [1, 3].as_slice()), "asked {asked}");
+        let found = (value.0, value.1, value.2.as_slice());
+        assert_eq!(rt; found, (false, 4, [1, 3].as_slice()), "asked {asked}");
     }
     Ok(())
 }

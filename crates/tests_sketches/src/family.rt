@@ -8,7 +8,7 @@ use std::alloc::Global;
 use std::test::Fail;
 use theta_core::{MAX_THETA, ThetaEntry, UpsertStep};
 
-/// The step that makes the entry of hash 7, and leaves one that is there.
+/// The step that makes the entry of hash 7, and doesn't change an existing one.
 #[derive(Clone, Copy)]
 struct Seven;
 
@@ -51,8 +51,8 @@ fn sevens(alloc: Global) -> Result<UpdatableState<ThetaEntry>, Error> {
     Ok(state)
 }
 
-/// Whether that state is empty, how many entries it has, how many its compact state has, and its estimate.
-fn told(alloc: Global) -> Result<((bool, usize, usize), String), Error> {
+/// Whether the state of `sevens` is empty, the number of its entries, that of its compact state, and its estimate.
+fn found(alloc: Global) -> Result<((bool, usize, usize), String), Error> {
     let state = sevens(alloc)?;
     let compacted = state.compact(true)?.retained_entries().len();
     let numbers = (state.is_empty(), state.num_retained(), compacted);
@@ -61,8 +61,8 @@ fn told(alloc: Global) -> Result<((bool, usize, usize), String), Error> {
 
 #[test]
 fn a_step_makes_one_entry(rt: HostRuntime) -> Result<(), Fail> {
-    let told = told(rt.alloc())?;
-    assert_eq!(rt; told.0, (false, 1, 1));
-    assert_eq!(rt; told.1.as_str(), "1.00");
+    let found = found(rt.alloc())?;
+    assert_eq!(rt; found.0, (false, 1, 1));
+    assert_eq!(rt; found.1.as_str(), "1.00");
     Ok(())
 }

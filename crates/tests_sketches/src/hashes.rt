@@ -22,7 +22,7 @@ fn in_table(alloc: Global, seed: u64, text: &str) -> Result<(u64, bool), Error> 
     Ok((table.hash(text), is_new))
 }
 
-/// The first hash of a sketch that was given a text, and how many it has.
+/// The first hash of a sketch that was updated with a text, and the number of its hashes.
 fn in_sketch(alloc: Global, seed: u64, text: &str) -> Result<(Option<u64>, usize), Error> {
     let mut sketch = ThetaSketchBuilder::default().seed(seed).build(alloc)?;
     sketch.update(text)?;
@@ -30,7 +30,7 @@ fn in_sketch(alloc: Global, seed: u64, text: &str) -> Result<(Option<u64>, usize
     Ok((first, sketch.num_retained()))
 }
 
-/// What a table and what a sketch has of a text.
+/// The hash of a text in a table and in a sketch, as `in_table` and `in_sketch` return it.
 type Hashed = ((u64, bool), (Option<u64>, usize));
 
 fn hashed(alloc: Global, seed: u64, text: &str) -> Result<Hashed, Error> {
@@ -75,7 +75,7 @@ fn tuesday(alloc: Global) -> Result<ThetaSketch, Error> {
     Ok(tuesday)
 }
 
-/// How many distinct values were seen on either day, as an exact fraction.
+/// The number of distinct values seen on either day, as an exact fraction.
 fn seen_on_both_days(alloc: Global) -> Result<(u128, u128), Error> {
     let mut both = ThetaUnionBuilder::default().build(alloc)?;
     add(&mut both, monday(alloc)?)?;

@@ -7,7 +7,7 @@ use std::test::Fail;
 use theta_core::{MAX_THETA, ThetaHashTable};
 use theta_sketches::{ThetaIntersection, ThetaSketch, ThetaSketchBuilder};
 
-/// The hashes from a first to a last, or, where a start is given, the first alone below that start.
+/// The hashes from a first to a last; or, if there is a start, the first hash alone, with that start.
 type Part = (u64, u64, Option<u64>);
 
 fn part_of(alloc: Global, part: &Part) -> Result<ThetaSketch, Error> {
@@ -44,7 +44,7 @@ fn met(alloc: Global, parts: &[Part], compact: bool) -> Result<ThetaIntersection
     Ok(intersection)
 }
 
-/// Its emptiness, theta and hashes, ascending, once it has seen a sketch.
+/// The value of an intersection, once it has seen a sketch.
 fn value_in(alloc: Global, intersection: &ThetaIntersection) -> Result<Option<Value>, Error> {
     match intersection.to_sketch(true)? {
         Some(answer) => Ok(Some(value_of(alloc, &answer)?)),
@@ -52,7 +52,7 @@ fn value_in(alloc: Global, intersection: &ThetaIntersection) -> Result<Option<Va
     }
 }
 
-/// Whether an answer is ordered, order asked or not.
+/// Whether an answer is ordered, with or without a requested order.
 fn is_ordered(intersection: &ThetaIntersection, asked: bool) -> Result<Option<bool>, Error> {
     match intersection.to_sketch(asked)? {
         Some(answer) => Ok(Some(answer.is_ordered())),
@@ -60,11 +60,11 @@ fn is_ordered(intersection: &ThetaIntersection, asked: bool) -> Result<Option<bo
     }
 }
 
-/// What an intersection holds, whether its answers are ordered where that is not asked and where it is, and whether it has
-/// one.
-type Told = (Option<Value>, [Option<bool>; 2], bool);
+/// The value of an intersection, whether its answers are ordered without and with a requested order, and whether it has
+/// a result.
+type Found = (Option<Value>, [Option<bool>; 2], bool);
 
-fn told_of(alloc: Global, intersection: &ThetaIntersection) -> Result<Told, Error> {
+fn found_in(alloc: Global, intersection: &ThetaIntersection) -> Result<Found, Error> {
     let orders = [
         is_ordered(intersection, false)?,
         is_ordered(intersection, true)?,
@@ -73,15 +73,15 @@ fn told_of(alloc: Global, intersection: &ThetaIntersection) -> Result<Told, Erro
     Ok((value, orders, intersection.has_result()))
 }
 
-fn told_in(alloc: Global, parts: &[Part], compact: bool) -> Result<Told, Error> {
+fn found_after(alloc: Global, parts: &[Part], compact: bool) -> Result<Found, Error> {
     let intersection = met(alloc, parts, compact)?;
-    told_of(alloc, &intersection)
+    found_in(alloc, &intersection)
 }
 
-/// The parts, and then emptiness, theta and the hashes.
+/// The parts, then emptiness, theta and the hashes.
 type Row<'a> = (&'a [Part], bool, u64, (u64, u64));
 
-fn wanted_in(alloc: Global, row: Row<'_>) -> Result<Told, AllocError> {
+fn wanted_in(alloc: Global, row: Row<'_>) -> Result<Found, AllocError> {
     let (_, empty, theta, (first, last)) = row;
     let one = first == last && theta == MAX_THETA;
     let value = value_between(alloc, empty, theta, (first, last))?;
@@ -126,9 +126,9 @@ fn intersections_keep_what_all_share(rt: HostRuntime) -> Result<(), Fail> {
     ];
     for row in rows {
         for compact in [false, true] {
-            let told = told_in(rt.alloc(), row.0, compact)?;
+            let found = found_after(rt.alloc(), row.0, compact)?;
             let wanted = wanted_in(rt.alloc(), row)?;
-            assert_eq!(rt; told, wanted, "of {row:?}, {compact}");
+            assert_eq!(rt; found, wanted, "of {row:?}, {compact}");
         }
     }
     Ok(())
@@ -143,8 +143,8 @@ fn refusal_of_another(
     Ok(kind_of(intersection.update(other.as_view())))
 }
 
-/// The refusal of a sketch of another seed by an intersection of parts, whether it has a result then, and its value before and
-/// after.
+/// Why an intersection of parts refuses a sketch of another seed, whether it has a result then, and its value before
+/// and after.
 type Refused = ((Option<ErrorKind>, bool), Option<Value>, Option<Value>);
 
 fn refused_after(alloc: Global, parts: &[Part]) -> Result<Refused, Error> {
@@ -161,16 +161,16 @@ fn refused_by(alloc: Global, intersection: &mut ThetaIntersection) -> Result<Ref
 
 #[test]
 fn intersections_want_one_seed(rt: HostRuntime) -> Result<(), Fail> {
-    // The parts before, the refusal of a sketch of another seed, and whether there is a value then.
+    // The parts before, the refusal of a sketch of another seed, and whether there is a result then.
     let cases: [(&[Part], Option<ErrorKind>, bool); 3] = [
         (&[], Some(ErrorKind::InvalidArgument), false),
         (&[(1, 9, None)], Some(ErrorKind::InvalidArgument), true),
         (&[(1, 0, None)], None, true),
     ];
     for (parts, refusal, begun) in cases {
-        let told = refused_after(rt.alloc(), parts)?;
-        assert_eq!(rt; told.0, (refusal, begun), "after {parts:?}");
-        assert_eq!(rt; told.1, told.2, "after {parts:?}");
+        let found = refused_after(rt.alloc(), parts)?;
+        assert_eq!(rt; found.0, (refusal, begun), "after {parts:?}");
+        assert_eq!(rt; found.1, found.2, "after {parts:?}");
     }
     let kind = kind_of(ThetaIntersection::with_seed(rt.alloc(), 50541));
     assert_eq!(rt; kind, Some(ErrorKind::InvalidArgument));

@@ -1,4 +1,4 @@
-//! Tests over the public calls of the theta sketches, with values from outside. Beside them stands what tests share.
+//! Tests over the public calls of the theta sketches, with values from outside. `common` has helpers for all tests.
 #![tactic(auto)]
 
 #[cfg(test)]

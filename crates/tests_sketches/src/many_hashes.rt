@@ -1,4 +1,4 @@
-//! Many hashes handed over at once, beside one call for each.
+//! Many hashes passed in one call, against one call for each.
 
 use crate::common::{Value, after_each, mixed_hashes, shown_of};
 use sketch_base::Error;
@@ -6,7 +6,7 @@ use std::alloc::Global;
 use std::test::Fail;
 use theta_sketches::ThetaSketchBuilder;
 
-/// What a sketch is after hashes that are handed over in parts of so many.
+/// The value of a sketch after hashes that are passed in parts of `part` hashes.
 fn after_parts(alloc: Global, lg_k: u8, hashes: &[u64], part: usize) -> Result<Value, Error> {
     let mut sketch = ThetaSketchBuilder::default().lg_k(lg_k).build(alloc)?;
     for some in hashes.chunks(part.max(1)) {
@@ -16,7 +16,7 @@ fn after_parts(alloc: Global, lg_k: u8, hashes: &[u64], part: usize) -> Result<V
     Ok(shown_of(alloc, &sketch)?)
 }
 
-/// What a sketch is after so many mixed hashes in parts, and after each by itself.
+/// The value of a sketch after mixed hashes in parts, and after one call for each.
 fn both(
     alloc: Global,
     lg_k: u8,
@@ -30,8 +30,8 @@ fn both(
     ))
 }
 
-/// The nominal logarithm, how many hashes and how many of them are different, how many are handed over at once, and how many
-/// are retained, at least and at most.
+/// The nominal logarithm, the number of hashes and of distinct ones, the number passed at once, and the least and the
+/// greatest number that may be retained.
 type Row = (u8, (u64, u64), usize, usize, usize);
 
 #[test]

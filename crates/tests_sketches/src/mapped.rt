@@ -1,4 +1,4 @@
-//! Entries of a compact state made into others by a closure that captures a value.
+//! Entries of a compact state, mapped by a closure that captures a value.
 ghost use Rattle.std.specs.Prelude.{◌≡◌, IfOk, map};
 
 use sketch_base::{Error, ErrorKind};
@@ -8,7 +8,7 @@ use theta_core::{
     CompactSketchState, MAX_THETA, ResizeFactor, ThetaEntry, ThetaHashTable, TupleEntry,
 };
 
-/// Each hash with a mark for its summary, which the closure captures: its contract tells that every entry has it.
+/// Each hash with a mark for its summary, which the closure captures. By the contract every entry has it.
 fn mark_all<A: Allocator + Clone + Drop>(
     state: CompactSketchState<ThetaEntry, A>,
     mark: u64,
@@ -29,7 +29,7 @@ fn nine(alloc: Global) -> Result<ThetaHashTable, Error> {
     Ok(table)
 }
 
-/// Its ordered compact state, each hash with the mark 7.
+/// The ordered compact state of `nine`, each hash with the mark 7.
 fn nine_marked(alloc: Global) -> Result<CompactSketchState<TupleEntry<u64>>, Error> {
     let table = nine(alloc)?;
     if table.num_retained() < 4294967296 {

@@ -1,4 +1,4 @@
-//! A sketch beside a plain table that is given the same hashes.
+//! A sketch against a plain table with the same hashes.
 
 use crate::common::ascending;
 use sketch_base::Error;
@@ -9,10 +9,10 @@ use theta_sketches::ThetaSketchBuilder;
 use theta_tables::{PlainTable, TableCommand, ThetaTable, run_table};
 
 /// A count, theta and the hashes, ascending.
-type Told = (usize, u64, Vec<u64>);
+type Found = (usize, u64, Vec<u64>);
 
-/// What a sketch of 32 nominal entries tells after updates with these hashes.
-fn told_by_a_sketch(alloc: Global, hashes: &[u64]) -> Result<Told, Error> {
+/// The count, theta and hashes of a sketch of 32 nominal entries after updates with these hashes.
+fn found_in_a_sketch(alloc: Global, hashes: &[u64]) -> Result<Found, Error> {
     let mut sketch = ThetaSketchBuilder::default().lg_k(5).build(alloc)?;
     for hash in hashes {
         sketch.update_hash(*hash)?;
@@ -30,8 +30,8 @@ fn insertions(alloc: Global, hashes: &[u64]) -> Result<Vec<TableCommand>, AllocE
     Ok(commands)
 }
 
-/// What a plain table of 32 nominal entries tells after it was given these hashes.
-fn told_by_a_list(alloc: Global, hashes: &[u64]) -> Result<Told, Error> {
+/// The count, theta and hashes of a plain table of 32 nominal entries after insertions of these hashes.
+fn found_in_a_table(alloc: Global, hashes: &[u64]) -> Result<Found, Error> {
     let commands = insertions(alloc, hashes)?;
     let mut table: PlainTable<ThetaEntry> = PlainTable::new(
         alloc,
@@ -48,7 +48,7 @@ fn told_by_a_list(alloc: Global, hashes: &[u64]) -> Result<Told, Error> {
     Ok((table.num_retained(), table.retention_theta(), listed))
 }
 
-/// So many hashes below a limit, by a generator that begins at 20240917.
+/// `count` hashes below a limit, by a generator that begins at 20240917.
 fn random_hashes(alloc: Global, count: u64, limit: u64) -> Result<Vec<u64>, AllocError> {
     let mut hashes = Vec::new(alloc);
     let mut state: u64 = 20_240_917;
@@ -63,13 +63,13 @@ fn random_hashes(alloc: Global, count: u64, limit: u64) -> Result<Vec<u64>, Allo
 }
 
 #[test]
-fn sketches_tell_what_a_plain_table_tells(rt: HostRuntime) -> Result<(), Fail> {
+fn sketches_match_a_plain_table(rt: HostRuntime) -> Result<(), Fail> {
     for limit in [50, 400, MAX_THETA, u64::MAX] {
         for count in [0, 1, 60, 61, 100, 1000] {
             let hashes = random_hashes(rt.alloc(), count, limit)?;
-            let by_a_sketch = told_by_a_sketch(rt.alloc(), &hashes)?;
-            let by_a_list = told_by_a_list(rt.alloc(), &hashes)?;
-            assert_eq!(rt; by_a_sketch, by_a_list, "of {count} hashes below {limit}");
+            let in_a_sketch = found_in_a_sketch(rt.alloc(), &hashes)?;
+            let in_a_table = found_in_a_table(rt.alloc(), &hashes)?;
+            assert_eq!(rt; in_a_sketch, in_a_table, "of {count} hashes below {limit}");
         }
     }
     Ok(())

@@ -10,7 +10,7 @@ use std::test::Fail;
 use theta_core::MAX_THETA;
 use theta_sketches::{CompactThetaSketch, ThetaSketch, ThetaSketchBuilder, ThetaUnionBuilder};
 
-/// A sketch with a starting theta, which may have been given a hash.
+/// A sketch with a starting theta, updated with a hash if one is given.
 fn started(alloc: Global, start: u64, given: Option<u64>) -> Result<ThetaSketch, Error> {
     let builder = ThetaSketchBuilder::default().starting_theta(start);
     let mut sketch = builder.build(alloc)?;
@@ -20,20 +20,20 @@ fn started(alloc: Global, start: u64, given: Option<u64>) -> Result<ThetaSketch,
     Ok(sketch)
 }
 
-/// A sketch's emptiness and theta, how many hashes it has, and the fraction.
-fn told_of(
+/// A sketch's emptiness and theta, the number of its hashes, and the fraction.
+fn found_after(
     alloc: Global,
     start: u64,
     given: Option<u64>,
 ) -> Result<((bool, u64, usize), (u128, u128)), Error> {
     let sketch = started(alloc, start, given)?;
-    let told = (sketch.is_empty(), sketch.theta64(), sketch.num_retained());
-    Ok((told, sketch.estimate_fraction()))
+    let found = (sketch.is_empty(), sketch.theta64(), sketch.num_retained());
+    Ok((found, sketch.estimate_fraction()))
 }
 
 #[test]
 fn screened_updates_make_nonempty(rt: HostRuntime) -> Result<(), Fail> {
-    // The starting theta, the one hash that is taken in, and then emptiness, theta and the fraction.
+    // The starting theta, the one hash of an update, then emptiness, theta and the fraction.
     let max = 9223372036854775807;
     let cases = [
         (MAX_THETA, None, true, MAX_THETA, (0, 1)),
@@ -45,7 +45,7 @@ fn screened_updates_make_nonempty(rt: HostRuntime) -> Result<(), Fail> {
     for (start, given, empty, theta, fraction) in cases {
         let wanted = ((empty, theta, 0), fraction);
         assert_eq!(rt;
-            told_of(rt.alloc(), start, given)?,
+            found_after(rt.alloc(), start, given)?,
             wanted,
             "at {start}, {given:?}"
         );
@@ -53,8 +53,8 @@ fn screened_updates_make_nonempty(rt: HostRuntime) -> Result<(), Fail> {
     Ok(())
 }
 
-/// A compact sketch's value, the fractions of the sketch that it was made of and its own, and whether it tells that it is
-/// ordered and, where it does, whether its hashes ascend.
+/// A compact sketch's value, the fractions of its sketch and its own, whether it reports that it is ordered, and
+/// whether its hashes ascend if it does.
 type Form = (Value, [(u128, u128); 2], (bool, bool));
 
 fn form_of(alloc: Global, sketch: &ThetaSketch, asked: bool) -> Result<Form, Error> {
@@ -69,7 +69,7 @@ fn form_of(alloc: Global, sketch: &ThetaSketch, asked: bool) -> Result<Form, Err
     ))
 }
 
-/// The hashes that are taken in, whether order is asked, whether there is order, theta, and the fraction.
+/// The first and last hash, whether order is requested, whether there is order, theta, and the fraction.
 type Row = (u64, u64, bool, bool, u64, (u128, u128));
 
 fn form_in(alloc: Global, row: Row) -> Result<Form, Error> {
@@ -105,19 +105,19 @@ fn compact_forms(rt: HostRuntime) -> Result<(), Fail> {
     Ok(())
 }
 
-/// Theta and how many hashes are kept once a sketch of the hashes from 1 to a last is trimmed, and whether it is empty and how
-/// many are kept once it is reset.
+/// Theta and the number of hashes of a sketch of the hashes from 1 to a last after a trim, and whether it is empty and
+/// the number of its hashes after a reset.
 fn trimmed(alloc: Global, last: u64) -> Result<((u64, usize), (bool, usize)), Error> {
     let mut sketch = sketch_of(alloc, 9001, 1, last)?;
     sketch.trim()?;
-    let told = (sketch.theta64(), sketch.num_retained());
+    let found = (sketch.theta64(), sketch.num_retained());
     sketch.reset();
-    Ok((told, (sketch.is_empty(), sketch.num_retained())))
+    Ok((found, (sketch.is_empty(), sketch.num_retained())))
 }
 
 #[test]
 fn sketches_are_trimmed(rt: HostRuntime) -> Result<(), Fail> {
-    // The last hash, and then theta and how many are kept.
+    // The last hash, then theta and the number of retained hashes.
     for (last, theta, kept) in [(32, MAX_THETA, 32), (33, 33, 32), (40, 33, 32)] {
         let wanted = ((theta, kept), (true, 0));
         assert_eq!(rt; trimmed(rt.alloc(), last)?, wanted, "at {last}");
@@ -153,7 +153,7 @@ fn settings_are_refused(rt: HostRuntime) {
         heap.restart(Refusal::Never);
         let kinds = refusals(&heap, lg_k, start, seed);
         assert_eq!(rt; kinds, [kind, kind], "at {lg_k}, {start}, {seed}");
-        // A refusal comes before any request for memory.
+        // The call is refused before any request for memory.
         assert!(rt;
             kind.is_none() || heap.seen() == 0,
             "at {lg_k}, {start}, {seed}"
@@ -161,7 +161,7 @@ fn settings_are_refused(rt: HostRuntime) {
     }
 }
 
-/// A sketch that was given the numbers from 0 to below a bound.
+/// A sketch updated with the numbers from 0 to below a bound.
 fn counted(alloc: Global, lg_k: u8, bound: i32) -> Result<ThetaSketch, Error> {
     let mut sketch = ThetaSketchBuilder::default().lg_k(lg_k).build(alloc)?;
     for number in 0..bound {
@@ -170,14 +170,14 @@ fn counted(alloc: Global, lg_k: u8, bound: i32) -> Result<ThetaSketch, Error> {
     Ok(sketch)
 }
 
-/// What is read of a compact sketch's image.
+/// The value read from a compact sketch's image.
 fn read_again(alloc: Global, compact: &CompactThetaSketch) -> Result<Value, Error> {
     let image = compact.serialize()?;
     let again = CompactThetaSketch::deserialize(alloc, &image)?;
     Ok(value_of(alloc, &again)?)
 }
 
-/// The value of a sketch's compact form and that which is read of its image, and whether the form estimates.
+/// The value of a sketch's compact form, the value read from its image, and whether the form estimates.
 fn compacted(
     alloc: Global,
     sketch: &ThetaSketch,
@@ -198,10 +198,11 @@ fn shown(alloc: Global, sketch: &ThetaSketch) -> Result<Value, AllocError> {
     Ok((sketch.is_empty(), sketch.theta64(), hashes))
 }
 
-/// Whether a sketch of numbers has 2000 hashes, whether it and its compact form estimate, and its value beside both of the form.
+/// Whether a sketch of numbers has 2000 hashes, whether it and its compact form estimate; and the values of the sketch,
+/// of its form and of the form's image.
 type Counted = ((bool, [bool; 2]), (Value, Value, Value));
 
-fn told_of_numbers(alloc: Global, sketch: &ThetaSketch, ordered: bool) -> Result<Counted, Error> {
+fn found_of_numbers(alloc: Global, sketch: &ThetaSketch, ordered: bool) -> Result<Counted, Error> {
     let value = shown(alloc, sketch)?;
     let (form, again, estimates) = compacted(alloc, sketch, ordered)?;
     let modes = [sketch.is_estimation_mode(), estimates];
@@ -210,7 +211,7 @@ fn told_of_numbers(alloc: Global, sketch: &ThetaSketch, ordered: bool) -> Result
 
 fn counted_in(alloc: Global, lg_k: u8, bound: i32, ordered: bool) -> Result<Counted, Error> {
     let sketch = counted(alloc, lg_k, bound)?;
-    told_of_numbers(alloc, &sketch, ordered)
+    found_of_numbers(alloc, &sketch, ordered)
 }
 
 #[test]
@@ -221,11 +222,11 @@ fn counts_numbers(rt: HostRuntime) -> Result<(), Fail> {
         (5, 5000, true, false),
         (5, 5000, true, true),
     ] {
-        let told = counted_in(rt.alloc(), lg_k, bound, ordered)?;
+        let found = counted_in(rt.alloc(), lg_k, bound, ordered)?;
         let wanted = (!estimates, [estimates, estimates]);
-        assert_eq!(rt; told.0, wanted, "at {lg_k}, {ordered}");
-        assert_eq!(rt; told.1.1, told.1.0, "at {lg_k}, {ordered}");
-        assert_eq!(rt; told.1.2, told.1.0, "at {lg_k}, {ordered}, read again");
+        assert_eq!(rt; found.0, wanted, "at {lg_k}, {ordered}");
+        assert_eq!(rt; found.1.1, found.1.0, "at {lg_k}, {ordered}");
+        assert_eq!(rt; found.1.2, found.1.0, "at {lg_k}, {ordered}, read again");
     }
     Ok(())
 }
@@ -238,7 +239,7 @@ fn all_of(alloc: Global, sketch: &CompactThetaSketch) -> Result<All, AllocError>
     Ok((value, (sketch.is_ordered(), sketch.seed_hash())))
 }
 
-/// How many entries an iterator has at least and at most.
+/// The least and the greatest number of entries of an iterator.
 type Hint = (usize, Option<usize>);
 
 /// The hints of a compact sketch of the hashes from 1 to a last, and of its view.
@@ -257,7 +258,7 @@ fn hint_of(alloc: Global, last: u64) -> Result<Hint, Error> {
 }
 
 #[test]
-fn sizes_are_told(rt: HostRuntime) -> Result<(), Fail> {
+fn size_hints_hold(rt: HostRuntime) -> Result<(), Fail> {
     for (last, count) in [(0, 0), (1, 1), (40, 40)] {
         let exact = (count, Some(count));
         assert_eq!(rt;
@@ -271,7 +272,7 @@ fn sizes_are_told(rt: HostRuntime) -> Result<(), Fail> {
     Ok(())
 }
 
-/// All of a copy.
+/// The value, order and seed hash of a copy.
 fn all_of_copy(alloc: Global, last: u64, ordered: bool) -> Result<All, Error> {
     let compact = compact_of(alloc, 1, last, ordered)?;
     let copy = compact.clone()?;

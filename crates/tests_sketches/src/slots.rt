@@ -1,4 +1,4 @@
-//! Tables and their slots: with how many they start, when they grow and when they are rebuilt; and a large table against a sort.
+//! Tables and their slots: the number at the start, growth and rebuilds; and a large table against a sort.
 
 use crate::common::add;
 use sketch_base::Error;
@@ -8,7 +8,7 @@ use std::test::Fail;
 use theta_core::{MAX_THETA, MIN_LG_K, ResizeFactor, ThetaHashTable, starting_sub_multiple};
 use theta_sketches::{ThetaSketch, ThetaSketchBuilder, ThetaUnionBuilder};
 
-/// How many slots a table has, its capacity threshold, how many entries, and theta.
+/// The number of slots of a table, its capacity threshold, the number of its entries, and theta.
 type Shown = (usize, usize, usize, u64);
 
 fn shown(table: &ThetaHashTable) -> Shown {
@@ -29,7 +29,7 @@ fn insert_up_to(table: &mut ThetaHashTable, last: u64) -> Result<(), Error> {
     Ok(())
 }
 
-/// What a table shows after the hashes from 1 to the last, and after a reset.
+/// The state of a table after the hashes from 1 to the last, and after a reset.
 fn shown_after(
     alloc: Global,
     lg_k: u8,
@@ -45,7 +45,7 @@ fn shown_after(
     Ok((before, shown(&table)))
 }
 
-/// The nominal logarithm, the resize factor, and how many slots a table starts with, and its capacity threshold there.
+/// The nominal logarithm, the resize factor, the number of slots that a table starts with, and its capacity threshold then.
 const STARTS: [(u8, ResizeFactor, usize, usize); 20] = [
     (4, ResizeFactor::X1, 32, 30),
     (4, ResizeFactor::X2, 32, 30),
@@ -81,7 +81,7 @@ fn tables_start_small(rt: HostRuntime) -> Result<(), Fail> {
     Ok(())
 }
 
-/// The nominal logarithm, the resize factor, the last hash from 1 on, and what the table shows then.
+/// The nominal logarithm, the resize factor, the last hash from 1 on, and the state of the table then.
 type Row = (u8, ResizeFactor, u64, Shown);
 
 #[test]
@@ -129,8 +129,8 @@ fn tables_grow_and_are_rebuilt(rt: HostRuntime) -> Result<(), Fail> {
         (12, ResizeFactor::X1, 7681, (8192, 7680, 4096, 4097)),
     ];
     for (lg_k, factor, last, wanted) in rows {
-        let (told, _) = shown_after(rt.alloc(), lg_k, factor, last)?;
-        assert_eq!(rt; told, wanted, "of {lg_k}, {factor:?}, {last}");
+        let (found, _) = shown_after(rt.alloc(), lg_k, factor, last)?;
+        assert_eq!(rt; found, wanted, "of {lg_k}, {factor:?}, {last}");
     }
     Ok(())
 }
@@ -152,12 +152,12 @@ fn starting_sizes_come_to_the_target(rt: HostRuntime) {
         (0, 255, 1, 255),
     ];
     for (target, least, factor, wanted) in rows {
-        let told = starting_sub_multiple(target, least, factor);
-        assert_eq!(rt; told, wanted, "of {target}, {least}, {factor}");
+        let found = starting_sub_multiple(target, least, factor);
+        assert_eq!(rt; found, wanted, "of {target}, {least}, {factor}");
     }
 }
 
-/// A sketch of 4096 nominal entries that was built with a resize factor and given the hashes from 1 to the last.
+/// A sketch of 4096 nominal entries, built with a resize factor and updated with the hashes from 1 to the last.
 fn sketch_with(alloc: Global, factor: ResizeFactor, last: u64) -> Result<ThetaSketch, Error> {
     let builder = ThetaSketchBuilder::default().lg_k(12);
     let mut sketch = builder.resize_factor(factor).build(alloc)?;
@@ -167,8 +167,9 @@ fn sketch_with(alloc: Global, factor: ResizeFactor, last: u64) -> Result<ThetaSk
     Ok(sketch)
 }
 
-/// How many slots a sketch has that was built with a resize factor and given so many hashes, and how many a union of as many
-/// nominal entries that was built with it and given these hashes by a sketch.
+/// The number of slots of a sketch that was built with a resize factor and updated with the hashes from 1 to the last;
+/// and that of a union that was built with it and updated with a sketch of these hashes. Both have 4096 nominal
+/// entries.
 fn built_slots(alloc: Global, factor: ResizeFactor, last: u64) -> Result<(usize, usize), Error> {
     let sketch = sketch_with(alloc, factor, last)?.estimated_size() / 8;
     let builder = ThetaUnionBuilder::default().lg_k(12);
@@ -179,7 +180,7 @@ fn built_slots(alloc: Global, factor: ResizeFactor, last: u64) -> Result<(usize,
 
 #[test]
 fn builders_hand_on_the_resize_factor(rt: HostRuntime) -> Result<(), Fail> {
-    // The resize factor, how many hashes, and how many slots there are then.
+    // The resize factor, the number of hashes, and the number of slots then.
     let rows = [
         (ResizeFactor::X1, 0, 8192),
         (ResizeFactor::X1, 65, 8192),
@@ -194,13 +195,13 @@ fn builders_hand_on_the_resize_factor(rt: HostRuntime) -> Result<(), Fail> {
         (ResizeFactor::X8, 65, 1024),
     ];
     for (factor, last, wanted) in rows {
-        let told = built_slots(rt.alloc(), factor, last)?;
-        assert_eq!(rt; told, (wanted, wanted), "of {factor:?}, {last}");
+        let found = built_slots(rt.alloc(), factor, last)?;
+        assert_eq!(rt; found, (wanted, wanted), "of {factor:?}, {last}");
     }
     Ok(())
 }
 
-/// A hash of 63 bits for a number from 1 to 2^63 - 1, another for each.
+/// A hash of 63 bits for a number from 1 to 2^63 - 1, different for each number.
 fn hash_of(number: u64) -> u64 {
     let first = number.wrapping_mul(0x9e37_79b9_7f4a_7c15) & MAX_THETA;
     let second = (first ^ first >> 31).wrapping_mul(0xbf58_476d_1ce4_e5b9) & MAX_THETA;
@@ -227,7 +228,7 @@ fn held_by(alloc: Global, table: &ThetaHashTable) -> Result<Vec<u64>, AllocError
     Ok(hashes)
 }
 
-/// A table that was given the hashes of the numbers from 1 to the last.
+/// A table with the hashes of the numbers from 1 to the last.
 fn table_of(alloc: Global, lg_k: u8, last: u64) -> Result<ThetaHashTable, Error> {
     let mut table = ThetaHashTable::new(alloc, lg_k, ResizeFactor::X8, MAX_THETA, 9001)?;
     for number in 1..=last {
@@ -238,7 +239,7 @@ fn table_of(alloc: Global, lg_k: u8, last: u64) -> Result<ThetaHashTable, Error>
     Ok(table)
 }
 
-/// A table has to hold the least of its hashes, those below its theta; and just k of them after a trim.
+/// Asserts that a table retains the least of its hashes, those below its theta; and exactly k of them after a trim.
 fn assert_keeps_the_least(
     rt: &impl Abort,
     alloc: Global,

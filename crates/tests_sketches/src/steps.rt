@@ -1,11 +1,11 @@
-//! Which calls a table makes of a step.
+//! The calls that a table makes of a step.
 
 use sketch_base::Error;
 use std::cell::Cell;
 use std::test::Fail;
 use theta_core::{MAX_THETA, ResizeFactor, ThetaEntry, ThetaHashTable, UpsertStep};
 
-/// How often a step was called.
+/// The number of calls of a step.
 #[derive(Drop)]
 struct Calls {
     existing: Cell<u64>,
@@ -13,13 +13,13 @@ struct Calls {
 }
 
 impl Calls {
-    /// How often for an entry that was there, and how often for one that was not.
+    /// The number of calls for an existing entry, and for an absent one.
     fn counted(&self) -> (u64, u64) {
         (self.existing.get(), self.absent.get())
     }
 }
 
-/// A step that makes an entry, if it has one, leaves one that is there, and counts its calls.
+/// A step that makes an entry if it has one, doesn't change an existing one, and counts its calls.
 #[derive(Drop)]
 struct CountedStep<'a> {
     entry: Option<ThetaEntry>,
@@ -46,7 +46,7 @@ impl UpsertStep<ThetaEntry> for CountedStep<'_> {
     }
 }
 
-/// How often an insertion calls its step, for an entry that is there and for one that is not.
+/// The number of calls that an insertion makes of its step, for an existing entry and for an absent one.
 fn calls_of(table: &mut ThetaHashTable, hash: u64) -> Result<(u64, u64), Error> {
     let calls = Calls {
         existing: Cell::new(0),
@@ -70,8 +70,8 @@ fn calls_of(table: &mut ThetaHashTable, hash: u64) -> Result<(u64, u64), Error> 
 #[test]
 fn screened_hashes_call_no_step(rt: HostRuntime) -> Result<(), Fail> {
     let mut table = ThetaHashTable::new(rt.alloc(), 5, ResizeFactor::X8, MAX_THETA, 9001)?;
-    // The hashes from a first to a last, and the calls for an entry that is there and for one that is not; the 61st entry lowers
-    // theta to 33.
+    // The hashes from a first to a last, and the calls for an existing entry and for an absent one; the 61st entry
+    // lowers theta to 33.
     let cases = [
         (0, 0, (0, 0)),
         (MAX_THETA, MAX_THETA, (0, 0)),

@@ -15,7 +15,7 @@ const FACTORS: [ResizeFactor; 4] = [
     ResizeFactor::X8,
 ];
 
-/// A table that was given the hashes from 1 to the last, or from the last to 1.
+/// A table after insertions of the hashes from 1 to the last, or from the last to 1.
 fn table_of(
     alloc: Global,
     lg_k: u8,
@@ -43,8 +43,8 @@ fn value_of(alloc: Global, table: &ThetaHashTable) -> Result<(u64, Vec<u64>), Al
     Ok((table.retention_theta(), hashes))
 }
 
-/// The hashes are from 1 to the last: the nominal logarithm, the last, whether they descend, whether a trim follows, theta, and the
-/// last that is kept.
+/// For the hashes from 1 to a last: the nominal logarithm, the last, whether they descend, whether a trim follows,
+/// theta, and the last retained hash.
 type Row = (u8, u64, bool, bool, u64, u64);
 
 fn value_in(alloc: Global, factor: ResizeFactor, row: Row) -> Result<(u64, Vec<u64>), Error> {
@@ -80,9 +80,9 @@ fn tables_keep_the_least(rt: HostRuntime) -> Result<(), Fail> {
 }
 
 /// A state's emptiness, theta, seed hash, order and hashes.
-type Told = ((bool, u64, u16, bool), Vec<u64>);
+type Found = ((bool, u64, u16, bool), Vec<u64>);
 
-fn told(alloc: Global, state: &CompactSketchState<ThetaEntry>) -> Result<Told, AllocError> {
+fn found(alloc: Global, state: &CompactSketchState<ThetaEntry>) -> Result<Found, AllocError> {
     let mut hashes = Vec::new(alloc);
     for entry in state.retained_entries() {
         hashes.push(entry.hash())?;
@@ -96,7 +96,7 @@ fn told(alloc: Global, state: &CompactSketchState<ThetaEntry>) -> Result<Told, A
     Ok((others, hashes))
 }
 
-/// The state of a table that was given the hashes from 61 to 1.
+/// The state of a table after insertions of the hashes from 61 to 1.
 fn state_of(alloc: Global, ordered: bool) -> Result<CompactSketchState<ThetaEntry>, Error> {
     let table = table_of(alloc, 5, ResizeFactor::X8, 61, true)?;
     if table.num_retained() < 4294967296 {
@@ -105,40 +105,40 @@ fn state_of(alloc: Global, ordered: bool) -> Result<CompactSketchState<ThetaEntr
     Err(Error::new(ErrorKind::Failed))
 }
 
-fn told_of_copy(alloc: Global, ordered: bool) -> Result<Told, Error> {
+fn found_in_copy(alloc: Global, ordered: bool) -> Result<Found, Error> {
     let state = state_of(alloc, ordered)?;
     let copy = state.clone()?;
-    Ok(told(alloc, &copy)?)
+    Ok(found(alloc, &copy)?)
 }
 
-fn told_of_empty_copy(alloc: Global) -> Result<Told, Error> {
+fn found_in_empty_copy(alloc: Global) -> Result<Found, Error> {
     let copy = CompactSketchState::empty(alloc, 5).clone()?;
-    Ok(told(alloc, &copy)?)
+    Ok(found(alloc, &copy)?)
 }
 
 #[test]
 fn states_are_cloned(rt: HostRuntime) -> Result<(), Fail> {
     for ordered in [false, true] {
-        let told = told_of_copy(rt.alloc(), ordered)?;
+        let found = found_in_copy(rt.alloc(), ordered)?;
         let wanted = ((false, 33, 37836, ordered), numbers(rt.alloc(), 1, 32)?);
-        assert_eq!(rt; told, wanted, "at {ordered}");
+        assert_eq!(rt; found, wanted, "at {ordered}");
     }
-    let told = told_of_empty_copy(rt.alloc())?;
-    assert_eq!(rt; told, ((true, MAX_THETA, 5, true), Vec::new(rt.alloc())));
+    let found = found_in_empty_copy(rt.alloc())?;
+    assert_eq!(rt; found, ((true, MAX_THETA, 5, true), Vec::new(rt.alloc())));
     Ok(())
 }
 
-fn told_of_mapped(alloc: Global) -> Result<Told, Error> {
+fn found_in_mapped(alloc: Global) -> Result<Found, Error> {
     let state = state_of(alloc, true)?;
     let mapped = state.map_retained_entries(|entry| entry)?;
-    Ok(told(alloc, &mapped)?)
+    Ok(found(alloc, &mapped)?)
 }
 
 #[test]
 fn states_are_mapped(rt: HostRuntime) -> Result<(), Fail> {
-    let told = told_of_mapped(rt.alloc())?;
+    let found = found_in_mapped(rt.alloc())?;
     let wanted = ((false, 33, 37836, true), numbers(rt.alloc(), 1, 32)?);
-    assert_eq!(rt; told, wanted);
+    assert_eq!(rt; found, wanted);
     Ok(())
 }
 

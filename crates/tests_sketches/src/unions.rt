@@ -7,7 +7,7 @@ use std::test::Fail;
 use theta_core::MAX_THETA;
 use theta_sketches::{ThetaUnion, ThetaUnionBuilder};
 
-/// A union of 32 nominal entries that was given sketches, each of the hashes from a first to a last.
+/// A union of 32 nominal entries, updated with sketches of the hashes from a first to a last.
 fn union_of(alloc: Global, start: u64, parts: &[(u64, u64)]) -> Result<ThetaUnion, Error> {
     let builder = ThetaUnionBuilder::default().lg_k(5);
     let mut union = builder.starting_theta(start).build(alloc)?;
@@ -23,15 +23,15 @@ fn value_in(alloc: Global, union: &ThetaUnion, ordered: bool) -> Result<Value, E
     Ok(value_of(alloc, &answer)?)
 }
 
-/// The value of a union in an answer that is not ordered and in one that is, and that of the union once it is reset.
-type Told = (Value, Value, Value);
+/// The value of a union in an unordered answer and in an ordered one, and that of the union after a reset.
+type Found = (Value, Value, Value);
 
 fn values_in(alloc: Global, union: &ThetaUnion) -> Result<(Value, Value), Error> {
     let value = value_in(alloc, union, false)?;
     Ok((value, value_in(alloc, union, true)?))
 }
 
-fn told_in(alloc: Global, start: u64, parts: &[(u64, u64)]) -> Result<Told, Error> {
+fn found_after(alloc: Global, start: u64, parts: &[(u64, u64)]) -> Result<Found, Error> {
     let mut union = union_of(alloc, start, parts)?;
     let (value, ordered) = values_in(alloc, &union)?;
     union.reset();
@@ -43,7 +43,7 @@ fn wanted_of(
     empty: bool,
     theta: u64,
     hashes: (u64, u64),
-) -> Result<Told, AllocError> {
+) -> Result<Found, AllocError> {
     let value = value_between(alloc, empty, theta, hashes)?;
     let ordered = value_between(alloc, empty, theta, hashes)?;
     Ok((value, ordered, (true, MAX_THETA, Vec::new(alloc))))
@@ -51,7 +51,7 @@ fn wanted_of(
 
 #[test]
 fn unions_keep_the_least(rt: HostRuntime) -> Result<(), Fail> {
-    // The starting theta, the parts, and then emptiness, theta and the hashes.
+    // The starting theta, the parts, then emptiness, theta and the hashes.
     let cases: [(u64, &[(u64, u64)], bool, u64, (u64, u64)); 7] = [
         (MAX_THETA, &[], true, MAX_THETA, (1, 0)),
         (MAX_THETA, &[(1, 0)], true, MAX_THETA, (1, 0)),
@@ -68,9 +68,9 @@ fn unions_keep_the_least(rt: HostRuntime) -> Result<(), Fail> {
         (1000, &[(2000, 2000)], false, 1000, (1, 0)),
     ];
     for (start, parts, empty, theta, hashes) in cases {
-        let told = told_in(rt.alloc(), start, parts)?;
+        let found = found_after(rt.alloc(), start, parts)?;
         let wanted = wanted_of(rt.alloc(), empty, theta, hashes)?;
-        assert_eq!(rt; told, wanted, "of {parts:?}");
+        assert_eq!(rt; found, wanted, "of {parts:?}");
     }
     Ok(())
 }
@@ -91,9 +91,9 @@ fn refused(
 fn unions_want_one_seed(rt: HostRuntime) -> Result<(), Fail> {
     let mut union = union_of(rt.alloc(), MAX_THETA, &[(1, 9)])?;
     for (first, last, refusal) in [(1, 0, None), (3, 12, Some(ErrorKind::InvalidArgument))] {
-        let told = refused(rt.alloc(), &mut union, first, last)?;
+        let found = refused(rt.alloc(), &mut union, first, last)?;
         let value = value_between(rt.alloc(), false, MAX_THETA, (1, 9))?;
-        assert_eq!(rt; told, (refusal, value), "at {first} to {last}");
+        assert_eq!(rt; found, (refusal, value), "at {first} to {last}");
     }
     Ok(())
 }

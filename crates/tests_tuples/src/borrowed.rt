@@ -1,4 +1,4 @@
-//! Summaries that borrow: their type has a lifetime, and so has that of a sketch that owns them.
+//! Summaries that borrow: their type has a lifetime, and so has the type of their sketch.
 ghost use Rattle.std.specs.Prelude.{Some, false};
 
 use std::alloc::Global;
@@ -91,7 +91,7 @@ fn last_words<'a>(
     listed(alloc, &united(alloc, &first, &second)?)
 }
 
-/// The last words where a first one is seen again and a second one comes in.
+/// The last words, if one key is seen again in the first sketch and one in the second.
 fn words_of<'a>(
     alloc: Global,
     green: &'a str,

@@ -1,4 +1,4 @@
-//! How often operators call a policy.
+//! The number of calls of a policy by operators.
 ghost use Rattle.std.specs.Prelude.{Some, false};
 
 use crate::common::Sums;
@@ -10,7 +10,7 @@ use tuple_sketches::{
     TupleSketchBuilder, TupleUnion, TupleUnionBuilder,
 };
 
-/// Keeps the summary that is held, and counts the calls.
+/// Keeps the held summary, and counts the calls.
 #[derive(Clone, Copy)]
 struct Counting<'a> {
     calls: &'a Cell<u64>,
@@ -37,7 +37,7 @@ impl<'a> SummaryCombinePolicy for Counting<'a> {
     }
 }
 
-/// A sketch that starts at a theta, with a summary of 1 at each of these hashes.
+/// A sketch with a starting theta, and a summary of 1 at each of these hashes.
 fn sketch_below(alloc: Global, start: u64, hashes: &[u64]) -> Result<Sums, Error> {
     let builder = TupleSketchBuilder::new(DefaultUpdatePolicy::<u64>::default());
     let mut sketch = builder.starting_theta(start).build(alloc)?;
@@ -67,7 +67,7 @@ fn join<'a>(
     union.update(sketch.as_view())
 }
 
-/// Three sketches: where each starts, and its hashes. The second lowers theta to 6.
+/// Three sketches: the starting theta and the hashes of each. The second lowers theta to 6.
 const STARTS_AND_HASHES: [(u64, &[u64]); 3] = [
     (9223372036854775807, &[2, 5, 7]),
     (6, &[2, 5]),

@@ -1,4 +1,4 @@
-//! What tests share: sketches of sums, and memory that is refused.
+//! Helpers for all tests: sketches of sums, and memory that is refused.
 
 use refusing_allocator::Refusing;
 use std::alloc::{AllocError, Global};
@@ -6,7 +6,7 @@ use tuple_sketches::{
     DefaultUpdatePolicy, Error, ErrorKind, TupleSketch, TupleSketchBuilder, TupleSketchIter,
 };
 
-/// Memory whose requests are counted, and refused where a test wants.
+/// Memory whose requests are counted, and refused if a test wants that.
 pub type Heap = Refusing<Global>;
 
 /// A sketch of sums.
@@ -43,7 +43,7 @@ pub fn tenfold(alloc: Global, last: u64) -> Result<Vec<(u64, u64)>, AllocError> 
     Ok(pairs)
 }
 
-/// A sketch of 32 nominal entries that was given each hash from 1 to the last, with four and then six times itself.
+/// A sketch of 32 nominal entries, updated at each hash from 1 to the last with four and then six times the hash.
 pub fn sums_of(alloc: Global, last: u64) -> Result<Sums, Error> {
     let builder = TupleSketchBuilder::new(DefaultUpdatePolicy::<u64>::default());
     let mut sketch = builder.lg_k(5).build(alloc)?;

@@ -1,4 +1,4 @@
-//! Keys, compact forms, views and what they lend.
+//! Keys, compact forms, views and their entries.
 
 use crate::common::{Sums, ascending, sums_of, tenfold, total};
 use std::alloc::Global;
@@ -9,7 +9,7 @@ use tuple_sketches::{
     TupleSketchBuilder, TupleSketchView,
 };
 
-/// The visits of each visitor, by the sketches' doc comment.
+/// The visits of each visitor, as in the doc comment of the sketches.
 fn visits(alloc: Global) -> Result<CompactTupleSketch<u64>, Error> {
     let policy = DefaultUpdatePolicy::<u64>::default();
     let mut sketch = TupleSketchBuilder::new(policy).lg_k(14).build(alloc)?;
@@ -34,7 +34,7 @@ fn murmur(seed: u64, text: &str) -> u64 {
     hasher.finish128().0 >> 1
 }
 
-/// What a sketch of sums has after a key with 1, twice.
+/// The entries of a sketch of sums after two updates with a key and 1.
 fn seen_twice(alloc: Global, seed: u64, key: &str) -> Result<Vec<(u64, u64)>, Error> {
     let policy = DefaultUpdatePolicy::<u64>::default();
     let mut sketch = TupleSketchBuilder::new(policy).seed(seed).build(alloc)?;
@@ -64,8 +64,12 @@ fn state_of(sketch: &CompactTupleSketch<u64>) -> (bool, u64, bool) {
     (sketch.is_empty(), sketch.theta64(), sketch.is_ordered())
 }
 
-/// What a compact form and its copy tell.
-fn told_twice(alloc: Global, last: u64, ordered: bool) -> Result<[(bool, u64, bool); 2], Error> {
+/// The emptiness, theta and order of a compact form and of its copy.
+fn states_of_both(
+    alloc: Global,
+    last: u64,
+    ordered: bool,
+) -> Result<[(bool, u64, bool); 2], Error> {
     let compact = compact_of(alloc, last, ordered)?;
     let copy = compact.clone()?;
     Ok([state_of(&compact), state_of(&copy)])
@@ -79,7 +83,7 @@ fn copied(alloc: Global, last: u64, ordered: bool) -> Result<Vec<(u64, u64)>, Er
 
 #[test]
 fn compact_forms(rt: HostRuntime) -> Result<(), Fail> {
-    // The last hash, whether order is asked, and then order and theta.
+    // The last hash, whether order is requested, then order and theta.
     let rows = [
         (0, false, true, MAX_THETA),
         (1, false, true, MAX_THETA),
@@ -88,8 +92,8 @@ fn compact_forms(rt: HostRuntime) -> Result<(), Fail> {
         (61, true, true, 33),
     ];
     for (last, asked, ordered, theta) in rows {
-        let told = told_twice(rt.alloc(), last, asked)?;
-        assert_eq!(rt; told, [(last == 0, theta, ordered); 2], "at {last}");
+        let found = states_of_both(rt.alloc(), last, asked)?;
+        assert_eq!(rt; found, [(last == 0, theta, ordered); 2], "at {last}");
         let kept = copied(rt.alloc(), last, asked)?;
         assert_eq!(rt;
             kept,
@@ -100,8 +104,8 @@ fn compact_forms(rt: HostRuntime) -> Result<(), Fail> {
     Ok(())
 }
 
-/// A sketch's emptiness, theta and count, as it tells them and as its view does.
-fn twice_told(sketch: &Sums) -> [(bool, u64, usize); 2] {
+/// A sketch's emptiness, theta and count, by its accessors and by those of its view.
+fn counts_of_both(sketch: &Sums) -> [(bool, u64, usize); 2] {
     let view = TupleSketchView::from(sketch);
     [
         (sketch.is_empty(), sketch.theta64(), sketch.num_retained()),
@@ -111,38 +115,38 @@ fn twice_told(sketch: &Sums) -> [(bool, u64, usize); 2] {
 
 #[test]
 fn sketches_are_trimmed_and_reset(rt: HostRuntime) -> Result<(), Fail> {
-    // The last hash, and then theta and how many are kept.
+    // The last hash, then theta and the number of retained hashes.
     for (last, theta, kept) in [(32, MAX_THETA, 32), (33, 33, 32), (40, 33, 32)] {
         let mut sketch = sums_of(rt.alloc(), last)?;
         sketch.trim()?;
         let wanted = (false, theta, kept);
-        assert_eq!(rt; twice_told(&sketch), [wanted, wanted], "at {last}");
+        assert_eq!(rt; counts_of_both(&sketch), [wanted, wanted], "at {last}");
         sketch.reset();
         let wanted = (true, MAX_THETA, 0);
-        assert_eq!(rt; twice_told(&sketch), [wanted, wanted], "at {last}");
+        assert_eq!(rt; counts_of_both(&sketch), [wanted, wanted], "at {last}");
     }
     Ok(())
 }
 
-/// How many entries a view and its copy tell, whatever its summaries are.
+/// The number of entries of a view and of its copy, for summaries of any type.
 fn counted_twice<S: Drop>(view: TupleSketchView<'_, S>) -> [usize; 2] {
     let copy = view;
     [view.num_retained(), copy.num_retained()]
 }
 
-/// What a sketch lends.
+/// The entries of a sketch's view.
 fn lent_by_sketch(alloc: Global, last: u64) -> Result<Vec<(u64, u64)>, Error> {
     let sketch = sums_of(alloc, last)?;
     Ok(ascending(alloc, sketch.as_view().iter())?)
 }
 
-/// What a compact form lends.
+/// The entries of a compact form's view.
 fn lent_by_compact(alloc: Global, last: u64) -> Result<Vec<(u64, u64)>, Error> {
     let compact = compact_of(alloc, last, false)?;
     Ok(ascending(alloc, compact.as_view().iter())?)
 }
 
-/// How many entries a view of a compact form and its copy tell, and its iterator before the first.
+/// The number of entries of a compact form's view and of its copy, and the size hint of the form's iterator.
 fn counted(alloc: Global, last: u64) -> Result<([usize; 2], (usize, Option<usize>)), Error> {
     let compact = compact_of(alloc, last, false)?;
     Ok((counted_twice(compact.as_view()), compact.iter().size_hint()))
@@ -154,8 +158,8 @@ fn entries_are_lent(rt: HostRuntime) -> Result<(), Fail> {
         let wanted = tenfold(rt.alloc(), last)?;
         assert_eq!(rt; lent_by_sketch(rt.alloc(), last)?, wanted, "at {last}");
         assert_eq!(rt; lent_by_compact(rt.alloc(), last)?, wanted, "at {last}");
-        let told = counted(rt.alloc(), last)?;
-        assert_eq!(rt; told, ([count; 2], (count, Some(count))), "at {last}");
+        let found = counted(rt.alloc(), last)?;
+        assert_eq!(rt; found, ([count; 2], (count, Some(count))), "at {last}");
     }
     Ok(())
 }

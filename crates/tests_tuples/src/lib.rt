@@ -1,5 +1,4 @@
-//! Tests over the public calls of the tuple sketches: values from outside, policies of the tests' own, and memory that is
-//! refused.
+//! Tests over the public calls of the tuple sketches: values from outside, policies for tests, and memory that is refused.
 #![tactic(auto)]
 
 #[cfg(test)]

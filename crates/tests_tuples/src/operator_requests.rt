@@ -18,8 +18,8 @@ enum Operator {
     Difference,
 }
 
-/// Why an update and then an answer were refused, and the sum of the answer without a refusal, if the operator has one.
-type Told = (Option<ErrorKind>, Option<ErrorKind>, Option<u64>);
+/// Why an update and then an answer were refused, and the sum of an answer without a refused request, if there is one.
+type Outcome = (Option<ErrorKind>, Option<ErrorKind>, Option<u64>);
 
 /// The sum of an answer, if there is one.
 fn sum_of<'a>(answer: Result<CompactTupleSketch<u64, &'a Heap>, Error>) -> Option<u64> {
@@ -37,14 +37,14 @@ fn sum_if_any<'a>(answer: Result<Option<CompactTupleSketch<u64, &'a Heap>>, Erro
     }
 }
 
-/// Unites two views, the latter first, with one request of the second update and the answer refused. Slots for 33 keys have
-/// to grow.
+/// Unites two views, the second one first, with one request of the second update and the answer refused. Slots grow for
+/// 33 keys.
 fn unite(
     heap: &Heap,
     a: TupleSketchView<'_, u64>,
     b: TupleSketchView<'_, u64>,
     refused: u64,
-) -> Result<(Told, u64), Error> {
+) -> Result<(Outcome, u64), Error> {
     let builder = TupleUnionBuilder::new(DefaultUnionPolicy::<u64>::default());
     let mut union = builder.resize_factor(ResizeFactor::X2).build(heap)?;
     union.update(b)?;
@@ -56,13 +56,13 @@ fn unite(
     Ok(((updated, answered, sum_of(union.to_sketch(true))), seen))
 }
 
-/// Meets two views, with one request of the second update and the answer refused.
+/// Intersects two views, with one request of the second update and the answer refused.
 fn meet(
     heap: &Heap,
     a: TupleSketchView<'_, u64>,
     b: TupleSketchView<'_, u64>,
     refused: u64,
-) -> Result<(Told, u64), Error> {
+) -> Result<(Outcome, u64), Error> {
     let mut intersection = TupleIntersection::new(heap, DefaultUnionPolicy::<u64>::default())?;
     intersection.update(a)?;
     heap.restart(Refusal::Only(refused));
@@ -74,13 +74,13 @@ fn meet(
     Ok(((updated, answered, sum), seen))
 }
 
-/// Takes the keys of one view from another, with one request refused.
+/// The difference of two views, with one request refused.
 fn subtract(
     heap: &Heap,
     a: TupleSketchView<'_, u64>,
     b: TupleSketchView<'_, u64>,
     refused: u64,
-) -> Result<(Told, u64), Error> {
+) -> Result<(Outcome, u64), Error> {
     let difference = TupleANotB::default()?;
     heap.restart(Refusal::Only(refused));
     let answered = kind_of(difference.compute(heap, a, b, true));
@@ -90,11 +90,11 @@ fn subtract(
     Ok(((None, answered, sum), seen))
 }
 
-/// How a call to lower a union ended, whether it made the request that was to be refused, and the union's sums right after it,
+/// Why a call to lower a union is refused, whether it made the refused request, and the union's sums right after it,
 /// after the same call again, and after a reset and one sketch.
 type Lowered = (Option<ErrorKind>, bool, [Option<u64>; 3]);
 
-/// Unites two views, the latter first, and lowers the union with one request refused.
+/// Unites two views, the second one first, and lowers the union with one request refused.
 fn lower(
     heap: &Heap,
     a: TupleSketchView<'_, u64>,
@@ -143,7 +143,8 @@ fn refused_lowering_leaves_a_union_as_it_was(rt: HostRuntime) -> Result<(), Fail
     Ok(())
 }
 
-/// Why a union of 2^5 nominal entries refuses to go on with 2^3, 2^4, 2^5 and 2^6, with every request for memory refused.
+/// Why a union of 2^5 nominal entries refuses to be lowered to 2^3, 2^4, 2^5 and 2^6, with every request for memory
+/// refused.
 fn refusals_to_lower<'a>(
     heap: &'a Heap,
     union: &mut TupleUnion<DefaultUnionPolicy<u64>, &'a Heap>,
@@ -159,7 +160,7 @@ fn refusals_to_lower<'a>(
     kinds
 }
 
-/// Those refusals of a union that has one sketch, and of the same union after it has failed.
+/// The refusals to lower a union with one sketch, and the same union after it has failed.
 fn refusals_before_and_after(
     alloc: Global,
     heap: &Heap,
@@ -186,22 +187,22 @@ fn lowering_refuses_in_order(rt: HostRuntime) -> Result<(), Fail> {
     Ok(())
 }
 
-/// What stands with each request of an operator refused in turn, until none was: once for each outcome, in their order.
+/// The outcomes of an operator with each request refused in turn, until none was; equal ones in a row count once.
 fn in_turn(
     heap: &Heap,
     operator: Operator,
     a: TupleSketchView<'_, u64>,
     b: TupleSketchView<'_, u64>,
-) -> Result<Vec<Told>, Error> {
-    let mut outcomes: Vec<Told> = Vec::new(*heap.inner());
+) -> Result<Vec<Outcome>, Error> {
+    let mut outcomes: Vec<Outcome> = Vec::new(*heap.inner());
     for refused in 0..u64::MAX {
-        let (told, seen) = match operator {
+        let (outcome, seen) = match operator {
             Operator::Union => unite(heap, a, b, refused)?,
             Operator::Intersection => meet(heap, a, b, refused)?,
             Operator::Difference => subtract(heap, a, b, refused)?,
         };
-        if outcomes.last().copied() != Some(told) {
-            outcomes.push(told)?;
+        if outcomes.last().copied() != Some(outcome) {
+            outcomes.push(outcome)?;
         }
         if seen <= refused {
             break;
@@ -216,7 +217,7 @@ fn outcomes(
     heap: &Heap,
     operator: Operator,
     a: TupleSketchView<'_, u64>,
-) -> Result<Vec<Told>, Error> {
+) -> Result<Vec<Outcome>, Error> {
     let b = sums_of(alloc, 20)?;
     in_turn(heap, operator, a, b.as_view())
 }
@@ -227,18 +228,18 @@ fn refused_requests_of_operators(rt: HostRuntime) -> Result<(), Fail> {
     let failed = Some(ErrorKind::Failed);
     let heap = Refusing::new(rt.alloc());
     let a = sums_of(rt.alloc(), 60)?;
-    // A union fails, and an intersection stays as it was.
+    // A union fails, and an intersection is unchanged.
     let rows = [
         (Operator::Union, (refused, failed, None), 20400),
         (Operator::Intersection, (refused, None, Some(18300)), 4200),
     ];
     for (operator, broken, sum) in rows {
         let wanted = [broken, (None, refused, Some(sum)), (None, None, Some(sum))];
-        let told = outcomes(rt.alloc(), &heap, operator, a.as_view())?;
-        assert_eq!(rt; told.as_slice(), wanted.as_slice(), "of {operator:?}");
+        let found = outcomes(rt.alloc(), &heap, operator, a.as_view())?;
+        assert_eq!(rt; found.as_slice(), wanted.as_slice(), "of {operator:?}");
     }
     let wanted = [(None, refused, Some(16200)), (None, None, Some(16200))];
-    let told = outcomes(rt.alloc(), &heap, Operator::Difference, a.as_view())?;
-    assert_eq!(rt; told.as_slice(), wanted.as_slice());
+    let found = outcomes(rt.alloc(), &heap, Operator::Difference, a.as_view())?;
+    assert_eq!(rt; found.as_slice(), wanted.as_slice());
     Ok(())
 }

@@ -13,10 +13,10 @@ use tuple_sketches::{
 /// Keys with a value each.
 type Pairs = &'static [(u64, u64)];
 
-/// Why the last part was refused, and the keys and summaries of what the parts come to.
+/// Why the last part was refused, and the keys and summaries of the answer.
 type Outcome = (Option<ErrorKind>, Option<Vec<(u64, u64)>>);
 
-/// A sketch of sums of a seed that was given these keys with their values.
+/// A sketch of sums under a seed, updated with these keys and their values.
 fn sketch_under(alloc: Global, seed: u64, pairs: Pairs) -> Result<Sums, Error> {
     let policy = DefaultUpdatePolicy::<u64>::default();
     let mut sketch = TupleSketchBuilder::new(policy).seed(seed).build(alloc)?;
@@ -26,12 +26,12 @@ fn sketch_under(alloc: Global, seed: u64, pairs: Pairs) -> Result<Sums, Error> {
     Ok(sketch)
 }
 
-/// A sketch of sums of the default seed that was given these keys with their values.
+/// A sketch of sums under the default seed, updated with these keys and their values.
 fn sketch_of(alloc: Global, pairs: Pairs) -> Result<Sums, Error> {
     sketch_under(alloc, DEFAULT_UPDATE_SEED, pairs)
 }
 
-/// Writes the digit of a summary behind those that are there.
+/// Combines summaries as decimal digits: appends the new digit to those so far.
 #[derive(Debug, Clone, Copy)]
 struct Digits;
 
@@ -83,7 +83,7 @@ fn of_union<P: SummaryCombinePolicy<Summary = u64> + Drop>(
     }
 }
 
-/// What parts come to that are united by a policy, and why the last one was refused.
+/// The outcome of uniting parts by a policy.
 fn united<P: SummaryCombinePolicy<Summary = u64> + Drop>(
     alloc: Global,
     policy: P,
@@ -118,7 +118,7 @@ fn of_intersection<P: SummaryCombinePolicy<Summary = u64> + Drop>(
     }
 }
 
-/// What parts come to that are met by a policy, and why the last one was refused.
+/// The outcome of intersecting parts by a policy.
 fn met<P: SummaryCombinePolicy<Summary = u64> + Drop>(
     alloc: Global,
     policy: P,
@@ -141,7 +141,7 @@ fn counts_of(alloc: Global, pairs: Pairs) -> Result<TupleSketch<DefaultUpdatePol
     Ok(counts)
 }
 
-/// What is left of a view without the keys of a part, whose summaries are counts.
+/// The difference of a view and a part whose summaries are counts.
 fn left_without(
     alloc: Global,
     a: TupleSketchView<'_, u64>,
@@ -151,7 +151,7 @@ fn left_without(
     TupleANotB::default()?.compute(alloc, a, counts.as_view(), true)
 }
 
-/// What is left of a part without the keys of another.
+/// The entries of the difference of two parts.
 fn left_of(alloc: Global, a: Pairs, b: Pairs) -> Result<Vec<(u64, u64)>, Error> {
     let a = sketch_of(alloc, a)?;
     let left = left_without(alloc, a.as_view(), b)?;
@@ -216,7 +216,7 @@ const EACH: Pairs = &[(2, 1), (5, 1), (7, 1)];
 fn a_refused_sum_ends_a_union_and_leaves_an_intersection(rt: HostRuntime) -> Result<(), Fail> {
     let refusal = Some(ErrorKind::Policy);
     let sums = DefaultUnionPolicy::<u64>::default();
-    // What is held, with a greatest sum at the first, a middle and the last key of what comes in.
+    // The held entries, with a greatest sum at the first, a middle and the last key of the new part; and the new part.
     let rows: [(Pairs, Pairs); 4] = [
         (MOST, ONE),
         (&[(2, u64::MAX), (5, 1), (7, 1)], EACH),
@@ -224,18 +224,18 @@ fn a_refused_sum_ends_a_union_and_leaves_an_intersection(rt: HostRuntime) -> Res
         (&[(2, 1), (5, 1), (7, u64::MAX)], EACH),
     ];
     for (held, part) in rows {
-        let told = united(rt.alloc(), sums, &[held, part])?;
-        assert_eq!(rt; told, (refusal, None), "of {held:?}");
+        let found = united(rt.alloc(), sums, &[held, part])?;
+        assert_eq!(rt; found, (refusal, None), "of {held:?}");
         let left = (refusal, listed(rt.alloc(), held)?);
         assert_eq!(rt; met(rt.alloc(), sums, &[held, part])?, left, "of {held:?}");
     }
-    // The intersection goes on from what it held.
+    // After a refusal the intersection continues with its entries.
     let goes_on = met(rt.alloc(), sums, &[MOST, EACH, &[(7, 2)]])?;
     assert_eq!(rt; goes_on, (None, listed(rt.alloc(), &[(7, 3)])?));
     Ok(())
 }
 
-/// A union that holds a greatest sum at 5, and then took in a sketch below a theta that has no keys.
+/// A union with a greatest sum at 5, lowered by a sketch without keys below a theta.
 fn lowered(alloc: Global, theta: u64) -> Result<TupleUnion<DefaultUnionPolicy<u64>>, Error> {
     let mut union = TupleUnionBuilder::new(DefaultUnionPolicy::<u64>::default()).build(alloc)?;
     joined(alloc, &mut union, MOST)?;
@@ -243,7 +243,7 @@ fn lowered(alloc: Global, theta: u64) -> Result<TupleUnion<DefaultUnionPolicy<u6
     Ok(union)
 }
 
-/// Joins a sketch below a theta that has no keys.
+/// Updates a union with a sketch without keys below a theta.
 fn lower(
     alloc: Global,
     union: &mut TupleUnion<DefaultUnionPolicy<u64>>,
@@ -255,7 +255,7 @@ fn lower(
     union.update(sketch.as_view())
 }
 
-/// What a lowered union comes to that is to add to the sum at 5.
+/// The outcome of adding to the sum at 5 in a union that is lowered to a theta.
 fn added_below(alloc: Global, theta: u64) -> Result<Outcome, Error> {
     let mut union = lowered(alloc, theta)?;
     let refused = joined(alloc, &mut union, ONE)?;
@@ -282,7 +282,7 @@ fn words(alloc: Global, words: &[(&str, u64)]) -> Result<CompactTupleSketch<u64>
     sketch.compact(false)
 }
 
-/// How many words two sketches have together.
+/// The number of words of two sketches together.
 fn together(
     alloc: Global,
     a: TupleSketchView<'_, u64>,
@@ -295,7 +295,7 @@ fn together(
     Ok(union.to_sketch(false)?.num_retained())
 }
 
-/// How many words two sketches share, and the sum of all their summaries.
+/// The number of words that two sketches share, and the sum of all their summaries.
 fn in_common(
     alloc: Global,
     a: TupleSketchView<'_, u64>,
@@ -329,7 +329,7 @@ fn a_word_of_both_is_united_once(rt: HostRuntime) -> Result<(), Fail> {
     Ok(())
 }
 
-/// A union of sums that was given a greatest sum, and then refused to add to it.
+/// A union of sums that refused to add to a greatest sum.
 fn failed(alloc: Global) -> Result<TupleUnion<DefaultUnionPolicy<u64>>, Error> {
     let mut union = TupleUnionBuilder::new(DefaultUnionPolicy::<u64>::default()).build(alloc)?;
     joined(alloc, &mut union, MOST)?;
@@ -337,7 +337,7 @@ fn failed(alloc: Global) -> Result<TupleUnion<DefaultUnionPolicy<u64>>, Error> {
     Ok(union)
 }
 
-/// Whether the answer of a union is empty, or why it has none.
+/// Whether the answer of a union is empty, or why the call is refused.
 fn answered(union: &TupleUnion<DefaultUnionPolicy<u64>>) -> (Option<bool>, Option<ErrorKind>) {
     match union.to_sketch(true) {
         Ok(answer) => (Some(answer.is_empty()), None),
@@ -353,8 +353,8 @@ fn a_failed_union_refuses_all_until_its_reset(rt: HostRuntime) -> Result<(), Fai
     let mut union = failed(rt.alloc())?;
     assert_eq!(rt; answered(&union), (None, refused));
     for part in [ONE, NONE] {
-        let told = joined(rt.alloc(), &mut union, part)?;
-        assert_eq!(rt; told, refused, "of {part:?}");
+        let found = joined(rt.alloc(), &mut union, part)?;
+        assert_eq!(rt; found, refused, "of {part:?}");
     }
     union.reset();
     assert_eq!(rt; answered(&union), (Some(true), None));
@@ -380,7 +380,7 @@ fn met_under(alloc: Global, seed: u64) -> Result<Option<ErrorKind>, Error> {
     shared(alloc, &mut intersection, FIRST)
 }
 
-/// Why a difference of a seed refuses a view without a sketch of another seed, if it does.
+/// Why a difference of a seed refuses a view and a sketch of another seed, if it does.
 fn left_under(
     alloc: Global,
     seed: u64,
@@ -404,11 +404,11 @@ fn sketches_of_another_seed_are_refused(rt: HostRuntime) -> Result<(), Fail> {
         (123, 123, refused, refused),
     ];
     for (seed, other, met, left) in rows {
-        let told = (
+        let found = (
             met_under(rt.alloc(), seed)?,
             left_under(rt.alloc(), seed, a.as_view(), other)?,
         );
-        assert_eq!(rt; told, (met, left), "under {seed} and {other}");
+        assert_eq!(rt; found, (met, left), "under {seed} and {other}");
     }
     Ok(())
 }

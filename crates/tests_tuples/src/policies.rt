@@ -1,4 +1,4 @@
-//! Policies of the tests' own.
+//! Policies for tests.
 ghost use Rattle.std.specs.Prelude.{Some, None, false, max, nat_lt, if◌then◌else◌};
 
 use crate::common::kind_of;
@@ -42,7 +42,7 @@ fn slowest(alloc: Global, calls: &[(&str, u64)]) -> Result<TupleSketch<Greatest>
     Ok(sketch)
 }
 
-/// How many entries a sketch of greatest values has after some values at key 9, and the greatest of these.
+/// The number of entries of a sketch of greatest values after some values at key 9, and the greatest of these.
 fn greatest_of(alloc: Global, values: &[u64]) -> Result<(usize, Option<u64>), Error> {
     let mut sketch = TupleSketchBuilder::new(Greatest).build(alloc)?;
     for value in values {
@@ -66,7 +66,7 @@ fn greatest_values_are_kept(rt: HostRuntime) -> Result<(), Fail> {
     Ok(())
 }
 
-/// Counts down from its start by each value, and refuses to go below 0; it creates nothing where the start is 0.
+/// Counts down from its start by each value, and refuses to go below 0; it refuses to create a summary if the start is 0.
 #[derive(Debug, Clone, Copy)]
 struct Countdown {
     start: u64,
@@ -102,13 +102,13 @@ impl SummaryUpdatePolicy<u64> for Countdown {
     }
 }
 
-/// A sketch that counts down from a start below a theta of 1000.
+/// A sketch that counts down from a start, with a starting theta of 1000.
 fn counting(alloc: Global, start: u64) -> Result<TupleSketch<Countdown>, Error> {
     let builder = TupleSketchBuilder::new(Countdown { start });
     builder.starting_theta(1000).build(alloc)
 }
 
-/// What stands after a value at a hash: why it was refused, whether the sketch is empty, and what is left at key 9.
+/// The state after a value at a hash: why the value was refused, whether the sketch is empty, and the summary at key 9.
 fn after_value(
     sketch: &mut TupleSketch<Countdown>,
     hash: u64,
@@ -122,7 +122,7 @@ fn after_value(
 #[test]
 fn refusals_change_nothing(rt: HostRuntime) -> Result<(), Fail> {
     let refused = Some(ErrorKind::Policy);
-    // The start, a hash and a value, and what stands then. A screened hash calls no policy.
+    // The start, a hash and a value, and the state after it. A screened hash calls no policy.
     let rows = [
         (0, 9, 0, (refused, true, None)),
         (5, 9, 6, (refused, true, None)),
@@ -133,8 +133,8 @@ fn refusals_change_nothing(rt: HostRuntime) -> Result<(), Fail> {
     ];
     for (start, hash, value, wanted) in rows {
         let mut sketch = counting(rt.alloc(), start)?;
-        let told = after_value(&mut sketch, hash, value);
-        assert_eq!(rt; told, wanted, "{value} at {hash}, from {start}");
+        let found = after_value(&mut sketch, hash, value);
+        assert_eq!(rt; found, wanted, "{value} at {hash}, from {start}");
     }
     Ok(())
 }
@@ -143,7 +143,7 @@ fn refusals_change_nothing(rt: HostRuntime) -> Result<(), Fail> {
 fn a_refused_value_leaves_the_summary(rt: HostRuntime) -> Result<(), Fail> {
     let refused = Some(ErrorKind::Policy);
     let mut sketch = counting(rt.alloc(), 5)?;
-    // A value at key 9, and what stands then.
+    // A value at key 9, and the state after it.
     let rows = [
         (2, (None, false, Some(3))),
         (4, (refused, false, Some(3))),
@@ -151,8 +151,8 @@ fn a_refused_value_leaves_the_summary(rt: HostRuntime) -> Result<(), Fail> {
         (1, (refused, false, Some(0))),
     ];
     for (value, wanted) in rows {
-        let told = after_value(&mut sketch, 9, value);
-        assert_eq!(rt; told, wanted, "after {value}");
+        let found = after_value(&mut sketch, 9, value);
+        assert_eq!(rt; found, wanted, "after {value}");
     }
     Ok(())
 }

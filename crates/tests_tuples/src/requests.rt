@@ -1,4 +1,4 @@
-//! A policy that takes memory, and calls whose requests for memory are refused, one after another.
+//! A policy that allocates memory, and calls whose requests for memory are refused, one after another.
 ghost use Rattle.std.specs.Prelude.{◌≡◌, Some, true, [], ◌∷◌, ◌++◌};
 
 use crate::common::{Heap, ascending, kind_of};
@@ -36,7 +36,7 @@ impl<A: Allocator + Clone + Drop> Clone for Values<A> {
     }
 }
 
-/// Keeps every value that a key was seen with. The memory for the first is taken ahead, or with it.
+/// Keeps every value that a key was seen with. The memory for the first is allocated in `create` (`ahead`) or in `update`.
 #[derive(Drop)]
 struct Listing<A: Allocator> {
     alloc: A,
@@ -89,12 +89,12 @@ enum Call {
     Compact(bool),
     /// A clone of its compact form.
     Copy,
-    Tell,
+    Read,
     View,
     Reset,
 }
 
-/// Makes a call, and tells how many entries its answer has.
+/// Makes a call, and returns the number of entries of its answer.
 fn make<A: Allocator + Clone + Drop>(sketch: &mut Lists<A>, call: Call) -> Result<usize, Error> {
     match call {
         Call::Update(hash, value) => sketch.update_hash(hash, value)?,
@@ -109,15 +109,15 @@ fn make<A: Allocator + Clone + Drop>(sketch: &mut Lists<A>, call: Call) -> Resul
             let copy = answer.clone()?;
             return Ok(copy.num_retained());
         }
-        Call::Tell => return Ok(told(sketch)),
+        Call::Read => return Ok(read_all(sketch)),
         Call::View => return Ok(lent_by_view(sketch)),
         Call::Reset => sketch.reset(),
     }
     Ok(sketch.num_retained())
 }
 
-/// Asks a sketch all that it tells, and answers how many entries it lends.
-fn told<A: Allocator + Clone + Drop>(sketch: &Lists<A>) -> usize {
+/// Calls all accessors of a sketch, and returns the number of entries that its iterator returns.
+fn read_all<A: Allocator + Clone + Drop>(sketch: &Lists<A>) -> usize {
     let _flags = (sketch.is_empty(), sketch.is_estimation_mode());
     let _numbers = (sketch.theta64(), sketch.lg_k(), sketch.seed_hash());
     let _fraction = sketch.estimate_fraction();
@@ -130,7 +130,7 @@ fn told<A: Allocator + Clone + Drop>(sketch: &Lists<A>) -> usize {
     lent
 }
 
-/// How many entries a sketch's view lends.
+/// The number of entries that the iterator of a sketch's view returns.
 fn lent_by_view<A: Allocator + Clone + Drop>(sketch: &Lists<A>) -> usize {
     let mut lent = 0usize;
     for _entry in sketch.as_view().iter() {
@@ -139,16 +139,16 @@ fn lent_by_view<A: Allocator + Clone + Drop>(sketch: &Lists<A>) -> usize {
     lent
 }
 
-/// A hash, how many values came with it, and the last of them.
+/// A hash, the number of its values, and the last of them.
 type Seen = (u64, usize, Option<u64>);
 
-/// What was seen at the hash of an entry.
+/// The hash of an entry, the number of its values, and the last of them.
 fn seen_at<A: Allocator>(entry: &TupleEntry<Values<A>>) -> Seen {
     let numbers = &entry.summary().numbers;
     (entry.hash(), numbers.len(), numbers.last().copied())
 }
 
-/// A sketch's emptiness, theta and what was seen at its hashes, ascending, in memory that is not refused.
+/// A sketch's emptiness, theta and entries, ascending, in memory that is not refused.
 fn shown<A: Allocator + Clone + Drop>(
     alloc: Global,
     sketch: &Lists<A>,
@@ -158,8 +158,8 @@ fn shown<A: Allocator + Clone + Drop>(
     Ok((sketch.is_empty(), sketch.theta64(), seen))
 }
 
-/// Makes a call with its first, its second and each later request refused, until none was. Each time the sketch has to be
-/// as before. Tells how many were refused, and what the call answered in the end.
+/// Makes a call with its first, its second and each later request refused, until none was. Asserts after each refusal
+/// that the sketch is unchanged. Returns the number of refused requests, and the answer of the last call.
 fn in_turn<A: Allocator + Clone + Drop>(
     rt: &impl Abort,
     heap: &Heap,
@@ -182,7 +182,7 @@ fn in_turn<A: Allocator + Clone + Drop>(
     Ok((u64::MAX, 0))
 }
 
-/// Each number from 1 to 32, which was seen once, with the value 101 less it; number 1 was also seen with 5.
+/// Each number n from 1 to 32, seen once, with the value 101 - n; the number 1 was also seen with 5.
 fn kept(alloc: Global) -> Result<Vec<Seen>, AllocError> {
     let mut seen = Vec::new(alloc);
     seen.push((1, 2, Some(5)))?;
@@ -192,7 +192,8 @@ fn kept(alloc: Global) -> Result<Vec<Seen>, AllocError> {
     Ok(seen)
 }
 
-/// The hashes from 100 down to 1 are taken in, each with 101 less it, with every request refused in turn.
+/// A sketch updated at each hash n from 100 down to 1 with 101 - n, with every request refused in turn, and the number
+/// of refusals.
 fn fill<A: Allocator + Clone + Drop>(
     rt: &impl Abort,
     heap: &Heap,
@@ -208,7 +209,7 @@ fn fill<A: Allocator + Clone + Drop>(
     Ok((sketch, refusals))
 }
 
-/// Every request of each call is refused in turn.
+/// Refuses every request of each call in turn.
 fn assert_calls_change_nothing<A: Allocator + Clone + Drop>(
     rt: &impl Abort,
     heap: &Heap,
@@ -216,12 +217,12 @@ fn assert_calls_change_nothing<A: Allocator + Clone + Drop>(
 ) -> Result<(), Error> {
     let (mut sketch, refusals) = fill(rt, heap, alloc)?;
     assert!(rt; refusals > 0);
-    // The call, how often it asks for memory at least and at most, how much it answers, and theta after it.
+    // The call, the least and the greatest number of its requests, its answer, and theta after it.
     let calls = [
         (Call::Update(0, 5), 0, 0, 42, 43),
         (Call::Update(43, 5), 0, 0, 42, 43),
         (Call::Key("apple", 5), 0, 0, 42, 43),
-        (Call::Tell, 0, 0, 42, 43),
+        (Call::Read, 0, 0, 42, 43),
         (Call::View, 0, 0, 42, 43),
         (Call::Update(1, 5), 1, u64::MAX, 42, 43),
         (Call::Compact(false), 43, u64::MAX, 42, 43),
@@ -238,8 +239,8 @@ fn assert_calls_change_nothing<A: Allocator + Clone + Drop>(
     let wanted = (false, 33, kept(*heap.inner())?);
     assert_eq!(rt; shown(*heap.inner(), &sketch)?, wanted);
     let (refused, size) = in_turn(rt, heap, &mut sketch, Call::Reset)?;
-    let told = (refused, size, sketch.is_empty(), sketch.theta64());
-    assert_eq!(rt; told, (0, 0, true, MAX_THETA));
+    let found = (refused, size, sketch.is_empty(), sketch.theta64());
+    assert_eq!(rt; found, (0, 0, true, MAX_THETA));
     Ok(())
 }
 
@@ -250,15 +251,15 @@ fn refused_calls_change_nothing(rt: HostRuntime) -> Result<(), Fail> {
     Ok(())
 }
 
-/// How many requests the policy comes to before its first value.
+/// The number of requests of the policy before its first value.
 fn created(heap: &Heap, ahead: bool) -> Result<u64, Error> {
     heap.restart(Refusal::Never);
     let _values = Listing { alloc: heap, ahead }.create()?;
     Ok(heap.seen())
 }
 
-/// Takes in the first key with every request refused in turn. Tells how many were refused, how many entries there are then,
-/// and whether the sketch is empty.
+/// Updates a sketch with its first key, with every request refused in turn. Returns the number of refused requests, the
+/// number of entries then, and whether the sketch is empty.
 fn first_key<A: Allocator + Clone + Drop>(
     rt: &impl Abort,
     heap: &Heap,
@@ -273,17 +274,17 @@ fn first_key<A: Allocator + Clone + Drop>(
 #[test]
 fn a_refused_first_key_leaves_the_sketch_empty(rt: HostRuntime) -> Result<(), Fail> {
     let heap = Refusing::new(rt.alloc());
-    // The policy asks in `create` or in `update`; the table has a slot already.
+    // The policy requests memory in `create` or in `update`; the table already has a slot.
     for ahead in [true, false] {
         assert_eq!(rt; created(&heap, ahead)?, u64::from(ahead));
-        let (refused, told) = first_key(&rt, &heap, &heap, ahead)?;
+        let (refused, found) = first_key(&rt, &heap, &heap, ahead)?;
         assert!(rt; refused >= 1, "{refused} with {ahead}");
-        assert_eq!(rt; told, (1, false), "with {ahead}");
+        assert_eq!(rt; found, (1, false), "with {ahead}");
     }
     Ok(())
 }
 
-/// How many requests an update of a sum comes to that is retained.
+/// The number of requests of an update of a retained sum, and the sum.
 fn requests_of_a_sum(heap: &Heap) -> Result<(u64, Option<u64>), Error> {
     let policy = DefaultUpdatePolicy::<u64>::default();
     let mut sketch = TupleSketchBuilder::new(policy).build(heap)?;
@@ -320,7 +321,7 @@ fn builds_are_refused(rt: HostRuntime) {
 /// A sketch of sums in memory whose requests are counted.
 type Sums<'a> = TupleSketch<DefaultUpdatePolicy<u64>, &'a Heap>;
 
-/// A sketch of all its slots, with `count` spread hashes, and the next hash.
+/// A sketch that starts with all its slots, updated with `count` spread hashes, and the next hash.
 fn filled_sums<'a>(heap: &'a Heap, lg_k: u8, count: u64) -> Result<(Sums<'a>, u64), Error> {
     let builder = TupleSketchBuilder::new(DefaultUpdatePolicy::<u64>::default());
     let builder = builder.lg_k(lg_k);
@@ -333,8 +334,8 @@ fn filled_sums<'a>(heap: &'a Heap, lg_k: u8, count: u64) -> Result<(Sums<'a>, u6
     Ok((sketch, hash))
 }
 
-/// Updates a sketch with its requests refused in turn, until none was. Each time the sketch has to be as before. Returns how often
-/// the update asks for memory, and for how many bytes in all.
+/// Updates a sketch with its requests refused in turn, until none was. Asserts after each refusal that the sketch is
+/// unchanged. Returns the number of the update's requests, and their bytes in all.
 fn asked_by_update<'a>(
     rt: &impl Abort,
     heap: &'a Heap,
@@ -360,7 +361,7 @@ fn asked_by_update<'a>(
     Err(Error::new(ErrorKind::Failed))
 }
 
-/// What a rebuild of so many sums asks for, and how many there are then.
+/// The requests of a rebuild after `count` sums, and the number of sums then.
 fn rebuilt(
     rt: &impl Abort,
     heap: &Heap,
@@ -372,15 +373,17 @@ fn rebuilt(
     Ok((asked, sketch.num_retained()))
 }
 
-/// How many bytes a slot of a sum takes: a hash, a sum, and a word for whether they are there.
+/// The bytes of a slot of a sum: a hash, a sum, and a word that marks a used slot.
 const SLOT: u64 = 24;
 
-// It asks for a slot for each entry that it keeps and one more, or for a byte a slot where there are more than 2^16; and for hashes
-// to select from, of eight bytes: as many as there are few slots and one, and at most a sixteenth of many.
+// A rebuild requests one slot more than it keeps entries, or one byte per slot if there are more than 2^16 slots; and
+// hashes of eight bytes to select from: one more than there are slots if these are few, and at most a sixteenth of them
+// if they are many.
 #[test]
 fn rebuilds_of_sums_ask_for_little(rt: HostRuntime) -> Result<(), Fail> {
     let heap = Refusing::new(rt.alloc());
-    // The logarithm of k, how many entries come before the rebuild, the bytes to lay out slots anew, and the most to select.
+    // The logarithm of k, the number of entries before the rebuild, the bytes for the new layout of slots, and the most
+    // bytes to select.
     let rows = [
         (5, 60, 33 * SLOT, 65 * 8),
         (15, 61_440, 32_769 * SLOT, 32_768),

@@ -7,8 +7,8 @@ use std::process::Abort;
 use std::test::Fail;
 use tuple_sketches::{CheckedSum, DefaultUpdatePolicy, Error, ErrorKind, TupleSketchBuilder};
 
-/// What key 9 comes to after some values: how the last one was refused, whether the sketch is empty, how many entries it
-/// retains, and the sum.
+/// The state after some values at key 9: why the last one was refused, whether the sketch is empty, the number of its
+/// entries, and the sum.
 fn summed<S: CheckedSum>(
     alloc: Global,
     values: &[S],
@@ -19,20 +19,20 @@ fn summed<S: CheckedSum>(
     for value in values {
         refused = kind_of(sketch.update_hash(9, *value));
     }
-    let told = (sketch.is_empty(), sketch.num_retained());
+    let found = (sketch.is_empty(), sketch.num_retained());
     let sum = sketch.iter().next().map(|entry| *entry.summary());
-    Ok((refused, told, sum))
+    Ok((refused, found, sum))
 }
 
-/// Adds two values at key 9. The sum is retained in any case, and the second value refused or not.
+/// Adds two values at key 9, and asserts the sum and whether the second value is refused.
 fn hold<S: CheckedSum + PartialEq + Debug>(
     rt: &impl Abort,
     alloc: Global,
     rows: &[([S; 2], Option<ErrorKind>, S)],
 ) -> Result<(), Error> {
     for (values, refused, sum) in rows {
-        let told = summed(alloc, values)?;
-        assert_eq!(rt; told, (*refused, (false, 1), Some(*sum)), "{values:?}");
+        let found = summed(alloc, values)?;
+        assert_eq!(rt; found, (*refused, (false, 1), Some(*sum)), "{values:?}");
     }
     Ok(())
 }

@@ -1,4 +1,4 @@
-//! Tables of summaries, with a step of the tests' own.
+//! Tables of summaries, with a step for tests.
 ghost use Rattle.std.specs.Prelude.{◌+◌, ◌^◌, Some, None, false, not, ◌||◌, nat_lt, if◌then◌else◌};
 ghost use Rattle.core_laws.specs.Refusal.{policy_refusal};
 
@@ -11,7 +11,7 @@ use tuple_sketches::{
     TupleUnionBuilder,
 };
 
-/// Adds a value to the sum that is there, or makes a sum of it where it is to; or refuses either.
+/// Adds a value to an existing sum, or makes a new sum of it if `makes`; refuses both if `refuses`.
 #[derive(Debug, Clone, Copy)]
 struct AddStep {
     value: u64,
@@ -41,7 +41,7 @@ impl UpsertStep<u64> for AddStep {
     }
 }
 
-/// Adds a value, or makes a sum of it.
+/// Adds a value, or makes a new sum of it.
 fn adds(value: u64) -> AddStep {
     AddStep {
         value,
@@ -50,7 +50,7 @@ fn adds(value: u64) -> AddStep {
     }
 }
 
-/// Adds a value, and makes no sum.
+/// Adds a value, and makes no new sum.
 fn declines(value: u64) -> AddStep {
     AddStep {
         value,
@@ -79,18 +79,18 @@ fn table_of(alloc: Global) -> Result<Table, Error> {
 /// Whether an entry was made, or why it was refused.
 type Made = (Option<bool>, Option<ErrorKind>);
 
-/// What an insertion answered.
-fn told(answer: Result<bool, Error>) -> Made {
+/// The answer of an insertion.
+fn made_by(answer: Result<bool, Error>) -> Made {
     match answer {
         Ok(made) => (Some(made), None),
         Err(error) => (None, Some(error.kind())),
     }
 }
 
-/// Inserts a hash. A table without room is not asked.
+/// Inserts a hash, if the table has room.
 fn insert(table: &mut Table, hash: u64, step: AddStep) -> Made {
     if table.has_room() {
-        told(table.try_insert_hash(hash, step))
+        made_by(table.try_insert_hash(hash, step))
     } else {
         (None, None)
     }
@@ -104,7 +104,7 @@ fn held(alloc: Global, table: &Table) -> Result<Vec<(u64, u64)>, AllocError> {
     Ok(pairs)
 }
 
-/// How many entries a table lends.
+/// The number of entries that a table's iterator returns.
 fn count_of(table: &Table) -> usize {
     table.iter().count()
 }
@@ -115,7 +115,7 @@ fn steps_write_and_make_sums(rt: HostRuntime) -> Result<(), Fail> {
     let yes = (Some(true), None);
     let refused = (None, Some(ErrorKind::Policy));
     let mut table = table_of(rt.alloc())?;
-    // A hash and a step, the answer, and then how many entries there are and the sum of the last.
+    // A hash and a step, the answer, then the number of entries and the last entry with its sum.
     let rows = [
         (5, declines(1), no, (0, None)),
         (5, refuses(), refused, (0, None)),
@@ -141,10 +141,10 @@ fn steps_write_and_make_sums(rt: HostRuntime) -> Result<(), Fail> {
     Ok(())
 }
 
-/// Inserts a text. A table without room is not asked.
+/// Inserts a text, if the table has room.
 fn insert_text(table: &mut Table, text: &str, step: AddStep) -> Made {
     if table.has_room() {
-        told(table.try_insert(text, step))
+        made_by(table.try_insert(text, step))
     } else {
         (None, None)
     }
@@ -155,15 +155,15 @@ fn texts_are_inserted_at_their_hashes(rt: HostRuntime) -> Result<(), Fail> {
     let mut table = table_of(rt.alloc())?;
     let hash = table.hash("apple");
     for (value, made, sum) in [(3, true, 3), (4, false, 7)] {
-        let told = insert_text(&mut table, "apple", adds(value));
-        assert_eq!(rt; told, (Some(made), None), "of {value}");
+        let found = insert_text(&mut table, "apple", adds(value));
+        assert_eq!(rt; found, (Some(made), None), "of {value}");
         let pairs = held(rt.alloc(), &table)?;
         assert_eq!(rt; pairs.as_slice(), [(hash, sum)].as_slice());
     }
     Ok(())
 }
 
-/// What a table lends that was given each hash from 1 to the last, with four and then six times itself.
+/// The entries of a table after insertions at each hash from 1 to the last with four and then six times the hash.
 fn lent(alloc: Global, last: u64) -> Result<Vec<(u64, u64)>, Error> {
     let mut table = table_of(alloc)?;
     for times in [4u64, 6] {
@@ -176,7 +176,7 @@ fn lent(alloc: Global, last: u64) -> Result<Vec<(u64, u64)>, Error> {
 
 #[test]
 fn each_entry_is_lent_once(rt: HostRuntime) -> Result<(), Fail> {
-    // The last hash, and how many are kept: 60 are, and the 61st leaves 32.
+    // The last hash, and the number of retained hashes: up to 60, and 32 after the 61st.
     for (last, kept) in [(0, 0), (1, 1), (32, 32), (60, 60), (61, 32)] {
         let wanted = tenfold(rt.alloc(), kept)?;
         assert_eq!(rt; lent(rt.alloc(), last)?, wanted, "at {last}");
@@ -184,10 +184,10 @@ fn each_entry_is_lent_once(rt: HostRuntime) -> Result<(), Fail> {
     Ok(())
 }
 
-/// How many bytes a slot of a sum takes.
+/// The bytes of a slot of a sum.
 const SLOT: usize = size_of::<Option<TupleEntry<u64>>>();
 
-/// A sketch of 4096 nominal entries that was built with a resize factor and given the hashes from 1 to the last.
+/// A sketch of 4096 nominal entries, built with a resize factor and updated with the hashes from 1 to the last.
 fn sums_with(alloc: Global, factor: ResizeFactor, last: u64) -> Result<Sums, Error> {
     let builder = TupleSketchBuilder::new(DefaultUpdatePolicy::<u64>::default());
     let builder = builder.lg_k(12);
@@ -198,8 +198,8 @@ fn sums_with(alloc: Global, factor: ResizeFactor, last: u64) -> Result<Sums, Err
     Ok(sketch)
 }
 
-/// How many slots a union of 4096 nominal entries has that was built with a resize factor and given the hashes from 1 to the
-/// last by a sketch.
+/// The number of slots of a union of 4096 nominal entries, built with a resize factor and updated with a sketch of the
+/// hashes from 1 to the last.
 fn slots_of_union(alloc: Global, factor: ResizeFactor, last: u64) -> Result<usize, Error> {
     let builder = TupleUnionBuilder::new(DefaultUnionPolicy::<u64>::default());
     let builder = builder.lg_k(12);
@@ -211,7 +211,7 @@ fn slots_of_union(alloc: Global, factor: ResizeFactor, last: u64) -> Result<usiz
 
 #[test]
 fn builders_hand_on_the_resize_factor(rt: HostRuntime) -> Result<(), Fail> {
-    // The resize factor, how many hashes, and how many slots there are then.
+    // The resize factor, the number of hashes, and the number of slots then.
     let rows = [
         (ResizeFactor::X1, 0, 8192),
         (ResizeFactor::X1, 65, 8192),

@@ -32,7 +32,7 @@ twice false = refl
 pub made_new : {X : Type 0} (lg_k start seed : ℕ) (t : MapTable X) → t ≡ empty_table lg_k start seed → t ≡ record (empty_table lg_k start seed) { kept = t.kept }
 made_new {X} lg_k start seed t made = (let with : Retained X → MapTable X = λ v. record (empty_table lg_k start seed) { kept = v } in made ∙ ap with (sym (ap (λ u. u.kept) made)))
 
--- what it was made with stays
+-- its settings don't change
 pub made_stepped : {X : Type 0} (lg_k start seed : ℕ) (old new : MapTable X) → old ≡ record (empty_table lg_k start seed) { kept = old.kept } → new ≡ record old { kept = new.kept } → new ≡ record (empty_table lg_k start seed) { kept = new.kept }
 made_stepped {X} lg_k start seed old new made after = (let again : MapTable X → MapTable X = λ t. record t { kept = new.kept } in after ∙ ap again made)
 
@@ -62,7 +62,7 @@ module _ {X V : Type 0} (f : Family (Fold X) V) (lawful : IsFamily f) (lg_k star
     more : take (i + 1) steps ≡ take i steps ++ get_or steps i d ∷ []
     more = take_more steps i d lt
 
-    -- what is retained after one more step
+    -- the retained entries after one more step
     pub kept_stepped : (old new : MapTable X) → unmarked old.kept ≡ leaf_from f.key f.step_of (2 ^ lg_k) start (take i steps) (none_below start) → old ≡ record (empty_table lg_k start seed) { kept = old.kept } →
         unmarked new.kept ≡ leaf_step f.key f.step_of (2 ^ old.lg_nom) old.start (get_or steps i d) (unmarked old.kept) →
         unmarked new.kept ≡ leaf_from f.key f.step_of (2 ^ lg_k) start (take (i + 1) steps) (none_below start)
@@ -73,7 +73,7 @@ module _ {X V : Type 0} (f : Family (Fold X) V) (lawful : IsFamily f) (lg_k star
         ∙ sym (leaf_from-append f.key f.step_of lawful.steps (2 ^ lg_k) start (take i steps) (get_or steps i d ∷ []) (none_below start))
         ∙ ap (λ ss. leaf_from f.key f.step_of (2 ^ lg_k) start ss (none_below start)) (sym more)
 
-    -- and on emptiness
+    -- the same for emptiness
     pub empty_stepped : (old new : Bool) → old ≡ not (is_updated (take i steps) false) → new ≡ not (updated_step (get_or steps i d) (not old)) → new ≡ not (is_updated (take (i + 1) steps) false)
     empty_stepped old new was after =
         after ∙ ap (λ b. not (updated_step (get_or steps i d) (not b))) was

@@ -1,4 +1,4 @@
--- What the one sketch of a merge has: its keys and theta, and sums.
+-- The sketch of a merge: its keys and theta, and its sums.
 use Rattle.std.proofs.Common.{◌≡◌, ℕ, true, List, [], ◌∷◌, Result, Ok, Err, Option, Some, None, map, refl, sym, ap, subst, ◌∙◌}
 use Rattle.std.specs.Prelude.{ℤ, pos, IfOk, OnOk}
 use Rattle.std.specs.Option.{option_map}
@@ -46,7 +46,7 @@ module _ {X : Type 0} (key : X → ℕ) (k start : ℕ) (whole : List (Fold X)) 
         ordered = ap (λ t. t.ordered) is;
       }
 
-  -- the k-minimum of these hashes, where they are the keys of the whole map
+  -- the k-minimum of these hashes, if they are the keys of the whole map
   pub merged_keys : (hashes : List ℕ) (v : Sketch (Fold X)) (h : ℕ) (r : Result (State X) ErrorKind) → map (fold_key key) whole ≡ hashes → OnOk r (v ≡ NonEmpty (cut (fold_key key) k whole start)) → IfOk r (λ s. IsSketchOf key v h s) → IfOk r (HasKeys key (kmin k hashes start))
   merged_keys hashes v h (Ok s) keys merged is = subst (λ hs. HasKeys key (kmin k hs start) s) keys (has_keys (compact_value key s) h s is.1 (is.0 ∙ merged))
   merged_keys hashes v h (Err e) keys merged is = tt

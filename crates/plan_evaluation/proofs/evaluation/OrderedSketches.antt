@@ -34,14 +34,14 @@ theta_sketch p h (Ok s) is = is.1 ∙ ap (λ v. ordered_sketch v h) (unmarked_di
 theta_sketch p h (Err e) is = tt
 
 module _ {X V Z : Type 0} (f : Family (Fold X) V) (seed : ℕ) (p : Plan V Z) where
-  -- a family whose policies refuse nothing is refused for its settings and for memory alone
+  -- a plan of a family whose policies refuse nothing is refused for its settings and for memory alone
   pub refused_settings : {T : Type 0} (r : Result T ErrorKind) → OnOk r (plan_refusal seed p ≡ None) → IfErr r (IsPlanRefused f false seed p) → Refuses r (plan_refusal seed p) true
   refused_settings (Ok x) accepted refused = accepted
   refused_settings (Err e) accepted (inl r) = inl r
   refused_settings (Err e) accepted (inr (inl memory)) = inr (memory, refl)
   refused_settings (Err e) accepted (inr (inr policy)) = absurd (let no = policy.1 in cc)
 
-  -- and another also for its policies
+  -- one of any other family also for its policies
   pub refused_policy : {T : Type 0} (r : Result T ErrorKind) → IfErr r (IsPlanRefused f true seed p) → IfErr r (λ e. (plan_refusal seed p ≡ Some e) ⊎ ((e ≡ OutOfMemory) ⊎ ((e ≡ Policy) × (may_refuse f seed p ≡ true))))
   refused_policy (Ok x) refused = tt
   refused_policy (Err e) (inl r) = inl r

@@ -1,4 +1,4 @@
--- Facts on what a call answers.
+-- Facts on the answers of calls.
 use Rattle.std.proofs.Common.{Result, Ok, Err, inl, inr}
 use Rattle.std.specs.Prelude.{Bool, OnOk, IfErr}
 use Rattle.sketch_base.specs.declared.error.ErrorKind.{ErrorKind}
@@ -9,17 +9,17 @@ pub on_both : {T P Q R : Type 0} (r : Result T ErrorKind) → OnOk r P → OnOk 
 on_both (Ok x) p q both = both p q
 on_both (Err e) p q both = tt
 
--- what a refusal tells tells more
+-- a fact on a refusal implies another
 pub if_refused : {T : Type 0} {P Q : ErrorKind → Type 0} (r : Result T ErrorKind) → IfErr r P → ((e : ErrorKind) → P e → Q e) → IfErr r Q
 if_refused (Ok x) p more = tt
 if_refused (Err e) p more = more e p
 
--- the reason of a refusal, told in other words
+-- the reason of a refusal implies another
 pub for_other : {P Q : Type 0} (e : ErrorKind) (strict : Bool) → (P → Q) → RefusedFor e strict P → RefusedFor e strict Q
 for_other e strict other (inl memory) = inl memory
 for_other e strict other (inr policy) = inr (policy.0, policy.1, other policy.2)
 
--- what holds anyway holds on an answer
+-- a fact that always holds, holds on an answer
 pub on_answer : {T P : Type 0} (r : Result T ErrorKind) → P → OnOk r P
 on_answer (Ok x) holds = holds
 on_answer (Err e) holds = tt

@@ -16,22 +16,22 @@ use Rattle.plan_values.specs.WholeStreams.{whole_in, shared_of}
 use Rattle.plan_evaluation.specs.Came.{come_to}
 use Rattle.plan_evaluation.specs.Refused.{MarksMet}
 
--- maps that are met in turn, and one more
+-- maps that are intersected in turn, and one more
 common_all-more : {X : Type 0} (key : X → ℕ) (merges : X → X → X) (whole : List X) (maps : List (List X)) (last : List X) → common_all key merges whole (maps ++ last ∷ []) ≡ common key merges (common_all key merges whole maps) last
 common_all-more key merges whole [] last = refl
 common_all-more key merges whole (xs ∷ maps) last = common_all-more key merges (common key merges whole xs) maps last
 
--- what an intersection has come to, in folds
+-- the value of an intersection, in folds
 pub come_to-folds : {X : Type 0} (o : Option (Sketch X)) → unmarked_value (come_to o) ≡ come_to (option_map unmarked_value o)
 come_to-folds None = refl
 come_to-folds (Some v) = refl
 
--- what an intersection was made with stays
+-- the settings of an intersection don't change
 pub made_met : {X P : Type 0} (first was now : Intersection X P) → was ≡ record first { result = was.result } → now ≡ record was { result = now.result } → now ≡ record first { result = now.result }
 made_met {X} {P} first was now before step = let again : Intersection X P → Intersection X P = λ u. record u { result = now.result } in step ∙ ap again before
 
 module _ {X V : Type 0} (f : Family (Fold X) V) where
-  -- what an intersection has come to after values
+  -- the result of an intersection after values
   abbrev pub met_of : List (Sketch (Fold X)) → Option (Sketch (Fold X))
   met_of [] = None
   met_of (v ∷ vs) = Some (meet f.key f.merges (v ∷ vs))
@@ -46,7 +46,7 @@ module _ {X V : Type 0} (f : Family (Fold X) V) (lawful : IsFamily f) where
   met_more [] last = refl
   met_more (v ∷ vs) last = ap (λ (u : Sketch (Fold X)). Some u) (sym (meet_of_meet f.key f.merges v vs last))
 
-  -- a value that a policy refuses leaves a mark in what the whole maps share
+  -- a value that a policy refuses leaves a mark in the common part of the whole maps
   marks_more : (vs : List (Sketch (Fold X))) (wholes : List (List (Fold X))) (last : Sketch (Fold X)) (come : List (Fold X)) → AreSamples f.key vs wholes → IsAllBelow f.key last come → MarksMet f (met_of f vs) last → has_mark (shared_of f (wholes ++ come ∷ [])) ≡ true
   marks_more [] wholes last come samples below marks = absurd marks
   marks_more (v ∷ vs) [] last come samples below marks = absurd samples

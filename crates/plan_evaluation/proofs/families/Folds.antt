@@ -1,4 +1,4 @@
--- Operators on values of which nothing is a mark, as those on folds.
+-- Operators on values without marks, as operators on folds.
 use Rattle.std.proofs.Common.{◌≡◌, ℕ, true, false, cond, eqb, not, List, [], ◌∷◌, map, length, min, is_none, Option, Some, None, refl, sym, ap, ◌∙◌}
 use Rattle.std.specs.Prelude.{◌&&◌}
 use Rattle.std.specs.Option.{option_map}
@@ -24,7 +24,7 @@ module _ {X : Type 0} (key : X → ℕ) where
   retained-values : (xs : List X) (t : ℕ) → unmarked (retained key xs t) ≡ retained (fold_key key) (map Value xs) t
   retained-values xs t = ap (λ ys. record { entries = ys; theta = t }) (sym (below-map Value key (fold_key key) (λ y. refl) xs t))
 
-  -- what one map has and another lacks
+  -- differences of maps
   lacking-values : (xs ys : List X) → map Value (lacking key key xs ys) ≡ lacking (fold_key key) (fold_key key) (map Value xs) (map Value ys)
   lacking-values [] ys = refl
   lacking-values (x ∷ xs) ys =
@@ -54,7 +54,7 @@ module _ {X : Type 0} (key : X → ℕ) (merges : X → X → X) where
   abbrev fm : Fold X → Fold X → Fold X
   fm = fold_merges key merges never
 
-  -- what maps share, where no merge is refused
+  -- common parts of maps, if no merge is refused
   common-values : (xs ys : List X) → map Value (common key merges xs ys) ≡ common fk fm (map Value xs) (map Value ys)
   common-values [] ys = refl
   common-values (x ∷ xs) ys =
@@ -89,6 +89,6 @@ module _ {X : Type 0} (key : X → ℕ) (merges : X → X → X) where
         | false ↦ ap NonEmpty (shared-values u v)
       ])
 
-  -- what an intersection makes of a value, told in folds
+  -- an intersection with a value, in folds
   pub meets : (new old : Option (Sketch X)) (w : Sketch X) (v : Sketch (Fold X)) → new ≡ Some (meet_next key merges old w) → unmarked_value w ≡ v → option_map unmarked_value new ≡ Some (meet_next fk fm (option_map unmarked_value old) v)
   meets new old w v met is = ap (λ o. option_map unmarked_value o) met ∙ ap Some (meet-values old w) ∙ ap (λ u. Some (meet_next fk fm (option_map unmarked_value old) u)) is

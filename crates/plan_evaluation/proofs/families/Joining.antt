@@ -1,4 +1,4 @@
--- A union that takes in what a view shows takes in its value, in folds.
+-- A union that merges a view merges its value, in folds.
 use Rattle.std.proofs.Common.{◌≡◌, Bool, true, false, cond, List, refl, ap, subst}
 use Rattle.core_laws.specs.Entries.{KeepsKey}
 use Rattle.core_laws.specs.Folds.{Fold, unmarked_value}
@@ -10,7 +10,7 @@ use Rattle.core_operators.proofs.UnionValue.{united}
 use Rattle.plan_values.specs.Family.{Family, folds_of}
 use Rattle.plan_evaluation.specs.Came.{Joins}
 
--- a union but for its policy
+-- a union without its policy
 abbrev pub plain : {X P : Type 0} → Union X P → Union X (Unit {0})
 plain u = record { empty = u.empty; failed = u.failed; held = u.held; lg_k = u.lg_k; start = u.start; seed_hash = u.seed_hash; policy = tt }
 

@@ -1,4 +1,4 @@
--- Answers of differences, told in folds.
+-- Answers of differences, in folds.
 use Rattle.std.proofs.Common.{◌≡◌, ℕ, Bool, true, false, cond, is_none, List, [], ◌∷◌, map, min, Option, Some, None, Result, Ok, Err, refl, sym, ap, ◌∙◌, subst}
 use Rattle.std.specs.Prelude.{IfOk}
 use Rattle.std.specs.Option.{option_map}
@@ -17,7 +17,7 @@ use Rattle.plan_evaluation.specs.Came.{IsFoldAnswer}
 use Rattle.plan_evaluation.proofs.families.Folds.{minus-values}
 
 module _ {X : Type 0} (key : X → ℕ) where
-  -- an answer that has the difference of two values has that of their folds
+  -- an answer with the difference of two values has the difference of their folds
   pub fold_answer : (a b : Sketch X) (u v : Sketch (Fold X)) → unmarked_value a ≡ u → unmarked_value b ≡ v → (d : Sketch X) → d ≡ minus key key a b → (h seed_hash : ℕ) → h ≡ seed_hash → (is asked : Bool) → is ≡ asked →
       (r : Result (Compact X) ErrorKind) → IfOk r (IsAnswer key d h is) → IfOk r (IsFoldAnswer key (minus (fold_key key) (fold_key key) u v) seed_hash asked)
   fold_answer a b u v first second d difference h seed_hash same_seed is asked same_order (Err e) answers = tt
@@ -37,7 +37,7 @@ module _ {X : Type 0} (key : X → ℕ) where
   none_mapped f None = refl
   none_mapped f (Some x) = refl
 
-  -- only the keys of the second are asked for
+  -- only the keys of the second matter
   pub minus_of_keys : (empty : Bool) (theta : ℕ) (a : Sketch X) (listing : List X) →
       minus key hash_key a (cond empty Empty (NonEmpty (record { entries = map_of hash_key (map key listing); theta = theta }))) ≡ minus key key a (cond empty Empty (NonEmpty (record { entries = map_of key listing; theta = theta })))
   minus_of_keys empty theta Empty listing = refl

@@ -1,4 +1,4 @@
--- Where a policy refuses a part, the whole maps have a mark.
+-- If a policy refuses a part, the whole maps have a mark.
 use Rattle.std.proofs.Common.{◌≡◌, ℕ, min, Bool, true, false, cond, ltb, eqb, eq-eqb, List, map, Option, Some, None, is_none, refl, sym, ap, ◌∙◌, subst, inl, inr}
 use Rattle.std.specs.Prelude.{◌⊎◌, ◌||◌, MatchOption, IsTrue}
 use Rattle.std.specs.Option.{option_map, option_map_or}
@@ -27,13 +27,13 @@ use Rattle.plan_evaluation.specs.Refused.{RefusedFor, MarksJoined, MarksMet}
 use Rattle.plan_evaluation.proofs.families.Held.{HoldsAll}
 
 module _ {X : Type 0} (key : X → ℕ) where
-  -- what is found below a bound is found, and its key is below the bound
+  -- an entry that is found below a bound is found in the whole list, and its key is below the bound
   found_below : (xs : List X) (t q : ℕ) (x : X) → entry_at key (below key xs t) q ≡ Some x → (entry_at key xs q ≡ Some x) × (ltb q t ≡ true)
   found_below xs t q x found =
       let found_in : cond (ltb q t) (entry_at key xs q) None ≡ Some x = sym (entry_at-below key xs t q) ∙ found in
       (elim (ltb q t) as (λ b. ltb q t ≡ b → cond b (entry_at key xs q) None ≡ Some x → (entry_at key xs q ≡ Some x) × (ltb q t ≡ true)) [ true ↦ λ e f. (f, e) | false ↦ λ e f. absurd (cc) ]) refl found_in
 
-  -- what is retained at a key below theta is what the whole map has there
+  -- an entry that is retained below theta is the whole map's entry at its key
   at_whole : (whole : List (Fold X)) (entries : List X) (theta q : ℕ) (x : X) → map Value entries ≡ below (fold_key key) whole theta → entry_at key entries q ≡ Some x → entry_at (fold_key key) whole q ≡ Some (Value x)
   at_whole whole entries theta q x all found =
       let there : entry_at (fold_key key) (below (fold_key key) whole theta) q ≡ Some (Value x) =
@@ -46,20 +46,20 @@ module _ {X : Type 0} (key : X → ℕ) where
   value_shown s listing nonempty = ap (λ b. unmarked_value (cond b Empty (NonEmpty (record { entries = map_of key listing; theta = s.theta })))) nonempty
 
   module _ {P : Type 0} where
-    -- a part of its seed is refused by no union that is at work
+    -- no union that has not failed refuses a part of its seed
     join_unrefused : (u : Union X P) (s : Shown) → u.failed ≡ false → u.seed_hash ≡ s.seed_hash → update_refusal u s ≡ None
     join_unrefused u s at_work same_seed =
         let tie : eqb u.seed_hash s.seed_hash ≡ true = eq-eqb _ _ same_seed in
         rw (at_work, tie) (elim s.empty as (λ b. ◌≡◌ {A = Option ErrorKind} (cond b None None) None) [ true ↦ refl | false ↦ refl ])
 
-    -- nor by an intersection
+    -- nor does an intersection
     meet_unrefused : (i : Intersection X P) (s : Shown) → i.seed_hash ≡ s.seed_hash → intersect_refusal i s ≡ None
     meet_unrefused i s same_seed =
         let tie : eqb i.seed_hash s.seed_hash ≡ true = eq-eqb _ _ same_seed in
         rw tie (elim (is_settled i.result || s.empty) as (λ b. ◌≡◌ {A = Option ErrorKind} (cond b None None) None) [ true ↦ refl | false ↦ refl ])
 
 module _ {X V : Type 0} (f : Family X V) (refuses : X → X → Bool) (keeps : KeepsKey f.key f.merges) where
-  -- a merge that is refused of what is held with what comes in leaves a mark where the whole maps are joined
+  -- a refused merge of a held entry and a new one leaves a mark in the joined whole maps
   joined_mark : (held : Retained X) (listing : List X) (theta t : ℕ) (whole come : List (Fold X)) → IsMergeRefused f.key refuses (below f.key held.entries t) listing →
       IsAscending (fold_key f.key) come → map Value held.entries ≡ below (fold_key f.key) whole held.theta → map Value (map_of f.key listing) ≡ below (fold_key f.key) come theta →
       has_mark (joined (fold_key f.key) (fold_merges f.key f.merges refuses) whole come) ≡ true
@@ -70,7 +70,7 @@ module _ {X V : Type 0} (f : Family X V) (refuses : X → X → Bool) (keeps : K
       (at_whole f.key come (map_of f.key listing) theta broken.at broken.new_entry comes (entry_at-map_of f.key listing broken.at ∙ broken.comes))
       broken.refused (ascending-apart (fold_key f.key) come up)
 
-  -- and where they are met
+  -- and in their common part
   met_mark : (held : Retained X) (listing : List X) (theta t : ℕ) (whole come : List (Fold X)) → IsMergeRefused f.key refuses (below f.key held.entries t) listing →
       map Value held.entries ≡ below (fold_key f.key) whole held.theta → map Value (map_of f.key listing) ≡ below (fold_key f.key) come theta →
       has_mark (common (fold_key f.key) (fold_merges f.key f.merges refuses) whole come) ≡ true
@@ -81,7 +81,7 @@ module _ {X V : Type 0} (f : Family X V) (refuses : X → X → Bool) (keeps : K
       (at_whole f.key come (map_of f.key listing) theta broken.at broken.new_entry comes (entry_at-map_of f.key listing broken.at ∙ broken.comes))
       broken.refused
 
-  -- what an intersection holds, met with what comes in
+  -- the entries of an intersection, met with new ones
   marks_met : (o : Option (Sketch X)) (listing : List X) (theta t : ℕ) → is_settled o ≡ false → IsMergeRefused f.key refuses (below f.key (held_of o).entries t) listing →
       MarksMet (folds_of f refuses) (option_map unmarked_value o) (NonEmpty (record { entries = map Value (map_of f.key listing); theta = theta }))
   marks_met None listing theta t unsettled broken = let none = broken.is_held in absurd (cc)

@@ -12,7 +12,7 @@ seed_hash-small : (seed : ℕ) → seed_hash seed < 2 ^ 16
 unfolding seed_hash
 seed_hash-small seed = omega arith
 
--- sketches that are sound, what is written of them, and what is read, with the laws of reading and writing
+-- sound sketches, their images and the sketches read from those, by the laws of reading and writing
 module _ {X : Type 0} (IsSound : Compact X → Type 0) (written : Compact X → List ℕ) (Reads : List ℕ → ℕ → Compact X → Type 0)
     (again : (s : Compact X) (rest : List ℕ) → IsSound s → 0 < s.seed_hash → s.seed_hash < 2 ^ 16 → Reads (written s ++ rest) s.seed_hash s)
     (one : (bytes : List ℕ) (h : ℕ) (r s : Compact X) → Reads bytes h r → Reads bytes h s → r ≡ s)
@@ -24,12 +24,12 @@ module _ {X : Type 0} (IsSound : Compact X → Type 0) (written : Compact X → 
       let all : written s ++ [] ≡ bytes = append-nil (written s) ∙ sym image in
       subst (λ (h : ℕ). Reads bytes h s) same (subst (λ (bs : List ℕ). Reads bs s.seed_hash s) all (again s [] sound low small))
 
-  -- what is read is the sketch that was written
+  -- reading returns the sketch that was written
   pub same_read : (r : Result (Compact X) ErrorKind) → IfOk r (λ t. Reads bytes (seed_hash seed) t) → IfOk r (λ t. t ≡ s)
   same_read (Ok t) reads = one bytes (seed_hash seed) t s reads reads_it
   same_read (Err e) reads = tt
 
-  -- and nothing but want of memory refuses it
+  -- or is refused, for lack of memory alone
   pub memory_alone : (r : Result (Compact X) ErrorKind) → IfErr r (λ e. IsRefused e ((t : Compact X) × Reads bytes (seed_hash seed) t)) → Refuses r None true
   memory_alone (Ok t) refused = refl
   memory_alone (Err e) (inl memory) = inr (memory, refl)

@@ -15,13 +15,13 @@ done x = Ok x
 pub ok_is : {A : Type 0} (x y : A) → done x ≡ done y → x ≡ y
 ok_is x y e = cc
 
--- a fault stays what it is, whatever would have followed
+-- a fault stays the same, whatever would follow
 pub fails_then : {A B : Type 0} (e : ReadError) (r : Result A Stop) (f : A → Result B Stop) → Fails e r → Fails e (r >>= f)
 fails_then errors.Memory r f h = tt
 fails_then (errors.Syntax rest) r f h = rw h refl
 fails_then (errors.Limit rest) r f h = rw h refl
 
--- what was read before, and what is still read
+-- the things read before, and those still to read
 abbrev pub with_front : {P : Type 0} → List P → Result (List P × Said) Stop → Result (List P × Said) Stop
 with_front front read = read >>= λ x. Ok (front ++ x.0, x.1)
 

@@ -67,7 +67,7 @@ push_step : (t : Bool) (v : ℕ) (a b c : Option ℕ) → cond t a None ≡ Some
 push_step true v a b c e h = h e
 push_step false v a b c e h = absurd cc
 
--- one digit more behind a word
+-- one more digit after a word
 pub digits_push : (n v d : ℕ) (w : List ℕ) → digits_from n w ≡ Some v → is_ascii_digit d ≡ true → v * 10 + digit_value d < 2 ^ 64 → digits_from n (w ++ d ∷ []) ≡ Some (v * 10 + digit_value d)
 digits_push n v d [] e is fits =
     let same : n ≡ v = cc in
@@ -108,7 +108,7 @@ and_second : (a b : Bool) → (a && b) ≡ true → b ≡ true
 and_second true b e = e
 and_second false b e = absurd cc
 
--- digits have no byte that is no digit
+-- a word of digits has no other byte
 pub digits_lack : (c : ℕ) (w : List ℕ) → is_ascii_digit c ≡ false → all_ascii_digits w ≡ true → Lacks c w
 digits_lack c [] other all k lt = absurd (omega arith)
 digits_lack c (b ∷ w) other all zero lt = first_digit b c other (and_first (is_ascii_digit b) (all_ascii_digits w) all)

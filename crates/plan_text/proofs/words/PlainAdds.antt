@@ -11,12 +11,12 @@ use Rattle.plan_text.specs.Reading.{says}
 use Rattle.plan_text.specs.declared.line.Line.TheVariants as line
 use Rattle.plan_text.specs.declared.line.StepLine.TheVariants as step
 
--- the first byte and what comes behind it
+-- the first byte and the bytes after it
 pub first_byte : (xs : List ℕ) (b : ℕ) → 1 ≤ length xs → get_or xs 0 0 ≡ b → xs ≡ b ∷ take (length xs - 1) (drop 1 xs)
 first_byte [] b some e = absurd (omega arith)
 first_byte (x ∷ xs) b some e = λ i. e i ∷ sym (take_all (length (x ∷ xs) - 1) xs (omega arith)) i
 
--- `add ` and what comes behind it
+-- `add ` and the bytes after it
 pub first_four : (xs : List ℕ) → 4 ≤ length xs → get_or xs 0 0 ≡ 97 → get_or xs 1 0 ≡ 100 → get_or xs 2 0 ≡ 100 → get_or xs 3 0 ≡ 32 → xs ≡ 97 ∷ 100 ∷ 100 ∷ 32 ∷ take (length xs - 4) (drop 4 xs)
 first_four [] some e0 e1 e2 e3 = absurd (omega arith)
 first_four (a ∷ []) some e0 e1 e2 e3 = absurd (omega arith)
@@ -35,7 +35,7 @@ Lacks_both c (x ∷ xs) ys h g = Lacks_one c x (xs ++ ys) (h 0 (omega arith)) (L
 Lacks_none : (c : ℕ) → Lacks c []
 Lacks_none c k lt = absurd (omega arith)
 
--- `add ` before what lacks LF
+-- `add ` before bytes without LF
 added_lacks : (bs : List ℕ) → Lacks 10 bs → Lacks 10 (97 ∷ 100 ∷ 100 ∷ 32 ∷ bs)
 added_lacks bs h = Lacks_both 10 (97 ∷ 100 ∷ 100 ∷ 32 ∷ []) bs (Lacks_one 10 97 (100 ∷ 100 ∷ 32 ∷ []) (λ e. absurd (omega arith)) (Lacks_one 10 100 (100 ∷ 32 ∷ []) (λ e. absurd (omega arith)) (Lacks_one 10 100 (32 ∷ []) (λ e. absurd (omega arith)) (Lacks_one 10 32 [] (λ e. absurd (omega arith)) (Lacks_none 10))))) h
 

@@ -46,7 +46,7 @@ length_step : (t : Bool) (b : ℕ) (ls : List (List ℕ)) (n : ℕ) → length l
 length_step true b ls n h = omega arith
 length_step false b ls n h = length-onto_first b ls n h
 
--- a line has a byte or an LF of its own
+-- each line takes at least one byte of the text
 pub length-lines_of-le : (text : List ℕ) → length (lines_of text) ≤ length text
 length-lines_of-le [] = omega arith
 length-lines_of-le (b ∷ bs) = length_step (eqb b 10) b (lines_of bs) (length bs) (length-lines_of-le bs)

@@ -53,7 +53,7 @@ some_kind kind = Some kind
 same_line : (a b : List ℕ) → some_line a ≡ some_line b → a ≡ b
 same_line a b e = cc
 
--- whatever its policies say, a plan is refused for an argument alone
+-- apart from policies and memory, a plan is refused for an argument alone
 for_argument : (fits : Bool) (kind : ErrorKind) → cond fits None (Some InvalidArgument) ≡ some_kind kind → kind ≡ InvalidArgument
 for_argument true kind e = absurd cc
 for_argument false kind e = cc
@@ -72,7 +72,7 @@ tells_policy command (inl refused) = absurd (let other : Policy ≡ InvalidArgum
 tells_policy command (inr (inl memory)) = absurd cc
 tells_policy command (inr (inr broken)) = λ input s. policy command s broken.1
 
--- the line of a refusal answers a command whose evaluation may be refused so
+-- the line of a refusal answers a command whose evaluation may be refused with that error
 tells_line : {Z : Type 0} (command : Command Z) (kind : ErrorKind) (text : List ℕ) → MayRefuse command kind → refusal_line kind ≡ Some text → AnswersCommand command 1 text
 tells_line command InvalidArgument text refused told = subst (AnswersCommand command 1) (same_line argument_line text told) (tells_argument command refused)
 tells_line command Policy text refused told = subst (AnswersCommand command 1) (same_line policy_line text told) (tells_policy command refused)

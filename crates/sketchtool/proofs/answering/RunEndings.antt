@@ -1,4 +1,4 @@
--- How a run ends that writes a text.
+-- How a run ends if it writes a text.
 use Rattle.std.proofs.Common.{◌≡◌, ℕ, List, Option, Some, None, refl}
 use Rattle.std.specs.Prelude.{IfSome}
 use Rattle.std.specs.Io.KnownBytes.{Keeps}
@@ -7,7 +7,7 @@ use Rattle.sketchtool.specs.declared.run.Ending.TheVariants.{Answered, NotRead, 
 use Rattle.sketchtool.specs.Answer.{Answers}
 use Rattle.sketchtool.specs.Ending.{Puts, Ends}
 
--- a text that answers the input was put
+-- a text that answers the input was written
 pub puts_answer : (Z : Type 0) (input text : List ℕ) (status : ℕ) (e : Ending) (old new : Option (List ℕ)) → Answers Z input status text → Puts text status e old new → Ends Z input e old new
 puts_answer Z input text status (Answered s) old new a p = (text, rw p.0 a, p.1)
 puts_answer Z input text status NotRead old new a p = tt

@@ -1,21 +1,21 @@
-//! A reader and a writer that fail where a test wants.
+//! A reader and a writer that fail at a place that a test chooses.
 
 use std::alloc::Allocator;
 use std::io::{Error, ErrorKind, Read, Result, Write};
 
-/// What a reader does after its text.
+/// The behavior of a reader after its text.
 #[derive(Clone, Copy)]
 pub enum After<'a> {
     End,
     /// It fails at each further read.
     Failure,
-    /// It fails at one read, and would then give this text.
+    /// It fails at one read, and would then return this text.
     Once(ErrorKind, &'a [u8]),
-    /// It gives one byte at each read, and never ends.
+    /// It returns one byte at each read, and never ends.
     More,
 }
 
-/// A reader that gives its text in pieces of so many bytes at most.
+/// A reader that returns its text in pieces of at most `piece` bytes.
 #[derive(Drop)]
 pub struct Pieces<'a> {
     text: &'a [u8],
@@ -36,12 +36,12 @@ impl<'a> Pieces<'a> {
         }
     }
 
-    /// How many reads there were.
+    /// The number of reads.
     pub fn reads(&self) -> u64 {
         self.reads
     }
 
-    /// How many bytes a read asked for, at least.
+    /// The least number of bytes that a read requested.
     pub fn least_asked(&self) -> usize {
         self.least_asked
     }
@@ -70,7 +70,7 @@ impl Read for Pieces<'_> {
     }
 }
 
-/// A writer that takes so many bytes, and then fails.
+/// A writer that accepts `room` bytes, and then fails.
 #[derive(Drop)]
 pub struct Room<A: Allocator> {
     bytes: Vec<u8, A>,
@@ -85,7 +85,7 @@ impl<A: Allocator> Room<A> {
         }
     }
 
-    /// What was written.
+    /// The bytes that were written.
     pub fn written(&self) -> &[u8] {
         self.bytes.as_slice()
     }

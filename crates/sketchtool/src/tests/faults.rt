@@ -1,11 +1,11 @@
-//! Texts that are at fault, texts that spell a command, and plans that no sketch may be built with.
+//! Texts with a fault, texts that spell a command, and plans with settings that no sketch may have.
 
 use super::answer_to_text;
 use plan_text::read_plan;
 use std::alloc::{AllocError, Global};
 use std::test::Fail;
 
-/// Faults, each the whole answer with status 1.
+/// Texts with a fault; each fault is the whole answer, with status 1.
 const FAULTS: [(&str, &str); 63] = [
     ("", "error 1 syntax\n"),
     ("\n", "error 1 syntax\n"),
@@ -126,7 +126,7 @@ const SPELLED: [&str; 14] = [
     "tuple image\nvia unordered\nmeet 1\nminus\nunion 5 max 0\nvia ordered\nleaf 5 max 0\n",
 ];
 
-/// Plans that no sketch may be built with.
+/// Plans with settings that no sketch may have.
 const ARGUMENTS: [&str; 13] = [
     "leaf 3 max 0\n",
     "leaf 27 max 0\n",
@@ -162,7 +162,7 @@ fn reads_commands(rt: HostRuntime) {
     }
 }
 
-/// The answer to a plan of so many nodes, one in the other, around the last lines.
+/// The answer to a plan of `nodes` nested nodes around the last lines.
 fn answer_to_nested(
     alloc: Global,
     nodes: u32,

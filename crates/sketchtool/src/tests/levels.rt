@@ -1,4 +1,4 @@
-//! Plans that a caller builds have no more levels than those of texts.
+//! A plan that a caller builds has at most as many levels as a plan in a text.
 
 use core_laws::MAX_THETA;
 use plan_evaluation::evaluate_theta;
@@ -7,7 +7,7 @@ use sketch_base::{DEFAULT_UPDATE_SEED, Error, ErrorKind};
 use std::alloc::Global;
 use std::test::Fail;
 
-/// A node that has one plan, or an empty leaf behind it.
+/// A node around one plan; a difference also has an empty leaf.
 #[derive(Debug, Clone, Copy)]
 enum Node {
     Via,
@@ -29,7 +29,7 @@ fn leaf(alloc: Global, hashes: &[u64]) -> Result<Plan<()>, Error> {
     })
 }
 
-/// A plan in memory of its own.
+/// A plan in a box.
 fn boxed(alloc: Global, plan: Plan<()>) -> Result<Boxed<Plan<()>>, Error> {
     Boxed::from_box(Box::new(alloc, plan)?)
 }
@@ -75,7 +75,7 @@ fn below(alloc: Global, node: Node, plan: Plan<()>) -> Result<Plan<()>, Error> {
     }
 }
 
-/// A leaf below so many nodes.
+/// A leaf below `count` nodes.
 fn nested(alloc: Global, node: Node, count: u8) -> Result<Plan<()>, Error> {
     let mut plan = leaf(alloc, &[7])?;
     for _ in 0..count {
@@ -84,14 +84,14 @@ fn nested(alloc: Global, node: Node, count: u8) -> Result<Plan<()>, Error> {
     Ok(plan)
 }
 
-/// How many levels a leaf has below so many nodes, and how many hashes its sketch.
+/// The number of levels of a leaf below `count` nodes, and the number of hashes in its sketch.
 fn evaluated(alloc: Global, node: Node, count: u8) -> Result<(u8, usize), Error> {
     let plan = nested(alloc, node, count)?;
     let sketch = evaluate_theta(alloc, &plan, DEFAULT_UPDATE_SEED)?;
     Ok((plan.levels(), sketch.num_retained()))
 }
 
-/// Why there is no such plan.
+/// Why a leaf below `count` nodes is refused.
 fn refusal(alloc: Global, node: Node, count: u8) -> Option<ErrorKind> {
     match evaluated(alloc, node, count) {
         Ok(_answer) => None,

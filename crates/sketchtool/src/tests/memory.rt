@@ -1,4 +1,4 @@
-//! How often memory is asked for, and what becomes of a run where it is refused.
+//! The number of requests for memory, and the answer of a run if one is refused.
 
 use super::{theta_plan, tuple_plan};
 use crate::run::run;
@@ -13,7 +13,7 @@ use tuple_sketches::{CompactTupleSketch, TupleSketch, TupleSketchBuilder, TupleU
 
 type Heap = Refusing<Global>;
 
-/// How many requests for memory are made, and how many entries they come to.
+/// The number of requests for memory that a call makes, and the number of entries that it returns.
 fn counted<F: Fn(&Heap) -> Result<usize, Error>>(
     alloc: Global,
     entries: F,
@@ -25,10 +25,10 @@ fn counted<F: Fn(&Heap) -> Result<usize, Error>>(
     Ok((heap.seen(), count))
 }
 
-/// Up to which number a leaf has the odd ones or the even ones.
+/// The greatest number in a leaf of odd or even numbers.
 const LAST: u64 = 200;
 
-/// The lines of a leaf of the numbers of one remainder modulo 2.
+/// Appends the lines of a leaf with the numbers of one remainder modulo 2.
 fn put_leaf(text: &mut String, remainder: u64) -> Result<(), AllocError> {
     text.push_str("leaf 5 max 100\n")?;
     for hash in 1..=LAST {
@@ -39,7 +39,7 @@ fn put_leaf(text: &mut String, remainder: u64) -> Result<(), AllocError> {
     Ok(())
 }
 
-/// The union of a leaf of odd numbers, which is written and read back, and a leaf of even ones.
+/// The text of a union of two leaves: one of odd numbers, which is written and read back, and one of even numbers.
 fn union_text(alloc: Global) -> Result<String, AllocError> {
     let mut text = String::from_str(alloc, "theta show\nunion 5 max 2\nvia unordered\n")?;
     put_leaf(&mut text, 1)?;
@@ -47,7 +47,7 @@ fn union_text(alloc: Global) -> Result<String, AllocError> {
     Ok(text)
 }
 
-/// The sketch of such a leaf.
+/// The sketch of the leaf with the numbers of one remainder modulo 2.
 fn leaf<'a>(heap: &'a Heap, remainder: u64) -> Result<ThetaSketch<&'a Heap>, Error> {
     let mut sketch = ThetaSketchBuilder::default().lg_k(5).build(heap)?;
     for hash in 1..=LAST {
@@ -58,7 +58,7 @@ fn leaf<'a>(heap: &'a Heap, remainder: u64) -> Result<ThetaSketch<&'a Heap>, Err
     Ok(sketch)
 }
 
-/// A sketch, written and read back where that is asked.
+/// A sketch, written and read back if `is_written`.
 fn passed<'a>(
     heap: &'a Heap,
     sketch: CompactThetaSketch<&'a Heap>,
@@ -72,7 +72,7 @@ fn passed<'a>(
     }
 }
 
-/// What the plan comes to, by the public calls of the sketches.
+/// The sketch of the plan, by the public calls of the sketches.
 fn by_hand<'a>(heap: &'a Heap, is_written: bool) -> Result<CompactThetaSketch<&'a Heap>, Error> {
     let mut union = ThetaUnionBuilder::default().lg_k(5).build(heap)?;
     let odd = leaf(heap, 1)?.compact(false)?;
@@ -101,7 +101,7 @@ fn asks_for_memory_as_by_hand(rt: HostRuntime) -> Result<(), Fail> {
 
 type Sums<'a> = TupleSketch<DefaultUpdatePolicy<u64>, &'a Heap>;
 
-/// The union of a leaf that is written and read back, and another leaf.
+/// The union of a leaf that is written and read back, and of another leaf.
 const TUPLES: &str =
     "tuple show\nunion 5 max 2\nvia unordered\nleaf 5 max 2\nadd 9 1\nadd 7 2\nleaf 5 max 1\nadd 9 3\n";
 
@@ -115,7 +115,7 @@ fn tuple_leaf<'a>(heap: &'a Heap, pairs: &[(u64, u64)]) -> Result<Sums<'a>, Erro
     Ok(sketch)
 }
 
-/// The first leaf, written and read back where that is asked.
+/// The first leaf, written and read back if `is_written`.
 fn passed_tuples<'a>(
     heap: &'a Heap,
     is_written: bool,
@@ -129,7 +129,7 @@ fn passed_tuples<'a>(
     }
 }
 
-/// What the plan of tuples comes to, by the public calls of the sketches.
+/// The sketch of the plan of tuples, by the public calls of the sketches.
 fn tuples_by_hand<'a>(
     heap: &'a Heap,
     is_written: bool,
@@ -180,14 +180,14 @@ const ANSWERED: [(&str, &str); 5] = [
         "theta show\nunion 6 max 2\nleaf 5 max 2\nadd 9\nadd 7\nlower 5\n",
         "empty no\ntheta 9223372036854775807\ncount 2\n7\n9\n",
     ),
-    // The difference of an intersection, of the image of a union and a leaf, and a leaf.
+    // A difference: of an intersection (of the image of a union and a leaf) and a leaf.
     (
         "tuple show\nminus\nmeet 2\nvia unordered\nunion 5 max 2\nleaf 5 max 2\nadd 9 1\nadd 7 2\nleaf 5 max 1\nadd 9 3\nleaf 5 max 2\nadd 9 5\nadd 7 1\nleaf 5 max 1\nadd 7 1\n",
         "empty no\ntheta 9223372036854775807\ncount 1\n9 9\n",
     ),
 ];
 
-/// Whether a run makes no more requests for memory than these, its status and what it wrote, where the next one is refused.
+/// Whether a run makes at most `refused` requests for memory; and its status and what it wrote, if the next one is refused.
 fn answer_without(alloc: Global, text: &str, refused: u64) -> (bool, u8, Vec<u8>) {
     let heap = Refusing::new(alloc);
     heap.restart(Refusal::Only(refused));

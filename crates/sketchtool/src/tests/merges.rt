@@ -14,8 +14,8 @@ const ORDERS: [[u64; 3]; 6] = [
     [3, 2, 1],
 ];
 
-/// Plans that unite three leaves: the nodes, with a leaf where one has no words, at which theta the leaves start, and up to
-/// which hash the plan goes, from 1 on.
+/// Plans that unite three leaves: the nodes, where an empty one is a leaf; the starting theta of the leaves; and the
+/// greatest hash that the plan retains, from 1 on.
 const MERGES: [(&[&str], &str, u8); 20] = [
     (&["union 5 max 3", "", "", ""], "max", 32),
     (
@@ -134,8 +134,8 @@ const MERGES: [(&[&str], &str, u8); 20] = [
     ),
 ];
 
-/// The hashes from 1 to 300 of one remainder modulo 3, in a leaf of a size of its own and of this start, each with the same
-/// behind it.
+/// Appends a leaf with the hashes from 1 to 300 of one remainder modulo 3, with a size of its own and this start;
+/// `behind` follows each hash.
 fn put_leaf(text: &mut String, part: u64, start: &str, behind: &str) -> Result<(), AllocError> {
     let lg_k = part.wrapping_add(4);
     writeln!(text, "leaf {lg_k} {start} 100")?;
@@ -146,7 +146,7 @@ fn put_leaf(text: &mut String, part: u64, start: &str, behind: &str) -> Result<(
     Ok(())
 }
 
-/// The answer to the plan of these nodes, whose leaves stand in this order.
+/// The answer to the plan of these nodes, with the leaves in this order.
 fn answer_to_merge(
     alloc: Global,
     command: &str,
@@ -166,7 +166,7 @@ fn answer_to_merge(
     Ok(answer_to_text(alloc, text.as_str()))
 }
 
-/// What is shown of the hashes from 1 to the last, below the next, each with the same behind it.
+/// The answer `show` for the hashes from 1 to `last`, with theta one above; `behind` follows each hash.
 fn shown_up_to(alloc: Global, last: u8, behind: &str) -> Result<String, AllocError> {
     let theta = last.wrapping_add(1);
     let mut shown = String::new(alloc);
@@ -177,7 +177,7 @@ fn shown_up_to(alloc: Global, last: u8, behind: &str) -> Result<String, AllocErr
     Ok(shown)
 }
 
-/// The line of the image of the hashes from 1 to the last, below the next.
+/// The answer `image` for the hashes from 1 to `last`, with theta one above.
 fn image_up_to(alloc: Global, last: u8) -> Result<String, AllocError> {
     let theta = last.wrapping_add(1);
     let mut image = String::from_str(alloc, "03030300001acc93")?;
@@ -235,7 +235,7 @@ fn writes_merges_in_any_order(rt: HostRuntime) -> Result<(), Fail> {
     Ok(())
 }
 
-/// The answer to the union of three leaves of tuples, each of value 1, that stand there twice.
+/// The answer to the union of three leaves of tuples with value 1, each given twice.
 fn answer_to_doubled(alloc: Global) -> Result<(u8, Vec<u8>), AllocError> {
     let mut text = String::from_str(alloc, "tuple show\nunion 5 max 6\n")?;
     for part in [1, 2, 3, 1, 2, 3] {

@@ -1,4 +1,4 @@
-//! How a run reads and writes, and what becomes of reads and writes that fail.
+//! How a run reads and writes, and how it ends if a read or a write fails.
 
 use super::answer_to;
 use super::fakes::{After, Pieces, Room};
@@ -7,7 +7,7 @@ use std::alloc::{AllocError, Global};
 use std::io::ErrorKind;
 use std::test::Fail;
 
-/// A text longer than one read asks for, with a fault at its last line.
+/// A text longer than one read requests, with a fault at its last line.
 fn long_text(alloc: Global) -> Result<String, AllocError> {
     let mut text = String::from_str(alloc, "theta show\nleaf 5 max 1000\n")?;
     for _ in 0..999 {
@@ -17,7 +17,7 @@ fn long_text(alloc: Global) -> Result<String, AllocError> {
     Ok(text)
 }
 
-/// The answer to a text that is read in pieces, and how many bytes a read asked for, at least.
+/// The answer to a text that is read in pieces, and the least number of bytes that a read requested.
 fn answer_in_pieces(alloc: Global, text: &str, piece: usize) -> (u8, Vec<u8>, usize) {
     let mut reader = Pieces::new(text.as_bytes(), piece, After::End);
     let (status, written) = answer_to(alloc, &mut reader);
@@ -36,7 +36,7 @@ fn reads_in_pieces(rt: HostRuntime) -> Result<(), Fail> {
     Ok(())
 }
 
-/// The status of a run whose reads fail after these bytes, and how many bytes it wrote.
+/// The status of a run whose reads fail after these bytes, and the number of bytes it wrote.
 fn answer_to_failure(alloc: Global, front: &[u8], piece: usize) -> (u8, usize) {
     let mut reader = Pieces::new(front, piece, After::Failure);
     let (status, written) = answer_to(alloc, &mut reader);
@@ -54,7 +54,7 @@ fn fails_with_a_read(rt: HostRuntime) -> Result<(), Fail> {
     Ok(())
 }
 
-/// How a run ends whose reads, seven bytes at most each, do this after the front of its text, and what it wrote.
+/// How a run ends, and what it wrote, if its reader returns `front` in pieces of at most seven bytes and then does this.
 fn ending_after(alloc: Global, front: &[u8], after: After<'_>) -> (Ending, Vec<u8>) {
     let mut reader = Pieces::new(front, 7, after);
     let mut written = Vec::new(alloc);
@@ -62,8 +62,7 @@ fn ending_after(alloc: Global, front: &[u8], after: After<'_>) -> (Ending, Vec<u
     (ending, written)
 }
 
-/// A read that fails once ends the run, though the reader would go on; one that was interrupted is
-/// made again.
+/// A read that fails once ends the run, even if the reader could continue; an interrupted read is repeated.
 #[test]
 fn ends_at_the_first_failed_read(rt: HostRuntime) -> Result<(), Fail> {
     let text = b"theta show\nleaf 5 max 0\n".as_slice();
@@ -95,7 +94,7 @@ fn gives_up_a_reader_that_never_ends(rt: HostRuntime) {
     assert!(rt; reader.least_asked() >= 4096);
 }
 
-/// The status of a run that reads nothing and may write so many bytes, and its writer.
+/// The status of a run that reads nothing and can write `room` bytes, and its writer.
 fn written_in(alloc: Global, room: usize) -> (u8, Room<Global>) {
     let mut reader: &[u8] = &[];
     let mut writer = Room::new(alloc, room);

@@ -9,7 +9,7 @@ use std::alloc::{Allocator, Global};
 use std::test::Fail;
 use tuple_sketches::{SummaryCombinePolicy, SummaryPolicy, SummaryUpdatePolicy, TupleSummaryValue};
 
-/// Writes the digit of a summary behind those that are there.
+/// Combines summaries as decimal digits: appends the new digit to those so far.
 #[derive(Debug, Clone, Copy)]
 struct Digits;
 
@@ -40,7 +40,7 @@ impl SummaryCombinePolicy for Digits {
     }
 }
 
-/// The first summary of what a plan comes to whose parts' summaries are combined as digits, if there is one.
+/// The first summary in the sketch of a plan if summaries are combined as digits; `None` if it has none.
 fn digits_of(alloc: Global, text: &str) -> Result<Option<u64>, Error> {
     let Some(plan) = tuple_plan(alloc, text) else {
         return Ok(None);
@@ -107,7 +107,7 @@ impl<A: Allocator> TupleSummaryValue<A> for Unwritable {
     ghost text_spells = { λ x v. refl };
 }
 
-/// Summaries that can't be written, whatever they take in.
+/// A policy of summaries that can't be written; updates and merges don't change them.
 #[derive(Debug, Clone, Copy)]
 struct Marks;
 
@@ -139,7 +139,7 @@ impl SummaryCombinePolicy for Marks {
     }
 }
 
-/// How many entries a plan of summaries that can't be written comes to, or why it is refused.
+/// The number of entries in the sketch of a plan of summaries that can't be written, or why the plan is refused.
 fn marked(alloc: Global, text: &str) -> Option<Result<usize, ErrorKind>> {
     let plan = tuple_plan(alloc, text)?;
     let sketch = evaluate_tuple(alloc, &plan, DEFAULT_UPDATE_SEED, Marks, Marks);

@@ -8,15 +8,15 @@ use std::test::Fail;
 #[derive(Clone, Copy, Debug)]
 enum Piece {
     Lines(&'static str),
-    /// A line `add` for each hash from a first to a last.
+    /// A line `add` for each hash from the first to the last.
     Adds(u64, u64),
-    /// The same for the even ones of these.
+    /// A line `add` for each even hash from the first to the last.
     EvenAdds(u64, u64),
 }
 
 use Piece::{Adds, EvenAdds, Lines};
 
-/// Plans in pieces, and what they answer.
+/// Plans in pieces, and their answers.
 const WORKED: [(&[Piece], &str); 15] = [
     (
         &[Lines("tuple show\nmeet 2\nleaf 5 max 2\nadd 5 3\nadd 6 1\nleaf 5 max 1\nadd 5 4\n")],
@@ -57,7 +57,7 @@ const WORKED: [(&[Piece], &str); 15] = [
         &[Lines("tuple image\nvia unordered\nleaf 5 max 0\n")],
         "01030901001e0000\n",
     ),
-    // One update, whose hash is screened.
+    // One update with the hash 0, which is never retained.
     (
         &[Lines("theta show\nunion 5 max 1\nleaf 5 max 1\nadd 0\n")],
         "empty no\ntheta 9223372036854775807\ncount 0\n",
@@ -77,7 +77,7 @@ const WORKED: [(&[Piece], &str); 15] = [
         ],
         "empty no\ntheta 33\ncount 16\n1\n3\n5\n7\n9\n11\n13\n15\n17\n19\n21\n23\n25\n27\n29\n31\n",
     ),
-    // A part with fewer nominal entries than the union, trimmed; a union in between that starts below the leaves.
+    // A trimmed part with fewer nominal entries than the union; an inner union that starts below the leaves.
     (
         &[
             Lines("theta show\nunion 6 max 1\nleaf 5 max 41\n"),
@@ -93,7 +93,7 @@ const WORKED: [(&[Piece], &str); 15] = [
         ],
         "empty no\ntheta 10\ncount 9\n1\n2\n3\n4\n5\n6\n7\n8\n9\n",
     ),
-    // A union in between with fewer nominal entries than the last one.
+    // An inner union with fewer nominal entries than the outer one.
     (
         &[
             Lines("theta show\nunion 5 max 1\nunion 4 max 1\nleaf 5 max 20\n"),

@@ -7,7 +7,7 @@ use Rattle.core_table.specs.HashTable.{empty_table}
 use Rattle.plan_values.specs.Family.{folds_of}
 use Rattle.plan_evaluation.proofs.evaluate.updated.Given as goal
 
--- the sketch retains, as folds, what the steps so far make of a new one
+-- in folds, the sketch is a new one after the steps so far
 abbrev pub invariant-steps : goal.invariant-steps
 invariant-steps g l = (let f = folds_of (g.F.SketchFamily.rules l.family) (g.F.SketchFamily.refuses l.family) in let s = g.F.SketchFamily.state l.sketch in record {
   own : g.F.SketchFamily.made_sketch l.family l.sketch;

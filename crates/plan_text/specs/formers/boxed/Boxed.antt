@@ -1,5 +1,5 @@
--- `Boxed` as a type through which another reaches itself, as a plan does through its operands: its
--- value is what it holds, whatever the allocator and the number of levels.
+-- `Boxed` as a type in a recursive one, as in a plan with its operands: its value is the boxed item, whatever the
+-- allocator and the number of levels.
 use mathlib.Core.Path.{refl}
 use Prim.Native.Nat.{ℕ}
 use mathlib.Core.Former.{Former, this, const, pair, via}
@@ -22,14 +22,14 @@ use Rattle.plan_text.specs.declared.boxed.Boxed.TheView.{view, invariant}
 use Rattle.plan_text.specs.contracts.boxed.Boxed as contract
 use Rattle.plan_text.specs.contracts.boxed.Boxed.TheInside as inside
 
--- what is held is all that it holds
+-- the boxed item is the whole value
 abbrev pub the_former : Former {0} → Type 0 → Former {0}
 the_former held A = held
 
 abbrev pub the_weighed : {held : Former {0}} → Weighed held → (A : Type 0) → Weighed (the_former held A)
 the_weighed weighed A = weighed
 
--- the fields, a box (its place, its allocator and what it holds) and a number of levels
+-- the fields: a box (its address, its allocator and its item) and a number of levels
 abbrev field : Type 0 → Former {0}
 field A = via (pair (pair (const (Ptr × A)) this) (const ℕ)) (λ X. Inside X A) (λ X b. (((b.held.ptr, b.held.alloc), b.held.value), b.levels))
     (λ X v. record { held = record { ptr = v.0.0.0; alloc = v.0.0.1; value = v.0.1 }; levels = v.1 }) (λ X b. refl) (λ X v. refl)

@@ -1,5 +1,5 @@
--- `Items` as a type through which another reaches itself, as a plan does through its parts: its
--- value is the list of what it holds, whatever the allocator and the number of levels.
+-- `Items` as a type in a recursive one, as in a plan with its parts: its value is the list of its items, whatever the
+-- allocator and the number of levels.
 use mathlib.Core.Path.{◌≡◌, refl, sym}
 use mathlib.Core.List.{List, []}
 use Prim.Native.Nat.{ℕ}
@@ -19,7 +19,7 @@ use Rattle.plan_text.specs.declared.items.Items.TheView.{view, invariant}
 use Rattle.plan_text.specs.contracts.items.Items as contract
 use Rattle.plan_text.specs.contracts.items.Items.TheInside as inside
 
--- the items are all that it holds
+-- the items are the whole value
 abbrev pub the_former : Former {0} → Type 0 → Former {0}
 the_former item A = list item
 
@@ -35,7 +35,7 @@ the_items A X items = items
 pub the_items_listed : (A X : Type 0) (items : List X) → listed _ (children (the_former this A) X items) ≡ the_items A X items
 the_items_listed A X items = list-listed X items
 
--- the fields, a vector and a number of levels
+-- the fields: a vector and a number of levels
 abbrev field : Type 0 → Former {0}
 field A = via (pair (vec.the_former this A) (const ℕ)) (λ X. Inside X A) (λ X it. (it.items, it.levels)) (λ X v. record { items = v.0; levels = v.1 })
     (λ X it. refl) (λ X v. refl)

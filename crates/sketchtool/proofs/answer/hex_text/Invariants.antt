@@ -4,6 +4,6 @@ use Rattle.std.specs.List.{flat_map}
 use Rattle.sketchtool.specs.Answer.{hex_byte}
 use Rattle.sketchtool.proofs.answer.hex_text.Given as goal
 
--- the bytes so far are there
+-- the text has the bytes so far
 abbrev pub invariant-loop-byte : goal.invariant-loop-byte
 invariant-loop-byte g l = string_bytes l.text ≡ flat_map hex_byte (take l.byte-index l.bytes)

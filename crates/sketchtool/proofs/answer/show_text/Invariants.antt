@@ -5,12 +5,12 @@ use Rattle.core_state.specs.View.{shows, lends}
 use Rattle.sketchtool.specs.Answer.{shown_text}
 use Rattle.sketchtool.proofs.answer.show_text.Given as goal
 
--- what is there, and then the entries that are left, is the whole text
+-- the text so far, and then the remaining entries, is the whole text
 abbrev pub invariant-loop-entry : goal.invariant-loop-entry
 invariant-loop-entry g l =
     let shown = shows g.E.SketchEntry.key l.fn.sketch in
     string_bytes l.text ++ flat_map g.E.ShownEntry.texts.line l.entry-iterator.rest ≡ shown_text g.E.ShownEntry.texts shown.empty shown.theta (lends l.fn.sketch)
 
--- the entries that are left
+-- the remaining entries
 abbrev pub decreases-loop-entry : goal.decreases-loop-entry
 decreases-loop-entry g l = length l.entry-iterator.rest
