@@ -1,7 +1,7 @@
 -- A retained map that is shown obeys the laws of what a sketch shows.
 use Rattle.std.proofs.Common.{◌≡◌, ℕ, ◌<◌, ◌≤◌, ◌^◌, Bool, true, false, List, [], length, map, refl, arith}
 use Rattle.std.proofs.lemmas.List.{length-map}
-use Rattle.core_laws.specs.Maps.{IsAscending, IsLent}
+use Rattle.core_laws.specs.Maps.{IsAscending, IsListing}
 use Rattle.core_laws.specs.Cuts.{Retained, IsRetained}
 use Rattle.core_laws.specs.Shown.{IsShown}
 use Rattle.core_laws.proofs.maps.Ascending.{ascending_at, ascending-nil}
@@ -40,7 +40,7 @@ IsShown-none theta seed_hash empty ordered low high greatest = record {
 
 module _ {X : Type 0} (key : X → ℕ) where
   -- a sketch that lists its retained entries, in whatever order
-  pub shown-lent : (v : Retained X) (lends : List X) (seed_hash : ℕ) → IsRetained key v → IsLent key v.entries lends → length v.entries < 2 ^ 32 → IsShown (record { empty = false; theta = v.theta; seed_hash = seed_hash; ordered = false; hashes = map key lends })
+  pub shown-lent : (v : Retained X) (lends : List X) (seed_hash : ℕ) → IsRetained key v → IsListing key v.entries lends → length v.entries < 2 ^ 32 → IsShown (record { empty = false; theta = v.theta; seed_hash = seed_hash; ordered = false; hashes = map key lends })
   shown-lent v lends seed_hash good lent few = record {
     theta_low = good.theta_low;
     theta_high = good.theta_high;

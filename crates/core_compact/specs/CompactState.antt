@@ -2,7 +2,7 @@
 use Rattle.std.specs.Prelude.{ℕ, ◌≡◌, ◌==◌, ◌&&◌, ◌||◌, Bool, true, false, List, [], length, map, if◌then◌else◌}
 use Rattle.core_laws.specs.declared.TheConstants.{MAX_THETA}
 use Rattle.core_laws.specs.Cuts.{Retained}
-use Rattle.core_laws.specs.Maps.{map_of, IsLent}
+use Rattle.core_laws.specs.Maps.{map_of, IsListing}
 use Rattle.core_laws.specs.Values.{Sketch, Empty, NonEmpty}
 use Rattle.core_laws.specs.Shown.{Shown, IsShown}
 
@@ -27,23 +27,23 @@ pub record IsCompact {X : Type 0} (key : X → ℕ) (s : Compact X) : Type 0 whe
   pub shown : IsShown (shown_of key s)
   pub empty_ordered : s.empty ≡ true → s.ordered ≡ true
 
--- a result is ordered if `asked`, or if it has one entry and the greatest theta
-abbrev pub is_answer_ordered : (asked : Bool) → (count theta : ℕ) → Bool
-is_answer_ordered asked count theta = asked || (count == 1 && theta == MAX_THETA)
+-- a result is ordered if `requested`, or if it has one entry and the greatest theta
+abbrev pub is_answer_ordered : (requested : Bool) → (count theta : ℕ) → Bool
+is_answer_ordered requested count theta = requested || (count == 1 && theta == MAX_THETA)
 
 -- s lists the retained entries, each once, and ascending if it is ordered
-pub record IsCompactOf {X : Type 0} (key : X → ℕ) (v : Retained X) (seed_hash : ℕ) (asked : Bool) (s : Compact X) : Type 0 where
+pub record IsCompactOf {X : Type 0} (key : X → ℕ) (v : Retained X) (seed_hash : ℕ) (requested : Bool) (s : Compact X) : Type 0 where
   pub nonempty : s.empty ≡ false
   pub same_theta : s.theta ≡ v.theta
   pub same_seed : s.seed_hash ≡ seed_hash
-  pub ordered_if : s.ordered ≡ is_answer_ordered asked (length v.entries) v.theta
-  pub lists_all : IsLent key v.entries s.entries
+  pub ordered_if : s.ordered ≡ is_answer_ordered requested (length v.entries) v.theta
+  pub lists_all : IsListing key v.entries s.entries
   pub in_order : s.ordered ≡ true → s.entries ≡ v.entries
 
 -- s is the result that has this value
-abbrev pub IsAnswer : {X : Type 0} → (X → ℕ) → Sketch X → (seed_hash : ℕ) → (asked : Bool) → Compact X → Type 0
-IsAnswer key Empty seed_hash asked s = s ≡ empty_compact seed_hash
-IsAnswer key (NonEmpty v) seed_hash asked s = IsCompactOf key v seed_hash asked s
+abbrev pub IsAnswer : {X : Type 0} → (X → ℕ) → Sketch X → (seed_hash : ℕ) → (requested : Bool) → Compact X → Type 0
+IsAnswer key Empty seed_hash requested s = s ≡ empty_compact seed_hash
+IsAnswer key (NonEmpty v) seed_hash requested s = IsCompactOf key v seed_hash requested s
 
 -- the value of a compact state
 abbrev pub compact_value : {X : Type 0} → (X → ℕ) → Compact X → Sketch X

@@ -9,7 +9,7 @@ MakesInTurn step first [] (y ∷ ys) last = ⊥
 MakesInTurn step first (x ∷ xs) [] last = ⊥
 
 -- a closure, called at each of xs in turn, may be in this state before its call at x
-pub record ComesTo {G X Y : Type 0} (step : G → X → Y → G → Type 0) (first : G) (xs : List X) (state : G) (x : X) : Type 0 where
+pub record MayReach {G X Y : Type 0} (step : G → X → Y → G → Type 0) (first : G) (xs : List X) (state : G) (x : X) : Type 0 where
   pub before : List X
   pub after : List X
   pub made : List Y

@@ -1,7 +1,7 @@
 //! Compact states: the entries of a sketch that no longer changes.
 ghost use Rattle.std.specs.Prelude.{◌≡◌, ◌==◌, ◌&&◌, ◌<◌, ◌≤◌, length, nat_lt, not, false, true, None, map, IfOk};
 ghost use Rattle.core_compact.specs.CompactState.{Compact, IsCompact, empty_compact, is_answer_ordered, shown_of};
-ghost use Rattle.core_compact.specs.Mapped.{MakesInTurn, ComesTo};
+ghost use Rattle.core_compact.specs.Mapped.{MakesInTurn, MayReach};
 ghost use Rattle.core_laws.specs.Refusal.{Refuses};
 ghost use Rattle.core_laws.specs.Shown.{IsShown};
 ghost use Rattle.core_laws.specs.Entries.{ClonesEqual};
@@ -132,8 +132,8 @@ impl<E: SketchEntry + Drop, A: Allocator + Clone> CompactSketchState<E, A> {
         self,
         f: G,
     ) -> Result<CompactSketchState<F, A>, Error>
-        requires callable { (g : G) (x : E) → ComesTo G.step f self.entries g x → G.pre g x }
-        requires keeps_hash { (g : G) (x : E) (y : F) (next : G) → ComesTo G.step f self.entries g x → G.step g x y next → F.key y ≡ E.key x }
+        requires callable { (g : G) (x : E) → MayReach G.step f self.entries g x → G.pre g x }
+        requires keeps_hash { (g : G) (x : E) (y : F) (next : G) → MayReach G.step f self.entries g x → G.step g x y next → F.key y ≡ E.key x }
         ensures entries { IfOk result (λ s. (last : G) × MakesInTurn G.step f self.entries s.entries last) }
         ensures same { IfOk result (λ s.
             s
@@ -160,12 +160,12 @@ impl<E: SketchEntry + Drop, A: Allocator + Clone> CompactSketchState<E, A> {
     }
 }
 
-/// Whether a result of `count` entries below `theta` is ordered: if `asked`, or if it has one entry and the greatest
+/// Whether a result of `count` entries below `theta` is ordered: if `requested`, or if it has one entry and the greatest
 /// theta.
-pub fn is_answer_ordered(asked: bool, count: usize, theta: u64) -> bool
-    ensures { result ≡ is_answer_ordered asked count theta }
+pub fn is_answer_ordered(requested: bool, count: usize, theta: u64) -> bool
+    ensures { result ≡ is_answer_ordered requested count theta }
 {
-    asked || count == 1 && theta == MAX_THETA
+    requested || count == 1 && theta == MAX_THETA
 }
 
 /// The results of a closure, called once for each entry, in their order.
@@ -174,8 +174,8 @@ fn images<E: SketchEntry + Drop, F: SketchEntry + Drop, G: FnMut(E) -> F + Drop,
     entries: Vec<E, A>,
     mut f: G,
 ) -> Result<Vec<F, A>, AllocError>
-    requires callable { (g : G) (x : E) → ComesTo G.step f entries.items g x → G.pre g x }
-    requires keeps_hash { (g : G) (x : E) (y : F) (next : G) → ComesTo G.step f entries.items g x → G.step g x y next → F.key y ≡ E.key x }
+    requires callable { (g : G) (x : E) → MayReach G.step f entries.items g x → G.pre g x }
+    requires keeps_hash { (g : G) (x : E) (y : F) (next : G) → MayReach G.step f entries.items g x → G.step g x y next → F.key y ≡ E.key x }
     ensures images { IfOk result (λ ys. (last : G) × MakesInTurn G.step f entries.items ys.items last) }
     ensures hashes { IfOk result (λ ys. map F.key ys.items ≡ map E.key entries.items) }
 {

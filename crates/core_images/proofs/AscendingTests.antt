@@ -12,7 +12,7 @@ use Rattle.std.proofs.lemmas.List.Sorted.{IsNonDecreasingBy-from_sort, IsPermuta
 use Rattle.std.proofs.lemmas.Map.Keys.{IsDistinct-IsPermutation, IsStrictlyIncreasing-from_distinct, sorted_from_strictly_increasing, sorted_head, sorted_tail}
 use Rattle.core_compact.specs.CompactState.{shown_of}
 use Rattle.core_laws.specs.Maps.{IsAscending}
-use Rattle.core_images.specs.Entry.{state_behind}
+use Rattle.core_images.specs.Entry.{state_after_preamble}
 use Rattle.core_images.specs.Check.{ascends_from, is_ascending, is_within, AreHashes}
 use Rattle.core_laws.specs.Shown.{IsShown}
 use Rattle.core_laws.specs.declared.TheConstants.{MAX_THETA}
@@ -128,7 +128,7 @@ module _ {X : Type 0} (key : X → ℕ) where
 -- the rules of the hashes are the laws of a sketch that shows them
 
 module _ {X : Type 0} (key : X → ℕ) (p : Preamble) (h : ℕ) (xs : List X) where
-  pub lawful_from : 0 < p.theta → p.theta ≤ MAX_THETA → length xs < 2 ^ 32 → AreHashes p.theta p.ordered (map key xs) → IsShown (shown_of key (state_behind p h xs))
+  pub lawful_from : 0 < p.theta → p.theta ≤ MAX_THETA → length xs < 2 ^ 32 → AreHashes p.theta p.ordered (map key xs) → IsShown (shown_of key (state_after_preamble p h xs))
   lawful_from low high few good = record {
     theta_low = low;
     theta_high = high;
@@ -141,7 +141,7 @@ module _ {X : Type 0} (key : X → ℕ) (p : Preamble) (h : ℕ) (xs : List X) w
     greatest = λ e. absurd (cc);
   }
 
-  pub hashes_from : IsShown (shown_of key (state_behind p h xs)) → AreHashes p.theta p.ordered (map key xs)
+  pub hashes_from : IsShown (shown_of key (state_after_preamble p h xs)) → AreHashes p.theta p.ordered (map key xs)
   hashes_from shown = record { distinct = shown.distinct; nonzero = shown.nonzero; below_theta = shown.below_theta; ascending = shown.ascending }
 
 -- hashes that ascend from 0, and those that do not

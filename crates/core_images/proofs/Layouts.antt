@@ -4,7 +4,7 @@ use Rattle.std.proofs.lemmas.Bool.Decides.{nat_tests}
 use Rattle.core_compact.specs.CompactState.{Compact}
 use Rattle.core_images.specs.Read.{ReadsFlagged, empty_image, single_image, exact_image, estimating_image, LeavesOpen}
 use Rattle.core_images.specs.Preamble.{announced, seed_hash_at, count_at, theta_at, is_empty, is_ordered, flagged_layout, admitted, IsWholeLayout}
-use Rattle.core_images.specs.Entry.{state_behind}
+use Rattle.core_images.specs.Entry.{state_after_preamble}
 use Rattle.core_laws.specs.declared.TheConstants.{MAX_THETA}
 use Rattle.core_images.specs.declared.preamble.Layout.{Layout}
 use Rattle.core_images.specs.declared.preamble.Layout.TheVariants.{Empty, Filled}
@@ -38,7 +38,7 @@ module _ {X : Type 0} (key : X → ℕ) (Spells : List ℕ → X → Type 0) (by
   pub comes_one : (one : (a b u v : List ℕ) (x y : X) → Spells a x → Spells b y → a ++ u ≡ b ++ v → (a ≡ b) × (x ≡ y)) → (l : Option Layout) (r s : Compact X) → Comes l r → Comes l s → r ≡ s
   comes_one one None r s p q = absurd p
   comes_one one (Some Empty) r s p q = p ∙ sym q
-  comes_one one (Some (Filled m)) r s p q = p.1 ∙ ap (λ xs. state_behind m h xs) (lists_one Spells one key bytes m h p.0 q.0 p.2 q.2) ∙ sym q.1
+  comes_one one (Some (Filled m)) r s p q = p.1 ∙ ap (λ xs. state_after_preamble m h xs) (lists_one Spells one key bytes m h p.0 q.0 p.2 q.2) ∙ sym q.1
 
   pub along : (l m : Option Layout) (s : Compact X) → l ≡ m → Comes m s → Comes l s
   along l m s e p = rw e p

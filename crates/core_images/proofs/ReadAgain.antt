@@ -10,7 +10,7 @@ use Rattle.core_compact.specs.CompactState.{Compact, IsCompact, empty_compact, s
 use Rattle.core_images.specs.Read.{ReadsFlagged, ReadsCurrent, empty_image, single_image, exact_image, estimating_image}
 use Rattle.core_images.specs.Preamble.{Begins, announced, count_at, theta_at, is_ordered}
 use Rattle.core_images.specs.Write.{written_image, head, counted}
-use Rattle.core_images.specs.Entry.{HasEntries, state_behind, SpellsEach}
+use Rattle.core_images.specs.Entry.{HasEntries, state_after_preamble, SpellsEach}
 use Rattle.core_images.specs.HashSpelling.{number-four, number-eight}
 use Rattle.core_laws.specs.Shown.{IsShown}
 use Rattle.core_laws.specs.declared.TheConstants.{MAX_THETA}
@@ -42,7 +42,7 @@ module _ {X : Type 0} (key : X → ℕ) where
       λ i. record { empty = e i; entries = none i; theta = greatest i; seed_hash = s.seed_hash; ordered = ordered i }
 
   -- a state that is not empty, as the listing of a preamble
-  is_listing : (s : Compact X) (start : ℕ) → s.empty ≡ false → state_behind (record { start = start; count = length s.entries; theta = s.theta; ordered = s.ordered }) s.seed_hash s.entries ≡ s
+  is_listing : (s : Compact X) (start : ℕ) → s.empty ≡ false → state_after_preamble (record { start = start; count = length s.entries; theta = s.theta; ordered = s.ordered }) s.seed_hash s.entries ≡ s
   is_listing s start e = λ i. record { empty = sym e i; entries = s.entries; theta = s.theta; seed_hash = s.seed_hash; ordered = s.ordered }
 
 module _ {X : Type 0} (key : X → ℕ) (Spells : List ℕ → X → Type 0) (text : X → List ℕ) (IsValue : X → Type 0)
@@ -63,7 +63,7 @@ module _ {X : Type 0} (key : X → ℕ) (Spells : List ℕ → X → Type 0) (te
     few : length s.entries < 2 ^ 32
     few = let f = w.shown.few in let l = length-map s.entries key in omega arith
 
-    lawful : (start : ℕ) → IsShown (shown_of key (state_behind (record { start = start; count = length s.entries; theta = s.theta; ordered = s.ordered }) s.seed_hash s.entries))
+    lawful : (start : ℕ) → IsShown (shown_of key (state_after_preamble (record { start = start; count = length s.entries; theta = s.theta; ordered = s.ordered }) s.seed_hash s.entries))
     lawful start = let P : Compact X → Type 0 = λ t. IsShown (shown_of key t) in subst P (sym (is_listing key s start e)) w.shown
 
     three : List ℕ
@@ -83,7 +83,7 @@ module _ {X : Type 0} (key : X → ℕ) (Spells : List ℕ → X → Type 0) (te
           held = record { text = flat_map text s.entries; after = rest; there = refl; spelled = spelled; counted = refl };
           lawful = lawful 24;
         } in
-        let P : Preamble → Type 0 = λ p. HasEntries key Spells three p s.seed_hash s.entries → ReadsFlagged key Spells three 3 s.seed_hash (state_behind p s.seed_hash s.entries) in
+        let P : Preamble → Type 0 = λ p. HasEntries key Spells three p s.seed_hash s.entries → ReadsFlagged key Spells three 3 s.seed_hash (state_after_preamble p s.seed_hash s.entries) in
         let Q : Compact X → Type 0 = λ t. ReadsFlagged key Spells three 3 s.seed_hash t in
         let reads = subst P same (λ f. estimating_image s.entries (flag_empty s.ordered) (number-two s.seed_hash small) refl f) lists in
         (3, begins, refl, subst Q (is_listing key s 24 e) reads)
@@ -104,7 +104,7 @@ module _ {X : Type 0} (key : X → ℕ) (Spells : List ℕ → X → Type 0) (te
           held = record { text = flat_map text s.entries; after = rest; there = refl; spelled = spelled; counted = refl };
           lawful = lawful 16;
         } in
-        let P : Preamble → Type 0 = λ p. HasEntries key Spells two p s.seed_hash s.entries → ReadsFlagged key Spells two 2 s.seed_hash (state_behind p s.seed_hash s.entries) in
+        let P : Preamble → Type 0 = λ p. HasEntries key Spells two p s.seed_hash s.entries → ReadsFlagged key Spells two 2 s.seed_hash (state_after_preamble p s.seed_hash s.entries) in
         let Q : Compact X → Type 0 = λ t. ReadsFlagged key Spells two 2 s.seed_hash t in
         let reads = subst P same (λ f. exact_image s.entries (flag_empty s.ordered) (number-two s.seed_hash small) refl f) lists in
         (2, begins, refl, subst Q (is_listing key s 16 e) reads)
@@ -124,7 +124,7 @@ module _ {X : Type 0} (key : X → ℕ) (Spells : List ℕ → X → Type 0) (te
           held = record { text = flat_map text s.entries; after = rest; there = refl; spelled = spelled; counted = refl };
           lawful = lawful 8;
         } in
-        let P : Preamble → Type 0 = λ p. HasEntries key Spells alone p s.seed_hash s.entries → ReadsFlagged key Spells alone 1 s.seed_hash (state_behind p s.seed_hash s.entries) in
+        let P : Preamble → Type 0 = λ p. HasEntries key Spells alone p s.seed_hash s.entries → ReadsFlagged key Spells alone 1 s.seed_hash (state_after_preamble p s.seed_hash s.entries) in
         let Q : Compact X → Type 0 = λ t. ReadsFlagged key Spells alone 1 s.seed_hash t in
         let reads = subst P same (λ f. single_image s.entries (flag_empty s.ordered) (number-two s.seed_hash small) refl f) lists in
         (1, begins, refl, subst Q (is_listing key s 8 e) reads)

@@ -3,7 +3,7 @@ use Rattle.std.proofs.Common.{◌≡◌, ℕ, ◌+◌, ◌*◌, ◌/◌, ◌<◌
 use Rattle.sketch_base.specs.declared.error.ErrorKind.{ErrorKind}
 use Rattle.core_compact.specs.CompactState.{Compact, shown_of}
 use Rattle.core_images.specs.Read.{IsRefused, Finds, LeavesOpen}
-use Rattle.core_images.specs.Entry.{SpellsEach, Holds, state_behind}
+use Rattle.core_images.specs.Entry.{SpellsEach, Holds, state_after_preamble}
 use Rattle.core_images.specs.Preamble.{IsWholeLayout}
 use Rattle.core_images.specs.Check.{AreHashes}
 use Rattle.core_laws.specs.Shown.{IsShown}
@@ -59,8 +59,8 @@ module _ {X : Type 0} (Spells : List ℕ → X → Type 0) (one : (a b u v : Lis
     pub good_of : (xs : List X) → Holds Spells (drop p.start bytes) p.count xs → (s : Compact X) × LeavesOpen key Spells bytes h (Some (Filled p)) s → AreHashes p.theta p.ordered (map key xs)
     good_of xs held found =
         let same = holds_one Spells one (drop p.start bytes) p.count found.1.0 xs found.1.2.held held in
-        let P : List X → Type 0 = λ ys. IsShown (shown_of key (state_behind p h ys)) in
+        let P : List X → Type 0 = λ ys. IsShown (shown_of key (state_after_preamble p h ys)) in
         hashes_from key p h xs (subst P same found.1.2.lawful)
 
-    pub listing_found : (xs : List X) → IsWholeLayout bytes (Some (Filled p)) → length xs < 2 ^ 32 → Holds Spells (drop p.start bytes) p.count xs → AreHashes p.theta p.ordered (map key xs) → LeavesOpen key Spells bytes h (Some (Filled p)) (state_behind p h xs)
+    pub listing_found : (xs : List X) → IsWholeLayout bytes (Some (Filled p)) → length xs < 2 ^ 32 → Holds Spells (drop p.start bytes) p.count xs → AreHashes p.theta p.ordered (map key xs) → LeavesOpen key Spells bytes h (Some (Filled p)) (state_after_preamble p h xs)
     listing_found xs whole few held good = (xs, refl, record { whole = whole.0; held = held; lawful = lawful_from key p h xs whole.1 whole.2 few good })

@@ -23,11 +23,11 @@ pub record Holds {X : Type 0} (Spells : List ℕ → X → Type 0) (bytes : List
   pub counted : length xs ≡ count
 
 -- the state of a sketch that is not empty, with a preamble's theta and order
-abbrev pub state_behind : {X : Type 0} → Preamble → (seed_hash : ℕ) → List X → Compact X
-state_behind p seed_hash xs = record { empty = false; entries = xs; theta = p.theta; seed_hash = seed_hash; ordered = p.ordered }
+abbrev pub state_after_preamble : {X : Type 0} → Preamble → (seed_hash : ℕ) → List X → Compact X
+state_after_preamble p seed_hash xs = record { empty = false; entries = xs; theta = p.theta; seed_hash = seed_hash; ordered = p.ordered }
 
 -- after this preamble the bytes have the spellings of these entries, and a sketch may show these entries
 pub record HasEntries {X : Type 0} (key : X → ℕ) (Spells : List ℕ → X → Type 0) (bytes : List ℕ) (p : Preamble) (h : ℕ) (xs : List X) : Type 0 where
   pub whole : p.start ≤ length bytes
   pub held : Holds Spells (drop p.start bytes) p.count xs
-  pub lawful : IsShown (shown_of key (state_behind p h xs))
+  pub lawful : IsShown (shown_of key (state_after_preamble p h xs))

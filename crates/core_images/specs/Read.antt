@@ -3,7 +3,7 @@ use Rattle.std.specs.Prelude.{◌≡◌, ◌⊎◌, List, ℕ, Result, Ok, Err, 
 use Rattle.sketch_base.specs.declared.error.ErrorKind.{ErrorKind}
 use Rattle.sketch_base.specs.declared.error.ErrorKind.TheVariants.{OutOfMemory, InvalidData}
 use Rattle.core_compact.specs.CompactState.{Compact, empty_compact}
-use Rattle.core_images.specs.Entry.{HasEntries, state_behind}
+use Rattle.core_images.specs.Entry.{HasEntries, state_after_preamble}
 use Rattle.core_laws.specs.declared.TheConstants.{MAX_THETA}
 use Rattle.core_images.specs.Preamble.{Begins, is_empty, is_ordered, seed_hash_at, count_at, theta_at, announced}
 use Rattle.core_images.specs.declared.preamble.Layout.{Layout}
@@ -29,13 +29,13 @@ pub data ReadsFlagged {X : Type 0} (key : X → ℕ) (Spells : List ℕ → X �
   empty_image : is_empty bytes ≡ true → ReadsFlagged key Spells bytes longs h (empty_compact h)
   single_image : (xs : List X) → is_empty bytes ≡ false → seed_hash_at bytes ≡ h → longs ≡ 1
       → HasEntries key Spells bytes (announced 1 1 MAX_THETA (is_ordered bytes)) h xs
-      → ReadsFlagged key Spells bytes longs h (state_behind (announced 1 1 MAX_THETA (is_ordered bytes)) h xs)
+      → ReadsFlagged key Spells bytes longs h (state_after_preamble (announced 1 1 MAX_THETA (is_ordered bytes)) h xs)
   exact_image : (xs : List X) → is_empty bytes ≡ false → seed_hash_at bytes ≡ h → longs ≡ 2
       → HasEntries key Spells bytes (announced 2 (count_at bytes) MAX_THETA (is_ordered bytes)) h xs
-      → ReadsFlagged key Spells bytes longs h (state_behind (announced 2 (count_at bytes) MAX_THETA (is_ordered bytes)) h xs)
+      → ReadsFlagged key Spells bytes longs h (state_after_preamble (announced 2 (count_at bytes) MAX_THETA (is_ordered bytes)) h xs)
   estimating_image : (xs : List X) → is_empty bytes ≡ false → seed_hash_at bytes ≡ h → longs ≡ 3
       → HasEntries key Spells bytes (announced 3 (count_at bytes) (theta_at bytes) (is_ordered bytes)) h xs
-      → ReadsFlagged key Spells bytes longs h (state_behind (announced 3 (count_at bytes) (theta_at bytes) (is_ordered bytes)) h xs)
+      → ReadsFlagged key Spells bytes longs h (state_after_preamble (announced 3 (count_at bytes) (theta_at bytes) (is_ordered bytes)) h xs)
 
 -- these bytes are read as version 3 of a family and kind
 abbrev pub ReadsCurrent : {X : Type 0} → (X → ℕ) → (List ℕ → X → Type 0) → (family kind : ℕ) → (bytes : List ℕ) → (h : ℕ) → Compact X → Type 0
@@ -45,4 +45,4 @@ ReadsCurrent key Spells family kind bytes h s = (longs : ℕ) × Begins bytes lo
 abbrev pub LeavesOpen : {X : Type 0} → (X → ℕ) → (List ℕ → X → Type 0) → List ℕ → (h : ℕ) → Option Layout → Compact X → Type 0
 LeavesOpen key Spells bytes h None s = ⊥
 LeavesOpen key Spells bytes h (Some Empty) s = s ≡ empty_compact h
-LeavesOpen {X} key Spells bytes h (Some (Filled p)) s = (xs : List X) × (s ≡ state_behind p h xs) × HasEntries key Spells bytes p h xs
+LeavesOpen {X} key Spells bytes h (Some (Filled p)) s = (xs : List X) × (s ≡ state_after_preamble p h xs) × HasEntries key Spells bytes p h xs

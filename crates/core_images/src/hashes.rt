@@ -57,8 +57,8 @@ pub(crate) fn read_hashes<A: Allocator + Drop>(
     if words.len() < count as usize {
         return Err(Error::new(ErrorKind::InvalidData));
     }
-    let (told, _) = words.split_at(count as usize);
-    let hashes = told
+    let (counted, _) = words.split_at(count as usize);
+    let hashes = counted
         .iter()
         .map(|word| ThetaEntry::of_hash(u64::from_le_bytes(*word)));
     let mut entries = Vec::with_capacity(alloc, count as usize)?;

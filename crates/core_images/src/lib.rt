@@ -18,6 +18,6 @@ pub use entry::ImageEntry;
 pub use preamble::{
     Layout, Preamble, admitted, announced, count_at, flagged_layout, seed_hash_at, theta_at,
 };
-pub use read::read_behind;
+pub use read::read_after_preamble;
 pub use summary::TupleSummaryValue;
 pub use write::{write_image, write_image_with_capacity};

@@ -12,7 +12,7 @@ use std::alloc::Allocator;
 /// Reads the state that the bytes spell by this layout, under the reader's seed hash. It refuses with `InvalidData`
 /// exactly if they spell none, or with `OutOfMemory`. Besides what entries allocate themselves, it allocates room for
 /// at most one entry per eight bytes, and eight bytes per entry to compare hashes that don't ascend.
-pub fn read_behind<E: ImageEntry<A> + Drop, A: Allocator + Clone + Drop>(
+pub fn read_after_preamble<E: ImageEntry<A> + Drop, A: Allocator + Clone + Drop>(
     alloc: A,
     bytes: &[u8],
     layout: Option<Layout>,

@@ -1,6 +1,6 @@
 pub mod Cases
 pub mod Merges
-pub mod LeftOut
+pub mod DroppedHashes
 pub mod Unmarked
 pub mod FoldedSteps
 pub mod Leaves

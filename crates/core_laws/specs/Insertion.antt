@@ -59,9 +59,9 @@ abbrev pub IsRedundant : {X : Type 0} → (X → ℕ) → Retained X → ℕ →
 IsRedundant key v h = (is_screened h v.theta ≡ true) ⊎ IsSome (entry_at key v.entries h)
 
 -- ys are the xs in their order, without some of those that P holds of
-abbrev pub LeavesOut : {X : Type 0} → (X → Type 0) → (xs ys : List X) → Type 0
-LeavesOut {X} P [] ys = ys ≡ []
-LeavesOut {X} P (x ∷ xs) ys = (P x × LeavesOut P xs ys) ⊎ ((zs : List X) × (ys ≡ x ∷ zs) × LeavesOut P xs zs)
+abbrev pub Drops : {X : Type 0} → (X → Type 0) → (xs ys : List X) → Type 0
+Drops {X} P [] ys = ys ≡ []
+Drops {X} P (x ∷ xs) ys = (P x × Drops P xs ys) ⊎ ((zs : List X) × (ys ≡ x ∷ zs) × Drops P xs zs)
 
 -- a step at h on a whole map, which has no theta
 abbrev pub whole_upsert : {X : Type 0} → (X → ℕ) → ℕ → Step X → List X → List X

@@ -74,7 +74,7 @@ HaveKey key q values = AllByRecursion (λ v. IsSome (entry_at key v.entries q)) 
 
 -- some first values have no key in common though nothing was cut away: up to a last one they all have the greatest theta,
 -- the last has keys, those before it have a key in common, and together with the last they have none
-pub record ComesToNothing {X : Type 0} (key : X → ℕ) (values : List (Retained X)) : Type 0 where
+pub record BecomesDisjoint {X : Type 0} (key : X → ℕ) (values : List (Retained X)) : Type 0 where
   pub before : List (Retained X)
   pub last : Retained X
   pub after : List (Retained X)

@@ -8,10 +8,10 @@ ghost use Rattle.core_laws.specs.Commuting.{Commutes, Associates, IsIdempotent};
 ghost use Rattle.core_laws.specs.KeysOfValues.{keys_of, IsKeyOf, IsBelowTheta};
 ghost use Rattle.core_laws.specs.Folds.{folded, folded_of, has_mark, Fold, Value, fold_key, fold_merges, unmarked, unmarked_value, never};
 ghost use Rattle.core_laws.specs.Entries.{hash_key, hash_step, first_hash, KeepsKey};
-ghost use Rattle.core_laws.specs.Operators.{meet_next, unite, meet, minus, lacking, least, all_have, joined_all, nonempties, joined, common, ComesToNothing};
+ghost use Rattle.core_laws.specs.Operators.{meet_next, unite, meet, minus, lacking, least, all_have, joined_all, nonempties, joined, common, BecomesDisjoint};
 ghost use Rattle.core_laws.specs.Values.{keys, IsAscendingValue, cut_value, Sketch, Empty, NonEmpty};
 ghost use Rattle.core_laws.specs.Lawful.{IsLawful, IsWithin};
-ghost use Rattle.core_laws.specs.Insertion.{whole_upsert, after_upsert, after_upserts, upsert_refusal, IsRedundant, LeavesOut};
+ghost use Rattle.core_laws.specs.Insertion.{whole_upsert, after_upsert, after_upserts, upsert_refusal, IsRedundant, Drops};
 ghost use Rattle.core_laws.specs.declared.leaf.LeafStep.{LeafStep};
 ghost use Rattle.core_laws.specs.declared.leaf.LeafStep.TheVariants.{Trim};
 ghost use Rattle.core_laws.specs.Leaf.{leaf, leaf_from, whole, hash_step_of, added, kmin, is_updated, KeepsHashes};
@@ -42,8 +42,8 @@ pub fn upsert_stays_within<X>()
 
 /// If hashes are inserted in turn, those that are screened or retained at the start may be dropped: the same hashes are
 /// retained in the end.
-pub fn redundant_hashes_left_out()
-    ensures { (k : ℕ) (v : Retained ℕ) (hashes left : List ℕ) → IsRetained hash_key v → LeavesOut (IsRedundant hash_key v) hashes left → after_upserts hash_key k hash_step hashes v ≡ after_upserts hash_key k hash_step left v }
+pub fn redundant_hashes_dropped()
+    ensures { (k : ℕ) (v : Retained ℕ) (hashes left : List ℕ) → IsRetained hash_key v → Drops (IsRedundant hash_key v) hashes left → after_upserts hash_key k hash_step hashes v ≡ after_upserts hash_key k hash_step left v }
 {}
 
 /// Inserting a first part of some hashes and then all of them has the same effect as inserting all of them once.
@@ -211,8 +211,8 @@ pub fn meet_with_empty<X>()
 /// A meet of values that aren't Empty is Empty exactly if, for some j, the first j values all have the greatest theta,
 /// the jth has keys, those before it have a key in common, and all j have none in common.
 pub fn meet_is_empty<X>()
-    ensures only_if { (key : X → ℕ) (merges : X → X → X) → KeepsKey key merges → (u : Retained X) (vs : List (Retained X)) → AllByRecursion (IsRetained key) (u ∷ vs) → meet key merges (NonEmpty u ∷ map NonEmpty vs) ≡ Empty → ComesToNothing key (u ∷ vs) }
-    ensures if_so { (key : X → ℕ) (merges : X → X → X) → KeepsKey key merges → (u : Retained X) (vs : List (Retained X)) → AllByRecursion (IsRetained key) (u ∷ vs) → ComesToNothing key (u ∷ vs) → meet key merges (NonEmpty u ∷ map NonEmpty vs) ≡ Empty }
+    ensures only_if { (key : X → ℕ) (merges : X → X → X) → KeepsKey key merges → (u : Retained X) (vs : List (Retained X)) → AllByRecursion (IsRetained key) (u ∷ vs) → meet key merges (NonEmpty u ∷ map NonEmpty vs) ≡ Empty → BecomesDisjoint key (u ∷ vs) }
+    ensures if_so { (key : X → ℕ) (merges : X → X → X) → KeepsKey key merges → (u : Retained X) (vs : List (Retained X)) → AllByRecursion (IsRetained key) (u ∷ vs) → BecomesDisjoint key (u ∷ vs) → meet key merges (NonEmpty u ∷ map NonEmpty vs) ≡ Empty }
 {}
 
 /// A hash is a key of a meet of some values exactly if it is a key of each; so the keys of a meet don't depend on the

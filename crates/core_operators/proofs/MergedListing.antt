@@ -8,7 +8,7 @@ use Rattle.sketch_base.specs.declared.error.ErrorKind.{ErrorKind}
 use Rattle.core_laws.specs.Maps.{IsAscending, below, entry_at, with_entry, IsApart}
 use Rattle.core_laws.specs.Cuts.{Retained, cut}
 use Rattle.core_table.specs.Gathering.{from_below}
-use Rattle.core_operators.specs.Iter.{still_asked}
+use Rattle.core_operators.specs.Iter.{still_read}
 use Rattle.core_laws.specs.Insertion.{is_screened, rebuilt, after_upsert, upsert_refusal, after_upserts}
 use Rattle.core_laws.specs.Step.{merge_step}
 use Rattle.core_laws.specs.Folds.{Fold, Value, fold_key, fold_merges, unmarked, never}
@@ -152,7 +152,7 @@ module _ {X : Type 0} (key : X → ℕ) (merges : X → X → X) (refuses : X �
       ]) refl
 
   pub still_folds : (k theta : ℕ) (v : Retained X) (ordered : Bool) (xs : List X) →
-      after_upserts (fold_key key) k (merge_step (fold_merges key merges refuses) never) (map Value (below key (still_asked key ordered (min theta v.theta) xs) theta)) (unmarked v) ≡ after_upserts (fold_key key) k (merge_step (fold_merges key merges refuses) never) (map Value (below key xs theta)) (unmarked v)
+      after_upserts (fold_key key) k (merge_step (fold_merges key merges refuses) never) (map Value (below key (still_read key ordered (min theta v.theta) xs) theta)) (unmarked v) ≡ after_upserts (fold_key key) k (merge_step (fold_merges key merges refuses) never) (map Value (below key xs theta)) (unmarked v)
   still_folds k theta v true xs = refl
   still_folds k theta v false xs = from_below_folds k theta v xs
 
@@ -164,7 +164,7 @@ module _ {X : Type 0} (key : X → ℕ) (merges : X → X → X) (refuses : X �
         | false ↦ from_below_merging listing first now t xs ordered (merging-passed listing first xs now x ordered so_far)
       ]
 
-  pub still_merging : (listing first now : List X) (t : ℕ) (xs : List X) (ordered : Bool) → IsMerging key listing first xs now ordered → IsMerging key listing first (still_asked key ordered t xs) now ordered
+  pub still_merging : (listing first now : List X) (t : ℕ) (xs : List X) (ordered : Bool) → IsMerging key listing first xs now ordered → IsMerging key listing first (still_read key ordered t xs) now ordered
   still_merging listing first now t xs true so_far = so_far
   still_merging listing first now t xs false so_far = from_below_merging listing first now t xs false so_far
 
@@ -187,6 +187,6 @@ from_below-fewer : {X : Type 0} (key : X → ℕ) (t : ℕ) (xs : List X) → le
 from_below-fewer key t [] = omega arith
 from_below-fewer key t (x ∷ xs) = elim (ltb (key x) t) as (λ b. length (cond b (x ∷ xs) (from_below key t xs)) ≤ length (x ∷ xs)) [ true ↦ omega arith | false ↦ omega (arith, from_below-fewer key t xs) ]
 
-pub still_fewer : {X : Type 0} (key : X → ℕ) (ordered : Bool) (t : ℕ) (xs : List X) → length (still_asked key ordered t xs) ≤ length xs
+pub still_fewer : {X : Type 0} (key : X → ℕ) (ordered : Bool) (t : ℕ) (xs : List X) → length (still_read key ordered t xs) ≤ length xs
 still_fewer key true t xs = omega arith
 still_fewer key false t xs = from_below-fewer key t xs

@@ -110,11 +110,11 @@ abbrev pub is_nothing_left : (theta held come shared : ℕ) → Bool
 is_nothing_left theta held come shared = theta == MAX_THETA && (not (held == 0) && (not (come == 0) && shared == 0))
 
 -- the result has this value, or there is neither a result nor a value
-abbrev pub IsAnswerIfAny : {X : Type 0} → (X → ℕ) → Option (Sketch X) → (hash : ℕ) → (asked : Bool) → Option (Compact X) → Type 0
-IsAnswerIfAny key None hash asked None = ⊤
-IsAnswerIfAny key None hash asked (Some s) = ⊥
-IsAnswerIfAny key (Some v) hash asked None = ⊥
-IsAnswerIfAny key (Some v) hash asked (Some s) = IsAnswer key v hash asked s
+abbrev pub IsAnswerIfAny : {X : Type 0} → (X → ℕ) → Option (Sketch X) → (hash : ℕ) → (requested : Bool) → Option (Compact X) → Type 0
+IsAnswerIfAny key None hash requested None = ⊤
+IsAnswerIfAny key None hash requested (Some s) = ⊥
+IsAnswerIfAny key (Some v) hash requested None = ⊥
+IsAnswerIfAny key (Some v) hash requested (Some s) = IsAnswer key v hash requested s
 
 -- an error of an update with hashes, which leaves the intersection as it was: what is refused before anything is read, or memory
 abbrev pub IsHashIntersectError : {P : Type 0} → (old new : Intersection ℕ P) → Shown → ErrorKind → Type 0

@@ -15,5 +15,5 @@ left_in (Table entries) = record { rest = entries; counted = false }
 left_in (Slice entries) = record { rest = entries.now; counted = true }
 
 -- the entries that a merge still reads: if the order isn't known, those from the first that is below theta
-abbrev pub still_asked : {X : Type 0} → (X → ℕ) → (ordered : Bool) → (theta : ℕ) → List X → List X
-still_asked key ordered theta xs = if ordered then xs else from_below key theta xs
+abbrev pub still_read : {X : Type 0} → (X → ℕ) → (ordered : Bool) → (theta : ℕ) → List X → List X
+still_read key ordered theta xs = if ordered then xs else from_below key theta xs

@@ -1,6 +1,6 @@
 //! Iterators over the entries of views. Contracts see the items that an iterator has left.
 ghost use Rattle.std.specs.Prelude.{◌≡◌, ◌↔◌, Some, true, false, length, map, IsSome, IfSome};
-ghost use Rattle.core_laws.specs.Maps.{IsLent};
+ghost use Rattle.core_laws.specs.Maps.{IsListing};
 ghost use Rattle.core_table.specs.Gathering.{from_below};
 ghost use Rattle.std.specs.Iterator.{YieldsFirst, YieldsFirstRef, UpTo, item_count};
 ghost use Rattle.std.specs.Iterator.SizeHint.{IsWithinCount};
@@ -46,8 +46,8 @@ impl<'a, E: SlotEntry> EntryIter<'a, E> {
 impl<'a, E: SlotEntry> EntryIter<'a, E> {
     /// The entries of a table, each once, in an unspecified order.
     pub fn of_table<A: Allocator>(table: &'a SketchHashTable<E, A>) -> Self
-        ensures lent { result ≡ record { rest = table.entry.now.lends; counted = false } }
-        ensures each_once { IsLent E.key table.entry.now.map.kept.entries table.entry.now.lends }
+        ensures listed { result ≡ record { rest = table.entry.now.lends; counted = false } }
+        ensures each_once { IsListing E.key table.entry.now.map.kept.entries table.entry.now.lends }
     {
         EntryIter {
             source: Source::Table(table.iter_entries()),
@@ -75,7 +75,7 @@ impl<'a, E: SlotEntry> EntryIter<'a, E> {
     #[inline(always)]
     pub fn as_slice(&self) -> Option<&'a [E]>
         ensures left { IfSome result (λ s. s.now ≡ self.now.rest) }
-        ensures told { IsSome result ↔ (self.now.counted ≡ true) }
+        ensures sliced { IsSome result ↔ (self.now.counted ≡ true) }
     {
         match &self.source {
             Source::Table(_) => None,

@@ -9,6 +9,8 @@ mod intersection;
 mod iter;
 pub mod laws;
 mod merge;
+mod scan;
+mod search;
 mod share;
 mod union;
 mod view;

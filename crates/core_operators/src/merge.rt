@@ -3,7 +3,7 @@ ghost use Rattle.std.specs.Prelude.{◌≡◌, ◌^◌, ◌⊎◌, Some, [], ◌
 ghost use Rattle.core_laws.specs.Step.{merge_step};
 ghost use Rattle.core_laws.specs.Maps.{IsAscending};
 ghost use Rattle.core_laws.specs.Folds.{never};
-ghost use Rattle.core_operators.specs.Iter.{still_asked};
+ghost use Rattle.core_operators.specs.Iter.{still_read};
 ghost use Rattle.core_laws.specs.Entries.{ClonesEqual};
 ghost use Rattle.core_operators.specs.Union.{HasMerged, IsMergeRefusal};
 
@@ -58,8 +58,8 @@ fn next_entry<'a, E: SlotEntry>(
     ordered: bool,
     theta: u64,
 ) -> Option<&'a E>
-    ensures { let asked = still_asked E.key ordered theta entries.old.rest in
-        MatchOption result (asked ≡ []) (λ x. asked ≡ x.now ∷ entries.new.rest) }
+    ensures { let unread = still_read E.key ordered theta entries.old.rest in
+        MatchOption result (unread ≡ []) (λ x. unread ≡ x.now ∷ entries.new.rest) }
 {
     if !ordered {
         entries.pass_to_below(theta);
@@ -109,7 +109,7 @@ fn merge_ascending<E: SlotEntry + Clone, P: UnionMergePolicy<E>, A: Allocator + 
 
 /// Merges the entries of a sketch below theta into the table of a union, one by one, in their order; the policy never
 /// sees the others. If they ascend, it stops at the first that is not below theta or that the table screens.
-fn merge_lent<S: EntrySketch, P: UnionMergePolicy<S::Entry>, A: Allocator + Clone>(
+fn merge_listed<S: EntrySketch, P: UnionMergePolicy<S::Entry>, A: Allocator + Clone>(
     table: &mut SketchHashTable<S::Entry, A>,
     sketch: S,
     policy: &P,
@@ -169,11 +169,11 @@ where
     ensures made_with { table.new.map ≡ record table.old.map { kept = table.new.map.kept } }
     ensures refused { IfErr result (IsMergeRefusal S.Entry.key (P.refuses policy.now) table.old.map.kept.entries theta (S.listing sketch)) }
 {
-    let lent = sketch.entries();
+    let list = sketch.entries();
     if ordered {
-        if let Some(ascending) = lent.as_slice() {
+        if let Some(ascending) = list.as_slice() {
             return merge_ascending(table, ascending, policy, theta);
         }
     }
-    merge_lent(table, sketch, policy, ordered, theta)
+    merge_listed(table, sketch, policy, ordered, theta)
 }

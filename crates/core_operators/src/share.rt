@@ -89,7 +89,7 @@ pub(crate) fn copied_table<S: EntrySketch, A: Allocator + Clone>(
 where
     S::Entry: Clone,
     requires clones_equal { ClonesEqual S.Entry.is_clone }
-    requires told { theta ≡ (S.shown sketch).theta }
+    requires of_theta { theta ≡ (S.shown sketch).theta }
     requires sound { IsShown (S.shown sketch) }
     ensures kept { IfOk result (λ t. t.map.kept ≡ record { entries = map_of S.Entry.key (S.listing sketch); theta = theta }) }
     ensures few { IfOk result (λ t. length t.map.kept.entries < 2 ^ 32) }
@@ -194,7 +194,7 @@ where
     S::Entry: Clone,
     requires clones_equal { ClonesEqual S.Entry.is_clone }
     requires in_order { ordered ≡ (S.shown sketch).ordered }
-    requires told { theta ≡ (S.shown sketch).theta }
+    requires of_theta { theta ≡ (S.shown sketch).theta }
     requires sound { IsShown (S.shown sketch) }
     ensures kept { IfOk result (λ t.
         IsSharedMap S.Entry.key (P.merges policy.now) (P.refuses policy.now) held.now.map theta (S.listing sketch)

@@ -41,7 +41,7 @@ pub trait KeySketch: Copy {
 
     /// Its metadata.
     fn metadata(self) -> ThetaFamilySketchMetadata
-        ensures told { result ≡ metadata_of (shown self) }
+        ensures metadata { result ≡ metadata_of (shown self) }
         ensures is_sound { IsShown (shown self) };
 
     /// An iterator over its hashes, each once.

@@ -6,8 +6,8 @@ use Rattle.std.proofs.lemmas.Bool.Decides.{nat_tests}
 use Rattle.std.proofs.lemmas.List.{take_more, take_more_set, take-set, append-nil, length-set, length-append, length-take-le, take-append-le, take-append-drop, take_at, take_all}
 use Rattle.std.proofs.lemmas.List.Elements.{filter-append}
 use Rattle.core_laws.specs.Maps.{entry_at}
-use Rattle.core_laws.specs.Insertion.{is_screened, IsRedundant, LeavesOut}
-use Rattle.core_laws.proofs.insertions.LeftOut.{left_out_again, left_out-filter}
+use Rattle.core_laws.specs.Insertion.{is_screened, IsRedundant, Drops}
+use Rattle.core_laws.proofs.insertions.DroppedHashes.{left_out_again, left_out-filter}
 use Rattle.core_slots.specs.Layout.{filled}
 use Rattle.core_slots.specs.Lookup.{IsBlanked}
 
@@ -100,14 +100,14 @@ packed_pass theta (h ∷ hashes) =
 -- hashes that were blanked and packed are dropped
 module _ {X : Type 0} (key : X → ℕ) (xs : List X) (theta : ℕ) where
   left_out-blanked : (hashes now : List ℕ) → length now ≡ length hashes → ((p : ℕ) → p < length hashes → IsBlanked key xs (get_or hashes p 0) (get_or now p 0)) →
-      LeavesOut (IsRedundant key (record { entries = xs; theta = theta })) hashes (filter (λ h. not (is_screened h theta)) now)
+      Drops (IsRedundant key (record { entries = xs; theta = theta })) hashes (filter (λ h. not (is_screened h theta)) now)
   left_out-blanked [] [] size each = refl
   left_out-blanked [] (g ∷ now) size each = absurd (cc)
   left_out-blanked (h ∷ hashes) [] size each = absurd (cc)
   left_out-blanked (h ∷ hashes) (g ∷ now) size each =
       let rest = left_out-blanked hashes now (omega (arith, size)) (λ p lt. each (suc p) (omega (arith, lt))) in
       let left : List ℕ = filter (λ h. not (is_screened h theta)) now in
-      (elim (is_screened g theta) as (λ b. is_screened g theta ≡ b → LeavesOut (IsRedundant key (record { entries = xs; theta = theta })) (h ∷ hashes) (cond (not b) (g ∷ left) left)) [
+      (elim (is_screened g theta) as (λ b. is_screened g theta ≡ b → Drops (IsRedundant key (record { entries = xs; theta = theta })) (h ∷ hashes) (cond (not b) (g ∷ left) left)) [
         | true ↦ λ e. elim (each 0 (omega arith)) [
           | inl same ↦ inl (inl (subst (λ (q : ℕ). is_screened q theta ≡ true) same e), rest)
           | inr found ↦ inl (inr found.1, rest)
@@ -123,7 +123,7 @@ module _ {X : Type 0} (key : X → ℕ) (xs : List X) (theta : ℕ) where
     pub size : length hashes ≡ length whole
     pub few : left ≤ length hashes
     pub unscreened : AllByRecursion (λ h. is_screened h theta ≡ false) (take left hashes)
-    pub others_out : LeavesOut (IsRedundant key (record { entries = xs; theta = theta })) whole (take left hashes)
+    pub others_out : Drops (IsRedundant key (record { entries = xs; theta = theta })) whole (take left hashes)
 
   -- one more round: the front is blanked, and the hashes that are not blanked are packed
   pub left_more : (whole hashes blanks packs : List ℕ) (left more : ℕ) → IsLeft whole hashes left →
@@ -146,11 +146,11 @@ module _ {X : Type 0} (key : X → ℕ) (xs : List X) (theta : ℕ) where
         few = omega (arith, few, short, was.few, whole_size);
         unscreened = subst (AllByRecursion (λ h. is_screened h theta ≡ false)) (sym now) (packed_pass theta blanks);
         others_out = left_out_again _ whole (take left hashes) (take more (packs ++ drop left (blanks ++ drop left hashes))) was.others_out
-            (subst (λ zs. LeavesOut (IsRedundant key (record { entries = xs; theta = theta })) (take left hashes) zs) (sym now) (left_out-blanked (take left hashes) blanks size each));
+            (subst (λ zs. Drops (IsRedundant key (record { entries = xs; theta = theta })) (take left hashes) zs) (sym now) (left_out-blanked (take left hashes) blanks size each));
       }
 
   -- the first
-  pub left_out-first : (hashes after : List ℕ) → after ≡ filter (λ h. not (is_screened h theta)) hashes → LeavesOut (IsRedundant key (record { entries = xs; theta = theta })) hashes after
+  pub left_out-first : (hashes after : List ℕ) → after ≡ filter (λ h. not (is_screened h theta)) hashes → Drops (IsRedundant key (record { entries = xs; theta = theta })) hashes after
   left_out-first hashes after is =
-      subst (λ zs. LeavesOut (IsRedundant key (record { entries = xs; theta = theta })) hashes zs) (sym is)
+      subst (λ zs. Drops (IsRedundant key (record { entries = xs; theta = theta })) hashes zs) (sym is)
       (left_out-filter _ (λ h. not (is_screened h theta)) (λ h e. inl (grind (arith, nat_tests))) hashes)

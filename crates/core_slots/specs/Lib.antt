@@ -1,5 +1,5 @@
 pub mod Entry
-pub mod LentSummary
+pub mod BorrowedSummary
 pub mod Probe
 pub mod Layout
 pub mod Moving

@@ -1,7 +1,7 @@
 //! The entries that sketches retain.
 ghost use Rattle.std.specs.Prelude.{◌≡◌, ◌<◌};
 ghost use Rattle.std.specs.Borrow.{sem};
-ghost use Rattle.core_slots.specs.LentSummary.{lends_summary};
+ghost use Rattle.core_slots.specs.BorrowedSummary.{borrows_summary};
 
 use crate::count::Count;
 use crate::slot_entry::{PathEntry, SlotEntry};
@@ -63,12 +63,12 @@ impl SketchEntry for ThetaEntry {
 }
 
 impl PathEntry for ThetaEntry {
-    ghost use Rattle.core_slots.specs.HashSlots.{hash_held};
+    ghost use Rattle.core_slots.specs.HashSlots.{hash_entry};
 
     /// Its hash, and 0 in a free slot.
     type Slot = ThetaEntry;
 
-    ghost held = { hash_held };
+    ghost held = { hash_entry };
 
     #[inline(always)]
     fn free_slot() -> ThetaEntry {
@@ -168,7 +168,7 @@ impl<S> TupleEntry<S> {
 
     /// Its summary, to be written in place. The hash stays.
     pub fn summary_mut(&mut self) -> &mut S
-        ensures* writes_back { sem 𝓛 (lends_summary S.row self.entry result) }
+        ensures* writes_back { sem 𝓛 (borrows_summary S.row self.entry result) }
         ensures value { result.now ≡ self.old.summary }
     {
         &mut self.summary

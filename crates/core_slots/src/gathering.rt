@@ -14,7 +14,7 @@ use std::mem;
 
 /// Moves the entries below theta to the front of `others`, which has at least one slot more than these entries, and
 /// leaves `slots` free. Returns how many it moved.
-fn take_below<E: SlotEntry>(slots: &mut [E::Slot], theta: u64, others: &mut [E::Slot]) -> usize
+fn gather_below<E: SlotEntry>(slots: &mut [E::Slot], theta: u64, others: &mut [E::Slot]) -> usize
     requires room { length (below E.key (entries_in E.held slots.old) theta) < length others.old }
     ensures size { length slots.new ≡ length slots.old }
     ensures free { entries_in E.held slots.new ≡ [] }
@@ -65,7 +65,7 @@ where
     ensures looks { 2 * looks.new ≤ 2 * looks.old + (placed.new - placed.old) * (placed.new - placed.old + 1) }
 {
     let mut gathered = others;
-    let count = take_below::<E>(slots, theta, &mut gathered);
+    let count = gather_below::<E>(slots, theta, &mut gathered);
     gathered.truncate(count);
     if are_words(slots) {
         settle_all::<E, A>(&mut gathered, slots, lg, placed, looks);

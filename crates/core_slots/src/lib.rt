@@ -21,7 +21,7 @@ mod step;
 
 pub use count::Count;
 pub use entry::{ThetaEntry, TupleEntry};
-pub use lookup::leave_out_held;
+pub use lookup::drop_retained;
 pub use relaying::{keep_below, put_kept};
 pub use selection::hash_of_rank;
 pub use slot_entry::{PathEntry, SlotEntry};

@@ -4,7 +4,7 @@
 //! one slot of each hash, without a branch on what it finds, and drops the found hashes only afterwards.
 ghost use Rattle.std.specs.Prelude.{◌≡◌, ◌==◌, ◌<◌, ◌≤◌, ◌^◌, if◌then◌else◌, false, not, length, filter, take, slice_index, EachIndex};
 ghost use Rattle.std.specs.List.{AllByRecursion};
-ghost use Rattle.core_laws.specs.Insertion.{IsRedundant, LeavesOut, is_screened};
+ghost use Rattle.core_laws.specs.Insertion.{IsRedundant, Drops, is_screened};
 ghost use Rattle.core_slots.specs.Lookup.{IsBlanked};
 ghost use Rattle.core_slots.specs.Layout.{entries_in};
 
@@ -33,7 +33,7 @@ fn blanked_at<E: SlotEntry>(slots: &[E::Slot], at: usize, hash: u64) -> u64
 }
 
 /// Writes 0 over each hash that is in the slot `step` strides along its path.
-fn blank_held<E: SlotEntry>(slots: &[E::Slot], lg: u8, step: usize, hashes: &mut [u64])
+fn blank_retained<E: SlotEntry>(slots: &[E::Slot], lg: u8, step: usize, hashes: &mut [u64])
     requires small { lg < 40 }
     requires near { step < 2 ^ 40 }
     requires size { length slots.now ≡ 2 ^ lg }
@@ -75,7 +75,7 @@ fn pack_unscreened(hashes: &mut [u64], theta: u64) -> usize
 /// holds: those found within a few looks. The rest moves to the front, in its order; returns how many these are.
 ///
 /// The waits for their slots overlap. These looks are not counted.
-pub fn leave_out_held<E: SlotEntry>(
+pub fn drop_retained<E: SlotEntry>(
     slots: &[E::Slot],
     lg: u8,
     theta: u64,
@@ -84,14 +84,14 @@ pub fn leave_out_held<E: SlotEntry>(
     requires small { lg < 40 }
     requires size { length slots.now ≡ 2 ^ lg }
     requires positive { 0 < theta }
-    ensures left { LeavesOut (IsRedundant E.key (record { entries = entries_in E.held slots.now; theta = theta })) hashes.old
+    ensures left { Drops (IsRedundant E.key (record { entries = entries_in E.held slots.now; theta = theta })) hashes.old
         (take result hashes.new) }
     ensures unscreened { AllByRecursion (λ h. is_screened h theta ≡ false) (take result hashes.new) }
     ensures few { result ≤ length hashes.old }
 {
     let mut left = pack_unscreened(hashes, theta);
     'round: for step in 0..ROUNDS {
-        blank_held::<E>(slots, lg, step, &mut hashes[..left]);
+        blank_retained::<E>(slots, lg, step, &mut hashes[..left]);
         left = pack_unscreened(&mut hashes[..left], theta);
     }
     left

@@ -38,14 +38,14 @@ fn put_if_free<E: PathEntry>(
 ) -> (bool, E::Slot)
     requires { at < length slots.old }
     ensures free { result.0 ≡ is_none (slot (map E.held slots.old) at) }
-    ensures stands { map E.held slots.new ≡ if result.0 then set (map E.held slots.old) at (E.held entry) else map E.held slots.old }
+    ensures written { map E.held slots.new ≡ if result.0 then set (map E.held slots.old) at (E.held entry) else map E.held slots.old }
     ensures waits { E.held result.1 ≡ if result.0 then None else E.held entry }
     ensures looks { looks.new ≡ looks.old + 1 }
 {
     let is_free = E::look(&slots[at], looks).is_none();
     let held = mem::replace(&mut slots[at], E::free_slot());
-    let (stands, waits) = exchanged_if(is_free, held, entry);
-    slots[at] = stands;
+    let (written, waits) = exchanged_if(is_free, held, entry);
+    slots[at] = written;
     (is_free, waits)
 }
 

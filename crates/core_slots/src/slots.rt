@@ -80,7 +80,7 @@ pub fn seek<E: PathEntry>(slots: &[E::Slot], lg: u8, hash: u64, looks: &mut Coun
     ensures inside { result.at < length slots.now }
     ensures on_path { IsOnPath E.key lg (map E.held slots.now) hash result.at }
     ensures ends { is_other E.key hash (slot (map E.held slots.now) result.at) ≡ false }
-    ensures told { result.is_free ≡ is_none (slot (map E.held slots.now) result.at) }
+    ensures is_free { result.is_free ≡ is_none (slot (map E.held slots.now) result.at) }
     ensures looked { looks.old < looks.new }
     ensures looks { looks.new ≤ looks.old + length (entries_in E.held slots.now) + 1 }
 {

@@ -4,7 +4,7 @@ use Rattle.std.proofs.Math.Pow.{pow_mono}
 use Rattle.std.proofs.lemmas.List.Sorted.{length_permutation}
 use Rattle.core_laws.specs.declared.TheConstants.{MAX_THETA}
 use Rattle.core_laws.specs.Cuts.{cut, none_below}
-use Rattle.core_laws.specs.Maps.{map_of, IsLent}
+use Rattle.core_laws.specs.Maps.{map_of, IsListing}
 use Rattle.core_laws.specs.Values.{Empty, NonEmpty, theta_of, count_of}
 use Rattle.core_table.specs.HashTable.{MapTable, IsTable}
 use Rattle.core_state.specs.Updatable.{Updatable, IsUpdatable, sketch_shows, sketch_value}
@@ -16,7 +16,7 @@ use Rattle.core_laws.proofs.maps.MapsOfLists.{nothing}
 
 module _ {X : Type 0} (key : X → ℕ) where
   -- what a sketch shows meets the laws
-  pub shown-sketch : (s : Updatable X) → IsUpdatable s → IsTable key s.map → IsLent key s.map.kept.entries s.lends → IsShown (sketch_shows key s)
+  pub shown-sketch : (s : Updatable X) → IsUpdatable s → IsTable key s.map → IsListing key s.map.kept.entries s.lends → IsShown (sketch_shows key s)
   shown-sketch s sound table lent =
       (elim s.empty as (λ b. s.empty ≡ b → IsShown (record { empty = b; theta = theta_of (cond b Empty (NonEmpty s.map.kept)); seed_hash = s.map.seed_hash; ordered = false; hashes = map key s.lends })) [
         | true ↦ λ e.
@@ -55,7 +55,7 @@ module _ {X : Type 0} (key : X → ℕ) where
   }
 
   -- the value that a sketch shows is its value
-  pub shown-sketch_value : (s : Updatable X) → IsLent key s.map.kept.entries s.lends → shown_value key (sketch_shows key s) s.lends ≡ sketch_value s
+  pub shown-sketch_value : (s : Updatable X) → IsListing key s.map.kept.entries s.lends → shown_value key (sketch_shows key s) s.lends ≡ sketch_value s
   shown-sketch_value s lent =
       elim s.empty as (λ b. cond b Empty (NonEmpty (record { entries = map_of key s.lends; theta = theta_of (cond b Empty (NonEmpty s.map.kept)) })) ≡ cond b Empty (NonEmpty s.map.kept)) [
         | true ↦ refl

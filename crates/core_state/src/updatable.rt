@@ -6,7 +6,7 @@ ghost use Rattle.sketch_base.specs.Seed.{hash_of};
 ghost use Rattle.core_compact.specs.CompactState.{IsAnswer};
 ghost use Rattle.core_laws.specs.Entries.{hash_key, hash_step, ClonesEqual};
 ghost use Rattle.core_laws.specs.Refusal.{Refuses};
-ghost use Rattle.core_laws.specs.Maps.{IsLent};
+ghost use Rattle.core_laws.specs.Maps.{IsListing};
 ghost use Rattle.core_laws.specs.Settings.{settings_refusal};
 ghost use Rattle.core_table.specs.HashTable.{empty_table, after_reset, after_hashes, after_insertion, after_hash, trimmed};
 ghost use Rattle.core_laws.specs.Insertion.{upsert_allocates, RefusesUpsert};
@@ -93,7 +93,7 @@ impl<E: SlotEntry, A: Allocator> UpdatableState<E, A> {
     /// How many entries it retains, fewer than 2^32.
     pub fn num_retained(&self) -> usize
         ensures count { result ≡ count_of (sketch_value self.now) }
-        ensures lent { result ≡ length self.now.lends }
+        ensures listed { result ≡ length self.now.lends }
         ensures sound { IsShown (sketch_shows E.key self.now) }
     {
         let _ = self.table.iter_entries();
@@ -144,8 +144,8 @@ impl<E: SlotEntry, A: Allocator> UpdatableState<E, A> {
 
     /// Its entries, each once, in an unspecified order.
     pub fn entries(&self) -> EntryIter<'_, E>
-        ensures lent { result ≡ record { rest = self.now.lends; counted = false } }
-        ensures each_once { IsLent E.key self.now.map.kept.entries self.now.lends }
+        ensures listed { result ≡ record { rest = self.now.lends; counted = false } }
+        ensures each_once { IsListing E.key self.now.map.kept.entries self.now.lends }
     {
         EntryIter::of_table(&self.table)
     }

@@ -128,11 +128,11 @@ impl<'a, A: Allocator> SketchView<'a, ThetaEntry, A> {
     /// The sketch's entries, each once: those of a mutable sketch in an unspecified order, those of a compact sketch in
     /// its order.
     pub fn iter(&self) -> ThetaSketchIter<'a>
-        ensures lent { result ≡ lending self.now }
+        ensures listed { result ≡ lending self.now }
         ensures sound { IsShown (shows hash_key self.now) }
     {
         let _ = self.num_retained();
-        ThetaSketchIter::over(lent(*self))
+        ThetaSketchIter::over(entries_of_view(*self))
     }
 }
 
@@ -140,15 +140,15 @@ impl<'a, S: Drop, A: Allocator> SketchView<'a, TupleEntry<S>, A> {
     /// References to the sketch's entries, each once: those of a mutable sketch in an unspecified order, those of a
     /// compact sketch in its order.
     pub fn iter(&self) -> EntryIter<'a, TupleEntry<S>>
-        ensures lent { result ≡ lending self.now }
+        ensures listed { result ≡ lending self.now }
         ensures sound { IsShown (shows tuple_key self.now) }
     {
         let _ = self.num_retained();
-        lent(*self)
+        entries_of_view(*self)
     }
 }
 
-fn lent<'a, E: SlotEntry, A: Allocator>(view: SketchView<'a, E, A>) -> EntryIter<'a, E>
+fn entries_of_view<'a, E: SlotEntry, A: Allocator>(view: SketchView<'a, E, A>) -> EntryIter<'a, E>
     ensures { result ≡ lending view.entry }
 {
     match view.sketch {
@@ -158,8 +158,8 @@ fn lent<'a, E: SlotEntry, A: Allocator>(view: SketchView<'a, E, A>) -> EntryIter
 }
 
 /// The metadata of a view's sketch.
-fn told<'a, E: SlotEntry, A: Allocator>(view: SketchView<'a, E, A>) -> ThetaFamilySketchMetadata
-    ensures told { result ≡ metadata_of (shows E.key view.entry) }
+fn metadata_of_view<'a, E: SlotEntry, A: Allocator>(view: SketchView<'a, E, A>) -> ThetaFamilySketchMetadata
+    ensures metadata { result ≡ metadata_of (shows E.key view.entry) }
     ensures sound { IsShown (shows E.key view.entry) }
 {
     let seed_hash = view.seed_hash();
@@ -182,7 +182,7 @@ fn hashes_of<'a, E: SlotEntry, A: Allocator>(view: SketchView<'a, E, A>) -> Hash
     ensures sound { IsShown (shows E.key view.entry) }
 {
     let _ = view.num_retained();
-    HashIter::new(lent(view))
+    HashIter::new(entries_of_view(view))
 }
 
 impl<'a, E: SlotEntry, A: Allocator> KeySketch for SketchView<'a, E, A>
@@ -196,7 +196,7 @@ where
     ghost rest = { λ s. s.rest };
 
     fn metadata(self) -> ThetaFamilySketchMetadata {
-        told(self)
+        metadata_of_view(self)
     }
 
     fn hashes(self) -> HashIter<'a, E>
@@ -223,6 +223,6 @@ where
 
     fn entries(&self) -> EntryIter<'_, E> {
         let _ = self.num_retained();
-        lent(*self)
+        entries_of_view(*self)
     }
 }

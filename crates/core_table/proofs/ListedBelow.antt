@@ -10,7 +10,7 @@ use Rattle.core_compact.specs.CompactState.{Compact, IsCompactOf, shown_of, is_a
 use Rattle.core_laws.specs.Maps.{IsApart, below, map_of}
 use Rattle.core_laws.specs.Cuts.{Retained, retained, cut}
 use Rattle.core_laws.specs.Shown.{IsShown}
-use Rattle.core_laws.specs.Maps.{IsLent}
+use Rattle.core_laws.specs.Maps.{IsListing}
 use Rattle.core_laws.specs.Cuts.{IsRetained}
 use Rattle.core_laws.proofs.maps.Ascending.{ascending-filter}
 use Rattle.core_laws.proofs.maps.MapsOfLists.{ascending-map_of, lent-ascending, each-from_map}
@@ -19,7 +19,7 @@ use Rattle.core_table.proofs.OtherOrders.{map_of-moved}
 use Rattle.core_compact.proofs.LawsOfShown.{IsShown-retained, shown-lent}
 
 module _ {X : Type 0} (key : X → ℕ) where
-  pub lent-below : (xs : List X) (t : ℕ) → IsApart key xs → IsLent key (below key (map_of key xs) t) (below key xs t)
+  pub lent-below : (xs : List X) (t : ℕ) → IsApart key xs → IsListing key (below key (map_of key xs) t) (below key xs t)
   lent-below xs t each =
       let kept = apart-below key xs t each in
       record { each_once = rw (← map_of-below key xs t) (map_of-moved key (below key xs t) kept); apart = kept; same_map = map_of-below key xs t }

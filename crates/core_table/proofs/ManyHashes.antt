@@ -4,10 +4,10 @@ use Rattle.std.specs.Prelude.{IsTrue}
 use Rattle.std.proofs.lemmas.List.{take-append-le, take-append-drop}
 use Rattle.core_laws.specs.Cuts.{IsRetained}
 use Rattle.core_laws.specs.Entries.{hash_key, hash_step}
-use Rattle.core_laws.specs.Insertion.{IsRedundant, LeavesOut, upsert_allocates}
+use Rattle.core_laws.specs.Insertion.{IsRedundant, Drops, upsert_allocates}
 use Rattle.core_laws.specs.Parts.{StopsAt}
 use Rattle.core_laws.specs.Maps.{map_of}
-use Rattle.core_laws.proofs.insertions.LeftOut.{after_upserts-append, left_out-front, left_out-weaker, redundant_left_out}
+use Rattle.core_laws.proofs.insertions.DroppedHashes.{after_upserts-append, left_out-front, left_out-weaker, redundant_left_out}
 use Rattle.core_laws.proofs.maps.MapsOfLists.{entry_at-map_of}
 use Rattle.core_table.specs.HashTable.{MapTable, after_hashes}
 
@@ -59,25 +59,25 @@ stops_here hashes index lt = sym (take-append-drop index hashes) ∙ ap (λ xs. 
 
 -- hashes that are redundant are not inserted
 module _ (t : MapTable ℕ) (is : IsRetained hash_key t.kept) where
-  pub left_inserted : (hashes left : List ℕ) → LeavesOut (IsRedundant hash_key t.kept) hashes left → after_hashes left t ≡ after_hashes hashes t
+  pub left_inserted : (hashes left : List ℕ) → Drops (IsRedundant hash_key t.kept) hashes left → after_hashes left t ≡ after_hashes hashes t
   left_inserted hashes left leaves = ap (λ v. record t { kept = v }) (sym (redundant_left_out (2 ^ t.lg_nom) hashes left t.kept t.kept is (λ h redundant. redundant) leaves))
 
-  pub part_left_inserted : (hashes left : List ℕ) (new : MapTable ℕ) → LeavesOut (IsRedundant hash_key t.kept) hashes left → StopsAt left (λ front hash. (new ≡ after_hashes front t) × Makes new hash) → StopsAt hashes (λ front hash. (new ≡ after_hashes front t) × Makes new hash)
+  pub part_left_inserted : (hashes left : List ℕ) (new : MapTable ℕ) → Drops (IsRedundant hash_key t.kept) hashes left → StopsAt left (λ front hash. (new ≡ after_hashes front t) × Makes new hash) → StopsAt hashes (λ front hash. (new ≡ after_hashes front t) × Makes new hash)
   part_left_inserted hashes left new leaves part =
-      let whole = left_out-front (IsRedundant hash_key t.kept) hashes part.0 part.1 part.2 (subst (λ zs. LeavesOut (IsRedundant hash_key t.kept) hashes zs) part.3 leaves) in
+      let whole = left_out-front (IsRedundant hash_key t.kept) hashes part.0 part.1 part.2 (subst (λ zs. Drops (IsRedundant hash_key t.kept) hashes zs) part.3 leaves) in
       (whole.0, part.1, whole.1, whole.2, (part.4.0 ∙ left_inserted whole.0 part.0 whole.3, part.4.1))
 
 -- a hash that is redundant by the entries in slots is redundant by their map
-redundant_in_map : (xs : List ℕ) (theta : ℕ) (hashes left : List ℕ) → LeavesOut (IsRedundant hash_key (record { entries = xs; theta = theta })) hashes left → LeavesOut (IsRedundant hash_key (record { entries = map_of hash_key xs; theta = theta })) hashes left
+redundant_in_map : (xs : List ℕ) (theta : ℕ) (hashes left : List ℕ) → Drops (IsRedundant hash_key (record { entries = xs; theta = theta })) hashes left → Drops (IsRedundant hash_key (record { entries = map_of hash_key xs; theta = theta })) hashes left
 redundant_in_map xs theta =
     left_out-weaker (IsRedundant hash_key (record { entries = xs; theta = theta })) (IsRedundant hash_key (record { entries = map_of hash_key xs; theta = theta }))
     (λ h redundant. elim redundant [ inl screened ↦ inl screened | inr some ↦ inr (rw (entry_at-map_of hash_key xs h) some) ])
 
 -- in a block, whose front they were copied into
 pub left_in_block : (xs : List ℕ) (theta : ℕ) (hashes copied now rest : List ℕ) (left : ℕ) → copied ≡ hashes → left ≤ length copied → length now ≡ length copied →
-    LeavesOut (IsRedundant hash_key (record { entries = xs; theta = theta })) copied (take left now) → LeavesOut (IsRedundant hash_key (record { entries = map_of hash_key xs; theta = theta })) hashes (take left (now ++ rest))
+    Drops (IsRedundant hash_key (record { entries = xs; theta = theta })) copied (take left now) → Drops (IsRedundant hash_key (record { entries = map_of hash_key xs; theta = theta })) hashes (take left (now ++ rest))
 left_in_block xs theta hashes copied now rest left same few size leaves =
     let front : take left (now ++ rest) ≡ take left now = take-append-le left now rest (omega (arith, few, size)) in
     redundant_in_map xs theta hashes (take left (now ++ rest))
-    (subst (λ zs. LeavesOut (IsRedundant hash_key (record { entries = xs; theta = theta })) zs (take left (now ++ rest))) same
-    (subst (λ zs. LeavesOut (IsRedundant hash_key (record { entries = xs; theta = theta })) copied zs) (sym front) leaves))
+    (subst (λ zs. Drops (IsRedundant hash_key (record { entries = xs; theta = theta })) zs (take left (now ++ rest))) same
+    (subst (λ zs. Drops (IsRedundant hash_key (record { entries = xs; theta = theta })) copied zs) (sym front) leaves))

@@ -9,7 +9,7 @@ use Rattle.core_laws.specs.Maps.{IsApart, entry_at, with_entry, map_of}
 use Rattle.core_laws.specs.Cuts.{cut}
 use Rattle.core_slots.specs.Layout.{filled, slot, is_other, IsOnPath, IsLaidOut}
 use Rattle.core_laws.specs.declared.TheConstants.{MAX_THETA, MIN_LG_K, MIN_LG_SLOTS}
-use Rattle.core_laws.specs.Maps.{IsLent}
+use Rattle.core_laws.specs.Maps.{IsListing}
 use Rattle.core_table.specs.HashTable.{IsMadeWith, IsSized, IsSeedHash, MapTable, IsSlotted, HasSize, may_insert, slots_of_operator, sub_multiple}
 use Rattle.core_laws.specs.Cuts.{IsRetained}
 use Rattle.core_laws.specs.Insertion.{is_screened}
@@ -21,13 +21,13 @@ use Rattle.core_slots.proofs.Ranks.{apart-laid_out}
 use Rattle.core_table.proofs.Tables.{threshold_most, least_slots}
 
 -- the entry of a slot that was reported as taken, and none of one reported as free
-pub taken_is : {X : Type 0} (o : Option X) (told : Bool) → told ≡ is_none o → not told ≡ true → (x : X) × (o ≡ Some x)
-taken_is None told e is = absurd (cc)
-taken_is (Some x) told e is = (x, refl)
+pub taken_is : {X : Type 0} (o : Option X) (is_free : Bool) → is_free ≡ is_none o → not is_free ≡ true → (x : X) × (o ≡ Some x)
+taken_is None is_free e is = absurd (cc)
+taken_is (Some x) is_free e is = (x, refl)
 
-pub free_is : {X : Type 0} (o : Option X) (told : Bool) → told ≡ is_none o → not told ≡ false → o ≡ None
-free_is None told e is = refl
-free_is (Some x) told e is = absurd (cc)
+pub free_is : {X : Type 0} (o : Option X) (is_free : Bool) → is_free ≡ is_none o → not is_free ≡ false → o ≡ None
+free_is None is_free e is = refl
+free_is (Some x) is_free e is = absurd (cc)
 
 pub none_is : {X : Type 0} (o : Option X) → o ≡ None → is_some o ≡ false
 none_is None e = refl
@@ -158,7 +158,7 @@ module _ {X : Type 0} (key : X → ℕ) where
   few_stay k t m is few = cut_few key k m t is.ascending (omega (arith, rank_all key m t is.below_theta, few)) ∙ ap (λ ys. record { entries = ys; theta = t }) (below_all key m t is.below_theta)
 
   -- a table lists the entries in its slots
-  pub slotted_lends : (t : MapTable X) (lg grow count : ℕ) (slots : List (Option X)) → IsSlotted key t lg grow count slots → IsLent key (map_of key (filled slots)) (filled slots)
+  pub slotted_lends : (t : MapTable X) (lg grow count : ℕ) (slots : List (Option X)) → IsSlotted key t lg grow count slots → IsListing key (map_of key (filled slots)) (filled slots)
   slotted_lends t lg grow count slots is =
       let each : IsApart key (filled slots) =
       (elim t.has_slots as (λ b. t.has_slots ≡ b → IsApart key (filled slots)) [

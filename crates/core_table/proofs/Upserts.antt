@@ -28,9 +28,9 @@ pub record IsAtFree {X : Type 0} (key : X → ℕ) (t : MapTable X) (lg count ha
   pub fits : t.lg_nom < 3 → count + 1 < 2 ^ lg
   pub case : IsCase key (2 ^ t.lg_nom) hash step t.kept (is_some step.makes) (after_absent key (2 ^ t.lg_nom) step t.kept) step.refuses_absent (step.allocates || is_some step.makes)
 
-module _ {X : Type 0} (key : X → ℕ) (t : MapTable X) (lg grow count hash at : ℕ) (slots : List (Option X)) (step : Step X) (told : Bool)
+module _ {X : Type 0} (key : X → ℕ) (t : MapTable X) (lg grow count hash at : ℕ) (slots : List (Option X)) (step : Step X) (is_free : Bool)
     (is : IsSlotted key t lg grow count slots) (same : t.kept.entries ≡ map_of key (filled slots)) (nonzero : hash ≢ 0) (low : hash < t.kept.theta) (may : IsTrue (may_insert key hash t))
-    (on_path : IsOnPath key lg slots hash at) (ends : is_other key hash (slot slots at) ≡ false) (tells : told ≡ is_none (slot slots at)) where
+    (on_path : IsOnPath key lg slots hash at) (ends : is_other key hash (slot slots at) ≡ false) (is_free_is : is_free ≡ is_none (slot slots at)) where
   screens : is_screened hash t.kept.theta ≡ false
   screens = is_screened_false hash t.kept.theta nonzero low
 
@@ -40,9 +40,9 @@ module _ {X : Type 0} (key : X → ℕ) (t : MapTable X) (lg grow count hash at 
   there : entry_at key t.kept.entries hash ≡ slot slots at
   there = rw same (search_finds key lg hash at slots (is.laid_out with_slots) on_path ends)
 
-  pub at_entry : not told ≡ true → IsAtEntry key t lg hash at slots step
+  pub at_entry : not is_free ≡ true → IsAtEntry key t lg hash at slots step
   at_entry taken =
-      let one = taken_is (slot slots at) told tells taken in
+      let one = taken_is (slot slots at) is_free is_free_is taken in
       record {
         has = with_slots;
         laid = is.laid_out with_slots;
@@ -52,9 +52,9 @@ module _ {X : Type 0} (key : X → ℕ) (t : MapTable X) (lg grow count hash at 
         case = existing_case key (2 ^ t.lg_nom) hash step t.kept one.0 screens (there ∙ one.1);
       }
 
-  pub at_free : not told ≡ false → IsAtFree key t lg count hash at slots step
+  pub at_free : not is_free ≡ false → IsAtFree key t lg count hash at slots step
   at_free free =
-      let none : slot slots at ≡ None = free_is (slot slots at) told tells free in
+      let none : slot slots at ≡ None = free_is (slot slots at) is_free is_free_is free in
       record {
         has = with_slots;
         laid = is.laid_out with_slots;

@@ -41,7 +41,7 @@ pub(crate) fn entries_below<'a, E: SlotEntry + Clone + 'a, A: Allocator>(
 }
 
 /// The entries, whose hashes are distinct, in ascending order.
-fn sorted<E: SketchEntry + Drop, A: Allocator>(mut entries: Vec<E, A>) -> Vec<E, A>
+pub fn sorted_by_hash<E: SketchEntry + Drop, A: Allocator>(mut entries: Vec<E, A>) -> Vec<E, A>
     requires { IsApart E.key entries.items }
     ensures { result.items ≡ map_of E.key entries.items }
 {
@@ -69,7 +69,7 @@ pub(crate) fn state_below<E: SlotEntry + Clone, A: Allocator>(
     let entries = entries_below::<E, A>(alloc, slots, theta, room)?;
     let in_order = is_answer_ordered(ordered, entries.len(), theta);
     if in_order {
-        return Ok(CompactSketchState::non_empty(sorted(entries), theta, seed_hash, true));
+        return Ok(CompactSketchState::non_empty(sorted_by_hash(entries), theta, seed_hash, true));
     }
     Ok(CompactSketchState::non_empty(entries, theta, seed_hash, false))
 }

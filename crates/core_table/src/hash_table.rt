@@ -4,7 +4,7 @@ ghost use Rattle.std.specs.List.{AllByRecursion, concat};
 ghost use Rattle.std.specs.Option.{ForSome, option_copied};
 ghost use Rattle.sketch_base.specs.Seed.{hash_of};
 ghost use Rattle.core_compact.specs.CompactState.{IsCompactOf};
-ghost use Rattle.core_laws.specs.Maps.{entry_at, map_of, IsLent};
+ghost use Rattle.core_laws.specs.Maps.{entry_at, map_of, IsListing};
 ghost use Rattle.core_laws.specs.Cuts.{cut, none_below};
 ghost use Rattle.core_laws.specs.Entries.{hash_key, ClonesEqual};
 ghost use Rattle.core_laws.specs.Refusal.{Refuses};
@@ -14,7 +14,7 @@ ghost use Rattle.core_table.specs.ResizeFactor.{lg_of};
 ghost use Rattle.core_slots.specs.Layout.{filled, IsLaidOut, entries_in, slot_map};
 ghost use Rattle.core_slots.specs.Entry.{tuple_key, entry_step};
 ghost use Rattle.core_table.specs.declared.hash_table.TheConstants.{BLOCK};
-ghost use Rattle.core_laws.specs.Insertion.{IsRedundant, LeavesOut, creates, RefusesUpsert};
+ghost use Rattle.core_laws.specs.Insertion.{IsRedundant, Drops, creates, RefusesUpsert};
 
 use crate::answering::{cut_theta, entries_below, state_below};
 use crate::clearing::{clear_slots, operator_slots};
@@ -28,8 +28,8 @@ use crate::smaller::filled;
 use core_compact::CompactSketchState;
 use core_laws::{MAX_LG_K, MAX_THETA, MIN_LG_K, MIN_LG_SLOTS};
 use core_slots::{
-    Count, EntryStep, PutStep, SlotEntry, ThetaEntry, TupleEntry, UpsertStep, free_slots,
-    leave_out_held, seek,
+    Count, EntryStep, PutStep, SlotEntry, ThetaEntry, TupleEntry, UpsertStep, drop_retained,
+    free_slots, seek,
 };
 use sketch_base::{Error, ErrorKind, MurmurHash3X64128, compute_seed_hash};
 use std::alloc::{Allocator, Global};
@@ -295,8 +295,8 @@ impl<E: SlotEntry, A: Allocator> SketchHashTable<E, A> {
 
     /// Each retained entry once, in an unspecified order.
     pub fn iter_entries(&self) -> SketchHashTableIter<'_, E>
-        ensures lent { result ≡ self.now.lends }
-        ensures each_once { IsLent E.key self.now.map.kept.entries self.now.lends }
+        ensures listed { result ≡ self.now.lends }
+        ensures each_once { IsListing E.key self.now.map.kept.entries self.now.lends }
         ensures fits { length self.now.lends < 2 ^ 64 }
         ensures sound { IsTable E.key self.now.map }
     {
@@ -617,22 +617,22 @@ impl<A: Allocator + Clone> SketchHashTable<ThetaEntry, A> {
         ensures looks_kept { self.old.counts.looks ≤ self.new.counts.looks }
     {
         let mut block = [0u64; BLOCK];
-        let left = self.take_unfound(hashes, &mut block);
+        let left = self.copy_unfound(hashes, &mut block);
         self.insert_each(&block[..left])
     }
 
     /// Copies into `block` the hashes that are neither screened nor found at once, in their order, and returns how many
     /// they are.
-    fn take_unfound(&self, hashes: &[u64], block: &mut [u64]) -> usize
+    fn copy_unfound(&self, hashes: &[u64], block: &mut [u64]) -> usize
         requires room { 3 ≤ self.now.map.lg_nom }
         requires few { length hashes.now ≤ length block.old }
-        ensures left { LeavesOut (IsRedundant hash_key self.now.map.kept) hashes.now (take result block.new) }
+        ensures left { Drops (IsRedundant hash_key self.now.map.kept) hashes.now (take result block.new) }
         ensures few { result ≤ length block.old }
         ensures sound { IsTable hash_key self.now.map }
     {
         let front = &mut block[..hashes.len()];
         front.copy_from_slice(hashes);
-        leave_out_held::<ThetaEntry>(&self.slots, self.lg_cur_size, self.theta, front)
+        drop_retained::<ThetaEntry>(&self.slots, self.lg_cur_size, self.theta, front)
     }
 
     /// Inserts hashes one by one.
@@ -656,8 +656,8 @@ pub type TupleHashTable<S, A = Global> = SketchHashTable<TupleEntry<S>, A>;
 impl<S: Drop, A: Allocator> SketchHashTable<TupleEntry<S>, A> {
     /// Each retained entry once, in an unspecified order: what `iter_entries` returns.
     pub fn iter(&self) -> SketchHashTableIter<'_, TupleEntry<S>>
-        ensures lent { result ≡ self.now.lends }
-        ensures each_once { IsLent tuple_key self.now.map.kept.entries self.now.lends }
+        ensures listed { result ≡ self.now.lends }
+        ensures each_once { IsListing tuple_key self.now.map.kept.entries self.now.lends }
         ensures fits { length self.now.lends < 2 ^ 64 }
         ensures sound { IsTable tuple_key self.now.map }
     {

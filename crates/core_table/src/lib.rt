@@ -11,6 +11,7 @@ mod iter;
 mod resize_factor;
 mod smaller;
 
+pub use answering::sorted_by_hash;
 pub use hash_table::{SketchHashTable, ThetaHashTable, TupleHashTable};
 pub use insertion::starting_sub_multiple;
 pub use iter::SketchHashTableIter;

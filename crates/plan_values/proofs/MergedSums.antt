@@ -26,7 +26,7 @@ use Rattle.plan_values.specs.Family.{Family, hashes, tuple_folds}
 use Rattle.plan_values.specs.MergePlan.{only_unites}
 use Rattle.plan_values.specs.Value.{value_in, plan_refusal}
 use Rattle.plan_values.specs.WholeStreams.{whole_in, whole_of}
-use Rattle.plan_values.proofs.AddedValues.{Told, merge_told, any_value, merge_lacks, merge_has}
+use Rattle.plan_values.proofs.AddedValues.{Told, merge_relation, any_value, merge_lacks, merge_has}
 use Rattle.plan_values.proofs.KnownFamilies.{hashes_keep, tuple_folds_keep}
 use Rattle.plan_values.proofs.Samples.{sampled}
 
@@ -162,7 +162,7 @@ module _ {S : Type 0} (whole_number : S → ℤ) (least greatest : ℤ) (zero : 
   pub merged_sums : {Z : Type 0} (h : ℕ) (p : Plan S Z) (e : TupleEntry S) → only_unites p ≡ true → entry_at (fold_key tuple_key) (whole_in folds p) h ≡ Some (Value e) → whole_number e.summary ≡ total (map whole_number (added_values h p))
   merged_sums {Z} h p e unites found =
       (elim (is_carried h) as (λ b. is_carried h ≡ b → whole_number e.summary ≡ total (map whole_number (added_values h p))) [
-        | true ↦ λ carried. value_told _ (added_values h p) e found (merge_told Z folds (tuple_folds_keep (Some zero) sums sums) h SumsUp (summing h carried) p unites)
+        | true ↦ λ carried. value_told _ (added_values h p) e found (merge_relation Z folds (tuple_folds_keep (Some zero) sums sums) h SumsUp (summing h carried) p unites)
         | false ↦ λ uncarried. absurd (no_value _ e (merge_lacks folds (tuple_folds_keep (Some zero) sums sums) h p uncarried unites) found)
       ]) refl
 

@@ -67,7 +67,7 @@ impl fmt::Display for Error {
             ErrorKind::InvalidData => {
                 f.write_str("the bytes spell nothing that may stand there, or end too early")
             }
-            ErrorKind::OutOfMemory => f.write_str("the memory that was asked for was refused"),
+            ErrorKind::OutOfMemory => f.write_str("a request for memory was refused"),
             ErrorKind::Policy => f.write_str("a policy on summaries refused what it was given"),
             ErrorKind::Failed => {
                 f.write_str("an earlier refusal left it half changed; it refuses until it is reset")

@@ -126,16 +126,16 @@ command_refusal (Theta form plan) = plan_refusal DEFAULT_UPDATE_SEED plan
 command_refusal (Tuple form plan) = plan_refusal DEFAULT_UPDATE_SEED plan
 
 -- whether a policy may refuse the evaluation of a command's plan; never for theta sketches
-abbrev pub may_break : {Z : Type 0} → Command Z → Bool
-may_break (Theta form plan) = false
-may_break (Tuple form plan) = may_refuse sums DEFAULT_UPDATE_SEED plan
+abbrev pub policy_may_refuse : {Z : Type 0} → Command Z → Bool
+policy_may_refuse (Theta form plan) = false
+policy_may_refuse (Tuple form plan) = may_refuse sums DEFAULT_UPDATE_SEED plan
 
 -- the status and the text that may answer an input: the answer to its command, an evaluation refused for an argument or
 -- by a policy, the first fault of the input, or refused memory
 pub data Answers (Z : Type 0) (input : List ℕ) : ℕ → List ℕ → Type 0 where
   shows : (command : Command Z) (text : List ℕ) → Spells input command → command_refusal command ≡ None → Shows command text → Answers Z input 0 text
   argument : (command : Command Z) → Spells input command → command_refusal command ≡ Some InvalidArgument → Answers Z input 1 argument_line
-  policy : (command : Command Z) → Spells input command → IsTrue (may_break command) → Answers Z input 1 policy_line
+  policy : (command : Command Z) → Spells input command → IsTrue (policy_may_refuse command) → Answers Z input 1 policy_line
   wrong : (line : ℕ) → fault_of input ≡ Some (Syntax line) → Answers Z input 1 (fault_line line (codes "syntax"))
   too_deep : (line : ℕ) → fault_of input ≡ Some (Limit line) → Answers Z input 1 (fault_line line (codes "limit"))
   no_memory : Answers Z input 1 memory_line

@@ -40,7 +40,7 @@ fn reads_version_3(rt: HostRuntime) -> Result<(), Fail> {
         ),
         ("two hashes", PAIR, Reading::Filled(true, EXACT, &[7, 9])),
         (
-            "descending, told as ordered",
+            "descending, flagged as ordered",
             "02 03 03 00 00 1a cc 93 02 00 00 00 00 00 00 00 09 00 00 00 00 00 00 00 07 00 00 00 00 00 00 00",
             Reading::Refused,
         ),

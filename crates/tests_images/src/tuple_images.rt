@@ -91,7 +91,7 @@ fn reads_tuple_images(rt: HostRuntime) -> Result<(), Fail> {
             TupleReading::Filled(false, MAX_THETA, &[(9, 2), (7, 1)]),
         ),
         (
-            "descending, told as ordered",
+            "descending, flagged as ordered",
             "02 03 09 01 00 1a cc 93 02 00 00 00 00 00 00 00 09 00 00 00 00 00 00 00 02 00 00 00 00 00 00 00 07 00 00 00 00 00 00 00 01 00 00 00 00 00 00 00",
             TupleReading::Refused,
         ),

@@ -25,7 +25,7 @@ fn asked(
 }
 
 #[test]
-fn readings_of_tuples_ask_for_little(rt: HostRuntime) -> Result<(), Fail> {
+fn readings_of_tuples_request_little(rt: HostRuntime) -> Result<(), Fail> {
     let heap = Refusing::new(rt.alloc());
     // An image, and its reading: it requests 16 bytes for each entry, and eight more if the hashes don't ascend.
     let cases = [
@@ -60,7 +60,7 @@ fn written(alloc: Global, heap: &Heap, text: &str) -> Result<(u64, u64, usize), 
 }
 
 #[test]
-fn writings_of_tuples_ask_once(rt: HostRuntime) -> Result<(), Fail> {
+fn writings_of_tuples_request_once(rt: HostRuntime) -> Result<(), Fail> {
     let heap = Refusing::new(rt.alloc());
     // An image, the bytes that its writing requests, a preamble of 24 and 16 for each entry, and the bytes that it has.
     for (text, asked, size) in [

@@ -13,8 +13,8 @@ mod requests;
 #[cfg(test)]
 mod table_requests;
 #[cfg(test)]
-mod unasked_operators;
+mod operators_without_memory;
 #[cfg(test)]
-mod unasked_sketches;
+mod sketches_without_memory;
 #[cfg(test)]
-mod unasked_tables;
+mod tables_without_memory;

@@ -55,7 +55,7 @@ fn taken_in_turn(heap: &Heap, hashes: &[u64]) -> Result<Vec<Option<usize>>, Erro
 }
 
 #[test]
-fn some_first_part_is_taken_in(rt: HostRuntime) -> Result<(), Fail> {
+fn some_first_part_is_inserted(rt: HostRuntime) -> Result<(), Fail> {
     let heap = Refusing::new(rt.alloc());
     let hashes = mixed_hashes(rt.alloc(), 90, 70)?;
     let counts = taken_in_turn(&heap, &hashes)?;

@@ -5,7 +5,7 @@ use sketch_base::{Error, ErrorKind};
 use std::alloc::{AllocError, Global};
 use std::test::Fail;
 use tests_sketches::common::{Heap, bytes_of, kind_of};
-use theta_core::image::{Layout, Preamble, read_behind};
+use theta_core::image::{Layout, Preamble, read_after_preamble};
 use theta_core::{MAX_THETA, ThetaEntry};
 use theta_sketches::CompactThetaSketch;
 
@@ -69,7 +69,7 @@ fn asked_of_two(
 }
 
 #[test]
-fn counts_too_great_ask_for_nothing(rt: HostRuntime) -> Result<(), Fail> {
+fn counts_too_great_request_nothing(rt: HostRuntime) -> Result<(), Fail> {
     let heap = Refusing::new(rt.alloc());
     // The count in an image of two hashes, the number of bytes that it lacks, and its reading: it requests eight bytes
     // per hash.
@@ -98,7 +98,7 @@ fn asked_of_text(alloc: Global, heap: &Heap, text: &str) -> Result<Asked, AllocE
 }
 
 #[test]
-fn readings_ask_for_little(rt: HostRuntime) -> Result<(), Fail> {
+fn readings_request_little(rt: HostRuntime) -> Result<(), Fail> {
     let heap = Refusing::new(rt.alloc());
     // An image, and its reading: one request for the entries, and one more for their hashes if these don't ascend.
     let cases = [
@@ -144,7 +144,7 @@ fn room_behind(heap: &Heap, bytes: &[u8], count: u32) -> Result<usize, Error> {
         ordered: true,
     };
     let layout = Some(Layout::Filled(preamble));
-    let state = read_behind::<ThetaEntry, _>(heap, bytes, layout, 37836)?;
+    let state = read_after_preamble::<ThetaEntry, _>(heap, bytes, layout, 37836)?;
     Ok(state.retained_entries_capacity())
 }
 

@@ -176,7 +176,7 @@ fn rebuilt(rt: &impl Abort, heap: &Heap) -> Result<(Asked, usize), Error> {
 
 // The rebuild requests 2^16 + 1 slots, and hashes to select from: fewer than a sixteenth of its slots.
 #[test]
-fn large_rebuilds_ask_for_half_of_the_slots(rt: HostRuntime) -> Result<(), Fail> {
+fn large_rebuilds_request_half_of_the_slots(rt: HostRuntime) -> Result<(), Fail> {
     let heap = Refusing::new(rt.alloc());
     let ((requests, bytes), count) = rebuilt(&rt, &heap)?;
     assert_eq!(rt; (requests, count), (2, 65_536));

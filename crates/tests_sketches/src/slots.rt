@@ -179,7 +179,7 @@ fn built_slots(alloc: Global, factor: ResizeFactor, last: u64) -> Result<(usize,
 }
 
 #[test]
-fn builders_hand_on_the_resize_factor(rt: HostRuntime) -> Result<(), Fail> {
+fn builders_pass_the_resize_factor(rt: HostRuntime) -> Result<(), Fail> {
     // The resize factor, the number of hashes, and the number of slots then.
     let rows = [
         (ResizeFactor::X1, 0, 8192),

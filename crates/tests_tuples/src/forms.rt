@@ -153,7 +153,7 @@ fn counted(alloc: Global, last: u64) -> Result<([usize; 2], (usize, Option<usize
 }
 
 #[test]
-fn entries_are_lent(rt: HostRuntime) -> Result<(), Fail> {
+fn entries_are_iterated(rt: HostRuntime) -> Result<(), Fail> {
     for (last, count) in [(0, 0), (1, 1), (40, 40)] {
         let wanted = tenfold(rt.alloc(), last)?;
         assert_eq!(rt; lent_by_sketch(rt.alloc(), last)?, wanted, "at {last}");

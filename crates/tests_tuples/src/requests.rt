@@ -298,7 +298,7 @@ fn requests_of_a_sum(heap: &Heap) -> Result<(u64, Option<u64>), Error> {
 }
 
 #[test]
-fn a_retained_sum_asks_for_no_memory(rt: HostRuntime) -> Result<(), Fail> {
+fn a_retained_sum_requests_no_memory(rt: HostRuntime) -> Result<(), Fail> {
     let heap = Refusing::new(rt.alloc());
     assert_eq!(rt; requests_of_a_sum(&heap)?, (0, Some(7)));
     Ok(())
@@ -336,7 +336,7 @@ fn filled_sums<'a>(heap: &'a Heap, lg_k: u8, count: u64) -> Result<(Sums<'a>, u6
 
 /// Updates a sketch with its requests refused in turn, until none was. Asserts after each refusal that the sketch is
 /// unchanged. Returns the number of the update's requests, and their bytes in all.
-fn asked_by_update<'a>(
+fn requests_of_update<'a>(
     rt: &impl Abort,
     heap: &'a Heap,
     sketch: &mut Sums<'a>,
@@ -369,7 +369,7 @@ fn rebuilt(
     count: u64,
 ) -> Result<((u64, u64), usize), Error> {
     let (mut sketch, next) = filled_sums(heap, lg_k, count)?;
-    let asked = asked_by_update(rt, heap, &mut sketch, next)?;
+    let asked = requests_of_update(rt, heap, &mut sketch, next)?;
     Ok((asked, sketch.num_retained()))
 }
 
@@ -380,7 +380,7 @@ const SLOT: u64 = 24;
 // hashes of eight bytes to select from: one more than there are slots if these are few, and at most a sixteenth of them
 // if they are many.
 #[test]
-fn rebuilds_of_sums_ask_for_little(rt: HostRuntime) -> Result<(), Fail> {
+fn rebuilds_of_sums_request_little(rt: HostRuntime) -> Result<(), Fail> {
     let heap = Refusing::new(rt.alloc());
     // The logarithm of k, the number of entries before the rebuild, the bytes for the new layout of slots, and the most
     // bytes to select.

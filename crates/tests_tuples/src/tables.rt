@@ -175,7 +175,7 @@ fn lent(alloc: Global, last: u64) -> Result<Vec<(u64, u64)>, Error> {
 }
 
 #[test]
-fn each_entry_is_lent_once(rt: HostRuntime) -> Result<(), Fail> {
+fn each_entry_is_iterated_once(rt: HostRuntime) -> Result<(), Fail> {
     // The last hash, and the number of retained hashes: up to 60, and 32 after the 61st.
     for (last, kept) in [(0, 0), (1, 1), (32, 32), (60, 60), (61, 32)] {
         let wanted = tenfold(rt.alloc(), kept)?;
@@ -210,7 +210,7 @@ fn slots_of_union(alloc: Global, factor: ResizeFactor, last: u64) -> Result<usiz
 }
 
 #[test]
-fn builders_hand_on_the_resize_factor(rt: HostRuntime) -> Result<(), Fail> {
+fn builders_pass_the_resize_factor(rt: HostRuntime) -> Result<(), Fail> {
     // The resize factor, the number of hashes, and the number of slots then.
     let rows = [
         (ResizeFactor::X1, 0, 8192),

@@ -8,8 +8,8 @@ use Rattle.core_images.specs.declared.preamble.Preamble.{Preamble}
 use Rattle.theta_sketches.specs.Image.{is_vacant}
 
 -- versions 1 and 2, with a preamble
-unfoldable pub unflagged_layout : Preamble → (told h : ℕ) → Option Layout
-unflagged_layout p told h = if is_vacant p then Some Empty else (if told == h then admitted p else None)
+unfoldable pub unflagged_layout : Preamble → (image_seed_hash h : ℕ) → Option Layout
+unflagged_layout p image_seed_hash h = if is_vacant p then Some Empty else (if image_seed_hash == h then admitted p else None)
 
 -- version 2, after its first three bytes
 unfoldable pub version_2_layout : List ℕ → (longs h : ℕ) → Option Layout

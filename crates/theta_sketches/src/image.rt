@@ -11,23 +11,23 @@ ghost use Rattle.theta_sketches.specs.ImageLayout.{unflagged_layout, version_1_l
 
 use crate::compact_sketch::CompactThetaSketch;
 use core_images::{
-    Layout, Preamble, admitted, announced, count_at, flagged_layout, read_behind, seed_hash_at,
+    Layout, Preamble, admitted, announced, count_at, flagged_layout, read_after_preamble, seed_hash_at,
     theta_at, write_image,
 };
 use core_laws::MAX_THETA;
 use sketch_base::{DEFAULT_UPDATE_SEED, Error, ErrorKind, Family, compute_seed_hash};
 use std::alloc::Allocator;
 
-/// The layout of an image of version 1 or 2, which have no flags, with this preamble and the seed hash `told`. No
+/// The layout of an image of version 1 or 2, which have no flags, with this preamble and the seed hash `image_seed_hash`. No
 /// entries at the greatest theta mean the empty sketch, and then the seed hash is not checked. Otherwise hashes follow,
-/// or it is `None` if `told` isn't the reader's seed hash or theta is out of range.
+/// or it is `None` if `image_seed_hash` isn't the reader's seed hash or theta is out of range.
 #[tactic(auto, unfolding(crate::specs::ImageLayout::unflagged_layout))]
-fn unflagged_layout(p: Preamble, told: u16, seed_hash: u16) -> Option<Layout>
-    ensures { result ≡ unflagged_layout p told seed_hash }
+fn unflagged_layout(p: Preamble, image_seed_hash: u16, seed_hash: u16) -> Option<Layout>
+    ensures { result ≡ unflagged_layout p image_seed_hash seed_hash }
 {
     if p.count == 0 && p.theta == MAX_THETA {
         Some(Layout::Empty)
-    } else if told == seed_hash {
+    } else if image_seed_hash == seed_hash {
         admitted(p)
     } else {
         None
@@ -127,7 +127,7 @@ impl<A: Allocator + Clone + Drop> CompactThetaSketch<A> {
         ensures refused { IfErr result (λ e. IsRefused e (IsReadable bytes.now (seed_hash seed))) }
     {
         let seed_hash = compute_seed_hash(seed, ErrorKind::InvalidData)?;
-        let state = read_behind(alloc, bytes, theta_layout(bytes, seed_hash), seed_hash)?;
+        let state = read_after_preamble(alloc, bytes, theta_layout(bytes, seed_hash), seed_hash)?;
         Ok(CompactThetaSketch::of_state(state))
     }
 }

@@ -5,7 +5,7 @@ ghost use Rattle.core_laws.specs.Entries.{hash_key, hash_step};
 ghost use Rattle.core_laws.specs.Refusal.{Refuses};
 ghost use Rattle.core_laws.specs.Settings.{settings_refusal};
 ghost use Rattle.core_table.specs.HashTable.{empty_table, after_reset, after_hashes, key_hash, after_hash, hash_allocates, trimmed};
-ghost use Rattle.core_laws.specs.Maps.{IsLent};
+ghost use Rattle.core_laws.specs.Maps.{IsListing};
 ghost use Rattle.core_laws.specs.Insertion.{upsert_allocates};
 ghost use Rattle.core_state.specs.Updatable.{sketch_value, sketch_shows, StopsUpdates};
 ghost use Rattle.core_laws.specs.Values.{theta_of, count_of, fraction_of};
@@ -85,7 +85,7 @@ impl<A: Allocator> ThetaSketch<A> {
     /// How many hashes it retains, fewer than 2^32.
     pub fn num_retained(&self) -> usize
         ensures count { result ≡ count_of (sketch_value self.now) }
-        ensures lent { result ≡ length self.now.lends }
+        ensures listed { result ≡ length self.now.lends }
         ensures sound { IsShown (sketch_shows hash_key self.now) }
     {
         self.state.num_retained()
@@ -123,8 +123,8 @@ impl<A: Allocator> ThetaSketch<A> {
 
     /// Its entries, each once, in an unspecified order.
     pub fn iter(&self) -> ThetaSketchIter<'_>
-        ensures lent { result ≡ record { rest = self.now.lends; counted = false } }
-        ensures each_once { IsLent hash_key self.now.map.kept.entries self.now.lends }
+        ensures listed { result ≡ record { rest = self.now.lends; counted = false } }
+        ensures each_once { IsListing hash_key self.now.map.kept.entries self.now.lends }
     {
         ThetaSketchIter::over(self.state.entries())
     }

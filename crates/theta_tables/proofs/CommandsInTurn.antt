@@ -17,11 +17,11 @@ module _ (k start : ℕ) where
   replies_append (first ∷ cs) c v = ap (λ rs. reply k start first v ∷ rs) (replies_append cs c (after_command k start first v))
 
 -- the table after one more of the commands
-pub stands_after : (cs : List TableCommand) (i : ℕ) (d : TableCommand) (lt : i < length cs) (old was now : MapTable ℕ) →
+pub table_after : (cs : List TableCommand) (i : ℕ) (d : TableCommand) (lt : i < length cs) (old was now : MapTable ℕ) →
     was ≡ record old { kept = after_commands (2 ^ old.lg_nom) old.start (take i cs) old.kept } →
     now ≡ record was { kept = after_command (2 ^ was.lg_nom) was.start (get_or cs i d) was.kept } →
     now ≡ record old { kept = after_commands (2 ^ old.lg_nom) old.start (take (i + 1) cs) old.kept }
-stands_after cs i d lt old was now before after =
+table_after cs i d lt old was now before after =
     let stepped : MapTable ℕ → MapTable ℕ = λ t. record t { kept = after_command (2 ^ t.lg_nom) t.start (get_or cs i d) t.kept } in
     let with : Retained ℕ → MapTable ℕ = λ v. record old { kept = v } in
     after ∙ ap stepped before

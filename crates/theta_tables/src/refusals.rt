@@ -98,7 +98,7 @@ fn run_in_a_list(
 }
 
 /// Whether a value is that after some first commands, perhaps none or all; if the run wasn't refused, that after all.
-fn stands(values: &[Value], refused: bool, value: &Value) -> bool {
+fn is_after_beginning(values: &[Value], refused: bool, value: &Value) -> bool {
     if refused {
         return values.iter().any(|it| it == value);
     }
@@ -106,14 +106,14 @@ fn stands(values: &[Value], refused: bool, value: &Value) -> bool {
 }
 
 #[test]
-fn refused_runs_stand_after_a_beginning(rt: HostRuntime) -> Result<(), Fail> {
+fn refused_runs_end_after_a_beginning(rt: HostRuntime) -> Result<(), Fail> {
     let commands = commands_that_grow(rt.alloc())?;
     let values = values_in_turn(rt.alloc(), &commands)?;
     let mut refusals = 0u64;
     for request in 0..24 {
         let (refused, value) = run_in_slots(rt.alloc(), request, &commands)?;
         assert!(rt;
-            stands(&values, refused, &value),
+            is_after_beginning(&values, refused, &value),
             "in slots, request {request}: {value:?}"
         );
         refusals = refusals.saturating_add(refused as u64);
@@ -126,14 +126,14 @@ fn refused_runs_stand_after_a_beginning(rt: HostRuntime) -> Result<(), Fail> {
 }
 
 #[test]
-fn refused_runs_over_a_list_stand_after_a_beginning(rt: HostRuntime) -> Result<(), Fail> {
+fn refused_runs_over_a_list_end_after_a_beginning(rt: HostRuntime) -> Result<(), Fail> {
     let commands = commands_that_grow(rt.alloc())?;
     let values = values_in_turn(rt.alloc(), &commands)?;
     let mut refusals = 0u64;
     for request in 0..24 {
         let (refused, value) = run_in_a_list(rt.alloc(), request, &commands)?;
         assert!(rt;
-            stands(&values, refused, &value),
+            is_after_beginning(&values, refused, &value),
             "in a list, request {request}: {value:?}"
         );
         refusals = refusals.saturating_add(refused as u64);

@@ -34,8 +34,8 @@ pub fn run_table<T: ThetaTable<ThetaEntry>, A: Allocator>(
 {
     let mut answer = Vec::new(alloc);
     'commands: for command in commands {
-        let told = run_command(table, *command)?;
-        answer.push(told)?;
+        let next_reply = run_command(table, *command)?;
+        answer.push(next_reply)?;
     }
     Ok(answer)
 }
@@ -46,7 +46,7 @@ fn run_command<T: ThetaTable<ThetaEntry>>(
     command: TableCommand,
 ) -> Result<TableReply, Error>
     requires of_sketch { MIN_LG_K ≤ (T.map table.old).lg_nom }
-    ensures ok { IfOk result (λ told. told ≡ reply (2 ^ (T.map table.old).lg_nom) (T.map table.old).start command (T.map table.old).kept) }
+    ensures ok { IfOk result (λ next_reply. next_reply ≡ reply (2 ^ (T.map table.old).lg_nom) (T.map table.old).start command (T.map table.old).kept) }
     ensures after { OnOk result (
         T.map table.new
         ≡ record (T.map table.old)

@@ -16,15 +16,15 @@ const FACTORS: [ResizeFactor; 4] = [
 ];
 
 /// The replies of a run, and then the table's count, theta and hashes, ascending.
-type Told = (Vec<TableReply>, (usize, u64, Vec<u64>));
+type RunResult = (Vec<TableReply>, (usize, u64, Vec<u64>));
 
 /// The run over the table in slots.
-fn told_in_slots(
+fn found_in_slots(
     alloc: Global,
     lg_k: u8,
     factor: ResizeFactor,
     commands: &[TableCommand],
-) -> Result<Told, Error> {
+) -> Result<RunResult, Error> {
     let mut table = ThetaHashTable::new(alloc, lg_k, factor, MAX_THETA, 9001)?;
     let replies = run_table(alloc, &mut table, commands)?;
     let mut hashes = Vec::new(alloc);
@@ -37,12 +37,12 @@ fn told_in_slots(
 }
 
 /// The run over the plain table.
-fn told_in_a_list(
+fn found_in_a_list(
     alloc: Global,
     lg_k: u8,
     factor: ResizeFactor,
     commands: &[TableCommand],
-) -> Result<Told, Error> {
+) -> Result<RunResult, Error> {
     let mut table: PlainTable<ThetaEntry> = PlainTable::new(alloc, lg_k, factor, MAX_THETA, 9001)?;
     let replies = run_table(alloc, &mut table, commands)?;
     let mut hashes = Vec::new(alloc);
@@ -94,9 +94,9 @@ fn tables_reply_at_a_rebuild(rt: HostRuntime) -> Result<(), Fail> {
             replies_at_a_rebuild(rt.alloc())?,
             (0, MAX_THETA, Vec::new(rt.alloc())),
         );
-        let in_slots = told_in_slots(rt.alloc(), 5, factor, &commands)?;
+        let in_slots = found_in_slots(rt.alloc(), 5, factor, &commands)?;
         assert_eq!(rt; in_slots, wanted, "in slots, {factor:?}");
-        let in_a_list = told_in_a_list(rt.alloc(), 5, factor, &commands)?;
+        let in_a_list = found_in_a_list(rt.alloc(), 5, factor, &commands)?;
         assert_eq!(rt; in_a_list, wanted, "in a list, {factor:?}");
     }
     Ok(())
@@ -138,8 +138,8 @@ fn tables_reply_alike(rt: HostRuntime) -> Result<(), Fail> {
     for (lg_k, limit) in [(5, 50), (5, 400), (5, MAX_THETA), (5, u64::MAX), (4, 200)] {
         for factor in FACTORS {
             let commands = random_commands(rt.alloc(), seed, 1000, limit)?;
-            let in_slots = told_in_slots(rt.alloc(), lg_k, factor, &commands)?;
-            let in_a_list = told_in_a_list(rt.alloc(), lg_k, factor, &commands)?;
+            let in_slots = found_in_slots(rt.alloc(), lg_k, factor, &commands)?;
+            let in_a_list = found_in_a_list(rt.alloc(), lg_k, factor, &commands)?;
             assert_eq!(rt;
                 in_slots,
                 in_a_list,
@@ -152,7 +152,7 @@ fn tables_reply_alike(rt: HostRuntime) -> Result<(), Fail> {
 }
 
 /// Whether a table reports that it has room.
-fn tells_room<T: ThetaTable<ThetaEntry>>(table: &T) -> bool {
+fn reports_room<T: ThetaTable<ThetaEntry>>(table: &T) -> bool {
     table.has_room()
 }
 
@@ -168,7 +168,7 @@ fn room_in_both(alloc: Global, commands: &[TableCommand]) -> Result<(bool, bool)
         9001,
     )?;
     run_table(alloc, &mut in_a_list, commands)?;
-    Ok((tells_room(&in_slots), tells_room(&in_a_list)))
+    Ok((reports_room(&in_slots), reports_room(&in_a_list)))
 }
 
 #[test]

@@ -14,7 +14,7 @@ ghost use Rattle.tuple_sketches.specs.ImageLayout.{is_version, is_sketch_type, t
 
 use crate::compact_sketch::CompactTupleSketch;
 use core_images::{
-    Layout, TupleSummaryValue, flagged_layout, read_behind, write_image_with_capacity,
+    Layout, TupleSummaryValue, flagged_layout, read_after_preamble, write_image_with_capacity,
 };
 use core_slots::TupleEntry;
 use sketch_base::{DEFAULT_UPDATE_SEED, Error, ErrorKind, Family, compute_seed_hash};
@@ -116,7 +116,7 @@ impl<S: TupleSummaryValue<A> + Drop, A: Allocator + Clone + Drop> CompactTupleSk
         ensures refused { IfErr result (λ e. IsRefused e (IsReadable S.spells bytes.now (seed_hash seed))) }
     {
         let seed_hash = compute_seed_hash(seed, ErrorKind::InvalidData)?;
-        let state = read_behind(alloc, bytes, tuple_layout(bytes, seed_hash), seed_hash)?;
+        let state = read_after_preamble(alloc, bytes, tuple_layout(bytes, seed_hash), seed_hash)?;
         Ok(CompactTupleSketch::of_state(state))
     }
 }

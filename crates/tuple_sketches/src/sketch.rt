@@ -5,7 +5,7 @@ ghost use Rattle.core_laws.specs.Entries.{ClonesEqual};
 ghost use Rattle.core_laws.specs.Refusal.{Refuses};
 ghost use Rattle.core_laws.specs.Settings.{settings_refusal};
 ghost use Rattle.core_table.specs.HashTable.{empty_table, after_reset, key_hash, after_insertion, trimmed};
-ghost use Rattle.core_laws.specs.Maps.{IsLent};
+ghost use Rattle.core_laws.specs.Maps.{IsListing};
 ghost use Rattle.core_laws.specs.Insertion.{upsert_refusal, upsert_allocates};
 ghost use Rattle.core_state.specs.Updatable.{sketch_value, sketch_shows};
 ghost use Rattle.core_state.specs.View.{shows, lends};
@@ -82,7 +82,7 @@ impl<P: SummaryPolicy, A: Allocator> TupleSketch<P, A> {
     /// How many entries it retains, fewer than 2^32.
     pub fn num_retained(&self) -> usize
         ensures count { result ≡ count_of (sketch_value self.now.state) }
-        ensures lent { result ≡ length self.now.state.lends }
+        ensures listed { result ≡ length self.now.state.lends }
         ensures sound { IsShown (sketch_shows tuple_key self.now.state) }
     {
         self.state.num_retained()
@@ -120,8 +120,8 @@ impl<P: SummaryPolicy, A: Allocator> TupleSketch<P, A> {
 
     /// Its entries, each once, in an unspecified order.
     pub fn iter(&self) -> TupleSketchIter<'_, P::Summary>
-        ensures lent { result ≡ record { rest = self.now.state.lends; counted = false } }
-        ensures each_once { IsLent tuple_key self.now.state.map.kept.entries self.now.state.lends }
+        ensures listed { result ≡ record { rest = self.now.state.lends; counted = false } }
+        ensures each_once { IsListing tuple_key self.now.state.map.kept.entries self.now.state.lends }
     {
         self.state.entries()
     }

@@ -5,7 +5,7 @@ use Rattle.std.proofs.lemmas.Bool.{ne_eqb}
 use Rattle.std.proofs.lemmas.Bool.Decides.{nat_tests}
 use Rattle.std.proofs.lemmas.List.{length-map}
 use Rattle.std.proofs.lemmas.Map.Keys.{IsDistinct-from_apart, apart_from_distinct}
-use Rattle.core_laws.specs.Maps.{IsAscending, entry_at, IsApart, map_of, IsLent}
+use Rattle.core_laws.specs.Maps.{IsAscending, entry_at, IsApart, map_of, IsListing}
 use Rattle.core_laws.proofs.maps.Ascending.{ascending-head, ascending-tail, ascending-nil, ascending-with_entry, ascending-cons, each-get_or}
 use Rattle.core_laws.proofs.maps.LookUps.{entry_at-with_entry, entry_at_past, same_map}
 use Rattle.std.proofs.Math.ListN.{get_or-map}
@@ -63,7 +63,7 @@ module _ {X : Type 0} (key : X → ℕ) where
 
 module _ {X : Type 0} (key : X → ℕ) where
   -- entries that ascend are a listing as they are
-  pub lent-ascending : (xs : List X) → IsAscending key xs → IsLent key xs xs
+  pub lent-ascending : (xs : List X) → IsAscending key xs → IsListing key xs xs
   lent-ascending xs up = record {
     each_once = IsPermutation-refl xs;
     apart = ascending-apart key xs up;
@@ -90,7 +90,7 @@ module _ {X : Type 0} (key : X → ℕ) where
   each-indexed P (x ∷ xs) all = (all 0 x (omega arith), each-indexed P xs (λ k d lt. all (suc k) d (omega arith)))
 
   -- a property of each entry of a map is one of each entry that it lists
-  pub each-lent : (P : X → Type 0) (entries lends : List X) → IsLent key entries lends → AllByRecursion P entries → AllByRecursion P lends
+  pub each-lent : (P : X → Type 0) (entries lends : List X) → IsListing key entries lends → AllByRecursion P entries → AllByRecursion P lends
   each-lent P entries lends lent all = each-indexed P lends (All-permutation P entries lends lent.each_once (λ k d lt. each-get_or P entries k d lt all))
 
   pub each-hash : (P : ℕ → Type 0) (xs : List X) → AllByRecursion (λ x. P (key x)) xs → AllByRecursion P (map key xs)

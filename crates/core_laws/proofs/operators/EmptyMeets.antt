@@ -7,7 +7,7 @@ use Rattle.std.proofs.lemmas.Bool.Decides.{nat_tests}
 use Rattle.core_laws.specs.declared.TheConstants.{MAX_THETA}
 use Rattle.core_laws.specs.Cuts.{Retained, IsRetained}
 use Rattle.core_laws.specs.Maps.{entry_at}
-use Rattle.core_laws.specs.Operators.{shared, is_disjoint, meet, meet_from, both, HaveKey, ComesToNothing}
+use Rattle.core_laws.specs.Operators.{shared, is_disjoint, meet, meet_from, both, HaveKey, BecomesDisjoint}
 use Rattle.core_laws.specs.Values.{Sketch, Empty, NonEmpty}
 use Rattle.core_laws.proofs.maps.LookUps.{entry_at_head}
 use Rattle.core_laws.proofs.operators.Meets.{shared_look, empty_nonempty}
@@ -148,7 +148,7 @@ module _ {X : Type 0} (key : X → ℕ) (merges : X → X → X) (keeps : KeepsK
             shared_if met v q (omega (arith, e, s.keys_low q held)) held (all-end _ done (v ∷ []) have).0);
       }
 
-  stops : (done : List (Retained X)) (met v : Retained X) (after values : List (Retained X)) → Stands key done met → v.theta ≤ MAX_THETA → values ≡ done ++ v ∷ after → is_disjoint key merges met v ≡ true → ComesToNothing key values
+  stops : (done : List (Retained X)) (met v : Retained X) (after values : List (Retained X)) → Stands key done met → v.theta ≤ MAX_THETA → values ≡ done ++ v ∷ after → is_disjoint key merges met v ≡ true → BecomesDisjoint key values
   stops done met v after values s high there disjoint =
       let four = all_four (eqb (min met.theta v.theta) MAX_THETA) (eqb (length met.entries) 0) (eqb (length v.entries) 0) (eqb (length (shared key merges met v).entries) 0) disjoint in
       let first = four.first in
@@ -171,10 +171,10 @@ module _ {X : Type 0} (key : X → ℕ) (merges : X → X → X) (keeps : KeepsK
             absurd (cc));
       }
 
-  goes_on : (vs done : List (Retained X)) (met : Retained X) (values : List (Retained X)) → Stands key done met → AllByRecursion (IsRetained key) vs → values ≡ done ++ vs → meet_from key merges met (map NonEmpty vs) ≡ Empty → ComesToNothing key values
+  goes_on : (vs done : List (Retained X)) (met : Retained X) (values : List (Retained X)) → Stands key done met → AllByRecursion (IsRetained key) vs → values ≡ done ++ vs → meet_from key merges met (map NonEmpty vs) ≡ Empty → BecomesDisjoint key values
   goes_on [] done met values s all there empty = absurd (empty_nonempty key merges keeps met (sym empty))
   goes_on (v ∷ vs) done met values s all there empty =
-      (elim (is_disjoint key merges met v) as (λ b. is_disjoint key merges met v ≡ b → cond b Empty (meet_from key merges (shared key merges met v) (map NonEmpty vs)) ≡ Empty → ComesToNothing key values) [
+      (elim (is_disjoint key merges met v) as (λ b. is_disjoint key merges met v ≡ b → cond b Empty (meet_from key merges (shared key merges met v) (map NonEmpty vs)) ≡ Empty → BecomesDisjoint key values) [
         | true ↦ λ e rest. stops done met v vs values s all.0.theta_high there e
         | false ↦ λ e rest. goes_on vs (done ++ v ∷ []) (shared key merges met v) values (stands-more done met v s all.0.theta_high) all.1 (there ∙ sym (append_assoc done (v ∷ []) vs)) rest
       ]) refl empty
@@ -204,10 +204,10 @@ module _ {X : Type 0} (key : X → ℕ) (merges : X → X → X) (keeps : KeepsK
       let rest : vs ≡ bs ++ last ∷ after = cc in
       rw (first, rest) (stopped bs (b ∷ []) b last after p q (stands-one b (rw (← first) kept)) uncut has held none)
 
--- if a meet is Empty, `ComesToNothing` holds of its values
-pub comes_to_nothing : {X : Type 0} (key : X → ℕ) (merges : X → X → X) → KeepsKey key merges → (u : Retained X) (vs : List (Retained X)) → AllByRecursion (IsRetained key) (u ∷ vs) → meet key merges (NonEmpty u ∷ map NonEmpty vs) ≡ Empty → ComesToNothing key (u ∷ vs)
-comes_to_nothing key merges keeps u vs all empty = goes_on key merges keeps vs (u ∷ []) u (u ∷ vs) (stands-one key merges keeps u all.0) all.1 refl empty
+-- if a meet is Empty, `BecomesDisjoint` holds of its values
+pub becomes_disjoint : {X : Type 0} (key : X → ℕ) (merges : X → X → X) → KeepsKey key merges → (u : Retained X) (vs : List (Retained X)) → AllByRecursion (IsRetained key) (u ∷ vs) → meet key merges (NonEmpty u ∷ map NonEmpty vs) ≡ Empty → BecomesDisjoint key (u ∷ vs)
+becomes_disjoint key merges keeps u vs all empty = goes_on key merges keeps vs (u ∷ []) u (u ∷ vs) (stands-one key merges keeps u all.0) all.1 refl empty
 
--- and if `ComesToNothing` holds of values, their meet is Empty
-pub empty_meet : {X : Type 0} (key : X → ℕ) (merges : X → X → X) → KeepsKey key merges → (u : Retained X) (vs : List (Retained X)) → AllByRecursion (IsRetained key) (u ∷ vs) → ComesToNothing key (u ∷ vs) → meet key merges (NonEmpty u ∷ map NonEmpty vs) ≡ Empty
+-- and if `BecomesDisjoint` holds of values, their meet is Empty
+pub empty_meet : {X : Type 0} (key : X → ℕ) (merges : X → X → X) → KeepsKey key merges → (u : Retained X) (vs : List (Retained X)) → AllByRecursion (IsRetained key) (u ∷ vs) → BecomesDisjoint key (u ∷ vs) → meet key merges (NonEmpty u ∷ map NonEmpty vs) ≡ Empty
 empty_meet key merges keeps u vs all n = begins key merges keeps n.before n.last u n.after vs n.has_keys.0 n.shared_before.0 all.0 n.there n.uncut n.has_keys.1 n.shared_before.1 n.none_shared

@@ -16,7 +16,7 @@ use Rattle.plan_text.specs.declared.command.Form.{Form}
 use Rattle.plan_text.specs.declared.command.Form.TheVariants.{Show, Image}
 use Rattle.plan_values.specs.Value.{value_of, value_in, fits, plan_refusal}
 use Rattle.plan_evaluation.specs.Answered.{ordered_sketch, IsSketchOf}
-use Rattle.sketchtool.specs.Answer.{Texts, theta_texts, tuple_texts, sums, AnswersCommand, shows, argument, policy, sketch_text, value_text, argument_line, policy_line, refusal_line, command_refusal, may_break}
+use Rattle.sketchtool.specs.Answer.{Texts, theta_texts, tuple_texts, sums, AnswersCommand, shows, argument, policy, sketch_text, value_text, argument_line, policy_line, refusal_line, command_refusal, policy_may_refuse}
 
 -- the text of an ordered sketch is that of its value
 ordered_text : {X : Type 0} (texts : Texts X) (form : Form) (v : Sketch X) → sketch_text texts form (ordered_sketch v (seed_hash DEFAULT_UPDATE_SEED)) ≡ value_text texts form v
@@ -37,7 +37,7 @@ answers_tuples form plan sketch text accepted value is =
 
 -- why the evaluation of a command's plan may be refused
 abbrev pub MayRefuse : {Z : Type 0} → Command Z → ErrorKind → Type 0
-MayRefuse command kind = (command_refusal command ≡ Some kind) ⊎ ((kind ≡ OutOfMemory) ⊎ ((kind ≡ Policy) × IsTrue (may_break command)))
+MayRefuse command kind = (command_refusal command ≡ Some kind) ⊎ ((kind ≡ OutOfMemory) ⊎ ((kind ≡ Policy) × IsTrue (policy_may_refuse command)))
 
 -- a plan of theta sketches has no policy that refuses
 pub theta_refused : {Z : Type 0} (form : Form) (plan : Plan (Unit {0}) Z) (kind : ErrorKind) → (plan_refusal DEFAULT_UPDATE_SEED plan ≡ Some kind) ⊎ ((kind ≡ OutOfMemory) × IsTrue true) → MayRefuse (Theta form plan) kind
@@ -62,25 +62,25 @@ only_argument : {Z : Type 0} (command : Command Z) (kind : ErrorKind) → comman
 only_argument (Theta form plan) kind e = for_argument (fits DEFAULT_UPDATE_SEED plan) kind e
 only_argument (Tuple form plan) kind e = for_argument (fits DEFAULT_UPDATE_SEED plan) kind e
 
-tells_argument : {Z : Type 0} (command : Command Z) → MayRefuse command InvalidArgument → AnswersCommand command 1 argument_line
-tells_argument command (inl refused) = λ input s. argument command s refused
-tells_argument command (inr (inl memory)) = absurd cc
-tells_argument command (inr (inr broken)) = absurd (let other : InvalidArgument ≡ Policy = broken.0 in cc)
+answers_argument : {Z : Type 0} (command : Command Z) → MayRefuse command InvalidArgument → AnswersCommand command 1 argument_line
+answers_argument command (inl refused) = λ input s. argument command s refused
+answers_argument command (inr (inl memory)) = absurd cc
+answers_argument command (inr (inr broken)) = absurd (let other : InvalidArgument ≡ Policy = broken.0 in cc)
 
-tells_policy : {Z : Type 0} (command : Command Z) → MayRefuse command Policy → AnswersCommand command 1 policy_line
-tells_policy command (inl refused) = absurd (let other : Policy ≡ InvalidArgument = only_argument command Policy refused in cc)
-tells_policy command (inr (inl memory)) = absurd cc
-tells_policy command (inr (inr broken)) = λ input s. policy command s broken.1
+answers_policy : {Z : Type 0} (command : Command Z) → MayRefuse command Policy → AnswersCommand command 1 policy_line
+answers_policy command (inl refused) = absurd (let other : Policy ≡ InvalidArgument = only_argument command Policy refused in cc)
+answers_policy command (inr (inl memory)) = absurd cc
+answers_policy command (inr (inr broken)) = λ input s. policy command s broken.1
 
 -- the line of a refusal answers a command whose evaluation may be refused with that error
-tells_line : {Z : Type 0} (command : Command Z) (kind : ErrorKind) (text : List ℕ) → MayRefuse command kind → refusal_line kind ≡ Some text → AnswersCommand command 1 text
-tells_line command InvalidArgument text refused told = subst (AnswersCommand command 1) (same_line argument_line text told) (tells_argument command refused)
-tells_line command Policy text refused told = subst (AnswersCommand command 1) (same_line policy_line text told) (tells_policy command refused)
-tells_line command InvalidData text refused told = absurd cc
-tells_line command OutOfMemory text refused told = absurd cc
-tells_line command Failed text refused told = absurd cc
+answers_line : {Z : Type 0} (command : Command Z) (kind : ErrorKind) (text : List ℕ) → MayRefuse command kind → refusal_line kind ≡ Some text → AnswersCommand command 1 text
+answers_line command InvalidArgument text refused told = subst (AnswersCommand command 1) (same_line argument_line text told) (answers_argument command refused)
+answers_line command Policy text refused told = subst (AnswersCommand command 1) (same_line policy_line text told) (answers_policy command refused)
+answers_line command InvalidData text refused told = absurd cc
+answers_line command OutOfMemory text refused told = absurd cc
+answers_line command Failed text refused told = absurd cc
 
-pub tells_refused : {Z T E : Type 0} (command : Command Z) (kind : ErrorKind) (status : T → ℕ) (text : T → List ℕ) (r : Result T E) → MayRefuse command kind
+pub answers_refused : {Z T E : Type 0} (command : Command Z) (kind : ErrorKind) (status : T → ℕ) (text : T → List ℕ) (r : Result T E) → MayRefuse command kind
     → IfOk r (λ x. (status x ≡ 1) × (refusal_line kind ≡ Some (text x))) → IfOk r (λ x. AnswersCommand command (status x) (text x))
-tells_refused command kind status text (Ok x) refused told = λ input s. rw told.0 (tells_line command kind (text x) refused told.1 input s)
-tells_refused command kind status text (Err e) refused told = tt
+answers_refused command kind status text (Ok x) refused told = λ input s. rw told.0 (answers_line command kind (text x) refused told.1 input s)
+answers_refused command kind status text (Err e) refused told = tt

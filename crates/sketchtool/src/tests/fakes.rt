@@ -22,7 +22,7 @@ pub struct Pieces<'a> {
     piece: usize,
     after: After<'a>,
     reads: u64,
-    least_asked: usize,
+    least_requested: usize,
 }
 
 impl<'a> Pieces<'a> {
@@ -32,7 +32,7 @@ impl<'a> Pieces<'a> {
             piece,
             after,
             reads: 0,
-            least_asked: usize::MAX,
+            least_requested: usize::MAX,
         }
     }
 
@@ -42,15 +42,15 @@ impl<'a> Pieces<'a> {
     }
 
     /// The least number of bytes that a read requested.
-    pub fn least_asked(&self) -> usize {
-        self.least_asked
+    pub fn least_requested(&self) -> usize {
+        self.least_requested
     }
 }
 
 impl Read for Pieces<'_> {
     fn read(&mut self, buf: &mut [u8]) -> Result<usize> {
         self.reads = self.reads.saturating_add(1);
-        self.least_asked = self.least_asked.min(buf.len());
+        self.least_requested = self.least_requested.min(buf.len());
         let count = self.piece.min(buf.len()).min(self.text.len());
         if count > 0 {
             buf[..count].copy_from_slice(&self.text[..count]);

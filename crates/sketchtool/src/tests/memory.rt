@@ -84,18 +84,18 @@ fn by_hand<'a>(heap: &'a Heap, is_written: bool) -> Result<CompactThetaSketch<&'
 }
 
 #[test]
-fn asks_for_memory_as_by_hand(rt: HostRuntime) -> Result<(), Fail> {
+fn requests_memory_as_by_hand(rt: HostRuntime) -> Result<(), Fail> {
     let text = union_text(rt.alloc())?;
     let plan = theta_plan(rt.alloc(), text.as_str()).ok_or("no plan")?;
-    let (asked, kept) = counted(rt.alloc(), |heap| {
+    let (requested, kept) = counted(rt.alloc(), |heap| {
         Ok(evaluate_theta(heap, &plan, DEFAULT_UPDATE_SEED)?.num_retained())
     })?;
     let (whole, whole_kept) = counted(rt.alloc(), |heap| Ok(by_hand(heap, true)?.num_retained()))?;
     let (short, short_kept) = counted(rt.alloc(), |heap| Ok(by_hand(heap, false)?.num_retained()))?;
     assert_eq!(rt; (kept, whole_kept, short_kept), (32, 32, 32));
     assert!(rt; short > 0);
-    assert_eq!(rt; asked, whole);
-    assert!(rt; asked > short, "{asked} to {short}");
+    assert_eq!(rt; requested, whole);
+    assert!(rt; requested > short, "{requested} to {short}");
     Ok(())
 }
 
@@ -144,11 +144,11 @@ fn tuples_by_hand<'a>(
 }
 
 #[test]
-fn asks_for_memory_of_tuples_as_by_hand(rt: HostRuntime) -> Result<(), Fail> {
+fn requests_memory_of_tuples_as_by_hand(rt: HostRuntime) -> Result<(), Fail> {
     let plan = tuple_plan(rt.alloc(), TUPLES).ok_or("no plan")?;
     let updates = DefaultUpdatePolicy::<u64>::default();
     let unions = DefaultUnionPolicy::<u64>::default();
-    let told = counted(rt.alloc(), |heap| {
+    let found = counted(rt.alloc(), |heap| {
         Ok(evaluate_tuple(heap, &plan, DEFAULT_UPDATE_SEED, updates, unions)?.num_retained())
     })?;
     let whole = counted(rt.alloc(), |heap| {
@@ -157,8 +157,8 @@ fn asks_for_memory_of_tuples_as_by_hand(rt: HostRuntime) -> Result<(), Fail> {
     let short = counted(rt.alloc(), |heap| {
         Ok(tuples_by_hand(heap, false)?.num_retained())
     })?;
-    assert_eq!(rt; told, whole);
-    assert!(rt; told != short);
+    assert_eq!(rt; found, whole);
+    assert!(rt; found != short);
     Ok(())
 }
 

@@ -245,7 +245,7 @@ fn answer_to_doubled(alloc: Global) -> Result<(u8, Vec<u8>), AllocError> {
 }
 
 #[test]
-fn adds_up_what_stands_twice(rt: HostRuntime) -> Result<(), Fail> {
+fn adds_up_repeated_leaves(rt: HostRuntime) -> Result<(), Fail> {
     let wanted = shown_up_to(rt.alloc(), 32, " 2")?;
     let (status, written) = answer_to_doubled(rt.alloc())?;
     assert_eq!(rt; (status, written.as_slice()), (0, wanted.as_bytes()));

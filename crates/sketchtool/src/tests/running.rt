@@ -21,15 +21,15 @@ fn long_text(alloc: Global) -> Result<String, AllocError> {
 fn answer_in_pieces(alloc: Global, text: &str, piece: usize) -> (u8, Vec<u8>, usize) {
     let mut reader = Pieces::new(text.as_bytes(), piece, After::End);
     let (status, written) = answer_to(alloc, &mut reader);
-    (status, written, reader.least_asked())
+    (status, written, reader.least_requested())
 }
 
 #[test]
 fn reads_in_pieces(rt: HostRuntime) -> Result<(), Fail> {
     let text = long_text(rt.alloc())?;
     for piece in [1, 7, 4095, 4096, 1 << 20] {
-        let (status, written, least_asked) = answer_in_pieces(rt.alloc(), text.as_str(), piece);
-        let said = (status, written.as_slice(), least_asked >= 4096);
+        let (status, written, least_requested) = answer_in_pieces(rt.alloc(), text.as_str(), piece);
+        let said = (status, written.as_slice(), least_requested >= 4096);
         let wanted = (1, b"error 1002 syntax\n".as_slice(), true);
         assert_eq!(rt; said, wanted, "in {piece}");
     }
@@ -91,7 +91,7 @@ fn gives_up_a_reader_that_never_ends(rt: HostRuntime) {
     assert_eq!(rt; status, 2);
     assert!(rt; written.is_empty());
     assert_eq!(rt; reader.reads(), 1 << 24);
-    assert!(rt; reader.least_asked() >= 4096);
+    assert!(rt; reader.least_requested() >= 4096);
 }
 
 /// The status of a run that reads nothing and can write `room` bytes, and its writer.

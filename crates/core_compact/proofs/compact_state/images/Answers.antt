@@ -1,6 +1,6 @@
 use Rattle.std.proofs.Common.{◌≡◌, List, [], ◌∷◌, ◌++◌, refl, rules, of_calls}
 use Rattle.std.proofs.lemmas.List.{map-append, append_assoc}
-use Rattle.core_compact.specs.Mapped.{MakesInTurn, ComesTo}
+use Rattle.core_compact.specs.Mapped.{MakesInTurn, MayReach}
 use Rattle.core_compact.proofs.compact_state.images.Goals as goal
 
 makes_more : {G X Y : Type 0} (step : G → X → Y → G → Type 0) (first : G) (xs : List X) (ys : List Y) (state : G) (x : X) (y : Y) (next : G)
@@ -14,20 +14,20 @@ more_to_come : {X : Type 0} (xs before rest after : List X) (x : X) → xs ≡ b
 more_to_come xs before rest after x e f = rw (append_assoc before (x ∷ []) after, e, f) refl
 
 comes_to : {G X Y : Type 0} (step : G → X → Y → G → Type 0) (first : G) (xs before rest after : List X) (ys : List Y) (state : G) (x : X)
-    → xs ≡ before ++ rest → rest ≡ x ∷ after → MakesInTurn step first before ys state → ComesTo step first xs state x
+    → xs ≡ before ++ rest → rest ≡ x ∷ after → MakesInTurn step first before ys state → MayReach step first xs state x
 comes_to step first xs before rest after ys state x e f made = record { before = before; after = after; made = ys; there = rw (e, f) refl; called = made }
 
 pub f-requires : goal.f-requires
 f-requires g c =
     c.requires.callable c.call_at_each.f c.in-Some.entry
-    (comes_to _ _ _ c.call_at_each.yielded _ c.next.new.self.rest.items c.call_at_each.images.items c.call_at_each.f c.in-Some.entry c.call_at_each.invariant.to_come c.in-Some.ensures.steps.0 c.call_at_each.invariant.images)
+    (comes_to _ _ _ c.call_at_each.yielded _ c.next.new.self.rest.items c.call_at_each.images.items c.call_at_each.f c.in-Some.entry c.call_at_each.invariant.remaining c.in-Some.ensures.steps.0 c.call_at_each.invariant.images)
 
 pub call_at_each-preserved : goal.call_at_each-preserved
 call_at_each-preserved g c = record {
-  to_come = more_to_come _ c.call_at_each.yielded _ c.next.new.self.rest.items c.in-Some.entry c.call_at_each.invariant.to_come c.in-Some.ensures.steps.0;
+  remaining = more_to_come _ c.call_at_each.yielded _ c.next.new.self.rest.items c.in-Some.entry c.call_at_each.invariant.remaining c.in-Some.ensures.steps.0;
   images = rw c.in_ok-push.ensures.items (makes_more _ c.args.f c.call_at_each.yielded c.call_at_each.images.items c.call_at_each.f c.in-Some.entry c.f.result c.f.new.self c.call_at_each.invariant.images (search (of_calls, rules)));
   hashes =
-      let here : _ = comes_to _ _ _ c.call_at_each.yielded _ c.next.new.self.rest.items c.call_at_each.images.items c.call_at_each.f c.in-Some.entry c.call_at_each.invariant.to_come c.in-Some.ensures.steps.0 c.call_at_each.invariant.images in
+      let here : _ = comes_to _ _ _ c.call_at_each.yielded _ c.next.new.self.rest.items c.call_at_each.images.items c.call_at_each.f c.in-Some.entry c.call_at_each.invariant.remaining c.in-Some.ensures.steps.0 c.call_at_each.invariant.images in
       let same : g.F.SketchEntry.key c.f.result ≡ g.E.SketchEntry.key c.in-Some.entry = c.requires.keeps_hash c.call_at_each.f c.in-Some.entry c.f.result c.f.new.self here (search (of_calls, rules)) in
       rw (c.in_ok-push.ensures.items, map-append g.F.SketchEntry.key, map-append g.E.SketchEntry.key, c.call_at_each.invariant.hashes, same) refl;
 }

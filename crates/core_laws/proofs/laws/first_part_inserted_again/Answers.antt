@@ -1,4 +1,4 @@
-use Rattle.core_laws.proofs.insertions.LeftOut.{inserted_again}
+use Rattle.core_laws.proofs.insertions.DroppedHashes.{inserted_again}
 use Rattle.core_laws.proofs.laws.first_part_inserted_again.Goals as goal
 
 pub returns : goal.returns

@@ -1,8 +1,8 @@
-use Rattle.core_laws.proofs.operators.EmptyMeets.{comes_to_nothing, empty_meet}
+use Rattle.core_laws.proofs.operators.EmptyMeets.{becomes_disjoint, empty_meet}
 use Rattle.core_laws.proofs.laws.meet_is_empty.Goals as goal
 
 pub returns-clause-only_if : goal.returns-clause-only_if
-returns-clause-only_if g c = comes_to_nothing
+returns-clause-only_if g c = becomes_disjoint
 
 pub returns-clause-if_so : goal.returns-clause-if_so
 returns-clause-if_so g c = empty_meet

@@ -5,6 +5,6 @@ use Rattle.core_operators.proofs.merge.merge_entries.Goals as goal
 pub merge_ascending-requires-clause-ascending : goal.merge_ascending-requires-clause-ascending
 merge_ascending-requires-clause-ascending g c =
     let key = g.S.Entry.SketchEntry.key in
-    let lent = c.entries-lent.ensures in
-    rw (c.in-Some.ensures.left, lent.all)
-    (ascending-from_map key (g.S.EntrySketch.listing c.args.sketch) (rw lent.hashes (lent.sound.ascending (sym c.requires.in_order ∙ c.if-ordered.true))))
+    let listing = c.entries-list.ensures in
+    rw (c.in-Some.ensures.left, listing.all)
+    (ascending-from_map key (g.S.EntrySketch.listing c.args.sketch) (rw listing.hashes (listing.sound.ascending (sym c.requires.in_order ∙ c.if-ordered.true))))

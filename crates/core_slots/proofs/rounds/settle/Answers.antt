@@ -143,13 +143,13 @@ look_on-preserved g c =
           let way : next ≡ probe (key one.0) lg round = w.slot_in_round-next.ensures.value ∙ ap (λ (n : ℕ). probe n lg round) (sym one.2) in
           let put = w.put_if_free-is_settled in
           let free : slot slots next ≡ None = is_free (slot slots next) (sym put.ensures.free ∙ w.if-is_settled.true) in
-          let stands : map held put.new.slots ≡ set slots next (Some one.0) = (rw w.if-is_settled.true at put.ensures.stands) ∙ ap (λ o. set slots next o) one.1 in
+          let written : map held put.new.slots ≡ set slots next (Some one.0) = (rw w.if-is_settled.true at put.ensures.written) ∙ ap (λ o. set slots next o) one.1 in
           let first : in_wait held at count left ≡ one.0 ∷ wait = next_waits ∙ ap (λ o. filled (o ∷ []) ++ wait) one.1 in
           let is : IsInRound key lg whole stay (one.0 ∷ wait) slots (length begun) round i.0 i.1 = subst (λ xs. IsInRound key lg whole stay xs slots (length begun) round i.0 i.1) first i.5 in
           let looks = looks_put (c.args.looks.now + i.1) round (length stay) (length (in_wait held at count left)) (length wait) c.look_on.looks (omega (arith, ap length first)) i.4 in
           let stay_is : in_front held kept (set (set left at dest) kept put.result.1) ≡ stay = front_before held (set left at dest) kept kept put.result.1 (omega arith) ∙ cleared_stay in
           let wait_is : in_wait held (at + 1) count (set (set left at dest) kept put.result.1) ≡ wait = wait_behind held (set left at dest) at count kept put.result.1 i.7 ∙ cleared_wait in
-          rw (w.left-is, w.slots-is, w.placed-is, w.looks-is, w.kept-is, stay_is, wait_is, stands) (
+          rw (w.left-is, w.slots-is, w.placed-is, w.looks-is, w.kept-is, stay_is, wait_is, written) (
             i.0 + 1,
             i.1 + round + 1,
             omega (arith, i.2, w.tick.ensures),
@@ -167,7 +167,7 @@ look_on-preserved g c =
           let way : next ≡ probe (key one.0) lg round = w.slot_in_round-next.ensures.value ∙ ap (λ (n : ℕ). probe n lg round) (sym one.2) in
           let put = w.put_if_free-is_settled in
           let other = is_taken (slot slots next) (sym put.ensures.free ∙ w.if-is_settled.false) in
-          let stands : map held put.new.slots ≡ slots = rw w.if-is_settled.false at put.ensures.stands in
+          let written : map held put.new.slots ≡ slots = rw w.if-is_settled.false at put.ensures.written in
           let same : held put.result.1 ≡ Some one.0 = (rw w.if-is_settled.false at put.ensures.waits) ∙ one.1 in
           let first : in_wait held at count left ≡ one.0 ∷ wait = next_waits ∙ ap (λ o. filled (o ∷ []) ++ wait) one.1 in
           let is : IsInRound key lg whole stay (one.0 ∷ wait) slots (length begun) round i.0 i.1 = subst (λ xs. IsInRound key lg whole stay xs slots (length begun) round i.0 i.1) first i.5 in
@@ -177,7 +177,7 @@ look_on-preserved g c =
           let stay_is : in_front held (kept + 1) (set (set left at dest) kept put.result.1) ≡ stay ++ one.0 ∷ [] =
           front_more held (set left at dest) kept put.result.1 inside ∙ ap (λ xs. xs ++ filled (held put.result.1 ∷ [])) cleared_stay ∙ ap (λ o. stay ++ filled (o ∷ [])) same in
           let wait_is : in_wait held (at + 1) count (set (set left at dest) kept put.result.1) ≡ wait = wait_behind held (set left at dest) at count kept put.result.1 i.7 ∙ cleared_wait in
-          rw (w.left-is, w.slots-is, w.placed-is, w.looks-is, w.kept-is, stay_is, wait_is, stands) (
+          rw (w.left-is, w.slots-is, w.placed-is, w.looks-is, w.kept-is, stay_is, wait_is, written) (
             i.0,
             i.1,
             i.2,

@@ -1,7 +1,7 @@
 use Rattle.std.proofs.Common.{◌≡◌, false, true, sym, ◌∙◌}
 use Rattle.core_operators.specs.Intersection.{is_settled_outcome, is_begun}
 use Rattle.core_operators.proofs.Outcomes.{held_value, held_retained}
-use Rattle.core_operators.proofs.ToldMetadata.{told_counted}
+use Rattle.core_operators.proofs.Metadata.{told_counted}
 use Rattle.core_operators.proofs.intersection.IntersectionState.update.Goals as goal
 
 pub returns-then-is_settled-clause-held : goal.returns-then-is_settled-clause-held
@@ -23,5 +23,5 @@ pub returns-in_ok-outcome-in-NonEmpty-clause-met : goal.returns-in_ok-outcome-in
 returns-in_ok-outcome-in-NonEmpty-clause-met g c =
     let unsettled : is_settled_outcome c.self.inside.outcome ≡ false = sym c.is_settled.ensures ∙ c.if-is_settled.false in
     let begun : is_begun c.self.inside.outcome ≡ true = sym c.has_begun.ensures ∙ c.if-not-has_begun.false in
-    let told = told_counted (g.S.KeySketch.shown c.args.sketch) c.in-NonEmpty.seed_hash c.in-NonEmpty.theta c.in-NonEmpty.num_retained c.in-NonEmpty.ordered c.in-NonEmpty.ensures.told in
+    let told = told_counted (g.S.KeySketch.shown c.args.sketch) c.in-NonEmpty.seed_hash c.in-NonEmpty.theta c.in-NonEmpty.num_retained c.in-NonEmpty.ordered c.in-NonEmpty.ensures.metadata in
     rw (← c.self.view_is, told.nonempty, held_value c.self.inside.outcome c.self.inside.table.map.kept unsettled begun, ← told.theta_is) c.in_ok-outcome-in-NonEmpty.ensures.met

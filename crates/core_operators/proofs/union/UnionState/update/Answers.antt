@@ -32,7 +32,7 @@ returns-in-Err-clause-refused g c =
     let theta = c.self.inside.theta in
     let none : update_refusal c.args.self.now (g.S.KeySketch.shown c.args.sketch) ≡ None = search rules in
     let nonempty : (g.S.KeySketch.shown c.args.sketch).empty ≡ false = search rules in
-    let told = rw nonempty at c.in-NonEmpty.ensures.told in
+    let told = rw nonempty at c.in-NonEmpty.ensures.metadata in
     let theta_is : c.in-NonEmpty.theta ≡ (g.S.KeySketch.shown c.args.sketch).theta = cc in
     let m_is : c.min-least.result ≡ min theta (g.S.KeySketch.shown c.args.sketch).theta = c.min-least.ensures ∙ ap (λ t. min theta t) theta_is in
     rw (none, ← c.self.view_is) (record {
@@ -58,7 +58,7 @@ returns-in_default-clause-joined g c nonempty =
     let nonzero : AllByRecursion (λ x. 0 < key x) listing = each-from_map key (λ h. 0 < h) _ (rw listed c.metadata.ensures.is_sound.nonzero) in
     let made = c.merge_entries-merged.ensures.made_with in
     let within = union-below key merges refuses keeps k c.min-least.result theta c.self.inside.table.map.kept now listing c.retention_theta.ensures.sound.kept (omega (arith, c.min-least.ensures)) c.self.invariant.theta_within nonzero c.in_default.ensures.after in
-    let told = rw nonempty at c.in-NonEmpty.ensures.told in
+    let told = rw nonempty at c.in-NonEmpty.ensures.metadata in
     let theta_is : c.in-NonEmpty.theta ≡ (g.S.KeySketch.shown c.args.sketch).theta = cc in
     let m_is : c.min-least.result ≡ min theta (g.S.KeySketch.shown c.args.sketch).theta = c.min-least.ensures ∙ ap (λ t. min theta t) theta_is in
     let now_is : c.min-self-inside.result ≡ min c.min-least.result now.theta = c.min-self-inside.ensures ∙ ap (λ t. min c.min-least.result t) c.retention_theta-in-NonEmpty.ensures.theta in

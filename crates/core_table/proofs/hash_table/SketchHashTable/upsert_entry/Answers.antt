@@ -40,7 +40,7 @@ returns-in_err-write_at-clause-refused g c =
     let key = g.E.SketchEntry.key in
     let slots = map g.E.PathEntry.held c.self.inside.slots.items in
     let found = rw c.deref.ensures.value at c.seek-place.ensures in
-    let it = at_entry key _ c.self.inside.lg_cur_size _ c.self.inside.count c.args.hash c.seek-place.result.at slots (g.S.UpsertStep.means c.args.step) _ c.self.invariant.slotted refl c.if-hash-eq0.false c.if-hash-self.false (rw (← c.self.view_is) at c.requires.room) found.on_path found.ends found.told c.if-not-place.true in
+    let it = at_entry key _ c.self.inside.lg_cur_size _ c.self.inside.count c.args.hash c.seek-place.result.at slots (g.S.UpsertStep.means c.args.step) _ c.self.invariant.slotted refl c.if-hash-eq0.false c.if-hash-self.false (rw (← c.self.view_is) at c.requires.room) found.on_path found.ends found.is_free c.if-not-place.true in
     let p = err_from_is_err_and c.from_residual.result c.from_residual.ensures.1 in
     rw (p.1, p.2, ← c.self.view_is, it.case.refusal_is, it.case.allocates_is) ((rw c.deref_mut.ensures.value at c.in_err-write_at.ensures.refused) it.entry it.held)
 
@@ -51,7 +51,7 @@ invariant_of-self-then-not-place g c =
     let at : ℕ = c.seek-place.result.at in
     let step = g.S.UpsertStep.means c.args.step in
     let found = rw c.deref.ensures.value at c.seek-place.ensures in
-    let it = at_entry key _ c.self.inside.lg_cur_size _ c.self.inside.count c.args.hash at slots step _ c.self.invariant.slotted refl c.if-hash-eq0.false c.if-hash-self.false (rw (← c.self.view_is) at c.requires.room) found.on_path found.ends found.told c.if-not-place.true in
+    let it = at_entry key _ c.self.inside.lg_cur_size _ c.self.inside.count c.args.hash at slots step _ c.self.invariant.slotted refl c.if-hash-eq0.false c.if-hash-self.false (rw (← c.self.view_is) at c.requires.room) found.on_path found.ends found.is_free c.if-not-place.true in
     let whole : take c.self.inside.slots.len (c.write_at.new.slots ++ drop (length c.write_at.new.slots) c.self.inside.slots.items) ≡ c.write_at.new.slots = search (rules, places) in
     let new = map g.E.PathEntry.held c.write_at.new.slots in
     let wrote : new ≡ set slots at (Some (step.writes it.entry)) = (rw c.deref_mut.ensures.value at c.in_ok-write_at.ensures.ok) it.entry it.held in
@@ -73,7 +73,7 @@ returns-then-not-place-clause-ok g c =
     let key = g.E.SketchEntry.key in
     let slots = map g.E.PathEntry.held c.self.inside.slots.items in
     let found = rw c.deref.ensures.value at c.seek-place.ensures in
-    let it = at_entry key _ c.self.inside.lg_cur_size _ c.self.inside.count c.args.hash c.seek-place.result.at slots (g.S.UpsertStep.means c.args.step) _ c.self.invariant.slotted refl c.if-hash-eq0.false c.if-hash-self.false (rw (← c.self.view_is) at c.requires.room) found.on_path found.ends found.told c.if-not-place.true in
+    let it = at_entry key _ c.self.inside.lg_cur_size _ c.self.inside.count c.args.hash c.seek-place.result.at slots (g.S.UpsertStep.means c.args.step) _ c.self.invariant.slotted refl c.if-hash-eq0.false c.if-hash-self.false (rw (← c.self.view_is) at c.requires.room) found.on_path found.ends found.is_free c.if-not-place.true in
     rw (← c.self.view_is) (sym it.case.creates_is)
 
 pub returns-then-not-place-clause-after : goal.returns-then-not-place-clause-after
@@ -83,7 +83,7 @@ returns-then-not-place-clause-after g c =
     let at : ℕ = c.seek-place.result.at in
     let step = g.S.UpsertStep.means c.args.step in
     let found = rw c.deref.ensures.value at c.seek-place.ensures in
-    let it = at_entry key _ c.self.inside.lg_cur_size _ c.self.inside.count c.args.hash at slots step _ c.self.invariant.slotted refl c.if-hash-eq0.false c.if-hash-self.false (rw (← c.self.view_is) at c.requires.room) found.on_path found.ends found.told c.if-not-place.true in
+    let it = at_entry key _ c.self.inside.lg_cur_size _ c.self.inside.count c.args.hash at slots step _ c.self.invariant.slotted refl c.if-hash-eq0.false c.if-hash-self.false (rw (← c.self.view_is) at c.requires.room) found.on_path found.ends found.is_free c.if-not-place.true in
     let whole : take c.self.inside.slots.len (c.write_at.new.slots ++ drop (length c.write_at.new.slots) c.self.inside.slots.items) ≡ c.write_at.new.slots = search (rules, places) in
     let new = map g.E.PathEntry.held c.write_at.new.slots in
     let wrote : new ≡ set slots at (Some (step.writes it.entry)) = (rw c.deref_mut.ensures.value at c.in_ok-write_at.ensures.ok) it.entry it.held in
@@ -97,7 +97,7 @@ returns-then-not-place-clause-refused g c =
     let key = g.E.SketchEntry.key in
     let slots = map g.E.PathEntry.held c.self.inside.slots.items in
     let found = rw c.deref.ensures.value at c.seek-place.ensures in
-    let it = at_entry key _ c.self.inside.lg_cur_size _ c.self.inside.count c.args.hash c.seek-place.result.at slots (g.S.UpsertStep.means c.args.step) _ c.self.invariant.slotted refl c.if-hash-eq0.false c.if-hash-self.false (rw (← c.self.view_is) at c.requires.room) found.on_path found.ends found.told c.if-not-place.true in
+    let it = at_entry key _ c.self.inside.lg_cur_size _ c.self.inside.count c.args.hash c.seek-place.result.at slots (g.S.UpsertStep.means c.args.step) _ c.self.invariant.slotted refl c.if-hash-eq0.false c.if-hash-self.false (rw (← c.self.view_is) at c.requires.room) found.on_path found.ends found.is_free c.if-not-place.true in
     rw (← c.self.view_is) (it.case.refusal_is ∙ (rw c.deref_mut.ensures.value at c.in_ok-write_at.ensures.refused) it.entry it.held)
 
 pub returns-in_err-absent-clause-refused : goal.returns-in_err-absent-clause-refused
@@ -105,7 +105,7 @@ returns-in_err-absent-clause-refused g c =
     let key = g.E.SketchEntry.key in
     let slots = map g.E.PathEntry.held c.self.inside.slots.items in
     let found = rw c.deref.ensures.value at c.seek-place.ensures in
-    let it = at_free key _ c.self.inside.lg_cur_size _ c.self.inside.count c.args.hash c.seek-place.result.at slots (g.S.UpsertStep.means c.args.step) _ c.self.invariant.slotted refl c.if-hash-eq0.false c.if-hash-self.false (rw (← c.self.view_is) at c.requires.room) found.on_path found.ends found.told c.if-not-place.false in
+    let it = at_free key _ c.self.inside.lg_cur_size _ c.self.inside.count c.args.hash c.seek-place.result.at slots (g.S.UpsertStep.means c.args.step) _ c.self.invariant.slotted refl c.if-hash-eq0.false c.if-hash-self.false (rw (← c.self.view_is) at c.requires.room) found.on_path found.ends found.is_free c.if-not-place.false in
     let p = err_from_is_err_and c.from_residual-in_err-absent.result c.from_residual-in_err-absent.ensures.1 in
     rw (p.1, p.2, ← c.self.view_is, it.case.refusal_is, it.case.allocates_is) (elim c.in_err-absent.ensures.refused [ inl a ↦ inl a | inr b ↦ inr (b.0, or_left _ _ b.1) ])
 
@@ -114,7 +114,7 @@ put_entry-requires-clause-place g c =
     let key = g.E.SketchEntry.key in
     let slots = map g.E.PathEntry.held c.self.inside.slots.items in
     let found = rw c.deref.ensures.value at c.seek-place.ensures in
-    let it = at_free key _ c.self.inside.lg_cur_size _ c.self.inside.count c.args.hash c.seek-place.result.at slots (g.S.UpsertStep.means c.args.step) _ c.self.invariant.slotted refl c.if-hash-eq0.false c.if-hash-self.false (rw (← c.self.view_is) at c.requires.room) found.on_path found.ends found.told c.if-not-place.false in
+    let it = at_free key _ c.self.inside.lg_cur_size _ c.self.inside.count c.args.hash c.seek-place.result.at slots (g.S.UpsertStep.means c.args.step) _ c.self.invariant.slotted refl c.if-hash-eq0.false c.if-hash-self.false (rw (← c.self.view_is) at c.requires.room) found.on_path found.ends found.is_free c.if-not-place.false in
     let made = sym c.in_ok-absent.ensures.made ∙ c.in-Some.is in
     let has_key : key c.in-Some.entry ≡ c.args.hash = c.requires.makes_hash c.in-Some.entry made in
     record {
@@ -134,7 +134,7 @@ put_entry-requires-clause-room g c =
     let key = g.E.SketchEntry.key in
     let slots = map g.E.PathEntry.held c.self.inside.slots.items in
     let found = rw c.deref.ensures.value at c.seek-place.ensures in
-    let it = at_free key _ c.self.inside.lg_cur_size _ c.self.inside.count c.args.hash c.seek-place.result.at slots (g.S.UpsertStep.means c.args.step) _ c.self.invariant.slotted refl c.if-hash-eq0.false c.if-hash-self.false (rw (← c.self.view_is) at c.requires.room) found.on_path found.ends found.told c.if-not-place.false in
+    let it = at_free key _ c.self.inside.lg_cur_size _ c.self.inside.count c.args.hash c.seek-place.result.at slots (g.S.UpsertStep.means c.args.step) _ c.self.invariant.slotted refl c.if-hash-eq0.false c.if-hash-self.false (rw (← c.self.view_is) at c.requires.room) found.on_path found.ends found.is_free c.if-not-place.false in
     it.fits
 
 pub returns-in_err-settled-in-Some-clause-refused : goal.returns-in_err-settled-in-Some-clause-refused
@@ -142,7 +142,7 @@ returns-in_err-settled-in-Some-clause-refused g c =
     let key = g.E.SketchEntry.key in
     let slots = map g.E.PathEntry.held c.self.inside.slots.items in
     let found = rw c.deref.ensures.value at c.seek-place.ensures in
-    let it = at_free key _ c.self.inside.lg_cur_size _ c.self.inside.count c.args.hash c.seek-place.result.at slots (g.S.UpsertStep.means c.args.step) _ c.self.invariant.slotted refl c.if-hash-eq0.false c.if-hash-self.false (rw (← c.self.view_is) at c.requires.room) found.on_path found.ends found.told c.if-not-place.false in
+    let it = at_free key _ c.self.inside.lg_cur_size _ c.self.inside.count c.args.hash c.seek-place.result.at slots (g.S.UpsertStep.means c.args.step) _ c.self.invariant.slotted refl c.if-hash-eq0.false c.if-hash-self.false (rw (← c.self.view_is) at c.requires.room) found.on_path found.ends found.is_free c.if-not-place.false in
     let p = err_from_is_err_and c.from_residual-in_err-settled-in-Some.result c.from_residual-in_err-settled-in-Some.ensures.1 in
     let made = sym c.in_ok-absent.ensures.made ∙ c.in-Some.is in
     rw (p.1, p.2, ← c.self.view_is, it.case.refusal_is, it.case.allocates_is) (inr (refl, or_right _ _ (ap is_some made)))
@@ -152,7 +152,7 @@ invariant_of-self-in-Some g c =
     let key = g.E.SketchEntry.key in
     let slots = map g.E.PathEntry.held c.self.inside.slots.items in
     let found = rw c.deref.ensures.value at c.seek-place.ensures in
-    let it = at_free key _ c.self.inside.lg_cur_size _ c.self.inside.count c.args.hash c.seek-place.result.at slots (g.S.UpsertStep.means c.args.step) _ c.self.invariant.slotted refl c.if-hash-eq0.false c.if-hash-self.false (rw (← c.self.view_is) at c.requires.room) found.on_path found.ends found.told c.if-not-place.false in
+    let it = at_free key _ c.self.inside.lg_cur_size _ c.self.inside.count c.args.hash c.seek-place.result.at slots (g.S.UpsertStep.means c.args.step) _ c.self.invariant.slotted refl c.if-hash-eq0.false c.if-hash-self.false (rw (← c.self.view_is) at c.requires.room) found.on_path found.ends found.is_free c.if-not-place.false in
     let made = sym c.in_ok-absent.ensures.made ∙ c.in-Some.is in
     let has_key : key c.in-Some.entry ≡ c.args.hash = c.requires.makes_hash c.in-Some.entry made in
     let put = c.in_ok-settled-in-Some.ensures in
@@ -176,7 +176,7 @@ returns-in-None-clause-ok g c =
     let key = g.E.SketchEntry.key in
     let slots = map g.E.PathEntry.held c.self.inside.slots.items in
     let found = rw c.deref.ensures.value at c.seek-place.ensures in
-    let it = at_free key _ c.self.inside.lg_cur_size _ c.self.inside.count c.args.hash c.seek-place.result.at slots (g.S.UpsertStep.means c.args.step) _ c.self.invariant.slotted refl c.if-hash-eq0.false c.if-hash-self.false (rw (← c.self.view_is) at c.requires.room) found.on_path found.ends found.told c.if-not-place.false in
+    let it = at_free key _ c.self.inside.lg_cur_size _ c.self.inside.count c.args.hash c.seek-place.result.at slots (g.S.UpsertStep.means c.args.step) _ c.self.invariant.slotted refl c.if-hash-eq0.false c.if-hash-self.false (rw (← c.self.view_is) at c.requires.room) found.on_path found.ends found.is_free c.if-not-place.false in
     let made = sym c.in_ok-absent.ensures.made ∙ c.in-None.is in
     rw (← c.self.view_is) (sym (it.case.creates_is ∙ ap is_some made))
 
@@ -185,7 +185,7 @@ returns-in-None-clause-after g c =
     let key = g.E.SketchEntry.key in
     let slots = map g.E.PathEntry.held c.self.inside.slots.items in
     let found = rw c.deref.ensures.value at c.seek-place.ensures in
-    let it = at_free key _ c.self.inside.lg_cur_size _ c.self.inside.count c.args.hash c.seek-place.result.at slots (g.S.UpsertStep.means c.args.step) _ c.self.invariant.slotted refl c.if-hash-eq0.false c.if-hash-self.false (rw (← c.self.view_is) at c.requires.room) found.on_path found.ends found.told c.if-not-place.false in
+    let it = at_free key _ c.self.inside.lg_cur_size _ c.self.inside.count c.args.hash c.seek-place.result.at slots (g.S.UpsertStep.means c.args.step) _ c.self.invariant.slotted refl c.if-hash-eq0.false c.if-hash-self.false (rw (← c.self.view_is) at c.requires.room) found.on_path found.ends found.is_free c.if-not-place.false in
     let made = sym c.in_ok-absent.ensures.made ∙ c.in-None.is in
     rw (← c.self.view_is, it.case.after_is, made) refl
 
@@ -194,7 +194,7 @@ returns-in-None-clause-refused g c =
     let key = g.E.SketchEntry.key in
     let slots = map g.E.PathEntry.held c.self.inside.slots.items in
     let found = rw c.deref.ensures.value at c.seek-place.ensures in
-    let it = at_free key _ c.self.inside.lg_cur_size _ c.self.inside.count c.args.hash c.seek-place.result.at slots (g.S.UpsertStep.means c.args.step) _ c.self.invariant.slotted refl c.if-hash-eq0.false c.if-hash-self.false (rw (← c.self.view_is) at c.requires.room) found.on_path found.ends found.told c.if-not-place.false in
+    let it = at_free key _ c.self.inside.lg_cur_size _ c.self.inside.count c.args.hash c.seek-place.result.at slots (g.S.UpsertStep.means c.args.step) _ c.self.invariant.slotted refl c.if-hash-eq0.false c.if-hash-self.false (rw (← c.self.view_is) at c.requires.room) found.on_path found.ends found.is_free c.if-not-place.false in
     rw (← c.self.view_is) (it.case.refusal_is ∙ c.in_ok-absent.ensures.refused)
 
 pub returns-in_ok-settled-in-Some-clause-ok : goal.returns-in_ok-settled-in-Some-clause-ok
@@ -202,7 +202,7 @@ returns-in_ok-settled-in-Some-clause-ok g c =
     let key = g.E.SketchEntry.key in
     let slots = map g.E.PathEntry.held c.self.inside.slots.items in
     let found = rw c.deref.ensures.value at c.seek-place.ensures in
-    let it = at_free key _ c.self.inside.lg_cur_size _ c.self.inside.count c.args.hash c.seek-place.result.at slots (g.S.UpsertStep.means c.args.step) _ c.self.invariant.slotted refl c.if-hash-eq0.false c.if-hash-self.false (rw (← c.self.view_is) at c.requires.room) found.on_path found.ends found.told c.if-not-place.false in
+    let it = at_free key _ c.self.inside.lg_cur_size _ c.self.inside.count c.args.hash c.seek-place.result.at slots (g.S.UpsertStep.means c.args.step) _ c.self.invariant.slotted refl c.if-hash-eq0.false c.if-hash-self.false (rw (← c.self.view_is) at c.requires.room) found.on_path found.ends found.is_free c.if-not-place.false in
     let made = sym c.in_ok-absent.ensures.made ∙ c.in-Some.is in
     rw (← c.self.view_is) (sym (it.case.creates_is ∙ ap is_some made))
 
@@ -211,7 +211,7 @@ returns-in_ok-settled-in-Some-clause-after g c =
     let key = g.E.SketchEntry.key in
     let slots = map g.E.PathEntry.held c.self.inside.slots.items in
     let found = rw c.deref.ensures.value at c.seek-place.ensures in
-    let it = at_free key _ c.self.inside.lg_cur_size _ c.self.inside.count c.args.hash c.seek-place.result.at slots (g.S.UpsertStep.means c.args.step) _ c.self.invariant.slotted refl c.if-hash-eq0.false c.if-hash-self.false (rw (← c.self.view_is) at c.requires.room) found.on_path found.ends found.told c.if-not-place.false in
+    let it = at_free key _ c.self.inside.lg_cur_size _ c.self.inside.count c.args.hash c.seek-place.result.at slots (g.S.UpsertStep.means c.args.step) _ c.self.invariant.slotted refl c.if-hash-eq0.false c.if-hash-self.false (rw (← c.self.view_is) at c.requires.room) found.on_path found.ends found.is_free c.if-not-place.false in
     let made = sym c.in_ok-absent.ensures.made ∙ c.in-Some.is in
     rw (← c.self.view_is, it.case.after_is, made, ← c.in_ok-settled-in-Some.ensures.after) refl
 
@@ -220,7 +220,7 @@ returns-in_ok-settled-in-Some-clause-refused g c =
     let key = g.E.SketchEntry.key in
     let slots = map g.E.PathEntry.held c.self.inside.slots.items in
     let found = rw c.deref.ensures.value at c.seek-place.ensures in
-    let it = at_free key _ c.self.inside.lg_cur_size _ c.self.inside.count c.args.hash c.seek-place.result.at slots (g.S.UpsertStep.means c.args.step) _ c.self.invariant.slotted refl c.if-hash-eq0.false c.if-hash-self.false (rw (← c.self.view_is) at c.requires.room) found.on_path found.ends found.told c.if-not-place.false in
+    let it = at_free key _ c.self.inside.lg_cur_size _ c.self.inside.count c.args.hash c.seek-place.result.at slots (g.S.UpsertStep.means c.args.step) _ c.self.invariant.slotted refl c.if-hash-eq0.false c.if-hash-self.false (rw (← c.self.view_is) at c.requires.room) found.on_path found.ends found.is_free c.if-not-place.false in
     rw (← c.self.view_is) (it.case.refusal_is ∙ c.in_ok-absent.ensures.refused)
 
 pub returns-in_err-write_at-clause-looks : goal.returns-in_err-write_at-clause-looks
@@ -277,7 +277,7 @@ returns-in_err-write_at-clause-memory g c =
     let key = g.E.SketchEntry.key in
     let slots = map g.E.PathEntry.held c.self.inside.slots.items in
     let found = rw c.deref.ensures.value at c.seek-place.ensures in
-    let it = at_entry key _ c.self.inside.lg_cur_size _ c.self.inside.count c.args.hash c.seek-place.result.at slots (g.S.UpsertStep.means c.args.step) _ c.self.invariant.slotted refl c.if-hash-eq0.false c.if-hash-self.false (rw (← c.self.view_is) at c.requires.room) found.on_path found.ends found.told c.if-not-place.true in
+    let it = at_entry key _ c.self.inside.lg_cur_size _ c.self.inside.count c.args.hash c.seek-place.result.at slots (g.S.UpsertStep.means c.args.step) _ c.self.invariant.slotted refl c.if-hash-eq0.false c.if-hash-self.false (rw (← c.self.view_is) at c.requires.room) found.on_path found.ends found.is_free c.if-not-place.true in
     let p = err_from_is_err_and c.from_residual.result c.from_residual.ensures.1 in
     rw (p.1, p.2, ← c.self.view_is, it.case.refusal_is, it.passes) (λ low. ((rw c.deref_mut.ensures.value at c.in_err-write_at.ensures.refused) it.entry it.held))
 
@@ -286,7 +286,7 @@ returns-then-not-place-clause-memory g c =
     let key = g.E.SketchEntry.key in
     let slots = map g.E.PathEntry.held c.self.inside.slots.items in
     let found = rw c.deref.ensures.value at c.seek-place.ensures in
-    let it = at_entry key _ c.self.inside.lg_cur_size _ c.self.inside.count c.args.hash c.seek-place.result.at slots (g.S.UpsertStep.means c.args.step) _ c.self.invariant.slotted refl c.if-hash-eq0.false c.if-hash-self.false (rw (← c.self.view_is) at c.requires.room) found.on_path found.ends found.told c.if-not-place.true in
+    let it = at_entry key _ c.self.inside.lg_cur_size _ c.self.inside.count c.args.hash c.seek-place.result.at slots (g.S.UpsertStep.means c.args.step) _ c.self.invariant.slotted refl c.if-hash-eq0.false c.if-hash-self.false (rw (← c.self.view_is) at c.requires.room) found.on_path found.ends found.is_free c.if-not-place.true in
     rw (← c.self.view_is) (λ low. (it.case.refusal_is ∙ (rw c.deref_mut.ensures.value at c.in_ok-write_at.ensures.refused) it.entry it.held))
 
 pub returns-in_err-absent-clause-memory : goal.returns-in_err-absent-clause-memory
@@ -294,7 +294,7 @@ returns-in_err-absent-clause-memory g c =
     let key = g.E.SketchEntry.key in
     let slots = map g.E.PathEntry.held c.self.inside.slots.items in
     let found = rw c.deref.ensures.value at c.seek-place.ensures in
-    let it = at_free key _ c.self.inside.lg_cur_size _ c.self.inside.count c.args.hash c.seek-place.result.at slots (g.S.UpsertStep.means c.args.step) _ c.self.invariant.slotted refl c.if-hash-eq0.false c.if-hash-self.false (rw (← c.self.view_is) at c.requires.room) found.on_path found.ends found.told c.if-not-place.false in
+    let it = at_free key _ c.self.inside.lg_cur_size _ c.self.inside.count c.args.hash c.seek-place.result.at slots (g.S.UpsertStep.means c.args.step) _ c.self.invariant.slotted refl c.if-hash-eq0.false c.if-hash-self.false (rw (← c.self.view_is) at c.requires.room) found.on_path found.ends found.is_free c.if-not-place.false in
     let p = err_from_is_err_and c.from_residual-in_err-absent.result c.from_residual-in_err-absent.ensures.1 in
     rw (p.1, p.2, ← c.self.view_is, it.case.refusal_is, it.passes) (λ low. c.in_err-absent.ensures.refused)
 
@@ -303,7 +303,7 @@ returns-in_err-settled-in-Some-clause-memory g c =
     let key = g.E.SketchEntry.key in
     let slots = map g.E.PathEntry.held c.self.inside.slots.items in
     let found = rw c.deref.ensures.value at c.seek-place.ensures in
-    let it = at_free key _ c.self.inside.lg_cur_size _ c.self.inside.count c.args.hash c.seek-place.result.at slots (g.S.UpsertStep.means c.args.step) _ c.self.invariant.slotted refl c.if-hash-eq0.false c.if-hash-self.false (rw (← c.self.view_is) at c.requires.room) found.on_path found.ends found.told c.if-not-place.false in
+    let it = at_free key _ c.self.inside.lg_cur_size _ c.self.inside.count c.args.hash c.seek-place.result.at slots (g.S.UpsertStep.means c.args.step) _ c.self.invariant.slotted refl c.if-hash-eq0.false c.if-hash-self.false (rw (← c.self.view_is) at c.requires.room) found.on_path found.ends found.is_free c.if-not-place.false in
     let p = err_from_is_err_and c.from_residual-in_err-settled-in-Some.result c.from_residual-in_err-settled-in-Some.ensures.1 in
     let made = sym c.in_ok-absent.ensures.made ∙ c.in-Some.is in
     rw (p.1, p.2, ← c.self.view_is) (λ low.
@@ -316,7 +316,7 @@ returns-in-None-clause-memory g c =
     let key = g.E.SketchEntry.key in
     let slots = map g.E.PathEntry.held c.self.inside.slots.items in
     let found = rw c.deref.ensures.value at c.seek-place.ensures in
-    let it = at_free key _ c.self.inside.lg_cur_size _ c.self.inside.count c.args.hash c.seek-place.result.at slots (g.S.UpsertStep.means c.args.step) _ c.self.invariant.slotted refl c.if-hash-eq0.false c.if-hash-self.false (rw (← c.self.view_is) at c.requires.room) found.on_path found.ends found.told c.if-not-place.false in
+    let it = at_free key _ c.self.inside.lg_cur_size _ c.self.inside.count c.args.hash c.seek-place.result.at slots (g.S.UpsertStep.means c.args.step) _ c.self.invariant.slotted refl c.if-hash-eq0.false c.if-hash-self.false (rw (← c.self.view_is) at c.requires.room) found.on_path found.ends found.is_free c.if-not-place.false in
     rw (← c.self.view_is) (λ low. (it.case.refusal_is ∙ c.in_ok-absent.ensures.refused))
 
 pub returns-in_ok-settled-in-Some-clause-memory : goal.returns-in_ok-settled-in-Some-clause-memory
@@ -324,7 +324,7 @@ returns-in_ok-settled-in-Some-clause-memory g c =
     let key = g.E.SketchEntry.key in
     let slots = map g.E.PathEntry.held c.self.inside.slots.items in
     let found = rw c.deref.ensures.value at c.seek-place.ensures in
-    let it = at_free key _ c.self.inside.lg_cur_size _ c.self.inside.count c.args.hash c.seek-place.result.at slots (g.S.UpsertStep.means c.args.step) _ c.self.invariant.slotted refl c.if-hash-eq0.false c.if-hash-self.false (rw (← c.self.view_is) at c.requires.room) found.on_path found.ends found.told c.if-not-place.false in
+    let it = at_free key _ c.self.inside.lg_cur_size _ c.self.inside.count c.args.hash c.seek-place.result.at slots (g.S.UpsertStep.means c.args.step) _ c.self.invariant.slotted refl c.if-hash-eq0.false c.if-hash-self.false (rw (← c.self.view_is) at c.requires.room) found.on_path found.ends found.is_free c.if-not-place.false in
     rw (← c.self.view_is) (λ low. (it.case.refusal_is ∙ c.in_ok-absent.ensures.refused))
 
 pub returns-in_ok-settled-in-Some-clause-ticked : goal.returns-in_ok-settled-in-Some-clause-ticked
@@ -344,7 +344,7 @@ returns-in_ok-settled-in-Some-clause-seldom g c =
     let key = g.E.SketchEntry.key in
     let slots = map g.E.PathEntry.held c.self.inside.slots.items in
     let found = rw c.deref.ensures.value at c.seek-place.ensures in
-    let it = at_free key _ c.self.inside.lg_cur_size _ c.self.inside.count c.args.hash c.seek-place.result.at slots (g.S.UpsertStep.means c.args.step) _ c.self.invariant.slotted refl c.if-hash-eq0.false c.if-hash-self.false (rw (← c.self.view_is) at c.requires.room) found.on_path found.ends found.told c.if-not-place.false in
+    let it = at_free key _ c.self.inside.lg_cur_size _ c.self.inside.count c.args.hash c.seek-place.result.at slots (g.S.UpsertStep.means c.args.step) _ c.self.invariant.slotted refl c.if-hash-eq0.false c.if-hash-self.false (rw (← c.self.view_is) at c.requires.room) found.on_path found.ends found.is_free c.if-not-place.false in
     let lg = c.self.inside.lg_cur_size in
     let nom = c.self.inside.lg_nom_size in
     let count = c.self.inside.count in

@@ -1,8 +1,0 @@
-use Rattle.std.proofs.Common.{map}
-use Rattle.core_slots.specs.Layout.{filled}
-use Rattle.core_slots.proofs.Lookups.{IsLeft}
-use Rattle.core_slots.proofs.lookup.leave_out_held.Given as goal
-
--- the remaining hashes so far
-abbrev pub invariant-round : goal.invariant-round
-invariant-round g l = IsLeft g.E.SketchEntry.key (filled (map g.E.PathEntry.held l.slots)) l.theta l.fn.hashes l.hashes l.left

@@ -1,0 +1,169 @@
+//! Calls on sketches, their views and iterators that need no memory: each is made while all memory is refused, and
+//! requests none.
+
+use refusing_allocator::{Refusal, Refusing};
+use sketch_base::{Error, SketchBytes};
+use std::test::Fail;
+use tests_sketches::common::{Heap, kind_of};
+use theta_core::{EntrySketch, KeySketch, MAX_THETA};
+use theta_sketches::{CompactThetaSketch, ThetaSketch, ThetaSketchBuilder, ThetaSketchView};
+
+/// A call on a sketch.
+#[derive(Clone, Copy, Debug)]
+enum Call {
+    Update(u64),
+    Value(&'static str),
+    Trim,
+    Read,
+    Iterate,
+    View,
+    Reset,
+}
+
+/// Makes a call, and returns a number from its answer, or the number of retained entries.
+fn make<'a>(sketch: &mut ThetaSketch<&'a Heap>, call: Call) -> Result<usize, Error> {
+    match call {
+        Call::Update(hash) => sketch.update_hash(hash)?,
+        Call::Value(text) => sketch.update(text)?,
+        Call::Trim => sketch.trim()?,
+        Call::Read => {
+            let _flags = (sketch.is_empty(), sketch.is_estimation_mode());
+            let _numbers = (sketch.theta64(), sketch.lg_k(), sketch.seed_hash());
+            let _fraction = sketch.estimate_fraction();
+            return Ok(sketch.estimated_size());
+        }
+        Call::Iterate => return Ok(lent_by(sketch)),
+        Call::View => return Ok(seen_through(sketch.as_view())),
+        Call::Reset => sketch.reset(),
+    }
+    Ok(sketch.num_retained())
+}
+
+/// The number of entries that a sketch's iterator returns.
+fn lent_by<'a>(sketch: &ThetaSketch<&'a Heap>) -> usize {
+    let mut lent = 0usize;
+    for _entry in sketch.iter() {
+        lent = lent.saturating_add(1);
+    }
+    lent
+}
+
+/// The number of entries of a view, summed over its three iterators.
+fn seen_through<'a>(view: ThetaSketchView<'_, &'a Heap>) -> usize {
+    let _flags = (view.is_empty(), view.is_ordered());
+    let _numbers = (view.theta64(), view.seed_hash(), view.num_retained());
+    let _metadata = view.metadata();
+    let lent = view.entries().count();
+    let hashes = view.hashes().count();
+    lent.saturating_add(hashes)
+        .saturating_add(view.iter().count())
+}
+
+/// The number of entries of a compact sketch and of its view, summed over their iterators.
+fn seen_in<'a>(sketch: &CompactThetaSketch<&'a Heap>) -> usize {
+    let _flags = (
+        sketch.is_empty(),
+        sketch.is_estimation_mode(),
+        sketch.is_ordered(),
+    );
+    let _numbers = (sketch.theta64(), sketch.seed_hash(), sketch.num_retained());
+    let _fraction = sketch.estimate_fraction();
+    let _size = sketch.estimated_size();
+    let lent = seen_through(ThetaSketchView::from(sketch));
+    lent.saturating_add(sketch.iter().count())
+}
+
+/// A sketch updated with the hashes from 1 to a last.
+fn sketch_to<'a>(heap: &'a Heap, last: u64) -> Result<ThetaSketch<&'a Heap>, Error> {
+    let mut sketch = ThetaSketchBuilder::default().lg_k(5).build(heap)?;
+    for hash in 1..=last {
+        sketch.update_hash(hash)?;
+    }
+    Ok(sketch)
+}
+
+/// The number that a call returns, or `None` if it is refused; and the number of requests for memory so far.
+fn asked<'a>(
+    heap: &'a Heap,
+    sketch: &mut ThetaSketch<&'a Heap>,
+    call: Call,
+) -> (Option<usize>, u64) {
+    let found = make(sketch, call).ok();
+    (found, heap.seen())
+}
+
+#[test]
+fn sketches_request_nothing(rt: HostRuntime) -> Result<(), Fail> {
+    let heap = Refusing::new(rt.alloc());
+    let mut sketch = sketch_to(&heap, 30)?;
+    sketch.update("apple")?;
+    // A call, and the number that it returns.
+    let calls = [
+        (Call::Update(0), 31),
+        (Call::Update(MAX_THETA), 31),
+        (Call::Update(u64::MAX), 31),
+        (Call::Update(30), 31),
+        (Call::Value("apple"), 31),
+        (Call::Trim, 31),
+        (Call::Read, 512),
+        (Call::Iterate, 31),
+        (Call::View, 93),
+        (Call::Reset, 0),
+        (Call::Trim, 0),
+        (Call::View, 0),
+    ];
+    heap.restart(Refusal::From(0));
+    for (call, wanted) in calls {
+        let found = asked(&heap, &mut sketch, call);
+        assert_eq!(rt; found, (Some(wanted), 0), "{call:?}");
+    }
+    Ok(())
+}
+
+#[test]
+fn sketches_below_a_theta_request_nothing(rt: HostRuntime) -> Result<(), Fail> {
+    let heap = Refusing::new(rt.alloc());
+    let mut sketch = sketch_to(&heap, 61)?;
+    let compact = sketch.compact(false)?;
+    // A call, and the number that it returns.
+    let calls = [
+        (Call::Update(33), 32),
+        (Call::Update(34), 32),
+        (Call::Update(32), 32),
+        (Call::Update(1), 32),
+        (Call::Trim, 32),
+        (Call::Read, 512),
+        (Call::View, 96),
+    ];
+    heap.restart(Refusal::From(0));
+    for (call, wanted) in calls {
+        let found = asked(&heap, &mut sketch, call);
+        assert_eq!(rt; found, (Some(wanted), 0), "{call:?}");
+    }
+    assert_eq!(rt; (seen_in(&compact), heap.seen()), (128, 0));
+    Ok(())
+}
+
+/// Writes 29 bytes.
+fn write_all<'a>(bytes: &mut SketchBytes<&'a Heap>) -> Result<(), Error> {
+    bytes.write(&[1, 2])?;
+    bytes.write_u8(3)?;
+    bytes.write_u16_le(4)?;
+    bytes.write_u32_le(5)?;
+    bytes.write_u64_le(6)?;
+    bytes.write_i32_le(7)?;
+    bytes.write_i64_le(8)
+}
+
+#[test]
+fn writes_into_room_request_nothing(rt: HostRuntime) -> Result<(), Fail> {
+    let heap = Refusing::new(rt.alloc());
+    let none = SketchBytes::with_capacity(&heap, 0)?;
+    assert_eq!(rt; (none.into_bytes().len(), heap.seen()), (0, 0));
+    let mut bytes = SketchBytes::with_capacity(&heap, 29)?;
+    assert_eq!(rt; heap.seen(), 1);
+    heap.restart(Refusal::From(0));
+    assert_eq!(rt; (kind_of(write_all(&mut bytes)), heap.seen()), (None, 0));
+    assert_eq!(rt; (bytes.into_bytes().len(), heap.seen()), (29, 0));
+    Ok(())
+}
