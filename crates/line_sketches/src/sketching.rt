@@ -201,8 +201,9 @@ pub fn finished<A: Allocator + Clone>(
     sketch.compact(true)
 }
 
-/// The sketch of all lines that a reader has left. Refused with `InvalidArgument` for an `lg_k` that isn't from 4 to 26, before
-/// anything is read, and with `OutOfMemory`; a source that failed tells its error, which is never that a read was interrupted.
+/// The sketch of all lines that a reader has left. Refused with `InvalidArgument` only for an `lg_k` that isn't from 4 to
+/// 26, and with `OutOfMemory`. If a read fails, its error is returned, which is never that a read was interrupted. For
+/// a wrong `lg_k` nothing is read. No clause says that the error is the read's, and none that nothing is read.
 ///
 /// `block` has at least one byte, and a read asks for as many as it has; what stands in it before is not read.
 pub fn sketch_lines<A: Allocator + Clone + Drop, R: Read, W: Watch>(

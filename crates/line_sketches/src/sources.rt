@@ -103,8 +103,9 @@ pub fn add_sources<A: Allocator + Clone, B: Allocator + Clone + Drop, S: Sources
     Err(Unread::Refused(Error::from(AllocError)))
 }
 
-/// The sketch of the lines of all texts, each text's by themselves. Refused with `InvalidArgument` for an `lg_k` that isn't from
-/// 4 to 26, before anything is read, and with `OutOfMemory`; a source that failed, or couldn't be opened, tells its error.
+/// The sketch of the lines of all texts, each text's by themselves. Refused with `InvalidArgument` only for an `lg_k`
+/// that isn't from 4 to 26, and with `OutOfMemory`. If a source fails, or can't be opened, its error is returned, and
+/// for a wrong `lg_k` nothing is read; no clause says so.
 pub fn sketch_sources<A: Allocator + Clone + Drop, S: Sources, W: Watch>(
     alloc: A,
     key: Key,

@@ -97,9 +97,9 @@ fn united_image<A: Allocator + Clone + Drop>(union: &ThetaUnion<A>) -> Result<Ve
 /// lines, byte for byte, in whatever order the images are. If each text but the last is empty or ends by an LF, it is the image
 /// of the texts one behind the other too. An image doesn't show the key and the `lg_k` that it was made with.
 ///
-/// Refused with `InvalidArgument` for an `lg_k` that isn't from 4 to 26, before anything is read; with `InvalidData` only where
-/// some source is no image of a theta sketch of the default seed; and with `OutOfMemory`. A source that failed, or couldn't be
-/// opened, tells its error.
+/// Refused with `InvalidArgument` only for an `lg_k` that isn't from 4 to 26; with `InvalidData` only if some source is
+/// no image of a theta sketch of the default seed; and with `OutOfMemory`. If a source fails, or can't be opened, its
+/// error is returned, and for a wrong `lg_k` nothing is read; no clause says so.
 pub fn unite_images<A: Allocator + Clone + Drop, S: Sources>(
     alloc: A,
     lg_k: u8,

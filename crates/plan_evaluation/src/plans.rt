@@ -43,9 +43,9 @@ use tuple_sketches::{
 /// If the plan merges leaves of one start, the value is the k-minimum of the hashes from 1 on that were added after the leaves'
 /// last resets, whatever the order and grouping, and whether or not parts go through images. The premises: the root is a
 /// union, perhaps through images; every leaf and every other union has at least the root's nominal entries, counting
-/// for a union the least that it is lowered to; no union starts below the leaves; and some leaf is updated. If the plan
-/// is a leaf that isn't empty and whose last step is a trim, the value is the k-minimum of the hashes that were added
-/// to it.
+/// for a union the least that it is lowered to; no union starts below the leaves; and some leaf is updated after its
+/// last reset. If the plan is a leaf that isn't empty and whose last step is a trim, the value is the k-minimum of the
+/// hashes that were added to it.
 ///
 /// Refused with `InvalidArgument` if the seed hash is 0, if some node's `lg_k` is outside 4 to 26 or its start outside 1 to
 /// `MAX_THETA`, or if a union is lowered to an `lg_k` outside 4 to its least so far; and with `OutOfMemory`.
@@ -78,7 +78,7 @@ pub fn evaluate_theta<A: Allocator + Clone, B: Allocator>(
 /// `MAX_THETA`, or if a union is lowered to an `lg_k` outside 4 to its least so far; with `OutOfMemory`, also if a
 /// summary can't be written to an image; and with `Policy` only if a beginning of some leaf's steps, or of the parts of
 /// some union or intersection, folds to a refusal at some key, and no setting before it in the order of work is out of
-/// range. The first refusal ends the evaluation. Clones of summaries must equal their originals.
+/// range. Clones of summaries must equal their originals.
 pub fn evaluate_tuple<
     S: Clone + TupleSummaryValue<A>,
     U: Copy + Drop,

@@ -3,8 +3,8 @@
 //!
 //! A theta sketch retains the hashes of a stream's values that are below its theta. If they become too many, it lowers
 //! theta and drops the greatest hashes; the estimate follows from the number of retained hashes and theta. In
-//! contracts, the value of a sketch is Empty, or the retained hashes as a map, ascending, with the theta. The contract
-//! of every call is stated on that value.
+//! contracts, the value of a sketch is Empty, or the retained hashes as a map, ascending, with the theta. The contracts
+//! of most calls are stated on that value.
 //!
 //! The visitors of two days: of either day, of both days, of the first day alone. The last lines write an image of the
 //! first result and read it.
