@@ -10,8 +10,8 @@ use Rattle.distinct.specs.Words.{number_of}
 digit_small : (c : ℕ) → is_ascii_digit c ≡ true → digit_value c < 10
 digit_small c is = grind (arith, nat_tests)
 
-digit_told : (c : ℕ) → digit_value c < 10 → is_ascii_digit c ≡ true
-digit_told c lt = grind (arith, nat_tests)
+digit_of_value : (c : ℕ) → digit_value c < 10 → is_ascii_digit c ≡ true
+digit_of_value c lt = grind (arith, nat_tests)
 
 and_left : (a b : Bool) → (a && b) ≡ true → a ≡ true
 and_left true b is = refl
@@ -25,15 +25,15 @@ all_small : (ds : List ℕ) → all_ascii_digits ds ≡ true → AllDigits 10 ds
 all_small [] is = tt
 all_small (d ∷ ds) is = (digit_small d (and_left (is_ascii_digit d) (all_ascii_digits ds) is), all_small ds (and_right (is_ascii_digit d) (all_ascii_digits ds) is))
 
-all_told : (ds : List ℕ) → AllDigits 10 ds → all_ascii_digits ds ≡ true
-all_told [] all = refl
-all_told (d ∷ ds) all = rw (digit_told d all.0, all_told ds all.1) refl
+all_digits : (ds : List ℕ) → AllDigits 10 ds → all_ascii_digits ds ≡ true
+all_digits [] all = refl
+all_digits (d ∷ ds) all = rw (digit_of_value d all.0, all_digits ds all.1) refl
 
 -- a numeral from the least to the greatest
 pub number_some : (least greatest n : ℕ) (word : List ℕ) → IsNumeral 10 (without_leading_plus word) → n ≡ digits_value 10 (without_leading_plus word) → least ≤ n → n ≤ greatest → Some n ≡ number_of least greatest word
-number_some least greatest n word numeral is low high = grind (arith, nat_tests, all_told (without_leading_plus word) numeral.1)
+number_some least greatest n word numeral is low high = grind (arith, nat_tests, all_digits (without_leading_plus word) numeral.1)
 
--- what is no numeral, or is out of range
+-- a word that is not a numeral, or is out of range
 pub number_none : (least greatest : ℕ) (word : List ℕ) → greatest < 2 ^ 32 → (IsNumeral 10 (without_leading_plus word) × (digits_value 10 (without_leading_plus word) < 2 ^ 32) → ⊥) → None ≡ number_of least greatest word
 number_none least greatest word small wrong =
     let digits = without_leading_plus word in

@@ -14,7 +14,7 @@ use Rattle.line_sketches.specs.Hex.{bytes_of_hex}
 use Rattle.line_sketches.specs.Sources.{GivesNext, IsFirst}
 use Rattle.distinct.specs.Images.{ended_lines, line_image, line_images, or_none, images_behind, images_in_lines, images_left, open_text, GivesOrCloses}
 
--- the first line of a text, and the lines behind it
+-- the first line of a text, and the lines after it
 ended_first : (b : ℕ) (t : List ℕ) → ended_lines (b ∷ t) ≡ take_through 10 (b ∷ t) ∷ ended_lines (drop_through 10 (b ∷ t))
 ended_first b [] =
     elim (eqb b 10) as (λ e. cond e ((b ∷ []) ∷ []) (onto_first b []) ≡ cond e (b ∷ []) (b ∷ []) ∷ ended_lines (cond e [] [])) [
@@ -27,7 +27,7 @@ ended_first b (c ∷ t) =
       | false ↦ ap (onto_first b) (ended_first c t)
     ]
 
--- what a line spells is what its digits do
+-- a line spells what its digits spell
 spells : (line digits image : List ℕ) → IsTrimAscii line digits → bytes_of_hex digits ≡ Some image → line_image line ≡ image
 spells line digits image is read =
     ap (λ ds. unwrap_or (bytes_of_hex ds) []) (sym (trim_ascii_is line digits (drop (prefix_len is_ascii_whitespace line) line) refl is)) ∙ ap (λ o. unwrap_or o []) read
@@ -35,7 +35,7 @@ spells line digits image is read =
 pub some_read : {V : Type 0} (items : V → List ℕ) (digits : List ℕ) (o : Option V) (image : V) → MatchOption o (bytes_of_hex digits ≡ None) (λ v. bytes_of_hex digits ≡ Some (items v)) → o ≡ Some image → bytes_of_hex digits ≡ Some (items image)
 some_read items digits o image read is = subst (λ o. MatchOption o (bytes_of_hex digits ≡ None) (λ v. bytes_of_hex digits ≡ Some (items v))) is read
 
--- the images behind a line, where some of the file is left
+-- the images after a line, if some of the file is left
 first_behind : (line : ℕ) (b : ℕ) (t image : List ℕ) → line_image (take_through 10 (b ∷ t)) ≡ image → images_behind line (b ∷ t) ≡ image ∷ line_images (drop_through 10 (b ∷ t))
 first_behind line b t image is =
     let first : line_images (b ∷ t) ≡ image ∷ line_images (drop_through 10 (b ∷ t)) =
@@ -127,7 +127,7 @@ opened (Some images) now true line remaining None (Some texts) left source reade
     ∙ ap (λ ts. Some (images_in_lines ts)) (sym next.parted)
     ∙ e
 
--- where no file is left, no image is
+-- if no file is left, no image is left
 pub at_last : (initial now new : Option (List (List ℕ))) (hex : Bool) (line : ℕ) {R A V : Type 0} (remaining : R → Option (List ℕ)) (closed : Option (BufReader R A)) (texts left : Option (List (List ℕ))) (shown : V → Option (List ℕ)) →
     IfSome initial (λ images. now ≡ Some images) → hex ≡ true → IfSome now (λ images. images_left hex (open_text remaining closed) line texts ≡ Some images) × (closed ≡ None) → GivesNext remaining texts left None →
     GivesNext shown initial new None

@@ -1,6 +1,6 @@
 pub mod Digits
 mod ImageLines
-pub mod Askings
+pub mod LeadingOptions
 pub mod OnlyMemory
 pub mod NextImages
 pub mod Answered

@@ -1,4 +1,4 @@
--- Images that are read one after another.
+-- Images read one after another.
 use Rattle.std.proofs.Common.{◌≡◌, ℕ, List, [], ◌∷◌, ◌++◌, length, map, Option, Some, None, refl, sym, ap, subst, ◌∙◌, append_assoc, append-nil, arith}
 use Rattle.std.specs.Prelude.{IfSome}
 use Rattle.sketch_base.specs.Seed.{seed_hash}
@@ -34,7 +34,7 @@ reads_more (Some all) (Some left) new o s sketches so_far next is = one_read all
 
 -- ---- lines on images
 
--- lines so far, and then those of what is left, are all lines
+-- the lines so far, followed by those of the images that are left, are all lines
 abbrev pub ShowsOn : (old : Option (List (List ℕ))) (names : List (List ℕ)) (shown : List ℕ) (now : Option (List (List ℕ))) (left : List (List ℕ)) → Type 0
 ShowsOn None names shown now left = Unit {0}
 ShowsOn (Some all) names shown None left = ⊥
@@ -86,7 +86,7 @@ nothing_named f (x ∷ xs) none = absurd (omega arith)
 
 -- ---- lines on images under any names
 
--- lines so far, and then those of what is left, are all lines
+-- the lines so far, followed by those of the images that are left, are all lines
 abbrev pub ShowMore : (old : Option (List (List ℕ))) (shown : List ℕ) (now : Option (List (List ℕ))) → Type 0
 ShowMore None shown now = Unit {0}
 ShowMore (Some all) shown None = ⊥

@@ -1,5 +1,5 @@
--- What a command writes, by the texts that its files have.
-use Rattle.std.specs.Prelude.{ℕ, ◌≡◌, ◌++◌, ⊤, Bool, true, false, List, [], ◌∷◌, Option, decimal, codes, if◌then◌else◌}
+-- What a command writes, by the texts of its files.
+use Rattle.std.specs.Prelude.{ℕ, ◌≡◌, ◌++◌, ⊤, Bool, true, false, List, [], ◌∷◌, map, Option, String, Vec, string_bytes, decimal, codes, if◌then◌else◌}
 use Rattle.std.specs.Io.KnownBytes.{Appends}
 use Rattle.core_compact.specs.CompactState.{Compact, compact_value}
 use Rattle.core_state.specs.Fraction.{compact_fraction}
@@ -13,8 +13,8 @@ use Rattle.line_sketches.specs.Hex.{hex_of}
 use Rattle.line_sketches.specs.Keys.{value_of_lines, ordered_sketch}
 use Rattle.line_sketches.specs.Shards.{values_of_sketches, AreRead}
 use Rattle.line_sketches.specs.Unions.{IsUnitedImage}
-use Rattle.distinct.specs.Arguments.{Told}
-use Rattle.distinct.specs.Failures.{called, key_told}
+use Rattle.distinct.specs.Arguments.{OptionValues}
+use Rattle.distinct.specs.Failures.{called, chosen_key}
 use Rattle.distinct.specs.Images.{images_of}
 use Rattle.distinct.specs.Numbers.{nearest, shown_line}
 use Rattle.distinct.specs.declared.arguments.Command.{Command}
@@ -22,11 +22,18 @@ use Rattle.distinct.specs.declared.arguments.Command.TheVariants.{Count, Sketch,
 use Rattle.distinct.specs.declared.arguments.Operator.{Operator}
 use Rattle.distinct.specs.declared.arguments.Operator.TheVariants.{Union, Meet, Minus}
 
--- the sketch of the lines of all texts, each text cut into lines by itself, by the key and of the size of the options
-abbrev pub sketch_told : Told → (texts : List (List ℕ)) → Compact ℕ
-sketch_told told texts = ordered_sketch (value_of_lines (key_told told) told.lg_k (lines_of_all texts))
+-- the names of files, and the texts of files in memory
+abbrev pub names_of : {A : Type 0} → List (String A) → List (List ℕ)
+names_of names = map (λ name. string_bytes name) names
 
--- the line that counts
+abbrev pub texts_of : {A : Type 0} → List (Vec ℕ A) → List (List ℕ)
+texts_of texts = map (λ text. text.items) texts
+
+-- the sketch of the lines of all texts, each text cut into lines by itself, with the key and the size that the options set
+abbrev pub sketch_of : OptionValues → (texts : List (List ℕ)) → Compact ℕ
+sketch_of options texts = ordered_sketch (value_of_lines (chosen_key options) options.lg_k (lines_of_all texts))
+
+-- the line that `count` writes
 abbrev pub count_line : Compact ℕ → List ℕ
 count_line s = decimal (nearest (compact_fraction s).0 (compact_fraction s).1) ++ codes "\n"
 
@@ -34,39 +41,60 @@ count_line s = decimal (nearest (compact_fraction s).0 (compact_fraction s).1) +
 abbrev pub in_form : (hex : Bool) → (image : List ℕ) → List ℕ
 in_form hex image = if hex then hex_of image ++ 10 ∷ [] else image
 
--- the image that an operator makes of the sketches that images are read as
+-- the ordered sketches of an intersection and of a difference
+abbrev pub intersection_of : List (Compact ℕ) → Compact ℕ
+intersection_of sketches = ordered_sketch (meet hash_key first_hash (values_of_sketches sketches))
+
+abbrev pub difference_of : (first second : Compact ℕ) → Compact ℕ
+difference_of first second = ordered_sketch (minus hash_key hash_key (compact_value hash_key first) (compact_value hash_key second))
+
+-- the image of the intersection of the sketches in images
+abbrev pub IsIntersectionImage : (images : List (List ℕ)) → List ℕ → Type 0
+IsIntersectionImage images out =
+    (sketches : List (Compact ℕ)) × AreRead images sketches × (out ≡ written (intersection_of sketches))
+
+-- the image of the difference of the sketches in two images
+abbrev pub IsDifferenceImage : (images : List (List ℕ)) → List ℕ → Type 0
+IsDifferenceImage images out =
+    (first second : Compact ℕ) × AreRead images (first ∷ second ∷ []) × (out ≡ written (difference_of first second))
+
+-- the image that an operator makes of the sketches in images
 abbrev pub IsCombined : Operator → (lg_k : ℕ) → (images : List (List ℕ)) → List ℕ → Type 0
 IsCombined Union lg_k images out = IsUnitedImage lg_k images out
-IsCombined Meet lg_k images out = (sketches : List (Compact ℕ)) × AreRead images sketches × (out ≡ written (ordered_sketch (meet hash_key first_hash (values_of_sketches sketches))))
-IsCombined Minus lg_k images out = (first second : Compact ℕ) × AreRead images (first ∷ second ∷ []) × (out ≡ written (ordered_sketch (minus hash_key hash_key (compact_value hash_key first) (compact_value hash_key second))))
+IsCombined Meet lg_k images out = IsIntersectionImage images out
+IsCombined Minus lg_k images out = IsDifferenceImage images out
 
--- the same of the images of files
+-- the same for the images in files
 abbrev pub IsCombinedOf : (hex : Bool) → Operator → (lg_k : ℕ) → (texts : List (List ℕ)) → List ℕ → Type 0
 IsCombinedOf hex operator lg_k texts out = IsCombined operator lg_k (images_of hex texts) out
 
--- lines on images, one behind the other, each under its file's name
+-- one line per image, under the file's name
 abbrev pub IsShown : (names images : List (List ℕ)) → List ℕ → Type 0
 IsShown [] images out = out ≡ []
 IsShown (name ∷ names) [] out = out ≡ []
-IsShown (name ∷ names) (image ∷ images) out = (s : Compact ℕ) × (rest : List ℕ) × Reads image (seed_hash DEFAULT_UPDATE_SEED) s × (out ≡ shown_line (called name) s ++ rest) × IsShown names images rest
+IsShown (name ∷ names) (image ∷ images) out =
+    (s : Compact ℕ) × (rest : List ℕ) × Reads image (seed_hash DEFAULT_UPDATE_SEED) s × (out ≡ shown_line (called name) s ++ rest)
+    × IsShown names images rest
 
--- lines on images, one behind the other, each under some name
+-- one line per image, under any name
 abbrev pub AreShown : (images : List (List ℕ)) → List ℕ → Type 0
 AreShown [] out = out ≡ []
-AreShown (image ∷ images) out = (name : List ℕ) × (s : Compact ℕ) × (rest : List ℕ) × Reads image (seed_hash DEFAULT_UPDATE_SEED) s × (out ≡ shown_line name s ++ rest) × AreShown images rest
+AreShown (image ∷ images) out =
+    (name : List ℕ) × (s : Compact ℕ) × (rest : List ℕ) × Reads image (seed_hash DEFAULT_UPDATE_SEED) s × (out ≡ shown_line name s ++ rest)
+    × AreShown images rest
 
--- lines on the images of files: under their names where the files are images, and under unspecified names where their lines are
+-- one line per image in files: under the file's name if each file is an image, under an unspecified name if each line has one
 abbrev pub IsShownOf : (hex : Bool) → (names texts : List (List ℕ)) → List ℕ → Type 0
 IsShownOf true names texts out = AreShown (images_of true texts) out
 IsShownOf false names texts out = IsShown names texts out
 
--- what a command writes, of files of these names and texts
-abbrev pub IsAnswer : Command → Told → (names texts : List (List ℕ)) → List ℕ → Type 0
-IsAnswer Count told names texts out = out ≡ count_line (sketch_told told texts)
-IsAnswer Sketch told names texts out = out ≡ in_form told.hex (written (sketch_told told texts))
-IsAnswer (Combine operator) told names texts out = (image : List ℕ) × IsCombinedOf told.hex operator told.lg_k texts image × (out ≡ in_form told.hex image)
-IsAnswer Show told names texts out = IsShownOf told.hex names texts out
+-- what a command writes for files of these names and texts
+abbrev pub IsAnswer : Command → OptionValues → (names texts : List (List ℕ)) → List ℕ → Type 0
+IsAnswer Count options names texts out = out ≡ count_line (sketch_of options texts)
+IsAnswer Sketch options names texts out = out ≡ in_form options.hex (written (sketch_of options texts))
+IsAnswer (Combine operator) options names texts out = (image : List ℕ) × IsCombinedOf options.hex operator options.lg_k texts image × (out ≡ in_form options.hex image)
+IsAnswer Show options names texts out = IsShownOf options.hex names texts out
 
--- the answer was written, and nothing else
-abbrev pub Writes : Command → Told → (names texts : List (List ℕ)) → (old new : Option (List ℕ)) → Type 0
-Writes command told names texts old new = (out : List ℕ) × IsAnswer command told names texts out × Appends old new out
+-- the command's answer was written, and nothing else
+abbrev pub Writes : Command → OptionValues → (names texts : List (List ℕ)) → (old new : Option (List ℕ)) → Type 0
+Writes command options names texts old new = (out : List ℕ) × IsAnswer command options names texts out × Appends old new out

@@ -1,22 +1,22 @@
--- What the program answers to its arguments.
+-- How the program reads its arguments.
 use Rattle.std.specs.Prelude.{ℕ, ◌≡◌, ◌<◌, ◌⊎◌, IsTrue, Bool, true, false, List, length, map, Option, Some, None, Result, Ok, Err, string_bytes}
 use Rattle.std.specs.Option.{option_map}
-use Rattle.distinct.specs.Arguments.{Told, Fault, no_command, unknown_command, unknown_option, no_value, wrong_size, wrong_field, wrong_separator, Asked, tells, runs, fails, asked_of}
+use Rattle.distinct.specs.Arguments.{OptionValues, Fault, no_command, unknown_command, unknown_option, no_value, wrong_size, wrong_field, wrong_separator, Action, prints, runs, fails, command_action}
 use Rattle.distinct.specs.declared.arguments.Command.{Command}
 use Rattle.distinct.specs.declared.options.Options.{Options}
 use Rattle.distinct.specs.declared.arguments.Request.{Request}
-use Rattle.distinct.specs.declared.arguments.Request.TheVariants.{Tell, Run}
+use Rattle.distinct.specs.declared.arguments.Request.TheVariants.{Print, Run}
 use Rattle.distinct.specs.declared.arguments.Step.{Step}
 use Rattle.distinct.specs.declared.arguments.Step.TheVariants.{Next, Help, Files}
 use Rattle.distinct.specs.declared.arguments.Topic.TheVariants.{Help as HelpOn}
 use Rattle.distinct.specs.declared.failure.Failure.{Failure}
 use Rattle.distinct.specs.declared.failure.Failure.TheVariants.{NoCommand, UnknownCommand, UnknownOption, NoValue, WrongSize, WrongField, WrongSeparator, Memory}
 
--- what options tell
-abbrev pub told_of : Options → Told
-told_of o = record { lg_k = o.lg_k; field = o.field; separator = o.separator; hex = o.hex; progress = o.progress; output = option_map (λ name. name.now) o.output }
+-- the values of options
+abbrev pub options_of : Options → OptionValues
+options_of o = record { lg_k = o.lg_k; field = o.field; separator = o.separator; hex = o.hex; progress = o.progress; output = option_map (λ name. name.now) o.output }
 
--- the fault of the arguments that a failure tells of
+-- the fault of the arguments that a failure reports
 abbrev pub fault_of : Failure → Option Fault
 fault_of NoCommand = Some no_command
 fault_of (UnknownCommand word) = Some (unknown_command (string_bytes word))
@@ -27,39 +27,41 @@ fault_of WrongField = Some wrong_field
 fault_of WrongSeparator = Some wrong_separator
 fault_of _ = None
 
--- whether a fault names a word, which takes memory to tell
+-- whether a fault names a word, which needs memory to report
 abbrev pub names_word : Fault → Bool
 names_word (unknown_command word) = true
 names_word (unknown_option word) = true
 names_word (no_value option) = true
 names_word _ = false
 
--- a failure tells what is wrong, or that memory was refused to name a word
-abbrev pub TellsFault : Failure → Asked → Type 0
-TellsFault failure (tells topic) = ⊥
-TellsFault failure (runs command told files) = ⊥
-TellsFault failure (fails fault) = (fault_of failure ≡ Some fault) ⊎ ((failure ≡ Memory) × IsTrue (names_word fault))
+-- a failure reports what is wrong, or that memory to name a word was refused
+abbrev pub ReportsFault : Failure → Action → Type 0
+ReportsFault failure (prints topic) = ⊥
+ReportsFault failure (runs command options files) = ⊥
+ReportsFault failure (fails fault) = (fault_of failure ≡ Some fault) ⊎ ((failure ≡ Memory) × IsTrue (names_word fault))
 
--- what a request asks for
-abbrev pub asked_by : Request → Asked
-asked_by (Tell topic) = tells topic
-asked_by (Run command options files) = runs command (told_of options) (map (λ file. string_bytes file) files.now)
+-- what the program does by a request
+abbrev pub request_action : Request → Action
+request_action (Print topic) = prints topic
+request_action (Run command options files) = runs command (options_of options) (map (λ file. string_bytes file) files.now)
 
--- a request is what is asked for, and a failure tells what is wrong with it
-abbrev pub AnswersAsked : Result Request Failure → Asked → Type 0
-AnswersAsked (Ok request) asked = asked_by request ≡ asked
-AnswersAsked (Err failure) asked = TellsFault failure asked
+-- a request is for what the program should do, and a failure reports what is wrong
+abbrev pub ParsesAs : Result Request Failure → Action → Type 0
+ParsesAs (Ok request) action = request_action request ≡ action
+ParsesAs (Err failure) action = ReportsFault failure action
 
--- options are told, or a failure tells what is wrong with them
-abbrev pub IsTold : Result Options Failure → Result Told Fault → Type 0
-IsTold (Ok options) (Ok told) = told_of options ≡ told
-IsTold (Err failure) (Err fault) = fault_of failure ≡ Some fault
-IsTold (Ok options) (Err fault) = ⊥
-IsTold (Err failure) (Ok told) = ⊥
+-- options have these values, or a failure reports what is wrong
+abbrev pub SetsOptions : Result Options Failure → Result OptionValues Fault → Type 0
+SetsOptions (Ok options) (Ok values) = options_of options ≡ values
+SetsOptions (Err failure) (Err fault) = fault_of failure ≡ Some fault
+SetsOptions (Ok options) (Err fault) = ⊥
+SetsOptions (Err failure) (Ok values) = ⊥
 
--- what stands at the front of words: an option, which leaves fewer words that ask for the same, or all that they ask for
-abbrev pub IsStep : Command → Told → (words : List (List ℕ)) → Result Step Failure → Type 0
-IsStep command told words (Ok (Next options behind)) = (length behind.now < length words) × (asked_of command (told_of options) (map (λ word. string_bytes word) behind.now) ≡ asked_of command told words)
-IsStep command told words (Ok Help) = tells (HelpOn command) ≡ asked_of command told words
-IsStep command told words (Ok (Files files)) = runs command told (map (λ file. string_bytes file) files.now) ≡ asked_of command told words
-IsStep command told words (Err failure) = TellsFault failure (asked_of command told words)
+-- the front of words: an option, after which fewer words mean the same, or all that the words mean
+abbrev pub IsStep : Command → OptionValues → (words : List (List ℕ)) → Result Step Failure → Type 0
+IsStep command options words (Ok (Next changed behind)) =
+    (length behind.now < length words)
+    × (command_action command (options_of changed) (map (λ word. string_bytes word) behind.now) ≡ command_action command options words)
+IsStep command options words (Ok Help) = prints (HelpOn command) ≡ command_action command options words
+IsStep command options words (Ok (Files files)) = runs command options (map (λ file. string_bytes file) files.now) ≡ command_action command options words
+IsStep command options words (Err failure) = ReportsFault failure (command_action command options words)

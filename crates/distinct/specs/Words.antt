@@ -18,28 +18,28 @@ command_of word =
     if bytes_eq word (codes "show") then Some Show else None
 
 -- the options that a command has
-abbrev pub options_of : Command → List (List ℕ)
-options_of Count = codes "--lg-k" ∷ codes "--field" ∷ codes "--separator" ∷ codes "--progress" ∷ []
-options_of Sketch = codes "--lg-k" ∷ codes "--field" ∷ codes "--separator" ∷ codes "--progress" ∷ codes "--hex" ∷ codes "--output" ∷ []
-options_of (Combine Union) = codes "--lg-k" ∷ codes "--hex" ∷ codes "--output" ∷ []
-options_of (Combine Meet) = codes "--hex" ∷ codes "--output" ∷ []
-options_of (Combine Minus) = codes "--hex" ∷ codes "--output" ∷ []
-options_of Show = codes "--hex" ∷ []
+abbrev pub option_names : Command → List (List ℕ)
+option_names Count = codes "--lg-k" ∷ codes "--field" ∷ codes "--separator" ∷ codes "--progress" ∷ []
+option_names Sketch = codes "--lg-k" ∷ codes "--field" ∷ codes "--separator" ∷ codes "--progress" ∷ codes "--hex" ∷ codes "--output" ∷ []
+option_names (Combine Union) = codes "--lg-k" ∷ codes "--hex" ∷ codes "--output" ∷ []
+option_names (Combine Meet) = codes "--hex" ∷ codes "--output" ∷ []
+option_names (Combine Minus) = codes "--hex" ∷ codes "--output" ∷ []
+option_names Show = codes "--hex" ∷ []
 
 abbrev pub has_option : Command → List ℕ → Bool
-has_option command word = list_any (bytes_eq word) (options_of command)
+has_option command word = list_any (bytes_eq word) (option_names command)
 
--- a word that asks for help
+-- a request for help
 abbrev pub is_help : List ℕ → Bool
 is_help word = bytes_eq word (codes "--help") || bytes_eq word (codes "-h")
 
--- a word that begins with a hyphen and has more than that
+-- a word that begins with a hyphen and has at least one more byte
 abbrev pub is_option : List ℕ → Bool
 is_option [] = false
 is_option (first ∷ []) = false
 is_option (first ∷ next ∷ word) = first == 45
 
--- the number that a word spells in decimal digits, a plus before them or not, if it is from the least to the greatest
+-- the number that a word spells in decimal digits, with or without a plus before them, if it is from the least to the greatest
 abbrev pub number_of : (least greatest : ℕ) → List ℕ → Option ℕ
 number_of least greatest word =
     let digits = without_leading_plus word in let number = digits_value 10 digits in

@@ -1,19 +1,16 @@
-//! What commands answer, over sources and a writer.
-ghost use Rattle.std.specs.Prelude.{◌≡◌, ◌≤◌, ◌⊎◌, List, map, length, string_bytes, OnOk, IfOk, IfErr, IfSome};
+//! What each command writes, over any sources and any writer.
+ghost use Rattle.std.specs.Prelude.{◌≡◌, ◌≤◌, ◌⊎◌, List, length, OnOk, IfOk, IfErr, IfSome};
 ghost use Rattle.sketch_base.specs.Seed.{seed_hash};
 ghost use Rattle.sketch_base.specs.declared.error.ErrorKind.TheVariants.{OutOfMemory, InvalidData};
 ghost use Rattle.sketch_base.specs.declared.seed.TheConstants.{DEFAULT_UPDATE_SEED};
-ghost use Rattle.core_compact.specs.CompactState.{compact_value};
-ghost use Rattle.core_laws.specs.Entries.{hash_key, first_hash};
-ghost use Rattle.core_laws.specs.Operators.{meet, minus};
 ghost use Rattle.theta_sketches.specs.Image.{written};
-ghost use Rattle.line_sketches.specs.Keys.{ordered_sketch};
-ghost use Rattle.line_sketches.specs.Shards.{values_of_sketches, AreRead};
+ghost use Rattle.line_sketches.specs.Shards.{AreRead};
 ghost use Rattle.line_sketches.specs.Unions.{IsUnitedImage};
-ghost use Rattle.distinct.specs.Answers.{sketch_told, in_form, IsCombinedOf, IsShown, AreShown, IsShownOf, IsAnswer, Writes};
-ghost use Rattle.distinct.specs.Images.{images_left, open_text, ReadsNext};
-ghost use Rattle.distinct.specs.Faults.{told_of};
-ghost use Rattle.distinct.specs.Failures.{status_of, called, IsOfReading, IsOfImages, IsOfCombining, IsOfCommand, TellsNoSketch};
+ghost use Rattle.distinct.specs.Answers.{names_of, sketch_of, intersection_of, difference_of, in_form};
+ghost use Rattle.distinct.specs.Answers.{IsCombinedOf, IsShown, AreShown, IsShownOf, IsAnswer, Writes};
+ghost use Rattle.distinct.specs.Images.{remaining_images, ReadsNext};
+ghost use Rattle.distinct.specs.Faults.{options_of};
+ghost use Rattle.distinct.specs.Failures.{status_of, called, IsOfReading, IsOfImages, IsOfCombining, IsOfCommand, ReportsNoSketch};
 ghost use Rattle.distinct.specs.Seeds.{AreSeeded};
 ghost use Rattle.distinct.specs.declared.failure.Failure.TheVariants as failure;
 
@@ -33,9 +30,9 @@ use std::alloc::Global;
 use std::io::Write;
 use theta_sketches::CompactThetaSketch;
 
-/// Answers a command of the files that sources give, and of these names: writes what it asks for, whole, and nothing else. It
-/// fails with `NoFiles` and `NotTwo` where too few images are named, or not two, and else where memory, a file, what is in it,
-/// or the writer is at fault.
+/// Runs a command on the files that sources give, under these names, and writes its whole answer and nothing else. It
+/// fails with `NoFiles` or `NotTwo` if too few images, or not two, are named. Any other failure means that memory, a
+/// file, its contents or the writer is at fault.
 pub fn answer<S: Sources + Drop, W: Watch, O: Write>(
     alloc: Global,
     command: Command,
@@ -45,14 +42,15 @@ pub fn answer<S: Sources + Drop, W: Watch, O: Write>(
     watch: &mut W,
     writer: &mut O,
 ) -> Result<(), Failure>
-    ensures answered { IfSome (S.texts sources) (λ texts. OnOk result (Writes command (told_of options.now) (map (λ name. string_bytes name) files.now) texts (O.contents writer.old) (O.contents writer.new))) }
+    ensures answered { IfSome (S.texts sources) (λ texts.
+        OnOk result (Writes command (options_of options.now) (names_of files.now) texts (O.contents writer.old) (O.contents writer.new))) }
     ensures failed { IfErr result (IsOfCommand command (length files.now)) }
 {
     let bytes = answer_of(alloc, command, options, files, sources, watch)?;
     put(alloc, writer, "standard output", bytes.as_slice())
 }
 
-/// What a command writes.
+/// The bytes that a command writes.
 fn answer_of<S: Sources + Drop, W: Watch>(
     alloc: Global,
     command: Command,
@@ -61,7 +59,8 @@ fn answer_of<S: Sources + Drop, W: Watch>(
     sources: S,
     watch: &mut W,
 ) -> Result<Vec<u8>, Failure>
-    ensures answer { IfSome (S.texts sources) (λ texts. IfOk result (λ v. IsAnswer command (told_of options.now) (map (λ name. string_bytes name) files.now) texts v.items)) }
+    ensures answer { IfSome (S.texts sources) (λ texts.
+        IfOk result (λ v. IsAnswer command (options_of options.now) (names_of files.now) texts v.items)) }
     ensures failed { IfErr result (IsOfCommand command (length files.now)) }
 {
     let inputs = Inputs::new(sources, files);
@@ -113,14 +112,14 @@ fn image_in_form(alloc: Global, hex: bool, sketch: &CompactThetaSketch) -> Resul
     in_form(alloc, hex, image)
 }
 
-/// The sketch of the lines of all sources in turn. It fails where memory was refused or a source can't be read.
+/// The sketch of the lines of all sources in turn. It fails if memory is refused or a source can't be read.
 fn sketch_inputs<S: Sources + Drop, W: Watch>(
     alloc: Global,
     options: &Options<'_>,
     inputs: Inputs<'_, S>,
     watch: &mut W,
 ) -> Result<CompactThetaSketch, Failure>
-    ensures sketch { IfSome (S.texts inputs.entry.sources) (λ texts. IfOk result (λ s. s ≡ sketch_told (told_of options.now) texts)) }
+    ensures sketch { IfSome (S.texts inputs.entry.sources) (λ texts. IfOk result (λ s. s ≡ sketch_of (options_of options.now) texts)) }
     ensures failed { IfErr result IsOfReading }
 {
     let mut inputs = inputs;
@@ -131,7 +130,7 @@ fn sketch_inputs<S: Sources + Drop, W: Watch>(
     }
 }
 
-/// The image of a sketch. It fails where memory was refused.
+/// The image of a sketch. It fails if memory is refused.
 fn image_to_put(sketch: &CompactThetaSketch) -> Result<Vec<u8>, Failure>
     ensures image { IfOk result (λ v. v.items ≡ written sketch.now) }
     ensures memory { IfErr result (λ f. f ≡ failure.Memory) }
@@ -142,11 +141,11 @@ fn image_to_put(sketch: &CompactThetaSketch) -> Result<Vec<u8>, Failure>
     }
 }
 
-/// Why an image was not taken in.
+/// The failure for an image that was not read.
 fn refused<S: Sources>(images: &Images<'_, S>, error: Error) -> Failure
     requires { (error ≡ OutOfMemory) ⊎ (error ≡ InvalidData) }
     ensures memory { error ≡ OutOfMemory → result ≡ failure.Memory }
-    ensures data { error ≡ InvalidData → TellsNoSketch (called images.now.inputs.current.now) images.now.hex images.now.line result }
+    ensures data { error ≡ InvalidData → ReportsNoSketch (called images.now.inputs.current.now) images.now.hex images.now.line result }
     ensures of_images { IsOfImages result }
 {
     if error.kind() == ErrorKind::InvalidData {
@@ -156,14 +155,16 @@ fn refused<S: Sources>(images: &Images<'_, S>, error: Error) -> Failure
     }
 }
 
-/// The sketch of the next image, of the default seed, or `None` at the end. It fails where memory was refused, a file can't be
-/// read, or an image is none.
+/// The sketch of the next image, of the default seed, or `None` at the end. It fails if memory is refused, a file can't
+/// be read, or the bytes aren't an image.
 fn next_sketch<S: Sources>(
     alloc: Global,
     images: &mut Images<'_, S>,
 ) -> Result<Option<CompactThetaSketch>, Failure>
     ensures seeded { IfOk result (λ next. IfSome next (λ s. s.seed_hash ≡ seed_hash DEFAULT_UPDATE_SEED)) }
-    ensures reads { IfOk result (ReadsNext (images_left images.old.hex (open_text S.Source.remaining images.old.«open») images.old.line (S.texts images.old.inputs.sources)) (images_left images.new.hex (open_text S.Source.remaining images.new.«open») images.new.line (S.texts images.new.inputs.sources))) }
+    ensures reads { IfOk result (ReadsNext
+        (remaining_images S.Source.remaining S.texts images.old)
+        (remaining_images S.Source.remaining S.texts images.new)) }
     ensures failed { IfErr result IsOfImages }
 {
     match images.next_image() {
@@ -176,14 +177,15 @@ fn next_sketch<S: Sources>(
     }
 }
 
-/// A line on each image.
+/// One line per image.
 fn show_inputs<S: Sources + Drop>(
     alloc: Global,
     options: &Options<'_>,
     files: &[String],
     inputs: Inputs<'_, S>,
 ) -> Result<Vec<u8>, Failure>
-    ensures shown { IfSome (S.texts inputs.entry.sources) (λ texts. IfOk result (λ v. IsShownOf options.now.hex (map (λ name. string_bytes name) files.now) texts v.items)) }
+    ensures shown { IfSome (S.texts inputs.entry.sources) (λ texts.
+        IfOk result (λ v. IsShownOf options.now.hex (names_of files.now) texts v.items)) }
     ensures failed { IfErr result IsOfImages }
 {
     let mut images = Images::new(alloc, inputs, options.hex);
@@ -194,10 +196,9 @@ fn show_inputs<S: Sources + Drop>(
     }
 }
 
-/// A line on each line's image.
+/// One line per image, where each line of the files has an image.
 fn show_lines<S: Sources>(alloc: Global, images: &mut Images<'_, S>) -> Result<Vec<u8>, Failure>
-    ensures shown { IfSome (images_left images.old.hex (open_text S.Source.remaining images.old.«open») images.old.line (S.texts images.old.inputs.sources))
-        (λ all. IfOk result (λ v. AreShown all v.items)) }
+    ensures shown { IfSome (remaining_images S.Source.remaining S.texts images.old) (λ all. IfOk result (λ v. AreShown all v.items)) }
     ensures failed { IfErr result IsOfImages }
 {
     let mut shown = Vec::new(alloc);
@@ -211,13 +212,14 @@ fn show_lines<S: Sources>(alloc: Global, images: &mut Images<'_, S>) -> Result<V
     Err(Failure::Memory)
 }
 
-/// A line on each file's image, under the file's name.
+/// One line per image, where each file is an image, under the file's name.
 fn show_files<S: Sources>(
     alloc: Global,
     files: &[String],
     images: &mut Images<'_, S>,
 ) -> Result<Vec<u8>, Failure>
-    ensures shown { IfSome (images_left images.old.hex (open_text S.Source.remaining images.old.«open») images.old.line (S.texts images.old.inputs.sources)) (λ all. IfOk result (λ v. IsShown (map (λ name. string_bytes name) files.now) all v.items)) }
+    ensures shown { IfSome (remaining_images S.Source.remaining S.texts images.old) (λ all.
+        IfOk result (λ v. IsShown (names_of files.now) all v.items)) }
     ensures failed { IfErr result IsOfImages }
 {
     let mut shown = Vec::new(alloc);
@@ -233,7 +235,7 @@ fn show_files<S: Sources>(
     Ok(shown)
 }
 
-/// The image that an operator makes of the images of so many files.
+/// The image that an operator makes of the images of `count` files.
 fn combine_inputs<S: Sources + Drop>(
     alloc: Global,
     options: &Options<'_>,
@@ -241,7 +243,8 @@ fn combine_inputs<S: Sources + Drop>(
     inputs: Inputs<'_, S>,
     operator: Operator,
 ) -> Result<Vec<u8>, Failure>
-    ensures combined { IfSome (S.texts inputs.entry.sources) (λ texts. IfOk result (λ v. IsCombinedOf options.now.hex operator options.now.lg_k texts v.items)) }
+    ensures combined { IfSome (S.texts inputs.entry.sources) (λ texts.
+        IfOk result (λ v. IsCombinedOf options.now.hex operator options.now.lg_k texts v.items)) }
     ensures failed { IfErr result (IsOfCombining operator) }
 {
     let mut images = Images::new(alloc, inputs, options.hex);
@@ -264,7 +267,7 @@ fn combine_inputs<S: Sources + Drop>(
     }
 }
 
-/// The image of the union of images. It fails where memory was refused, a file can't be read, or an image is none.
+/// The image of the union of images. It fails if memory is refused, a file can't be read, or the bytes aren't an image.
 fn union_image<S: Sources>(
     alloc: Global,
     lg_k: u8,
@@ -272,7 +275,8 @@ fn union_image<S: Sources>(
 ) -> Result<Vec<u8>, Failure>
     requires low { 4 ≤ lg_k }
     requires high { lg_k ≤ 26 }
-    ensures united { IfSome (images_left images.old.hex (open_text S.Source.remaining images.old.«open») images.old.line (S.texts images.old.inputs.sources)) (λ all. IfOk result (λ v. IsUnitedImage lg_k all v.items)) }
+    ensures united { IfSome (remaining_images S.Source.remaining S.texts images.old) (λ all.
+        IfOk result (λ v. IsUnitedImage lg_k all v.items)) }
     ensures failed { IfErr result IsOfImages }
 {
     match unite_images(alloc, lg_k, images) {
@@ -282,10 +286,10 @@ fn union_image<S: Sources>(
     }
 }
 
-/// The image of what sketches of the default seed share. It fails where memory was refused.
+/// The image of the intersection of sketches of the default seed. It fails if memory is refused.
 fn meet_image(alloc: Global, sketches: &[CompactThetaSketch]) -> Result<Vec<u8>, Failure>
     requires { AreSeeded sketches.now }
-    ensures image { IfOk result (λ v. v.items ≡ written (ordered_sketch (meet hash_key first_hash (values_of_sketches sketches.now)))) }
+    ensures image { IfOk result (λ v. v.items ≡ written (intersection_of sketches.now)) }
     ensures memory { IfErr result (λ f. f ≡ failure.Memory) }
 {
     match met(alloc, sketches) {
@@ -294,7 +298,7 @@ fn meet_image(alloc: Global, sketches: &[CompactThetaSketch]) -> Result<Vec<u8>,
     }
 }
 
-/// The image of what the first of two sketches of the default seed has and the second lacks. It fails where memory was refused.
+/// The image of the difference of two sketches of the default seed. It fails if memory is refused.
 fn minus_image(
     alloc: Global,
     first: &CompactThetaSketch,
@@ -302,7 +306,7 @@ fn minus_image(
 ) -> Result<Vec<u8>, Failure>
     requires first { first.now.seed_hash ≡ seed_hash DEFAULT_UPDATE_SEED }
     requires second { second.now.seed_hash ≡ seed_hash DEFAULT_UPDATE_SEED }
-    ensures image { IfOk result (λ v. v.items ≡ written (ordered_sketch (minus hash_key hash_key (compact_value hash_key first.now) (compact_value hash_key second.now)))) }
+    ensures image { IfOk result (λ v. v.items ≡ written (difference_of first.now second.now)) }
     ensures memory { IfErr result (λ f. f ≡ failure.Memory) }
 {
     match lacked(alloc, first, second) {
@@ -311,14 +315,14 @@ fn minus_image(
     }
 }
 
-/// The sketches of all images, each of the default seed. It fails where memory was refused, a file can't be read, or an image
-/// is none.
+/// The sketches of all images, each of the default seed. It fails if memory is refused, a file can't be read, or the
+/// bytes aren't an image.
 fn all_sketches<S: Sources>(
     alloc: Global,
     images: &mut Images<'_, S>,
 ) -> Result<Vec<CompactThetaSketch>, Failure>
     ensures seeded { IfOk result (λ v. AreSeeded v.items) }
-    ensures read { IfSome (images_left images.old.hex (open_text S.Source.remaining images.old.«open») images.old.line (S.texts images.old.inputs.sources)) (λ all. IfOk result (λ v. AreRead all v.items)) }
+    ensures read { IfSome (remaining_images S.Source.remaining S.texts images.old) (λ all. IfOk result (λ v. AreRead all v.items)) }
     ensures failed { IfErr result IsOfImages }
 {
     let mut sketches = Vec::new(alloc);

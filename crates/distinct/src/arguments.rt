@@ -2,9 +2,9 @@
 ghost use Rattle.std.specs.Prelude.{◌≡◌, ◌∷◌, true, false, codes, map, string_bytes};
 ghost use Rattle.std.specs.Option.{option_map};
 ghost use Rattle.std.specs.Str.{bytes_eq};
-ghost use Rattle.distinct.specs.Arguments.{asked, asked_of, with_flag, with_value, untold};
-ghost use Rattle.distinct.specs.Faults.{told_of, AnswersAsked, IsTold, IsStep};
-ghost use Rattle.distinct.specs.Failures.{key_told};
+ghost use Rattle.distinct.specs.Arguments.{action_of, command_action, with_flag, with_value, default_options};
+ghost use Rattle.distinct.specs.Faults.{options_of, ParsesAs, SetsOptions, IsStep};
+ghost use Rattle.distinct.specs.Failures.{chosen_key};
 ghost use Rattle.distinct.specs.Words.{command_of, has_option, is_help, is_option, number_of, byte_of};
 
 use crate::failure::Failure;
@@ -12,13 +12,13 @@ use crate::options::Options;
 use core_laws::{MAX_LG_K, MIN_LG_K};
 use lines::Key;
 
-/// The binary logarithm of a sketch's nominal entries, where none is told.
+/// The default binary logarithm of a sketch's nominal entries.
 const DEFAULT_LG_K: u8 = 12;
 
-/// What stands between fields, where nothing is told.
+/// The default separator of fields.
 const TAB: u8 = b'\t';
 
-/// What sketches are made into one by.
+/// How sketches are combined into one.
 #[derive(Clone, Copy, Debug, PartialEq, Eq)]
 pub enum Operator {
     Union,
@@ -26,7 +26,7 @@ pub enum Operator {
     Minus,
 }
 
-/// What is asked for.
+/// What the program does with its files.
 #[derive(Clone, Copy, Debug, PartialEq, Eq)]
 pub enum Command {
     Count,
@@ -35,7 +35,7 @@ pub enum Command {
     Show,
 }
 
-/// What may be told without reading anything.
+/// What the program prints without reading a file.
 #[derive(Clone, Copy, Debug, PartialEq, Eq)]
 pub enum Topic {
     /// What the program does.
@@ -46,9 +46,9 @@ pub enum Topic {
 }
 
 impl<'a> Options<'a> {
-    /// Those of a command without options.
+    /// The defaults, of a command without options.
     fn new() -> Options<'a>
-        ensures { told_of result ≡ untold }
+        ensures { options_of result ≡ default_options }
     {
         Options {
             lg_k: DEFAULT_LG_K,
@@ -60,9 +60,9 @@ impl<'a> Options<'a> {
         }
     }
 
-    /// What of a line is its key.
+    /// Which part of a line is its key.
     pub fn key(&self) -> Key
-        ensures { result ≡ key_told (told_of self.now) }
+        ensures { result ≡ chosen_key (options_of self.now) }
     {
         match self.field {
             Some(number) => Key::field(number, self.separator),
@@ -71,10 +71,10 @@ impl<'a> Options<'a> {
     }
 }
 
-/// What the words ask for: a text to be told, or a command, how it is to be done, and its files.
+/// What the arguments request: to print a text, or to run a command with options on files.
 #[derive(Clone, Copy, Debug)]
 pub enum Request<'a> {
-    Tell(Topic),
+    Print(Topic),
     Run(Command, Options<'a>, &'a [String]),
 }
 
@@ -93,14 +93,14 @@ fn command_of(word: &str) -> Option<Command>
     }
 }
 
-/// Whether a word asks for help.
+/// Whether a word is a request for help.
 fn is_help(word: &str) -> bool
     ensures { result ≡ is_help word.now }
 {
     word == "--help" || word == "-h"
 }
 
-/// Whether a word is an option: it begins with a hyphen, and has more than that.
+/// Whether a word is an option: it begins with a hyphen and has at least one more byte.
 fn is_option(word: &str) -> bool
     ensures { result ≡ is_option word.now }
 {
@@ -110,7 +110,7 @@ fn is_option(word: &str) -> bool
     }
 }
 
-/// The number that a word tells, from `least` to `greatest`.
+/// The number that a word spells, if it is from `least` to `greatest`.
 fn number_of(word: &str, least: u32, greatest: u32) -> Option<u32>
     ensures { result ≡ number_of least greatest word.now }
 {
@@ -126,7 +126,7 @@ fn number_of(word: &str, least: u32, greatest: u32) -> Option<u32>
     }
 }
 
-/// The one byte of a word.
+/// The byte of a word that has just one.
 fn byte_of(word: &str) -> Option<u8>
     ensures { result ≡ byte_of word.now }
 {
@@ -152,47 +152,47 @@ pub fn has_option(command: Command, word: &str) -> bool
     }
 }
 
-/// Takes in an option that has no value; `None` for any other word.
+/// The options after an option without a value; `None` for any other word.
 fn with_flag<'a>(options: Options<'a>, option: &str) -> Option<Options<'a>>
-    ensures { option_map told_of result ≡ with_flag (told_of options.entry) option.now }
+    ensures { option_map options_of result ≡ with_flag (options_of options.entry) option.now }
 {
-    let mut told = options;
+    let mut changed = options;
     match option {
-        "--hex" => told.hex = true,
-        "--progress" => told.progress = true,
+        "--hex" => changed.hex = true,
+        "--progress" => changed.progress = true,
         _ => return None,
     }
-    Some(told)
+    Some(changed)
 }
 
-/// Takes in an option that has a value.
+/// The options after an option and its value.
 fn with_value<'a>(
     options: Options<'a>,
     option: &str,
     value: &'a str,
 ) -> Result<Options<'a>, Failure>
-    ensures { IsTold result (with_value (told_of options.entry) option.now value.now) }
+    ensures { SetsOptions result (with_value (options_of options.entry) option.now value.now) }
 {
-    let mut told = options;
+    let mut changed = options;
     match option {
         "--lg-k" => match number_of(value, MIN_LG_K as u32, MAX_LG_K as u32) {
-            Some(lg_k) => told.lg_k = lg_k as u8,
+            Some(lg_k) => changed.lg_k = lg_k as u8,
             None => return Err(Failure::WrongSize),
         },
         "--field" => match number_of(value, 1, u32::MAX) {
-            Some(number) => told.field = Some(number),
+            Some(number) => changed.field = Some(number),
             None => return Err(Failure::WrongField),
         },
         "--separator" => match byte_of(value) {
-            Some(byte) => told.separator = byte,
+            Some(byte) => changed.separator = byte,
             None => return Err(Failure::WrongSeparator),
         },
-        _ => told.output = Some(value),
+        _ => changed.output = Some(value),
     }
-    Ok(told)
+    Ok(changed)
 }
 
-/// What the next words are: an option, a wish for help, or the files.
+/// What the next words are: an option, a request for help, or the files.
 #[derive(Clone, Copy, Debug)]
 enum Step<'a> {
     Next(Options<'a>, &'a [String]),
@@ -200,7 +200,7 @@ enum Step<'a> {
     Files(&'a [String]),
 }
 
-/// Takes in the option that stands before others.
+/// Reads the option in front of other words.
 fn read_option<'a>(
     command: Command,
     options: Options<'a>,
@@ -210,29 +210,29 @@ fn read_option<'a>(
     requires no_help { is_help (string_bytes word.now) ≡ false }
     requires no_end { bytes_eq (string_bytes word.now) (codes "--") ≡ false }
     requires no_file { is_option (string_bytes word.now) ≡ true }
-    ensures { IsStep command (told_of options.entry) (string_bytes word.now ∷ map (λ other. string_bytes other) others.now) result }
+    ensures { IsStep command (options_of options.entry) (string_bytes word.now ∷ map (λ other. string_bytes other) others.now) result }
 {
     let option = word.as_str();
     if !has_option(command, option) {
         return Err(Failure::UnknownOption(word.clone()?));
     }
-    if let Some(told) = with_flag(options, option) {
-        return Ok(Step::Next(told, others));
+    if let Some(changed) = with_flag(options, option) {
+        return Ok(Step::Next(changed, others));
     }
     let Some((value, behind)) = others.split_first() else {
         return Err(Failure::NoValue(word.clone()?));
     };
-    let told = with_value(options, option, value.as_str())?;
-    Ok(Step::Next(told, behind))
+    let changed = with_value(options, option, value.as_str())?;
+    Ok(Step::Next(changed, behind))
 }
 
-/// What stands next. `--` ends the options, and `-` is a file.
+/// What the next words are. `--` ends the options, and `-` is a file.
 fn read_step<'a>(
     command: Command,
     options: Options<'a>,
     words: &'a [String],
 ) -> Result<Step<'a>, Failure>
-    ensures { IsStep command (told_of options.entry) (map (λ word. string_bytes word) words.now) result }
+    ensures { IsStep command (options_of options.entry) (map (λ word. string_bytes word) words.now) result }
 {
     let Some((word, others)) = words.split_first() else {
         return Ok(Step::Files(words));
@@ -250,35 +250,35 @@ fn read_step<'a>(
     read_option(command, options, word, others)
 }
 
-/// What the words behind a command ask for: options, and then files.
+/// What the words after a command request: options, and then files.
 fn read_command<'a>(
     command: Command,
     options: Options<'a>,
     words: &'a [String],
 ) -> Result<Request<'a>, Failure>
-    ensures { AnswersAsked result (asked_of command (told_of options.entry) (map (λ word. string_bytes word) words.now)) }
+    ensures { ParsesAs result (command_action command (options_of options.entry) (map (λ word. string_bytes word) words.now)) }
 {
     match read_step(command, options, words)? {
-        Step::Next(told, behind) => read_command(command, told, behind),
-        Step::Help => Ok(Request::Tell(Topic::Help(command))),
+        Step::Next(changed, behind) => read_command(command, changed, behind),
+        Step::Help => Ok(Request::Print(Topic::Help(command))),
         Step::Files(files) => Ok(Request::Run(command, options, files)),
     }
 }
 
-/// What the words behind the program's name ask for. Where they ask for nothing, it fails with the first fault, from the left,
-/// or with `Memory` where memory for the word that the fault names was refused.
+/// What the arguments request, without the program's name. If they are wrong, it fails with the first fault from the
+/// left, or with `Memory` if memory for the word that the fault names is refused.
 pub fn read_arguments(words: &[String]) -> Result<Request<'_>, Failure>
-    ensures { AnswersAsked result (asked (map (λ word. string_bytes word) words.now)) }
+    ensures { ParsesAs result (action_of (map (λ word. string_bytes word) words.now)) }
 {
     let Some((first, rest)) = words.split_first() else {
         return Err(Failure::NoCommand);
     };
     let word = first.as_str();
     if is_help(word) {
-        return Ok(Request::Tell(Topic::Program));
+        return Ok(Request::Print(Topic::Program));
     }
     if word == "--version" {
-        return Ok(Request::Tell(Topic::Version));
+        return Ok(Request::Print(Topic::Version));
     }
     match command_of(word) {
         Some(command) => read_command(command, Options::new(), rest),

@@ -1,4 +1,4 @@
-//! What is told of a sketch, as text.
+//! What the program prints of a sketch.
 ghost use Rattle.std.specs.Prelude.{◌≡◌, ◌<◌, ◌*◌, ◌^◌, ◌++◌, IfOk, string_bytes, decimal, codes};
 ghost use Rattle.core_state.specs.Fraction.{compact_fraction};
 ghost use Rattle.core_state.specs.Updatable.{sketch_value};
@@ -8,7 +8,7 @@ ghost use Rattle.distinct.specs.Numbers.{nearest, kind_of, shown_line};
 use std::alloc::{AllocError, Allocator};
 use theta_sketches::{CompactThetaSketch, ThetaSketch};
 
-/// The nearest whole number to a fraction, a half upwards.
+/// The nearest whole number to a fraction; a half is rounded up.
 fn rounded(over: u128, under: u128) -> u128
     requires not_zero { 0 < under }
     requires small { over < 2 ^ 96 }
@@ -18,7 +18,7 @@ fn rounded(over: u128, under: u128) -> u128
     (2 * over + under) / (2 * under)
 }
 
-/// The nearest whole number to what a sketch estimates.
+/// A sketch's estimate, rounded to the nearest whole number.
 pub fn estimate<A: Allocator>(sketch: &CompactThetaSketch<A>) -> u128
     ensures { result ≡ nearest (compact_fraction sketch.now).0 (compact_fraction sketch.now).1 }
 {
@@ -32,13 +32,15 @@ pub fn count_line<A: Allocator, B: Allocator>(
     alloc: A,
     sketch: &CompactThetaSketch<B>,
 ) -> Result<String<A>, AllocError>
-    ensures { IfOk result (λ text. string_bytes text ≡ decimal (nearest (compact_fraction sketch.now).0 (compact_fraction sketch.now).1) ++ codes "\n") }
+    ensures { IfOk result (λ text.
+        string_bytes text
+        ≡ decimal (nearest (compact_fraction sketch.now).0 (compact_fraction sketch.now).1) ++ codes "\n") }
 {
     let count = estimate(sketch);
     format!(in alloc; "{count}\n")
 }
 
-/// Whether a sketch counts or estimates.
+/// Whether a sketch counts exactly or estimates.
 fn kind_of<A: Allocator>(sketch: &CompactThetaSketch<A>) -> &'static str
     ensures { result.now ≡ kind_of sketch.now }
 {
@@ -49,7 +51,7 @@ fn kind_of<A: Allocator>(sketch: &CompactThetaSketch<A>) -> &'static str
     }
 }
 
-/// A line on a sketch.
+/// The line that `show` prints of a sketch.
 pub fn shown_line<A: Allocator, B: Allocator>(
     alloc: A,
     name: &str,
@@ -64,7 +66,7 @@ pub fn shown_line<A: Allocator, B: Allocator>(
     format!(in alloc; "{name}: {count} {kind}, retained {retained}, theta {theta}\n")
 }
 
-/// The nearest whole number to what a sketch estimates so far.
+/// The estimate of a sketch so far, rounded to the nearest whole number.
 pub fn estimate_so_far<A: Allocator>(sketch: &ThetaSketch<A>) -> u128
     ensures { result ≡ nearest (fraction_of (sketch_value sketch.now)).0 (fraction_of (sketch_value sketch.now)).1 }
 {

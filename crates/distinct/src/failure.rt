@@ -1,4 +1,4 @@
-//! Why the program answers nothing.
+//! Why the program fails.
 ghost use Rattle.std.specs.Prelude.{◌≡◌};
 ghost use Rattle.sketch_base.specs.declared.error.ErrorKind.TheVariants.{OutOfMemory};
 ghost use Rattle.distinct.specs.Failures.{status_of};
@@ -8,43 +8,43 @@ use sketch_base::Error;
 use std::alloc::{AllocError, AllocFailed};
 use std::{fmt, io};
 
-/// Why the program answers nothing. A file has the name that it was given by.
+/// Why the program fails. A file has the name by which it was given.
 #[derive(Debug, Drop)]
 pub enum Failure {
     /// An argument is not text in UTF-8.
     NotText,
-    /// No word says what is asked for.
+    /// There is no command.
     NoCommand,
-    /// The first word is none that says what is asked for.
+    /// The first argument is not a command.
     UnknownCommand(String),
-    /// An option is none of the command's.
+    /// The command doesn't have this option.
     UnknownOption(String),
-    /// An option that takes a value stands last.
+    /// An option that takes a value is the last argument.
     NoValue(String),
     /// `--lg-k` is not followed by a number from 4 to 26.
     WrongSize,
-    /// `--field` is not followed by a number from 1 on.
+    /// `--field` is not followed by a number from 1 to 2^32 - 1.
     WrongField,
     /// `--separator` is not followed by one byte.
     WrongSeparator,
-    /// The command asks for images.
+    /// The command needs images, and none is given.
     NoFiles,
-    /// `minus` asks for two images.
+    /// `minus` needs two images.
     NotTwo,
     /// Memory was refused.
     Memory,
     /// A file can't be read.
     Unreadable(String, io::Error),
-    /// A file is no image, or its line of this number, from 1; 0 where lines are not told apart.
+    /// A file is not an image, or its line of this number, from 1, is not; 0 if the whole file is meant.
     NoSketch(String, u64),
-    /// A file that has an image in each line has no line.
+    /// A file that should have an image in each line has no line.
     NoLine(String),
-    /// An output failed: standard output, or the file of this name.
+    /// Writing to standard output, or to the file of this name, failed.
     NotWritten(String, io::Error),
 }
 
 impl Failure {
-    /// The exit status: 2 where the arguments are wrong, else 1.
+    /// The exit status: 2 if the arguments are wrong, else 1.
     pub fn status(&self) -> u8
         ensures { result ≡ status_of self.now }
     {
@@ -59,7 +59,7 @@ impl Failure {
     }
 }
 
-/// The failure of an error that tells of memory.
+/// The failure for an error that means refused memory.
 pub fn out_of_memory(error: Error) -> Failure
     requires { error ≡ OutOfMemory }
     ensures { result ≡ failure.Memory }
@@ -68,7 +68,7 @@ pub fn out_of_memory(error: Error) -> Failure
     Failure::Memory
 }
 
-/// A word of the arguments as messages tell it: each control character is escaped, so that it stands on one line.
+/// An argument as messages print it: each control character is escaped, so that it stays on one line.
 #[derive(Drop)]
 struct Escaped<'a>(&'a str);
 
@@ -91,7 +91,7 @@ impl fmt::Display for Failure {
             Failure::NotText => write!(f, "an argument is not UTF-8 text"),
             Failure::NoCommand => write!(
                 f,
-                "say what is wanted: count, sketch, union, meet, minus or show (try --help)"
+                "no command: count, sketch, union, meet, minus or show (try --help)"
             ),
             Failure::UnknownCommand(word) => write!(
                 f,
@@ -103,11 +103,11 @@ impl fmt::Display for Failure {
                 "{}: no such option (try --help)",
                 Escaped(option)
             ),
-            Failure::NoValue(option) => write!(f, "{}: a value has to follow", Escaped(option)),
+            Failure::NoValue(option) => write!(f, "{}: missing value", Escaped(option)),
             Failure::WrongSize => write!(f, "--lg-k takes a number from 4 to 26"),
-            Failure::WrongField => write!(f, "--field takes a number from 1 on"),
+            Failure::WrongField => write!(f, "--field takes a number from 1 to 4294967295"),
             Failure::WrongSeparator => write!(f, "--separator takes one byte"),
-            Failure::NoFiles => write!(f, "which images? (try --help)"),
+            Failure::NoFiles => write!(f, "no image given (try --help)"),
             Failure::NotTwo => write!(f, "minus takes two images (try --help)"),
             Failure::Memory => write!(f, "out of memory"),
             Failure::Unreadable(name, error) => write!(f, "{}: {error}", Escaped(name)),

@@ -1,10 +1,10 @@
-//! The images that files have: a file is one and nothing else, or each of its lines is one in hexadecimal, blanks around it
-//! aside.
+//! The images in files: a file is one image and nothing else, or each of its lines is one in hexadecimal, with blanks
+//! allowed around it.
 ghost use Rattle.std.specs.Prelude.{◌≡◌, true, Some, None, IfOk};
 ghost use Rattle.std.specs.Io.Buffered.{reader_remaining};
 ghost use Rattle.line_sketches.specs.Sources.{GivesNext};
-ghost use Rattle.distinct.specs.Images.{images_left, open_text, GivesOrCloses};
-ghost use Rattle.distinct.specs.Failures.{called, IsOfImages, TellsNoSketch};
+ghost use Rattle.distinct.specs.Images.{remaining_images, GivesOrCloses};
+ghost use Rattle.distinct.specs.Failures.{called, IsOfImages, ReportsNoSketch};
 
 use crate::failure::Failure;
 use crate::inputs::Inputs;
@@ -13,9 +13,9 @@ use std::alloc::Global;
 use std::io;
 use std::io::{BufRead, BufReader, Cursor, ErrorKind, Read};
 
-/// How many bytes an image has that begins so, as its preamble tells: 0 where they are too few to tell. One of no hashes has
-/// eight, whatever its preamble announces.
-fn told_length(bytes: &[u8]) -> usize {
+/// Length of the image that these bytes begin, by its preamble; 0 if there are too few. An image of no hashes has eight
+/// bytes, whatever its preamble says.
+fn image_length(bytes: &[u8]) -> usize {
     let [longs, version, _, _, _, flags, _, _, rest @ ..] = bytes else {
         return 0;
     };
@@ -33,9 +33,9 @@ fn told_length(bytes: &[u8]) -> usize {
     }
 }
 
-/// Refuses bytes that begin with an image and go on: a second image behind it would be passed over.
+/// Refuses bytes that have something after an image, since a second image there would be ignored.
 fn check_alone(bytes: &[u8]) -> io::Result<()> {
-    if 8 <= bytes.len() && told_length(bytes) < bytes.len() {
+    if 8 <= bytes.len() && image_length(bytes) < bytes.len() {
         Err(io::Error::from(ErrorKind::InvalidData))
     } else {
         Ok(())
@@ -67,14 +67,14 @@ impl<'a, S: Sources> Images<'a, S> {
         }
     }
 
-    /// The name of the file that was opened last, as messages call it.
+    /// The name, in messages, of the file that was opened last.
     pub fn name(&self) -> &'a str
         ensures { result.now ≡ called self.now.inputs.current.now }
     {
         self.inputs.name()
     }
 
-    /// Why there is no image: the file can't be read, or what was read is none.
+    /// The failure if the file can't be read, or isn't an image.
     pub fn unreadable(&self, error: io::Error) -> Failure
         ensures { IsOfImages result }
     {
@@ -84,9 +84,9 @@ impl<'a, S: Sources> Images<'a, S> {
         self.inputs.unreadable(self.alloc, error)
     }
 
-    /// Why there is no image: it was read, and is none, or there is no line.
+    /// The failure if the file, or its line, isn't an image, or if it has no line.
     pub fn no_sketch(&self) -> Failure
-        ensures { TellsNoSketch (called self.now.inputs.current.now) self.now.hex self.now.line result }
+        ensures { ReportsNoSketch (called self.now.inputs.current.now) self.now.hex self.now.line result }
     {
         match String::from_str(self.alloc, self.name()) {
             Ok(name) => {
@@ -102,7 +102,9 @@ impl<'a, S: Sources> Images<'a, S> {
 
     /// The next image, or `None` at the end.
     pub fn next_image(&mut self) -> io::Result<Option<Vec<u8>>>
-        ensures { IfOk result (GivesNext (λ v. Some v.items) (images_left self.old.hex (open_text S.Source.remaining self.old.«open») self.old.line (S.texts self.old.inputs.sources)) (images_left self.new.hex (open_text S.Source.remaining self.new.«open») self.new.line (S.texts self.new.inputs.sources))) }
+        ensures { IfOk result (GivesNext (λ v. Some v.items)
+            (remaining_images S.Source.remaining S.texts self.old)
+            (remaining_images S.Source.remaining S.texts self.new)) }
     {
         if self.hex {
             self.next_line()
@@ -111,7 +113,7 @@ impl<'a, S: Sources> Images<'a, S> {
         }
     }
 
-    /// All that the next file has.
+    /// All bytes of the next file.
     fn next_whole(&mut self) -> io::Result<Option<Vec<u8>>>
         ensures next { IfOk result (GivesNext (λ v. Some v.items) (S.texts self.old.inputs.sources) (S.texts self.new.inputs.sources)) }
         ensures hex { self.new.hex ≡ self.old.hex }
@@ -125,13 +127,13 @@ impl<'a, S: Sources> Images<'a, S> {
         Ok(Some(image))
     }
 
-    /// The image in the next line of the files, each of which has one at least: a file without a line is refused, since the part
-    /// that it was to hold would be missing.
+    /// The image in the next line of the files. A file without a line is refused, since the image that should be in it
+    /// would be missing without a word.
     fn next_line(&mut self) -> io::Result<Option<Vec<u8>>>
         requires lines { self.old.hex ≡ true }
         ensures next { IfOk result (GivesNext (λ v. Some v.items)
-            (images_left self.old.hex (open_text S.Source.remaining self.old.«open») self.old.line (S.texts self.old.inputs.sources))
-            (images_left self.new.hex (open_text S.Source.remaining self.new.«open») self.new.line (S.texts self.new.inputs.sources))) }
+            (remaining_images S.Source.remaining S.texts self.old)
+            (remaining_images S.Source.remaining S.texts self.new)) }
     {
         'files: for _ in 0..u64::MAX {
             if let Some(image) = self.line_of_open()? {
@@ -146,13 +148,13 @@ impl<'a, S: Sources> Images<'a, S> {
         Err(io::Error::from(ErrorKind::Other))
     }
 
-    /// The image in the next line of the file that is open. At its end the file is closed.
+    /// The image in the next line of the open file. At its end the file is closed.
     fn line_of_open(&mut self) -> io::Result<Option<Vec<u8>>>
         requires lines { self.old.hex ≡ true }
         ensures hex { self.new.hex ≡ self.old.hex }
         ensures next { IfOk result (GivesOrCloses (λ v. v.items)
-            (images_left self.old.hex (open_text S.Source.remaining self.old.«open») self.old.line (S.texts self.old.inputs.sources))
-            (images_left self.new.hex (open_text S.Source.remaining self.new.«open») self.new.line (S.texts self.new.inputs.sources))
+            (remaining_images S.Source.remaining S.texts self.old)
+            (remaining_images S.Source.remaining S.texts self.new)
             self.new.«open») }
     {
         let Some(reader) = &mut self.open else {
@@ -181,7 +183,7 @@ impl<'a, S: Sources> Images<'a, S> {
 impl<'a, S: Sources> Sources for Images<'a, S> {
     type Source = Cursor<Vec<u8>>;
 
-    ghost texts = { λ s. images_left s.hex (open_text S.Source.remaining s.«open») s.line (S.texts s.inputs.sources) };
+    ghost texts = { λ s. remaining_images S.Source.remaining S.texts s };
 
     fn next_source(&mut self) -> io::Result<Option<Cursor<Vec<u8>>>> {
         match self.next_image()? {

@@ -1,6 +1,6 @@
-//! The files that are read.
+//! The files that the program reads.
 ghost use Rattle.std.specs.Prelude.{◌≡◌, None};
-ghost use Rattle.distinct.specs.Failures.{called, TellsUnreadable};
+ghost use Rattle.distinct.specs.Failures.{called, ReportsUnreadable};
 
 use crate::failure::Failure;
 use line_sketches::Sources;
@@ -26,17 +26,17 @@ impl Read for Input {
     }
 }
 
-/// How messages call standard input.
+/// The name of standard input in messages.
 const STANDARD_INPUT: &str = "standard input";
 
-/// How messages call a file of this name.
+/// The name of a file in messages.
 pub fn called(name: &str) -> &str
     ensures { result.now ≡ called name.now }
 {
     if name == "-" { STANDARD_INPUT } else { name }
 }
 
-/// The input of a name, which is standard input for `-`.
+/// Opens the file of this name, or standard input for `-`.
 fn open(rt: &HostRuntime, name: &str) -> io::Result<Input> {
     if name == "-" {
         return Ok(Input::Standard(rt.stdin()));
@@ -44,7 +44,7 @@ fn open(rt: &HostRuntime, name: &str) -> io::Result<Input> {
     Ok(Input::File(fs::open(rt, name)?))
 }
 
-/// Files that are opened in turn.
+/// Files, opened one after another.
 #[derive(Drop)]
 pub struct Files<'a> {
     rt: &'a HostRuntime,
@@ -53,7 +53,7 @@ pub struct Files<'a> {
 }
 
 impl<'a> Files<'a> {
-    /// The files of these names; where none is named, standard input or nothing.
+    /// The files of these names. If there are none: standard input if `or_standard`, else nothing.
     pub fn named(rt: &'a HostRuntime, names: &'a [String], or_standard: bool) -> Files<'a> {
         Files {
             rt,
@@ -93,7 +93,7 @@ impl<'a> Sources for Files<'a> {
     }
 }
 
-/// Sources, and the names that messages call them by.
+/// Sources, and their names in messages.
 #[derive(Drop)]
 pub struct Inputs<'a, S: Sources> {
     sources: S,
@@ -102,7 +102,7 @@ pub struct Inputs<'a, S: Sources> {
 }
 
 impl<'a, S: Sources> Inputs<'a, S> {
-    /// Sources of these names; standard input has none.
+    /// Sources of these names. Standard input has none.
     pub fn new(sources: S, names: &'a [String]) -> Inputs<'a, S>
         ensures { result.sources ≡ sources }
     {
@@ -113,16 +113,16 @@ impl<'a, S: Sources> Inputs<'a, S> {
         }
     }
 
-    /// The name of the source that was opened last, as messages call it.
+    /// The name, in messages, of the source that was opened last.
     pub fn name(&self) -> &'a str
         ensures { result.now ≡ called self.now.current.now }
     {
         called(self.current)
     }
 
-    /// Why the source that was opened last is not read.
+    /// The failure if the source that was opened last can't be read.
     pub fn unreadable(&self, alloc: Global, error: io::Error) -> Failure
-        ensures { TellsUnreadable (called self.now.current.now) error result }
+        ensures { ReportsUnreadable (called self.now.current.now) error result }
     {
         match String::from_str(alloc, self.name()) {
             Ok(name) => Failure::Unreadable(name, error),

@@ -42,7 +42,7 @@ fn run(rt: &HostRuntime) -> Result<(), Failure> {
     };
     let words: Vec<String> = args.skip(1).collect(rt.alloc())?;
     match read_arguments(words.as_slice())? {
-        Request::Tell(topic) => output::put(
+        Request::Print(topic) => output::put(
             rt.alloc(),
             &mut rt.stdout(),
             STANDARD_OUTPUT,
@@ -52,11 +52,11 @@ fn run(rt: &HostRuntime) -> Result<(), Failure> {
     }
 }
 
-/// How messages call standard output.
+/// The name of standard output in messages.
 const STANDARD_OUTPUT: &str = "standard output";
 
-/// Answers a command to standard output, or to the file that `--output` names: all of the answer is there before that file is
-/// made.
+/// Runs a command and writes its answer to standard output, or to the file that `--output` names. The whole answer is
+/// made before that file is created.
 fn run_command(
     rt: &HostRuntime,
     command: Command,

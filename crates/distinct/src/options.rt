@@ -1,18 +1,18 @@
-//! How a command is to be done.
+//! The options of a command.
 ghost use Rattle.std.specs.Prelude.{◌≤◌, ◌<◌};
 ghost use Rattle.std.specs.Option.{ForSome};
 
-/// How a command is to be done.
+/// The options of a command.
 #[derive(Clone, Copy, Debug)]
 pub struct Options<'a> {
     /// The binary logarithm of the nominal entries, from 4 to 26.
     pub lg_k: u8,
-    /// The number of a field, from 1, where a line's key is a field.
+    /// The number of the field that is a line's key, from 1, or `None` if the whole line is its key.
     pub field: Option<u32>,
     pub separator: u8,
     pub hex: bool,
     pub progress: bool,
-    /// The file that the image goes to, or `None` for standard output.
+    /// The file to which the image is written, or `None` for standard output.
     pub output: Option<&'a str>,
     ghost low: { 4 ≤ lg_k },
     ghost high: { lg_k ≤ 26 },

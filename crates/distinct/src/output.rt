@@ -1,7 +1,7 @@
-//! Where answers go.
+//! Writing answers.
 ghost use Rattle.std.specs.Prelude.{OnOk, IfErr};
 ghost use Rattle.std.specs.Io.KnownBytes.{Appends};
-ghost use Rattle.distinct.specs.Failures.{IsOfWriting, TellsNotWritten};
+ghost use Rattle.distinct.specs.Failures.{IsOfWriting, ReportsNotWritten};
 
 use crate::failure::Failure;
 use std::alloc::Global;
@@ -9,7 +9,7 @@ use std::fs::File;
 use std::io::{ErrorKind, Write};
 use std::{fs, io};
 
-/// Writes bytes to a writer that messages call so.
+/// Writes bytes to a writer, which has this name in messages.
 pub fn put<W: Write>(alloc: Global, writer: &mut W, name: &str, bytes: &[u8]) -> Result<(), Failure>
     ensures written { OnOk result (Appends (W.contents writer.old) (W.contents writer.new) bytes.now) }
     ensures failed { IfErr result IsOfWriting }
@@ -20,7 +20,7 @@ pub fn put<W: Write>(alloc: Global, writer: &mut W, name: &str, bytes: &[u8]) ->
     }
 }
 
-/// Writes a file, or to a device or a pipe of this name.
+/// Writes a file of this name, or writes to the device or pipe of this name.
 pub fn put_file(rt: &HostRuntime, name: &str, bytes: &[u8]) -> Result<(), Failure>
     ensures { IfErr result IsOfWriting }
 {
@@ -30,7 +30,7 @@ pub fn put_file(rt: &HostRuntime, name: &str, bytes: &[u8]) -> Result<(), Failur
     }
 }
 
-/// Whether something of this name stands that is no file, such as a device or a pipe.
+/// Whether the name is that of something other than a file or a folder, such as a device or a pipe.
 fn is_special(rt: &HostRuntime, name: &str) -> bool {
     match fs::metadata(rt, name) {
         Ok(metadata) => !metadata.is_file() && !metadata.is_dir(),
@@ -38,7 +38,8 @@ fn is_special(rt: &HostRuntime, name: &str) -> bool {
     }
 }
 
-/// Writes a file, all or nothing: first a new one beside it, which then takes its name. Its permissions stay, if it stood there.
+/// Writes a file, all or nothing: it writes a new file beside it and then renames that. An existing file's permissions
+/// are kept.
 fn write_file(rt: &HostRuntime, name: &str, bytes: &[u8]) -> io::Result<()> {
     if is_special(rt, name) {
         return fs::write(rt, name, bytes);
@@ -51,10 +52,10 @@ fn write_file(rt: &HostRuntime, name: &str, bytes: &[u8]) -> io::Result<()> {
     put
 }
 
-/// How many names beside a file are tried, until nothing has one.
+/// How many names for the new file are tried until one is free.
 const NAMES: u32 = 1000;
 
-/// A new file beside another, with its name.
+/// A new file beside another, and its name.
 fn new_beside(rt: &HostRuntime, name: &str) -> io::Result<(String, File)> {
     for number in 0..NAMES {
         let beside = format!(in rt.alloc(); "{name}.{number}.part")?;
@@ -84,9 +85,9 @@ fn put_beside(
     fs::rename(rt, beside, name)
 }
 
-/// The failure of an output of this name, for this reason.
+/// The failure if the output of this name fails for this reason.
 fn not_written(alloc: Global, name: &str, error: io::Error) -> Failure
-    ensures { TellsNotWritten name.now error result }
+    ensures { ReportsNotWritten name.now error result }
 {
     match String::from_str(alloc, name) {
         Ok(name) => Failure::NotWritten(name, error),

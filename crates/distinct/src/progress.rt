@@ -1,4 +1,4 @@
-//! What is told while lines are read.
+//! Reports of progress while lines are read.
 
 use crate::estimate::estimate_so_far;
 use line_sketches::Watch;
@@ -6,44 +6,44 @@ use std::alloc::Allocator;
 use std::time::{Duration, Instant};
 use theta_sketches::ThetaSketch;
 
-/// For how many seconds nothing is told.
+/// The seconds between two reports.
 const PAUSE: u64 = 1;
 
-/// Tells about once a second what was read, if that is asked.
+/// About once a second, reports what was read, if it is enabled.
 #[derive(Drop)]
 pub struct Progress<'a> {
     rt: &'a HostRuntime,
-    asked: bool,
-    told: Option<Instant>,
+    enabled: bool,
+    last_report: Option<Instant>,
     lines: u64,
     bytes: u64,
 }
 
 impl<'a> Progress<'a> {
-    pub fn new(rt: &'a HostRuntime, asked: bool) -> Progress<'a> {
+    pub fn new(rt: &'a HostRuntime, enabled: bool) -> Progress<'a> {
         Progress {
             rt,
-            asked,
-            told: None,
+            enabled,
+            last_report: None,
             lines: 0,
             bytes: 0,
         }
     }
 
-    /// Whether it is time to tell. The first call begins the first pause.
+    /// Whether a report is due. The first call begins the first pause.
     fn is_time(&mut self) -> bool {
         let Ok(now) = Instant::now(self.rt) else {
             return false;
         };
-        match self.told {
+        match self.last_report {
             None => {
-                self.told = Some(now);
+                self.last_report = Some(now);
                 false
             }
-            Some(told) => {
-                let is_time = now.duration_since(told) >= Duration::from_secs(PAUSE);
+            Some(last) => {
+                let is_time = now.duration_since(last) >= Duration::from_secs(PAUSE);
                 if is_time {
-                    self.told = Some(now);
+                    self.last_report = Some(now);
                 }
                 is_time
             }
@@ -53,7 +53,7 @@ impl<'a> Progress<'a> {
 
 impl<'a> Watch for Progress<'a> {
     fn saw<A: Allocator>(&mut self, bytes: usize, lines: u64, sketch: &ThetaSketch<A>) {
-        if !self.asked {
+        if !self.enabled {
             return;
         }
         self.lines = self.lines.saturating_add(lines);

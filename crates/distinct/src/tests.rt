@@ -1,22 +1,25 @@
-//! Tests of what the program tells: messages with their statuses, and help.
+//! Tests of messages with their statuses, of help, and of what each command writes of texts in memory.
 
-ghost use Rattle.std.specs.Prelude.{◌≡◌, map, IfOk};
-ghost use Rattle.distinct.specs.Answers.{count_line, sketch_told};
-ghost use Rattle.distinct.specs.Faults.{told_of};
+ghost use Rattle.std.specs.Prelude.{◌≡◌, ℕ, List, IfOk};
+ghost use Rattle.theta_sketches.specs.Image.{written};
+ghost use Rattle.line_sketches.specs.Unions.{IsUnitedImage};
+ghost use Rattle.distinct.specs.Answers.{sketch_of, count_line, in_form, names_of, texts_of, IsIntersectionImage, IsDifferenceImage, IsShownOf, IsAnswer};
+ghost use Rattle.distinct.specs.Faults.{options_of};
+ghost use Rattle.distinct.specs.Images.{images_of};
 
 use crate::answer::answer;
 use crate::arguments::{Command, Operator, Topic, has_option};
 use crate::failure::Failure;
 use crate::help::text_of;
 use crate::options::Options;
-use line_sketches::{Texts, Watch};
+use line_sketches::{Texts, Watch, hex_line, read_hex};
 use std::alloc::{AllocError, Allocator, Global};
 use std::io::{Error, ErrorKind};
 use std::test::Fail;
 use theta_sketches::ThetaSketch;
 
-/// A word with controls that a terminal takes as commands: an escape sequence, a bell, a carriage return, a delete, and the
-/// controls of one character that stand for an escape sequence's first two.
+/// A word with controls that a terminal obeys: an escape sequence, a bell, a carriage return, a delete, and two
+/// controls of one character that begin an escape sequence.
 const CONTROLS: &str = "a\u{1b}[31mb\u{7}\r\u{7f}\u{9b}2J\u{90}\u{e9}";
 
 /// Each kind of failure.
@@ -69,20 +72,20 @@ fn failure_of(alloc: Global, kind: Kind) -> Result<Failure, AllocError> {
 }
 
 /// The status of a kind of failure, and its message.
-fn told(alloc: Global, kind: Kind) -> Result<(u8, String), AllocError> {
+fn message_of(alloc: Global, kind: Kind) -> Result<(u8, String), AllocError> {
     let failure = failure_of(alloc, kind)?;
     let message = format!(in alloc; "{failure}")?;
     Ok((failure.status(), message))
 }
 
 #[test]
-fn tells_each_failure(rt: HostRuntime) -> Result<(), Fail> {
+fn prints_each_failure(rt: HostRuntime) -> Result<(), Fail> {
     for (kind, status, message) in [
         (Kind::NotText, 2, "an argument is not UTF-8 text"),
         (
             Kind::NoCommand,
             2,
-            "say what is wanted: count, sketch, union, meet, minus or show (try --help)",
+            "no command: count, sketch, union, meet, minus or show (try --help)",
         ),
         (
             Kind::UnknownCommand,
@@ -95,11 +98,15 @@ fn tells_each_failure(rt: HostRuntime) -> Result<(), Fail> {
             2,
             "-a\\nb: no such option (try --help)",
         ),
-        (Kind::NoValue, 2, "it: a value has to follow"),
+        (Kind::NoValue, 2, "it: missing value"),
         (Kind::WrongSize, 2, "--lg-k takes a number from 4 to 26"),
-        (Kind::WrongField, 2, "--field takes a number from 1 on"),
+        (
+            Kind::WrongField,
+            2,
+            "--field takes a number from 1 to 4294967295",
+        ),
         (Kind::WrongSeparator, 2, "--separator takes one byte"),
-        (Kind::NoFiles, 2, "which images? (try --help)"),
+        (Kind::NoFiles, 2, "no image given (try --help)"),
         (Kind::NotTwo, 2, "minus takes two images (try --help)"),
         (Kind::Memory, 1, "out of memory"),
         (Kind::Unreadable, 1, "it: entity not found"),
@@ -126,13 +133,17 @@ fn tells_each_failure(rt: HostRuntime) -> Result<(), Fail> {
         ),
         (Kind::NotWritten, 1, "it: no storage space"),
     ] {
-        let said = told(rt.alloc(), kind)?;
-        assert_eq!(rt; (said.0, said.1.as_str()), (status, message), "{kind:?}");
+        let printed = message_of(rt.alloc(), kind)?;
+        assert_eq!(rt;
+            (printed.0, printed.1.as_str()),
+            (status, message),
+            "{kind:?}"
+        );
     }
     Ok(())
 }
 
-/// Each word, and no other, has help, which names each of its options and no other.
+/// The help of each command names its options and no others.
 #[test]
 fn helps_with_each_option(rt: HostRuntime) {
     for (command, begin) in [
@@ -162,13 +173,17 @@ fn helps_with_each_option(rt: HostRuntime) {
             "--hex",
             "--output",
         ] {
-            let told = text.contains(option);
-            assert_eq!(rt; told, has_option(command, option), "{command:?} {option}");
+            let is_named = text.contains(option);
+            assert_eq!(rt;
+                is_named,
+                has_option(command, option),
+                "{command:?} {option}"
+            );
         }
     }
 }
 
-/// Looks on, and does nothing.
+/// Ignores progress.
 #[derive(Drop)]
 struct Quiet {}
 
@@ -176,17 +191,23 @@ impl Watch for Quiet {
     fn saw<A: Allocator>(&mut self, _bytes: usize, _lines: u64, _sketch: &ThetaSketch<A>) {}
 }
 
-/// What `count` writes of texts in memory.
-fn count_of(alloc: Global, options: &Options<'_>, texts: &[Vec<u8>]) -> Result<Vec<u8>, Failure>
-    ensures counted { IfOk result (λ v. v.items ≡ count_line (sketch_told (told_of options.now) (map (λ text. text.items) texts.now))) }
+/// What a command writes of texts in memory, as files of these names.
+fn answered(
+    alloc: Global,
+    command: Command,
+    options: &Options<'_>,
+    names: &[String],
+    texts: &[Vec<u8>],
+) -> Result<Vec<u8>, Failure>
+    ensures written { IfOk result (λ v. IsAnswer command (options_of options.now) (names_of names.now) (texts_of texts.now) v.items) }
 {
     let mut bytes = Vec::new(alloc);
     let mut watch = Quiet {};
     answer(
         alloc,
-        Command::Count,
+        command,
         options,
-        &[],
+        names,
         Texts::new(texts),
         &mut watch,
         &mut bytes,
@@ -194,25 +215,231 @@ fn count_of(alloc: Global, options: &Options<'_>, texts: &[Vec<u8>]) -> Result<V
     Ok(bytes)
 }
 
-/// Each text is cut into lines by itself, and repeats count once.
-#[test]
-fn counts_texts(rt: HostRuntime) -> Result<(), Fail> {
+/// What `count` writes of texts.
+fn count_of(
+    alloc: Global,
+    options: &Options<'_>,
+    names: &[String],
+    texts: &[Vec<u8>],
+) -> Result<Vec<u8>, Failure>
+    ensures counted { IfOk result (λ v. v.items ≡ count_line (sketch_of (options_of options.now) (texts_of texts.now))) }
+{
+    answered(alloc, Command::Count, options, names, texts)
+}
+
+/// What `sketch` writes of texts.
+fn sketch_of(
+    alloc: Global,
+    options: &Options<'_>,
+    names: &[String],
+    texts: &[Vec<u8>],
+) -> Result<Vec<u8>, Failure>
+    ensures sketched { IfOk result (λ v. v.items ≡ in_form options.now.hex (written (sketch_of (options_of options.now) (texts_of texts.now)))) }
+{
+    answered(alloc, Command::Sketch, options, names, texts)
+}
+
+/// What `union` writes of files of images.
+fn union_of(
+    alloc: Global,
+    options: &Options<'_>,
+    names: &[String],
+    texts: &[Vec<u8>],
+) -> Result<Vec<u8>, Failure>
+    ensures united { IfOk result (λ v. (image : List ℕ) × IsUnitedImage options.now.lg_k (images_of options.now.hex (texts_of texts.now)) image
+        × (v.items ≡ in_form options.now.hex image)) }
+{
+    let union = Command::Combine(Operator::Union);
+    answered(alloc, union, options, names, texts)
+}
+
+/// What `meet` writes of files of images.
+fn meet_of(
+    alloc: Global,
+    options: &Options<'_>,
+    names: &[String],
+    texts: &[Vec<u8>],
+) -> Result<Vec<u8>, Failure>
+    ensures met { IfOk result (λ v. (image : List ℕ) × IsIntersectionImage (images_of options.now.hex (texts_of texts.now)) image
+        × (v.items ≡ in_form options.now.hex image)) }
+{
+    let meet = Command::Combine(Operator::Meet);
+    answered(alloc, meet, options, names, texts)
+}
+
+/// What `minus` writes of files of two images.
+fn minus_of(
+    alloc: Global,
+    options: &Options<'_>,
+    names: &[String],
+    texts: &[Vec<u8>],
+) -> Result<Vec<u8>, Failure>
+    ensures lacking { IfOk result (λ v. (image : List ℕ) × IsDifferenceImage (images_of options.now.hex (texts_of texts.now)) image
+        × (v.items ≡ in_form options.now.hex image)) }
+{
+    let minus = Command::Combine(Operator::Minus);
+    answered(alloc, minus, options, names, texts)
+}
+
+/// What `show` writes of files of images.
+fn show_of(
+    alloc: Global,
+    options: &Options<'_>,
+    names: &[String],
+    texts: &[Vec<u8>],
+) -> Result<Vec<u8>, Failure>
+    ensures shown { IfOk result (λ v. IsShownOf options.now.hex (names_of names.now) (texts_of texts.now) v.items) }
+{
+    answered(alloc, Command::Show, options, names, texts)
+}
+
+/// What a command writes, by its helper.
+fn written_by(
+    alloc: Global,
+    command: Command,
+    options: &Options<'_>,
+    names: &[String],
+    texts: &[Vec<u8>],
+) -> Result<Vec<u8>, Failure> {
+    match command {
+        Command::Count => count_of(alloc, options, names, texts),
+        Command::Sketch => sketch_of(alloc, options, names, texts),
+        Command::Combine(Operator::Union) => union_of(alloc, options, names, texts),
+        Command::Combine(Operator::Meet) => meet_of(alloc, options, names, texts),
+        Command::Combine(Operator::Minus) => minus_of(alloc, options, names, texts),
+        Command::Show => show_of(alloc, options, names, texts),
+    }
+}
+
+/// The names of two files.
+fn two_names(alloc: Global) -> Result<Vec<String>, AllocError> {
+    let mut names = Vec::new(alloc);
+    for name in ["a", "b"] {
+        names.push(String::from_str(alloc, name)?)?;
+    }
+    Ok(names)
+}
+
+/// Two texts, or the bytes that they spell in hexadecimal digits.
+fn two_texts(alloc: Global, spelled: bool, texts: [&str; 2]) -> Result<Vec<Vec<u8>>, AllocError> {
+    let mut files = Vec::new(alloc);
+    for text in texts {
+        let bytes = text.as_bytes();
+        if spelled {
+            if let Some(image) = read_hex(alloc, bytes)? {
+                files.push(image)?;
+            }
+        } else {
+            files.push(Vec::from_clones(alloc, bytes)?)?;
+        }
+    }
+    Ok(files)
+}
+
+/// What a command writes of two files, with `--hex` or without; an image as a line of hexadecimal digits.
+fn line_of(
+    alloc: Global,
+    command: Command,
+    hex: bool,
+    texts: [&str; 2],
+) -> Result<Vec<u8>, Failure> {
     let options = Options {
         lg_k: 5,
         field: None,
         separator: b'\t',
-        hex: false,
+        hex,
         progress: false,
         output: None,
     };
-    let mut texts = Vec::new(rt.alloc());
-    for text in ["a\nb", "b\na\nc\n", "", "b"] {
-        texts.push(Vec::from_clones(rt.alloc(), text.as_bytes())?)?;
+    let reads_lines = command == Command::Count || command == Command::Sketch;
+    let writes_lines = command == Command::Count || command == Command::Show;
+    let names = two_names(alloc)?;
+    let files = two_texts(alloc, !hex && !reads_lines, texts)?;
+    let written = written_by(alloc, command, &options, names.as_slice(), files.as_slice())?;
+    if hex || writes_lines {
+        Ok(written)
+    } else {
+        Ok(hex_line(alloc, written.as_slice())?)
     }
-    let counted = match count_of(rt.alloc(), &options, texts.as_slice()) {
-        Ok(bytes) => bytes,
-        Err(_) => Vec::new(rt.alloc()),
-    };
-    assert_eq!(rt; counted.as_slice(), b"3\n".as_slice());
+}
+
+/// Two texts of lines, each cut into lines by itself: three different lines.
+const TEXTS: [&str; 2] = ["ann\nbob", "bob\n\nann"];
+
+/// The images of `examples/lines/data/both.hex`.
+const EXACT: [&str; 2] = [
+    "02030300001acc930500000000000000dc8d24339151380f5f1032909707cc27088534befe436f3f39151d0e0dd45d67fc08309e1c5ed36b",
+    "02030300001ACC930300000000000000DC8D24339151380F5F1032909707CC27DA4533470651E63C",
+];
+
+/// Images of three hashes below a theta of 5 * 10^18, and of two below one of 4 * 10^18, by `checks/answers.py`.
+const ESTIMATING: [&str; 2] = [
+    "03030300001acc9303000000000000000000f44482916345000064a7b3b6e00d0000c84e676dc11b000042712836733e",
+    "03030300001acc9302000000000000000000909dceda82370000c84e676dc11b00002cf61a24a229",
+];
+
+/// Each command, with `--hex` and without. What is to be written of `TEXTS` is by a program in Python that knows the public
+/// definition of the hash, of `EXACT` it is in `examples/lines`, and of `ESTIMATING` it is by `checks/answers.py`.
+#[test]
+fn answers_each_command(rt: HostRuntime) -> Result<(), Fail> {
+    let union = Command::Combine(Operator::Union);
+    let meet = Command::Combine(Operator::Meet);
+    let minus = Command::Combine(Operator::Minus);
+    for (command, texts, line) in [
+        (Command::Count, TEXTS, "3\n"),
+        (
+            Command::Sketch,
+            TEXTS,
+            "02030300001acc930300000000000000dc8d24339151380f5f1032909707cc27fc08309e1c5ed36b\n",
+        ),
+        (
+            union,
+            EXACT,
+            "02030300001acc930600000000000000dc8d24339151380f5f1032909707cc27da4533470651e63c088534befe436f3f39151d0e0dd45d67fc08309e1c5ed36b\n",
+        ),
+        (
+            meet,
+            EXACT,
+            "02030300001acc930200000000000000dc8d24339151380f5f1032909707cc27\n",
+        ),
+        (
+            minus,
+            EXACT,
+            "02030300001acc930300000000000000088534befe436f3f39151d0e0dd45d67fc08309e1c5ed36b\n",
+        ),
+        (
+            Command::Show,
+            EXACT,
+            "a: 5 exact, retained 5, theta 9223372036854775807\nb: 3 exact, retained 3, theta 9223372036854775807\n",
+        ),
+        (
+            union,
+            ESTIMATING,
+            "03030300001acc9303000000000000000000909dceda8237000064a7b3b6e00d0000c84e676dc11b00002cf61a24a229\n",
+        ),
+        (
+            meet,
+            ESTIMATING,
+            "03030300001acc9301000000000000000000909dceda82370000c84e676dc11b\n",
+        ),
+        (
+            minus,
+            ESTIMATING,
+            "03030300001acc9301000000000000000000909dceda8237000064a7b3b6e00d\n",
+        ),
+        (
+            Command::Show,
+            ESTIMATING,
+            "a: 6 estimated, retained 3, theta 5000000000000000000\nb: 5 estimated, retained 2, theta 4000000000000000000\n",
+        ),
+    ] {
+        for hex in [false, true] {
+            let written = match line_of(rt.alloc(), command, hex, texts) {
+                Ok(bytes) => bytes,
+                Err(_) => Vec::new(rt.alloc()),
+            };
+            assert_eq!(rt; written.as_slice(), line.as_bytes(), "{command:?} {hex}");
+        }
+    }
     Ok(())
 }

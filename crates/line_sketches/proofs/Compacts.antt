@@ -1,6 +1,5 @@
 -- Ordered sketches of lines keep the laws of compact sketches, and their images are read as them.
 use Rattle.std.proofs.Common.{◌≡◌, ℕ, ◌^◌, ◌<◌, ◌≤◌, true, false, cond, List, [], ◌∷◌, ◌++◌, length, map, Some, None, refl, sym, ap, subst, ◌∙◌, arith, append_assoc, append-nil}
-use Rattle.std.proofs.lemmas.List.{map-append}
 use Rattle.std.specs.List.{AllByRecursion, concat}
 use Rattle.std.specs.Option.{option_map_or}
 use Rattle.std.proofs.lemmas.Bool.Decides.{nat_tests}
@@ -75,7 +74,7 @@ module _ (key : Key) where
       images_read texts,
     )
 
--- an image that is read tells that the seed has a hash
+-- if an image is read, its seed has a hash
 seeded_by : (image : List ℕ) (images : List (List ℕ)) (sketches : List (Compact ℕ)) → AreRead (image ∷ images) sketches → 0 < seed_hash DEFAULT_UPDATE_SEED
 seeded_by image images [] read = absurd read
 seeded_by image images (s ∷ sketches) read = read.0.seeded
@@ -90,7 +89,7 @@ module _ (one : ReadsOne) (again : ReadsAgain) (key : Key) (lg_k : ℕ) (small :
   texts_united texts sketches bytes whole read is =
       is ∙ ap (λ v. written (ordered_sketch v)) (ap (united lg_k) (values_read key one lg_k (images_of_texts key lg_k texts) sketches texts (are_written texts sketches read) read) ∙ united_texts key lg_k texts whole)
 
-  -- the union of the images of texts is the image of the texts one behind the other
+  -- the union of the images of texts is the image of the concatenated texts
   pub united_whole : (texts images : List (List ℕ)) (bytes : List ℕ) → AreWhole texts → images ≡ images_of_texts key lg_k texts → IsUnitedImage lg_k images bytes → bytes ≡ image_of_text key lg_k (concat texts)
   united_whole texts images bytes whole are image =
       texts_united texts image.0 bytes whole (subst (λ (is : List (List ℕ)). AreRead is image.0) are image.1) image.2
@@ -109,15 +108,13 @@ module _ (one : ReadsOne) (again : ReadsAgain) (key : Key) (lg_k : ℕ) (small :
 -- ---- images made one by one
 
 module _ {V : Type 0} (items : V → List ℕ) (key : Key) (lg_k : ℕ) where
-  -- an image more
-  pub text_more : (images now : List V) (image text : V) (left others : List V) (all : List (List ℕ)) → map items images ++ images_of_texts key lg_k (map items left) ≡ all → left ≡ text ∷ others →
-      items image ≡ image_of_text key lg_k (items text) → now ≡ images ++ image ∷ [] → map items now ++ images_of_texts key lg_k (map items others) ≡ all
-  text_more images now image text left others all before parted is pushed =
-      ap (λ (vs : List V). map items vs ++ images_of_texts key lg_k (map items others)) pushed
-      ∙ ap (λ ts. ts ++ images_of_texts key lg_k (map items others)) (map-append items images (image ∷ []))
-      ∙ append_assoc (map items images) (items image ∷ []) (images_of_texts key lg_k (map items others))
-      ∙ ap (λ (i : List ℕ). map items images ++ i ∷ images_of_texts key lg_k (map items others)) is
-      ∙ ap (λ (vs : List V). map items images ++ images_of_texts key lg_k (map items vs)) (sym parted)
+  -- one more image
+  pub text_more : (images : List (List ℕ)) (image : List ℕ) (text : V) (left others : List V) (all : List (List ℕ)) → images ++ images_of_texts key lg_k (map items left) ≡ all → left ≡ text ∷ others →
+      image ≡ image_of_text key lg_k (items text) → (images ++ image ∷ []) ++ images_of_texts key lg_k (map items others) ≡ all
+  text_more images image text left others all before parted is =
+      append_assoc images (image ∷ []) (images_of_texts key lg_k (map items others))
+      ∙ ap (λ (i : List ℕ). images ++ i ∷ images_of_texts key lg_k (map items others)) is
+      ∙ ap (λ (vs : List V). images ++ images_of_texts key lg_k (map items vs)) (sym parted)
       ∙ before
 
   nothing_left : (left : List V) → length left ≡ 0 → images_of_texts key lg_k (map items left) ≡ []
@@ -125,6 +122,5 @@ module _ {V : Type 0} (items : V → List ℕ) (key : Key) (lg_k : ℕ) where
   nothing_left (v ∷ left) none = absurd (omega arith)
 
   -- all images
-  pub texts_made : (images left sources : List V) (all : List (List ℕ)) → map items images ++ images_of_texts key lg_k (map items left) ≡ all → length left ≡ 0 → sources ≡ images → map items sources ≡ all
-  texts_made images left sources all before none are =
-      ap (map items) are ∙ sym (append-nil (map items images)) ∙ ap (λ ts. map items images ++ ts) (sym (nothing_left left none)) ∙ before
+  pub texts_made : (images : List (List ℕ)) (left : List V) (all : List (List ℕ)) → images ++ images_of_texts key lg_k (map items left) ≡ all → length left ≡ 0 → images ≡ all
+  texts_made images left all before none = sym (append-nil images) ∙ ap (λ ts. images ++ ts) (sym (nothing_left left none)) ∙ before

@@ -1,4 +1,4 @@
--- The default seed has a hash, so that it is refused nowhere.
+-- The default seed has a hash, so it is never refused.
 use Rattle.std.proofs.Common.{◌≡◌, ◌<◌, Bool, true, Option, Some, None, Result, Err, refl, sym, subst, ◌∙◌, arith, inl, inr}
 use Rattle.std.specs.Prelude.{◌⊎◌, IsTrue}
 use Rattle.sketch_base.specs.declared.error.ErrorKind.{ErrorKind}
@@ -25,7 +25,7 @@ seed_accepted = grind (arith, nat_tests, default_seed)
 pub least_size_accepted : settings_refusal MIN_LG_K MAX_THETA DEFAULT_UPDATE_SEED ≡ None
 least_size_accepted = grind (arith, nat_tests, default_seed)
 
--- what isn't refused is refused only where memory is
+-- if nothing is refused, only memory can be
 pub only_memory : (refusal : Option ErrorKind) (takes_memory : Bool) (e : ErrorKind) → refusal ≡ None → (refusal ≡ Some e) ⊎ ((e ≡ OutOfMemory) × IsTrue takes_memory) → (e ≡ OutOfMemory) × IsTrue takes_memory
 only_memory refusal takes_memory e none (inl is) = let both : None ≡ Some e = sym none ∙ is in absurd (cc)
 only_memory refusal takes_memory e none (inr memory) = memory

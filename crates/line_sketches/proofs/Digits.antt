@@ -8,7 +8,7 @@ pub hex_of-append : (xs ys : List ℕ) → hex_of (xs ++ ys) ≡ hex_of xs ++ he
 hex_of-append [] ys = refl
 hex_of-append (x ∷ xs) ys = ap (λ ds. hex_of (x ∷ []) ++ ds) (hex_of-append xs ys)
 
--- bytes before those that are still to be read
+-- bytes in front of those that are still to be read
 abbrev pub so_far : List ℕ → Option (List ℕ) → Option (List ℕ)
 so_far bytes rest = option_map (λ more. bytes ++ more) rest
 

@@ -1,4 +1,4 @@
--- Sketches that are handed to an intersection one by one.
+-- Sketches that are intersected one after another.
 use Rattle.std.proofs.Common.{◌≡◌, ℕ, ◌+◌, ◌<◌, true, List, [], ◌∷◌, ◌++◌, length, get_or, take, Option, Some, None, Result, Ok, Err, refl, sym, ap, subst, ◌∙◌}
 use Rattle.std.specs.Prelude.{IfOk}
 use Rattle.std.proofs.lemmas.List.{map_more}
@@ -31,7 +31,7 @@ pub come_to-met : (vs : List (Sketch ℕ)) → come_to (met_of vs) ≡ meet hash
 come_to-met [] = refl
 come_to-met (v ∷ vs) = refl
 
--- what an intersection answers, if it answers
+-- the result of an intersection, if there is one
 some_of : (o : Option (Sketch ℕ)) (h : ℕ) (s : Compact ℕ) → h ≡ seed_hash DEFAULT_UPDATE_SEED → IsAnswerIfAny hash_key o h true (Some s) → s ≡ ordered_sketch (come_to o)
 some_of None h s seed is = absurd is
 some_of (Some v) h s seed is = ordered_answer v h s seed is

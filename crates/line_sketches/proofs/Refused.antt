@@ -1,5 +1,5 @@
 -- When operators on sketches of lines refuse.
-use Rattle.std.proofs.Common.{◌≡◌, ℕ, ◌<◌, ◌≤◌, ◌+◌, Bool, true, false, cond, List, ◌∷◌, ◌++◌, length, get_or, drop, Option, Some, None, refl, ap, sym, subst, ◌∙◌, arith, inl, inr, add-one, drop-cons}
+use Rattle.std.proofs.Common.{◌≡◌, ℕ, ◌<◌, ◌≤◌, ◌+◌, Bool, true, false, cond, List, [], ◌∷◌, ◌++◌, length, get_or, drop, Option, Some, None, refl, ap, sym, subst, ◌∙◌, arith, inl, inr, add-one, drop-cons}
 use Rattle.std.proofs.lemmas.List.{drop_all}
 use Rattle.std.proofs.lemmas.Bool.Decides.{nat_tests}
 use Rattle.std.specs.Prelude.{◌⊎◌, ◌==◌, ◌||◌, IfSome, MatchOption}
@@ -10,16 +10,26 @@ use Rattle.sketch_base.specs.declared.seed.TheConstants.{DEFAULT_UPDATE_SEED}
 use Rattle.core_compact.specs.CompactState.{Compact, compact_value, shown_of}
 use Rattle.core_images.specs.Entry.{SpellsHash}
 use Rattle.core_images.specs.declared.preamble.Preamble.{Preamble}
-use Rattle.core_images.specs.Read.{ReadsFlagged, empty_image, single_image, exact_image, estimating_image}
+use Rattle.core_images.specs.Read.{IsRefused, ReadsFlagged, empty_image, single_image, exact_image, estimating_image}
 use Rattle.core_laws.specs.Entries.{hash_key, first_hash}
 use Rattle.core_laws.specs.Operators.{meet_next}
 use Rattle.core_laws.specs.Shown.{Shown}
 use Rattle.core_laws.specs.Values.{Sketch}
 use Rattle.core_operators.specs.Intersection.{Intersection, is_settled, intersect_refusal}
 use Rattle.core_operators.specs.Union.{Union, update_refusal}
-use Rattle.theta_sketches.specs.Image.{Reads, ReadsUnflagged, vacant_image, filled_image, version_3, version_2_empty, version_2_exact, version_2_estimating, version_1}
+use Rattle.theta_sketches.specs.Image.{Reads, IsReadable, ReadsUnflagged, vacant_image, filled_image, version_3, version_2_empty, version_2_exact, version_2_estimating, version_1}
 use Rattle.line_sketches.specs.Meeting.{one_refusal, or_later, meet_refusal}
+use Rattle.core_laws.specs.declared.TheConstants.{MAX_THETA}
+use Rattle.core_laws.specs.Settings.{settings_refusal}
+use Rattle.lines.specs.Lines.{lines_of}
+use Rattle.lines.specs.declared.key.Key.{Key}
+use Rattle.line_sketches.specs.Keys.{value_of_lines, ordered_sketch, image_of_text}
 use Rattle.line_sketches.specs.Refusals.{IsNoImage, HasNoImage, IsImageRefusal, IsImagesRefusal}
+use Rattle.line_sketches.specs.Shards.{AreRead, sketches_of_texts, images_of_texts}
+use Rattle.line_sketches.proofs.Compacts.{images_read}
+use Rattle.line_sketches.proofs.DefaultSeed.{seeded}
+use Rattle.line_sketches.proofs.Rereads.{ReadsAgain}
+use Rattle.line_sketches.proofs.Unions.{size_small}
 use Rattle.line_sketches.specs.declared.sketching.Unread.{Unread}
 use Rattle.line_sketches.specs.declared.sketching.Unread.TheVariants as unread
 use Rattle.line_sketches.specs.Sources.{GivesNext, Continues, IsFirst}
@@ -58,7 +68,7 @@ one_of i s shows seed is = ap (intersect_refusal i) is ∙ ap (λ h. cond (is_se
 split_at : (sketches : List (Compact ℕ)) (i : ℕ) (d : Compact ℕ) → i < length sketches → drop i sketches ≡ get_or sketches i d ∷ drop (i + 1) sketches
 split_at sketches i d lt = rw add-one (drop-cons sketches i d lt)
 
--- a sketch more
+-- one more sketch
 pub met_further : (old now next : Option (Sketch ℕ)) (sketches : List (Compact ℕ)) (i : ℕ) (d : Compact ℕ) → i < length sketches → meet_refusal old sketches ≡ meet_refusal now (drop i sketches) → one_refusal now (get_or sketches i d) ≡ None →
     next ≡ Some (meet_next hash_key first_hash now (compact_value hash_key (get_or sketches i d))) → meet_refusal old sketches ≡ meet_refusal next (drop (i + 1) sketches)
 met_further old now next sketches i d lt so_far accepted is =
@@ -100,7 +110,7 @@ ready_accepts u s shows ready seed is = ap (update_refusal u) is ∙ accepts_of 
 
 -- ---- images one after another
 
--- some image behind those that were taken is none
+-- some image after those that were read is not an image
 pub faulty_next : {S : Type 0} (remaining : S → Option (List ℕ)) (old now new : Option (List (List ℕ))) (o : Option S) (source : S) → Continues old now (λ taken. Unit {0}) → GivesNext remaining now new o → o ≡ Some source → IfSome (remaining source) IsNoImage → IfSome old HasNoImage
 faulty_next remaining None now new o source so_far gives is faulty = tt
 faulty_next remaining (Some texts) None new o source so_far gives is faulty = absurd so_far
@@ -117,3 +127,13 @@ pub images_refused : (image : Option (List ℕ)) (images : Option (List (List �
 images_refused image images (unread.Refused kind) step (inl memory) = inl memory
 images_refused image images (unread.Refused kind) step (inr none) = inr (none.0, step none.1)
 images_refused image images (unread.Failed error) step refused = tt
+
+-- ---- images of texts
+
+-- the image of a text is read, so only memory is refused
+pub text_refused : (again : ReadsAgain) (key : Key) (lg_k : ℕ) (text image : List ℕ) (e : ErrorKind) → settings_refusal lg_k MAX_THETA DEFAULT_UPDATE_SEED ≡ None → image ≡ image_of_text key lg_k text →
+    IsRefused e (IsReadable image (seed_hash DEFAULT_UPDATE_SEED)) → e ≡ OutOfMemory
+text_refused again key lg_k text image e none is (inl memory) = memory
+text_refused again key lg_k text image e none is (inr invalid) =
+    let read : AreRead (images_of_texts key lg_k (text ∷ [])) (sketches_of_texts key lg_k (text ∷ [])) = images_read key again seeded lg_k (size_small lg_k none) (text ∷ []) in
+    absurd (invalid.1 (subst (λ (bytes : List ℕ). IsReadable bytes (seed_hash DEFAULT_UPDATE_SEED)) (sym is) (ordered_sketch (value_of_lines key lg_k (lines_of text)), read.0)))

@@ -1,4 +1,4 @@
--- Pieces of a text, taken in one after another.
+-- Pieces of a text, inserted one after another.
 use Rattle.std.proofs.Common.{◌≡◌, ℕ, suc, ◌+◌, ◌<◌, ◌^◌, Bool, true, false, List, [], ◌∷◌, ◌++◌, length, map, take, set, refl, sym, subst, ap, ◌∙◌, arith, append_assoc, append-nil}
 use Rattle.std.specs.Prelude.{◌&&◌, ◌==◌}
 use Rattle.std.proofs.lemmas.Bool.Decides.{nat_tests}
@@ -23,7 +23,7 @@ and_false true n = grind (arith, nat_tests)
 and_false false n = refl
 
 module _ (key : Key) where
-  -- a line more is hashed
+  -- one more line is hashed
   pub hashed_more : (text hashes rest line others : List ℕ) (hash : ℕ) → AreHashesOfLines key text hashes rest → rest ≡ line ++ 10 ∷ others → Lacks 10 line → hash ≡ line_hash key line → AreHashesOfLines key text (hashes ++ hash ∷ []) others
   hashed_more text hashes rest line others hash before is lacks hashed = (
     before.0 ++ line ∷ [],
@@ -41,7 +41,7 @@ module _ (key : Key) where
       let now : take (count + 1) (set hashes index hash) ≡ take count hashes ++ hash ∷ [] = ap (λ (n : ℕ). take (n + 1) (set hashes index hash)) same ∙ take_more_set hashes index hash lt ∙ ap (λ (n : ℕ). take n hashes ++ hash ∷ []) (sym same) in
       subst (λ hs. AreHashesOfLines key text hs others) (sym now) (hashed_more text (take count hashes) rest line others hash before is lacks hashed)
 
-  -- a sketch takes in a line
+  -- one line is inserted
   pub held_line : (s t : Updatable ℕ) (hash : ℕ) (line : List ℕ) → hash ≡ line_hash key line → t.map ≡ record s.map { kept = after_upsert hash_key (2 ^ s.map.lg_nom) hash (hash_step hash) s.map.kept } → t.empty ≡ false →
       held t ≡ with_line key (held s) line
   held_line s t hash line is map_is empty_is =
@@ -49,7 +49,7 @@ module _ (key : Key) where
       let whole : t.map ≡ made (line_hash key line) = map_is ∙ ap made is in
       λ i. record { map = whole i; empty = empty_is i }
 
-  -- it takes in lines, by their hashes
+  -- lines are inserted by their hashes
   with_lines-hashes : (lines : List (List ℕ)) (s : Held) →
       with_lines key s lines ≡ record { map = after_hashes (map (line_hash key) lines) s.map; empty = s.empty && (length (map (line_hash key) lines) == 0) }
   with_lines-hashes [] s = λ i. record { map = s.map; empty = sym (and_true s.empty) i }
@@ -66,7 +66,7 @@ module _ (key : Key) where
   with_lines-append [] others s = refl
   with_lines-append (line ∷ lines) others s = with_lines-append lines others (with_line key s line)
 
-  -- lines more leave less
+  -- after more lines less is left
   pub leaves_lines : (a : Held) (s t : Updatable ℕ) (text rest others hashes : List ℕ) → Leaves key a text (held s) rest → AreHashesOfLines key rest hashes others →
       t.map ≡ after_hashes hashes s.map → t.empty ≡ (s.empty && (length hashes == 0)) → Leaves key a text (held t) others
   leaves_lines a s t text rest others hashes before are map_is empty_is = λ more.

@@ -1,4 +1,4 @@
--- Texts that are taken in one after another.
+-- Texts that are read one after another.
 use Rattle.std.proofs.Common.{◌≡◌, ℕ, List, [], ◌∷◌, ◌++◌, Option, Some, None, refl, sym, ap, subst, ◌∙◌, append_assoc, append-nil}
 use Rattle.std.specs.Prelude.{IfSome}
 use Rattle.lines.specs.Lines.{lines_of, lines_of_all}
@@ -31,7 +31,7 @@ module _ (key : Key) where
         subst (λ (o : Option (List (List ℕ))). LeadsTo key (Some texts) s o u) (sym first.leaves)
         (so_far ∙ ap (λ ts. with_lines key t (lines_of_all ts)) first.parted ∙ with_lines-append t (lines_of first.text) (lines_of_all first.texts_left) ∙ ap (λ v. with_lines key v (lines_of_all first.texts_left)) (sym is))
 
-    -- a source more
+    -- one more source
     pub leads_next : (old now new : Option (List (List ℕ))) (s t u : Held) (o : Option S) (source : S) → LeadsTo key old s now t → GivesNext remaining now new o → o ≡ Some source →
         IfSome (remaining source) (λ text. u ≡ with_lines key t (lines_of text)) → LeadsTo key old s new u
     leads_next None now new s t u o source so_far gives is taken = tt
@@ -45,7 +45,7 @@ module _ (key : Key) where
     leads_end (Some texts) None new s t o P so_far gives is then = absurd so_far
     leads_end (Some texts) (Some left) new s t o P so_far gives is then = then texts (sym (so_far ∙ ap (λ ts. with_lines key t (lines_of_all ts)) (subst (GivesNext remaining (Some left) new) is gives)))
 
--- ---- what holds of all that was taken
+-- ---- what holds of all texts that were read
 
 pub continues_itself : (texts : Option (List (List ℕ))) (P : List (List ℕ) → Type 0) → P [] → Continues texts texts P
 continues_itself None P holds = tt

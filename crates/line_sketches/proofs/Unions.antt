@@ -1,4 +1,4 @@
--- Sketches that are handed to a union one by one.
+-- Sketches that are united one after another.
 use Rattle.std.proofs.Common.{◌≡◌, ℕ, ◌^◌, ◌≤◌, true, false, cond, List, [], ◌∷◌, ◌++◌, None, arith, refl, sym, ap, ◌∙◌}
 use Rattle.core_compact.specs.CompactState.{Compact, compact_value}
 use Rattle.core_laws.specs.Maps.{map_of}
@@ -17,7 +17,7 @@ use Rattle.core_laws.specs.Settings.{settings_refusal}
 use Rattle.line_sketches.specs.Shards.{values_of_sketches, AreRead}
 use Rattle.line_sketches.specs.Unions.{HasUnited}
 
--- a union takes in a value
+-- a union after one more value
 abbrev pub Joins : {P : Type 0} → (old new : Union ℕ P) → Sketch ℕ → Type 0
 Joins old new Empty = new ≡ old
 Joins old new (NonEmpty v) = union_value hash_key new ≡ unite hash_key first_hash (2 ^ old.lg_k) old.start (union_value hash_key old ∷ NonEmpty v ∷ [])
@@ -38,7 +38,7 @@ joined_next old new values (NonEmpty v) so_far join =
     join ∙ ap (λ u. unite hash_key first_hash (2 ^ old.lg_k) old.start (u ∷ NonEmpty v ∷ [])) so_far
     ∙ sym (union_of_union hash_key first_hash (λ x y same. same) (2 ^ old.lg_k) old.start values (NonEmpty v))
 
--- what a union was made with stays
+-- the settings of a union stay
 made_same : {P : Type 0} (lg_k : ℕ) (old new : Union ℕ P) → old ≡ record (empty_union lg_k MAX_THETA (seed_hash DEFAULT_UPDATE_SEED) old.policy) { empty = old.empty; held = old.held } → new ≡ record old { empty = new.empty; held = new.held } →
     new ≡ record (empty_union lg_k MAX_THETA (seed_hash DEFAULT_UPDATE_SEED) new.policy) { empty = new.empty; held = new.held }
 made_same {P} lg_k old new was made =
@@ -46,7 +46,7 @@ made_same {P} lg_k old new was made =
     let policy : P → Union ℕ P = λ p. record (empty_union lg_k MAX_THETA (seed_hash DEFAULT_UPDATE_SEED) p) { empty = new.empty; held = new.held } in
     made ∙ ap again was ∙ ap policy (sym (ap (λ u. u.policy) made))
 
--- an image more
+-- one more image
 are_read-more : (images : List (List ℕ)) (sketches : List (Compact ℕ)) (image : List ℕ) (s : Compact ℕ) → AreRead images sketches → Reads image (seed_hash DEFAULT_UPDATE_SEED) s → AreRead (images ++ image ∷ []) (sketches ++ s ∷ [])
 are_read-more [] [] image s all one = (one, tt)
 are_read-more [] (t ∷ ts) image s all one = absurd all
@@ -86,6 +86,6 @@ nothing_united {P} lg_k u is =
       made = is ∙ (λ i. record (with_policy u.policy) { empty = sym (ap (λ v. v.empty) is) i; held = sym (ap (λ v. v.held) is) i });
     }
 
--- what a union may be made with
+-- the sizes of a union
 pub size_small : (lg_k : ℕ) → settings_refusal lg_k MAX_THETA DEFAULT_UPDATE_SEED ≡ None → lg_k ≤ 26
 size_small lg_k is = grind (arith, nat_tests)

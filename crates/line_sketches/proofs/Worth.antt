@@ -1,4 +1,4 @@
--- What a sketch of lines is worth.
+-- The value of a sketch of lines.
 use Rattle.std.proofs.Common.{◌≡◌, ℕ, ◌^◌, Bool, true, false, cond, List, [], ◌∷◌, ◌++◌, Result, Ok, Err, refl, sym, ap, ◌∙◌, arith}
 use Rattle.std.specs.Prelude.{not, IfOk}
 use Rattle.sketch_base.specs.Seed.{seed_hash}
@@ -65,7 +65,7 @@ module _ (key : Key) where
         t.map ≡ record s.map { kept = cut hash_key (2 ^ s.map.lg_nom) s.map.kept.entries s.map.kept.theta } → t.map.seed_hash ≡ seed_hash DEFAULT_UPDATE_SEED
     trimmed_seed lines s t is map_is = ap (λ m. m.seed_hash) map_is ∙ ap (λ h. h.map.seed_hash) (is ∙ with_lines-made lines (none_below MAX_THETA) false)
 
--- an ordered answer is the ordered sketch
+-- an ordered result is the ordered sketch
 pub ordered_answer : (v : Sketch ℕ) (h : ℕ) (s : Compact ℕ) → h ≡ seed_hash DEFAULT_UPDATE_SEED → IsAnswer hash_key v h true s → s ≡ ordered_sketch v
 ordered_answer Empty h s seed is = is ∙ ap empty_compact seed
 ordered_answer (NonEmpty v) h s seed is =

@@ -24,7 +24,7 @@ pair_of (Some high) (Some low) = Some (16 * high + low)
 pair_of (Some high) None = None
 pair_of None low = None
 
--- a byte before others
+-- a byte in front of others
 abbrev pub before : Option ℕ → Option (List ℕ) → Option (List ℕ)
 before (Some byte) (Some bytes) = Some (byte ∷ bytes)
 before (Some byte) None = None

@@ -1,4 +1,4 @@
--- The hashes of lines, and the sketch of them.
+-- The hashes of lines, and their sketch.
 use Rattle.std.specs.Prelude.{ℕ, ◌≡◌, ◌⊎◌, ◌^◌, Bool, true, false, List, [], ◌∷◌, map}
 use Rattle.sketch_base.specs.Seed.{seed_hash}
 use Rattle.sketch_base.specs.declared.seed.TheConstants.{DEFAULT_UPDATE_SEED}
@@ -25,7 +25,7 @@ adds key lines = map (λ line. Add (line_hash key line) tt) lines
 abbrev pub key_set : Key → List (List ℕ) → List ℕ
 key_set key lines = added (adds key lines)
 
--- what lines are worth: the k least of the set of their hashes; no lines are worth Empty
+-- the value of lines: the k smallest of the set of their hashes, and Empty if there are no lines
 abbrev pub value_of_lines : Key → (lg_k : ℕ) → List (List ℕ) → Sketch ℕ
 value_of_lines key lg_k [] = Empty
 value_of_lines key lg_k (line ∷ lines) = NonEmpty (kmin (2 ^ lg_k) (key_set key (line ∷ lines)) MAX_THETA)
@@ -40,7 +40,7 @@ abbrev pub IsAmong : (line : List ℕ) → List (List ℕ) → Type 0
 IsAmong line [] = ⊥
 IsAmong line (other ∷ lines) = (line ≡ other) ⊎ IsAmong line lines
 
--- the same lines are in both, in any order, and each any number of times
+-- both have the same lines, in any order and with any repeats
 abbrev pub HaveSameLines : (lines others : List (List ℕ)) → Type 0
 HaveSameLines lines others = ((line : List ℕ) → IsAmong line lines → IsAmong line others) × ((line : List ℕ) → IsAmong line others → IsAmong line lines)
 
@@ -52,7 +52,7 @@ image_of_lines key lg_k lines = written (ordered_sketch (value_of_lines key lg_k
 abbrev pub image_of_text : Key → (lg_k : ℕ) → List ℕ → List ℕ
 image_of_text key lg_k text = written (ordered_sketch (value_of_lines key lg_k (lines_of text)))
 
--- what a sketch holds, apart from the order in which it lends
+-- the state of a sketch without the order of its listing
 pub record Held : Type 0 where
   pub map : MapTable ℕ
   pub empty : Bool
@@ -60,11 +60,11 @@ pub record Held : Type 0 where
 abbrev pub held : Updatable ℕ → Held
 held s = record { map = s.map; empty = s.empty }
 
--- what a new sketch holds
+-- the state of a new sketch
 abbrev pub new_held : (lg_k : ℕ) → Held
 new_held lg_k = record { map = empty_table lg_k MAX_THETA DEFAULT_UPDATE_SEED; empty = true }
 
--- what it holds after a line, and after lines
+-- the state after one more line, and after more lines
 abbrev pub with_line : Key → Held → List ℕ → Held
 with_line key s line = record { map = record s.map { kept = after_upsert hash_key (2 ^ s.map.lg_nom) (line_hash key line) (hash_step (line_hash key line)) s.map.kept }; empty = false }
 

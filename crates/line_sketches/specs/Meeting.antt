@@ -1,4 +1,4 @@
--- What sketches that are met one by one come to.
+-- Intersections of sketches, one after another, and when they are refused.
 use Rattle.std.specs.Prelude.{ℕ, ◌==◌, ◌||◌, Option, Some, None, List, [], ◌∷◌, if◌then◌else◌}
 use Rattle.sketch_base.specs.Seed.{seed_hash}
 use Rattle.sketch_base.specs.declared.error.ErrorKind.{ErrorKind}
@@ -11,17 +11,17 @@ use Rattle.core_laws.specs.Entries.{hash_key, first_hash}
 use Rattle.core_laws.specs.Operators.{meet, meet_next}
 use Rattle.core_laws.specs.Values.{Sketch, Empty}
 
--- what an intersection has come to: Empty before its first sketch
+-- the value of an intersection: Empty before its first sketch
 abbrev pub come_to : Option (Sketch ℕ) → Sketch ℕ
 come_to None = Empty
 come_to (Some v) = v
 
--- its value after these
+-- the result of an intersection after these values
 abbrev pub met_of : List (Sketch ℕ) → Option (Sketch ℕ)
 met_of [] = None
 met_of (v ∷ vs) = Some (meet hash_key first_hash (v ∷ vs))
 
--- what a sketch is refused with after those that came to this: another seed, unless either is Empty
+-- the refusal of a sketch after an intersection with this result: it is of another seed, unless either is Empty
 abbrev pub one_refusal : Option (Sketch ℕ) → Compact ℕ → Option ErrorKind
 one_refusal so_far s = if is_settled so_far || s.empty then None else if seed_hash DEFAULT_UPDATE_SEED == s.seed_hash then None else Some InvalidArgument
 
@@ -30,11 +30,11 @@ abbrev pub or_later : Option ErrorKind → Option ErrorKind → Option ErrorKind
 or_later (Some kind) later = Some kind
 or_later None later = later
 
--- what sketches that are met one by one are refused with
+-- the refusal of sketches that are intersected one after another
 abbrev pub meet_refusal : Option (Sketch ℕ) → List (Compact ℕ) → Option ErrorKind
 meet_refusal so_far [] = None
 meet_refusal so_far (s ∷ sketches) = or_later (one_refusal so_far s) (meet_refusal (Some (meet_next hash_key first_hash so_far (compact_value hash_key s))) sketches)
 
--- what a difference is refused with
+-- the refusal of a difference
 abbrev pub lack_refusal : (first second : Compact ℕ) → Option ErrorKind
 lack_refusal first second = difference_refusal (seed_hash DEFAULT_UPDATE_SEED) (shown_of hash_key first) (shown_of hash_key second)

@@ -1,4 +1,4 @@
--- Why lines and images are not taken in.
+-- Why lines and images are not read.
 use Rattle.std.specs.Prelude.{ℕ, ◌≡◌, ◌≢◌, ◌⊎◌, ⊤, List, ◌∷◌, ◌++◌, Option, Some, None, IfSome, Result, MatchResult}
 use Rattle.std.specs.IoError.{error_kind}
 use Rattle.std.specs.declared.io.ErrorKind.TheVariants.{Interrupted}
@@ -10,25 +10,25 @@ use Rattle.theta_sketches.specs.Image.{IsReadable}
 use Rattle.line_sketches.specs.declared.sketching.Unread.{Unread}
 use Rattle.line_sketches.specs.declared.sketching.Unread.TheVariants.{Refused, Failed}
 
--- an error tells what is refused, or that memory ran out, or of a source that failed, which is asked only where nothing is refused
+-- an error is the refusal, or that memory ran out, or that of a source, which is read only if nothing is refused
 abbrev pub IsUnread : Option ErrorKind → Unread → Type 0
 IsUnread refusal (Refused kind) = (refusal ≡ Some kind) ⊎ (kind ≡ OutOfMemory)
 IsUnread refusal (Failed error) = refusal ≡ None
 
--- an Ok comes only where nothing is refused
+-- an Ok comes only if nothing is refused
 abbrev pub RefusesRead : {T : Type 0} → Result T Unread → Option ErrorKind → Type 0
 RefusesRead r refusal = MatchResult r (λ _. refusal ≡ None) (IsUnread refusal)
 
--- a read that failed was not only interrupted
+-- a failed read was not just interrupted
 abbrev pub IsLasting : Unread → Type 0
 IsLasting (Refused kind) = ⊤
 IsLasting (Failed error) = error_kind error ≢ Interrupted
 
--- bytes that are no image of a sketch of the default seed
+-- the bytes are not an image of a sketch of the default seed
 abbrev pub IsNoImage : List ℕ → Type 0
 IsNoImage bytes = IsReadable bytes (seed_hash DEFAULT_UPDATE_SEED) → ⊥
 
--- some of these are no image
+-- some of these are not an image
 pub record HasNoImage (texts : List (List ℕ)) : Type 0 where
   pub front : List (List ℕ)
   pub faulty : List ℕ
@@ -36,17 +36,17 @@ pub record HasNoImage (texts : List (List ℕ)) : Type 0 where
   pub parted : texts ≡ front ++ faulty ∷ back
   pub no_image : IsNoImage faulty
 
--- one image isn't taken in: memory ran out, or it is none, or its source failed
+-- one image is not read: memory ran out, or it is not an image, or its source failed
 abbrev pub IsImageRefusal : Option (List ℕ) → Unread → Type 0
 IsImageRefusal image (Refused kind) = (kind ≡ OutOfMemory) ⊎ ((kind ≡ InvalidData) × IfSome image IsNoImage)
 IsImageRefusal image (Failed error) = ⊤
 
--- images are not taken in, one after another
+-- images are not read, one after another
 abbrev pub IsImagesRefusal : Option (List (List ℕ)) → Unread → Type 0
 IsImagesRefusal images (Refused kind) = (kind ≡ OutOfMemory) ⊎ ((kind ≡ InvalidData) × IfSome images HasNoImage)
 IsImagesRefusal images (Failed error) = ⊤
 
--- images are not united: what is refused before any is read, or why one isn't taken in, which is asked only where nothing is refused
+-- images are not united: by a refusal before any is read, or because one is not read
 abbrev pub IsUniteRefusal : Option ErrorKind → Option (List (List ℕ)) → Unread → Type 0
 IsUniteRefusal refusal images (Refused kind) = (refusal ≡ Some kind) ⊎ (kind ≡ OutOfMemory) ⊎ ((kind ≡ InvalidData) × (refusal ≡ None) × IfSome images HasNoImage)
 IsUniteRefusal refusal images (Failed error) = refusal ≡ None

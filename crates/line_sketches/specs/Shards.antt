@@ -28,7 +28,7 @@ images_of_texts key lg_k texts = map (λ text. image_of_text key lg_k text) text
 abbrev pub values_of_sketches : List (Compact ℕ) → List (Sketch ℕ)
 values_of_sketches sketches = map (λ s. compact_value hash_key s) sketches
 
--- bytes are read as sketches, each as its own
+-- each image is read as its sketch
 abbrev pub AreRead : List (List ℕ) → List (Compact ℕ) → Type 0
 AreRead [] [] = ⊤
 AreRead (bytes ∷ images) (s ∷ sketches) = Reads bytes (seed_hash DEFAULT_UPDATE_SEED) s × AreRead images sketches

@@ -1,10 +1,10 @@
--- Texts, each behind a reader of its own, one after another.
+-- Texts, one after another, each with its own reader.
 use Rattle.std.specs.Prelude.{ℕ, ◌≡◌, ⊤, List, [], ◌∷◌, ◌++◌, Option, Some, None}
 use Rattle.lines.specs.Lines.{lines_of_all}
 use Rattle.lines.specs.declared.key.Key.{Key}
 use Rattle.line_sketches.specs.Keys.{Held, with_lines}
 
--- the next source has the first text, and leaves the others
+-- the next source has the first text, and the others are left
 pub record IsFirst {S : Type 0} (remaining : S → Option (List ℕ)) (texts : List (List ℕ)) (source : S) (left : Option (List (List ℕ))) : Type 0 where
   pub text : List ℕ
   pub texts_left : List (List ℕ)
@@ -12,19 +12,19 @@ pub record IsFirst {S : Type 0} (remaining : S → Option (List ℕ)) (texts : L
   pub has : remaining source ≡ Some text
   pub leaves : left ≡ Some texts_left
 
--- what is known of the texts that are left when the next source was given: none was only at the end
+-- the texts that are left after the next source, if they are known: there is no source only at the end
 abbrev pub GivesNext : {S : Type 0} → (remaining : S → Option (List ℕ)) → (old new : Option (List (List ℕ))) → Option S → Type 0
 GivesNext remaining None new source = ⊤
 GivesNext remaining (Some texts) new None = texts ≡ []
 GivesNext remaining (Some texts) new (Some source) = IsFirst remaining texts source new
 
--- taking in all texts that were left comes to the same as taking in, from what is held now, those that are left now
+-- inserting all old texts into the old state gives the same as inserting the texts that are left into the state now
 abbrev pub LeadsTo : Key → (old : Option (List (List ℕ))) (s : Held) (new : Option (List (List ℕ))) (t : Held) → Type 0
 LeadsTo key None s new t = ⊤
 LeadsTo key (Some texts) s None t = ⊥
 LeadsTo key (Some texts) s (Some left) t = with_lines key s (lines_of_all texts) ≡ with_lines key t (lines_of_all left)
 
--- some texts were taken, of which this holds, and the others are left
+-- this holds of the texts that were read, and the others are left
 abbrev pub Continues : (old new : Option (List (List ℕ))) → (List (List ℕ) → Type 0) → Type 0
 Continues None new P = ⊤
 Continues (Some texts) None P = ⊥

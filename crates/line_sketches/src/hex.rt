@@ -1,4 +1,4 @@
-//! Images as text: two hexadecimal digits a byte.
+//! Images as text: two hexadecimal digits per byte.
 ghost use Rattle.std.specs.Prelude.{◌≡◌, ◌++◌, ◌∷◌, ◌<◌, ℕ, List, [], Option, Some, None, IfOk, IfSome, OnOk, MatchOption};
 ghost use Rattle.line_sketches.specs.Hex.{hex_digit, hex_of, digit_of, pair_of, bytes_of_hex};
 
@@ -12,7 +12,7 @@ fn hex_digit(digit: u8) -> u8
     if digit < 10 { 48 + digit } else { 87 + digit }
 }
 
-/// Puts the two digits of a byte.
+/// Appends the two digits of a byte.
 fn put_byte<A: Allocator>(line: &mut Vec<u8, A>, byte: u8) -> Result<(), AllocError>
     ensures { OnOk result (line.new.items ≡ line.old.items ++ hex_of (byte ∷ [])) }
 {
@@ -21,8 +21,8 @@ fn put_byte<A: Allocator>(line: &mut Vec<u8, A>, byte: u8) -> Result<(), AllocEr
     Ok(())
 }
 
-/// Bytes as a line of hexadecimal digits, two a byte, in small letters, with the LF that ends it. It refuses with `AllocError`
-/// alone. `read_hex` takes the digits without the LF.
+/// Bytes as a line of lowercase hexadecimal digits, two per byte, with the LF that ends it. The only error is `AllocError`.
+/// `read_hex` reads the digits without the LF.
 pub fn hex_line<A: Allocator>(alloc: A, bytes: &[u8]) -> Result<Vec<u8, A>, AllocError>
     ensures { IfOk result (λ v. v.items ≡ hex_of bytes.now ++ 10 ∷ []) }
 {
@@ -60,8 +60,8 @@ fn byte_of(high: u8, low: u8) -> Option<u8>
     Some(16 * first + second)
 }
 
-/// The bytes that hexadecimal digits of either case spell, two a byte; `None` where their number is odd or another byte stands
-/// among them, an LF at the end too. It refuses with `AllocError` alone.
+/// The bytes that hexadecimal digits of either case spell, two per byte. `None` if their number is odd or if another
+/// byte is among them, such as an LF at the end. The only error is `AllocError`.
 pub fn read_hex<A: Allocator + Drop>(
     alloc: A,
     text: &[u8],

@@ -1,4 +1,4 @@
-//! Sketches from images, and what operators make of them.
+//! Sketches read from images, and the results of operators on them.
 ghost use Rattle.std.specs.Prelude.{◌≡◌, true, None, IfOk, IfErr};
 ghost use Rattle.sketch_base.specs.Seed.{seed_hash};
 ghost use Rattle.sketch_base.specs.declared.seed.TheConstants.{DEFAULT_UPDATE_SEED};
@@ -25,8 +25,8 @@ use theta_sketches::{
     CompactThetaSketch, ThetaANotB, ThetaIntersection, ThetaUnion, ThetaUnionBuilder,
 };
 
-/// The sketch of an image. Refused with `InvalidData` only for bytes that are no image of a theta sketch of the default seed, and
-/// with `OutOfMemory`.
+/// The sketch of an image. Refused with `InvalidData` only if the bytes aren't an image of a theta sketch of the
+/// default seed, and with `OutOfMemory`.
 pub fn read_image<A: Allocator + Clone + Drop>(
     alloc: A,
     image: &[u8],
@@ -37,16 +37,18 @@ pub fn read_image<A: Allocator + Clone + Drop>(
     CompactThetaSketch::deserialize(alloc, image)
 }
 
-/// The image of a sketch of the default seed, which is read as the sketch again. Refused with `OutOfMemory` alone.
+/// The image of a sketch. If the sketch is of the default seed, `read_image` reads it again. Refused only with
+/// `OutOfMemory`.
 pub fn image_of<A: Allocator + Clone + Drop>(
     sketch: &CompactThetaSketch<A>,
 ) -> Result<Vec<u8, A>, Error>
     ensures written { IfOk result (λ v. v.items ≡ written sketch.now) }
-    ensures reads { sketch.now.seed_hash ≡ seed_hash DEFAULT_UPDATE_SEED → IfOk result (λ v. Reads v.items (seed_hash DEFAULT_UPDATE_SEED) sketch.now) }
+    ensures reads { sketch.now.seed_hash ≡ seed_hash DEFAULT_UPDATE_SEED
+        → IfOk result (λ v. Reads v.items (seed_hash DEFAULT_UPDATE_SEED) sketch.now) }
     ensures refused { Refuses result None true }
 {
     read_again();
-    // Its contract tells that the sketch keeps its laws.
+    // Its contract says that the sketch keeps its laws.
     let _ = sketch.num_retained();
     sketch.serialize()
 }
@@ -68,12 +70,13 @@ fn empty_sketch<A: Allocator + Clone + Drop>(alloc: A) -> Result<CompactThetaSke
     finished(&mut sketch)
 }
 
-/// What an intersection has come to, ordered: the sketch of no lines before its first sketch.
+/// The result of an intersection, ordered; before its first sketch, the sketch of no lines.
 fn met_sketch<A: Allocator + Clone + Drop>(
     alloc: A,
     intersection: &ThetaIntersection<A>,
 ) -> Result<CompactThetaSketch<A>, Error>
-    ensures value { intersection.now.seed_hash ≡ seed_hash DEFAULT_UPDATE_SEED → IfOk result (λ s. s ≡ ordered_sketch (come_to intersection.now.result)) }
+    ensures value { intersection.now.seed_hash ≡ seed_hash DEFAULT_UPDATE_SEED
+        → IfOk result (λ s. s ≡ ordered_sketch (come_to intersection.now.result)) }
     ensures refused { Refuses result None true }
 {
     match intersection.to_sketch(true)? {
@@ -82,8 +85,9 @@ fn met_sketch<A: Allocator + Clone + Drop>(
     }
 }
 
-/// What all sketches share, ordered; of no sketches, that of no lines. Refused with `InvalidArgument` for a sketch of another
-/// seed than the default, 9001, unless it or what those before it share is empty, and with `OutOfMemory`.
+/// The intersection of all sketches, ordered; of no sketches, the sketch of no lines. Refused with `InvalidArgument`
+/// for a sketch of another seed than the default, 9001, unless it or the intersection of those before it is empty, and
+/// with `OutOfMemory`.
 pub fn met<A: Allocator + Clone + Drop>(
     alloc: A,
     sketches: &[CompactThetaSketch<A>],
@@ -98,14 +102,18 @@ pub fn met<A: Allocator + Clone + Drop>(
     met_sketch(alloc, &intersection)
 }
 
-/// What the first has and the second lacks, ordered. Refused with `InvalidArgument` where the first isn't empty and it, or a
-/// second that isn't empty, is of another seed than the default, 9001, and with `OutOfMemory`.
+/// The difference of two sketches, ordered. Refused with `InvalidArgument` if the first isn't empty and it, or a second
+/// that isn't empty, is of another seed than the default, 9001, and with `OutOfMemory`.
 pub fn lacked<A: Allocator + Clone + Drop>(
     alloc: A,
     first: &CompactThetaSketch<A>,
     second: &CompactThetaSketch<A>,
 ) -> Result<CompactThetaSketch<A>, Error>
-    ensures lacked { first.now.seed_hash ≡ seed_hash DEFAULT_UPDATE_SEED → IfOk result (λ s. s ≡ ordered_sketch (minus hash_key hash_key (compact_value hash_key first.now) (compact_value hash_key second.now))) }
+    ensures lacked { first.now.seed_hash ≡ seed_hash DEFAULT_UPDATE_SEED
+        → IfOk result (λ s.
+        s
+        ≡ ordered_sketch (
+        minus hash_key hash_key (compact_value hash_key first.now) (compact_value hash_key second.now))) }
     ensures refused { Refuses result (lack_refusal first.now second.now) true }
 {
     let difference = ThetaANotB::default()?;

@@ -10,21 +10,21 @@ ghost use Rattle.line_sketches.specs.Shards.{united, values_of_texts, values_of_
 
 use theta_sketches::laws::one_reading;
 
-/// Texts that are sketched apart and united are worth what they are worth one behind the other, where each but the last is
-/// empty or ends by an LF.
+/// If each text but the last is empty or ends in an LF, the union of the texts' sketches has the value of the
+/// concatenated texts.
 pub fn shards_unite()
     ensures { (key : Key) (lg_k : ℕ) (texts : List (List ℕ)) → AreWhole texts → united lg_k (values_of_texts key lg_k texts) ≡ value_of_lines key lg_k (lines_of (concat texts)) }
 {}
 
-/// Texts that are sketched apart, written, read and united give the image of the texts one behind the other, where each but
-/// the last is empty or ends by an LF.
+/// If each text but the last is empty or ends in an LF, then sketching the texts apart, writing and reading the
+/// sketches, and uniting them gives the image of the concatenated texts.
 pub fn images_unite()
     ensures { (key : Key) (lg_k : ℕ) (texts images : List (List ℕ)) (sketches : List (Compact ℕ)) → AreWhole texts → AreRead images (sketches_of_texts key lg_k texts) → AreRead images sketches → written (ordered_sketch (united lg_k (values_of_sketches sketches))) ≡ image_of_text key lg_k (concat texts) }
 {
     one_reading();
 }
 
-/// Lines are worth the same in any order, and if some are there more than once.
+/// The value of lines doesn't depend on their order or on repeats.
 pub fn lines_in_any_order()
     ensures { (key : Key) (lg_k : ℕ) (lines others : List (List ℕ)) → HaveSameLines lines others → value_of_lines key lg_k lines ≡ value_of_lines key lg_k others }
 {}

@@ -1,7 +1,8 @@
-//! Theta sketches of lines: from readers, to images and back, and united, met and taken from one another.
+//! Theta sketches of lines: made from readers, written as images and read again, united, intersected and subtracted.
 //!
-//! The promise is `unite_images`: the images of texts that were sketched apart unite to the image of all their lines, byte for
-//! byte, in any order. `image_of_texts` does both, of texts in memory.
+//! The main promise is that of `unite_images`: it unites the images of texts that were sketched apart, in any order, to
+//! the image of all their lines, byte for byte. `image_of_texts` sketches texts in memory apart and unites their
+//! images.
 //!
 //! The sketch of the lines of a reader, and its image as text:
 //!

@@ -1,4 +1,4 @@
-//! Sketches of the lines that a reader has.
+//! Sketches of the lines of a reader.
 ghost use Rattle.std.specs.Prelude.{◌≡◌, ◌+◌, ◌<◌, ◌≤◌, ℕ, List, [], length, take, IfOk, IfErr, OnOk, IfSome, None, true};
 ghost use Rattle.sketch_base.specs.declared.seed.TheConstants.{DEFAULT_UPDATE_SEED};
 ghost use Rattle.core_laws.specs.Refusal.{Refuses};
@@ -18,11 +18,11 @@ use std::io;
 use std::io::{ErrorKind, Read};
 use theta_sketches::{CompactThetaSketch, ThetaSketch, ThetaSketchBuilder};
 
-/// Why lines or images were not taken in.
+/// Why lines or images were not read.
 #[derive(Debug, Drop)]
 pub enum Unread {
-    /// Memory was refused (`OutOfMemory`), an `lg_k` isn't from 4 to 26, or a sketch is of another seed (`InvalidArgument`), or
-    /// a source is no image (`InvalidData`).
+    /// Memory was refused (`OutOfMemory`), an `lg_k` isn't from 4 to 26, or a sketch is of another seed
+    /// (`InvalidArgument`), or a source is not an image (`InvalidData`).
     Refused(Error),
     /// A source failed, or couldn't be opened.
     Failed(io::Error),
@@ -49,10 +49,11 @@ impl From<AllocError> for Unread {
     }
 }
 
-/// Looks on while lines are taken in.
+/// Watches while lines are sketched.
 pub trait Watch {
-    /// A read gave `bytes` bytes, from 1 to the block's length, and `lines` lines, from 0 to `bytes`, ended in them; the sketch
-    /// has taken these in. A last line without an LF is not told. The numbers are for a reader's eye: no clause speaks of them.
+    /// Called after each read, which gave `bytes` bytes, from 1 to the block's length, and by `image_of_texts` once for
+    /// each text. `lines` lines, from 0 to `bytes`, ended in the bytes and are in the sketch. There is no call for a
+    /// last line without an LF. The numbers are for display: no clause speaks of them.
     fn saw<A: Allocator>(&mut self, bytes: usize, lines: u64, sketch: &ThetaSketch<A>);
 }
 
@@ -65,11 +66,11 @@ pub fn new_sketch<A: Allocator + Drop>(alloc: A, lg_k: u8) -> Result<ThetaSketch
     ThetaSketchBuilder::default().lg_k(lg_k).build(alloc)
 }
 
-/// How many lines are hashed before their hashes are taken in together.
+/// How many lines are hashed before their hashes are inserted together.
 const LINES_AT_ONCE: usize = 256;
 
-/// Hashes the first lines of a text that end by an LF, in their order, into `hashes`: all, or as many as have a place there.
-/// Tells how many they are, and what stands after the last of them.
+/// Hashes the first lines of a text that end in an LF, in order, into `hashes`: all of them, or as many as there is
+/// room for. Returns their number and the text after the last of them.
 fn hash_lines<'a>(key: Key, text: &'a [u8], hashes: &mut [u64]) -> (usize, &'a [u8])
     ensures few { result.0 ≤ length hashes.old }
     ensures lines { AreHashesOfLines key text.now (take result.0 hashes.new) result.1.now }
@@ -89,7 +90,7 @@ fn hash_lines<'a>(key: Key, text: &'a [u8], hashes: &mut [u64]) -> (usize, &'a [
     (count, rest)
 }
 
-/// Takes in the lines of a text that end by an LF, and tells what stands after the last of them, and how many they were.
+/// Inserts the lines of a text that end in an LF. Returns the text after the last of them, and their number.
 fn take_lines<'a, A: Allocator + Clone>(
     sketch: &mut ThetaSketch<A>,
     key: Key,
@@ -113,15 +114,20 @@ fn take_lines<'a, A: Allocator + Clone>(
     }
 }
 
-/// Takes in a block that continues an open line, which then is what stands after the block's last LF. Tells how many lines
-/// ended.
+/// Inserts the lines that end in a block, which continues an open line. The open line is then the text after the
+/// block's last LF. Returns how many lines ended.
 fn take_block<A: Allocator + Clone>(
     sketch: &mut ThetaSketch<A>,
     key: Key,
     last: &mut OpenLine,
     block: &[u8],
 ) -> Result<u64, Error>
-    ensures takes { (before : List ℕ) → IsOpen key before last.old → OnOk result ((after : List ℕ) × IsOpen key after last.new × Takes key (held sketch.old) before block.now (held sketch.new) after) }
+    ensures takes { (before : List ℕ)
+        → IsOpen key before last.old
+        → OnOk result (
+        (after : List ℕ)
+        × IsOpen key after last.new
+        × Takes key (held sketch.old) before block.now (held sketch.new) after) }
     ensures refused { Refuses result None true }
 {
     let Some((first, others)) = cut_line(block) else {
@@ -136,12 +142,14 @@ fn take_block<A: Allocator + Clone>(
     Ok(count.wrapping_add(1))
 }
 
-/// Takes in a line that no LF ends, if it has a byte.
+/// Inserts a last line that no LF ends, if it has a byte.
 fn take_last<A: Allocator + Clone>(
     sketch: &mut ThetaSketch<A>,
     last: &OpenLine,
 ) -> Result<(), Error>
-    ensures taken { (key : Key) (front : List ℕ) → IsOpen key front last.now → OnOk result (held sketch.new ≡ with_lines key (held sketch.old) (lines_after front [])) }
+    ensures taken { (key : Key) (front : List ℕ)
+        → IsOpen key front last.now
+        → OnOk result (held sketch.new ≡ with_lines key (held sketch.old) (lines_after front [])) }
     ensures refused { Refuses result None true }
 {
     if last.is_begun() {
@@ -150,12 +158,12 @@ fn take_last<A: Allocator + Clone>(
     Ok(())
 }
 
-/// Takes in all lines that a reader has left, block by block, each by its key. A read that was interrupted is made again.
+/// Inserts all lines that a reader has left, block by block, each by its key. An interrupted read is repeated.
 ///
-/// Refused with `OutOfMemory` alone; a source that failed tells its error, which is never that a read was interrupted. Then
-/// some first part of the lines is taken in; no clause says so.
+/// Refused only with `OutOfMemory`. If the reader fails, its error is returned, which is never an interrupted read.
+/// After an error some first part of the lines is inserted; no clause says so.
 ///
-/// `block` has at least one byte, and a read asks for as many as it has; what stands in it before is not read.
+/// `block` has at least one byte, and its length is the most that one read gets. Its old contents are not used.
 pub fn add_lines<A: Allocator + Clone, R: Read, W: Watch>(
     sketch: &mut ThetaSketch<A>,
     key: Key,
@@ -189,12 +197,31 @@ pub fn add_lines<A: Allocator + Clone, R: Read, W: Watch>(
     Err(Unread::Refused(Error::from(AllocError)))
 }
 
-/// Trims the sketch, which stays trimmed, and answers its compact form, ordered. Refused with `OutOfMemory` alone; then it may
-/// be trimmed already.
+/// Inserts all lines of a text in memory. Refused only with `OutOfMemory`; then some first part of the lines is
+/// inserted; no clause says so.
+pub(crate) fn add_text<A: Allocator + Clone, W: Watch>(
+    sketch: &mut ThetaSketch<A>,
+    key: Key,
+    text: &[u8],
+    watch: &mut W,
+) -> Result<(), Error>
+    ensures lines { OnOk result (held sketch.new ≡ with_lines key (held sketch.old) (lines_of text.now)) }
+    ensures refused { Refuses result None true }
+{
+    let mut last = OpenLine::new(key);
+    let lines = take_block(sketch, key, &mut last, text)?;
+    watch.saw(text.len(), lines, sketch);
+    take_last(sketch, &last)
+}
+
+/// Trims the sketch, which stays trimmed, and returns its compact form, ordered. Refused only with `OutOfMemory`; then
+/// the sketch may be trimmed already.
 pub fn finished<A: Allocator + Clone>(
     sketch: &mut ThetaSketch<A>,
 ) -> Result<CompactThetaSketch<A>, Error>
-    ensures sketch { (key : Key) (lg_k : ℕ) (lines : List (List ℕ)) → held sketch.old ≡ with_lines key (new_held lg_k) lines → IfOk result (λ s. s ≡ ordered_sketch (value_of_lines key lg_k lines)) }
+    ensures sketch { (key : Key) (lg_k : ℕ) (lines : List (List ℕ))
+        → held sketch.old ≡ with_lines key (new_held lg_k) lines
+        → IfOk result (λ s. s ≡ ordered_sketch (value_of_lines key lg_k lines)) }
     ensures refused { Refuses result None true }
 {
     sketch.trim()?;
@@ -205,7 +232,7 @@ pub fn finished<A: Allocator + Clone>(
 /// 26, and with `OutOfMemory`. If a read fails, its error is returned, which is never that a read was interrupted. For
 /// a wrong `lg_k` nothing is read. No clause says that the error is the read's, and none that nothing is read.
 ///
-/// `block` has at least one byte, and a read asks for as many as it has; what stands in it before is not read.
+/// `block` has at least one byte, and its length is the most that one read gets. Its old contents are not used.
 pub fn sketch_lines<A: Allocator + Clone + Drop, R: Read, W: Watch>(
     alloc: A,
     key: Key,

@@ -1,4 +1,4 @@
-//! Texts, each behind a reader of its own, one after another.
+//! Texts, one after another, each with its own reader.
 ghost use Rattle.std.specs.Prelude.{◌≡◌, ℕ, List, Option, None, Some, map, IfOk, OnOk, IfSome};
 ghost use Rattle.lines.specs.Lines.{lines_of, lines_of_all};
 ghost use Rattle.line_sketches.specs.Keys.{held, with_lines, value_of_lines, ordered_sketch};
@@ -16,19 +16,19 @@ use std::io;
 use std::io::Read;
 use theta_sketches::{CompactThetaSketch, ThetaSketch};
 
-/// How many bytes a read of lines asks for.
+/// The most bytes that one read of lines gets.
 pub const BLOCK: usize = 1 << 17;
 
-/// Texts, each behind a reader of its own, one after another.
+/// Texts, one after another, each with its own reader.
 pub trait Sources {
     /// A reader of one text.
     type Source: Read + Drop;
 
-    /// The texts that are left, where they are known.
+    /// The texts that are left, if they are known.
     ghost texts: { Self → Option (List (List ℕ)) };
 
-    /// The next text's reader, or `None` at the end. An error, of any kind, tells that it couldn't be opened; what is left then
-    /// is not said.
+    /// The next text's reader, or `None` at the end. An error, of any kind, means that it couldn't be opened; the texts
+    /// that are left are then unspecified.
     fn next_source(&mut self) -> io::Result<Option<Self::Source>>
         ensures { IfOk result (GivesNext Self.Source.remaining (texts self.old) (texts self.new)) };
 }
@@ -62,7 +62,7 @@ impl<'a, A: Allocator> Sources for Texts<'a, A> {
     }
 }
 
-/// Takes in the lines of one text.
+/// Inserts the lines of one text.
 fn add_source<A: Allocator + Clone, B: Allocator, R: Read, W: Watch>(
     sketch: &mut ThetaSketch<A>,
     alloc: B,
@@ -77,10 +77,10 @@ fn add_source<A: Allocator + Clone, B: Allocator, R: Read, W: Watch>(
     add_lines(sketch, key, reader, &mut block, watch)
 }
 
-/// Takes in the lines of all texts, each text's by themselves: a last line without an LF isn't joined to the next text.
+/// Inserts the lines of all texts, each cut into lines by itself: a last line without an LF isn't joined to the next text.
 ///
-/// Refused with `OutOfMemory` alone; a source that failed, or couldn't be opened, tells its error. Then some first part of the
-/// lines is taken in; no clause says so.
+/// Refused only with `OutOfMemory`. If a source fails or can't be opened, its error is returned. After an error some
+/// first part of the lines is inserted; no clause says so.
 pub fn add_sources<A: Allocator + Clone, B: Allocator + Clone + Drop, S: Sources, W: Watch>(
     sketch: &mut ThetaSketch<A>,
     alloc: B,

@@ -1,4 +1,4 @@
-//! Images that are united one after another, and what their union is the image of.
+//! Unions of images, and which lines they are the images of.
 ghost use Rattle.std.specs.Prelude.{◌≡◌, ◌++◌, ◌∷◌, ℕ, List, [], map, true, None, IfOk, IfErr, OnOk, IfSome};
 ghost use Rattle.std.specs.List.{concat};
 ghost use Rattle.lines.specs.Lines.{lines_of_all, AreWhole};
@@ -16,24 +16,25 @@ ghost use Rattle.theta_sketches.specs.Image.{IsReadable};
 ghost use Rattle.core_laws.specs.Settings.{settings_refusal};
 
 use crate::images::{image_of, new_union, read_image};
-use crate::sketching::{Unread, Watch};
-use crate::sources::{Sources, Texts, sketch_sources};
+use crate::sketching::{Unread, Watch, add_text, finished, new_sketch};
+use crate::sources::Sources;
 use lines::Key;
 use sketch_base::Error;
 use std::alloc::{AllocError, Allocator, Global};
 use std::io::Read;
-use std::slice::from_ref;
 use theta_sketches::ThetaUnion;
 use theta_sketches::laws::{one_reading, read_again};
 
-/// Takes in an image. Refused with `InvalidData` for bytes that are no image of a theta sketch of the default seed, and with
-/// `OutOfMemory`.
+/// Adds an image to a union. Refused with `InvalidData` if the bytes aren't an image of a theta sketch of the default
+/// seed, and with `OutOfMemory`.
 fn add_image<A: Allocator + Clone, B: Allocator + Clone + Drop>(
     union: &mut ThetaUnion<A>,
     alloc: B,
     image: &[u8],
 ) -> Result<(), Error>
-    ensures united { (lg_k : ℕ) (images : List (List ℕ)) → HasUnited lg_k images union.old → OnOk result (HasUnited lg_k (images ++ image.now ∷ []) union.new) }
+    ensures united { (lg_k : ℕ) (images : List (List ℕ))
+        → HasUnited lg_k images union.old
+        → OnOk result (HasUnited lg_k (images ++ image.now ∷ []) union.new) }
     ensures refused { IsReady union.old → IfErr result (λ e. IsRefused e (IsReadable image.now (seed_hash DEFAULT_UPDATE_SEED))) }
     ensures ready { IsReady union.old → OnOk result (IsReady union.new) }
 {
@@ -42,13 +43,15 @@ fn add_image<A: Allocator + Clone, B: Allocator + Clone + Drop>(
     Ok(())
 }
 
-/// Takes in the image that a reader has.
+/// Adds the image in a reader to a union.
 fn add_reader<A: Allocator + Clone, B: Allocator + Clone + Drop, R: Read>(
     union: &mut ThetaUnion<A>,
     alloc: B,
     reader: &mut R,
 ) -> Result<(), Unread>
-    ensures united { (lg_k : ℕ) (images : List (List ℕ)) → HasUnited lg_k images union.old → IfSome (R.remaining reader.old) (λ image. OnOk result (HasUnited lg_k (images ++ image ∷ []) union.new)) }
+    ensures united { (lg_k : ℕ) (images : List (List ℕ))
+        → HasUnited lg_k images union.old
+        → IfSome (R.remaining reader.old) (λ image. OnOk result (HasUnited lg_k (images ++ image ∷ []) union.new)) }
     ensures refused { IsReady union.old → IfErr result (IsImageRefusal (R.remaining reader.old)) }
     ensures ready { IsReady union.old → OnOk result (IsReady union.new) }
 {
@@ -60,13 +63,15 @@ fn add_reader<A: Allocator + Clone, B: Allocator + Clone + Drop, R: Read>(
     Ok(())
 }
 
-/// Takes in images one after another.
+/// Adds images one after another to a union.
 fn add_images<A: Allocator + Clone, B: Allocator + Clone + Drop, S: Sources>(
     union: &mut ThetaUnion<A>,
     alloc: B,
     sources: &mut S,
 ) -> Result<(), Unread>
-    ensures united { (lg_k : ℕ) (images : List (List ℕ)) → HasUnited lg_k images union.old → IfSome (S.texts sources.old) (λ more. OnOk result (HasUnited lg_k (images ++ more) union.new)) }
+    ensures united { (lg_k : ℕ) (images : List (List ℕ))
+        → HasUnited lg_k images union.old
+        → IfSome (S.texts sources.old) (λ more. OnOk result (HasUnited lg_k (images ++ more) union.new)) }
     ensures refused { IsReady union.old → IfErr result (IsImagesRefusal (S.texts sources.old)) }
     ensures ready { IsReady union.old → OnOk result (IsReady union.new) }
 {
@@ -82,7 +87,7 @@ fn add_images<A: Allocator + Clone, B: Allocator + Clone + Drop, S: Sources>(
     Err(Unread::Refused(Error::from(AllocError)))
 }
 
-/// The image of what a union has come to, ordered.
+/// The image of the result of a union, ordered.
 fn united_image<A: Allocator + Clone + Drop>(union: &ThetaUnion<A>) -> Result<Vec<u8, A>, Error>
     ensures image { (lg_k : ℕ) (images : List (List ℕ)) → HasUnited lg_k images union.now → IfOk result (λ v. IsUnitedImage lg_k images v.items) }
     ensures refused { IsReady union.now → Refuses result None true }
@@ -91,11 +96,11 @@ fn united_image<A: Allocator + Clone + Drop>(union: &ThetaUnion<A>) -> Result<Ve
     image_of(&sketch)
 }
 
-/// The image of the union of images, each behind a reader of its own.
+/// The image of the union of images, each with its own reader.
 ///
-/// If the images are those of texts that were sketched apart, by one key and with this `lg_k`, it is the image of all their
-/// lines, byte for byte, in whatever order the images are. If each text but the last is empty or ends by an LF, it is the image
-/// of the texts one behind the other too. An image doesn't show the key and the `lg_k` that it was made with.
+/// If the images are those of texts that were sketched apart, by one key and with this `lg_k`, it is the image of all
+/// their lines, byte for byte, in any order of the images. If each text but the last is empty or ends in an LF, it is
+/// also the image of the concatenated texts. An image doesn't show the key and the `lg_k` that it was made with.
 ///
 /// Refused with `InvalidArgument` only for an `lg_k` that isn't from 4 to 26; with `InvalidData` only if some source is
 /// no image of a theta sketch of the default seed; and with `OutOfMemory`. If a source fails, or can't be opened, its
@@ -106,7 +111,11 @@ pub fn unite_images<A: Allocator + Clone + Drop, S: Sources>(
     images: &mut S,
 ) -> Result<Vec<u8, A>, Unread>
     ensures united { IfSome (S.texts images.old) (λ all. IfOk result (λ v. IsUnitedImage lg_k all v.items)) }
-    ensures whole { IfSome (S.texts images.old) (λ all. (key : Key) (texts : List (List ℕ)) → AreWhole texts → all ≡ images_of_texts key lg_k texts → IfOk result (λ v. v.items ≡ image_of_text key lg_k (concat texts))) }
+    ensures whole { IfSome (S.texts images.old) (λ all.
+        (key : Key) (texts : List (List ℕ))
+        → AreWhole texts
+        → all ≡ images_of_texts key lg_k texts
+        → IfOk result (λ v. v.items ≡ image_of_text key lg_k (concat texts))) }
     ensures apart { IfSome (S.texts images.old) (λ all. IfOk result (λ v. UnitesTexts lg_k all v.items)) }
     ensures accepted { OnOk result (settings_refusal lg_k MAX_THETA DEFAULT_UPDATE_SEED ≡ None) }
     ensures refused { IfErr result (IsUniteRefusal (settings_refusal lg_k MAX_THETA DEFAULT_UPDATE_SEED) (S.texts images.old)) }
@@ -123,38 +132,42 @@ fn image_of_text<W: Watch>(
     alloc: Global,
     key: Key,
     lg_k: u8,
-    text: &Vec<u8>,
+    text: &[u8],
     watch: &mut W,
-) -> Result<Vec<u8>, Unread>
-    ensures image { IfOk result (λ v. v.items ≡ image_of_text key lg_k text.now.items) }
+) -> Result<Vec<u8>, Error>
+    ensures image { IfOk result (λ v. v.items ≡ image_of_text key lg_k text.now) }
+    ensures refused { Refuses result (settings_refusal lg_k MAX_THETA DEFAULT_UPDATE_SEED) true }
 {
-    let mut sources = Texts::new(from_ref(text));
-    let sketch = sketch_sources(alloc, key, lg_k, &mut sources, watch)?;
-    Ok(image_of(&sketch)?)
+    let mut sketch = new_sketch(alloc, lg_k)?;
+    add_text(&mut sketch, key, text, watch)?;
+    let compact = finished(&mut sketch)?;
+    image_of(&compact)
 }
 
-/// The image of all lines of texts in memory, each text cut into lines by itself: each is sketched apart, and their images are
-/// united. It depends on no order of the texts or of their lines, and on no repeats.
+/// The image of all lines of texts in memory, each text cut into lines by itself: each is sketched apart, and their
+/// images are united. The result doesn't depend on the order of the texts or of their lines, or on repeats.
 ///
-/// `lg_k` is from 4 to 26. An error is that it isn't, or that memory was refused; no clause says so.
+/// Refused with `InvalidArgument` for an `lg_k` that isn't from 4 to 26, and else only with `OutOfMemory`.
 pub fn image_of_texts<W: Watch>(
     alloc: Global,
     key: Key,
     lg_k: u8,
     texts: &[Vec<u8>],
     watch: &mut W,
-) -> Result<Vec<u8>, Unread>
-    ensures image { (lines : List (List ℕ)) → HaveSameLines (lines_of_all (map (λ text. text.items) texts.now)) lines → IfOk result (λ v. v.items ≡ image_of_lines key lg_k lines) }
+) -> Result<Vec<u8>, Error>
+    ensures image { (lines : List (List ℕ))
+        → HaveSameLines (lines_of_all (map (λ text. text.items) texts.now)) lines
+        → IfOk result (λ v. v.items ≡ image_of_lines key lg_k lines) }
+    ensures refused { Refuses result (settings_refusal lg_k MAX_THETA DEFAULT_UPDATE_SEED) true }
 {
-    let mut images = Vec::new(alloc);
+    one_reading();
+    read_again();
+    let mut union = new_union(alloc, lg_k)?;
     let mut left = texts;
     while let Some((text, others)) = left.split_first() {
-        let image = image_of_text(alloc, key, lg_k, text, watch)?;
-        if let Err(error) = images.push(image) {
-            return Err(Unread::from(AllocError::from(error)));
-        }
+        let image = image_of_text(alloc, key, lg_k, text.as_slice(), watch)?;
+        add_image(&mut union, alloc, image.as_slice())?;
         left = others;
     }
-    let mut sources = Texts::new(images.as_slice());
-    unite_images(alloc, lg_k, &mut sources)
+    united_image(&union)
 }

@@ -1,4 +1,4 @@
--- A byte that is sought in lanes.
+-- Searching for a byte in lanes.
 use Rattle.std.proofs.Common.{◌≡◌, ℕ, ◌+◌, ◌-◌, ◌<◌, ◌≤◌, eqb, List, ◌++◌, ◌∷◌, length, get_or, take, drop, get_or-take, length-take-le, inl, inr, sym, ◌∙◌, arith}
 use Rattle.std.specs.Prelude.{not, ◌==◌}
 use Rattle.std.specs.List.{prefix_len}

@@ -1,4 +1,4 @@
--- Fields of a line that comes in pieces.
+-- Fields of a line that is read in pieces.
 use Rattle.std.proofs.Common.{◌≡◌, ℕ, zero, suc, ◌+◌, ◌-◌, eqb, cond, Bool, true, false, List, [], ◌∷◌, ◌++◌, length, get_or, refl, sym, ap, ◌∙◌, arith, inl, inr}
 use Rattle.std.specs.Prelude.{min, ◌⊎◌}
 use Rattle.std.specs.List.{onto_first}
@@ -45,7 +45,7 @@ lacks-rest c b bs h i lt = h (suc i) (omega arith)
 first_not : (c b : ℕ) (bs : List ℕ) → Lacks c (b ∷ bs) → eqb b c ≡ false
 first_not c b bs h = ne_eqb b c (h 0 (omega arith))
 
--- fields before what comes first
+-- at least one field
 data Nonempty : List (List ℕ) → Type 0 where
   some : (f : List ℕ) (fs : List (List ℕ)) → Nonempty (f ∷ fs)
 

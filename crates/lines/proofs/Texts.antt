@@ -1,4 +1,4 @@
--- Lines of texts that come in pieces.
+-- Lines of texts that are read in pieces.
 use Rattle.std.proofs.Common.{◌≡◌, ℕ, suc, true, false, cond, eqb, List, [], ◌∷◌, ◌++◌, length, refl, sym, ap, ◌∙◌, arith, append_assoc, append-nil}
 use Rattle.std.specs.List.{onto_first}
 use Rattle.std.proofs.lemmas.Bool.{ne_eqb}
@@ -16,7 +16,7 @@ lines_after-line front [] rest h = ap (λ l. l ∷ lines_after [] rest) (sym (ap
 lines_after-line front (b ∷ bs) rest h =
     rw (first_not b bs h) (lines_after-line (front ++ b ∷ []) bs rest (lacks-rest b bs h) ∙ ap (λ l. l ∷ lines_after [] rest) (append_assoc front (b ∷ []) bs))
 
--- a line goes on
+-- a line continues
 pub lines_after-lacking : (front text more : List ℕ) → Lacks 10 text → lines_after front (text ++ more) ≡ lines_after (front ++ text) more
 lines_after-lacking front [] more h = ap (λ l. lines_after l more) (sym (append-nil front))
 lines_after-lacking front (b ∷ bs) more h =

@@ -8,7 +8,7 @@ use Rattle.lines.specs.declared.key.Key.TheVariants.{Line, Field}
 use Rattle.lines.specs.declared.open_key.OpenKey.{OpenKey}
 use Rattle.lines.specs.declared.open_line.OpenLine.{OpenLine}
 
--- how many separators of a line are counted: no further than one more than stand before the key's field
+-- the number of separators of a line, counted up to one more than those before the key's field
 abbrev pub passed_of : Key → List ℕ → ℕ
 passed_of Line line = 0
 passed_of (Field before separator) line = min (length (fields_of separator line) - 1) (before + 1)

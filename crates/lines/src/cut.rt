@@ -1,4 +1,4 @@
-//! Texts cut at the first byte of a kind.
+//! Texts cut at the first byte of some value.
 ghost use Rattle.std.specs.Prelude.{◌≡◌, ◌+◌, ◌≤◌, ◌++◌, ◌∷◌, ◌==◌, not, length, map, IfNone, IfSome};
 ghost use Rattle.std.specs.List.{prefix_len};
 ghost use Rattle.std.specs.Simd.Lanes.{chunk, mask_l};
@@ -7,10 +7,10 @@ ghost use Rattle.lines.specs.declared.cut.TheConstants.{LANES};
 
 use std::simd::prelude::*;
 
-/// How many bytes are looked at together.
+/// How many bytes are compared at once.
 const LANES: usize = 32;
 
-/// Bit k tells whether the k-th of the next `LANES` bytes is `byte`.
+/// Bit k is 1 if byte k of the next `LANES` bytes, from 0, is `byte`.
 #[inline(always)]
 fn marks_of(text: &[u8], from: usize, byte: u8) -> u64
     requires { from + LANES ≤ length text.now }
@@ -21,7 +21,7 @@ fn marks_of(text: &[u8], from: usize, byte: u8) -> u64
         .to_bitmask()
 }
 
-/// How many of the next `LANES` bytes stand before the first that is `byte`: all of them where none is.
+/// How many of the next `LANES` bytes come before the first that is `byte`; `LANES` if none is.
 #[inline(always)]
 fn first_of_lanes(text: &[u8], from: usize, byte: u8) -> usize
     requires { from + LANES ≤ length text.now }
@@ -35,7 +35,7 @@ fn first_of_lanes(text: &[u8], from: usize, byte: u8) -> usize
     }
 }
 
-/// What stands before the first `byte` of a text, and what stands after it; `None` where the text has no such byte.
+/// The parts of a text before and after its first `byte`; `None` if the text doesn't have that byte.
 #[inline(always)]
 pub fn cut_at(text: &[u8], byte: u8) -> Option<(&[u8], &[u8])>
     ensures none { IfNone result (Lacks byte text.now) }
@@ -58,8 +58,7 @@ pub fn cut_at(text: &[u8], byte: u8) -> Option<(&[u8], &[u8])>
     None
 }
 
-/// What stands before the first LF of a text, which is its first line, and what stands after it; `None` where the text has
-/// no LF.
+/// The first line of a text, without the LF that ends it, and the text after that LF; `None` if the text has no LF.
 #[inline(always)]
 pub fn cut_line(text: &[u8]) -> Option<(&[u8], &[u8])>
     ensures none { IfNone result (Lacks 10 text.now) }

@@ -1,8 +1,8 @@
-//! What of a line is its key.
+//! Keys of lines.
 ghost use Rattle.std.specs.Prelude.{◌≡◌, ◌-◌, ◌<◌};
 ghost use Rattle.lines.specs.declared.key.Key.TheVariants.{Field};
 
-/// What of a line is its key.
+/// Which part of a line is its key.
 ///
 /// ```
 /// let user = Key::field(2, b'\t');
@@ -11,8 +11,8 @@ ghost use Rattle.lines.specs.declared.key.Key.TheVariants.{Field};
 pub enum Key {
     /// The whole line.
     Line,
-    /// The field that has this many fields before it, between separators of this byte. A line without the separator is its
-    /// own key, and a line of fewer fields has the key of no bytes, as `cut -f` writes them.
+    /// The field after this many others, where this byte separates fields. A line without the separator is its own key,
+    /// and the key of a line with fewer fields is empty, as `cut -f` writes them.
     Field(u32, u8),
 }
 

@@ -1,7 +1,7 @@
-//! The lines of a text, the fields of a line, and the hash of what of a line is its key.
+//! The lines of a text, the fields of a line, and the hash of a line's key.
 //!
-//! A text may come in blocks that end anywhere: `OpenLine` is a line that has begun. Of a line over several blocks no byte
-//! is kept, only what the hash needs.
+//! A text may be read in blocks that end anywhere: `OpenLine` is a line that has begun. It keeps no byte of the line,
+//! only the state of the hash.
 #![tactic(auto)]
 
 mod cut;

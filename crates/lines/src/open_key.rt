@@ -13,8 +13,8 @@ use crate::key::Key;
 use sketch_base::{DEFAULT_UPDATE_SEED, MurmurHash3X64128};
 use std::hash::Hasher;
 
-/// The hasher of a line's key so far, and how many separators were passed: no further than one more than stand before the
-/// key's field.
+/// The hasher of a line's key so far, and the number of separators so far. It is counted up to one more than the
+/// separators before the key's field.
 #[derive(Clone, Copy)]
 pub(crate) struct OpenKey {
     hasher: MurmurHash3X64128,
@@ -22,7 +22,7 @@ pub(crate) struct OpenKey {
 }
 
 impl OpenKey {
-    /// That of a line of no bytes yet.
+    /// The state for a line without bytes yet.
     pub(crate) fn new() -> OpenKey
         ensures line { IsOpenKey Line [] result }
         ensures field { (before separator : ℕ) → IsOpenKey (Field before separator) [] result }
@@ -33,20 +33,25 @@ impl OpenKey {
         }
     }
 
-    /// Takes in bytes of one field: they belong to the key where no separator was passed yet, or as many as stand before the
-    /// key's field.
+    /// Adds bytes of one field. They belong to the key if there was no separator yet, or as many as there are before
+    /// the key's field.
     fn put(&mut self, before: u32, separator: u8, piece: &[u8])
         requires { Lacks separator piece.now }
-        ensures { (front : List ℕ) → IsOpenKey (Field before separator) front self.old → IsOpenKey (Field before separator) (front ++ piece.now) self.new }
+        ensures { (front : List ℕ)
+            → IsOpenKey (Field before separator) front self.old
+            → IsOpenKey (Field before separator) (front ++ piece.now) self.new }
     {
         if self.passed == 0 || self.passed == before as u64 {
             self.hasher.write(piece);
         }
     }
 
-    /// Forgets what stands before the first separator, where it is neither the only field nor the key's.
+    /// Forgets the first field at the first separator, if the key is another field.
     fn forget(&mut self, before: u32, separator: u8)
-        ensures hashed { (front : List ℕ) → IsOpenKey (Field before separator) front self.old → HasWritten DEFAULT_UPDATE_SEED (key_of (Field before separator) (front ++ separator ∷ [])) self.new.hasher }
+        ensures hashed { (front : List ℕ)
+            → IsOpenKey (Field before separator) front self.old
+            → HasWritten DEFAULT_UPDATE_SEED (key_of (Field before separator) (front ++ separator ∷ []))
+            self.new.hasher }
         ensures passed { self.new.passed ≡ self.old.passed }
     {
         if self.passed == 0 && before != 0 {
@@ -54,9 +59,11 @@ impl OpenKey {
         }
     }
 
-    /// Takes in a separator.
+    /// Adds a separator.
     fn pass(&mut self, before: u32, separator: u8)
-        ensures { (front : List ℕ) → IsOpenKey (Field before separator) front self.old → IsOpenKey (Field before separator) (front ++ separator ∷ []) self.new }
+        ensures { (front : List ℕ)
+            → IsOpenKey (Field before separator) front self.old
+            → IsOpenKey (Field before separator) (front ++ separator ∷ []) self.new }
     {
         self.forget(before, separator);
         if self.passed <= before as u64 {
@@ -64,9 +71,11 @@ impl OpenKey {
         }
     }
 
-    /// Takes in bytes of a line whose key is a field.
+    /// Adds bytes of a line whose key is a field.
     fn extend_field(&mut self, before: u32, separator: u8, bytes: &[u8])
-        ensures { (front : List ℕ) → IsOpenKey (Field before separator) front self.old → IsOpenKey (Field before separator) (front ++ bytes.now) self.new }
+        ensures { (front : List ℕ)
+            → IsOpenKey (Field before separator) front self.old
+            → IsOpenKey (Field before separator) (front ++ bytes.now) self.new }
     {
         let mut rest = bytes;
         while let Some((piece, others)) = cut_at(rest, separator) {
@@ -77,7 +86,7 @@ impl OpenKey {
         self.put(before, separator, rest);
     }
 
-    /// Takes in bytes of a line.
+    /// Adds bytes of a line.
     #[inline(always)]
     pub(crate) fn extend(&mut self, key: Key, bytes: &[u8])
         ensures { (front : List ℕ) → IsOpenKey key front self.old → IsOpenKey key (front ++ bytes.now) self.new }

@@ -7,7 +7,7 @@ ghost use Rattle.lines.specs.declared.key.Key.{Key};
 use crate::key::Key;
 use crate::open_key::OpenKey;
 
-/// A line that has begun: what its key's hash needs, and no byte.
+/// A line that has begun. It keeps the state of its key's hash, and no byte.
 ///
 /// ```
 /// let mut line = OpenLine::new(Key::Line);
@@ -23,7 +23,7 @@ pub struct OpenLine {
 }
 
 impl OpenLine {
-    /// A line of no bytes yet, whose key is this part of it.
+    /// A line without bytes yet, with this part of it as its key.
     pub fn new(key: Key) -> OpenLine
         ensures { IsOpen key [] result }
     {
@@ -34,7 +34,7 @@ impl OpenLine {
         }
     }
 
-    /// Puts bytes, none of them LF, at its end.
+    /// Appends bytes, none of which is an LF.
     pub fn extend(&mut self, bytes: &[u8])
         ensures { (key : Key) (front : List ℕ) → IsOpen key front self.old → IsOpen key (front ++ bytes.now) self.new }
     {

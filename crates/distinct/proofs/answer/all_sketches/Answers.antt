@@ -5,7 +5,7 @@ use Rattle.sketch_base.specs.declared.seed.TheConstants.{DEFAULT_UPDATE_SEED}
 use Rattle.core_compact.specs.CompactState.{Compact}
 use Rattle.line_sketches.specs.Shards.{AreRead}
 use Rattle.line_sketches.specs.Sources.{Continues}
-use Rattle.distinct.specs.Images.{images_left, open_text}
+use Rattle.distinct.specs.Images.{remaining_images}
 use Rattle.distinct.specs.Seeds.{AreSeeded}
 use Rattle.distinct.proofs.NextImages.{reads_more}
 use Rattle.distinct.proofs.OnlyMemory.{seeded-more}
@@ -13,9 +13,9 @@ use Rattle.distinct.proofs.answer.all_sketches.Goals as goal
 
 pub loop-preserved : goal.loop-preserved
 loop-preserved g c =
-    let old = images_left c.args.images.now.hex (open_text g.S.Source.Read.remaining c.args.images.now.«open») c.args.images.now.line (g.S.Sources.texts c.args.images.now.inputs.sources) in
-    let now = images_left c.loop.images.hex (open_text g.S.Source.Read.remaining c.loop.images.«open») c.loop.images.line (g.S.Sources.texts c.loop.images.inputs.sources) in
-    let new = images_left c.next_sketch.new.images.hex (open_text g.S.Source.Read.remaining c.next_sketch.new.images.«open») c.next_sketch.new.images.line (g.S.Sources.texts c.next_sketch.new.images.inputs.sources) in
+    let old = remaining_images g.S.Source.Read.remaining g.S.Sources.texts c.args.images.now in
+    let now = remaining_images g.S.Source.Read.remaining g.S.Sources.texts c.loop.images in
+    let new = remaining_images g.S.Source.Read.remaining g.S.Sources.texts c.next_sketch.new.images in
     let seed : c.in-Some.sketch.seed_hash ≡ seed_hash DEFAULT_UPDATE_SEED = subst (λ (o : Option (Compact ℕ)). IfSome o (λ s. s.seed_hash ≡ seed_hash DEFAULT_UPDATE_SEED)) c.in-Some.is c.in_ok-sketch.ensures.seeded in
     record {
       seeded = subst AreSeeded (sym c.in_ok-push-in-Some.ensures.items) (seeded-more c.loop.sketches.items c.in-Some.sketch c.loop.invariant.seeded seed);

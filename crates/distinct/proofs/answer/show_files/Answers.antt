@@ -1,16 +1,16 @@
 use Rattle.std.specs.Prelude.{map, length, string_bytes}
 use Rattle.std.proofs.Common.{◌≡◌, ℕ, List, ◌++◌, sym, ap, subst, ◌∙◌, arith}
 use Rattle.distinct.specs.Failures.{called}
-use Rattle.distinct.specs.Images.{images_left, open_text}
+use Rattle.distinct.specs.Images.{remaining_images}
 use Rattle.distinct.specs.Numbers.{shown_line}
 use Rattle.distinct.proofs.NextImages.{ShowsOn, shows_more, shows_all, shows_named, none_read, nothing_named}
 use Rattle.distinct.proofs.answer.show_files.Goals as goal
 
 pub loop-file-preserved : goal.loop-file-preserved
 loop-file-preserved g c =
-    let old = images_left c.args.images.now.hex (open_text g.S.Source.Read.remaining c.args.images.now.«open») c.args.images.now.line (g.S.Sources.texts c.args.images.now.inputs.sources) in
-    let now = images_left c.loop-file.images.hex (open_text g.S.Source.Read.remaining c.loop-file.images.«open») c.loop-file.images.line (g.S.Sources.texts c.loop-file.images.inputs.sources) in
-    let new = images_left c.next_sketch.new.images.hex (open_text g.S.Source.Read.remaining c.next_sketch.new.images.«open») c.next_sketch.new.images.line (g.S.Sources.texts c.next_sketch.new.images.inputs.sources) in
+    let old = remaining_images g.S.Source.Read.remaining g.S.Sources.texts c.args.images.now in
+    let now = remaining_images g.S.Source.Read.remaining g.S.Sources.texts c.loop-file.images in
+    let new = remaining_images g.S.Source.Read.remaining g.S.Sources.texts c.next_sketch.new.images in
     let names = map (λ name. string_bytes name) c.args.files.now in
     let left = map (λ name. string_bytes name) c.loop-file.left.now in
     let others = map (λ name. string_bytes name) c.in-Some.others.now in
@@ -23,14 +23,14 @@ loop-file-preserved g c =
 
 pub returns-in_default-2-clause-shown : goal.returns-in_default-2-clause-shown
 returns-in_default-2-clause-shown g c =
-    let old = images_left c.args.images.now.hex (open_text g.S.Source.Read.remaining c.args.images.now.«open») c.args.images.now.line (g.S.Sources.texts c.args.images.now.inputs.sources) in
-    let now = images_left c.loop-file.images.hex (open_text g.S.Source.Read.remaining c.loop-file.images.«open») c.loop-file.images.line (g.S.Sources.texts c.loop-file.images.inputs.sources) in
-    let new = images_left c.next_sketch.new.images.hex (open_text g.S.Source.Read.remaining c.next_sketch.new.images.«open») c.next_sketch.new.images.line (g.S.Sources.texts c.next_sketch.new.images.inputs.sources) in
+    let old = remaining_images g.S.Source.Read.remaining g.S.Sources.texts c.args.images.now in
+    let now = remaining_images g.S.Source.Read.remaining g.S.Sources.texts c.loop-file.images in
+    let new = remaining_images g.S.Source.Read.remaining g.S.Sources.texts c.next_sketch.new.images in
     shows_all old (map (λ name. string_bytes name) c.args.files.now) c.loop-file.shown.items now (map (λ name. string_bytes name) c.loop-file.left.now) _ new c.loop-file.invariant c.in_ok-sketch.ensures.reads (none_read _ c.in_default-2.not-Some)
 
 pub returns-clause-shown : goal.returns-clause-shown
 returns-clause-shown g c =
-    let old = images_left c.args.images.now.hex (open_text g.S.Source.Read.remaining c.args.images.now.«open») c.args.images.now.line (g.S.Sources.texts c.args.images.now.inputs.sources) in
-    let now = images_left c.loop-file.images.hex (open_text g.S.Source.Read.remaining c.loop-file.images.«open») c.loop-file.images.line (g.S.Sources.texts c.loop-file.images.inputs.sources) in
+    let old = remaining_images g.S.Source.Read.remaining g.S.Sources.texts c.args.images.now in
+    let now = remaining_images g.S.Source.Read.remaining g.S.Sources.texts c.loop-file.images in
     let none : length c.loop-file.left.now ≡ 0 = grind (arith, c.in_default.ensures.cases, c.in_default.ensures.variant, c.in_default.not-Some) in
     shows_named old (map (λ name. string_bytes name) c.args.files.now) c.loop-file.shown.items now (map (λ name. string_bytes name) c.loop-file.left.now) c.loop-file.invariant (nothing_named (λ name. string_bytes name) c.loop-file.left.now none)

@@ -1,19 +1,19 @@
 use Rattle.std.proofs.Common.{◌≡◌, ℕ, List, ◌++◌, sym, ap, subst, ◌∙◌}
-use Rattle.distinct.specs.Images.{images_left, open_text}
+use Rattle.distinct.specs.Images.{remaining_images}
 use Rattle.distinct.specs.Numbers.{shown_line}
 use Rattle.distinct.proofs.NextImages.{ShowMore, show_itself, line_more, lines_all, none_read}
 use Rattle.distinct.proofs.answer.show_lines.Goals as goal
 
 pub loop-init : goal.loop-init
 loop-init g c =
-    let old = images_left c.args.images.now.hex (open_text g.S.Source.Read.remaining c.args.images.now.«open») c.args.images.now.line (g.S.Sources.texts c.args.images.now.inputs.sources) in
+    let old = remaining_images g.S.Source.Read.remaining g.S.Sources.texts c.args.images.now in
     subst (λ (items : List ℕ). ShowMore old items old) (sym c.new-shown.ensures.items) (show_itself old)
 
 pub loop-preserved : goal.loop-preserved
 loop-preserved g c =
-    let old = images_left c.args.images.now.hex (open_text g.S.Source.Read.remaining c.args.images.now.«open») c.args.images.now.line (g.S.Sources.texts c.args.images.now.inputs.sources) in
-    let now = images_left c.loop.images.hex (open_text g.S.Source.Read.remaining c.loop.images.«open») c.loop.images.line (g.S.Sources.texts c.loop.images.inputs.sources) in
-    let new = images_left c.next_sketch.new.images.hex (open_text g.S.Source.Read.remaining c.next_sketch.new.images.«open») c.next_sketch.new.images.line (g.S.Sources.texts c.next_sketch.new.images.inputs.sources) in
+    let old = remaining_images g.S.Source.Read.remaining g.S.Sources.texts c.args.images.now in
+    let now = remaining_images g.S.Source.Read.remaining g.S.Sources.texts c.loop.images in
+    let new = remaining_images g.S.Source.Read.remaining g.S.Sources.texts c.next_sketch.new.images in
     let shown = c.loop.shown.items in
     let name = c.name.result.now in
     let line : c.extend_from_slice.new.self.items ≡ shown ++ shown_line name c.in-Some.sketch =
@@ -23,7 +23,7 @@ loop-preserved g c =
 
 pub returns-in_default-clause-shown : goal.returns-in_default-clause-shown
 returns-in_default-clause-shown g c =
-    let old = images_left c.args.images.now.hex (open_text g.S.Source.Read.remaining c.args.images.now.«open») c.args.images.now.line (g.S.Sources.texts c.args.images.now.inputs.sources) in
-    let now = images_left c.loop.images.hex (open_text g.S.Source.Read.remaining c.loop.images.«open») c.loop.images.line (g.S.Sources.texts c.loop.images.inputs.sources) in
-    let new = images_left c.next_sketch.new.images.hex (open_text g.S.Source.Read.remaining c.next_sketch.new.images.«open») c.next_sketch.new.images.line (g.S.Sources.texts c.next_sketch.new.images.inputs.sources) in
+    let old = remaining_images g.S.Source.Read.remaining g.S.Sources.texts c.args.images.now in
+    let now = remaining_images g.S.Source.Read.remaining g.S.Sources.texts c.loop.images in
+    let new = remaining_images g.S.Source.Read.remaining g.S.Sources.texts c.next_sketch.new.images in
     lines_all old c.loop.shown.items now _ new c.loop.invariant c.in_ok-sketch.ensures.reads (none_read _ c.in_default.not-Some)

@@ -3,7 +3,7 @@ use Rattle.line_sketches.specs.Hex.{bytes_of_hex}
 use Rattle.line_sketches.proofs.Digits.{so_far}
 use Rattle.line_sketches.proofs.hex.read_hex.Given as goal
 
--- the bytes so far stand before those of the rest
+-- the bytes so far, followed by those of the rest, are all bytes
 abbrev pub invariant-loop-high : goal.invariant-loop-high
 invariant-loop-high g l = bytes_of_hex l.text ≡ so_far l.bytes.items (bytes_of_hex l.rest)
 

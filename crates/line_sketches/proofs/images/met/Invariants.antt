@@ -3,7 +3,7 @@ use Rattle.line_sketches.specs.Meeting.{met_of, meet_refusal}
 use Rattle.line_sketches.specs.Shards.{values_of_sketches}
 use Rattle.line_sketches.proofs.images.met.Given as goal
 
--- the intersection has come to what the sketches so far share, and its seed stays; what is refused of all is what is refused of those that are left
+-- the result is the intersection of the sketches so far, and the seed is unchanged; the refusal of all sketches is that of those that are left
 abbrev pub invariant-loop-sketch : goal.invariant-loop-sketch
 invariant-loop-sketch g l = record {
   value : l.intersection.result ≡ met_of (values_of_sketches (take l.sketch-index l.sketches));

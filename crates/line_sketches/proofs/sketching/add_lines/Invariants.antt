@@ -5,6 +5,6 @@ use Rattle.lines.specs.Open.{IsOpen}
 use Rattle.line_sketches.specs.Taking.{Takes}
 use Rattle.line_sketches.proofs.sketching.add_lines.Given as goal
 
--- what was read so far stood at the front, and was taken in but for an open line
+-- the bytes read so far are the front of the text, and their lines are inserted but for an open line
 abbrev pub invariant-loop : goal.invariant-loop
 invariant-loop g l = (read : List ℕ) × (front : List ℕ) × Consumes (g.R.Read.remaining l.fn.reader) (g.R.Read.remaining l.reader) read × IsOpen l.key front l.last × Takes l.key (held l.fn.sketch) [] read (held l.sketch) front

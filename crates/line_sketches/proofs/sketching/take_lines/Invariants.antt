@@ -3,7 +3,7 @@ use Rattle.line_sketches.specs.Keys.{held}
 use Rattle.line_sketches.specs.Taking.{Leaves}
 use Rattle.line_sketches.proofs.sketching.take_lines.Given as goal
 
--- what was taken in of the text leaves the rest
+-- the lines so far are inserted, and the rest is left
 abbrev pub invariant-take_some : goal.invariant-take_some
 invariant-take_some g l = Leaves l.key (held l.fn.sketch) l.text (held l.sketch) l.rest
 

@@ -2,6 +2,6 @@ use Rattle.line_sketches.specs.Keys.{held}
 use Rattle.line_sketches.specs.Sources.{LeadsTo}
 use Rattle.line_sketches.proofs.sources.add_sources.Given as goal
 
--- what is left leads from what is held now to where all texts lead from what was held
+-- inserting the texts that are left now gives the same as inserting all texts into the old sketch
 abbrev pub invariant-loop : goal.invariant-loop
 invariant-loop g l = LeadsTo l.key (g.S.Sources.texts l.fn.sources) (held l.fn.sketch) (g.S.Sources.texts l.sources) (held l.sketch)

@@ -41,6 +41,6 @@ returns-in_err-add_reader-in-Ok-Some-clause-refused g c = λ ready.
     let image = g.S.Source.Read.remaining c.in-Ok-Some.source in
     let result = c.from_residual-in_err-add_reader-in-Ok-Some.result in
     let p = err_from_is_err_and result c.from_residual-in_err-add_reader-in-Ok-Some.ensures.1 in
-    let told = c.in_err-add_reader-in-Ok-Some.ensures.refused (c.loop.invariant.ready ready) in
+    let refused = c.in_err-add_reader-in-Ok-Some.ensures.refused (c.loop.invariant.ready ready) in
     let step = faulty_next g.S.Source.Read.remaining texts (g.S.Sources.texts c.loop.sources) (g.S.Sources.texts c.next_source.new.self) c.in-Ok-Some.field-0 c.in-Ok-Some.source c.loop.invariant.parted c.in-Ok-Some.ensures c.in-Ok-Some.field-0-is in
-    subst (λ r. IfErr r (IsImagesRefusal texts)) (sym p.1) (subst (IsImagesRefusal texts) (sym p.2) (images_refused image texts c.in_err-add_reader-in-Ok-Some.field-0.0 step told))
+    subst (λ r. IfErr r (IsImagesRefusal texts)) (sym p.1) (subst (IsImagesRefusal texts) (sym p.2) (images_refused image texts c.in_err-add_reader-in-Ok-Some.field-0.0 step refused))

@@ -3,7 +3,7 @@ use Rattle.line_sketches.specs.Sources.{Continues}
 use Rattle.line_sketches.specs.Unions.{HasUnited, IsReady}
 use Rattle.line_sketches.proofs.uniting.add_images.Given as goal
 
--- the images that were taken so far are united behind those that were before, and the union may take in more
+-- the images so far are united with those before the call, and the union is ready for more
 abbrev pub invariant-loop : goal.invariant-loop
 invariant-loop g l = record {
   united : (lg_k : ℕ) (images : List (List ℕ)) → HasUnited lg_k images l.fn.union → Continues (g.S.Sources.texts l.fn.sources) (g.S.Sources.texts l.sources) (λ taken. HasUnited lg_k (images ++ taken) l.union);

@@ -1,15 +1,39 @@
-use Rattle.std.proofs.Common.{◌≡◌, ℕ, Vec, Global, Result, Ok, Err, ◌∙◌, arith}
+use Rattle.std.proofs.Common.{◌≡◌, ◌∷◌, ◌++◌, [], ℕ, Vec, Global, Option, Result, Ok, Err, refl, ap, sym, subst, ◌∙◌, arith}
 use Rattle.std.specs.Prelude.{length, map, IfOk}
+use Rattle.std.proofs.lemmas.Result.{err_from_is_err_and}
+use Rattle.sketch_base.specs.declared.seed.TheConstants.{DEFAULT_UPDATE_SEED}
+use Rattle.core_laws.specs.Refusal.{Refuses}
+use Rattle.core_laws.specs.declared.TheConstants.{MAX_THETA}
+use Rattle.core_laws.specs.Settings.{settings_refusal}
 use Rattle.line_sketches.specs.Keys.{image_of_lines}
 use Rattle.line_sketches.specs.Shards.{images_of_texts}
-use Rattle.line_sketches.specs.Unions.{UnitesTexts}
-use Rattle.line_sketches.proofs.Compacts.{text_more, texts_made}
+use Rattle.line_sketches.specs.Unions.{IsUnitedImage}
+use Rattle.line_sketches.proofs.Compacts.{text_more, texts_made, united_apart}
+use Rattle.line_sketches.proofs.DefaultSeed.{refuses_memory}
+use Rattle.line_sketches.proofs.Refused.{text_refused}
+use Rattle.line_sketches.proofs.Unions.{nothing_united, size_small}
 use Rattle.line_sketches.proofs.uniting.image_of_texts.Goals as goal
+
+pub loop-text-init : goal.loop-text-init
+loop-text-init g c = record {
+  united = ([], refl, nothing_united c.args.lg_k c.in_ok-union.union c.in_ok-union.ensures.made);
+  ready = record { sound = ap (λ u. u.failed) c.in_ok-union.ensures.made; seeded = ap (λ u. u.seed_hash) c.in_ok-union.ensures.made };
+}
 
 pub loop-text-preserved : goal.loop-text-preserved
 loop-text-preserved g c =
-    text_more (λ (v : Vec ℕ Global). v.items) c.args.key c.args.lg_k c.loop-text.images.items c.push.new.self.items c.in_ok-image.image c.in-Some.text.now c.loop-text.left.now c.in-Some.others.now
-    (images_of_texts c.args.key c.args.lg_k (map (λ (v : Vec ℕ Global). v.items) c.args.texts.now)) c.loop-text.invariant c.in-Some.ensures.cases.0 c.in_ok-image.ensures.image c.in_default-push.ensures.items
+    let items : Vec ℕ Global → _ = λ (v : Vec ℕ Global). v.items in
+    let inv = c.loop-text.invariant.united in
+    let image = c.as_slice-image.result.now in
+    record {
+      united = (
+        inv.0 ++ image ∷ [],
+        text_more (λ (v : Vec ℕ Global). v.items) c.args.key c.args.lg_k inv.0 image c.in-Some.text.now c.loop-text.left.now c.in-Some.others.now
+            (images_of_texts c.args.key c.args.lg_k (map (λ (v : Vec ℕ Global). v.items) c.args.texts.now)) inv.1 c.in-Some.ensures.cases.0 ?,
+        c.in_ok-add_image.ensures.united c.args.lg_k inv.0 inv.2,
+      );
+      ready = c.in_ok-add_image.ensures.ready c.loop-text.invariant.ready;
+    }
 
 if_ok : {V E : Type 0} (r : Result V E) (P Q : V → Type 0) → IfOk r P → ((v : V) → P v → Q v) → IfOk r Q
 if_ok (Ok v) P Q holds then = then v holds
@@ -19,8 +43,10 @@ pub returns : goal.returns
 returns g c = record {
   image = λ lines same.
       let none : length c.loop-text.left.now ≡ 0 = grind (arith, c.in_default.ensures.cases, c.in_default.ensures.variant, c.in_default.not-Some) in
-      let all = images_of_texts c.args.key c.args.lg_k (map (λ (v : Vec ℕ Global). v.items) c.args.texts.now) in
-      let are = texts_made (λ (v : Vec ℕ Global). v.items) c.args.key c.args.lg_k c.loop-text.images.items c.loop-text.left.now c.new-sources.result.left.now all c.loop-text.invariant none (c.new-sources.ensures ∙ c.as_slice.ensures.value) in
-      if_ok c.unite_images.result (λ v. UnitesTexts c.args.lg_k (map (λ (w : Vec ℕ Global). w.items) c.new-sources.result.left.now) v.items) (λ v. v.items ≡ image_of_lines c.args.key c.args.lg_k lines) c.unite_images.ensures.apart
-      (λ v unites. unites c.args.key (map (λ (w : Vec ℕ Global). w.items) c.args.texts.now) lines are same);
+      let texts = map (λ (v : Vec ℕ Global). v.items) c.args.texts.now in
+      let inv = c.loop-text.invariant.united in
+      let are = texts_made (λ (v : Vec ℕ Global). v.items) c.args.key c.args.lg_k inv.0 c.loop-text.left.now (images_of_texts c.args.key c.args.lg_k texts) inv.1 none in
+      if_ok c.united_image.result (λ v. IsUnitedImage c.args.lg_k inv.0 v.items) (λ v. v.items ≡ image_of_lines c.args.key c.args.lg_k lines) (c.united_image.ensures.image c.args.lg_k inv.0 inv.2)
+      (λ v image. united_apart c.one_reading.ensures c.read_again.ensures c.args.key c.args.lg_k (size_small c.args.lg_k c.in_ok-union.ensures.refused) texts lines inv.0 v.items same are image);
+  refused = subst (λ (o : Option _). Refuses c.united_image.result o true) (sym c.in_ok-union.ensures.refused) (c.united_image.ensures.refused c.loop-text.invariant.ready);
 }

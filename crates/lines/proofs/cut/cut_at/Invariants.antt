@@ -1,7 +1,7 @@
 use Rattle.std.proofs.Common.{◌≡◌, ℕ, ◌<◌, ◌≤◌, ◌-◌, get_or, length}
 use Rattle.lines.proofs.cut.cut_at.Given as goal
 
--- the byte was not met before `from`
+-- the byte does not occur before `from`
 abbrev pub invariant-loop-from : goal.invariant-loop-from
 invariant-loop-from l = record {
   within : l.from ≤ length l.text;

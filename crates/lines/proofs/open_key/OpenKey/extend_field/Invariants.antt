@@ -3,7 +3,7 @@ use Rattle.lines.specs.Open.{IsOpenKey}
 use Rattle.lines.specs.declared.key.Key.TheVariants.{Field}
 use Rattle.lines.proofs.open_key.OpenKey.extend_field.Given as goal
 
--- what was taken in stands before the rest
+-- the bytes so far, followed by the rest, are all bytes
 abbrev pub invariant-loop-piece : goal.invariant-loop-piece
 invariant-loop-piece l = (taken : List ℕ) × (l.bytes ≡ taken ++ l.rest) × ((front : List ℕ) → IsOpenKey (Field l.before l.separator) front l.fn.self → IsOpenKey (Field l.before l.separator) (front ++ taken) l.self)
 
