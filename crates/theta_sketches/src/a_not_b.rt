@@ -1,7 +1,7 @@
 //! Differences of theta sketches.
 ghost use Rattle.std.specs.Prelude.{◌≡◌, ◌||◌, true, false, IfOk};
 ghost use Rattle.sketch_base.specs.Seed.{seed_hash};
-ghost use Rattle.core_operators.specs.ANotB.{difference_refusal};
+ghost use Rattle.core_operators.specs.ANotB.{difference_refusal, IsHashDifference};
 ghost use Rattle.core_operators.specs.Intersection.{seed_refusal};
 ghost use Rattle.core_laws.specs.Refusal.{Refuses};
 ghost use Rattle.theta_sketches.specs.View.{view_shows, view_lends};
