@@ -96,8 +96,8 @@ abbrev pub creates_tuple : {S : Type 0} → (hash : ℕ) → Step S → Retained
 creates_tuple hash step v = creates tuple_key hash (entry_step hash step) v
 
 -- a table trimmed to its nominal entries
-abbrev pub trimmed : {X : Type 0} → (key : X → ℕ) → MapTable X → MapTable X
-trimmed key t = record t { kept = cut key (2 ^ t.lg_nom) t.kept.entries t.kept.theta }
+abbrev pub trimmed_table : {X : Type 0} → (key : X → ℕ) → MapTable X → MapTable X
+trimmed_table key t = record t { kept = cut key (2 ^ t.lg_nom) t.kept.entries t.kept.theta }
 
 -- a table cut below a theta and to fewer nominal entries
 abbrev pub cut_table : {X : Type 0} → (key : X → ℕ) → (lg_nom theta : ℕ) → MapTable X → MapTable X
