@@ -1,5 +1,5 @@
 -- Where a leaf's step in turn is refused, and the settings before it fit, a policy must refuse; and where it must, it may.
-use Rattle.std.proofs.Common.{◌≡◌, ℕ, zero, suc, ◌<◌, ◌^◌, Bool, true, false, List, [], ◌∷◌, length, get_or, take, map, Some, None, is_none, refl, sym, ap, ◌∙◌, arith}
+use Rattle.std.proofs.Common.{◌≡◌, ℕ, zero, suc, ◌<◌, ◌^◌, Bool, true, false, List, [], ◌∷◌, length, get_or, take, map, None, is_none, refl, sym, ap, ◌∙◌, arith}
 use Rattle.std.specs.Prelude.{◌||◌, ◌&&◌, nat_le}
 use Rattle.std.specs.List.{list_all, AllByRecursion}
 use Rattle.core_laws.specs.Cuts.{none_below}
