@@ -1,19 +1,15 @@
--- If a family's policies refuse, the whole maps have a mark.
-use Rattle.std.specs.Prelude.{ℕ, ◌≡◌, ◌≤◌, ◌⊎◌, Bool, true, IsTrue, List, Option, Some, None}
+-- If a family's operators refuse by their policies, the whole maps have a mark.
+use Rattle.std.specs.Prelude.{ℕ, ◌≡◌, ◌⊎◌, Bool, true, false, IsTrue, List, Option, Some, None}
 use Rattle.sketch_base.specs.declared.error.ErrorKind.{ErrorKind}
 use Rattle.sketch_base.specs.declared.error.ErrorKind.TheVariants.{OutOfMemory, Policy}
 use Rattle.core_laws.specs.Folds.{Fold, has_mark}
-use Rattle.core_laws.specs.declared.TheConstants.{MAX_THETA}
-use Rattle.core_laws.specs.Cuts.{Retained}
-use Rattle.core_laws.specs.Leaf.{whole_step}
-use Rattle.core_laws.specs.declared.leaf.LeafStep.{LeafStep}
-use Rattle.core_laws.specs.Maps.{IsAscending, below}
+use Rattle.core_laws.specs.Maps.{IsAscending}
 use Rattle.core_laws.specs.Operators.{joined, common}
 use Rattle.core_laws.specs.Samples.{IsAllBelow}
 use Rattle.core_laws.specs.Values.{Sketch}
 use Rattle.plan_text.specs.declared.plan.Plan.{Plan}
 use Rattle.plan_values.specs.Family.{Family}
-use Rattle.plan_values.specs.Refusals.{may_refuse}
+use Rattle.plan_values.specs.Refusals.{may_refuse, must_refuse}
 use Rattle.plan_values.specs.Value.{plan_refusal}
 
 -- memory was refused, or a policy of a family whose policies may refuse did so, for this reason
@@ -33,11 +29,7 @@ abbrev pub MarksMet : {X V : Type 0} → (f : Family (Fold X) V) → (so_far : O
 MarksMet f None v = ⊥
 MarksMet {X} f (Some u) v = (whole come : List (Fold X)) → IsAllBelow f.key u whole → IsAllBelow f.key v come → has_mark (common f.key f.merges whole come) ≡ true
 
--- for each whole map that a sketch retains all of below its theta: after the step the map has a mark
-abbrev pub MarksStepped : {X V : Type 0} → (f : Family (Fold X) V) → Retained (Fold X) → LeafStep V → Type 0
-MarksStepped {X} f kept step = (whole : List (Fold X)) → kept.theta ≤ MAX_THETA → kept.entries ≡ below f.key whole kept.theta → has_mark (whole_step f.key f.step_of step whole) ≡ true
-
--- why the evaluation of a plan is refused: its settings, or memory, or a policy that leaves a mark in some whole map
--- before the first setting out of range
+-- why the evaluation of a plan is refused: its settings, if no policy must refuse before the first out of range; or memory;
+-- or a policy that may refuse before the first setting out of range
 abbrev pub IsPlanRefused : {X V Z : Type 0} → (f : Family (Fold X) V) → (strict : Bool) → (seed : ℕ) → Plan V Z → ErrorKind → Type 0
-IsPlanRefused f strict seed p e = (plan_refusal seed p ≡ Some e) ⊎ RefusedFor e strict (IsTrue (may_refuse f seed p))
+IsPlanRefused f strict seed p e = ((plan_refusal seed p ≡ Some e) × (must_refuse f seed p ≡ false)) ⊎ RefusedFor e strict (IsTrue (may_refuse f seed p))

@@ -9,10 +9,10 @@ ghost use Rattle.core_laws.specs.Refusal.{Refuses};
 ghost use Rattle.core_laws.specs.Values.{Sketch};
 ghost use Rattle.core_state.specs.Updatable.{sketch_value};
 ghost use Rattle.plan_values.specs.Family.{folds_of};
-ghost use Rattle.plan_values.specs.Refusals.{steps_marked};
+ghost use Rattle.plan_values.specs.Refusals.{step_refused, steps_refused, must_refuse};
 ghost use Rattle.plan_values.specs.Value.{plan_refusal};
 ghost use Rattle.plan_evaluation.specs.Came.{ComesTo, HasValue, IsFoldAnswer, come_to};
-ghost use Rattle.plan_evaluation.specs.Refused.{RefusedFor, IsPlanRefused, MarksStepped};
+ghost use Rattle.plan_evaluation.specs.Refused.{RefusedFor, IsPlanRefused};
 
 use crate::evaluated::Evaluated;
 use crate::family::SketchFamily;
@@ -29,9 +29,10 @@ use std::alloc::Allocator;
 /// nominal entries at that place.
 ///
 /// Refused with `InvalidArgument` if the seed hash is 0, if some node's `lg_k` isn't from 4 to 26 or its start isn't from 1 to
-/// `MAX_THETA`, or if a `Lower` isn't from 4 to the least `lg_k` before it in its union; with `OutOfMemory`; and with `Policy`
-/// only if a beginning of some leaf's steps, or of the parts of some union or intersection, folds to a refusal, and no setting
-/// before it in the order of work is out of range.
+/// `MAX_THETA`, or if a `Lower` isn't from 4 to the least `lg_k` before it in its union, and if no policy refuses a leaf's
+/// step before the first of these in the order of work; with `OutOfMemory`; and with `Policy` only if a policy refuses some
+/// leaf's step, or a beginning of the parts of some union or intersection folds to a refusal, and no setting before it in
+/// the order of work is out of range.
 pub fn evaluate<F: SketchFamily<A>, A: Allocator + Clone, B: Allocator>(
     family: &F,
     alloc: &A,
@@ -42,6 +43,7 @@ pub fn evaluate<F: SketchFamily<A>, A: Allocator + Clone, B: Allocator>(
     ensures value { let f = folds_of (F.rules family.now) (F.refuses family.now) in IfOk result (ComesTo (F.rules family.now).key F.state F.listed f (seed_hash seed) plan.now ordered) }
     ensures seeded { OnOk result (0 < seed_hash seed) }
     ensures accepted { OnOk result (plan_refusal seed plan.now ≡ None) }
+    ensures unrefused { OnOk result (must_refuse (folds_of (F.rules family.now) (F.refuses family.now)) seed plan.now ≡ false) }
     ensures refused { IfErr result (IsPlanRefused (folds_of (F.rules family.now) (F.refuses family.now)) F.strict seed plan.now) }
 {
     match plan {
@@ -140,7 +142,8 @@ fn updated<F: SketchFamily<A>, A: Allocator + Clone>(
     ensures value { let f = folds_of (F.rules family.now) (F.refuses family.now) in IfOk result (λ s. unmarked_value (sketch_value (F.state s)) ≡ leaf f.key f.step_of (2 ^ lg_k) start steps.now) }
     ensures seed { IfOk result (λ s. (F.state s).map.seed_hash ≡ seed_hash seed) }
     ensures accepted { OnOk result (settings_refusal lg_k start seed ≡ None) }
-    ensures refused { IfErr result (λ e. (settings_refusal lg_k start seed ≡ Some e) ⊎ RefusedFor e F.strict ((settings_refusal lg_k start seed ≡ None) × IsTrue (steps_marked (folds_of (F.rules family.now) (F.refuses family.now)) steps.now))) }
+    ensures unrefused { OnOk result (steps_refused (folds_of (F.rules family.now) (F.refuses family.now)) (2 ^ lg_k) start steps.now ≡ false) }
+    ensures refused { IfErr result (λ e. (settings_refusal lg_k start seed ≡ Some e) ⊎ RefusedFor e F.strict ((settings_refusal lg_k start seed ≡ None) × IsTrue (steps_refused (folds_of (F.rules family.now) (F.refuses family.now)) (2 ^ lg_k) start steps.now))) }
 {
     let mut sketch = family.new_sketch(alloc.clone()?, lg_k, start, seed)?;
     'steps: for step in steps {
@@ -160,7 +163,8 @@ fn apply<F: SketchFamily<A>, A: Allocator>(
     ensures map { OnOk result (let f = folds_of (F.rules family.now) (F.refuses family.now) in let old = (F.state sketch.old).map in unmarked (F.state sketch.new).map.kept ≡ leaf_step f.key f.step_of (2 ^ old.lg_nom) old.start step.now (unmarked old.kept)) }
     ensures made_with { OnOk result ((F.state sketch.new).map ≡ record (F.state sketch.old).map { kept = (F.state sketch.new).map.kept }) }
     ensures empty { OnOk result ((F.state sketch.new).empty ≡ not (updated_step step.now (not (F.state sketch.old).empty))) }
-    ensures refused { IfErr result (λ e. RefusedFor e F.strict (MarksStepped (folds_of (F.rules family.now) (F.refuses family.now)) (unmarked (F.state sketch.old).map.kept) step.now)) }
+    ensures unrefused { OnOk result (step_refused (folds_of (F.rules family.now) (F.refuses family.now)) step.now (unmarked (F.state sketch.old).map.kept) ≡ false) }
+    ensures refused { IfErr result (λ e. RefusedFor e F.strict (IsTrue (step_refused (folds_of (F.rules family.now) (F.refuses family.now)) step.now (unmarked (F.state sketch.old).map.kept)))) }
 {
     match step {
         Step::Add(hash, value) => family.add(sketch, *hash, *value),

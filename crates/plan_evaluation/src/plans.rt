@@ -18,7 +18,7 @@ ghost use Rattle.plan_values.specs.AddedValues.{added_values, total};
 ghost use Rattle.plan_values.specs.Family.{folds_of, hashes, tuple_folds};
 ghost use Rattle.plan_values.specs.LawfulLeaf.{IsLawfulLeaf};
 ghost use Rattle.plan_values.specs.MergePlan.{only_unites, IsMergePlan};
-ghost use Rattle.plan_values.specs.Refusals.{may_refuse};
+ghost use Rattle.plan_values.specs.Refusals.{may_refuse, must_refuse};
 ghost use Rattle.plan_values.specs.Value.{value_in, value_of, plan_refusal};
 ghost use Rattle.plan_values.specs.WholeStreams.{whole_in, whole_of, whole_hashes};
 ghost use Rattle.plan_evaluation.specs.Answered.{ordered_sketch, HasKeys, IsSketchOf};
@@ -75,10 +75,12 @@ pub fn evaluate_theta<A: Allocator + Clone, B: Allocator>(
 /// of those that were added to it.
 ///
 /// Refused with `InvalidArgument` if the seed hash is 0, if some node's `lg_k` is outside 4 to 26 or its start outside 1 to
-/// `MAX_THETA`, or if a union is lowered to an `lg_k` outside 4 to its least so far; with `OutOfMemory`, also if a
-/// summary can't be written to an image; and with `Policy` only if a beginning of some leaf's steps, or of the parts of
-/// some union or intersection, folds to a refusal at some key, and no setting before it in the order of work is out of
-/// range. Clones of summaries must equal their originals.
+/// `MAX_THETA`, or if a union is lowered to an `lg_k` outside 4 to its least so far, and if `update_policy` refuses no step
+/// of a leaf before the first of these in the order of work; with `OutOfMemory`, also if a summary can't be written to an
+/// image; and with `Policy` only if `update_policy` refuses some leaf's step, or a beginning of the parts of some union or
+/// intersection folds to a refusal at some key, and no setting before it in the order of work is out of range. So if
+/// `update_policy` refuses a leaf's step and no setting before it is out of range, the call is refused with `Policy` or
+/// `OutOfMemory`. Clones of summaries must equal their originals.
 pub fn evaluate_tuple<
     S: Clone + TupleSummaryValue<A>,
     U: Copy + Drop,
@@ -102,7 +104,8 @@ pub fn evaluate_tuple<
     ensures trimmed { (lg_k start : ℕ) (steps : List (LeafStep U)) → plan.now ≡ plans.Leaf lg_k start (steps ++ Trim ∷ []) → is_updated steps false ≡ true → let f = tuple_folds (P.creates update_policy) (P.updates update_policy) (Q.combines combine_policy) in OnOk result (value_in f plan.now ≡ NonEmpty (cut f.key (2 ^ lg_k) (whole f.key f.step_of steps) start)) }
     ensures trimmed_kmin { (lg_k start : ℕ) (steps : List (LeafStep U)) → plan.now ≡ plans.Leaf lg_k start (steps ++ Trim ∷ []) → is_updated steps false ≡ true → IfOk result (HasKeys tuple_key (kmin (2 ^ lg_k) (added steps) start)) }
     ensures accepted { OnOk result (plan_refusal seed plan.now ≡ None) }
-    ensures refused { let f = tuple_folds (P.creates update_policy) (P.updates update_policy) (Q.combines combine_policy) in IfErr result (λ e. (plan_refusal seed plan.now ≡ Some e) ⊎ ((e ≡ OutOfMemory) ⊎ ((e ≡ Policy) × (may_refuse f seed plan.now ≡ true)))) }
+    ensures unrefused { OnOk result (must_refuse (tuple_folds (P.creates update_policy) (P.updates update_policy) (Q.combines combine_policy)) seed plan.now ≡ false) }
+    ensures refused { let f = tuple_folds (P.creates update_policy) (P.updates update_policy) (Q.combines combine_policy) in IfErr result (λ e. ((plan_refusal seed plan.now ≡ Some e) × (must_refuse f seed plan.now ≡ false)) ⊎ ((e ≡ OutOfMemory) ⊎ ((e ≡ Policy) × (may_refuse f seed plan.now ≡ true)))) }
 {
     let family = TupleFamily::new(update_policy, combine_policy);
     ordered(&family, &alloc, plan, seed)
@@ -116,9 +119,10 @@ pub fn evaluate_tuple<
 /// plan merges leaves, or is a leaf that ends by a trim, the keys and theta are the k-minimum of the hashes that were
 /// added.
 ///
-/// Refused as `evaluate_tuple` is: with `Policy` only if a beginning of some leaf's steps, or of the parts of some
-/// union or intersection, has a sum out of the bounds of its type. The caller must know that clones of summaries equal
-/// their originals.
+/// Refused as `evaluate_tuple` is: with `Policy` only if a sum is out of the bounds of its type in some leaf, at a hash that
+/// the leaf then retains, or in a beginning of the parts of some union or intersection; and with `InvalidArgument` only if
+/// no leaf before the first setting out of range has such a sum. The caller must know that clones of summaries equal their
+/// originals.
 pub fn evaluate_sums<
     S: CheckedSum + TupleSummaryValue<A> + Drop,
     A: Allocator + Clone,
@@ -134,7 +138,8 @@ pub fn evaluate_sums<
     ensures trimmed_kmin { (lg_k start : ℕ) (steps : List (LeafStep S)) → plan.now ≡ plans.Leaf lg_k start (steps ++ Trim ∷ []) → is_updated steps false ≡ true → IfOk result (HasKeys tuple_key (kmin (2 ^ lg_k) (added steps) start)) }
     ensures sums { only_unites plan.now ≡ true → IfOk result (λ s. (h : ℕ) (e : TupleEntry S) → entry_at tuple_key s.entries h ≡ Some e → S.whole e.summary ≡ total (map S.whole (added_values h plan.now))) }
     ensures accepted { OnOk result (plan_refusal seed plan.now ≡ None) }
-    ensures refused { IfErr result (λ e. (plan_refusal seed plan.now ≡ Some e) ⊎ ((e ≡ OutOfMemory) ⊎ ((e ≡ Policy) × (may_refuse (tuple_folds (Some S.ZERO) S.sums S.sums) seed plan.now ≡ true)))) }
+    ensures unrefused { OnOk result (must_refuse (tuple_folds (Some S.ZERO) S.sums S.sums) seed plan.now ≡ false) }
+    ensures refused { let f = tuple_folds (Some S.ZERO) S.sums S.sums in IfErr result (λ e. ((plan_refusal seed plan.now ≡ Some e) × (must_refuse f seed plan.now ≡ false)) ⊎ ((e ≡ OutOfMemory) ⊎ ((e ≡ Policy) × (may_refuse f seed plan.now ≡ true)))) }
 {
     let updates = DefaultUpdatePolicy::<S>::default();
     let unions = DefaultUnionPolicy::<S>::default();
@@ -150,6 +155,7 @@ fn ordered<F: SketchFamily<A>, A: Allocator + Clone, B: Allocator>(
 ) -> Result<F::Compact, Error>
     ensures value { let f = folds_of (F.rules family.now) (F.refuses family.now) in IfOk result (λ c. IsSketchOf (F.rules family.now).key (value_in f plan.now) (seed_hash seed) (F.listed c)) }
     ensures accepted { OnOk result (plan_refusal seed plan.now ≡ None) }
+    ensures unrefused { OnOk result (must_refuse (folds_of (F.rules family.now) (F.refuses family.now)) seed plan.now ≡ false) }
     ensures refused { IfErr result (IsPlanRefused (folds_of (F.rules family.now) (F.refuses family.now)) F.strict seed plan.now) }
 {
     let sketch = evaluate(family, alloc, plan, seed, true)?;

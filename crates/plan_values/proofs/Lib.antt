@@ -3,9 +3,12 @@ pub mod EveryPlan
 pub mod PlanOutcome
 pub mod AcceptedSettings
 pub mod RefusedPlans
+pub mod RefusedSteps
 pub mod KnownFamilies
 pub mod Samples
 pub mod Marks
+pub mod UnrefusedPlans
+pub mod SureRefusals
 pub mod MergeEquations
 pub mod FedPlans
 pub mod MergePlans

@@ -84,7 +84,7 @@ module _ {X : Type 0} (key : X → ℕ) where
     step_unmarked k start Trim v = cut-map Value key (fold_key key) (λ y. refl) k v.entries v.theta
     step_unmarked k start Reset v = refl
 
-    steps_unmarked : (k start : ℕ) (steps : List (LeafStep V)) (v : Retained X) → leaf_from (fold_key key) (folded_of key step_of) k start steps (unmarked v) ≡ unmarked (leaf_from key step_of k start steps v)
+    pub steps_unmarked : (k start : ℕ) (steps : List (LeafStep V)) (v : Retained X) → leaf_from (fold_key key) (folded_of key step_of) k start steps (unmarked v) ≡ unmarked (leaf_from key step_of k start steps v)
     steps_unmarked k start [] v = refl
     steps_unmarked k start (step ∷ steps) v =
         ap (leaf_from (fold_key key) (folded_of key step_of) k start steps) (step_unmarked k start step v) ∙ steps_unmarked k start steps (leaf_step key step_of k start step v)

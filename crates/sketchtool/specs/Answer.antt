@@ -22,7 +22,7 @@ use Rattle.plan_text.specs.Faults.{fault_of}
 use Rattle.theta_sketches.specs.Image.{written}
 use Rattle.tuple_sketches.specs.Image.{written as written_tuples}
 use Rattle.plan_values.specs.Family.{Family, tuple_folds}
-use Rattle.plan_values.specs.Refusals.{may_refuse}
+use Rattle.plan_values.specs.Refusals.{may_refuse, must_refuse}
 use Rattle.plan_values.specs.Value.{value_of, value_in, plan_refusal}
 use Rattle.plan_evaluation.specs.Answered.{ordered_sketch}
 
@@ -130,11 +130,16 @@ abbrev pub policy_may_refuse : {Z : Type 0} → Command Z → Bool
 policy_may_refuse (Theta form plan) = false
 policy_may_refuse (Tuple form plan) = may_refuse sums DEFAULT_UPDATE_SEED plan
 
+-- and whether one must: if it refuses a leaf's step before the first setting out of range
+abbrev pub policy_must_refuse : {Z : Type 0} → Command Z → Bool
+policy_must_refuse (Theta form plan) = false
+policy_must_refuse (Tuple form plan) = must_refuse sums DEFAULT_UPDATE_SEED plan
+
 -- the status and the text that may answer an input: the answer to its command, an evaluation refused for an argument or
 -- by a policy, the first fault of the input, or refused memory
 pub data Answers (Z : Type 0) (input : List ℕ) : ℕ → List ℕ → Type 0 where
-  shows : (command : Command Z) (text : List ℕ) → Spells input command → command_refusal command ≡ None → Shows command text → Answers Z input 0 text
-  argument : (command : Command Z) → Spells input command → command_refusal command ≡ Some InvalidArgument → Answers Z input 1 argument_line
+  shows : (command : Command Z) (text : List ℕ) → Spells input command → command_refusal command ≡ None → policy_must_refuse command ≡ false → Shows command text → Answers Z input 0 text
+  argument : (command : Command Z) → Spells input command → command_refusal command ≡ Some InvalidArgument → policy_must_refuse command ≡ false → Answers Z input 1 argument_line
   policy : (command : Command Z) → Spells input command → IsTrue (policy_may_refuse command) → Answers Z input 1 policy_line
   wrong : (line : ℕ) → fault_of input ≡ Some (Syntax line) → Answers Z input 1 (fault_line line (codes "syntax"))
   too_deep : (line : ℕ) → fault_of input ≡ Some (Limit line) → Answers Z input 1 (fault_line line (codes "limit"))

@@ -10,7 +10,7 @@ use Rattle.core_laws.specs.Values.{Sketch, Empty, NonEmpty}
 use Rattle.core_compact.specs.CompactState.{Compact as State, IsAnswer, compact_value}
 use Rattle.plan_text.specs.declared.plan.Plan.{Plan}
 use Rattle.plan_values.specs.Family.{Family, hashes, folds_of}
-use Rattle.plan_values.specs.Refusals.{may_refuse}
+use Rattle.plan_values.specs.Refusals.{may_refuse, must_refuse}
 use Rattle.plan_values.specs.Value.{value_in, value_of, plan_refusal}
 use Rattle.plan_values.proofs.PlansWithoutMarks.{theta_unmarked}
 use Rattle.plan_values.proofs.UnmarkedValues.{unmarked_distinct}
@@ -37,12 +37,12 @@ module _ {X V Z : Type 0} (f : Family (Fold X) V) (seed : ℕ) (p : Plan V Z) wh
   -- a plan of a family whose policies refuse nothing is refused for its settings and for memory alone
   pub refused_settings : {T : Type 0} (r : Result T ErrorKind) → OnOk r (plan_refusal seed p ≡ None) → IfErr r (IsPlanRefused f false seed p) → Refuses r (plan_refusal seed p) true
   refused_settings (Ok x) accepted refused = accepted
-  refused_settings (Err e) accepted (inl r) = inl r
+  refused_settings (Err e) accepted (inl r) = inl r.0
   refused_settings (Err e) accepted (inr (inl memory)) = inr (memory, refl)
   refused_settings (Err e) accepted (inr (inr policy)) = absurd (let no = policy.1 in cc)
 
   -- one of any other family also for its policies
-  pub refused_policy : {T : Type 0} (r : Result T ErrorKind) → IfErr r (IsPlanRefused f true seed p) → IfErr r (λ e. (plan_refusal seed p ≡ Some e) ⊎ ((e ≡ OutOfMemory) ⊎ ((e ≡ Policy) × (may_refuse f seed p ≡ true))))
+  pub refused_policy : {T : Type 0} (r : Result T ErrorKind) → IfErr r (IsPlanRefused f true seed p) → IfErr r (λ e. ((plan_refusal seed p ≡ Some e) × (must_refuse f seed p ≡ false)) ⊎ ((e ≡ OutOfMemory) ⊎ ((e ≡ Policy) × (may_refuse f seed p ≡ true))))
   refused_policy (Ok x) refused = tt
   refused_policy (Err e) (inl r) = inl r
   refused_policy (Err e) (inr (inl memory)) = inr (inl memory)

@@ -14,9 +14,10 @@ use Rattle.plan_text.specs.declared.command.Command.{Command}
 use Rattle.plan_text.specs.declared.command.Command.TheVariants.{Theta, Tuple}
 use Rattle.plan_text.specs.declared.command.Form.{Form}
 use Rattle.plan_text.specs.declared.command.Form.TheVariants.{Show, Image}
+use Rattle.plan_values.specs.Refusals.{must_refuse}
 use Rattle.plan_values.specs.Value.{value_of, value_in, fits, plan_refusal}
 use Rattle.plan_evaluation.specs.Answered.{ordered_sketch, IsSketchOf}
-use Rattle.sketchtool.specs.Answer.{Texts, theta_texts, tuple_texts, sums, AnswersCommand, shows, argument, policy, sketch_text, value_text, argument_line, policy_line, refusal_line, command_refusal, policy_may_refuse}
+use Rattle.sketchtool.specs.Answer.{Texts, theta_texts, tuple_texts, sums, AnswersCommand, shows, argument, policy, sketch_text, value_text, argument_line, policy_line, refusal_line, command_refusal, policy_may_refuse, policy_must_refuse}
 
 -- the text of an ordered sketch is that of its value
 ordered_text : {X : Type 0} (texts : Texts X) (form : Form) (v : Sketch X) → sketch_text texts form (ordered_sketch v (seed_hash DEFAULT_UPDATE_SEED)) ≡ value_text texts form v
@@ -27,21 +28,21 @@ ordered_text texts Image v = refl
 -- the text of a sketch of a plan's value answers the plan's command
 pub answers_value : {Z : Type 0} (form : Form) (plan : Plan (Unit {0}) Z) (sketch : Compact ℕ) (text : List ℕ) → plan_refusal DEFAULT_UPDATE_SEED plan ≡ None → sketch ≡ ordered_sketch (value_of plan) (seed_hash DEFAULT_UPDATE_SEED)
     → text ≡ sketch_text theta_texts form sketch → AnswersCommand (Theta form plan) 0 text
-answers_value form plan sketch text accepted value is = λ input s. shows (Theta form plan) text s accepted (is ∙ ap (sketch_text theta_texts form) value ∙ ordered_text theta_texts form (value_of plan))
+answers_value form plan sketch text accepted value is = λ input s. shows (Theta form plan) text s accepted refl (is ∙ ap (sketch_text theta_texts form) value ∙ ordered_text theta_texts form (value_of plan))
 
-pub answers_tuples : {Z : Type 0} (form : Form) (plan : Plan ℕ Z) (sketch : Compact (TupleEntry ℕ)) (text : List ℕ) → plan_refusal DEFAULT_UPDATE_SEED plan ≡ None → IsSketchOf tuple_key (value_in sums plan) (seed_hash DEFAULT_UPDATE_SEED) sketch
+pub answers_tuples : {Z : Type 0} (form : Form) (plan : Plan ℕ Z) (sketch : Compact (TupleEntry ℕ)) (text : List ℕ) → plan_refusal DEFAULT_UPDATE_SEED plan ≡ None → must_refuse sums DEFAULT_UPDATE_SEED plan ≡ false → IsSketchOf tuple_key (value_in sums plan) (seed_hash DEFAULT_UPDATE_SEED) sketch
     → text ≡ sketch_text tuple_texts form sketch → AnswersCommand (Tuple form plan) 0 text
-answers_tuples form plan sketch text accepted value is =
+answers_tuples form plan sketch text accepted unrefused value is =
     let v = compact_value tuple_key sketch in
-    λ input s. shows (Tuple form plan) text s accepted (v, value.0, is ∙ ap (sketch_text tuple_texts form) value.1 ∙ ordered_text tuple_texts form v)
+    λ input s. shows (Tuple form plan) text s accepted unrefused (v, value.0, is ∙ ap (sketch_text tuple_texts form) value.1 ∙ ordered_text tuple_texts form v)
 
 -- why the evaluation of a command's plan may be refused
 abbrev pub MayRefuse : {Z : Type 0} → Command Z → ErrorKind → Type 0
-MayRefuse command kind = (command_refusal command ≡ Some kind) ⊎ ((kind ≡ OutOfMemory) ⊎ ((kind ≡ Policy) × IsTrue (policy_may_refuse command)))
+MayRefuse command kind = ((command_refusal command ≡ Some kind) × (policy_must_refuse command ≡ false)) ⊎ ((kind ≡ OutOfMemory) ⊎ ((kind ≡ Policy) × IsTrue (policy_may_refuse command)))
 
 -- a plan of theta sketches has no policy that refuses
 pub theta_refused : {Z : Type 0} (form : Form) (plan : Plan (Unit {0}) Z) (kind : ErrorKind) → (plan_refusal DEFAULT_UPDATE_SEED plan ≡ Some kind) ⊎ ((kind ≡ OutOfMemory) × IsTrue true) → MayRefuse (Theta form plan) kind
-theta_refused form plan kind (inl refused) = inl refused
+theta_refused form plan kind (inl refused) = inl (refused, refl)
 theta_refused form plan kind (inr memory) = inr (inl memory.0)
 
 abbrev some_line : List ℕ → Option (List ℕ)
@@ -63,12 +64,12 @@ only_argument (Theta form plan) kind e = for_argument (fits DEFAULT_UPDATE_SEED 
 only_argument (Tuple form plan) kind e = for_argument (fits DEFAULT_UPDATE_SEED plan) kind e
 
 answers_argument : {Z : Type 0} (command : Command Z) → MayRefuse command InvalidArgument → AnswersCommand command 1 argument_line
-answers_argument command (inl refused) = λ input s. argument command s refused
+answers_argument command (inl refused) = λ input s. argument command s refused.0 refused.1
 answers_argument command (inr (inl memory)) = absurd cc
 answers_argument command (inr (inr broken)) = absurd (let other : InvalidArgument ≡ Policy = broken.0 in cc)
 
 answers_policy : {Z : Type 0} (command : Command Z) → MayRefuse command Policy → AnswersCommand command 1 policy_line
-answers_policy command (inl refused) = absurd (let other : Policy ≡ InvalidArgument = only_argument command Policy refused in cc)
+answers_policy command (inl refused) = absurd (let other : Policy ≡ InvalidArgument = only_argument command Policy refused.0 in cc)
 answers_policy command (inr (inl memory)) = absurd cc
 answers_policy command (inr (inr broken)) = λ input s. policy command s broken.1
 

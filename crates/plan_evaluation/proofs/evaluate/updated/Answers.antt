@@ -1,12 +1,8 @@
-use Rattle.std.proofs.Common.{◌+◌, inr}
+use Rattle.std.proofs.Common.{inr}
 use Rattle.std.proofs.lemmas.Result.{err_from_is_err_and}
-use Rattle.core_laws.specs.Folds.{has_mark}
-use Rattle.core_laws.specs.Leaf.{whole}
 use Rattle.plan_values.specs.Family.{folds_of}
-use Rattle.plan_values.proofs.AcceptedSettings.{start_fits}
 use Rattle.plan_values.proofs.KnownFamilies.{folds_keep}
-use Rattle.plan_values.proofs.Marks.{begins}
-use Rattle.plan_evaluation.proofs.evaluation.LeafSteps.{made_stepped, kept_stepped, empty_stepped, refused_marks}
+use Rattle.plan_evaluation.proofs.evaluation.LeafSteps.{made_stepped, kept_stepped, unrefused_stepped, empty_stepped, refused_stepped}
 use Rattle.plan_evaluation.proofs.evaluation.Results.{for_other}
 use Rattle.plan_evaluation.proofs.evaluate.updated.Goals as goal
 
@@ -21,9 +17,7 @@ returns-in_err-apply-clause-refused g c =
     rw (p.1, p.2) (inr (for_other _ g.F.SketchFamily.strict
     (λ marks. (
       c.in_ok-sketch.ensures.refused,
-      begins (λ begun. has_mark (whole f.key f.step_of begun)) c.args.steps.now (i + 1)
-          (refused_marks f lawful c.args.lg_k c.args.start c.args.seed c.args.steps.now i c.step-item.result c.steps-test.true (g.F.SketchFamily.state c.steps.sketch).map.kept
-          (start_fits c.args.lg_k c.args.start c.args.seed c.in_ok-sketch.ensures.refused) c.steps.invariant.kept (rw c.step-item.is at marks)),
+      refused_stepped f lawful c.args.lg_k c.args.start c.args.seed c.args.steps.now i c.step-item.result c.steps-test.true (g.F.SketchFamily.state c.steps.sketch).map.kept c.steps.invariant.kept (rw c.step-item.is at marks),
     ))
     c.in_err-apply.ensures.refused))
 
@@ -41,5 +35,6 @@ steps-preserved g c =
       own = c.in_ok-apply.ensures.still;
       kept = kept_stepped f lawful c.args.lg_k c.args.start c.args.seed c.args.steps.now i d c.steps-test.true was.map now.map c.steps.invariant.kept c.steps.invariant.made (rw c.step-item.is at c.in_ok-apply.ensures.map);
       made = made_stepped c.args.lg_k c.args.start c.args.seed was.map now.map c.steps.invariant.made c.in_ok-apply.ensures.made_with;
+      unrefused = unrefused_stepped f lawful c.args.lg_k c.args.start c.args.seed c.args.steps.now i d c.steps-test.true was.map.kept c.steps.invariant.kept c.steps.invariant.unrefused (rw c.step-item.is at c.in_ok-apply.ensures.unrefused);
       empty = empty_stepped f lawful c.args.lg_k c.args.start c.args.seed c.args.steps.now i d c.steps-test.true was.empty now.empty c.steps.invariant.empty (rw c.step-item.is at c.in_ok-apply.ensures.empty);
     }

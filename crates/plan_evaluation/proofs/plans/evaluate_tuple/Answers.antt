@@ -69,6 +69,9 @@ returns-clause-trimmed_kmin g c = λ lg_k start steps is updated.
     (on_ok_weaker c.ordered.result (trimmed_plan f (tuple_folds_keep creates updates combines) c.args.seed lg_k start steps c.args.plan.now is updated) c.ordered.ensures.accepted)
     (rw (c.new-family.ensures.updates, c.new-family.ensures.combines) at c.ordered.ensures.value)
 
+pub returns-clause-unrefused : goal.returns-clause-unrefused
+returns-clause-unrefused g c = rw (c.new-family.ensures.updates, c.new-family.ensures.combines) at c.ordered.ensures.unrefused
+
 pub returns-clause-refused : goal.returns-clause-refused
 returns-clause-refused g c =
     let creates = g.P.SummaryPolicy.creates c.args.update_policy in
