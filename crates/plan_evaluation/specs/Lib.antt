@@ -1,3 +1,3 @@
-pub mod Came
+pub mod Parts
 pub mod Refused
 pub mod Answered

@@ -11,7 +11,7 @@ ghost use Rattle.core_state.specs.Updatable.{sketch_value};
 ghost use Rattle.plan_values.specs.Family.{folds_of};
 ghost use Rattle.plan_values.specs.Refusals.{step_refused, steps_refused, must_refuse};
 ghost use Rattle.plan_values.specs.Value.{plan_refusal};
-ghost use Rattle.plan_evaluation.specs.Came.{ComesTo, HasValue, IsFoldAnswer, come_to};
+ghost use Rattle.plan_evaluation.specs.Parts.{IsResultOf, HasValue, IsFoldAnswer, value_or_empty};
 ghost use Rattle.plan_evaluation.specs.Refused.{RefusedFor, IsPlanRefused};
 
 use crate::evaluated::Evaluated;
@@ -40,7 +40,8 @@ pub fn evaluate<F: SketchFamily<A>, A: Allocator + Clone, B: Allocator>(
     seed: u64,
     ordered: bool,
 ) -> Result<Evaluated<F::Sketch, F::Compact>, Error>
-    ensures value { let f = folds_of (F.rules family.now) (F.refuses family.now) in IfOk result (ComesTo (F.rules family.now).key F.state F.listed f (seed_hash seed) plan.now ordered) }
+    ensures value { let f = folds_of (F.rules family.now) (F.refuses family.now) in
+        IfOk result (IsResultOf (F.rules family.now).key F.state F.listed f (seed_hash seed) plan.now ordered) }
     ensures seeded { OnOk result (0 < seed_hash seed) }
     ensures accepted { OnOk result (plan_refusal seed plan.now ≡ None) }
     ensures unrefused { OnOk result (must_refuse (folds_of (F.rules family.now) (F.refuses family.now)) seed plan.now ≡ false) }
@@ -99,7 +100,9 @@ pub fn compacted<F: SketchFamily<A>, A: Allocator>(
     evaluated: Evaluated<F::Sketch, F::Compact>,
     ordered: bool,
 ) -> Result<F::Compact, Error>
-    ensures ok { (leaf : Bool) (v : Sketch (Fold F.Entry)) (seed_hash : ℕ) (own : Bool) → HasValue (F.rules family.now).key F.state F.listed evaluated leaf v seed_hash ordered own → IfOk result (λ c. IsFoldAnswer (F.rules family.now).key v seed_hash (ordered || own) (F.listed c)) }
+    ensures ok { (leaf : Bool) (v : Sketch (Fold F.Entry)) (seed_hash : ℕ) (own : Bool)
+        → HasValue (F.rules family.now).key F.state F.listed evaluated leaf v seed_hash ordered own
+        → IfOk result (λ c. IsFoldAnswer (F.rules family.now).key v seed_hash (ordered || own) (F.listed c)) }
     ensures refused { Refuses result None true }
 {
     match evaluated {
@@ -118,7 +121,8 @@ fn shared<F: SketchFamily<A>, A: Allocator + Clone>(
 ) -> Result<F::Compact, Error>
     requires same_seed { (F.met intersection.now).seed_hash ≡ seed_hash seed }
     requires seeded { 0 < seed_hash seed }
-    ensures value { IfOk result (λ c. IsAnswer (F.rules family.now).key (come_to (F.met intersection.now).result) (seed_hash seed) ordered (F.listed c)) }
+    ensures value { IfOk result (λ c.
+        IsAnswer (F.rules family.now).key (value_or_empty (F.met intersection.now).result) (seed_hash seed) ordered (F.listed c)) }
     ensures refused { Refuses result None true }
 {
     match family.shared(intersection, ordered)? {
@@ -139,11 +143,14 @@ fn updated<F: SketchFamily<A>, A: Allocator + Clone>(
     steps: &[Step<F::Value>],
     seed: u64,
 ) -> Result<F::Sketch, Error>
-    ensures value { let f = folds_of (F.rules family.now) (F.refuses family.now) in IfOk result (λ s. unmarked_value (sketch_value (F.state s)) ≡ leaf f.key f.step_of (2 ^ lg_k) start steps.now) }
+    ensures value { let f = folds_of (F.rules family.now) (F.refuses family.now) in
+        IfOk result (λ s. unmarked_value (sketch_value (F.state s)) ≡ leaf f.key f.step_of (2 ^ lg_k) start steps.now) }
     ensures seed { IfOk result (λ s. (F.state s).map.seed_hash ≡ seed_hash seed) }
     ensures accepted { OnOk result (settings_refusal lg_k start seed ≡ None) }
     ensures unrefused { OnOk result (steps_refused (folds_of (F.rules family.now) (F.refuses family.now)) (2 ^ lg_k) start steps.now ≡ false) }
-    ensures refused { IfErr result (λ e. (settings_refusal lg_k start seed ≡ Some e) ⊎ RefusedFor e F.strict ((settings_refusal lg_k start seed ≡ None) × IsTrue (steps_refused (folds_of (F.rules family.now) (F.refuses family.now)) (2 ^ lg_k) start steps.now))) }
+    ensures refused { let f = folds_of (F.rules family.now) (F.refuses family.now) in
+        let own = settings_refusal lg_k start seed in
+        IfErr result (λ e. (own ≡ Some e) ⊎ RefusedFor e F.strict ((own ≡ None) × IsTrue (steps_refused f (2 ^ lg_k) start steps.now))) }
 {
     let mut sketch = family.new_sketch(alloc.clone()?, lg_k, start, seed)?;
     'steps: for step in steps {
@@ -160,11 +167,17 @@ fn apply<F: SketchFamily<A>, A: Allocator>(
 ) -> Result<(), Error>
     requires own { F.made_sketch family.now sketch.old }
     ensures still { F.made_sketch family.now sketch.new }
-    ensures map { OnOk result (let f = folds_of (F.rules family.now) (F.refuses family.now) in let old = (F.state sketch.old).map in unmarked (F.state sketch.new).map.kept ≡ leaf_step f.key f.step_of (2 ^ old.lg_nom) old.start step.now (unmarked old.kept)) }
+    ensures map { OnOk result (
+        let f = folds_of (F.rules family.now) (F.refuses family.now) in
+        let old = (F.state sketch.old).map in
+        unmarked (F.state sketch.new).map.kept
+        ≡ leaf_step f.key f.step_of (2 ^ old.lg_nom) old.start step.now (unmarked old.kept)) }
     ensures made_with { OnOk result ((F.state sketch.new).map ≡ record (F.state sketch.old).map { kept = (F.state sketch.new).map.kept }) }
     ensures empty { OnOk result ((F.state sketch.new).empty ≡ not (updated_step step.now (not (F.state sketch.old).empty))) }
-    ensures unrefused { OnOk result (step_refused (folds_of (F.rules family.now) (F.refuses family.now)) step.now (unmarked (F.state sketch.old).map.kept) ≡ false) }
-    ensures refused { IfErr result (λ e. RefusedFor e F.strict (IsTrue (step_refused (folds_of (F.rules family.now) (F.refuses family.now)) step.now (unmarked (F.state sketch.old).map.kept)))) }
+    ensures unrefused { let f = folds_of (F.rules family.now) (F.refuses family.now) in
+        OnOk result (step_refused f step.now (unmarked (F.state sketch.old).map.kept) ≡ false) }
+    ensures refused { let f = folds_of (F.rules family.now) (F.refuses family.now) in
+        IfErr result (λ e. RefusedFor e F.strict (IsTrue (step_refused f step.now (unmarked (F.state sketch.old).map.kept)))) }
 {
     match step {
         Step::Add(hash, value) => family.add(sketch, *hash, *value),

@@ -14,7 +14,7 @@ ghost use Rattle.core_state.specs.Updatable.{sketch_value};
 ghost use Rattle.core_operators.specs.Intersection.{new_intersection, seed_refusal, IsAnswerIfAny};
 ghost use Rattle.core_operators.specs.Union.{empty_union, union_value, lower_refusal};
 ghost use Rattle.plan_values.specs.Family.{IsFamily, folds_of};
-ghost use Rattle.plan_evaluation.specs.Came.{came, IsFoldAnswer, Joins};
+ghost use Rattle.plan_evaluation.specs.Parts.{part_result, IsFoldAnswer, Joins};
 ghost use Rattle.plan_evaluation.specs.Refused.{RefusedFor, HoldsMore, MarksJoined, MarksMet};
 
 use crate::evaluated::Evaluated;
@@ -147,22 +147,22 @@ pub trait SketchFamily<A: Allocator> {
         part: &Evaluated<Self::Sketch, Self::Compact>,
     ) -> Result<(), Error>
         requires own { made_union self.now union.old }
-        requires same_seed { (united union.old).seed_hash ≡ (came (rules self.now).key state listed part.now).seed_hash }
+        requires same_seed { (united union.old).seed_hash ≡ (part_result (rules self.now).key state listed part.now).seed_hash }
         requires at_work { (united union.old).failed ≡ false }
         ensures still { made_union self.now union.new }
         ensures joins { OnOk result (
             Joins (rules self.now).key (folds_of (rules self.now) (refuses self.now)) (united union.old)
-            (united union.new) (came (rules self.now).key state listed part.now).value) }
+            (united union.new) (part_result (rules self.now).key state listed part.now).value) }
         ensures made_with { OnOk result (
             united union.new
             ≡ record (united union.old) { empty = (united union.new).empty; held = (united union.new).held }) }
         ensures holds { OnOk result (
             HoldsMore (folds_of (rules self.now) (refuses self.now)) (holds self.now union.old)
-            (holds self.now union.new) (came (rules self.now).key state listed part.now).value) }
+            (holds self.now union.new) (part_result (rules self.now).key state listed part.now).value) }
         ensures refused { IfErr result (λ e.
             RefusedFor e strict (
             MarksJoined (folds_of (rules self.now) (refuses self.now)) (holds self.now union.old)
-            (came (rules self.now).key state listed part.now).value)) };
+            (part_result (rules self.now).key state listed part.now).value)) };
 
     /// Lowers the nominal entries of a union that has not failed. Refused with `InvalidArgument` if `lg_k` isn't from 4
     /// to the union's, and with `OutOfMemory`. If refused, the union's contents are unspecified.
@@ -199,20 +199,20 @@ pub trait SketchFamily<A: Allocator> {
         part: &Evaluated<Self::Sketch, Self::Compact>,
     ) -> Result<(), Error>
         requires own { made_intersection self.now intersection.old }
-        requires same_seed { (met intersection.old).seed_hash ≡ (came (rules self.now).key state listed part.now).seed_hash }
+        requires same_seed { (met intersection.old).seed_hash ≡ (part_result (rules self.now).key state listed part.now).seed_hash }
         ensures still { made_intersection self.now intersection.new }
         ensures meets { OnOk result (
             let f = folds_of (rules self.now) (refuses self.now) in
             option_map unmarked_value (met intersection.new).result
             ≡ Some (
             meet_next f.key f.merges (option_map unmarked_value (met intersection.old).result)
-            (came (rules self.now).key state listed part.now).value)) }
+            (part_result (rules self.now).key state listed part.now).value)) }
         ensures made_with { OnOk result (met intersection.new ≡ record (met intersection.old) { result = (met intersection.new).result }) }
         ensures refused { IfErr result (λ e.
             RefusedFor e strict (
             MarksMet (folds_of (rules self.now) (refuses self.now))
             (option_map unmarked_value (met intersection.old).result)
-            (came (rules self.now).key state listed part.now).value)) };
+            (part_result (rules self.now).key state listed part.now).value)) };
 
     /// The value of an intersection, or `None` before its first part. Refused with `OutOfMemory` alone.
     fn shared(
@@ -240,11 +240,11 @@ pub trait SketchFamily<A: Allocator> {
         second: &Evaluated<Self::Sketch, Self::Compact>,
         ordered: bool,
     ) -> Result<Self::Compact, Error>
-        requires first_seed { difference_seed difference.now ≡ (came (rules self.now).key state listed first.now).seed_hash }
-        requires second_seed { difference_seed difference.now ≡ (came (rules self.now).key state listed second.now).seed_hash }
+        requires first_seed { difference_seed difference.now ≡ (part_result (rules self.now).key state listed first.now).seed_hash }
+        requires second_seed { difference_seed difference.now ≡ (part_result (rules self.now).key state listed second.now).seed_hash }
         ensures ok { let f = folds_of (rules self.now) (refuses self.now) in
-            let a = came (rules self.now).key state listed first.now in
-            let b = came (rules self.now).key state listed second.now in
+            let a = part_result (rules self.now).key state listed first.now in
+            let b = part_result (rules self.now).key state listed second.now in
             IfOk result (λ c.
             IsFoldAnswer (rules self.now).key (minus f.key f.key a.value b.value) a.seed_hash (ordered || a.ordered)
             (listed c)) }

@@ -56,9 +56,14 @@ pub fn evaluate_theta<A: Allocator + Clone, B: Allocator>(
 ) -> Result<CompactThetaSketch<A>, Error>
     ensures value { IfOk result (λ s. s ≡ ordered_sketch (value_of plan.now) (seed_hash seed)) }
     ensures whole { OnOk result (IsAllBelow hash_key (value_of plan.now) (whole_of plan.now)) }
-    ensures merged { (lg_k start : ℕ) → IsMergePlan lg_k start plan.now → OnOk result (value_of plan.now ≡ NonEmpty (kmin (2 ^ lg_k) (whole_of plan.now) start)) }
+    ensures merged { (lg_k start : ℕ)
+        → IsMergePlan lg_k start plan.now
+        → OnOk result (value_of plan.now ≡ NonEmpty (kmin (2 ^ lg_k) (whole_of plan.now) start)) }
     ensures lawful { OnOk result (IsLawfulLeaf hashes plan.now) }
-    ensures trimmed { (lg_k start : ℕ) (steps : List (LeafStep (Unit {0}))) → plan.now ≡ plans.Leaf lg_k start (steps ++ Trim ∷ []) → is_updated steps false ≡ true → OnOk result (value_of plan.now ≡ NonEmpty (kmin (2 ^ lg_k) (added steps) start)) }
+    ensures trimmed { (lg_k start : ℕ) (steps : List (LeafStep (Unit {0})))
+        → plan.now ≡ plans.Leaf lg_k start (steps ++ Trim ∷ [])
+        → is_updated steps false ≡ true
+        → OnOk result (value_of plan.now ≡ NonEmpty (kmin (2 ^ lg_k) (added steps) start)) }
     ensures refused { Refuses result (plan_refusal seed plan.now) true }
 {
     ordered(&ThetaFamily, &alloc, plan, seed)
@@ -96,16 +101,35 @@ pub fn evaluate_tuple<
     combine_policy: Q,
 ) -> Result<CompactTupleSketch<S, A>, Error>
     requires clones_equal { ClonesEqual S.is_clone }
-    ensures value { let f = tuple_folds (P.creates update_policy) (P.updates update_policy) (Q.combines combine_policy) in IfOk result (IsSketchOf tuple_key (value_in f plan.now) (seed_hash seed)) }
-    ensures whole { let f = tuple_folds (P.creates update_policy) (P.updates update_policy) (Q.combines combine_policy) in OnOk result (IsAllBelow f.key (value_in f plan.now) (whole_in f plan.now)) }
-    ensures merged { (lg_k start : ℕ) → IsMergePlan lg_k start plan.now → let f = tuple_folds (P.creates update_policy) (P.updates update_policy) (Q.combines combine_policy) in OnOk result (value_in f plan.now ≡ NonEmpty (cut f.key (2 ^ lg_k) (whole_in f plan.now) start)) }
-    ensures kmin { (lg_k start : ℕ) → IsMergePlan lg_k start plan.now → IfOk result (HasKeys tuple_key (kmin (2 ^ lg_k) (whole_hashes plan.now) start)) }
-    ensures lawful { let f = tuple_folds (P.creates update_policy) (P.updates update_policy) (Q.combines combine_policy) in OnOk result (IsLawfulLeaf f plan.now) }
-    ensures trimmed { (lg_k start : ℕ) (steps : List (LeafStep U)) → plan.now ≡ plans.Leaf lg_k start (steps ++ Trim ∷ []) → is_updated steps false ≡ true → let f = tuple_folds (P.creates update_policy) (P.updates update_policy) (Q.combines combine_policy) in OnOk result (value_in f plan.now ≡ NonEmpty (cut f.key (2 ^ lg_k) (whole f.key f.step_of steps) start)) }
-    ensures trimmed_kmin { (lg_k start : ℕ) (steps : List (LeafStep U)) → plan.now ≡ plans.Leaf lg_k start (steps ++ Trim ∷ []) → is_updated steps false ≡ true → IfOk result (HasKeys tuple_key (kmin (2 ^ lg_k) (added steps) start)) }
+    ensures value { let f = tuple_folds (P.creates update_policy) (P.updates update_policy) (Q.combines combine_policy) in
+        IfOk result (IsSketchOf tuple_key (value_in f plan.now) (seed_hash seed)) }
+    ensures whole { let f = tuple_folds (P.creates update_policy) (P.updates update_policy) (Q.combines combine_policy) in
+        OnOk result (IsAllBelow f.key (value_in f plan.now) (whole_in f plan.now)) }
+    ensures merged { (lg_k start : ℕ)
+        → IsMergePlan lg_k start plan.now
+        → let f = tuple_folds (P.creates update_policy) (P.updates update_policy) (Q.combines combine_policy) in
+        OnOk result (value_in f plan.now ≡ NonEmpty (cut f.key (2 ^ lg_k) (whole_in f plan.now) start)) }
+    ensures kmin { (lg_k start : ℕ)
+        → IsMergePlan lg_k start plan.now
+        → IfOk result (HasKeys tuple_key (kmin (2 ^ lg_k) (whole_hashes plan.now) start)) }
+    ensures lawful { let f = tuple_folds (P.creates update_policy) (P.updates update_policy) (Q.combines combine_policy) in
+        OnOk result (IsLawfulLeaf f plan.now) }
+    ensures trimmed { (lg_k start : ℕ) (steps : List (LeafStep U))
+        → plan.now ≡ plans.Leaf lg_k start (steps ++ Trim ∷ [])
+        → is_updated steps false ≡ true
+        → let f = tuple_folds (P.creates update_policy) (P.updates update_policy) (Q.combines combine_policy) in
+        OnOk result (value_in f plan.now ≡ NonEmpty (cut f.key (2 ^ lg_k) (whole f.key f.step_of steps) start)) }
+    ensures trimmed_kmin { (lg_k start : ℕ) (steps : List (LeafStep U))
+        → plan.now ≡ plans.Leaf lg_k start (steps ++ Trim ∷ [])
+        → is_updated steps false ≡ true
+        → IfOk result (HasKeys tuple_key (kmin (2 ^ lg_k) (added steps) start)) }
     ensures accepted { OnOk result (plan_refusal seed plan.now ≡ None) }
-    ensures unrefused { OnOk result (must_refuse (tuple_folds (P.creates update_policy) (P.updates update_policy) (Q.combines combine_policy)) seed plan.now ≡ false) }
-    ensures refused { let f = tuple_folds (P.creates update_policy) (P.updates update_policy) (Q.combines combine_policy) in IfErr result (λ e. ((plan_refusal seed plan.now ≡ Some e) × (must_refuse f seed plan.now ≡ false)) ⊎ ((e ≡ OutOfMemory) ⊎ ((e ≡ Policy) × (may_refuse f seed plan.now ≡ true)))) }
+    ensures unrefused { let f = tuple_folds (P.creates update_policy) (P.updates update_policy) (Q.combines combine_policy) in
+        OnOk result (must_refuse f seed plan.now ≡ false) }
+    ensures refused { let f = tuple_folds (P.creates update_policy) (P.updates update_policy) (Q.combines combine_policy) in
+        IfErr result (λ e.
+        ((plan_refusal seed plan.now ≡ Some e) × (must_refuse f seed plan.now ≡ false))
+        ⊎ ((e ≡ OutOfMemory) ⊎ ((e ≡ Policy) × (may_refuse f seed plan.now ≡ true)))) }
 {
     let family = TupleFamily::new(update_policy, combine_policy);
     ordered(&family, &alloc, plan, seed)
@@ -131,15 +155,34 @@ pub fn evaluate_sums<
     requires clones_equal { ClonesEqual S.is_clone }
     ensures value { IfOk result (IsSketchOf tuple_key (value_in (tuple_folds (Some S.ZERO) S.sums S.sums) plan.now) (seed_hash seed)) }
     ensures whole { let f = tuple_folds (Some S.ZERO) S.sums S.sums in OnOk result (IsAllBelow f.key (value_in f plan.now) (whole_in f plan.now)) }
-    ensures merged { (lg_k start : ℕ) → IsMergePlan lg_k start plan.now → let f = tuple_folds (Some S.ZERO) S.sums S.sums in OnOk result (value_in f plan.now ≡ NonEmpty (cut f.key (2 ^ lg_k) (whole_in f plan.now) start)) }
-    ensures kmin { (lg_k start : ℕ) → IsMergePlan lg_k start plan.now → IfOk result (HasKeys tuple_key (kmin (2 ^ lg_k) (whole_hashes plan.now) start)) }
+    ensures merged { (lg_k start : ℕ)
+        → IsMergePlan lg_k start plan.now
+        → let f = tuple_folds (Some S.ZERO) S.sums S.sums in
+        OnOk result (value_in f plan.now ≡ NonEmpty (cut f.key (2 ^ lg_k) (whole_in f plan.now) start)) }
+    ensures kmin { (lg_k start : ℕ)
+        → IsMergePlan lg_k start plan.now
+        → IfOk result (HasKeys tuple_key (kmin (2 ^ lg_k) (whole_hashes plan.now) start)) }
     ensures lawful { let f = tuple_folds (Some S.ZERO) S.sums S.sums in OnOk result (IsLawfulLeaf f plan.now) }
-    ensures trimmed { (lg_k start : ℕ) (steps : List (LeafStep S)) → plan.now ≡ plans.Leaf lg_k start (steps ++ Trim ∷ []) → is_updated steps false ≡ true → let f = tuple_folds (Some S.ZERO) S.sums S.sums in OnOk result (value_in f plan.now ≡ NonEmpty (cut f.key (2 ^ lg_k) (whole f.key f.step_of steps) start)) }
-    ensures trimmed_kmin { (lg_k start : ℕ) (steps : List (LeafStep S)) → plan.now ≡ plans.Leaf lg_k start (steps ++ Trim ∷ []) → is_updated steps false ≡ true → IfOk result (HasKeys tuple_key (kmin (2 ^ lg_k) (added steps) start)) }
-    ensures sums { only_unites plan.now ≡ true → IfOk result (λ s. (h : ℕ) (e : TupleEntry S) → entry_at tuple_key s.entries h ≡ Some e → S.whole e.summary ≡ total (map S.whole (added_values h plan.now))) }
+    ensures trimmed { (lg_k start : ℕ) (steps : List (LeafStep S))
+        → plan.now ≡ plans.Leaf lg_k start (steps ++ Trim ∷ [])
+        → is_updated steps false ≡ true
+        → let f = tuple_folds (Some S.ZERO) S.sums S.sums in
+        OnOk result (value_in f plan.now ≡ NonEmpty (cut f.key (2 ^ lg_k) (whole f.key f.step_of steps) start)) }
+    ensures trimmed_kmin { (lg_k start : ℕ) (steps : List (LeafStep S))
+        → plan.now ≡ plans.Leaf lg_k start (steps ++ Trim ∷ [])
+        → is_updated steps false ≡ true
+        → IfOk result (HasKeys tuple_key (kmin (2 ^ lg_k) (added steps) start)) }
+    ensures sums { only_unites plan.now ≡ true
+        → IfOk result (λ s.
+        (h : ℕ) (e : TupleEntry S)
+        → entry_at tuple_key s.entries h ≡ Some e
+        → S.whole e.summary ≡ total (map S.whole (added_values h plan.now))) }
     ensures accepted { OnOk result (plan_refusal seed plan.now ≡ None) }
     ensures unrefused { OnOk result (must_refuse (tuple_folds (Some S.ZERO) S.sums S.sums) seed plan.now ≡ false) }
-    ensures refused { let f = tuple_folds (Some S.ZERO) S.sums S.sums in IfErr result (λ e. ((plan_refusal seed plan.now ≡ Some e) × (must_refuse f seed plan.now ≡ false)) ⊎ ((e ≡ OutOfMemory) ⊎ ((e ≡ Policy) × (may_refuse f seed plan.now ≡ true)))) }
+    ensures refused { let f = tuple_folds (Some S.ZERO) S.sums S.sums in
+        IfErr result (λ e.
+        ((plan_refusal seed plan.now ≡ Some e) × (must_refuse f seed plan.now ≡ false))
+        ⊎ ((e ≡ OutOfMemory) ⊎ ((e ≡ Policy) × (may_refuse f seed plan.now ≡ true)))) }
 {
     let updates = DefaultUpdatePolicy::<S>::default();
     let unions = DefaultUnionPolicy::<S>::default();
@@ -153,7 +196,8 @@ fn ordered<F: SketchFamily<A>, A: Allocator + Clone, B: Allocator>(
     plan: &Plan<F::Value, B>,
     seed: u64,
 ) -> Result<F::Compact, Error>
-    ensures value { let f = folds_of (F.rules family.now) (F.refuses family.now) in IfOk result (λ c. IsSketchOf (F.rules family.now).key (value_in f plan.now) (seed_hash seed) (F.listed c)) }
+    ensures value { let f = folds_of (F.rules family.now) (F.refuses family.now) in
+        IfOk result (λ c. IsSketchOf (F.rules family.now).key (value_in f plan.now) (seed_hash seed) (F.listed c)) }
     ensures accepted { OnOk result (plan_refusal seed plan.now ≡ None) }
     ensures unrefused { OnOk result (must_refuse (folds_of (F.rules family.now) (F.refuses family.now)) seed plan.now ≡ false) }
     ensures refused { IfErr result (IsPlanRefused (folds_of (F.rules family.now) (F.refuses family.now)) F.strict seed plan.now) }

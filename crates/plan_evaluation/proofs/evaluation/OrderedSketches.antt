@@ -15,7 +15,7 @@ use Rattle.plan_values.specs.Value.{value_in, value_of, plan_refusal}
 use Rattle.plan_values.proofs.PlansWithoutMarks.{theta_unmarked}
 use Rattle.plan_values.proofs.UnmarkedValues.{unmarked_distinct}
 use Rattle.plan_evaluation.specs.Answered.{ordered_sketch, IsSketchOf}
-use Rattle.plan_evaluation.specs.Came.{IsFoldAnswer}
+use Rattle.plan_evaluation.specs.Parts.{IsFoldAnswer}
 use Rattle.plan_evaluation.specs.Refused.{IsPlanRefused}
 
 module _ {X : Type 0} (key : X → ℕ) where

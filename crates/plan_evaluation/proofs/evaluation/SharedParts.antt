@@ -13,7 +13,7 @@ use Rattle.plan_text.specs.declared.plan.Plan.{Plan}
 use Rattle.plan_values.specs.Family.{Family, IsFamily}
 use Rattle.plan_values.specs.Value.{value_in}
 use Rattle.plan_values.specs.WholeStreams.{whole_in, shared_of}
-use Rattle.plan_evaluation.specs.Came.{come_to}
+use Rattle.plan_evaluation.specs.Parts.{value_or_empty}
 use Rattle.plan_evaluation.specs.Refused.{MarksMet}
 
 -- maps that are intersected in turn, and one more
@@ -22,9 +22,9 @@ common_all-more key merges whole [] last = refl
 common_all-more key merges whole (xs ∷ maps) last = common_all-more key merges (common key merges whole xs) maps last
 
 -- the value of an intersection, in folds
-pub come_to-folds : {X : Type 0} (o : Option (Sketch X)) → unmarked_value (come_to o) ≡ come_to (option_map unmarked_value o)
-come_to-folds None = refl
-come_to-folds (Some v) = refl
+pub value_or_empty-folds : {X : Type 0} (o : Option (Sketch X)) → unmarked_value (value_or_empty o) ≡ value_or_empty (option_map unmarked_value o)
+value_or_empty-folds None = refl
+value_or_empty-folds (Some v) = refl
 
 -- the settings of an intersection don't change
 pub made_met : {X P : Type 0} (first was now : Intersection X P) → was ≡ record first { result = was.result } → now ≡ record was { result = now.result } → now ≡ record first { result = now.result }
@@ -36,9 +36,9 @@ module _ {X V : Type 0} (f : Family (Fold X) V) where
   met_of [] = None
   met_of (v ∷ vs) = Some (meet f.key f.merges (v ∷ vs))
 
-  pub come_to-met : (vs : List (Sketch (Fold X))) → come_to (met_of vs) ≡ meet f.key f.merges vs
-  come_to-met [] = refl
-  come_to-met (v ∷ vs) = refl
+  pub value_or_empty-met : (vs : List (Sketch (Fold X))) → value_or_empty (met_of vs) ≡ meet f.key f.merges vs
+  value_or_empty-met [] = refl
+  value_or_empty-met (v ∷ vs) = refl
 
 module _ {X V : Type 0} (f : Family (Fold X) V) (lawful : IsFamily f) where
   -- and after one more

@@ -8,7 +8,7 @@ use Rattle.core_laws.specs.Values.{Sketch, Empty, NonEmpty}
 use Rattle.core_operators.specs.Union.{Union, IsUnion, IsJoined}
 use Rattle.core_operators.proofs.UnionValue.{united}
 use Rattle.plan_values.specs.Family.{Family, folds_of}
-use Rattle.plan_evaluation.specs.Came.{Joins}
+use Rattle.plan_evaluation.specs.Parts.{Joins}
 
 -- a union without its policy
 abbrev pub plain : {X P : Type 0} → Union X P → Union X (Unit {0})

@@ -13,7 +13,7 @@ use Rattle.core_laws.specs.Operators.{minus, lacking, unless_nothing}
 use Rattle.core_laws.specs.Values.{Sketch, Empty, NonEmpty}
 use Rattle.core_laws.proofs.maps.MappedEntries.{entry_at-map}
 use Rattle.core_laws.proofs.maps.MapsOfLists.{entry_at-map_of}
-use Rattle.plan_evaluation.specs.Came.{IsFoldAnswer}
+use Rattle.plan_evaluation.specs.Parts.{IsFoldAnswer}
 use Rattle.plan_evaluation.proofs.families.Folds.{minus-values}
 
 module _ {X : Type 0} (key : X → ℕ) where

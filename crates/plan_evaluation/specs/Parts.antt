@@ -20,9 +20,9 @@ pub record Part (X : Type 0) : Type 0 where
   pub ordered : Bool
 
 -- the result of a node as an operator sees it, from the state of its sketch or its compact sketch
-abbrev pub came : {X S C : Type 0} → (X → ℕ) → (S → Updatable X) → (C → State X) → Evaluated S C → Part X
-came key state listed (Mutable sketch) = record { value = unmarked_value (sketch_value (state sketch)); seed_hash = (state sketch).map.seed_hash; ordered = false }
-came key state listed (Compact sketch) = record { value = unmarked_value (compact_value key (listed sketch)); seed_hash = (listed sketch).seed_hash; ordered = (listed sketch).ordered }
+abbrev pub part_result : {X S C : Type 0} → (X → ℕ) → (S → Updatable X) → (C → State X) → Evaluated S C → Part X
+part_result key state listed (Mutable sketch) = record { value = unmarked_value (sketch_value (state sketch)); seed_hash = (state sketch).map.seed_hash; ordered = false }
+part_result key state listed (Compact sketch) = record { value = unmarked_value (compact_value key (listed sketch)); seed_hash = (listed sketch).seed_hash; ordered = (listed sketch).ordered }
 
 -- a compact sketch is the answer with this value in folds
 abbrev pub IsFoldAnswer : {X : Type 0} → (X → ℕ) → Sketch (Fold X) → (seed_hash : ℕ) → (asked : Bool) → State X → Type 0
@@ -35,8 +35,8 @@ HasValue key state listed (Mutable sketch) leaf v seed_hash asked own = (leaf �
 HasValue key state listed (Compact sketch) leaf v seed_hash asked own = (leaf ≡ false) × IsFoldAnswer key v seed_hash (asked || own) (listed sketch)
 
 -- the result of a plan, with or without a requested order, in the folds f of the family
-abbrev pub ComesTo : {X V Z S C : Type 0} → (X → ℕ) → (S → Updatable X) → (C → State X) → (f : Family (Fold X) V) → (seed_hash : ℕ) → Plan V Z → (asked : Bool) → Evaluated S C → Type 0
-ComesTo key state listed f seed_hash p asked e = HasValue key state listed e (is_leaf f p) (value_in f p) seed_hash asked (orders_itself f p)
+abbrev pub IsResultOf : {X V Z S C : Type 0} → (X → ℕ) → (S → Updatable X) → (C → State X) → (f : Family (Fold X) V) → (seed_hash : ℕ) → Plan V Z → (asked : Bool) → Evaluated S C → Type 0
+IsResultOf key state listed f seed_hash p asked e = HasValue key state listed e (is_leaf f p) (value_in f p) seed_hash asked (orders_itself f p)
 
 -- a union merges a value; an empty one changes nothing
 abbrev pub Joins : {X P V : Type 0} → (X → ℕ) → (f : Family (Fold X) V) → (old new : Union X P) → Sketch (Fold X) → Type 0
@@ -44,6 +44,6 @@ Joins key f old new Empty = new ≡ old
 Joins key f old new (NonEmpty v) = unmarked_value (union_value key new) ≡ unite f.key f.merges (2 ^ old.lg_k) old.start (unmarked_value (union_value key old) ∷ NonEmpty v ∷ [])
 
 -- the value of an intersection: Empty before its first part
-abbrev pub come_to : {X : Type 0} → Option (Sketch X) → Sketch X
-come_to None = Empty
-come_to (Some v) = v
+abbrev pub value_or_empty : {X : Type 0} → Option (Sketch X) → Sketch X
+value_or_empty None = Empty
+value_or_empty (Some v) = v
