@@ -9,7 +9,7 @@ use Rattle.core_images.specs.Preamble.{Begins, is_empty, is_ordered, seed_hash_a
 use Rattle.core_images.specs.declared.preamble.Layout.{Layout}
 use Rattle.core_images.specs.declared.preamble.Layout.TheVariants.{Empty, Filled}
 
--- the error means that memory ran out, or that there is nothing to read
+-- the error is OutOfMemory, or it is InvalidData and there is no reading
 abbrev pub IsRefused : ErrorKind → Type 0 → Type 0
 IsRefused e Something = (e ≡ OutOfMemory) ⊎ ((e ≡ InvalidData) × (Something → ⊥))
 

@@ -15,7 +15,7 @@ use std::alloc::Allocator;
 pub trait TupleSummaryValue<A: Allocator> {
     /// Which bytes spell which summary.
     ghost spells: { List ℕ → Self → Type 0 };
-    /// Which summaries are values: all that the type can store.
+    /// Which summaries are values. Every summary that the type can store is one (clause `value`).
     ghost is_value: { Self → Type 0 };
     /// The bytes written of a summary.
     ghost text: { Self → List ℕ };

@@ -81,7 +81,7 @@ impl<E: SlotEntry, A: Allocator> SketchHashTable<E, A> {
     /// to `MAX_THETA`.
     ///
     /// Refused with `InvalidArgument` outside these ranges and for a seed whose seed hash is 0; with `OutOfMemory` if
-    /// memory runs out. The resize factor, by which the slots grow, has no effect on what the table returns.
+    /// memory runs out. The resize factor, by which the slots grow, has no effect on the retained entries and theta.
     pub fn new(
         alloc: A,
         lg_nom_size: u8,
@@ -344,7 +344,7 @@ impl<E: SlotEntry + Drop, A: Allocator + Clone> SketchHashTable<E, A> {
     /// other hash must be retained already, or there must be room for one more entry. Refused with the step's error, or
     /// with `OutOfMemory`; then nothing has changed.
     ///
-    /// Below `capacity_threshold` an insertion takes no memory except for its step.
+    /// Below `capacity_threshold` an insertion is refused memory only if its step may take some.
     #[inline(always)]
     pub fn upsert_entry<S: UpsertStep<E> + Drop>(
         &mut self,
@@ -583,8 +583,8 @@ impl<A: Allocator + Clone> SketchHashTable<ThetaEntry, A> {
         self.upsert_entry(hash, PutStep::new(ThetaEntry::of_hash(hash)))
     }
 
-    /// Inserts hashes in their order, each as `try_insert_hash` does. There are at least 8 nominal entries, as in every table
-    /// of `new`.
+    /// Inserts hashes in their order, each as `try_insert_hash` does. There must be at least 8 nominal entries, as in
+    /// every table of `new`.
     ///
     /// It looks at the slots of up to 256 hashes side by side, so that the waits for memory overlap: with many slots,
     /// and if most hashes are retained, this takes half the time. Those looks aren't counted.
