@@ -158,7 +158,9 @@ fn entries_of_view<'a, E: SlotEntry, A: Allocator>(view: SketchView<'a, E, A>) -
 }
 
 /// The metadata of a view's sketch.
-fn metadata_of_view<'a, E: SlotEntry, A: Allocator>(view: SketchView<'a, E, A>) -> ThetaFamilySketchMetadata
+fn metadata_of_view<'a, E: SlotEntry, A: Allocator>(
+    view: SketchView<'a, E, A>,
+) -> ThetaFamilySketchMetadata
     ensures metadata { result ≡ metadata_of (shows E.key view.entry) }
     ensures sound { IsShown (shows E.key view.entry) }
 {

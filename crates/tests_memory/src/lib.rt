@@ -7,14 +7,14 @@ mod many_requests;
 #[cfg(test)]
 mod operator_requests;
 #[cfg(test)]
+mod operators_without_memory;
+#[cfg(test)]
 mod reading_requests;
 #[cfg(test)]
 mod requests;
 #[cfg(test)]
-mod table_requests;
-#[cfg(test)]
-mod operators_without_memory;
-#[cfg(test)]
 mod sketches_without_memory;
+#[cfg(test)]
+mod table_requests;
 #[cfg(test)]
 mod tables_without_memory;

@@ -11,8 +11,8 @@ ghost use Rattle.theta_sketches.specs.ImageLayout.{unflagged_layout, version_1_l
 
 use crate::compact_sketch::CompactThetaSketch;
 use core_images::{
-    Layout, Preamble, admitted, announced, count_at, flagged_layout, read_after_preamble, seed_hash_at,
-    theta_at, write_image,
+    Layout, Preamble, admitted, announced, count_at, flagged_layout, read_after_preamble,
+    seed_hash_at, theta_at, write_image,
 };
 use core_laws::MAX_THETA;
 use sketch_base::{DEFAULT_UPDATE_SEED, Error, ErrorKind, Family, compute_seed_hash};
