@@ -1,2 +1,2 @@
 pub mod Roots
-
+pub mod NearCounts

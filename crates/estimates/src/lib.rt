@@ -6,5 +6,6 @@
 #![tactic(auto)]
 
 mod bounds;
+pub mod laws;
 
 pub use bounds::{Deviations, Interval, count_bounds};
