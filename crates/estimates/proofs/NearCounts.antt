@@ -22,21 +22,22 @@ square_above S e d x h eq = omega (arith, h, ap (λ (y : ℕ). y * y) eq, ap (λ
 
 above : (S e d w : ℕ) → d * d ≤ S * (e + d) → S * (S + 4 * e) ≤ w * w → 2 * d ≤ S + w
 above S e d w h root =
-    elim (cases_lt (S + w) (2 * d))
-      [ inl lt ↦
+    elim (cases_lt (S + w) (2 * d)) [
+      | inl lt ↦
           let x : ℕ = 2 * d - S in
           let square : x * x ≤ S * (S + 4 * e) = square_above S e d x h (omega (arith, lt)) in
           let small : x ≤ w = at_most_root x w (omega (arith, square, root)) in
           absurd (omega (arith, lt, small))
-      | inr le ↦ le ]
+      | inr le ↦ le
+    ]
 
 below : (S a d w : ℕ) → d * d ≤ S * a → S * (S + 4 * (a + d)) ≤ w * w → 2 * d + S ≤ w
 below S a d w h root = at_most_root (2 * d + S) w (omega (arith, h, root))
 
 pub near_middle : (S a e w : ℕ) → abs_diff a e * abs_diff a e ≤ S * a → S * (S + 4 * e) ≤ w * w → (2 * a ≤ 2 * e + S + w) × (2 * e + S ≤ 2 * a + w)
 near_middle S a e w h root =
-    elim (cases_lt a e)
-      [ inl lt ↦
+    elim (cases_lt a e) [
+      | inl lt ↦
           let d : ℕ = e - a in
           let same : e ≡ a + d = omega (arith, lt) in
           let gap : abs_diff a e ≡ d = omega (arith, lt) in
@@ -49,7 +50,8 @@ near_middle S a e w h root =
           let close : d * d ≤ S * a = subst (λ (y : ℕ). y * y ≤ S * a) gap h in
           let far : 2 * d ≤ S + w = above S e d w (subst (λ (y : ℕ). d * d ≤ S * y) same close) root in
           let wide : S ≤ w = at_most_root S w (omega (arith, root)) in
-          (omega (arith, far, same), omega (arith, wide, le)) ]
+          (omega (arith, far, same), omega (arith, wide, le))
+    ]
 
 -- ---- the bounds
 
@@ -86,16 +88,17 @@ retained_within z r t = omega arith
 
 max_times : (a b t w : ℕ) → a * t ≤ w → b * t ≤ w → max a b * t ≤ w
 max_times a b t w first second =
-    elim (cases_lt a b)
-      [ inl lt ↦ let e : max a b ≡ b = omega (arith, lt) in rw e second
-      | inr le ↦ let e : max a b ≡ a = omega (arith, le) in rw e first ]
+    elim (cases_lt a b) [
+      | inl lt ↦ let e : max a b ≡ b = omega (arith, lt) in rw e second
+      | inr le ↦ let e : max a b ≡ a = omega (arith, le) in rw e first
+    ]
 
 pub lower_times : (z r t : ℕ) → t ≤ MAX_THETA → (count_bounds z r t).lower * t ≤ r * MAX_THETA
 unfolding count_bounds
 lower_times z r t high =
     max_times ((middle z r t - reach z r t) / (2 * t)) r t (r * MAX_THETA)
-      (omega (arith, div-mul-le_self (middle z r t - reach z r t) (2 * t), reach_wide z r t))
-      (mul-le r t r MAX_THETA (omega arith) high)
+    (omega (arith, div-mul-le_self (middle z r t - reach z r t) (2 * t), reach_wide z r t))
+    (mul-le r t r MAX_THETA (omega arith) high)
 
 upper_fits : (z r t : ℕ) → 0 < t → (middle z r t + reach z r t ≤ (count_bounds z r t).upper * (2 * t)) × ((count_bounds z r t).upper * (2 * t) < middle z r t + reach z r t + 2 * t)
 unfolding count_bounds
@@ -116,9 +119,10 @@ upper_above z r t some low less =
     let square : 1 ≤ z * z = mul-le 1 1 z z some some in
     let wide : 1 ≤ spread z t = mul-le 1 1 (z * z) (MAX_THETA - t) square (omega (arith, less)) in
     let more : r * t ≤ r * MAX_THETA = mul-le r t r MAX_THETA (omega arith) (omega (arith, less)) in
-    elim (cases_lt r (count_bounds z r t).upper)
-      [ inl lt ↦ lt
-      | inr le ↦ absurd (omega (arith, wide, more, (upper_fits z r t low).0, mul-le (count_bounds z r t).upper (2 * t) r (2 * t) le (omega arith))) ]
+    elim (cases_lt r (count_bounds z r t).upper) [
+      | inl lt ↦ lt
+      | inr le ↦ absurd (omega (arith, wide, more, (upper_fits z r t low).0, mul-le (count_bounds z r t).upper (2 * t) r (2 * t) le (omega arith)))
+    ]
 
 -- ---- the greatest theta
 

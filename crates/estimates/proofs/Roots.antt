@@ -22,14 +22,14 @@ step n k c h true e =
     record {
       few = omega (arith, h.few);
       enough = elim h.enough [ inl big ↦ absurd (omega (arith, small, big, mul-le c c k k h.few h.few)) | inr same ↦ inr (omega (arith, same)) ];
-      least = λ m big. omega (arith, h.few, root_above k m (omega (arith, small, big)))
+      least = λ m big. omega (arith, h.few, root_above k m (omega (arith, small, big)));
     }
 step n k c h false e =
     let big : n ≤ k * k = grind (arith, nat_tests) in
     record {
       few = omega (arith, h.few);
       enough = elim h.enough [ inl enough ↦ inl (omega (arith, enough)) | inr same ↦ inl (subst (λ (x : ℕ). n ≤ (x + 0) * (x + 0)) (sym same) (omega (arith, big))) ];
-      least = λ m more. omega (arith, h.least m more)
+      least = λ m more. omega (arith, h.least m more);
     }
 
 counted : (n k : ℕ) → IsCounted n k (squares_below n k)
@@ -58,9 +58,10 @@ ceil_sqrt_is n r enough least = omega (arith, least (ceil_sqrt n) (ceil_sqrt_eno
 -- a root that is exact
 pub exact_root : (n r : ℕ) → r * r ≤ n → n ≤ r * r → r ≡ ceil_sqrt n
 exact_root n r low high =
-    ceil_sqrt_is n r high (λ m enough. elim (cases_lt m r)
-      [ inl lt ↦ absurd (omega (arith, low, enough, mul-le (m + 1) (m + 1) r r (omega (arith, lt)) (omega (arith, lt))))
-      | inr le ↦ le ])
+    ceil_sqrt_is n r high (λ m enough. elim (cases_lt m r) [
+      | inl lt ↦ absurd (omega (arith, low, enough, mul-le (m + 1) (m + 1) r r (omega (arith, lt)) (omega (arith, lt))))
+      | inr le ↦ le
+    ])
 
 -- the number above a root that is too small
 pub next_root : (n r : ℕ) → r * r < n → n < (r + 1) * (r + 1) → r + 1 ≡ ceil_sqrt n

@@ -6,11 +6,11 @@ use Rattle.estimates.specs.declared.bounds.Deviations.{Deviations}
 use Rattle.estimates.specs.declared.bounds.Deviations.TheVariants.{One, Two, Three}
 use Rattle.estimates.specs.declared.bounds.Interval.{Interval}
 
--- how many standard deviations
-abbrev pub count_of : Deviations → ℕ
-count_of One = 1
-count_of Two = 2
-count_of Three = 3
+-- the number z of standard deviations
+abbrev pub deviation_count : Deviations → ℕ
+deviation_count One = 1
+deviation_count Two = 2
+deviation_count Three = 3
 
 -- Each of n values is retained with probability p = t / MAX_THETA. A count n is near r retained entries if r is within z
 -- standard deviations of n p: |n p - r| ≤ z √(n p (1 - p)), here squared and times MAX_THETA twice.
@@ -30,16 +30,16 @@ ceil_sqrt n = squares_below n n
 abbrev pub spread : (z t : ℕ) → ℕ
 spread z t = z * z * (MAX_THETA - t)
 
--- at least √(S (S + 4 r MAX_THETA)), S being the spread
+-- √(S (S + 4 r MAX_THETA)), where S is the spread, by roots that are rounded up
 abbrev pub reach : (z r t : ℕ) → ℕ
 reach z r t = ceil_sqrt (spread z t) * ceil_sqrt (spread z t + 4 * (r * MAX_THETA))
 
--- 2 r MAX_THETA + S
+-- 2 r MAX_THETA + S, where S is the spread
 abbrev pub middle : (z r t : ℕ) → ℕ
 middle z r t = 2 * (r * MAX_THETA) + spread z t
 
--- The least and the greatest near count, rounded outwards: the ends of the Wilson score interval. At least r entries were
--- seen.
+-- The ends of the Wilson score interval, rounded outwards: a count n is near if 2 n t is at most √(S (S + 4 r MAX_THETA))
+-- away from the middle. The count is at least r.
 unfoldable pub count_bounds : (z r t : ℕ) → Interval
 count_bounds z r t =
     record { lower = max ((middle z r t - reach z r t) / (2 * t)) r; upper = div_ceil (middle z r t + reach z r t) (2 * t) }

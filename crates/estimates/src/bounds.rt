@@ -1,11 +1,12 @@
 //! Bounds of a sketch's count.
 ghost use Rattle.std.specs.Prelude.{◌≡◌, ◌<◌, ◌≤◌, ◌^◌};
 ghost use Rattle.core_laws.specs.declared.TheConstants.{MAX_THETA};
-ghost use Rattle.estimates.specs.Bounds.{count_of, ceil_sqrt, count_bounds};
+ghost use Rattle.estimates.specs.Bounds.{deviation_count, ceil_sqrt, count_bounds};
 
 use core_laws::MAX_THETA;
 
-/// How many standard deviations bounds are away from an estimate.
+/// How many standard deviations the bounds allow. If hashes are random, the true count is within the bounds in about 68, 95
+/// and 99.7 of 100 sketches; that isn't proved.
 #[derive(Debug, Clone, Copy, PartialEq, Eq)]
 pub enum Deviations {
     One,
@@ -14,9 +15,9 @@ pub enum Deviations {
 }
 
 impl Deviations {
-    /// Their number, 1, 2 or 3.
+    /// 1, 2 or 3.
     fn count(self) -> u128
-        ensures { result ≡ count_of self }
+        ensures { result ≡ deviation_count self }
     {
         match self {
             Deviations::One => 1,
@@ -26,7 +27,7 @@ impl Deviations {
     }
 }
 
-/// The counts from `lower` to `upper`, both included.
+/// The whole numbers from `lower` to `upper`, both included.
 #[derive(Debug, Clone, Copy, PartialEq, Eq)]
 pub struct Interval {
     pub lower: u128,
@@ -43,14 +44,14 @@ fn ceil_sqrt(number: u128) -> u128
     if root * root < number { root + 1 } else { root }
 }
 
-/// The bounds of the number of distinct values that a sketch has seen, from its retained entries, fewer than 2^32, and its
-/// theta, from 1 to `MAX_THETA`: the ends of the Wilson score interval, rounded outwards, and at least the retained
-/// entries. All are equal if theta is `MAX_THETA`. They are below 2^98.
+/// Bounds of the number of distinct values that a sketch has seen, by its retained entries, fewer than 2^32, and its theta,
+/// from 1 to `MAX_THETA`: the ends of the Wilson score interval, rounded outwards. The lower bound is at least the number
+/// of retained entries. Both are that number if theta is `MAX_THETA`; pass `MAX_THETA` for an empty sketch.
 pub fn count_bounds(retained: usize, theta: u64, deviations: Deviations) -> Interval
     requires few { retained < 2 ^ 32 }
     requires low { 0 < theta }
     requires high { theta ≤ MAX_THETA }
-    ensures { result ≡ count_bounds (count_of deviations) retained theta }
+    ensures { result ≡ count_bounds (deviation_count deviations) retained theta }
 {
     let number = deviations.count();
     let spread = number * number * (MAX_THETA - theta) as u128;
