@@ -1,13 +1,12 @@
 -- Near counts and the bounds that cover them.
-use Rattle.std.proofs.Common.{ℕ, ◌+◌, ◌-◌, ◌*◌, ◌/◌, ◌%◌, ◌≤◌, ◌<◌, ◌≡◌, inl, inr, ap, subst, ◌∙◌, arith}
-use Rattle.std.specs.Prelude.{max, min}
-use Rattle.std.specs.Int.{abs_diff, div_ceil}
+use Rattle.std.proofs.Common.{ℕ, ◌+◌, ◌-◌, ◌*◌, ◌/◌, ◌≤◌, ◌<◌, ◌≡◌, inl, inr, ap, subst, ◌∙◌, arith}
+use Rattle.std.specs.Prelude.{max}
+use Rattle.std.specs.Int.{abs_diff}
 use Rattle.std.proofs.Math.Nat.{div-le_of_le-mul, div-mul-le_self}
 use Rattle.std.proofs.lemmas.Nat.{mul-le, le-div, div_below}
 use Rattle.std.proofs.lemmas.Bool.{cases_lt}
 use Rattle.std.proofs.lemmas.Grind.{div_ceil_times}
 use Rattle.core_laws.specs.declared.TheConstants.{MAX_THETA}
-use Rattle.estimates.specs.declared.bounds.Interval.{Interval}
 use Rattle.estimates.specs.Bounds.{IsNear, ceil_sqrt, spread, reach, middle, count_bounds, nearest}
 use Rattle.estimates.proofs.Roots.{ceil_sqrt_enough, ceil_sqrt_least}
 
