@@ -1,13 +1,13 @@
 -- Near counts and the bounds that cover them.
-use Rattle.std.proofs.Common.{ℕ, ◌+◌, ◌-◌, ◌*◌, ◌/◌, ◌≤◌, ◌<◌, ◌≡◌, inl, inr, ap, subst, ◌∙◌, arith}
+use Rattle.std.proofs.Common.{ℕ, zero, suc, ◌+◌, ◌-◌, ◌*◌, ◌/◌, ◌≤◌, ◌<◌, ◌≡◌, inl, inr, ap, sym, subst, ◌∙◌, arith}
 use Rattle.std.specs.Prelude.{max}
 use Rattle.std.specs.Int.{abs_diff}
-use Rattle.std.proofs.Math.Nat.{div-le_of_le-mul, div-mul-le_self}
+use Rattle.std.proofs.Math.Nat.{div-le_of_le-mul, div-mul-le_self, lt-div-mul-add}
 use Rattle.std.proofs.lemmas.Nat.{mul-le, le-div, div_below}
 use Rattle.std.proofs.lemmas.Bool.{cases_lt}
 use Rattle.std.proofs.lemmas.Grind.{div_ceil_times}
 use Rattle.core_laws.specs.declared.TheConstants.{MAX_THETA}
-use Rattle.estimates.specs.Bounds.{IsNear, ceil_sqrt, spread, reach, middle, count_bounds, nearest}
+use Rattle.estimates.specs.Bounds.{IsNear, ceil_sqrt, spread, reach, root_sum, middle, count_bounds, nearest}
 use Rattle.estimates.proofs.Roots.{ceil_sqrt_enough, ceil_sqrt_least}
 
 -- ---- a number a within √(S a) of e is within (S + √(S (S + 4 e))) / 2 of e, upwards, and downwards
@@ -140,3 +140,77 @@ upper_exact z r = omega (arith, upper_times z r MAX_THETA (omega arith), (upper_
 pub exact_bounds : (z r : ℕ) → count_bounds z r MAX_THETA ≡ record { lower = r; upper = r }
 unfolding count_bounds
 exact_bounds z r = λ i. record { lower = lower_exact z r i; upper = upper_exact z r i }
+
+-- ---- counts inside the bounds
+
+-- √(S (S + 4 e)) or less away from the middle is near
+middle_near : (S a e x : ℕ) → abs_diff (2 * a) (2 * e + S) ≤ x → x * x ≤ S * (S + 4 * e) → abs_diff a e * abs_diff a e ≤ S * a
+middle_near S a e x away root =
+    elim (cases_lt a e)
+      [ inl lt ↦
+          let d : ℕ = e - a in
+          let same : e ≡ a + d = omega (arith, lt) in
+          let gap : abs_diff a e ≡ d = omega (arith, lt) in
+          let square : (2 * d + S) * (2 * d + S) ≤ x * x = mul-le (2 * d + S) (2 * d + S) x x (omega (arith, away, lt)) (omega (arith, away, lt)) in
+          let few : x * x ≤ S * (S + 4 * (a + d)) = subst (λ (y : ℕ). x * x ≤ S * (S + 4 * y)) same root in
+          let near : d * d ≤ S * a = omega (arith, square, few) in
+          rw gap near
+      | inr le ↦
+          let d : ℕ = a - e in
+          let same : a ≡ e + d = omega (arith, le) in
+          let gap : abs_diff a e ≡ d = omega (arith, le) in
+          let near : d * d ≤ S * (e + d) =
+              elim (cases_lt (2 * d) S)
+                [ inl few ↦ omega (arith, mul-le d d S d (omega (arith, few)) (omega arith))
+                | inr many ↦ above_near S e d (2 * d - S) x (omega (arith, many)) (omega (arith, away, le, many)) root ] in
+          rw gap (subst (λ (y : ℕ). d * d ≤ S * y) (sym same) near) ]
+  where
+    above_near : (S e d y x : ℕ) → 2 * d ≡ S + y → y ≤ x → x * x ≤ S * (S + 4 * e) → d * d ≤ S * (e + d)
+    above_near S e d y x eq less root =
+        omega (arith, root, mul-le y y x x less less, ap (λ (w : ℕ). w * w) eq, ap (λ (w : ℕ). S * w) eq)
+
+-- the number below a root has a square of at most the number
+root_minus_one : (n : ℕ) → (ceil_sqrt n - 1) * (ceil_sqrt n - 1) ≤ n
+root_minus_one n =
+    let g : ℕ = ceil_sqrt n - 1 in
+    elim (cases_lt n (g * g))
+      [ inl lt ↦
+          let least : ceil_sqrt n ≤ g = ceil_sqrt_least n g (omega (arith, lt)) in
+          let none : g ≤ 0 = omega (arith, least) in
+          absurd (omega (arith, lt, mul-le g g 0 0 none none))
+      | inr le ↦ le ]
+
+-- what remains of a product without its factors
+less_both : (x u v : ℕ) → x + (u + v) ≤ u * v → x ≤ (u - 1) * (v - 1)
+less_both x zero v h = omega (arith, h)
+less_both x (suc u) zero h = omega (arith, h)
+less_both x (suc u) (suc v) h =
+    let first : suc u - 1 ≡ u = omega arith in
+    let second : suc v - 1 ≡ v = omega arith in
+    rw (first, second) (omega (arith, h))
+
+inside_root : (x S Q : ℕ) → x + (ceil_sqrt S + ceil_sqrt Q) ≤ ceil_sqrt S * ceil_sqrt Q → x * x ≤ S * Q
+inside_root x S Q h =
+    let g : ℕ = ceil_sqrt S - 1 in
+    let k : ℕ = ceil_sqrt Q - 1 in
+    let less : x ≤ g * k = less_both x (ceil_sqrt S) (ceil_sqrt Q) h in
+    omega (arith, mul-le x x (g * k) (g * k) less less, mul-le (g * g) (k * k) S Q (root_minus_one S) (root_minus_one Q))
+
+inside_lower : (z r t n : ℕ) → 0 < t → root_sum z r t ≤ 2 * t → (count_bounds z r t).lower + 2 ≤ n → middle z r t + root_sum z r t ≤ 2 * (n * t) + reach z r t
+unfolding count_bounds
+inside_lower z r t n low wide from =
+    let rest : ℕ = middle z r t - reach z r t in
+    let next : rest < rest / (2 * t) * (2 * t) + 2 * t = lt-div-mul-add (omega (arith, low)) in
+    let more : (rest / (2 * t) + 2) * (2 * t) ≤ n * (2 * t) = mul-le (rest / (2 * t) + 2) (2 * t) n (2 * t) (omega (arith, from)) (omega arith) in
+    omega (arith, next, more, wide)
+
+inside_upper : (z r t n : ℕ) → 0 < t → root_sum z r t ≤ 2 * t → n + 2 ≤ (count_bounds z r t).upper → 2 * (n * t) + root_sum z r t ≤ middle z r t + reach z r t
+inside_upper z r t n low wide to =
+    omega (arith, wide, (upper_fits z r t low).1, mul-le (n + 2) (2 * t) (count_bounds z r t).upper (2 * t) to (omega arith))
+
+pub inside_near : (z r t n : ℕ) → 0 < t → root_sum z r t ≤ 2 * t → (count_bounds z r t).lower + 2 ≤ n → n + 2 ≤ (count_bounds z r t).upper → IsNear z r t n
+inside_near z r t n low wide from to =
+    let x : ℕ = abs_diff (2 * (n * t)) (middle z r t) in
+    let inside : x + root_sum z r t ≤ reach z r t = omega (arith, inside_lower z r t n low wide from, inside_upper z r t n low wide to) in
+    let near = middle_near (spread z t) (n * t) (r * MAX_THETA) x (omega arith) (inside_root x (spread z t) (spread z t + 4 * (r * MAX_THETA)) inside) in
+    omega (arith, near)

@@ -34,6 +34,10 @@ spread z t = z * z * (MAX_THETA - t)
 abbrev pub reach : (z r t : ℕ) → ℕ
 reach z r t = ceil_sqrt (spread z t) * ceil_sqrt (spread z t + 4 * (r * MAX_THETA))
 
+-- the sum of these roots
+abbrev pub root_sum : (z r t : ℕ) → ℕ
+root_sum z r t = ceil_sqrt (spread z t) + ceil_sqrt (spread z t + 4 * (r * MAX_THETA))
+
 -- 2 r MAX_THETA + S, where S is the spread
 abbrev pub middle : (z r t : ℕ) → ℕ
 middle z r t = 2 * (r * MAX_THETA) + spread z t
