@@ -52,6 +52,10 @@ near_middle S a e w h root =
           (omega (arith, far, same), omega (arith, wide, le))
     ]
 
+pub near_more : (z more r t n : ℕ) → z ≤ more → IsNear z r t n → IsNear more r t n
+near_more z more r t n le near =
+    omega (arith, near, mul-le (z * z) (n * t * (MAX_THETA - t)) (more * more) (n * t * (MAX_THETA - t)) (mul-le z z more more le le) (omega arith))
+
 -- ---- the bounds
 
 -- the product of the roots is at least the root of the product
@@ -146,8 +150,8 @@ exact_bounds z r = λ i. record { lower = lower_exact z r i; upper = upper_exact
 -- √(S (S + 4 e)) or less away from the middle is near
 middle_near : (S a e x : ℕ) → abs_diff (2 * a) (2 * e + S) ≤ x → x * x ≤ S * (S + 4 * e) → abs_diff a e * abs_diff a e ≤ S * a
 middle_near S a e x away root =
-    elim (cases_lt a e)
-      [ inl lt ↦
+    elim (cases_lt a e) [
+      | inl lt ↦
           let d : ℕ = e - a in
           let same : e ≡ a + d = omega (arith, lt) in
           let gap : abs_diff a e ≡ d = omega (arith, lt) in
@@ -160,10 +164,12 @@ middle_near S a e x away root =
           let same : a ≡ e + d = omega (arith, le) in
           let gap : abs_diff a e ≡ d = omega (arith, le) in
           let near : d * d ≤ S * (e + d) =
-              elim (cases_lt (2 * d) S)
-                [ inl few ↦ omega (arith, mul-le d d S d (omega (arith, few)) (omega arith))
-                | inr many ↦ above_near S e d (2 * d - S) x (omega (arith, many)) (omega (arith, away, le, many)) root ] in
-          rw gap (subst (λ (y : ℕ). d * d ≤ S * y) (sym same) near) ]
+          elim (cases_lt (2 * d) S) [
+            | inl few ↦ omega (arith, mul-le d d S d (omega (arith, few)) (omega arith))
+            | inr many ↦ above_near S e d (2 * d - S) x (omega (arith, many)) (omega (arith, away, le, many)) root
+          ] in
+          rw gap (subst (λ (y : ℕ). d * d ≤ S * y) (sym same) near)
+    ]
   where
     above_near : (S e d y x : ℕ) → 2 * d ≡ S + y → y ≤ x → x * x ≤ S * (S + 4 * e) → d * d ≤ S * (e + d)
     above_near S e d y x eq less root =
@@ -173,12 +179,13 @@ middle_near S a e x away root =
 root_minus_one : (n : ℕ) → (ceil_sqrt n - 1) * (ceil_sqrt n - 1) ≤ n
 root_minus_one n =
     let g : ℕ = ceil_sqrt n - 1 in
-    elim (cases_lt n (g * g))
-      [ inl lt ↦
+    elim (cases_lt n (g * g)) [
+      | inl lt ↦
           let least : ceil_sqrt n ≤ g = ceil_sqrt_least n g (omega (arith, lt)) in
           let none : g ≤ 0 = omega (arith, least) in
           absurd (omega (arith, lt, mul-le g g 0 0 none none))
-      | inr le ↦ le ]
+      | inr le ↦ le
+    ]
 
 -- what remains of a product without its factors
 less_both : (x u v : ℕ) → x + (u + v) ≤ u * v → x ≤ (u - 1) * (v - 1)

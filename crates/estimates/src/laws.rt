@@ -17,6 +17,11 @@ pub fn near_is_within()
     ensures upper { (z r t n : ℕ) → 0 < t → IsNear z r t n → n ≤ (count_bounds z r t).upper }
 {}
 
+/// A count that is near for some standard deviations is near for more.
+pub fn near_for_more()
+    ensures { (z more r t n : ℕ) → z ≤ more → IsNear z r t n → IsNear more r t n }
+{}
+
 /// The bounds are no wider than their rounding makes them: a count that is at least two inside of both is near. The premise,
 /// a theta of at least half the sum of the roots, holds for estimates up to 8 * 10^9 from 16 entries, and 10^11 from 4096.
 pub fn inside_is_near()
