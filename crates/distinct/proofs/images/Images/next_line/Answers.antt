@@ -1,4 +1,4 @@
-use Rattle.std.proofs.Common.{◌≡◌, None, subst, ◌∙◌}
+use Rattle.std.proofs.Common.{subst, ◌∙◌}
 use Rattle.line_sketches.specs.Sources.{GivesNext}
 use Rattle.distinct.specs.Images.{remaining_images, GivesOrCloses}
 use Rattle.distinct.proofs.ImageLines.{known_same, none_of, gives_first, opened, at_last}
