@@ -1,5 +1,5 @@
 //! What each command writes, over any sources and any writer.
-ghost use Rattle.std.specs.Prelude.{◌≡◌, ◌≤◌, ◌⊎◌, List, length, OnOk, IfOk, IfErr, IfSome};
+ghost use Rattle.std.specs.Prelude.{◌≡◌, ◌≢◌, ◌≤◌, ◌⊎◌, List, [], ◌∷◌, length, OnOk, IfOk, IfErr, IfSome, IfNone};
 ghost use Rattle.sketch_base.specs.Seed.{seed_hash};
 ghost use Rattle.sketch_base.specs.declared.error.ErrorKind.TheVariants.{OutOfMemory, InvalidData};
 ghost use Rattle.sketch_base.specs.declared.seed.TheConstants.{DEFAULT_UPDATE_SEED};
@@ -31,8 +31,9 @@ use std::io::Write;
 use theta_sketches::CompactThetaSketch;
 
 /// Runs a command on the files that sources give, under these names, and writes its whole answer and nothing else. It
-/// fails with `NoFiles` or `NotTwo` if too few images, or not two, are named. Any other failure means that memory, a
-/// file, its contents or the writer is at fault.
+/// fails with `NoFiles` only if it needs images and no file is named, and with `NotTwo` only for `minus`, if two files
+/// aren't named or, where contracts know the files' bytes, if these aren't two images. Any other failure means that
+/// memory, a file, its contents or the writer is at fault.
 pub fn answer<S: Sources + Drop, W: Watch, O: Write>(
     alloc: Global,
     command: Command,
@@ -44,7 +45,7 @@ pub fn answer<S: Sources + Drop, W: Watch, O: Write>(
 ) -> Result<(), Failure>
     ensures answered { IfSome (S.texts sources) (λ texts.
         OnOk result (Writes command (options_of options.now) (names_of files.now) texts (O.contents writer.old) (O.contents writer.new))) }
-    ensures failed { IfErr result (IsOfCommand command (length files.now)) }
+    ensures failed { IfErr result (IsOfCommand command options.now.hex (length files.now) (S.texts sources)) }
 {
     let bytes = answer_of(alloc, command, options, files, sources, watch)?;
     put(alloc, writer, "standard output", bytes.as_slice())
@@ -61,7 +62,7 @@ fn answer_of<S: Sources + Drop, W: Watch>(
 ) -> Result<Vec<u8>, Failure>
     ensures answer { IfSome (S.texts sources) (λ texts.
         IfOk result (λ v. IsAnswer command (options_of options.now) (names_of files.now) texts v.items)) }
-    ensures failed { IfErr result (IsOfCommand command (length files.now)) }
+    ensures failed { IfErr result (IsOfCommand command options.now.hex (length files.now) (S.texts sources)) }
 {
     let inputs = Inputs::new(sources, files);
     match command {
@@ -245,7 +246,7 @@ fn combine_inputs<S: Sources + Drop>(
 ) -> Result<Vec<u8>, Failure>
     ensures combined { IfSome (S.texts inputs.entry.sources) (λ texts.
         IfOk result (λ v. IsCombinedOf options.now.hex operator options.now.lg_k texts v.items)) }
-    ensures failed { IfErr result (IsOfCombining operator) }
+    ensures failed { IfErr result (IsOfCombining operator options.now.hex count (S.texts inputs.entry.sources)) }
 {
     let mut images = Images::new(alloc, inputs, options.hex);
     match operator {
@@ -259,11 +260,25 @@ fn combine_inputs<S: Sources + Drop>(
                 return Err(Failure::NotTwo);
             }
             let sketches = all_sketches(alloc, &mut images)?;
-            match sketches.as_slice() {
-                [first, second] => minus_image(alloc, first, second),
-                _ => Err(Failure::NotTwo),
+            match two_of(sketches.as_slice()) {
+                Some((first, second)) => minus_image(alloc, first, second),
+                None => Err(Failure::NotTwo),
             }
         }
+    }
+}
+
+/// The sketches of a list that has just two.
+fn two_of(sketches: &[CompactThetaSketch]) -> Option<(&CompactThetaSketch, &CompactThetaSketch)>
+    ensures some { IfSome result (λ pair. sketches.now ≡ pair.0.now ∷ pair.1.now ∷ []) }
+    ensures none { IfNone result (length sketches.now ≢ 2) }
+{
+    let (first, others) = sketches.split_first()?;
+    let (second, more) = others.split_first()?;
+    if more.is_empty() {
+        Some((first, second))
+    } else {
+        None
     }
 }
 
