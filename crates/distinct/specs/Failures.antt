@@ -1,5 +1,5 @@
 -- When each failure occurs.
-use Rattle.std.specs.Prelude.{ℕ, ◌≡◌, ◌≢◌, ◌⊎◌, ◌==◌, ◌&&◌, ◌-◌, ⊤, Bool, true, false, List, length, Option, IfSome, codes, string_bytes, if◌then◌else◌}
+use Rattle.std.specs.Prelude.{ℕ, ◌≡◌, ◌≢◌, ◌⊎◌, ◌==◌, ◌&&◌, ◌+◌, ◌-◌, ◌^◌, min, ⊤, Bool, true, false, List, [], ◌∷◌, length, Option, IfSome, String, codes, string_bytes, if◌then◌else◌}
 use Rattle.std.specs.Option.{option_map_or}
 use Rattle.std.specs.Str.{bytes_eq}
 use Rattle.lines.specs.declared.key.Key.{Key}
@@ -26,6 +26,15 @@ status_of _ = 2
 -- the name of a file in messages
 abbrev pub called : List ℕ → List ℕ
 called name = if bytes_eq name (codes "-") then codes "standard input" else name
+
+-- the next name is the current one, and the others are left; if no name is left, the current one stays
+abbrev pub NotesNext : {A : Type 0} → (current : List ℕ) → (left : List (String A)) → (new_current : List ℕ) → (new_left : List (String A)) → Type 0
+NotesNext current [] new_current new_left = (new_current ≡ current) × (new_left ≡ [])
+NotesNext current (name ∷ names) new_current new_left = (new_current ≡ string_bytes name) × (new_left ≡ names)
+
+-- the number of a line after this many, as far as it is counted
+abbrev pub next_number : (line : ℕ) → ℕ
+next_number line = min (line + 1) (2 ^ 64 - 1)
 
 -- memory was refused, or the file of this name can't be read, for this reason
 abbrev pub ReportsUnreadable : (name : List ℕ) → Error → Failure → Type 0
@@ -58,11 +67,11 @@ IsOfImages (NoSketch name line) = ⊤
 IsOfImages (NoLine name) = ⊤
 IsOfImages failure = IsOfReading failure
 
--- memory was refused, or an output failed
-abbrev pub IsOfWriting : Failure → Type 0
-IsOfWriting Memory = ⊤
-IsOfWriting (NotWritten name error) = ⊤
-IsOfWriting _ = ⊥
+-- memory was refused, or the output of this name failed
+abbrev pub IsOfWriting : (name : List ℕ) → Failure → Type 0
+IsOfWriting name Memory = ⊤
+IsOfWriting name (NotWritten output error) = string_bytes output ≡ name
+IsOfWriting name _ = ⊥
 
 -- there are not two images: each file is one, and this count of them is not two, or the images in the texts are not two, if these are known
 abbrev pub AreNotTwo : (hex : Bool) → (count : ℕ) → (texts : Option (List (List ℕ))) → Type 0
