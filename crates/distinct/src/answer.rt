@@ -7,16 +7,17 @@ ghost use Rattle.theta_sketches.specs.Image.{written};
 ghost use Rattle.line_sketches.specs.Shards.{AreRead};
 ghost use Rattle.line_sketches.specs.Unions.{IsUnitedImage};
 ghost use Rattle.distinct.specs.Answers.{names_of, sketch_of, intersection_of, difference_of, in_form};
-ghost use Rattle.distinct.specs.Answers.{IsCombinedOf, IsShown, AreShown, IsShownOf, IsAnswer, Writes};
+ghost use Rattle.distinct.specs.Answers.{IsCombinedOf, IsShown, AreShown, IsShownOf, IsAnswer, Writes, Performs};
 ghost use Rattle.distinct.specs.Images.{remaining_images, ReadsNext};
-ghost use Rattle.distinct.specs.Faults.{options_of};
+ghost use Rattle.distinct.specs.Faults.{options_of, request_action};
 ghost use Rattle.distinct.specs.Failures.{status_of, called, IsOfReading, IsOfImages, IsOfCombining, IsOfCommand, ReportsNoSketch};
 ghost use Rattle.distinct.specs.Seeds.{AreSeeded};
 ghost use Rattle.distinct.specs.declared.failure.Failure.TheVariants as failure;
 
-use crate::arguments::{Command, Operator};
+use crate::arguments::{Command, Operator, Request};
 use crate::estimate;
 use crate::failure::{Failure, out_of_memory};
+use crate::help::text_of;
 use crate::images::Images;
 use crate::inputs::{Inputs, called};
 use crate::options::Options;
@@ -29,6 +30,9 @@ use sketch_base::{Error, ErrorKind};
 use std::alloc::Global;
 use std::io::Write;
 use theta_sketches::CompactThetaSketch;
+
+/// The name of standard output in messages.
+const STANDARD_OUTPUT: &str = "standard output";
 
 /// Runs a command on the files that sources give, under these names, and writes its whole answer and nothing else. It
 /// fails with `NoFiles` only if it needs images and no file is named, and with `NotTwo` only for `minus`, if two files
@@ -48,7 +52,27 @@ pub fn answer<S: Sources + Drop, W: Watch, O: Write>(
     ensures failed { IfErr result (IsOfCommand command options.now.hex (length files.now) (S.texts sources)) }
 {
     let bytes = answer_of(alloc, command, options, files, sources, watch)?;
-    put(alloc, writer, "standard output", bytes.as_slice())
+    put(alloc, writer, STANDARD_OUTPUT, bytes.as_slice())
+}
+
+/// Does what a request says, on the files that sources give: prints its text, or runs its command. It fails if the
+/// writer or the command does.
+pub fn perform<S: Sources + Drop, W: Watch, O: Write>(
+    alloc: Global,
+    request: Request<'_>,
+    sources: S,
+    watch: &mut W,
+    writer: &mut O,
+) -> Result<(), Failure>
+    ensures { IfSome (S.texts sources) (λ texts.
+        OnOk result (Performs (request_action request) texts (O.contents writer.old) (O.contents writer.new))) }
+{
+    match request {
+        Request::Print(topic) => put(alloc, writer, STANDARD_OUTPUT, text_of(topic).as_bytes()),
+        Request::Run(command, options, files) => {
+            answer(alloc, command, &options, files, sources, watch, writer)
+        }
+    }
 }
 
 /// The bytes that a command writes.
