@@ -65,7 +65,7 @@ pub fn perform<S: Sources + Drop, W: Watch, O: Write>(
     writer: &mut O,
 ) -> Result<(), Failure>
     ensures { IfSome (S.texts sources) (λ texts.
-        OnOk result (Performs (request_action request) texts (O.contents writer.old) (O.contents writer.new))) }
+        OnOk result (Performs (request_action request.entry) texts (O.contents writer.old) (O.contents writer.new))) }
 {
     match request {
         Request::Print(topic) => put(alloc, writer, STANDARD_OUTPUT, text_of(topic).as_bytes()),
