@@ -11,7 +11,7 @@ use Rattle.std.specs.Io.Buffered.{reader_remaining, reader_inner, reader_buffer,
 use Rattle.std.specs.declared.io.buffered.BufReader.{BufReader}
 use Rattle.std.proofs.lemmas.Str.Ascii.{trim_ascii_is}
 use Rattle.line_sketches.specs.Hex.{bytes_of_hex}
-use Rattle.line_sketches.specs.Sources.{GivesNext, IsFirst}
+use Rattle.line_sketches.specs.Sources.{GivesNext}
 use Rattle.distinct.specs.Images.{ended_lines, line_image, line_images, or_none, images_behind, images_in_lines, images_left, open_text, GivesOrCloses}
 
 -- the first line of a text, and the lines after it

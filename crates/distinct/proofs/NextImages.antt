@@ -1,6 +1,7 @@
 -- Images read one after another.
-use Rattle.std.proofs.Common.{◌≡◌, ℕ, List, [], ◌∷◌, ◌++◌, length, map, Option, Some, None, refl, sym, ap, subst, ◌∙◌, append_assoc, append-nil, arith}
-use Rattle.std.specs.Prelude.{IfSome}
+use Rattle.std.proofs.Common.{◌≡◌, ℕ, suc, Bool, true, false, List, [], ◌∷◌, ◌++◌, length, map, Option, Some, None, refl, sym, ap, subst, ◌∙◌, append_assoc, append-nil, arith}
+use Rattle.std.specs.Prelude.{◌≢◌, IfSome}
+use Rattle.std.specs.declared.io.buffered.BufReader.{BufReader}
 use Rattle.sketch_base.specs.Seed.{seed_hash}
 use Rattle.sketch_base.specs.declared.seed.TheConstants.{DEFAULT_UPDATE_SEED}
 use Rattle.core_compact.specs.CompactState.{Compact}
@@ -9,7 +10,7 @@ use Rattle.line_sketches.specs.Sources.{Continues}
 use Rattle.line_sketches.specs.Shards.{AreRead}
 use Rattle.distinct.specs.Answers.{IsShown, AreShown}
 use Rattle.distinct.specs.Failures.{called}
-use Rattle.distinct.specs.Images.{ReadsFirst, ReadsNext}
+use Rattle.distinct.specs.Images.{images_of, images_left, open_text, ReadsFirst, ReadsNext}
 use Rattle.distinct.specs.Numbers.{shown_line}
 
 -- sketches of all images
@@ -116,3 +117,27 @@ lines_all (Some all) shown None o new so_far next is = absurd so_far
 lines_all (Some all) shown (Some images) o new so_far next is =
     let none : images ≡ [] = subst (ReadsNext (Some images) new) is next in
     subst (AreShown all) (append-nil shown) (so_far [] (subst (λ (l : List (List ℕ)). AreShown l []) (sym none) refl))
+
+-- ---- images that are not two
+
+read_count : (images : List (List ℕ)) (sketches : List (Compact ℕ)) → AreRead images sketches → length images ≡ length sketches
+read_count [] [] read = refl
+read_count [] (s ∷ sketches) read = absurd read
+read_count (image ∷ images) [] read = absurd read
+read_count (image ∷ images) (s ∷ sketches) read = ap suc (read_count images sketches read.1)
+
+not_two : (known : Option (List (List ℕ))) (sketches : List (Compact ℕ)) → IfSome known (λ all. AreRead all sketches) → length sketches ≢ 2 → IfSome known (λ all. length all ≢ 2)
+not_two None sketches read other = tt
+not_two (Some all) sketches read other = λ two. other (sym (read_count all sketches read) ∙ two)
+
+-- before a file is opened, all images of the texts are left
+all_left : (hex : Bool) (line : ℕ) (texts : Option (List (List ℕ))) (P : List (List ℕ) → Type 0) → IfSome (images_left hex None line texts) P → IfSome texts (λ all. P (images_of hex all))
+all_left true line None P holds = tt
+all_left true line (Some texts) P holds = holds
+all_left false line None P holds = tt
+all_left false line (Some texts) P holds = holds
+
+pub left_not_two : {R A : Type 0} (remaining : R → Option (List ℕ)) (hex : Bool) (line : ℕ) (texts : Option (List (List ℕ))) (reader : Option (BufReader R A)) (sketches : List (Compact ℕ)) → reader ≡ None →
+    IfSome (images_left hex (open_text remaining reader) line texts) (λ all. AreRead all sketches) → length sketches ≢ 2 → IfSome texts (λ all. length (images_of hex all) ≢ 2)
+left_not_two remaining hex line texts (Some reader) sketches closed read other = absurd (cc)
+left_not_two remaining hex line texts None sketches closed read other = all_left hex line texts (λ all. length all ≢ 2) (not_two (images_left hex None line texts) sketches read other)

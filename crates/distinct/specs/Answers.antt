@@ -1,5 +1,5 @@
 -- What a command writes, by the texts of its files.
-use Rattle.std.specs.Prelude.{ℕ, ◌≡◌, ◌++◌, ⊤, Bool, true, false, List, [], ◌∷◌, map, Option, String, Vec, string_bytes, decimal, codes, if◌then◌else◌}
+use Rattle.std.specs.Prelude.{ℕ, ◌≡◌, ◌++◌, Bool, true, false, List, [], ◌∷◌, map, Option, String, Vec, string_bytes, decimal, codes, if◌then◌else◌}
 use Rattle.std.specs.Io.KnownBytes.{Appends}
 use Rattle.core_compact.specs.CompactState.{Compact, compact_value}
 use Rattle.core_state.specs.Fraction.{compact_fraction}
@@ -13,7 +13,7 @@ use Rattle.line_sketches.specs.Hex.{hex_of}
 use Rattle.line_sketches.specs.Keys.{value_of_lines, ordered_sketch}
 use Rattle.line_sketches.specs.Shards.{values_of_sketches, AreRead}
 use Rattle.line_sketches.specs.Unions.{IsUnitedImage}
-use Rattle.distinct.specs.Arguments.{OptionValues}
+use Rattle.distinct.specs.Arguments.{OptionValues, Action, prints, runs, fails}
 use Rattle.distinct.specs.Failures.{called, chosen_key}
 use Rattle.distinct.specs.Images.{images_of}
 use Rattle.distinct.specs.Numbers.{nearest, shown_line}
@@ -98,3 +98,9 @@ IsAnswer Show options names texts out = IsShownOf options.hex names texts out
 -- the command's answer was written, and nothing else
 abbrev pub Writes : Command → OptionValues → (names texts : List (List ℕ)) → (old new : Option (List ℕ)) → Type 0
 Writes command options names texts old new = (out : List ℕ) × IsAnswer command options names texts out × Appends old new out
+
+-- the program did what its arguments say: it printed a text, or ran a command on files of these texts
+abbrev pub Performs : Action → (texts : List (List ℕ)) → (old new : Option (List ℕ)) → Type 0
+Performs (prints topic) texts old new = (text : List ℕ) × Appends old new text
+Performs (runs command options files) texts old new = Writes command options files texts old new
+Performs (fails fault) texts old new = ⊥

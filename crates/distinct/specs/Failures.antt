@@ -1,11 +1,12 @@
 -- When each failure occurs.
-use Rattle.std.specs.Prelude.{ℕ, ◌≡◌, ◌==◌, ◌&&◌, ◌-◌, ⊤, Bool, true, false, List, codes, string_bytes, if◌then◌else◌}
+use Rattle.std.specs.Prelude.{ℕ, ◌≡◌, ◌≢◌, ◌⊎◌, ◌==◌, ◌&&◌, ◌+◌, ◌-◌, ◌^◌, min, ⊤, Bool, true, false, List, [], ◌∷◌, length, Option, IfSome, String, codes, string_bytes, if◌then◌else◌}
 use Rattle.std.specs.Option.{option_map_or}
 use Rattle.std.specs.Str.{bytes_eq}
 use Rattle.lines.specs.declared.key.Key.{Key}
 use Rattle.lines.specs.declared.key.Key.TheVariants.{Line, Field}
 use Rattle.std.specs.declared.io.Error.{Error}
 use Rattle.distinct.specs.Arguments.{OptionValues}
+use Rattle.distinct.specs.Images.{images_of}
 use Rattle.distinct.specs.declared.arguments.Command.{Command}
 use Rattle.distinct.specs.declared.arguments.Command.TheVariants.{Count, Sketch, Combine}
 use Rattle.distinct.specs.declared.arguments.Operator.{Operator}
@@ -25,6 +26,15 @@ status_of _ = 2
 -- the name of a file in messages
 abbrev pub called : List ℕ → List ℕ
 called name = if bytes_eq name (codes "-") then codes "standard input" else name
+
+-- the next name is the current one, and the others are left; if no name is left, the current one stays
+abbrev pub NotesNext : {A : Type 0} → (current : List ℕ) → (left : List (String A)) → (new_current : List ℕ) → (new_left : List (String A)) → Type 0
+NotesNext current [] new_current new_left = (new_current ≡ current) × (new_left ≡ [])
+NotesNext current (name ∷ names) new_current new_left = (new_current ≡ string_bytes name) × (new_left ≡ names)
+
+-- the number of a line after this many, as far as it is counted
+abbrev pub next_number : (line : ℕ) → ℕ
+next_number line = min (line + 1) (2 ^ 64 - 1)
 
 -- memory was refused, or the file of this name can't be read, for this reason
 abbrev pub ReportsUnreadable : (name : List ℕ) → Error → Failure → Type 0
@@ -57,22 +67,26 @@ IsOfImages (NoSketch name line) = ⊤
 IsOfImages (NoLine name) = ⊤
 IsOfImages failure = IsOfReading failure
 
--- memory was refused, or an output failed
-abbrev pub IsOfWriting : Failure → Type 0
-IsOfWriting Memory = ⊤
-IsOfWriting (NotWritten name error) = ⊤
-IsOfWriting _ = ⊥
+-- memory was refused, or the output of this name failed
+abbrev pub IsOfWriting : (name : List ℕ) → Failure → Type 0
+IsOfWriting name Memory = ⊤
+IsOfWriting name (NotWritten output error) = string_bytes output ≡ name
+IsOfWriting name _ = ⊥
+
+-- there are not two images: each file is one, and this count of them is not two, or the images in the texts are not two, if these are known
+abbrev pub AreNotTwo : (hex : Bool) → (count : ℕ) → (texts : Option (List (List ℕ))) → Type 0
+AreNotTwo hex count texts = ((hex ≡ false) × (count ≢ 2)) ⊎ IfSome texts (λ all. length (images_of hex all) ≢ 2)
 
 -- images can't be combined: memory, a file or its contents is at fault, or `minus` doesn't have two
-abbrev pub IsOfCombining : Operator → Failure → Type 0
-IsOfCombining operator NotTwo = operator ≡ Minus
-IsOfCombining operator failure = IsOfImages failure
+abbrev pub IsOfCombining : Operator → (hex : Bool) → (count : ℕ) → (texts : Option (List (List ℕ))) → Failure → Type 0
+IsOfCombining operator hex count texts NotTwo = (operator ≡ Minus) × AreNotTwo hex count texts
+IsOfCombining operator hex count texts failure = IsOfImages failure
 
--- a command fails: what it reads or writes is at fault, or it has too few images, or `minus` doesn't have two
-abbrev pub IsOfCommand : Command → (count : ℕ) → Failure → Type 0
-IsOfCommand command count NoFiles = (count ≡ 0) × (command ≡ Count → ⊥) × (command ≡ Sketch → ⊥)
-IsOfCommand command count NotTwo = command ≡ Combine Minus
-IsOfCommand command count failure = status_of failure ≡ 1
+-- a command fails: what it reads or writes is at fault, or it has no image, or `minus` doesn't have two
+abbrev pub IsOfCommand : Command → (hex : Bool) → (count : ℕ) → (texts : Option (List (List ℕ))) → Failure → Type 0
+IsOfCommand command hex count texts NoFiles = (count ≡ 0) × (command ≡ Count → ⊥) × (command ≡ Sketch → ⊥)
+IsOfCommand command hex count texts NotTwo = (command ≡ Combine Minus) × AreNotTwo hex count texts
+IsOfCommand command hex count texts failure = status_of failure ≡ 1
 
 -- the key that options choose: the field of their number, the first being 1, or the whole line
 abbrev pub chosen_key : OptionValues → Key

@@ -1,5 +1,5 @@
 -- The images in files, one after another.
-use Rattle.std.specs.Prelude.{ℕ, ◌≡◌, ◌==◌, ◌-◌, ⊤, Bool, true, false, List, [], ◌∷◌, ◌++◌, length, map, take, drop, unwrap_or, Option, Some, None, IfSome, if◌then◌else◌}
+use Rattle.std.specs.Prelude.{ℕ, ◌≡◌, ◌==◌, ◌-◌, ⊤, Bool, List, [], ◌∷◌, ◌++◌, length, map, take, drop, unwrap_or, Option, Some, None, IfSome, if◌then◌else◌}
 use Rattle.std.specs.Option.{option_map}
 use Rattle.std.specs.Io.Buffered.{reader_remaining}
 use Rattle.std.specs.declared.io.buffered.BufReader.{BufReader}

@@ -1,5 +1,5 @@
 //! What each command writes, over any sources and any writer.
-ghost use Rattle.std.specs.Prelude.{◌≡◌, ◌≤◌, ◌⊎◌, List, length, OnOk, IfOk, IfErr, IfSome};
+ghost use Rattle.std.specs.Prelude.{◌≡◌, ◌≢◌, ◌≤◌, ◌⊎◌, List, [], ◌∷◌, length, OnOk, IfOk, IfErr, IfSome, IfNone};
 ghost use Rattle.sketch_base.specs.Seed.{seed_hash};
 ghost use Rattle.sketch_base.specs.declared.error.ErrorKind.TheVariants.{OutOfMemory, InvalidData};
 ghost use Rattle.sketch_base.specs.declared.seed.TheConstants.{DEFAULT_UPDATE_SEED};
@@ -7,16 +7,17 @@ ghost use Rattle.theta_sketches.specs.Image.{written};
 ghost use Rattle.line_sketches.specs.Shards.{AreRead};
 ghost use Rattle.line_sketches.specs.Unions.{IsUnitedImage};
 ghost use Rattle.distinct.specs.Answers.{names_of, sketch_of, intersection_of, difference_of, in_form};
-ghost use Rattle.distinct.specs.Answers.{IsCombinedOf, IsShown, AreShown, IsShownOf, IsAnswer, Writes};
+ghost use Rattle.distinct.specs.Answers.{IsCombinedOf, IsShown, AreShown, IsShownOf, IsAnswer, Writes, Performs};
 ghost use Rattle.distinct.specs.Images.{remaining_images, ReadsNext};
-ghost use Rattle.distinct.specs.Faults.{options_of};
+ghost use Rattle.distinct.specs.Faults.{options_of, request_action};
 ghost use Rattle.distinct.specs.Failures.{status_of, called, IsOfReading, IsOfImages, IsOfCombining, IsOfCommand, ReportsNoSketch};
 ghost use Rattle.distinct.specs.Seeds.{AreSeeded};
 ghost use Rattle.distinct.specs.declared.failure.Failure.TheVariants as failure;
 
-use crate::arguments::{Command, Operator};
+use crate::arguments::{Command, Operator, Request};
 use crate::estimate;
 use crate::failure::{Failure, out_of_memory};
+use crate::help::text_of;
 use crate::images::Images;
 use crate::inputs::{Inputs, called};
 use crate::options::Options;
@@ -30,9 +31,13 @@ use std::alloc::Global;
 use std::io::Write;
 use theta_sketches::CompactThetaSketch;
 
+/// The name of standard output in messages.
+const STANDARD_OUTPUT: &str = "standard output";
+
 /// Runs a command on the files that sources give, under these names, and writes its whole answer and nothing else. It
-/// fails with `NoFiles` or `NotTwo` if too few images, or not two, are named. Any other failure means that memory, a
-/// file, its contents or the writer is at fault.
+/// fails with `NoFiles` only if it needs images and no file is named, and with `NotTwo` only for `minus`, if two files
+/// aren't named or, where contracts know the files' bytes, if these aren't two images. Any other failure means that
+/// memory, a file, its contents or the writer is at fault.
 pub fn answer<S: Sources + Drop, W: Watch, O: Write>(
     alloc: Global,
     command: Command,
@@ -44,10 +49,30 @@ pub fn answer<S: Sources + Drop, W: Watch, O: Write>(
 ) -> Result<(), Failure>
     ensures answered { IfSome (S.texts sources) (λ texts.
         OnOk result (Writes command (options_of options.now) (names_of files.now) texts (O.contents writer.old) (O.contents writer.new))) }
-    ensures failed { IfErr result (IsOfCommand command (length files.now)) }
+    ensures failed { IfErr result (IsOfCommand command options.now.hex (length files.now) (S.texts sources)) }
 {
     let bytes = answer_of(alloc, command, options, files, sources, watch)?;
-    put(alloc, writer, "standard output", bytes.as_slice())
+    put(alloc, writer, STANDARD_OUTPUT, bytes.as_slice())
+}
+
+/// Does what a request says, on the files that sources give: prints its text, or runs its command. It fails if the
+/// writer or the command does.
+pub fn perform<S: Sources + Drop, W: Watch, O: Write>(
+    alloc: Global,
+    request: Request<'_>,
+    sources: S,
+    watch: &mut W,
+    writer: &mut O,
+) -> Result<(), Failure>
+    ensures { IfSome (S.texts sources) (λ texts.
+        OnOk result (Performs (request_action request.entry) texts (O.contents writer.old) (O.contents writer.new))) }
+{
+    match request {
+        Request::Print(topic) => put(alloc, writer, STANDARD_OUTPUT, text_of(topic).as_bytes()),
+        Request::Run(command, options, files) => {
+            answer(alloc, command, &options, files, sources, watch, writer)
+        }
+    }
 }
 
 /// The bytes that a command writes.
@@ -61,7 +86,7 @@ fn answer_of<S: Sources + Drop, W: Watch>(
 ) -> Result<Vec<u8>, Failure>
     ensures answer { IfSome (S.texts sources) (λ texts.
         IfOk result (λ v. IsAnswer command (options_of options.now) (names_of files.now) texts v.items)) }
-    ensures failed { IfErr result (IsOfCommand command (length files.now)) }
+    ensures failed { IfErr result (IsOfCommand command options.now.hex (length files.now) (S.texts sources)) }
 {
     let inputs = Inputs::new(sources, files);
     match command {
@@ -245,7 +270,7 @@ fn combine_inputs<S: Sources + Drop>(
 ) -> Result<Vec<u8>, Failure>
     ensures combined { IfSome (S.texts inputs.entry.sources) (λ texts.
         IfOk result (λ v. IsCombinedOf options.now.hex operator options.now.lg_k texts v.items)) }
-    ensures failed { IfErr result (IsOfCombining operator) }
+    ensures failed { IfErr result (IsOfCombining operator options.now.hex count (S.texts inputs.entry.sources)) }
 {
     let mut images = Images::new(alloc, inputs, options.hex);
     match operator {
@@ -259,11 +284,25 @@ fn combine_inputs<S: Sources + Drop>(
                 return Err(Failure::NotTwo);
             }
             let sketches = all_sketches(alloc, &mut images)?;
-            match sketches.as_slice() {
-                [first, second] => minus_image(alloc, first, second),
-                _ => Err(Failure::NotTwo),
+            match two_of(sketches.as_slice()) {
+                Some((first, second)) => minus_image(alloc, first, second),
+                None => Err(Failure::NotTwo),
             }
         }
+    }
+}
+
+/// The sketches of a list that has just two.
+fn two_of(sketches: &[CompactThetaSketch]) -> Option<(&CompactThetaSketch, &CompactThetaSketch)>
+    ensures some { IfSome result (λ pair. sketches.now ≡ pair.0.now ∷ pair.1.now ∷ []) }
+    ensures none { IfNone result (length sketches.now ≢ 2) }
+{
+    let (first, others) = sketches.split_first()?;
+    let (second, more) = others.split_first()?;
+    if more.is_empty() {
+        Some((first, second))
+    } else {
+        None
     }
 }
 

@@ -1,10 +1,12 @@
 //! The images in files: a file is one image and nothing else, or each of its lines is one in hexadecimal, with blanks
 //! allowed around it.
-ghost use Rattle.std.specs.Prelude.{◌≡◌, true, Some, None, IfOk};
+ghost use Rattle.std.specs.Prelude.{◌≡◌, ◌≢◌, true, Some, None, IfOk, IfSome};
+ghost use Rattle.std.specs.IoError.{error_kind};
+ghost use Rattle.std.specs.declared.io.ErrorKind.TheVariants.{InvalidData};
 ghost use Rattle.std.specs.Io.Buffered.{reader_remaining};
 ghost use Rattle.line_sketches.specs.Sources.{GivesNext};
 ghost use Rattle.distinct.specs.Images.{remaining_images, GivesOrCloses};
-ghost use Rattle.distinct.specs.Failures.{called, IsOfImages, ReportsNoSketch};
+ghost use Rattle.distinct.specs.Failures.{called, next_number, IsOfImages, NotesNext, ReportsUnreadable, ReportsNoSketch};
 
 use crate::failure::Failure;
 use crate::inputs::Inputs;
@@ -76,7 +78,9 @@ impl<'a, S: Sources> Images<'a, S> {
 
     /// The failure if the file can't be read, or isn't an image.
     pub fn unreadable(&self, error: io::Error) -> Failure
-        ensures { IsOfImages result }
+        ensures data { error_kind error ≡ InvalidData → ReportsNoSketch (called self.now.inputs.current.now) self.now.hex self.now.line result }
+        ensures read { error_kind error ≢ InvalidData → ReportsUnreadable (called self.now.inputs.current.now) error result }
+        ensures of_images { IsOfImages result }
     {
         if error.kind() == ErrorKind::InvalidData {
             return self.no_sketch();
@@ -117,6 +121,7 @@ impl<'a, S: Sources> Images<'a, S> {
     fn next_whole(&mut self) -> io::Result<Option<Vec<u8>>>
         ensures next { IfOk result (GivesNext (λ v. Some v.items) (S.texts self.old.inputs.sources) (S.texts self.new.inputs.sources)) }
         ensures hex { self.new.hex ≡ self.old.hex }
+        ensures named { NotesNext self.old.inputs.current.now self.old.inputs.left.now self.new.inputs.current.now self.new.inputs.left.now }
     {
         let Some(mut input) = self.inputs.next_source()? else {
             return Ok(None);
@@ -152,6 +157,8 @@ impl<'a, S: Sources> Images<'a, S> {
     fn line_of_open(&mut self) -> io::Result<Option<Vec<u8>>>
         requires lines { self.old.hex ≡ true }
         ensures hex { self.new.hex ≡ self.old.hex }
+        ensures named { self.new.inputs ≡ self.old.inputs }
+        ensures counted { IfOk result (λ image. IfSome image (λ _. self.new.line ≡ next_number self.old.line)) }
         ensures next { IfOk result (GivesOrCloses (λ v. v.items)
             (remaining_images S.Source.remaining S.texts self.old)
             (remaining_images S.Source.remaining S.texts self.new)

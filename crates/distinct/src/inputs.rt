@@ -1,6 +1,7 @@
 //! The files that the program reads.
-ghost use Rattle.std.specs.Prelude.{◌≡◌, None};
-ghost use Rattle.distinct.specs.Failures.{called, ReportsUnreadable};
+ghost use Rattle.std.specs.Prelude.{◌≡◌, None, IfOk};
+ghost use Rattle.line_sketches.specs.Sources.{GivesNext};
+ghost use Rattle.distinct.specs.Failures.{called, NotesNext, ReportsUnreadable};
 
 use crate::failure::Failure;
 use line_sketches::Sources;
@@ -136,7 +137,10 @@ impl<'a, S: Sources> Sources for Inputs<'a, S> {
 
     ghost texts = { λ s. S.texts s.sources };
 
-    fn next_source(&mut self) -> io::Result<Option<S::Source>> {
+    fn next_source(&mut self) -> io::Result<Option<S::Source>>
+        ensures next { IfOk result (GivesNext S.Source.remaining (S.texts self.old.sources) (S.texts self.new.sources)) }
+        ensures named { NotesNext self.old.current.now self.old.left.now self.new.current.now self.new.left.now }
+    {
         if let Some((name, others)) = self.left.split_first() {
             self.current = name.as_str();
             self.left = others;

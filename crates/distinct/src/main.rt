@@ -16,11 +16,10 @@ mod progress;
 #[cfg(test)]
 mod tests;
 
-use crate::answer::answer;
+use crate::answer::perform;
 use crate::arguments::{Command, Request, read_arguments};
 use crate::failure::Failure;
 use crate::inputs::Files;
-use crate::options::Options;
 use crate::progress::Progress;
 use std::env;
 use std::process::ExitCode;
@@ -41,50 +40,27 @@ fn run(rt: &HostRuntime) -> Result<(), Failure> {
         return Err(Failure::NotText);
     };
     let words: Vec<String> = args.skip(1).collect(rt.alloc())?;
-    match read_arguments(words.as_slice())? {
-        Request::Print(topic) => output::put(
-            rt.alloc(),
-            &mut rt.stdout(),
-            STANDARD_OUTPUT,
-            help::text_of(topic).as_bytes(),
-        ),
-        Request::Run(command, options, files) => run_command(rt, command, &options, files),
-    }
+    run_request(rt, read_arguments(words.as_slice())?)
 }
 
-/// The name of standard output in messages.
-const STANDARD_OUTPUT: &str = "standard output";
-
-/// Runs a command and writes its answer to standard output, or to the file that `--output` names. The whole answer is
-/// made before that file is created.
-fn run_command(
-    rt: &HostRuntime,
-    command: Command,
-    options: &Options<'_>,
-    files: &[String],
-) -> Result<(), Failure> {
-    let reads_lines = command == Command::Count || command == Command::Sketch;
-    let sources = Files::named(rt, files, reads_lines);
-    let mut watch = Progress::new(rt, options.progress);
+/// Does what a request says. The answer goes to standard output, or to the file that `--output` names, which is created
+/// once the whole answer is made.
+fn run_request(rt: &HostRuntime, request: Request<'_>) -> Result<(), Failure> {
     let alloc = rt.alloc();
-    match options.output {
-        None => {
-            let mut writer = rt.stdout();
-            answer(
-                alloc,
-                command,
-                options,
-                files,
-                sources,
-                &mut watch,
-                &mut writer,
-            )
+    let (files, reads_lines, progress, output) = match request {
+        Request::Print(_) => (&[] as &[String], false, false, None),
+        Request::Run(command, options, files) => {
+            let reads_lines = command == Command::Count || command == Command::Sketch;
+            (files, reads_lines, options.progress, options.output)
         }
+    };
+    let sources = Files::named(rt, files, reads_lines);
+    let mut watch = Progress::new(rt, progress);
+    match output {
+        None => perform(alloc, request, sources, &mut watch, &mut rt.stdout()),
         Some(name) => {
             let mut bytes = Vec::new(alloc);
-            answer(
-                alloc, command, options, files, sources, &mut watch, &mut bytes,
-            )?;
+            perform(alloc, request, sources, &mut watch, &mut bytes)?;
             output::put_file(rt, name, bytes.as_slice())
         }
     }

@@ -12,7 +12,7 @@ use std::{fs, io};
 /// Writes bytes to a writer, which has this name in messages.
 pub fn put<W: Write>(alloc: Global, writer: &mut W, name: &str, bytes: &[u8]) -> Result<(), Failure>
     ensures written { OnOk result (Appends (W.contents writer.old) (W.contents writer.new) bytes.now) }
-    ensures failed { IfErr result IsOfWriting }
+    ensures failed { IfErr result (IsOfWriting name.now) }
 {
     match writer.write_all(bytes) {
         Ok(()) => Ok(()),
@@ -22,7 +22,7 @@ pub fn put<W: Write>(alloc: Global, writer: &mut W, name: &str, bytes: &[u8]) ->
 
 /// Writes a file of this name, or writes to the device or pipe of this name.
 pub fn put_file(rt: &HostRuntime, name: &str, bytes: &[u8]) -> Result<(), Failure>
-    ensures { IfErr result IsOfWriting }
+    ensures { IfErr result (IsOfWriting name.now) }
 {
     match write_file(rt, name, bytes) {
         Ok(()) => Ok(()),

@@ -1,14 +1,15 @@
 //! Tests of messages with their statuses, of help, and of what each command writes of texts in memory.
 
-ghost use Rattle.std.specs.Prelude.{◌≡◌, ℕ, List, IfOk};
+ghost use Rattle.std.specs.Prelude.{◌≡◌, ℕ, List, [], Some, IfOk};
 ghost use Rattle.theta_sketches.specs.Image.{written};
 ghost use Rattle.line_sketches.specs.Unions.{IsUnitedImage};
-ghost use Rattle.distinct.specs.Answers.{sketch_of, count_line, in_form, names_of, texts_of, IsIntersectionImage, IsDifferenceImage, IsShownOf, IsAnswer};
+ghost use Rattle.distinct.specs.Answers.{sketch_of, count_line, in_form, names_of, texts_of, IsIntersectionImage, IsDifferenceImage, IsShownOf, IsAnswer, Performs};
+ghost use Rattle.distinct.specs.Arguments.{action_of};
 ghost use Rattle.distinct.specs.Faults.{options_of};
 ghost use Rattle.distinct.specs.Images.{images_of};
 
-use crate::answer::answer;
-use crate::arguments::{Command, Operator, Topic, has_option};
+use crate::answer::{answer, perform};
+use crate::arguments::{Command, Operator, Topic, has_option, read_arguments};
 use crate::failure::Failure;
 use crate::help::text_of;
 use crate::options::Options;
@@ -215,6 +216,17 @@ fn answered(
     Ok(bytes)
 }
 
+/// What the program writes by its arguments, of texts in memory.
+fn performed(alloc: Global, words: &[String], texts: &[Vec<u8>]) -> Result<Vec<u8>, Failure>
+    ensures { IfOk result (λ v. Performs (action_of (names_of words.now)) (texts_of texts.now) (Some []) (Some v.items)) }
+{
+    let request = read_arguments(words)?;
+    let mut bytes = Vec::new(alloc);
+    let mut watch = Quiet {};
+    perform(alloc, request, Texts::new(texts), &mut watch, &mut bytes)?;
+    Ok(bytes)
+}
+
 /// What `count` writes of texts.
 fn count_of(
     alloc: Global,
@@ -311,13 +323,13 @@ fn written_by(
     }
 }
 
-/// The names of two files.
-fn two_names(alloc: Global) -> Result<Vec<String>, AllocError> {
-    let mut names = Vec::new(alloc);
-    for name in ["a", "b"] {
-        names.push(String::from_str(alloc, name)?)?;
+/// Texts as a list of words.
+fn words_of(alloc: Global, texts: &[&str]) -> Result<Vec<String>, AllocError> {
+    let mut words = Vec::new(alloc);
+    for text in texts {
+        words.push(String::from_str(alloc, text)?)?;
     }
-    Ok(names)
+    Ok(words)
 }
 
 /// Two texts, or the bytes that they spell in hexadecimal digits.
@@ -353,7 +365,7 @@ fn line_of(
     };
     let reads_lines = command == Command::Count || command == Command::Sketch;
     let writes_lines = command == Command::Count || command == Command::Show;
-    let names = two_names(alloc)?;
+    let names = words_of(alloc, &["a", "b"])?;
     let files = two_texts(alloc, !hex && !reads_lines, texts)?;
     let written = written_by(alloc, command, &options, names.as_slice(), files.as_slice())?;
     if hex || writes_lines {
@@ -365,6 +377,10 @@ fn line_of(
 
 /// Two texts of lines, each cut into lines by itself: three different lines.
 const TEXTS: [&str; 2] = ["ann\nbob", "bob\n\nann"];
+
+/// The image of their lines.
+const THREE: &str =
+    "02030300001acc930300000000000000dc8d24339151380f5f1032909707cc27fc08309e1c5ed36b\n";
 
 /// The images of `examples/lines/data/both.hex`.
 const EXACT: [&str; 2] = [
@@ -387,11 +403,7 @@ fn answers_each_command(rt: HostRuntime) -> Result<(), Fail> {
     let minus = Command::Combine(Operator::Minus);
     for (command, texts, line) in [
         (Command::Count, TEXTS, "3\n"),
-        (
-            Command::Sketch,
-            TEXTS,
-            "02030300001acc930300000000000000dc8d24339151380f5f1032909707cc27fc08309e1c5ed36b\n",
-        ),
+        (Command::Sketch, TEXTS, THREE),
         (
             union,
             EXACT,
@@ -440,6 +452,33 @@ fn answers_each_command(rt: HostRuntime) -> Result<(), Fail> {
             };
             assert_eq!(rt; written.as_slice(), line.as_bytes(), "{command:?} {hex}");
         }
+    }
+    Ok(())
+}
+
+/// What the program writes by these arguments, of the texts of `TEXTS`.
+fn performed_on_texts(alloc: Global, arguments: &[&str]) -> Result<Vec<u8>, Failure> {
+    let words = words_of(alloc, arguments)?;
+    let files = two_texts(alloc, false, TEXTS)?;
+    performed(alloc, words.as_slice(), files.as_slice())
+}
+
+/// From arguments to what is written: an option counts, and help reads no file.
+#[test]
+fn performs_arguments(rt: HostRuntime) -> Result<(), Fail> {
+    for (arguments, text) in [
+        (["count", "--", "a", "b"], "3\n"),
+        (["sketch", "--hex", "a", "b"], THREE),
+        (
+            ["count", "--help", "a", "b"],
+            text_of(Topic::Help(Command::Count)),
+        ),
+    ] {
+        let written = match performed_on_texts(rt.alloc(), &arguments) {
+            Ok(bytes) => bytes,
+            Err(_) => Vec::new(rt.alloc()),
+        };
+        assert_eq!(rt; written.as_slice(), text.as_bytes(), "{text}");
     }
     Ok(())
 }

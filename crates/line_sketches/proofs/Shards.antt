@@ -11,7 +11,7 @@ use Rattle.core_laws.specs.declared.leaf.LeafStep.TheVariants.{Add, Trim}
 use Rattle.core_laws.specs.Leaf.{whole_from, whole_step, hash_step_of, kmin}
 use Rattle.core_laws.specs.Operators.{join, joined, joined_all, nonempties, unite_nonempty}
 use Rattle.core_laws.specs.Samples.{IsSample, AreSamples, IsLawfulValue, AreLawful}
-use Rattle.core_laws.specs.Values.{Sketch, Empty, NonEmpty}
+use Rattle.core_laws.specs.Values.{Sketch, NonEmpty}
 use Rattle.core_laws.specs.declared.TheConstants.{MAX_THETA}
 use Rattle.core_laws.proofs.maps.Ascending.{ascending-nil}
 use Rattle.core_laws.proofs.insertions.Leaves.{leaf-sample, leaf-lawful, hash_keeps}

@@ -1,4 +1,4 @@
-use Rattle.std.proofs.Common.{◌≡◌, refl, arith, ne_eqb}
+use Rattle.std.proofs.Common.{refl, arith, ne_eqb}
 use Rattle.std.specs.Io.Buffered.{reader_remaining}
 use Rattle.distinct.proofs.ImageLines.{at_end, next_line, some_read}
 use Rattle.distinct.proofs.images.Images.line_of_open.Goals as goal

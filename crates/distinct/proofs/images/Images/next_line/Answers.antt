@@ -1,4 +1,4 @@
-use Rattle.std.proofs.Common.{◌≡◌, None, subst, ◌∙◌}
+use Rattle.std.proofs.Common.{subst, ◌∙◌}
 use Rattle.line_sketches.specs.Sources.{GivesNext}
 use Rattle.distinct.specs.Images.{remaining_images, GivesOrCloses}
 use Rattle.distinct.proofs.ImageLines.{known_same, none_of, gives_first, opened, at_last}
@@ -22,7 +22,7 @@ returns-in_default-2 g c =
     let closes = subst (GivesOrCloses (λ v. v.items) now new c.line_of_open.new.self.«open») (none_of c.in_ok-image.field-0 c.in_default.not-Some) c.in_ok-image.ensures.next in
     record {
       next = at_last (remaining_images g.S.Source.Read.remaining g.S.Sources.texts c.args.self.now) now _ c.line_of_open.new.self.hex c.line_of_open.new.self.line g.S.Source.Read.remaining c.line_of_open.new.self.«open» _ _ _ c.files.invariant.same (c.in_ok-image.ensures.hex ∙ c.files.invariant.hex) closes
-          (subst (GivesNext g.S.Source.Read.remaining _ _) (none_of c.in_ok-input.field-0 c.in_default-2.not-Some) c.in_ok-input.ensures);
+          (subst (GivesNext g.S.Source.Read.remaining _ _) (none_of c.in_ok-input.field-0 c.in_default-2.not-Some) c.in_ok-input.ensures.next);
     }
 
 pub files-preserved : goal.files-preserved
@@ -33,5 +33,5 @@ files-preserved g c =
     record {
       hex = c.in_ok-image.ensures.hex ∙ c.files.invariant.hex;
       same = opened (remaining_images g.S.Source.Read.remaining g.S.Sources.texts c.args.self.now) now c.line_of_open.new.self.hex c.line_of_open.new.self.line g.S.Source.Read.remaining c.line_of_open.new.self.«open» _ _ c.in-Some-2.input c.in_ok-new.field-0 c.files.invariant.same (c.in_ok-image.ensures.hex ∙ c.files.invariant.hex) closes
-          (subst (GivesNext g.S.Source.Read.remaining _ _) c.in-Some-2.is c.in_ok-input.ensures) c.in_ok-new.ensures.inner c.in_ok-new.ensures.empty c.in_ok-new.ensures.capacity;
+          (subst (GivesNext g.S.Source.Read.remaining _ _) c.in-Some-2.is c.in_ok-input.ensures.next) c.in_ok-new.ensures.inner c.in_ok-new.ensures.empty c.in_ok-new.ensures.capacity;
     }
