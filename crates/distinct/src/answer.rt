@@ -35,9 +35,9 @@ use theta_sketches::CompactThetaSketch;
 const STANDARD_OUTPUT: &str = "standard output";
 
 /// Runs a command on the files that sources give, under these names, and writes its whole answer and nothing else. It
-/// fails with `NoFiles` only if it needs images and no file is named, and with `NotTwo` only for `minus`, if two files
-/// aren't named or, where contracts know the files' bytes, if these aren't two images. Any other failure means that
-/// memory, a file, its contents or the writer is at fault.
+/// fails with `NoFiles` only if it needs images and no file is named. It fails with `NotTwo` only for `minus` and, if
+/// contracts know the files' bytes, only if two files aren't named (without `--hex`) or their images aren't two. Any
+/// other failure has status 1: memory, a file, its contents or the writer is at fault.
 pub fn answer<S: Sources + Drop, W: Watch, O: Write>(
     alloc: Global,
     command: Command,

@@ -3,7 +3,8 @@
 ghost use Rattle.std.specs.Prelude.{◌≡◌, ℕ, List, [], Some, IfOk};
 ghost use Rattle.theta_sketches.specs.Image.{written};
 ghost use Rattle.line_sketches.specs.Unions.{IsUnitedImage};
-ghost use Rattle.distinct.specs.Answers.{sketch_of, count_line, in_form, names_of, texts_of, IsIntersectionImage, IsDifferenceImage, IsShownOf, IsAnswer, Performs};
+ghost use Rattle.distinct.specs.Answers.{names_of, texts_of, sketch_of, count_line, in_form};
+ghost use Rattle.distinct.specs.Answers.{IsIntersectionImage, IsDifferenceImage, IsShownOf, IsAnswer, Performs};
 ghost use Rattle.distinct.specs.Arguments.{action_of};
 ghost use Rattle.distinct.specs.Faults.{options_of};
 ghost use Rattle.distinct.specs.Images.{images_of};
