@@ -13,7 +13,7 @@ use Rattle.std.proofs.lemmas.Map.Keys.{IsDistinct-IsPermutation, IsStrictlyIncre
 use Rattle.core_compact.specs.CompactState.{shown_of}
 use Rattle.core_laws.specs.Maps.{IsAscending}
 use Rattle.core_images.specs.Entry.{state_after_preamble}
-use Rattle.core_images.specs.Check.{ascends_from, is_ascending, is_within, AreHashes}
+use Rattle.core_images.specs.Check.{ascends_from, is_ascending, are_below, AreHashes}
 use Rattle.core_laws.specs.Shown.{IsShown}
 use Rattle.core_laws.specs.declared.TheConstants.{MAX_THETA}
 use Rattle.core_images.specs.declared.preamble.Preamble.{Preamble}
@@ -55,23 +55,23 @@ is_ascending_from (x ∷ xs) up = up_ascends x xs up.0 up.1
 distinct_from : (xs : List ℕ) → IsAscending (λ h. h) xs → AllPairs (λ x y. x ≢ y) xs
 distinct_from xs up = λ i j d lt in_range same. omega (arith, ascending_at (λ h. h) xs i j d up lt in_range, same)
 
-within_from : (theta : ℕ) (xs : List ℕ) → is_within theta xs ≡ true → AllByRecursion (λ h. 0 < h) xs × AllByRecursion (λ h. h < theta) xs
+within_from : (theta : ℕ) (xs : List ℕ) → are_below theta xs ≡ true → AllByRecursion (λ h. 0 < h) xs × AllByRecursion (λ h. h < theta) xs
 within_from theta [] e = (tt, tt)
 within_from theta (x ∷ xs) e =
-    let parts = both (ltb 0 x && ltb x theta) (is_within theta xs) e in
+    let parts = both (ltb 0 x && ltb x theta) (are_below theta xs) e in
     let ends = both (ltb 0 x) (ltb x theta) parts.0 in
     let rest = within_from theta xs parts.1 in
     ((ltb-true _ _ ends.0, rest.0), (ltb-true _ _ ends.1, rest.1))
 
-from_within : (theta : ℕ) (xs : List ℕ) → AllByRecursion (λ h. 0 < h) xs → AllByRecursion (λ h. h < theta) xs → is_within theta xs ≡ true
+from_within : (theta : ℕ) (xs : List ℕ) → AllByRecursion (λ h. 0 < h) xs → AllByRecursion (λ h. h < theta) xs → are_below theta xs ≡ true
 from_within theta [] a b = refl
 from_within theta (x ∷ xs) a b = rw (lt-ltb 0 x a.0, lt-ltb x theta b.0) (from_within theta xs a.1 b.1)
 
 -- the four results of the check
-pub outside : (theta : ℕ) (ordered : Bool) (xs : List ℕ) → is_within theta xs ≡ false → Decides false (AreHashes theta ordered xs)
+pub outside : (theta : ℕ) (ordered : Bool) (xs : List ℕ) → are_below theta xs ≡ false → Decides false (AreHashes theta ordered xs)
 outside theta ordered xs e = (λ f. absurd (cc), λ good. let w = from_within theta xs good.nonzero good.below_theta in cc)
 
-pub in_order : (theta : ℕ) (ordered : Bool) (xs : List ℕ) → is_within theta xs ≡ true → is_ascending xs ≡ true → Decides true (AreHashes theta ordered xs)
+pub in_order : (theta : ℕ) (ordered : Bool) (xs : List ℕ) → are_below theta xs ≡ true → is_ascending xs ≡ true → Decides true (AreHashes theta ordered xs)
 in_order theta ordered xs e r =
     let up = ascending_from xs r in
     let within = within_from theta xs e in
@@ -80,7 +80,7 @@ in_order theta ordered xs e r =
 pub unordered : (theta : ℕ) (xs : List ℕ) → is_ascending xs ≡ false → Decides false (AreHashes theta true xs)
 unordered theta xs e = (λ f. absurd (cc), λ good. let r = is_ascending_from xs (good.ascending refl) in cc)
 
-pub by_distinct : (theta : ℕ) (xs : List ℕ) (b : Bool) → is_within theta xs ≡ true → Decides b (AllPairs (λ x y. x ≢ y) xs) → Decides b (AreHashes theta false xs)
+pub by_distinct : (theta : ℕ) (xs : List ℕ) (b : Bool) → are_below theta xs ≡ true → Decides b (AllPairs (λ x y. x ≢ y) xs) → Decides b (AreHashes theta false xs)
 by_distinct theta xs b e d =
     let within = within_from theta xs e in
     (λ yes. record { distinct = d.0 yes; nonzero = within.0; below_theta = within.1; ascending = λ o. absurd (cc) }, λ good. d.1 good.distinct)
@@ -150,7 +150,7 @@ from_zero : (xs : List ℕ) → ascends_from 0 xs ≡ true → is_ascending xs �
 from_zero [] e = refl
 from_zero (x ∷ xs) e = (both (ltb 0 x) (ascends_from x xs) e).1
 
-pub up_from_zero : (theta : ℕ) (ordered : Bool) (xs : List ℕ) (b : Bool) → ascends_from 0 xs ≡ true → b ≡ is_within theta xs → Decides b (AreHashes theta ordered xs)
+pub up_from_zero : (theta : ℕ) (ordered : Bool) (xs : List ℕ) (b : Bool) → ascends_from 0 xs ≡ true → b ≡ are_below theta xs → Decides b (AreHashes theta ordered xs)
 up_from_zero theta ordered xs true e w = in_order theta ordered xs (sym w) (from_zero xs e)
 up_from_zero theta ordered xs false e w = outside theta ordered xs (sym w)
 
@@ -170,15 +170,15 @@ some_same x y e = ap (λ o. unwrap_or o x) e
 
 -- if keys ascend from 0, all are below theta exactly if the last is
 module _ {X : Type 0} (key : X → ℕ) (theta : ℕ) where
-  with_first : (x y : ℕ) (ys : List ℕ) → 0 < x → x < y → (w : Bool) → is_within theta (y ∷ ys) ≡ w → w ≡ is_within theta (x ∷ y ∷ ys)
+  with_first : (x y : ℕ) (ys : List ℕ) → 0 < x → x < y → (w : Bool) → are_below theta (y ∷ ys) ≡ w → w ≡ are_below theta (x ∷ y ∷ ys)
   with_first x y ys low less true e =
-      let parts = both (ltb 0 y && ltb y theta) (is_within theta ys) e in
+      let parts = both (ltb 0 y && ltb y theta) (are_below theta ys) e in
       let under = ltb-true y theta (both (ltb 0 y) (ltb y theta) parts.0).1 in
       let lower : x < theta = omega (arith, less, under) in
       sym (rw (lt-ltb 0 x low, lt-ltb x theta lower) e)
   with_first x y ys low less false e = sym (rw e (and_false (ltb 0 x && ltb x theta)))
 
-  of_last : (x : X) (xs : List X) (e : X) (n : ℕ) → n ≡ length xs → Some e ≡ slice_get (x ∷ xs) n → 0 < key x → ascends_from (key x) (map key xs) ≡ true → ltb (key e) theta ≡ is_within theta (map key (x ∷ xs))
+  of_last : (x : X) (xs : List X) (e : X) (n : ℕ) → n ≡ length xs → Some e ≡ slice_get (x ∷ xs) n → 0 < key x → ascends_from (key x) (map key xs) ≡ true → ltb (key e) theta ≡ are_below theta (map key (x ∷ xs))
   of_last x [] e zero n found low up =
       let same = some_same e x found in
       sym (rw (lt-ltb 0 (key x) low, and_true (ltb (key x) theta)) (ap (λ z. ltb (key z) theta) (sym same)))
@@ -188,9 +188,9 @@ module _ {X : Type 0} (key : X → ℕ) (theta : ℕ) where
       let parts = both (ltb (key x) (key y)) (ascends_from (key y) (map key xs)) up in
       let less = ltb-true (key x) (key y) parts.0 in
       let rest = of_last y xs e m (omega (arith, n)) found (omega (arith, low, less)) parts.1 in
-      rest ∙ with_first (key x) (key y) (map key xs) low less (is_within theta (map key (y ∷ xs))) refl
+      rest ∙ with_first (key x) (key y) (map key xs) low less (are_below theta (map key (y ∷ xs))) refl
 
-  pub last_decides : (xs : List X) (e : X) → Some e ≡ slice_get xs (length xs - 1) → ascends_from 0 (map key xs) ≡ true → ltb (key e) theta ≡ is_within theta (map key xs)
+  pub last_decides : (xs : List X) (e : X) → Some e ≡ slice_get xs (length xs - 1) → ascends_from 0 (map key xs) ≡ true → ltb (key e) theta ≡ are_below theta (map key xs)
   last_decides [] e found up = absurd (cc)
   last_decides (x ∷ xs) e found up =
       let parts = both (ltb 0 (key x)) (ascends_from (key x) (map key xs)) up in

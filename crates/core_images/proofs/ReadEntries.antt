@@ -2,7 +2,7 @@
 use Rattle.std.proofs.Common.{◌≡◌, ℕ, ◌+◌, ◌*◌, ◌/◌, ◌<◌, ◌≤◌, ◌^◌, List, [], ◌∷◌, ◌++◌, length, drop, map, Some, Result, Ok, Err, refl, sym, ap, ◌∙◌, subst, inl, inr, arith, append_assoc, length-append}
 use Rattle.sketch_base.specs.declared.error.ErrorKind.{ErrorKind}
 use Rattle.core_compact.specs.CompactState.{Compact, shown_of}
-use Rattle.core_images.specs.Read.{IsRefused, Finds, LeavesOpen}
+use Rattle.core_images.specs.Read.{IsRefused, ReadsState, LeavesOpen}
 use Rattle.core_images.specs.Entry.{SpellsEach, Holds, state_after_preamble}
 use Rattle.core_images.specs.Preamble.{IsWholeLayout}
 use Rattle.core_images.specs.Check.{AreHashes}
@@ -15,7 +15,7 @@ use Rattle.core_images.proofs.AscendingTests.{hashes_from, lawful_from}
 pub refused_weaker : {P Q : Type 0} (e : ErrorKind) → (Q → P) → IsRefused e P → IsRefused e Q
 refused_weaker e f r = elim r [ inl memory ↦ inl memory | inr none ↦ inr (none.0, λ q. none.1 (f q)) ]
 
-pub finds_along : {X : Type 0} (P Q : X → Type 0) (r : Result X ErrorKind) → ((x : X) → P x → Q x) → ((x : X) → Q x → P x) → Finds P r → Finds Q r
+pub finds_along : {X : Type 0} (P Q : X → Type 0) (r : Result X ErrorKind) → ((x : X) → P x → Q x) → ((x : X) → Q x → P x) → ReadsState P r → ReadsState Q r
 finds_along P Q (Ok x) f g found = f x found
 finds_along P Q (Err e) f g found = refused_weaker e (λ q. (q.0, g q.0 q.1)) found
 

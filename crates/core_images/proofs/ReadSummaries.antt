@@ -2,13 +2,13 @@
 use Rattle.std.proofs.Common.{◌≡◌, ℕ, List, ◌++◌, take, drop, refl, sym, ap, ◌∙◌, append_assoc, take-append-drop}
 use Rattle.std.proofs.Math.Seq.{drop-append_seam}
 use Rattle.std.proofs.lemmas.List.{length-take-le}
-use Rattle.sketch_base.specs.Cursor.{Reads}
+use Rattle.sketch_base.specs.Cursor.{ReadsBytes}
 use Rattle.core_slots.specs.declared.entry.TupleEntry.{TupleEntry}
 use Rattle.core_images.specs.Summary.{SpellsTuple}
 
 module _ {S : Type 0} (Spells : List ℕ → S → Type 0) where
   -- if an entry is spelled, its summary is spelled after its hash
-  pub summary_behind : (before after : List ℕ) (hash : ℕ) → Reads 8 before after hash → (x : TupleEntry S) × (rest : List ℕ) × ((first : List ℕ) × SpellsTuple Spells first x × (before ≡ first ++ rest))
+  pub summary_behind : (before after : List ℕ) (hash : ℕ) → ReadsBytes 8 before after hash → (x : TupleEntry S) × (rest : List ℕ) × ((first : List ℕ) × SpellsTuple Spells first x × (before ≡ first ++ rest))
       → (y : S) × (rest : List ℕ) × ((first : List ℕ) × Spells first y × (after ≡ first ++ rest))
   summary_behind before after hash r found =
       let rest = found.1 in
@@ -19,7 +19,7 @@ module _ {S : Type 0} (Spells : List ℕ → S → Type 0) where
       (found.0.summary, rest, (p.1, p.4, r.rest ∙ ap (drop 8) whole ∙ (λ i. drop (sym p.3.0 i) (p.0 ++ (p.1 ++ rest))) ∙ drop-append_seam p.0 (p.1 ++ rest)))
 
   -- the bytes of a hash, then those of the summary after it, spell the entry
-  pub entry_read : (before after left : List ℕ) (hash : ℕ) (y : S) → Reads 8 before after hash → (first : List ℕ) × Spells first y × (after ≡ first ++ left)
+  pub entry_read : (before after left : List ℕ) (hash : ℕ) (y : S) → ReadsBytes 8 before after hash → (first : List ℕ) × Spells first y × (after ≡ first ++ left)
       → (text : List ℕ) × SpellsTuple Spells text (record { hash = hash; summary = y }) × (before ≡ text ++ left)
   entry_read before after left hash y r found =
       let front = take 8 before in

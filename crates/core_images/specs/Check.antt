@@ -21,6 +21,6 @@ is_ascending [] = true
 is_ascending (h ∷ hs) = ascends_from h hs
 
 -- whether each hash is from 1 to below theta
-abbrev pub is_within : ℕ → List ℕ → Bool
-is_within theta [] = true
-is_within theta (h ∷ hs) = (nat_lt 0 h && nat_lt h theta) && is_within theta hs
+abbrev pub are_below : ℕ → List ℕ → Bool
+are_below theta [] = true
+are_below theta (h ∷ hs) = (nat_lt 0 h && nat_lt h theta) && are_below theta hs

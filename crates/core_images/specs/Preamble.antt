@@ -23,20 +23,23 @@ pub record Begins (bytes : List ℕ) (longs version family : ℕ) : Type 0 where
   pub version_is : slice_index bytes 1 ≡ version
   pub family_is : slice_index bytes 2 ≡ family
 
--- the flags of an image
+-- the flag of the empty sketch
 abbrev pub is_empty : List ℕ → Bool
 is_empty bytes = has_bit bytes 5 0x04
 
+-- the flag of ordered entries
 abbrev pub is_ordered : List ℕ → Bool
 is_ordered bytes = has_bit bytes 5 0x10
 
--- the numbers of a preamble
+-- the seed hash of a preamble
 abbrev pub seed_hash_at : List ℕ → ℕ
 seed_hash_at bytes = number_at 2 bytes 6
 
+-- the number of entries of a preamble of two or three longs
 abbrev pub count_at : List ℕ → ℕ
 count_at bytes = number_at 4 bytes 8
 
+-- the theta of a preamble of three longs
 abbrev pub theta_at : List ℕ → ℕ
 theta_at bytes = number_at 8 bytes 16
 

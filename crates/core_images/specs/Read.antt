@@ -9,20 +9,20 @@ use Rattle.core_images.specs.Preamble.{Begins, is_empty, is_ordered, seed_hash_a
 use Rattle.core_images.specs.declared.preamble.Layout.{Layout}
 use Rattle.core_images.specs.declared.preamble.Layout.TheVariants.{Empty, Filled}
 
--- the error means that memory ran out, or that there is nothing to read
+-- the error is OutOfMemory, or it is InvalidData and there is no reading
 abbrev pub IsRefused : ErrorKind → Type 0 → Type 0
 IsRefused e Something = (e ≡ OutOfMemory) ⊎ ((e ≡ InvalidData) × (Something → ⊥))
 
 -- a prefix of the bytes spells the result, and the rest of them is left; InvalidData is returned only if no prefix
 -- spells anything
-abbrev pub Answers : {X : Type 0} → (X → List ℕ → Type 0) → (left : List ℕ) → Result X ErrorKind → Type 0
-Answers {X} Spelled left (Ok x) = Spelled x left
-Answers {X} Spelled left (Err e) = IsRefused e ((x : X) × (rest : List ℕ) × Spelled x rest)
+abbrev pub ReadsPrefix : {X : Type 0} → (X → List ℕ → Type 0) → (left : List ℕ) → Result X ErrorKind → Type 0
+ReadsPrefix {X} Spelled left (Ok x) = Spelled x left
+ReadsPrefix {X} Spelled left (Err e) = IsRefused e ((x : X) × (rest : List ℕ) × Spelled x rest)
 
 -- the result is a reading; InvalidData is returned only if there is none
-abbrev pub Finds : {X : Type 0} → (X → Type 0) → Result X ErrorKind → Type 0
-Finds {X} Reads (Ok x) = Reads x
-Finds {X} Reads (Err e) = IsRefused e ((x : X) × Reads x)
+abbrev pub ReadsState : {X : Type 0} → (X → Type 0) → Result X ErrorKind → Type 0
+ReadsState {X} Reads (Ok x) = Reads x
+ReadsState {X} Reads (Err e) = IsRefused e ((x : X) × Reads x)
 
 -- Version 3 after its first three bytes: a case for the empty sketch, and one for each count of preamble longs.
 pub data ReadsFlagged {X : Type 0} (key : X → ℕ) (Spells : List ℕ → X → Type 0) (bytes : List ℕ) (longs h : ℕ) : Compact X → Type 0 where

@@ -17,6 +17,7 @@ head longs family kind flags seed_hash = longs ∷ 3 ∷ family ∷ kind ∷ 0 �
 abbrev pub counted_bytes : (count : ℕ) → List ℕ
 counted_bytes count = to_le_bytes w32 count ++ 0 ∷ 0 ∷ 0 ∷ 0 ∷ []
 
+-- the second eight bytes of the image of a state: the number of its entries
 abbrev pub counted : {X : Type 0} → Compact X → List ℕ
 counted s = counted_bytes (length s.entries)
 

@@ -1,7 +1,7 @@
 //! Checks of the entries of an image.
 ghost use Rattle.std.specs.Prelude.{◌≡◌, ◌≢◌, None, true, IfOk, AllPairs, map};
 ghost use Rattle.std.specs.Bool.{Decides};
-ghost use Rattle.core_images.specs.Check.{AreHashes, ascends_from, is_within};
+ghost use Rattle.core_images.specs.Check.{AreHashes, ascends_from, are_below};
 ghost use Rattle.core_laws.specs.Refusal.{Refuses};
 
 use core_laws::SketchEntry;
@@ -26,7 +26,7 @@ fn ascends_from_zero<E: SketchEntry>(entries: &[E]) -> bool
 /// Whether each hash is below theta, of entries that ascend from 0: tests the last.
 fn is_last_below<E: SketchEntry>(entries: &[E], theta: u64) -> bool
     requires { ascends_from 0 (map E.key entries.now) ≡ true }
-    ensures { result ≡ is_within theta (map E.key entries.now) }
+    ensures { result ≡ are_below theta (map E.key entries.now) }
 {
     match entries.last() {
         None => true,
@@ -35,8 +35,8 @@ fn is_last_below<E: SketchEntry>(entries: &[E], theta: u64) -> bool
 }
 
 /// Whether each hash is from 1 to below theta.
-fn is_within<E: SketchEntry>(entries: &[E], theta: u64) -> bool
-    ensures { result ≡ is_within theta (map E.key entries.now) }
+fn are_below<E: SketchEntry>(entries: &[E], theta: u64) -> bool
+    ensures { result ≡ are_below theta (map E.key entries.now) }
 {
     'test_each: for entry in entries {
         let hash = entry.hash();
@@ -86,7 +86,7 @@ pub(crate) fn are_entries<E: SketchEntry, A: Allocator + Drop>(
     if ordered {
         return Ok(false);
     }
-    if !is_within(entries, theta) {
+    if !are_below(entries, theta) {
         return Ok(false);
     }
     are_distinct(alloc, entries)

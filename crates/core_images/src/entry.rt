@@ -2,7 +2,7 @@
 ghost use Rattle.std.specs.Prelude.{◌≡◌, ℕ, ◌<◌, ◌≤◌, ◌^◌, ◌++◌, List, length, None, true, IfOk, IfErr, OnOk};
 ghost use Rattle.std.specs.List.{AllByRecursion, flat_map};
 ghost use Rattle.core_images.specs.Entry.{Holds};
-ghost use Rattle.core_images.specs.Read.{Answers, IsRefused};
+ghost use Rattle.core_images.specs.Read.{ReadsPrefix, IsRefused};
 ghost use Rattle.core_laws.specs.Refusal.{Refuses};
 
 use crate::hashes::{read_hashes, write_hashes};
@@ -30,7 +30,7 @@ pub trait ImageEntry<A: Allocator>: SketchEntry {
     /// Reads the entry that a prefix of the bytes spells, and moves past that prefix. It refuses with `InvalidData`
     /// exactly if no prefix spells one, or with `OutOfMemory`; afterwards the cursor is unspecified.
     fn read(alloc: &A, slice: &mut SketchSlice<'_>) -> Result<Self, Error>
-        ensures { Answers (λ x. λ rest. (first : List ℕ) × spells first x × (slice.old ≡ first ++ rest)) slice.new result };
+        ensures { ReadsPrefix (λ x. λ rest. (first : List ℕ) × spells first x × (slice.old ≡ first ++ rest)) slice.new result };
 
     /// Appends the bytes of each entry, in their order. It refuses with `OutOfMemory` alone; then the contents of
     /// `bytes` are unspecified.

@@ -1,5 +1,5 @@
 //! Reading images.
-ghost use Rattle.core_images.specs.Read.{Finds, LeavesOpen};
+ghost use Rattle.core_images.specs.Read.{ReadsState, LeavesOpen};
 ghost use Rattle.core_images.specs.Preamble.{IsWholeLayout};
 
 use crate::check::are_entries;
@@ -19,7 +19,7 @@ pub fn read_after_preamble<E: ImageEntry<A> + Drop, A: Allocator + Clone + Drop>
     seed_hash: u16,
 ) -> Result<CompactSketchState<E, A>, Error>
     requires { IsWholeLayout bytes.now layout }
-    ensures { Finds (LeavesOpen E.key E.spells bytes.now seed_hash layout) result }
+    ensures { ReadsState (LeavesOpen E.key E.spells bytes.now seed_hash layout) result }
 {
     match layout {
         None => Err(Error::new(ErrorKind::InvalidData)),

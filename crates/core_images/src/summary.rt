@@ -1,6 +1,6 @@
 //! Summaries of tuple sketches, and how images spell them.
 ghost use Rattle.std.specs.Prelude.{◌≡◌, ℕ, ◌++◌, List, length, None, true, OnOk};
-ghost use Rattle.core_images.specs.Read.{Answers};
+ghost use Rattle.core_images.specs.Read.{ReadsPrefix};
 ghost use Rattle.core_laws.specs.Refusal.{Refuses};
 
 use crate::entry::ImageEntry;
@@ -15,7 +15,7 @@ use std::alloc::Allocator;
 pub trait TupleSummaryValue<A: Allocator> {
     /// Which bytes spell which summary.
     ghost spells: { List ℕ → Self → Type 0 };
-    /// Which summaries are values: all that the type can store.
+    /// Which summaries are values. Every summary that the type can store is one (clause `value`).
     ghost is_value: { Self → Type 0 };
     /// The bytes written of a summary.
     ghost text: { Self → List ℕ };
@@ -35,7 +35,7 @@ pub trait TupleSummaryValue<A: Allocator> {
     /// Reads the summary that a prefix of the bytes spells, and moves past that prefix. It refuses with `InvalidData`
     /// exactly if no prefix spells one, or with `OutOfMemory`; afterwards the cursor is unspecified.
     fn deserialize_value(alloc: &A, slice: &mut SketchSlice<'_>) -> Result<Self, Error>
-        ensures { Answers (λ x. λ rest. (first : List ℕ) × spells first x × (slice.old ≡ first ++ rest)) slice.new result };
+        ensures { ReadsPrefix (λ x. λ rest. (first : List ℕ) × spells first x × (slice.old ≡ first ++ rest)) slice.new result };
 
     /// No spelling is a prefix of another, and each spells one summary.
     ghost one_spelling: { (a b u v : List ℕ) (x y : Self) → spells a x → spells b y → a ++ u ≡ b ++ v → (a ≡ b) × (x ≡ y) };

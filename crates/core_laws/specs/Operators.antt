@@ -61,8 +61,8 @@ meet_from key merges u [] = NonEmpty u
 meet_from key merges u (Empty ∷ values) = Empty
 meet_from key merges u (NonEmpty v ∷ values) = if is_disjoint key merges u v then Empty else meet_from key merges (shared key merges u v) values
 
--- the intersection of values: Empty if one is, or if some of them, uncut and with keys, turn out to share none; otherwise
--- the common part of all
+-- the intersection of values: Empty if there are none, if one is Empty, or if some first values, uncut, become disjoint
+-- (`BecomesDisjoint`); otherwise the common part of all
 abbrev pub meet : {X : Type 0} → (X → ℕ) → (X → X → X) → List (Sketch X) → Sketch X
 meet key merges [] = Empty
 meet key merges (Empty ∷ values) = Empty

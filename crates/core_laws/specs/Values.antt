@@ -34,7 +34,8 @@ abbrev pub count_of : {X : Type 0} → Sketch X → ℕ
 count_of Empty = 0
 count_of (NonEmpty v) = length v.entries
 
--- the fraction whose quotient estimates how many distinct values were seen: the entries times the greatest theta, over theta
+-- the fraction whose quotient estimates how many distinct values were seen: the number of entries times the greatest
+-- theta, over theta
 abbrev pub fraction_of : {X : Type 0} → Sketch X → ℕ × ℕ
 fraction_of Empty = (0, 1)
 fraction_of (NonEmpty v) = (length v.entries * MAX_THETA, v.theta)

@@ -41,7 +41,7 @@ pub fn upsert_stays_within<X>()
 {}
 
 /// If hashes are inserted in turn, those that are screened or retained at the start may be dropped: the same hashes are
-/// retained in the end.
+/// retained in the end, below the same theta.
 pub fn redundant_hashes_dropped()
     ensures { (k : ℕ) (v : Retained ℕ) (hashes left : List ℕ) → IsRetained hash_key v → Drops (IsRedundant hash_key v) hashes left → after_upserts hash_key k hash_step hashes v ≡ after_upserts hash_key k hash_step left v }
 {}

@@ -23,7 +23,8 @@ IsDifference key a entries b requested s = IsAnswer key (minus key hash_key (sho
 abbrev pub lacking_below : {X Y : Type 0} → (X → ℕ) → (Y → ℕ) → (theta : ℕ) → List X → List Y → List X
 lacking_below key other_key theta entries others = lacking key other_key (below key entries theta) others
 
--- a state is the difference of two sketches of hashes, given with their hashes: ordered if that is requested or the first is
+-- the state is the difference of two sketches of hashes, given with their hashes, and a result to be ordered if
+-- `requested` is true or the first is
 abbrev pub IsHashDifference : (a : Shown) → List ℕ → (b : Shown) → List ℕ → (requested : Bool) → Compact ℕ → Type 0
 IsHashDifference a hashes b others requested s =
     IsAnswer hash_key (minus hash_key hash_key (shown_value hash_key a hashes) (shown_value hash_key b others)) a.seed_hash (requested || a.ordered) s

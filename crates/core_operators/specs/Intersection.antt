@@ -33,12 +33,13 @@ outcome_value Unbegun v = None
 outcome_value Nothing v = Some Empty
 outcome_value Held v = Some (NonEmpty v)
 
--- whether the value is Empty, and so stays; below, whether there was an input
+-- whether the value is Empty for good
 abbrev pub is_settled_outcome : Outcome → Bool
 is_settled_outcome Unbegun = false
 is_settled_outcome Nothing = true
 is_settled_outcome Held = false
 
+-- whether there was an input
 abbrev pub is_begun : Outcome → Bool
 is_begun Unbegun = false
 is_begun Nothing = true
@@ -48,7 +49,7 @@ is_begun Held = true
 pub record IsIntersection {X P : Type 0} (i : Intersection X P) : Type 0 where
   pub few : option_map_or count_of i.result 0 < 2 ^ 32
 
--- whether the value is Empty, and so stays
+-- whether the value is Empty for good
 abbrev pub is_settled : {X : Type 0} → Option (Sketch X) → Bool
 is_settled None = false
 is_settled (Some Empty) = true
@@ -81,11 +82,12 @@ pub record IsCutShort {X : Type 0} (key : X → ℕ) (refuses : X → X → Bool
   pub unsettled : is_settled old ≡ false
   pub why : (kind ≡ OutOfMemory) ⊎ ((kind ≡ Policy) × IsMergeRefused key refuses (below key (held_of old).entries (min (held_of old).theta s.theta)) entries)
 
--- an error of an update, which leaves the intersection as it was: what is refused before anything is read, or an update that broke off
+-- an error of an update, which leaves the intersection unchanged: that of `intersect_refusal`, or that of an update that
+-- broke off
 abbrev pub IsIntersectError : {X P : Type 0} → (key : X → ℕ) → (refuses : X → X → Bool) → (old new : Intersection X P) → Shown → List X → ErrorKind → Type 0
 IsIntersectError key refuses old new s listing e = (new ≡ old) × MatchOption (intersect_refusal old s) (IsCutShort key refuses old.result s listing e) (λ kind. e ≡ kind)
 
--- the map of a new table is what an old one and an input with such a theta share, in folds
+-- a new table retains what an old one and an input of this theta share, in folds
 abbrev pub IsSharedMap : {X : Type 0} → (key : X → ℕ) → (merges : X → X → X) → (refuses : X → X → Bool) → (held : MapTable X) → (theta : ℕ) → (listing : List X) → (new : MapTable X) → Type 0
 IsSharedMap key merges refuses held theta listing new =
     unmarked new.kept ≡ shared (fold_key key) (fold_merges key merges refuses) (unmarked held.kept) (unmarked (record { entries = map_of key listing; theta = theta }))
@@ -95,12 +97,12 @@ abbrev pub IsMetMap : {X : Type 0} → (key : X → ℕ) → (merges : X → X �
 IsMetMap key merges refuses held theta listing value =
     option_map unmarked_value value ≡ Some (meet_next (fold_key key) (fold_merges key merges refuses) (Some (NonEmpty (unmarked held.kept))) (NonEmpty (unmarked (record { entries = map_of key listing; theta = theta }))))
 
--- entries are those of an input whose keys are held below a theta, each combined with the held one, in the input's order
+-- the entries of an input whose keys a table has below theta, in the input's order, each merged into the table's entry
 abbrev pub AreSharedFolds : {X : Type 0} → (key : X → ℕ) → (merges : X → X → X) → (refuses : X → X → Bool) → (held : MapTable X) → (theta : ℕ) → (listing : List X) → List X → Type 0
 AreSharedFolds key merges refuses held theta listing entries =
     map Value entries ≡ common (fold_key key) (λ y x. fold_merges key merges refuses x y) (map Value listing) (map Value (below key held.kept.entries theta))
 
--- the same for one entry, if its key is held
+-- the table's entry below theta of an incoming entry's key, merged with the incoming one; none if there is none
 abbrev pub IsSharedFold : {X : Type 0} → (key : X → ℕ) → (merges : X → X → X) → (refuses : X → X → Bool) → (held : MapTable X) → (theta : ℕ) → (incoming : X) → Option X → Type 0
 IsSharedFold key merges refuses held theta incoming entry =
     option_map Value entry ≡ option_map (λ x. fold_merges key merges refuses (Value x) (Value incoming)) (entry_at key (below key held.kept.entries theta) (key incoming))
@@ -116,7 +118,8 @@ IsAnswerIfAny key None hash requested (Some s) = ⊥
 IsAnswerIfAny key (Some v) hash requested None = ⊥
 IsAnswerIfAny key (Some v) hash requested (Some s) = IsAnswer key v hash requested s
 
--- an error of an update with hashes, which leaves the intersection as it was: what is refused before anything is read, or memory
+-- an error of an update with hashes, which leaves the intersection unchanged: that of `intersect_refusal`; or memory ran
+-- out, and neither the input nor the value is Empty
 abbrev pub IsHashIntersectError : {P : Type 0} → (old new : Intersection ℕ P) → Shown → ErrorKind → Type 0
 IsHashIntersectError old new s e =
     (new ≡ old) × MatchOption (intersect_refusal old s) ((s.empty ≡ false) × (is_settled old.result ≡ false) × (e ≡ OutOfMemory)) (λ kind. e ≡ kind)

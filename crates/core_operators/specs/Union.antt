@@ -77,7 +77,7 @@ pub record IsJoined {X P : Type 0} (key : X → ℕ) (merges : X → X → X) (r
   pub whole : (let m = min old.held.theta theta in IsWithin (fold_key key) (2 ^ old.lg_k) m (unmarked new.held) (joined (fold_key key) (fold_merges key merges refuses) (map Value (below key old.held.entries m)) (map Value (below key entries m))))
   pub made_with : new ≡ record old { empty = false; held = new.held }
 
--- a table's map in folds is that of before after the entries below a theta were merged into it, one after another
+-- the new table has the map of the old one, in folds, after the entries below theta were merged into it one after another
 abbrev pub HasMerged : {X : Type 0} → (key : X → ℕ) → (merges : X → X → X) → (refuses : X → X → Bool) → (entries : List X) → (theta : ℕ) → (old new : MapTable X) → Type 0
 HasMerged key merges refuses entries theta old new =
     unmarked new.kept ≡ after_upserts (fold_key key) (2 ^ old.lg_nom) (merge_step (fold_merges key merges refuses) never) (map Value (below key entries theta)) (unmarked old.kept)
@@ -110,26 +110,29 @@ pub record IsBroken {X P : Type 0} (key : X → ℕ) (refuses : X → X → Bool
   pub why : (kind ≡ OutOfMemory) ⊎ ((kind ≡ Policy) × IsMergeRefused key refuses (below key old.held.entries (min old.held.theta s.theta)) entries)
   pub made_with : new ≡ record old { failed = true; held = new.held }
 
--- an error of an update: what is refused before anything is merged, with the union as it was, or a merge that broke off
+-- an error of an update: that of `update_refusal`, with the union unchanged, or that of a merge that broke off
 abbrev pub IsUpdateError : {X P : Type 0} → (key : X → ℕ) → (refuses : X → X → Bool) → (old new : Union X P) → Shown → List X → ErrorKind → Type 0
 IsUpdateError key refuses old new s listing e = MatchOption (update_refusal old s) (IsBroken key refuses old new s listing e) (λ kind. (e ≡ kind) × (new ≡ old))
 
--- the same of summaries that a policy combines
+-- an input that isn't Empty is joined; a policy combines the summaries
 abbrev pub JoinsSummaries : {S P : Type 0} → (combines : S → S → Option S) → (old new : Union (TupleEntry S) P) → Shown → List (TupleEntry S) → Type 0
 JoinsSummaries combines old new s listing = JoinsShown tuple_key (combined combines) (combine_refused combines) old new s listing
 
+-- the new value is the old one united with that of an input, if that isn't Empty; a policy combines the summaries
 abbrev pub UnitesSummaries : {S P : Type 0} → (combines : S → S → Option S) → (old new : Union (TupleEntry S) P) → Shown → List (TupleEntry S) → Type 0
 UnitesSummaries combines old new s listing = UnitesShown tuple_key (combined combines) (combine_refused combines) old new s listing
 
--- the same of hashes, of which nothing is refused
+-- an input of hashes is joined, if it isn't Empty; no merge is refused
 abbrev pub JoinsHashes : {P : Type 0} → (old new : Union ℕ P) → Shown → List ℕ → Type 0
 JoinsHashes old new s listing = JoinsShown hash_key first_hash (λ _ _. false) old new s listing
 
+-- the new value is the old one united with that of an input of hashes, if that isn't Empty; these values are not folds
 abbrev pub UnitesHashes : {P : Type 0} → (old new : Union ℕ P) → Shown → List ℕ → Type 0
 UnitesHashes old new s listing =
     s.empty ≡ false → union_value hash_key new ≡ unite hash_key first_hash (2 ^ old.lg_k) old.start (union_value hash_key old ∷ shown_value hash_key s listing ∷ [])
 
--- an error of an update with hashes: what is refused before anything is merged, with the union as it was, or memory
+-- an error of an update with hashes: that of `update_refusal`, with the union unchanged; or memory ran out in a merge of
+-- an input that isn't Empty, and the union has failed
 abbrev pub IsHashUpdateError : {P : Type 0} → (old new : Union ℕ P) → Shown → ErrorKind → Type 0
 IsHashUpdateError old new s e =
     MatchOption (update_refusal old s) ((s.empty ≡ false) × (e ≡ OutOfMemory) × (new ≡ record old { failed = true; held = new.held })) (λ kind. (e ≡ kind) × (new ≡ old))

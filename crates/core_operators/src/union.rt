@@ -140,8 +140,8 @@ impl<E: SlotEntry + Clone, P: UnionMergePolicy<E> + Drop, A: Allocator + Clone> 
     /// and later values have no more, also after a `reset`. An empty union stays empty. With its own `lg_k` nothing
     /// changes, and nothing is allocated.
     ///
-    /// Refused, in this order, with `Failed` if the union has failed, with `InvalidArgument` if `lg_k` isn't from 4 to its own,
-    /// and with `OutOfMemory`; then the union is unchanged, because the new table is built beside the old one.
+    /// Refused, in this order, with `Failed` if the union has failed, with `InvalidArgument` if `lg_k` isn't from 4 to
+    /// its own, and with `OutOfMemory`; then the union is unchanged, because the new table is built beside the old one.
     pub fn lower_lg_k(&mut self, lg_k: u8) -> Result<(), Error>
         requires clones_equal { ClonesEqual E.is_clone }
         ensures after { OnOk result (self.new ≡ lowered E.key lg_k self.old) }

@@ -51,10 +51,11 @@ values_from h (Reset ∷ steps) us = values_from h steps []
 abbrev pub values_at : {U : Type 0} → ℕ → List (LeafStep U) → List U
 values_at h steps = values_from h steps []
 
--- an entry combined with an incoming one of its hash, and whether that is refused
+-- an entry combined with an incoming one of its hash; unchanged if that is refused
 abbrev pub combined : {S : Type 0} → (S → S → Option S) → TupleEntry S → TupleEntry S → TupleEntry S
 combined combines x y = option_map_or (with_summary x) (combines x.summary y.summary) x
 
+-- whether combining an entry with an incoming one of its hash is refused
 abbrev pub combine_refused : {S : Type 0} → (S → S → Option S) → TupleEntry S → TupleEntry S → Bool
 combine_refused combines x y = is_none (combines x.summary y.summary)
 

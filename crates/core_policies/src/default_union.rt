@@ -8,7 +8,7 @@ use sketch_base::Error;
 use std::marker::PhantomData;
 
 /// The policy of a union or an intersection that adds the summaries of one key. `DefaultUnionPolicy::<u64>::default()`
-/// adds 64-bit sums; tuple_sketches has an example.
+/// adds 64-bit numbers; tuple_sketches has an example.
 #[derive(Debug, Clone, Copy)]
 pub struct DefaultUnionPolicy<S> {
     of: PhantomData<S>,

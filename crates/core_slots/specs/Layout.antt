@@ -13,7 +13,7 @@ filled (Some x ∷ slots) = x ∷ filled slots
 abbrev pub entries_in : {S X : Type 0} → (held : S → Option X) → List S → List X
 entries_in held slots = filled (map held slots)
 
--- the map of these entries
+-- the map of the entries that slots in memory hold
 abbrev pub slot_map : {S X : Type 0} → (key : X → ℕ) → (held : S → Option X) → List S → List X
 slot_map key held slots = map_of key (entries_in held slots)
 

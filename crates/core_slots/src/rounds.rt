@@ -6,7 +6,7 @@ ghost use Rattle.std.specs.Prelude.{◌≡◌, ℕ, ◌+◌, ◌-◌, ◌<◌, �
 ghost use Rattle.core_laws.specs.Maps.{IsApart, entry_at};
 ghost use Rattle.core_slots.specs.Layout.{slot, IsLaidOut, entries_in, slot_map};
 ghost use Rattle.core_slots.specs.Probe.{probe};
-ghost use Rattle.core_slots.specs.Rounds.{times, times_in, twice_sum_to};
+ghost use Rattle.core_slots.specs.Rounds.{entry_count, entry_count_in, twice_sum_to};
 
 use crate::count::Count;
 use crate::slot_entry::{PathEntry, SlotEntry};
@@ -76,14 +76,14 @@ fn settle<E: SlotEntry>(
 )
     requires small { lg < 40 }
     requires laid_out { IsLaidOut E.key lg (map E.held slots.old) }
-    requires once { (q : ℕ) → times E.key q (entries_in E.held left.old) + times E.key q (entries_in E.held slots.old) ≤ 1 }
+    requires once { (q : ℕ) → entry_count E.key q (entries_in E.held left.old) + entry_count E.key q (entries_in E.held slots.old) ≤ 1 }
     requires room { length (entries_in E.held left.old) + length (entries_in E.held slots.old) ≤ 2 ^ lg }
     ensures size { length left.new ≡ length left.old }
     ensures laid_out { IsLaidOut E.key lg (map E.held slots.new) }
     ensures found { (q : ℕ)
         → entry_at E.key (entries_in E.held slots.new) q
         ≡ entry_at E.key (entries_in E.held left.old ++ entries_in E.held slots.old) q }
-    ensures all { (q : ℕ) → times_in E.key E.held q slots.new ≡ times_in E.key E.held q left.old + times_in E.key E.held q slots.old }
+    ensures all { (q : ℕ) → entry_count_in E.key E.held q slots.new ≡ entry_count_in E.key E.held q left.old + entry_count_in E.key E.held q slots.old }
     ensures count { length (entries_in E.held slots.new) ≡ length (entries_in E.held left.old) + length (entries_in E.held slots.old) }
     ensures placed { placed.new ≡ placed.old + length (entries_in E.held left.old) }
     ensures looked { looks.old + (placed.new - placed.old) ≤ looks.new }

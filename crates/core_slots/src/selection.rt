@@ -113,8 +113,8 @@ const LEAST_ROOM: usize = 1024;
 /// How many slots are read in one block.
 const BLOCK: usize = 64;
 
-/// How many hashes of a window to have room for, with `count` hashes in `size` slots: twice the expected number and a
-/// block of slots, and at most `size` + 1.
+/// How many hashes of a window to have room for, with `count` hashes in `size` slots: twice the expected number, but at
+/// least `LEAST_ROOM`, and a block of slots; at most `size` + 1.
 fn window_room(count: usize, size: usize) -> usize
     ensures { result ≤ size + 1 }
 {

@@ -19,19 +19,22 @@ abbrev pub viewed_lending : {X Z S : Type 0} → Viewed X Z S → Lending X
 viewed_lending (Mutable sketch) = record { rest = sketch.now.lends; counted = false }
 viewed_lending (Compact sketch) = record { rest = sketch.now.entries; counted = true }
 
--- the same for a view
+-- what a view shows
 abbrev pub shows : {X Z S : Type 0} → (X → ℕ) → SketchView X Z S → Shown
 shows key view = viewed_shows key view.sketch
 
+-- what an iterator over a view's entries has at first
 abbrev pub lending : {X Z S : Type 0} → SketchView X Z S → Lending X
 lending view = viewed_lending view.sketch
 
+-- the entries of a view, in the order in which its iterator returns them
 abbrev pub lends : {X Z S : Type 0} → SketchView X Z S → List X
 lends view = (lending view).rest
 
--- a view shows a sketch that takes updates, or a compact one: its settings, its entries and its value
+-- a view of this sketch: what the sketch shows, its entries and its value
 abbrev pub ViewsSketch : {X Z S : Type 0} → (key : X → ℕ) → SketchView X Z S → Updatable X → Type 0
 ViewsSketch key view s = (shows key view ≡ sketch_shows key s) × (lends view ≡ s.lends) × (shown_value key (shows key view) (lends view) ≡ sketch_value s)
 
+-- a view of this compact sketch: what the sketch shows, its entries and its value
 abbrev pub ViewsCompact : {X Z S : Type 0} → (key : X → ℕ) → SketchView X Z S → state.Compact X → Type 0
 ViewsCompact key view s = (shows key view ≡ shown_of key s) × (lends view ≡ s.entries) × (shown_value key (shows key view) (lends view) ≡ compact_value key s)

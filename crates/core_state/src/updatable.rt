@@ -8,7 +8,7 @@ ghost use Rattle.core_laws.specs.Entries.{hash_key, hash_step, ClonesEqual};
 ghost use Rattle.core_laws.specs.Refusal.{Refuses};
 ghost use Rattle.core_laws.specs.Maps.{IsListing};
 ghost use Rattle.core_laws.specs.Settings.{settings_refusal};
-ghost use Rattle.core_table.specs.HashTable.{empty_table, after_reset, after_hashes, after_insertion, after_hash, trimmed};
+ghost use Rattle.core_table.specs.HashTable.{empty_table, after_reset, after_hashes, after_insertion, after_hash, trimmed_table};
 ghost use Rattle.core_laws.specs.Insertion.{upsert_allocates, RefusesUpsert};
 ghost use Rattle.core_state.specs.Updatable.{IsUpdatable, sketch_value, sketch_shows, StopsUpdates};
 ghost use Rattle.core_laws.specs.Values.{theta_of, count_of, fraction_of};
@@ -193,7 +193,7 @@ impl<E: SlotEntry + Drop, A: Allocator + Clone> UpdatableState<E, A> {
     /// Refused with `OutOfMemory` alone, and only if more than k are retained; then nothing has changed.
     pub fn trim(&mut self) -> Result<(), Error>
         ensures same_emptiness { self.new.empty ≡ self.old.empty }
-        ensures after { OnOk result (self.new.map ≡ trimmed E.key self.old.map) }
+        ensures after { OnOk result (self.new.map ≡ trimmed_table E.key self.old.map) }
         ensures err { OnErr result (self.new.map ≡ self.old.map) }
         ensures refused { Refuses result None (nat_lt (2 ^ self.old.map.lg_nom) (length self.old.map.kept.entries)) }
     {

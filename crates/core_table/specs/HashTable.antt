@@ -78,28 +78,31 @@ key_hash t pieces = hash_of t.seed (concat pieces)
 abbrev pub after_insertion : {X : Type 0} → (key : X → ℕ) → (hash : ℕ) → Step X → MapTable X → MapTable X
 after_insertion key hash step t = record t { kept = after_upsert key (2 ^ t.lg_nom) hash step t.kept }
 
--- a table of hashes after an insertion of one, whether that makes an entry, and whether it may take memory
+-- a table of hashes after an insertion of one
 abbrev pub after_hash : (hash : ℕ) → MapTable ℕ → MapTable ℕ
 after_hash hash t = after_insertion hash_key hash (hash_step hash) t
 
+-- whether inserting a hash makes an entry
 abbrev pub creates_hash : (hash : ℕ) → Retained ℕ → Bool
 creates_hash hash v = creates hash_key hash (hash_step hash) v
 
+-- whether inserting a hash may take memory
 abbrev pub hash_allocates : (hash : ℕ) → Retained ℕ → Bool
 hash_allocates hash v = upsert_allocates hash_key hash (hash_step hash) v
 
--- a table of tuples after an insertion of a hash with a step on its summary, and whether that makes an entry
+-- a table of tuples after an insertion of a hash with a step on its summary
 abbrev pub after_tuple : {S : Type 0} → (hash : ℕ) → Step S → MapTable (TupleEntry S) → MapTable (TupleEntry S)
 after_tuple hash step t = after_insertion tuple_key hash (entry_step hash step) t
 
+-- whether an insertion with a step on a summary makes an entry
 abbrev pub creates_tuple : {S : Type 0} → (hash : ℕ) → Step S → Retained (TupleEntry S) → Bool
 creates_tuple hash step v = creates tuple_key hash (entry_step hash step) v
 
 -- a table trimmed to its nominal entries
-abbrev pub trimmed : {X : Type 0} → (key : X → ℕ) → MapTable X → MapTable X
-trimmed key t = record t { kept = cut key (2 ^ t.lg_nom) t.kept.entries t.kept.theta }
+abbrev pub trimmed_table : {X : Type 0} → (key : X → ℕ) → MapTable X → MapTable X
+trimmed_table key t = record t { kept = cut key (2 ^ t.lg_nom) t.kept.entries t.kept.theta }
 
--- a table cut below a theta and to fewer nominal entries
+-- a table cut below a theta and to 2^lg_nom nominal entries
 abbrev pub cut_table : {X : Type 0} → (key : X → ℕ) → (lg_nom theta : ℕ) → MapTable X → MapTable X
 cut_table key lg_nom theta t = record t { kept = cut key (2 ^ lg_nom) t.kept.entries theta; lg_nom = lg_nom }
 
@@ -107,7 +110,7 @@ cut_table key lg_nom theta t = record t { kept = cut key (2 ^ lg_nom) t.kept.ent
 abbrev pub after_hashes : List ℕ → MapTable ℕ → MapTable ℕ
 after_hashes hashes t = record t { kept = after_upserts hash_key (2 ^ t.lg_nom) hash_step hashes t.kept }
 
--- memory was refused at a hash that makes an entry, and just the hashes before it are inserted
+-- memory was refused at a hash that makes an entry, and exactly the hashes before it are inserted
 abbrev pub StopsAtMemory : (hashes : List ℕ) → (old new : MapTable ℕ) → Type 0
 StopsAtMemory hashes old new = StopsAt hashes (λ front hash. (new ≡ after_hashes front old) × IsTrue (hash_allocates hash new.kept))
 
@@ -200,13 +203,15 @@ ticked_if true grows nominal count done = record done { inserted = done.inserted
 ticked_if false true nominal count done = record done { inserted = done.inserted + 1; fresh = done.fresh + 1; placed = done.placed + (count + 1) }
 ticked_if false false nominal count done = record done { inserted = done.inserted + 1; fresh = 0; placed = done.placed + nominal; rebuilds = done.rebuilds + 1 }
 
+-- the counts after an insertion that creates an entry, all but its looks, by the slots and the entries before it
 abbrev pub ticked : (lg_cur lg_nom count : ℕ) → Counts → Counts
 ticked lg_cur lg_nom count done = ticked_if (nat_le (count + 1) (threshold lg_cur lg_nom)) (nat_le lg_cur lg_nom) (2 ^ lg_nom) count done
 
--- the counts of a table after an insertion, all but its looks, and the binary logarithm of its slots then, by whether the insertion made an entry
+-- the counts of a table after an insertion, all but its looks, by whether the insertion made an entry
 abbrev pub counts_after : {X : Type 0} → Table X → (created : Bool) → Counts
 counts_after t created = if created then ticked t.layout.lg_cur t.map.lg_nom (length t.map.kept.entries) t.counts else t.counts
 
+-- the binary logarithm of the slots after an insertion, by whether it made an entry
 abbrev pub lg_cur_after : {X : Type 0} → Table X → (created : Bool) → ℕ
 lg_cur_after t created = if created then size_after t.layout.lg_cur t.map.lg_nom t.layout.grow (length t.map.kept.entries) else t.layout.lg_cur
 
@@ -215,12 +220,13 @@ abbrev pub counts_after_trim : {X : Type 0} → Table X → Counts
 counts_after_trim t =
     if nat_lt (2 ^ t.map.lg_nom) (length t.map.kept.entries) then record t.counts { placed = t.counts.placed + 2 ^ t.map.lg_nom; trims = t.counts.trims + 1 } else t.counts
 
--- an insertion looks at each entry that was there at most once, at one slot more, and for the nth entry that it places at no more than n slots
+-- an insertion counts at most one look for each entry that was there, one more, and n for the nth entry that it places
 abbrev pub AreFewLooks : {X : Type 0} → (old new : Table X) → Type 0
 AreFewLooks old new =
     2 * new.counts.looks ≤ 2 * (old.counts.looks + length old.map.kept.entries + 1) + (new.counts.placed - old.counts.placed) * (new.counts.placed - old.counts.placed + 1)
 
--- an insertion of a hash that isn't screened counts a look for its search, and one for each entry that it places
+-- an insertion of a hash that isn't screened counts at least one look for its search, and one for each entry that it
+-- places
 abbrev pub AreEnoughLooks : {X : Type 0} → (hash : ℕ) → (old new : Table X) → Type 0
 AreEnoughLooks hash old new = is_screened hash old.map.kept.theta ≡ false → old.counts.looks + (new.counts.placed - old.counts.placed) < new.counts.looks
 
@@ -232,7 +238,7 @@ IsUncountedIfScreened hash old new = is_screened hash old.map.kept.theta ≡ tru
 abbrev pub IsBelowThreshold : {X : Type 0} → Table X → Type 0
 IsBelowThreshold t = length t.map.kept.entries < threshold t.layout.lg_cur t.map.lg_nom
 
--- below the threshold an insertion takes no memory but what its step takes
+-- below the threshold an insertion refuses what its step refuses, and memory only if the step may take some
 abbrev pub RefusesBelowThreshold : {T X : Type 0} → Result T ErrorKind → (key : X → ℕ) → ℕ → Step X → Table X → Type 0
 RefusesBelowThreshold r key hash step t = IsBelowThreshold t → RefusesAsStep r key hash step t.map.kept
 

@@ -21,11 +21,11 @@ pub record HasPlaceFor {X : Type 0} (key : X → ℕ) (slots : List (Option X)) 
   pub nonzero : 0 < key entry
   pub low : key entry < sizes.theta
 
--- what slots in memory and a theta retain
+-- the map of the entries that slots in memory hold, and a theta
 abbrev pub kept_in : {S X : Type 0} → (key : X → ℕ) → (held : S → Option X) → List S → (theta : ℕ) → Retained X
 kept_in key held slots theta = record { entries = slot_map key held slots; theta = theta }
 
--- what is retained after a new entry is put into slots of such sizes, which hold these entries
+-- what is retained after a new entry is put into slots of these sizes that hold the entries `xs`
 abbrev pub after_put : {X : Type 0} → (key : X → ℕ) → Sizes → List X → X → Retained X
 after_put key sizes xs entry = rebuilt key (2 ^ sizes.lg_nom) (with_entry key xs entry) sizes.theta
 
@@ -33,7 +33,7 @@ after_put key sizes xs entry = rebuilt key (2 ^ sizes.lg_nom) (with_entry key xs
 abbrev pub grown : Sizes → Sizes
 grown sizes = record sizes { lg_cur = min (sizes.lg_cur + sizes.grow) (sizes.lg_nom + 1); most = threshold (min (sizes.lg_cur + sizes.grow) (sizes.lg_nom + 1)) sizes.lg_nom; count = sizes.count + 1 }
 
--- what is retained is the cut of entries that are below some theta, whichever that is
+-- for every theta above all these entries, what is retained is their cut below it
 abbrev pub IsCutOf : {X : Type 0} → (key : X → ℕ) → (nominal : ℕ) → List X → Retained X → Type 0
 IsCutOf key nominal xs kept = (t : ℕ) → AllByRecursion (λ x. key x < t) xs → kept ≡ cut key nominal xs t
 

@@ -9,7 +9,7 @@ ghost use Rattle.core_laws.specs.Cuts.{cut, none_below};
 ghost use Rattle.core_laws.specs.Entries.{hash_key, ClonesEqual};
 ghost use Rattle.core_laws.specs.Refusal.{Refuses};
 ghost use Rattle.core_laws.specs.Settings.{settings_refusal};
-ghost use Rattle.core_table.specs.HashTable.{Table, IsTable, IsSized, IsSeedHash, empty_table, set_table, after_reset, after_hashes, lg_size_for, whole_log, has_room, may_insert, threshold, sub_multiple, slots_of_operator, nothing_done, ticked, key_hash, after_insertion, after_hash, creates_hash, hash_allocates, after_tuple, creates_tuple, trimmed, cut_table, StopsAtMemory, counts_after, lg_cur_after, counts_after_trim, AreFewLooks, AreEnoughLooks, IsUncountedIfScreened, IsBelowThreshold, RefusesBelowThreshold};
+ghost use Rattle.core_table.specs.HashTable.{Table, IsTable, IsSized, IsSeedHash, empty_table, set_table, after_reset, after_hashes, lg_size_for, whole_log, has_room, may_insert, threshold, sub_multiple, slots_of_operator, nothing_done, ticked, key_hash, after_insertion, after_hash, creates_hash, hash_allocates, after_tuple, creates_tuple, trimmed_table, cut_table, StopsAtMemory, counts_after, lg_cur_after, counts_after_trim, AreFewLooks, AreEnoughLooks, IsUncountedIfScreened, IsBelowThreshold, RefusesBelowThreshold};
 ghost use Rattle.core_table.specs.ResizeFactor.{lg_of};
 ghost use Rattle.core_slots.specs.Layout.{filled, IsLaidOut, entries_in, slot_map};
 ghost use Rattle.core_slots.specs.Entry.{tuple_key, entry_step};
@@ -81,7 +81,7 @@ impl<E: SlotEntry, A: Allocator> SketchHashTable<E, A> {
     /// to `MAX_THETA`.
     ///
     /// Refused with `InvalidArgument` outside these ranges and for a seed whose seed hash is 0; with `OutOfMemory` if
-    /// memory runs out. The resize factor, by which the slots grow, has no effect on what the table returns.
+    /// memory runs out. The resize factor, by which the slots grow, has no effect on the retained entries and theta.
     pub fn new(
         alloc: A,
         lg_nom_size: u8,
@@ -344,7 +344,7 @@ impl<E: SlotEntry + Drop, A: Allocator + Clone> SketchHashTable<E, A> {
     /// other hash must be retained already, or there must be room for one more entry. Refused with the step's error, or
     /// with `OutOfMemory`; then nothing has changed.
     ///
-    /// Below `capacity_threshold` an insertion takes no memory except for its step.
+    /// Below `capacity_threshold` an insertion is refused memory only if its step may take some.
     #[inline(always)]
     pub fn upsert_entry<S: UpsertStep<E> + Drop>(
         &mut self,
@@ -409,7 +409,7 @@ impl<E: SlotEntry + Drop, A: Allocator + Clone> SketchHashTable<E, A> {
     ///
     /// Refused with `OutOfMemory` alone, and only if more than k are retained; then nothing has changed.
     pub fn trim(&mut self) -> Result<(), Error>
-        ensures after { OnOk result (self.new.map ≡ trimmed E.key self.old.map) }
+        ensures after { OnOk result (self.new.map ≡ trimmed_table E.key self.old.map) }
         ensures err { OnErr result (self.new.map ≡ self.old.map) }
         ensures refused { Refuses result None (nat_lt (2 ^ self.old.map.lg_nom) (length self.old.map.kept.entries)) }
         ensures ticked { OnOk result (self.new.counts ≡ counts_after_trim self.old) }
@@ -583,8 +583,8 @@ impl<A: Allocator + Clone> SketchHashTable<ThetaEntry, A> {
         self.upsert_entry(hash, PutStep::new(ThetaEntry::of_hash(hash)))
     }
 
-    /// Inserts hashes in their order, each as `try_insert_hash` does. There are at least 8 nominal entries, as in every table
-    /// of `new`.
+    /// Inserts hashes in their order, each as `try_insert_hash` does. There must be at least 8 nominal entries, as in
+    /// every table of `new`.
     ///
     /// It looks at the slots of up to 256 hashes side by side, so that the waits for memory overlap: with many slots,
     /// and if most hashes are retained, this takes half the time. Those looks aren't counted.

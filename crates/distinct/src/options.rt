@@ -1,4 +1,4 @@
-//! The options of a command.
+//! The options of a command. `arguments` reads them, and `help` has their texts.
 ghost use Rattle.std.specs.Prelude.{◌≤◌, ◌<◌};
 ghost use Rattle.std.specs.Option.{ForSome};
 

@@ -3,10 +3,9 @@ ghost use Rattle.std.specs.Prelude.{◌≡◌, ◌<◌, ◌||◌, ◌^◌, true,
 ghost use Rattle.sketch_base.specs.Seed.{seed_hash};
 ghost use Rattle.core_compact.specs.CompactState.{IsAnswer};
 ghost use Rattle.core_laws.specs.Settings.{settings_refusal};
-ghost use Rattle.core_table.specs.HashTable.{empty_table, after_reset};
-ghost use Rattle.core_laws.specs.Cuts.{cut};
+ghost use Rattle.core_table.specs.HashTable.{empty_table, after_reset, after_insertion, trimmed_table};
 ghost use Rattle.core_laws.specs.Folds.{unmarked_value};
-ghost use Rattle.core_laws.specs.Insertion.{after_upsert, upsert_refusal};
+ghost use Rattle.core_laws.specs.Insertion.{upsert_refusal};
 ghost use Rattle.core_laws.specs.Operators.{meet_next, minus};
 ghost use Rattle.core_laws.specs.Refusal.{Refuses};
 ghost use Rattle.core_laws.specs.Values.{cut_value};
@@ -93,8 +92,7 @@ pub trait SketchFamily<A: Allocator> {
         ensures nonempty { OnOk result ((state sketch.new).empty ≡ false) }
         ensures after { OnOk result (
             (state sketch.new).map
-            ≡ record (state sketch.old).map
-            { kept = after_upsert (rules self.now).key (2 ^ (state sketch.old).map.lg_nom) hash ((rules self.now).step_of hash value) (state sketch.old).map.kept }) }
+            ≡ after_insertion (rules self.now).key hash ((rules self.now).step_of hash value) (state sketch.old).map) }
         ensures strict { IfErr result (λ e.
             RefusedFor e strict (
             upsert_refusal (rules self.now).key hash ((rules self.now).step_of hash value)
@@ -110,10 +108,7 @@ pub trait SketchFamily<A: Allocator> {
         requires own { made_sketch self.now sketch.old }
         ensures still { made_sketch self.now sketch.new }
         ensures same_emptiness { (state sketch.new).empty ≡ (state sketch.old).empty }
-        ensures after { OnOk result (
-            (state sketch.new).map
-            ≡ record (state sketch.old).map
-            { kept = cut (rules self.now).key (2 ^ (state sketch.old).map.lg_nom) (state sketch.old).map.kept.entries (state sketch.old).map.kept.theta }) }
+        ensures after { OnOk result ((state sketch.new).map ≡ trimmed_table (rules self.now).key (state sketch.old).map) }
         ensures refused { Refuses result None true };
 
     /// Makes a sketch empty again.

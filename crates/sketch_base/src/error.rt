@@ -65,7 +65,7 @@ impl fmt::Display for Error {
                 f.write_str("an argument is outside its range or belongs to another seed")
             }
             ErrorKind::InvalidData => {
-                f.write_str("the bytes spell nothing that may stand there, or end too early")
+                f.write_str("the bytes are not valid there, or end too early")
             }
             ErrorKind::OutOfMemory => f.write_str("a request for memory was refused"),
             ErrorKind::Policy => f.write_str("a policy on summaries refused what it was given"),

@@ -45,10 +45,11 @@ shown_head empty theta count =
     ++ codes "theta " ++ number_line theta
     ++ codes "count " ++ number_line count
 
--- a byte as two digits of lower-case hexadecimal
+-- a number below 16 as a digit of lower-case hexadecimal
 abbrev pub hex_digit : ℕ → ℕ
 hex_digit n = if nat_lt n 10 then 48 + n else 87 + n
 
+-- a byte as two digits of lower-case hexadecimal
 abbrev pub hex_byte : ℕ → List ℕ
 hex_byte byte = hex_digit (byte / 16) ∷ hex_digit (byte % 16) ∷ []
 
@@ -96,12 +97,15 @@ value_text texts Image v = imaged texts v (seed_hash DEFAULT_UPDATE_SEED)
 abbrev pub fault_line : ℕ → List ℕ → List ℕ
 fault_line line kind = ended_line (codes "error " ++ decimal line ++ 32 ∷ kind)
 
+-- the line of an argument that is refused
 abbrev pub argument_line : List ℕ
 argument_line = ended_line (codes "error argument")
 
+-- the line of a refusal by a policy
 abbrev pub policy_line : List ℕ
 policy_line = ended_line (codes "error policy")
 
+-- the line of refused memory
 abbrev pub memory_line : List ℕ
 memory_line = ended_line (codes "error memory")
 

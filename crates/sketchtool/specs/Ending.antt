@@ -17,7 +17,8 @@ Puts text status (Answered s) old new = (s ≡ status) × Appends old new text
 Puts text status NotRead old new = ⊥
 Puts text status NotWritten old new = Unit {0}
 
--- a run on an input: it wrote a text that answers the input with the status, and nothing else, unless a read or a write failed
+-- a run on an input: it wrote a text that answers the input with the status, and nothing else, unless a read or a write
+-- failed
 abbrev pub Ends : Type 0 → List ℕ → Ending → Option (List ℕ) → Option (List ℕ) → Type 0
 Ends Z input (Answered status) old new = (text : List ℕ) × Answers Z input status text × Appends old new text
 Ends Z input NotRead old new = Unit {0}

@@ -181,7 +181,8 @@ fn theta_answer<A: Allocator + Clone>(
     }
 }
 
-/// The status and the text that answer a plan of tuple sketches in a form: the values of a key add up, and so do its summaries.
+/// The status and the text that answer a plan of tuple sketches in a form: the values of a key add up, and so do its
+/// summaries.
 fn tuple_answer<A: Allocator + Clone>(
     alloc: &A,
     form: Form,

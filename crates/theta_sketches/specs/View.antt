@@ -14,5 +14,6 @@ view_shows view = shows hash_key view
 abbrev pub view_lending : {Z S : Type 0} → SketchView ℕ Z S → Lending ℕ
 view_lending view = lending view
 
+-- its entries, in the order in which an iterator returns them
 abbrev pub view_lends : {Z S : Type 0} → SketchView ℕ Z S → List ℕ
 view_lends view = lends view

@@ -18,9 +18,9 @@ use core_laws::MAX_THETA;
 use sketch_base::{DEFAULT_UPDATE_SEED, Error, ErrorKind, Family, compute_seed_hash};
 use std::alloc::Allocator;
 
-/// The layout of an image of version 1 or 2, which have no flags, with this preamble and the seed hash `image_seed_hash`. No
-/// entries at the greatest theta mean the empty sketch, and then the seed hash is not checked. Otherwise hashes follow,
-/// or it is `None` if `image_seed_hash` isn't the reader's seed hash or theta is out of range.
+/// The layout of an image of version 1 or 2, which have no flags, with this preamble and the seed hash
+/// `image_seed_hash`. No entries at the greatest theta mean the empty sketch, and then the seed hash is not checked.
+/// Otherwise hashes follow, or it is `None` if `image_seed_hash` isn't the reader's seed hash or theta is out of range.
 #[tactic(auto, unfolding(crate::specs::ImageLayout::unflagged_layout))]
 fn unflagged_layout(p: Preamble, image_seed_hash: u16, seed_hash: u16) -> Option<Layout>
     ensures { result ≡ unflagged_layout p image_seed_hash seed_hash }
@@ -35,7 +35,8 @@ fn unflagged_layout(p: Preamble, image_seed_hash: u16, seed_hash: u16) -> Option
 }
 
 /// The layout of an image of version 2. By its preamble longs, of 8 bytes each, it is an empty sketch (1), a sketch at
-/// the greatest theta (2), or one with a theta of its own (3). It is `None` if the bytes end within the preamble.
+/// the greatest theta (2), or one with a theta of its own (3). It is `None` if the bytes end within the preamble, or if
+/// `unflagged_layout` is.
 #[tactic(auto, unfolding(crate::specs::ImageLayout::version_2_layout))]
 fn version_2_layout(bytes: &[u8], longs: u8, seed_hash: u16) -> Option<Layout>
     requires whole { 8 ≤ length bytes.now }
@@ -62,7 +63,7 @@ fn version_2_layout(bytes: &[u8], longs: u8, seed_hash: u16) -> Option<Layout>
 }
 
 /// The layout of an image of version 1: its preamble always has three longs, and no seed hash. It is `None` if the
-/// bytes end within the preamble.
+/// bytes end within the preamble, or if `unflagged_layout` is.
 #[tactic(auto, unfolding(crate::specs::ImageLayout::version_1_layout))]
 fn version_1_layout(bytes: &[u8], seed_hash: u16) -> Option<Layout>
     ensures { result ≡ version_1_layout bytes.now seed_hash }
@@ -78,7 +79,7 @@ fn version_1_layout(bytes: &[u8], seed_hash: u16) -> Option<Layout>
 }
 
 /// The layout of an image by its preamble, or `None` if it isn't a theta sketch of version 1, 2 or 3 with 1 to 3
-/// preamble longs.
+/// preamble longs, or if that version's layout is `None`.
 #[tactic(auto, unfolding(crate::specs::ImageLayout::theta_layout))]
 fn theta_layout(bytes: &[u8], seed_hash: u16) -> Option<Layout>
     ensures { result ≡ theta_layout bytes.now seed_hash }

@@ -4,7 +4,7 @@ ghost use Rattle.core_compact.specs.CompactState.{IsAnswer};
 ghost use Rattle.core_laws.specs.Entries.{hash_key, hash_step};
 ghost use Rattle.core_laws.specs.Refusal.{Refuses};
 ghost use Rattle.core_laws.specs.Settings.{settings_refusal};
-ghost use Rattle.core_table.specs.HashTable.{empty_table, after_reset, after_hashes, key_hash, after_hash, hash_allocates, trimmed};
+ghost use Rattle.core_table.specs.HashTable.{empty_table, after_reset, after_hashes, key_hash, after_hash, hash_allocates, trimmed_table};
 ghost use Rattle.core_laws.specs.Maps.{IsListing};
 ghost use Rattle.core_laws.specs.Insertion.{upsert_allocates};
 ghost use Rattle.core_state.specs.Updatable.{sketch_value, sketch_shows, StopsUpdates};
@@ -208,7 +208,7 @@ impl<A: Allocator + Clone> ThetaSketch<A> {
     /// Refused with `OutOfMemory` alone, and only if more than k are retained; then nothing has changed.
     pub fn trim(&mut self) -> Result<(), Error>
         ensures same_emptiness { self.new.empty ≡ self.old.empty }
-        ensures after { OnOk result (self.new.map ≡ trimmed hash_key self.old.map) }
+        ensures after { OnOk result (self.new.map ≡ trimmed_table hash_key self.old.map) }
         ensures err { OnErr result (self.new.map ≡ self.old.map) }
         ensures refused { Refuses result None (nat_lt (2 ^ self.old.map.lg_nom) (length self.old.map.kept.entries)) }
     {

@@ -99,8 +99,8 @@ impl<A: Allocator + Clone> ThetaUnion<A> {
     /// and later values have no more, also after a `reset`. An empty union stays empty. With its own `lg_k` nothing
     /// changes, and nothing is allocated.
     ///
-    /// Refused, in this order, with `Failed` if the union has failed, with `InvalidArgument` if `lg_k` isn't from 4 to its own,
-    /// and with `OutOfMemory`; then the union is unchanged.
+    /// Refused, in this order, with `Failed` if the union has failed, with `InvalidArgument` if `lg_k` isn't from 4 to
+    /// its own, and with `OutOfMemory`; then the union is unchanged.
     pub fn lower_lg_k(&mut self, lg_k: u8) -> Result<(), Error>
         ensures after { OnOk result (self.new ≡ lowered hash_key lg_k self.old) }
         ensures value { OnOk result (union_value hash_key self.new ≡ cut_value hash_key (2 ^ lg_k) (union_value hash_key self.old)) }

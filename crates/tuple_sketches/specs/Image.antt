@@ -1,4 +1,5 @@
--- Images of tuple sketches: which bytes are read as which sketch, and which are written. How summaries are spelled is a parameter.
+-- Images of tuple sketches: which bytes are read as which sketch, and which are written. How summaries are spelled is a
+-- parameter.
 use Rattle.std.specs.Prelude.{ℕ, ◌≡◌, ◌<◌, ◌⊎◌, List, slice_index}
 use Rattle.std.specs.List.{AllByRecursion}
 use Rattle.core_compact.specs.CompactState.{Compact}

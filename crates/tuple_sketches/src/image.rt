@@ -50,7 +50,7 @@ fn is_sketch_type(kind: u8) -> bool
 }
 
 /// The layout of an image by its preamble, or `None` if it isn't a tuple sketch with 1 to 3 preamble longs and with a
-/// version and sketch type that are read.
+/// version and sketch type that are read, or if `flagged_layout` is `None`.
 #[tactic(auto, unfolding(crate::specs::ImageLayout::tuple_layout))]
 fn tuple_layout(bytes: &[u8], seed_hash: u16) -> Option<Layout>
     ensures { result ≡ tuple_layout bytes.now seed_hash }

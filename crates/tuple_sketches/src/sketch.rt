@@ -4,7 +4,7 @@ ghost use Rattle.core_compact.specs.CompactState.{IsAnswer};
 ghost use Rattle.core_laws.specs.Entries.{ClonesEqual};
 ghost use Rattle.core_laws.specs.Refusal.{Refuses};
 ghost use Rattle.core_laws.specs.Settings.{settings_refusal};
-ghost use Rattle.core_table.specs.HashTable.{empty_table, after_reset, key_hash, after_insertion, trimmed};
+ghost use Rattle.core_table.specs.HashTable.{empty_table, after_reset, key_hash, after_insertion, trimmed_table};
 ghost use Rattle.core_laws.specs.Maps.{IsListing};
 ghost use Rattle.core_laws.specs.Insertion.{upsert_refusal, upsert_allocates};
 ghost use Rattle.core_state.specs.Updatable.{sketch_value, sketch_shows};
@@ -203,7 +203,7 @@ impl<P: SummaryPolicy, A: Allocator + Clone> TupleSketch<P, A> {
     /// Refused with `OutOfMemory` alone, and only if more than k are retained; then nothing has changed.
     pub fn trim(&mut self) -> Result<(), Error>
         ensures same_emptiness { self.new.state.empty ≡ self.old.state.empty }
-        ensures after { OnOk result (self.new.state.map ≡ trimmed tuple_key self.old.state.map) }
+        ensures after { OnOk result (self.new.state.map ≡ trimmed_table tuple_key self.old.state.map) }
         ensures same_policy { self.new.policy ≡ self.old.policy }
         ensures err { OnErr result (self.new.state.map ≡ self.old.state.map) }
         ensures refused { Refuses result None (nat_lt (2 ^ self.old.state.map.lg_nom) (length self.old.state.map.kept.entries)) }

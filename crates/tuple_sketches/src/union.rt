@@ -108,9 +108,9 @@ impl<P: SummaryCombinePolicy + Drop, A: Allocator + Clone> TupleUnion<P, A> {
     /// and later values have no more, also after a `reset`. An empty union stays empty. With its own `lg_k` nothing
     /// changes, and nothing is allocated.
     ///
-    /// Refused, in this order, with `Failed` if the union has failed, with `InvalidArgument` if `lg_k` isn't from 4 to its own,
-    /// and with `OutOfMemory`; then the union is unchanged. No policy is called. Clones of summaries must equal their
-    /// originals.
+    /// Refused, in this order, with `Failed` if the union has failed, with `InvalidArgument` if `lg_k` isn't from 4 to
+    /// its own, and with `OutOfMemory`; then the union is unchanged. No policy is called. Clones of summaries must equal
+    /// their originals.
     pub fn lower_lg_k(&mut self, lg_k: u8) -> Result<(), Error>
     where
         P::Summary: Clone,

@@ -38,7 +38,8 @@ impl<P> TupleUnionBuilder<P> {
         self
     }
 
-    /// Sets the resize factor: by how much the number of slots grows. Of all results, only `estimated_size` depends on it.
+    /// Sets the resize factor: by how much the number of slots grows. No value depends on it, only `estimated_size`,
+    /// unspecified orders and requests for memory.
     pub fn resize_factor(mut self, resize_factor: ResizeFactor) -> Self
         ensures { result ≡ record self { settings = record self.settings { resize_factor = resize_factor } } }
     {

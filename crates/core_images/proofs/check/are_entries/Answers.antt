@@ -11,9 +11,9 @@ pub returns-then-ordered-clause-ok : goal.returns-then-ordered-clause-ok
 returns-then-ordered-clause-ok g c =
     rw c.if-ordered.true (not_from_zero c.args.theta (map g.E.SketchEntry.key c.args.entries.now) (sym c.ascends_from_zero.ensures ∙ c.if-ascends_from_zero.false))
 
-pub returns-then-not-is_within-clause-ok : goal.returns-then-not-is_within-clause-ok
-returns-then-not-is_within-clause-ok g c = outside c.args.theta c.args.ordered (map g.E.SketchEntry.key c.args.entries.now) (sym c.is_within.ensures ∙ c.if-not-is_within.true)
+pub returns-then-not-are_below-clause-ok : goal.returns-then-not-are_below-clause-ok
+returns-then-not-are_below-clause-ok g c = outside c.args.theta c.args.ordered (map g.E.SketchEntry.key c.args.entries.now) (sym c.are_below.ensures ∙ c.if-not-are_below.true)
 
 pub returns-clause-ok : goal.returns-clause-ok
 returns-clause-ok g c =
-    rw c.if-ordered.false (IfOk-weaker c.are_distinct.result _ _ (λ b. by_distinct c.args.theta (map g.E.SketchEntry.key c.args.entries.now) b (sym c.is_within.ensures ∙ c.if-not-is_within.false)) c.are_distinct.ensures.ok)
+    rw c.if-ordered.false (IfOk-weaker c.are_distinct.result _ _ (λ b. by_distinct c.args.theta (map g.E.SketchEntry.key c.args.entries.now) b (sym c.are_below.ensures ∙ c.if-not-are_below.false)) c.are_distinct.ensures.ok)

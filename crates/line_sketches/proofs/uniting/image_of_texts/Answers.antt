@@ -1,11 +1,11 @@
-use Rattle.std.proofs.Common.{◌≡◌, ◌∷◌, ◌++◌, [], ℕ, Vec, Global, Option, Result, Ok, Err, refl, ap, sym, subst, ◌∙◌, arith}
+use Rattle.std.proofs.Common.{◌≡◌, ◌∷◌, ◌++◌, [], ℕ, Vec, Global, Option, Result, Ok, Err, true, refl, ap, sym, subst, ◌∙◌, arith}
 use Rattle.std.specs.Prelude.{length, map, IfOk}
 use Rattle.std.proofs.lemmas.Result.{err_from_is_err_and}
 use Rattle.sketch_base.specs.declared.seed.TheConstants.{DEFAULT_UPDATE_SEED}
 use Rattle.core_laws.specs.Refusal.{Refuses}
 use Rattle.core_laws.specs.declared.TheConstants.{MAX_THETA}
 use Rattle.core_laws.specs.Settings.{settings_refusal}
-use Rattle.line_sketches.specs.Keys.{image_of_lines}
+use Rattle.line_sketches.specs.Keys.{image_of_text, image_of_lines}
 use Rattle.line_sketches.specs.Shards.{images_of_texts}
 use Rattle.line_sketches.specs.Unions.{IsUnitedImage}
 use Rattle.line_sketches.proofs.Compacts.{text_more, texts_made, united_apart}
@@ -22,18 +22,26 @@ loop-text-init g c = record {
 
 pub loop-text-preserved : goal.loop-text-preserved
 loop-text-preserved g c =
-    let items : Vec ℕ Global → _ = λ (v : Vec ℕ Global). v.items in
     let inv = c.loop-text.invariant.united in
-    let image = c.as_slice-image.result.now in
+    let image = c.as_slice-in-Some.result.now in
+    let is = c.as_slice-in-Some.ensures.value ∙ c.in_ok-image.ensures.image ∙ ap (image_of_text c.args.key c.args.lg_k) c.as_slice.ensures.value in
     record {
       united = (
         inv.0 ++ image ∷ [],
         text_more (λ (v : Vec ℕ Global). v.items) c.args.key c.args.lg_k inv.0 image c.in-Some.text.now c.loop-text.left.now c.in-Some.others.now
-            (images_of_texts c.args.key c.args.lg_k (map (λ (v : Vec ℕ Global). v.items) c.args.texts.now)) inv.1 c.in-Some.ensures.cases.0 ?,
+            (images_of_texts c.args.key c.args.lg_k (map (λ (v : Vec ℕ Global). v.items) c.args.texts.now)) inv.1 c.in-Some.ensures.cases.0 is,
         c.in_ok-add_image.ensures.united c.args.lg_k inv.0 inv.2,
       );
       ready = c.in_ok-add_image.ensures.ready c.loop-text.invariant.ready;
     }
+
+pub returns-in_err-add_image-clause-refused : goal.returns-in_err-add_image-clause-refused
+returns-in_err-add_image-clause-refused g c =
+    let result = c.from_residual-in_err-add_image.result in
+    let p = err_from_is_err_and result c.from_residual-in_err-add_image.ensures.1 in
+    let is = c.as_slice-in-Some.ensures.value ∙ c.in_ok-image.ensures.image ∙ ap (image_of_text c.args.key c.args.lg_k) c.as_slice.ensures.value in
+    refuses_memory result (settings_refusal c.args.lg_k MAX_THETA DEFAULT_UPDATE_SEED) p.0 p.1
+    (p.2 ∙ text_refused c.read_again.ensures c.args.key c.args.lg_k c.in-Some.text.now.items c.as_slice-in-Some.result.now c.in_err-add_image.field-0.0 c.in_ok-union.ensures.refused is (c.in_err-add_image.ensures.refused c.loop-text.invariant.ready))
 
 if_ok : {V E : Type 0} (r : Result V E) (P Q : V → Type 0) → IfOk r P → ((v : V) → P v → Q v) → IfOk r Q
 if_ok (Ok v) P Q holds then = then v holds
