@@ -5,7 +5,6 @@ use Rattle.std.proofs.lemmas.List.{take_more}
 use Rattle.core_laws.specs.Cuts.{Retained, none_below}
 use Rattle.core_laws.specs.Folds.{Fold, unmarked, unmarked_value}
 use Rattle.core_laws.specs.Leaf.{leaf_step, leaf_from, leaf, updated_step, is_updated}
-use Rattle.core_laws.specs.Step.{Step as Upsert}
 use Rattle.core_laws.specs.Values.{Empty, NonEmpty}
 use Rattle.core_laws.specs.declared.leaf.LeafStep.{LeafStep as Step}
 use Rattle.core_laws.proofs.insertions.Leaves.{leaf_from-append, is_updated-append}
