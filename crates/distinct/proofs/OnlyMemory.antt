@@ -1,11 +1,10 @@
--- For sketches of the default seed and sizes in range, the only error is refused memory.
+-- For sketches of one seed whose hash is not 0, and sizes in range, the only error is refused memory.
 use Rattle.std.proofs.Common.{◌≡◌, ℕ, ◌≤◌, Bool, true, false, cond, List, [], ◌∷◌, ◌++◌, Option, Some, None, refl, sym, ap, subst, ◌∙◌, arith, inl, inr}
-use Rattle.std.specs.Prelude.{◌⊎◌, ◌==◌, ◌||◌}
+use Rattle.std.specs.Prelude.{◌⊎◌, ◌==◌, ◌||◌, ◌≢◌}
 use Rattle.std.proofs.lemmas.Bool.Decides.{nat_tests}
 use Rattle.sketch_base.specs.Seed.{seed_hash}
 use Rattle.sketch_base.specs.declared.error.ErrorKind.{ErrorKind}
 use Rattle.sketch_base.specs.declared.error.ErrorKind.TheVariants.{OutOfMemory, InvalidArgument, InvalidData}
-use Rattle.sketch_base.specs.declared.seed.TheConstants.{DEFAULT_UPDATE_SEED}
 use Rattle.core_compact.specs.CompactState.{Compact, compact_value}
 use Rattle.core_laws.specs.Entries.{hash_key, first_hash}
 use Rattle.core_laws.specs.Operators.{meet_next}
@@ -13,16 +12,15 @@ use Rattle.core_laws.specs.Values.{Sketch}
 use Rattle.core_laws.specs.declared.TheConstants.{MAX_THETA}
 use Rattle.core_operators.specs.Intersection.{is_settled}
 use Rattle.core_laws.specs.Settings.{settings_refusal}
-use Rattle.line_sketches.specs.Meeting.{or_later, meet_refusal}
+use Rattle.line_sketches.specs.Meeting.{first_refusal, meet_refusal}
 use Rattle.line_sketches.specs.Refusals.{IsUnread, IsUniteRefusal}
 use Rattle.line_sketches.specs.declared.sketching.Unread.{Unread}
 use Rattle.line_sketches.specs.declared.sketching.Unread.TheVariants.{Refused}
-use Rattle.line_sketches.proofs.DefaultSeed.{default_seed}
 use Rattle.distinct.specs.Seeds.{AreSeeded}
 
 -- a size in range
-pub sized : (lg_k : ℕ) → 4 ≤ lg_k → lg_k ≤ 26 → settings_refusal lg_k MAX_THETA DEFAULT_UPDATE_SEED ≡ None
-sized lg_k low high = grind (arith, nat_tests, default_seed)
+pub sized : (lg_k seed : ℕ) → 4 ≤ lg_k → lg_k ≤ 26 → seed_hash seed ≢ 0 → settings_refusal lg_k MAX_THETA seed ≡ None
+sized lg_k seed low high seeded = grind (arith, nat_tests)
 
 read_of : (refusal : Option ErrorKind) (e : ErrorKind) → refusal ≡ None → IsUnread refusal (Refused e) → e ≡ OutOfMemory
 read_of refusal e none (inl is) = let both : None ≡ Some e = sym none ∙ is in absurd (cc)
@@ -39,18 +37,18 @@ unite_of refusal images e none (inr (inr faulty)) = inr faulty.0
 pub unite_kind : (refusal : Option ErrorKind) (images : Option (List (List ℕ))) (u : Unread) (e : ErrorKind) → refusal ≡ None → u ≡ Refused e → IsUniteRefusal refusal images u → (e ≡ OutOfMemory) ⊎ (e ≡ InvalidData)
 unite_kind refusal images u e none is refused = unite_of refusal images e none (subst (IsUniteRefusal refusal images) is refused)
 
--- sketches of the default seed
+-- sketches of one seed
 one_accepted : (settled empty : Bool) (x y : ℕ) → y ≡ x → cond (settled || empty) None (cond (x == y) None (Some InvalidArgument)) ≡ None
 one_accepted true empty x y same = refl
 one_accepted false true x y same = refl
 one_accepted false false x y same = grind (arith, nat_tests)
 
-pub meet_accepted : (so_far : Option (Sketch ℕ)) (sketches : List (Compact ℕ)) → AreSeeded sketches → meet_refusal so_far sketches ≡ None
-meet_accepted so_far [] seeded = refl
-meet_accepted so_far (s ∷ sketches) seeded =
+pub meet_accepted : (seed : ℕ) (so_far : Option (Sketch ℕ)) (sketches : List (Compact ℕ)) → AreSeeded seed sketches → meet_refusal seed so_far sketches ≡ None
+meet_accepted seed so_far [] seeded = refl
+meet_accepted seed so_far (s ∷ sketches) seeded =
     let next = Some (meet_next hash_key first_hash so_far (compact_value hash_key s)) in
-    ap (λ o. or_later o (meet_refusal next sketches)) (one_accepted (is_settled so_far) s.empty (seed_hash DEFAULT_UPDATE_SEED) s.seed_hash seeded.0) ∙ meet_accepted next sketches seeded.1
+    ap (λ o. first_refusal o (meet_refusal seed next sketches)) (one_accepted (is_settled so_far) s.empty (seed_hash seed) s.seed_hash seeded.0) ∙ meet_accepted seed next sketches seeded.1
 
-pub seeded-more : (sketches : List (Compact ℕ)) (s : Compact ℕ) → AreSeeded sketches → s.seed_hash ≡ seed_hash DEFAULT_UPDATE_SEED → AreSeeded (sketches ++ s ∷ [])
-seeded-more [] s all one = (one, tt)
-seeded-more (t ∷ ts) s all one = (all.0, seeded-more ts s all.1 one)
+pub seeded-more : (seed : ℕ) (sketches : List (Compact ℕ)) (s : Compact ℕ) → AreSeeded seed sketches → s.seed_hash ≡ seed_hash seed → AreSeeded seed (sketches ++ s ∷ [])
+seeded-more seed [] s all one = (one, tt)
+seeded-more seed (t ∷ ts) s all one = (all.0, seeded-more seed ts s all.1 one)

@@ -1,27 +1,28 @@
 -- When each failure occurs.
-use Rattle.std.specs.Prelude.{ℕ, ◌≡◌, ◌≢◌, ◌⊎◌, ◌==◌, ◌&&◌, ◌+◌, ◌-◌, ◌^◌, min, ⊤, Bool, true, false, List, [], ◌∷◌, length, Option, IfSome, String, codes, string_bytes, if◌then◌else◌}
-use Rattle.std.specs.Option.{option_map_or}
+use Rattle.std.specs.Prelude.{ℕ, ◌≡◌, ◌≢◌, ◌⊎◌, ◌==◌, ◌&&◌, ◌+◌, ◌-◌, ◌^◌, min, ⊤, Bool, true, false, List, [], ◌∷◌, length, Option, Some, None, IfSome, String, codes, string_bytes, if◌then◌else◌}
 use Rattle.std.specs.Str.{bytes_eq}
-use Rattle.lines.specs.declared.key.Key.{Key}
-use Rattle.lines.specs.declared.key.Key.TheVariants.{Line, Field}
+use Rattle.lines.specs.declared.key.Hashing.{Hashing}
+use Rattle.distinct_arguments.specs.Faults.{status_of as fault_status}
+use Rattle.distinct_arguments.specs.Settings.{chosen_key}
 use Rattle.std.specs.declared.io.Error.{Error}
-use Rattle.distinct.specs.Arguments.{OptionValues}
+use Rattle.distinct_arguments.specs.Settings.{OptionValues}
 use Rattle.distinct.specs.Images.{images_of}
-use Rattle.distinct.specs.declared.arguments.Command.{Command}
-use Rattle.distinct.specs.declared.arguments.Command.TheVariants.{Count, Sketch, Combine}
-use Rattle.distinct.specs.declared.arguments.Operator.{Operator}
-use Rattle.distinct.specs.declared.arguments.Operator.TheVariants.{Minus}
+use Rattle.distinct.specs.declared.images.Images.{Images}
+use Rattle.distinct_arguments.specs.declared.commands.Command.{Command}
+use Rattle.distinct_arguments.specs.declared.commands.Command.TheVariants.{Count, Sketch, Combine}
+use Rattle.distinct_arguments.specs.declared.commands.Operator.{Operator}
+use Rattle.distinct_arguments.specs.declared.commands.Operator.TheVariants.{Minus}
 use Rattle.distinct.specs.declared.failure.Failure.{Failure}
-use Rattle.distinct.specs.declared.failure.Failure.TheVariants.{NoFiles, NotTwo, Memory, Unreadable, NoSketch, NoLine, NotWritten}
+use Rattle.distinct.specs.declared.failure.Failure.TheVariants.{NotText, Arguments, NoFiles, NotTwo, Terminal, WrongCount, Memory, Unreadable, NoSketch, NoHex, NoLine, NotWritten}
 
--- the exit status: 1 if memory, a file or an output fails, 2 if the arguments are wrong
+-- the exit status: 2 if the arguments are wrong, else 1
 abbrev pub status_of : Failure → ℕ
-status_of Memory = 1
-status_of (Unreadable name error) = 1
-status_of (NoSketch name line) = 1
-status_of (NoLine name) = 1
-status_of (NotWritten name error) = 1
-status_of _ = 2
+status_of (NotText number text) = 2
+status_of (Arguments fault) = fault_status fault
+status_of NoFiles = 2
+status_of NotTwo = 2
+status_of Terminal = 2
+status_of _ = 1
 
 -- the name of a file in messages
 abbrev pub called : List ℕ → List ℕ
@@ -42,12 +43,16 @@ ReportsUnreadable name error Memory = ⊤
 ReportsUnreadable name error (Unreadable file reason) = (string_bytes file ≡ name) × (reason ≡ error)
 ReportsUnreadable name error _ = ⊥
 
--- memory was refused, or the file of this name is not an image, or this line of it is not, or it should have lines and has none
-abbrev pub ReportsNoSketch : (name : List ℕ) → (hex : Bool) → (line : ℕ) → Failure → Type 0
-ReportsNoSketch name hex line Memory = ⊤
-ReportsNoSketch name hex line (NoSketch file number) = (string_bytes file ≡ name) × (number ≡ line) × ((hex && line == 0) ≡ false)
-ReportsNoSketch name hex line (NoLine file) = (string_bytes file ≡ name) × ((hex && line == 0) ≡ true)
-ReportsNoSketch name hex line _ = ⊥
+-- Memory was refused; or the file that was opened last has no line though each line should be an image; or it, or its line that
+-- was read last, has this flaw; or that line isn't hexadecimal.
+abbrev pub ReportsNoSketch : {S R : Type 0} → Images S R → Failure → Type 0
+ReportsNoSketch images Memory = ⊤
+ReportsNoSketch images (NoSketch file number flaw) =
+    (string_bytes file ≡ called images.inputs.current.now) × (number ≡ images.line) × (images.flaw ≡ Some flaw) × ((images.hex && images.line == 0) ≡ false)
+ReportsNoSketch images (NoHex file number) =
+    (string_bytes file ≡ called images.inputs.current.now) × (number ≡ images.line) × (images.flaw ≡ None) × ((images.hex && images.line == 0) ≡ false)
+ReportsNoSketch images (NoLine file) = (string_bytes file ≡ called images.inputs.current.now) × ((images.hex && images.line == 0) ≡ true)
+ReportsNoSketch images _ = ⊥
 
 -- memory was refused, or the output of this name failed, for this reason
 abbrev pub ReportsNotWritten : (name : List ℕ) → Error → Failure → Type 0
@@ -63,7 +68,8 @@ IsOfReading _ = ⊥
 
 -- .. or it is not an image
 abbrev pub IsOfImages : Failure → Type 0
-IsOfImages (NoSketch name line) = ⊤
+IsOfImages (NoSketch name line flaw) = ⊤
+IsOfImages (NoHex name line) = ⊤
 IsOfImages (NoLine name) = ⊤
 IsOfImages failure = IsOfReading failure
 
@@ -77,17 +83,28 @@ IsOfWriting name _ = ⊥
 abbrev pub AreNotTwo : (hex : Bool) → (count : ℕ) → (texts : Option (List (List ℕ))) → Type 0
 AreNotTwo hex count texts = ((hex ≡ false) × (count ≢ 2)) ⊎ IfSome texts (λ all. length (images_of hex all) ≢ 2)
 
--- images can't be combined: memory, a file or its contents is at fault, or `minus` doesn't have two
-abbrev pub IsOfCombining : Operator → (hex : Bool) → (count : ℕ) → (texts : Option (List (List ℕ))) → Failure → Type 0
-IsOfCombining operator hex count texts NotTwo = (operator ≡ Minus) × AreNotTwo hex count texts
-IsOfCombining operator hex count texts failure = IsOfImages failure
+-- another number of images was found than is expected
+abbrev pub IsOfCount : (expected : Option ℕ) → (found : ℕ) → Failure → Type 0
+IsOfCount expected found (WrongCount counted number) = (counted ≡ found) × (expected ≡ Some number) × (number ≢ found)
+IsOfCount expected found _ = ⊥
 
--- a command fails: what it reads or writes is at fault, or it has no image, or `minus` doesn't have two
-abbrev pub IsOfCommand : Command → (hex : Bool) → (count : ℕ) → (texts : Option (List (List ℕ))) → Failure → Type 0
-IsOfCommand command hex count texts NoFiles = (count ≡ 0) × (command ≡ Count → ⊥) × (command ≡ Sketch → ⊥)
-IsOfCommand command hex count texts NotTwo = (command ≡ Combine Minus) × AreNotTwo hex count texts
-IsOfCommand command hex count texts failure = status_of failure ≡ 1
+-- images aren't united: memory, a file or its contents is at fault, or they are not as many as are expected
+abbrev pub IsOfUnion : (expected : Option ℕ) → Failure → Type 0
+IsOfUnion expected (WrongCount counted number) = (expected ≡ Some number) × (number ≢ counted)
+IsOfUnion expected failure = IsOfImages failure
 
--- the key that options choose: the field of their number, the first being 1, or the whole line
-abbrev pub chosen_key : OptionValues → Key
-chosen_key options = option_map_or (λ number. Field (number - 1) options.separator) options.field Line
+-- images can't be combined: memory, a file or its contents is at fault, there are not as many as are expected, or `minus` doesn't have two
+abbrev pub IsOfCombining : Operator → OptionValues → (count : ℕ) → (texts : Option (List (List ℕ))) → Failure → Type 0
+IsOfCombining operator options count texts NotTwo = (operator ≡ Minus) × AreNotTwo options.hex count texts
+IsOfCombining operator options count texts failure = IsOfUnion options.expected failure
+
+-- a command fails: what it reads or writes is at fault, it has no image, there are not as many as are expected, or `minus` doesn't have two
+abbrev pub IsOfCommand : Command → OptionValues → (count : ℕ) → (texts : Option (List (List ℕ))) → Failure → Type 0
+IsOfCommand command options count texts NoFiles = (count ≡ 0) × (command ≡ Count → ⊥) × (command ≡ Sketch → ⊥)
+IsOfCommand command options count texts NotTwo = (command ≡ Combine Minus) × AreNotTwo options.hex count texts
+IsOfCommand command options count texts (WrongCount counted number) = (options.expected ≡ Some number) × (number ≢ counted)
+IsOfCommand command options count texts failure = status_of failure ≡ 1
+
+-- how lines are hashed: by the field of the number that options choose, the first being 1, or the whole line
+abbrev pub hashing_of : OptionValues → (seed : ℕ) → Hashing
+hashing_of options seed = record { key = chosen_key options; seed = seed }

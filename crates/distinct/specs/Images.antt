@@ -6,7 +6,6 @@ use Rattle.std.specs.declared.io.buffered.BufReader.{BufReader}
 use Rattle.std.specs.List.{onto_first, prefix_len, suffix_len}
 use Rattle.std.specs.Char.{is_ascii_whitespace}
 use Rattle.sketch_base.specs.Seed.{seed_hash}
-use Rattle.sketch_base.specs.declared.seed.TheConstants.{DEFAULT_UPDATE_SEED}
 use Rattle.line_sketches.specs.Hex.{bytes_of_hex}
 use Rattle.line_sketches.specs.Sources.{GivesNext}
 use Rattle.distinct.specs.declared.images.Images.{Images}
@@ -80,16 +79,21 @@ abbrev pub GivesOrCloses : {V R : Type 0} → (V → List ℕ) → (old new : Op
 GivesOrCloses items old new open_file None = IfSome old (λ images. new ≡ Some images) × (open_file ≡ None)
 GivesOrCloses items old new open_file (Some v) = GivesNext (λ w. Some (items w)) old new (Some v)
 
--- the next image is the first that was left, and it is the image of this sketch
-pub record ReadsFirst (images : List (List ℕ)) (s : Compact ℕ) (left : Option (List (List ℕ))) : Type 0 where
+-- the next image is the first that was left, and it is the image of this sketch under the seed
+pub record ReadsFirst (seed : ℕ) (images : List (List ℕ)) (s : Compact ℕ) (left : Option (List (List ℕ))) : Type 0 where
   pub image : List ℕ
   pub images_after : List (List ℕ)
   pub parted : images ≡ image ∷ images_after
-  pub reads : Reads image (seed_hash DEFAULT_UPDATE_SEED) s
+  pub reads : Reads image (seed_hash seed) s
   pub leaves : left ≡ Some images_after
 
 -- the next image was read, or there is none
-abbrev pub ReadsNext : (old new : Option (List (List ℕ))) → Option (Compact ℕ) → Type 0
-ReadsNext None new next = ⊤
-ReadsNext (Some images) new None = images ≡ []
-ReadsNext (Some images) new (Some s) = ReadsFirst images s new
+abbrev pub ReadsNext : (seed : ℕ) → (old new : Option (List (List ℕ))) → Option (Compact ℕ) → Type 0
+ReadsNext seed None new next = ⊤
+ReadsNext seed (Some images) new None = images ≡ []
+ReadsNext seed (Some images) new (Some s) = ReadsFirst seed images s new
+
+-- the reader of images is where it was
+abbrev pub IsSameReader : {S R : Type 0} → (old new : Images S R) → Type 0
+IsSameReader old new =
+    (new.inputs ≡ old.inputs) × (new.hex ≡ old.hex) × (new.«open» ≡ old.«open») × (new.line ≡ old.line) × (new.seed ≡ old.seed)

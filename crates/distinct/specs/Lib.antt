@@ -1,8 +1,6 @@
-pub mod Numbers
-pub mod Words
-pub mod Arguments
-pub mod Faults
-pub mod Failures
 pub mod Seeds
+pub mod Texts
+pub mod Lists
 pub mod Images
+pub mod Failures
 pub mod Answers

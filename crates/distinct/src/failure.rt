@@ -1,9 +1,12 @@
 //! Why the program fails.
 ghost use Rattle.std.specs.Prelude.{◌≡◌};
 ghost use Rattle.sketch_base.specs.declared.error.ErrorKind.TheVariants.{OutOfMemory};
+ghost use Rattle.distinct_arguments.specs.declared.fault.Fault.{Fault};
 ghost use Rattle.distinct.specs.Failures.{status_of};
 ghost use Rattle.distinct.specs.declared.failure.Failure.TheVariants as failure;
 
+use distinct_arguments::{Escaped, Fault};
+use line_sketches::Flaw;
 use sketch_base::Error;
 use std::alloc::{AllocError, AllocFailed};
 use std::{fmt, io};
@@ -11,32 +14,30 @@ use std::{fmt, io};
 /// Why the program fails. A file has the name by which it was given.
 #[derive(Debug, Drop)]
 pub enum Failure {
-    /// An argument is not text in UTF-8.
-    NotText,
-    /// There is no command.
-    NoCommand,
-    /// The first argument is not a command.
-    UnknownCommand(String),
-    /// The command doesn't have this option.
-    UnknownOption(String),
-    /// An option that takes a value is the last argument.
-    NoValue(String),
-    /// `--lg-k` is not followed by a number from 4 to 26.
-    WrongSize,
-    /// `--field` is not followed by a number from 1 to 2^32 - 1.
-    WrongField,
-    /// `--separator` is not followed by one byte.
-    WrongSeparator,
+    /// The argument of this number, from 1, is not text in UTF-8. Its bytes are escaped.
+    NotText(u64, String),
+    /// The arguments are wrong.
+    Arguments(Fault),
     /// The command needs images, and none is given.
     NoFiles,
     /// `minus` needs two images.
     NotTwo,
+    /// An image would be written to a terminal.
+    Terminal,
+    /// The images found are not as many as the second number, which was expected.
+    WrongCount(u64, u64),
+    /// A file has no seed: no number, or one that can't be a seed.
+    NoSeed(String),
+    /// A list of files has an empty name, or one that is not UTF-8, at this number, from 1.
+    NoName(String, u64),
     /// Memory was refused.
     Memory,
     /// A file can't be read.
     Unreadable(String, io::Error),
     /// A file is not an image, or its line of this number, from 1, is not; 0 if the whole file is meant.
-    NoSketch(String, u64),
+    NoSketch(String, u64, Flaw),
+    /// A line of this number, from 1, is not hexadecimal.
+    NoHex(String, u64),
     /// A file that should have an image in each line has no line.
     NoLine(String),
     /// Writing to standard output, or to the file of this name, failed.
@@ -49,12 +50,12 @@ impl Failure {
         ensures { result ≡ status_of self.now }
     {
         match self {
-            Failure::Memory => 1,
-            Failure::Unreadable(_, _) => 1,
-            Failure::NoSketch(_, _) => 1,
-            Failure::NoLine(_) => 1,
-            Failure::NotWritten(_, _) => 1,
-            _ => 2,
+            Failure::NotText(_, _) => 2,
+            Failure::Arguments(fault) => fault.status(),
+            Failure::NoFiles => 2,
+            Failure::NotTwo => 2,
+            Failure::Terminal => 2,
+            _ => 1,
         }
     }
 }
@@ -68,62 +69,96 @@ pub fn out_of_memory(error: Error) -> Failure
     Failure::Memory
 }
 
-/// An argument as messages print it: each control character is escaped, so that it stays on one line.
+/// Why a file, or a line of it, is not an image, as messages say it.
 #[derive(Drop)]
-struct Escaped<'a>(&'a str);
+struct Reason<'a>(&'a Flaw);
 
-impl fmt::Display for Escaped<'_> {
+impl fmt::Display for Reason<'_> {
     fn fmt<W: fmt::Write>(&self, f: &mut fmt::Formatter<W>) -> fmt::Result {
-        'each_char: for c in self.0.chars() {
-            if c.is_control() {
-                write!(f, "{}", c.escape_default())?;
-            } else {
-                write!(f, "{c}")?;
-            }
+        match self.0 {
+            Flaw::Hexadecimal => write!(f, "is hexadecimal text: pass --hex"),
+            Flaw::Short => write!(f, "is not the image of a theta sketch"),
+            Flaw::Family(family) => write!(
+                f,
+                "is another kind of sketch (family {family}); theta sketches are of family 3"
+            ),
+            Flaw::Version(version) => write!(
+                f,
+                "is of version {version}; versions 1 to 3 are read"
+            ),
+            Flaw::BigEndian => write!(f, "is in big-endian order, which is not read"),
+            Flaw::Seed => write!(
+                f,
+                "is a sketch under another seed than this command's: pass the --seed it was made with"
+            ),
+            Flaw::Cut => write!(f, "is cut short"),
+            Flaw::Longer => write!(
+                f,
+                "is longer than one image; with --hex a file may have many"
+            ),
+            Flaw::Damaged => write!(
+                f,
+                "is damaged: its hashes or its theta are not those of a theta sketch"
+            ),
         }
-        Ok(())
     }
 }
 
 impl fmt::Display for Failure {
     fn fmt<W: fmt::Write>(&self, f: &mut fmt::Formatter<W>) -> fmt::Result {
         match self {
-            Failure::NotText => write!(f, "an argument is not UTF-8 text"),
-            Failure::NoCommand => write!(
+            Failure::NotText(number, text) => write!(
                 f,
-                "no command: count, sketch, union, meet, minus or show (try --help)"
+                "argument {number}, {text}, is not UTF-8 text: rename the file, or read it from standard input (distinct .. < FILE)"
             ),
-            Failure::UnknownCommand(word) => write!(
-                f,
-                "{}: not one of count, sketch, union, meet, minus and show (try --help)",
-                Escaped(word)
-            ),
-            Failure::UnknownOption(option) => write!(
-                f,
-                "{}: no such option (try --help)",
-                Escaped(option)
-            ),
-            Failure::NoValue(option) => write!(f, "{}: missing value", Escaped(option)),
-            Failure::WrongSize => write!(f, "--lg-k takes a number from 4 to 26"),
-            Failure::WrongField => write!(f, "--field takes a number from 1 to 4294967295"),
-            Failure::WrongSeparator => write!(f, "--separator takes one byte"),
+            Failure::Arguments(fault) => write!(f, "{fault}"),
             Failure::NoFiles => write!(f, "no image given (try --help)"),
             Failure::NotTwo => write!(f, "minus takes two images (try --help)"),
-            Failure::Memory => write!(f, "out of memory"),
-            Failure::Unreadable(name, error) => write!(f, "{}: {error}", Escaped(name)),
-            Failure::NoSketch(name, 0) => write!(
+            Failure::Terminal => write!(
                 f,
-                "{}: not the image of one theta sketch, or cut short, or of another seed",
+                "standard output is a terminal, and an image is not text: pass --output FILE, or --hex"
+            ),
+            Failure::WrongCount(found, expected) => write!(
+                f,
+                "{found} images found, {expected} expected; nothing was written"
+            ),
+            Failure::NoSeed(name) => write!(
+                f,
+                "{}: has no seed: a number from 0 to 18446744073709551615 whose seed hash is not 0",
                 Escaped(name)
             ),
-            Failure::NoSketch(name, line) => write!(
+            Failure::NoName(name, number) => write!(
                 f,
-                "{}: line {line} is not the image of one theta sketch, or cut short, or of another seed",
+                "{}: name {number} is empty or not UTF-8 text",
+                Escaped(name)
+            ),
+            Failure::Memory => write!(f, "out of memory"),
+            Failure::Unreadable(name, error) => write!(f, "{}: {error}", Escaped(name)),
+            Failure::NoSketch(name, 0, flaw) => write!(f, "{}: {}", Escaped(name), Reason(flaw)),
+            Failure::NoSketch(name, line, flaw) => write!(
+                f,
+                "{}: line {line} {}",
+                Escaped(name),
+                Reason(flaw)
+            ),
+            Failure::NoHex(name, line) => write!(
+                f,
+                "{}: line {line} is not hexadecimal",
                 Escaped(name)
             ),
             Failure::NoLine(name) => write!(f, "{}: has no line, and so no image", Escaped(name)),
             Failure::NotWritten(name, error) => write!(f, "{}: {error}", Escaped(name)),
         }
+    }
+}
+
+impl From<Fault> for Failure {
+    ghost use Rattle.distinct.specs.declared.failure.Failure.TheVariants.{Arguments};
+
+    ghost from_gives = { λ fault failure. failure ≡ Arguments fault };
+
+    fn from(fault: Fault) -> Failure {
+        Failure::Arguments(fault)
     }
 }
 

@@ -1,46 +1,38 @@
 //! The images in files: a file is one image and nothing else, or each of its lines is one in hexadecimal, with blanks
 //! allowed around it.
-ghost use Rattle.std.specs.Prelude.{◌≡◌, ◌≢◌, true, Some, None, IfOk, IfSome};
+ghost use Rattle.std.specs.Prelude.{◌≡◌, ◌≢◌, ◌≤◌, true, length, Some, None, IfOk, IfSome, OnOk};
 ghost use Rattle.std.specs.IoError.{error_kind};
 ghost use Rattle.std.specs.declared.io.ErrorKind.TheVariants.{InvalidData};
 ghost use Rattle.std.specs.Io.Buffered.{reader_remaining};
+ghost use Rattle.sketch_base.specs.Seed.{seed_hash};
+ghost use Rattle.line_sketches.specs.Header.{image_length, flaw_of};
 ghost use Rattle.line_sketches.specs.Sources.{GivesNext};
 ghost use Rattle.distinct.specs.Images.{remaining_images, GivesOrCloses};
 ghost use Rattle.distinct.specs.Failures.{called, next_number, IsOfImages, NotesNext, ReportsUnreadable, ReportsNoSketch};
 
 use crate::failure::Failure;
 use crate::inputs::Inputs;
-use line_sketches::{Sources, read_hex};
+use crate::remarks::Coarser;
+use sketch_base::{ErrorKind as KindOfError, compute_seed_hash};
+use line_sketches::{Flaw, Sources, entry_count, flaw_of, image_length, read_hex};
 use std::alloc::Global;
 use std::io;
 use std::io::{BufRead, BufReader, Cursor, ErrorKind, Read};
 
-/// Length of the image that these bytes begin, by its preamble; 0 if there are too few. An image of no hashes has eight
-/// bytes, whatever its preamble says.
-fn image_length(bytes: &[u8]) -> usize {
-    let [longs, version, _, _, _, flags, _, _, rest @ ..] = bytes else {
-        return 0;
-    };
-    let count = match rest {
-        [a, b, c, d, ..] => u32::from_le_bytes([*a, *b, *c, *d]) as usize,
-        _ => 0,
-    };
-    let is_empty = *flags & 4 != 0;
-    match (*version, *longs) {
-        (1, _) => 24 + 8 * count,
-        (2, 1) => 8,
-        (3, _) if is_empty => 8,
-        (3, 1) => 16,
-        (_, longs) => 8 * longs as usize + 8 * count,
-    }
+/// The hash of a seed; 0 if no image can be read under the seed.
+fn hash_of_seed(seed: u64) -> u16
+    ensures { result ≡ seed_hash seed }
+{
+    compute_seed_hash(seed, KindOfError::InvalidArgument).unwrap_or(0)
 }
 
 /// Refuses bytes that have something after an image, since a second image there would be ignored.
-fn check_alone(bytes: &[u8]) -> io::Result<()> {
-    if 8 <= bytes.len() && image_length(bytes) < bytes.len() {
-        Err(io::Error::from(ErrorKind::InvalidData))
-    } else {
-        Ok(())
+fn check_alone(bytes: &[u8]) -> io::Result<()>
+    ensures { OnOk result (IfSome (image_length bytes.now) (λ n. length bytes.now ≤ n)) }
+{
+    match image_length(bytes) {
+        Some(image) if image < bytes.len() as u64 => Err(io::Error::from(ErrorKind::InvalidData)),
+        _ => Ok(()),
     }
 }
 
@@ -52,10 +44,22 @@ pub struct Images<'a, S: Sources> {
     hex: bool,
     open: Option<BufReader<S::Source>>,
     line: u64,
+    seed: u64,
+    /// What is wrong with the last image, if something is; `None` if a line isn't hexadecimal.
+    flaw: Option<Flaw>,
+    /// The most hashes that an image retains, and the name of its file.
+    most: u64,
+    most_name: &'a str,
 }
 
 impl<'a, S: Sources> Images<'a, S> {
-    pub fn new(alloc: Global, inputs: Inputs<'a, S>, hex: bool) -> Images<'a, S>
+    /// The images of these files, to be read under this seed.
+    pub fn new(
+        alloc: Global,
+        inputs: Inputs<'a, S>,
+        hex: bool,
+        seed: u64,
+    ) -> Images<'a, S>
         ensures inputs { result.inputs ≡ inputs.entry }
         ensures hex { result.hex ≡ hex }
         ensures closed { result.«open» ≡ None }
@@ -66,6 +70,10 @@ impl<'a, S: Sources> Images<'a, S> {
             hex,
             open: None,
             line: 0,
+            seed,
+            flaw: None,
+            most: 0,
+            most_name: "",
         }
     }
 
@@ -78,7 +86,7 @@ impl<'a, S: Sources> Images<'a, S> {
 
     /// The failure if the file can't be read, or isn't an image.
     pub fn unreadable(&self, error: io::Error) -> Failure
-        ensures data { error_kind error ≡ InvalidData → ReportsNoSketch (called self.now.inputs.current.now) self.now.hex self.now.line result }
+        ensures data { error_kind error ≡ InvalidData → ReportsNoSketch self.now result }
         ensures read { error_kind error ≢ InvalidData → ReportsUnreadable (called self.now.inputs.current.now) error result }
         ensures of_images { IsOfImages result }
     {
@@ -90,18 +98,46 @@ impl<'a, S: Sources> Images<'a, S> {
 
     /// The failure if the file, or its line, isn't an image, or if it has no line.
     pub fn no_sketch(&self) -> Failure
-        ensures { ReportsNoSketch (called self.now.inputs.current.now) self.now.hex self.now.line result }
+        ensures { ReportsNoSketch self.now result }
     {
-        match String::from_str(self.alloc, self.name()) {
-            Ok(name) => {
-                if self.hex && self.line == 0 {
-                    Failure::NoLine(name)
-                } else {
-                    Failure::NoSketch(name, self.line)
-                }
-            }
-            Err(_) => Failure::Memory,
+        let Ok(name) = String::from_str(self.alloc, self.name()) else {
+            return Failure::Memory;
+        };
+        if self.hex && self.line == 0 {
+            return Failure::NoLine(name);
         }
+        match self.flaw {
+            Some(flaw) => Failure::NoSketch(name, self.line, flaw),
+            None => Failure::NoHex(name, self.line),
+        }
+    }
+
+    /// The remark on the image that retains the most hashes, if these are more than 2^`lg_k`.
+    pub fn coarser(&self, lg_k: u8) -> Option<Coarser<'a>> {
+        if lg_k < 64 && 1u64 << lg_k < self.most {
+            Some(Coarser {
+                name: self.most_name,
+                retained: self.most,
+                lg_k,
+            })
+        } else {
+            None
+        }
+    }
+
+    /// Notes what the preamble of an image says. It fails if the bytes have something after the image, since a second
+    /// image there would be ignored.
+    fn note(&mut self, image: &[u8]) -> io::Result<()>
+        ensures flaw { self.new.flaw ≡ Some (flaw_of (seed_hash self.old.seed) image.now) }
+        ensures same { IsSameReader self.old self.new }
+    {
+        self.flaw = Some(flaw_of(image, hash_of_seed(self.seed)));
+        let count = entry_count(image);
+        if self.most < count {
+            self.most = count;
+            self.most_name = self.name();
+        }
+        check_alone(image)
     }
 
     /// The next image, or `None` at the end.
@@ -128,7 +164,7 @@ impl<'a, S: Sources> Images<'a, S> {
         };
         let mut image = Vec::new(self.alloc);
         input.read_to_end(&mut image)?;
-        check_alone(&image)?;
+        self.note(image.as_slice())?;
         Ok(Some(image))
     }
 
@@ -177,9 +213,10 @@ impl<'a, S: Sources> Images<'a, S> {
             return Ok(None);
         }
         self.line = self.line.saturating_add(1);
+        self.flaw = None;
         match read_hex(self.alloc, line.trim_ascii())? {
             Some(image) => {
-                check_alone(&image)?;
+                self.note(image.as_slice())?;
                 Ok(Some(image))
             }
             None => Err(io::Error::from(ErrorKind::InvalidData)),

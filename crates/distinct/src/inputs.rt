@@ -4,6 +4,7 @@ ghost use Rattle.line_sketches.specs.Sources.{GivesNext};
 ghost use Rattle.distinct.specs.Failures.{called, NotesNext, ReportsUnreadable};
 
 use crate::failure::Failure;
+use crate::lists::{Unlisted, names_in};
 use line_sketches::Sources;
 use std::alloc::Global;
 use std::fs::File;
@@ -146,5 +147,36 @@ impl<'a, S: Sources> Sources for Inputs<'a, S> {
             self.left = others;
         }
         self.sources.next_source()
+    }
+}
+
+/// All bytes of the file of this name, or of standard input for `-`.
+pub fn read_whole(rt: &HostRuntime, name: &str) -> Result<Vec<u8>, Failure> {
+    let mut bytes = Vec::new(rt.alloc());
+    match read_into(rt, name, &mut bytes) {
+        Ok(()) => Ok(bytes),
+        Err(error) => match String::from_str(rt.alloc(), called(name)) {
+            Ok(name) => Err(Failure::Unreadable(name, error)),
+            Err(_) => Err(Failure::Memory),
+        },
+    }
+}
+
+fn read_into(rt: &HostRuntime, name: &str, bytes: &mut Vec<u8>) -> io::Result<()> {
+    let mut input = open(rt, name)?;
+    input.read_to_end(bytes)?;
+    Ok(())
+}
+
+/// The names in a list of files, which a file of this name has, or standard input for `-`.
+pub fn files_in_list(rt: &HostRuntime, list: &str) -> Result<Vec<String>, Failure> {
+    let bytes = read_whole(rt, list)?;
+    match names_in(rt.alloc(), bytes.as_slice()) {
+        Ok(names) => Ok(names),
+        Err(Unlisted::Memory) => Err(Failure::Memory),
+        Err(Unlisted::Name(number)) => match String::from_str(rt.alloc(), called(list)) {
+            Ok(name) => Err(Failure::NoName(name, number)),
+            Err(_) => Err(Failure::Memory),
+        },
     }
 }

@@ -4,24 +4,29 @@
 #![tactic(auto)]
 
 mod answer;
-mod arguments;
-mod estimate;
+mod combine;
 mod failure;
-mod help;
 mod images;
 mod inputs;
-mod options;
+mod lists;
 mod output;
 mod progress;
+mod remarks;
+mod seeds;
+mod show;
 #[cfg(test)]
 mod tests;
 
 use crate::answer::perform;
-use crate::arguments::{Command, Request, read_arguments};
 use crate::failure::Failure;
-use crate::inputs::Files;
+use crate::inputs::{Files, files_in_list};
 use crate::progress::Progress;
+use crate::seeds::seed_of;
+use distinct_arguments::{Command, Options, Request, read_arguments};
+use sketch_base::DEFAULT_UPDATE_SEED;
 use std::env;
+use std::env::Env;
+use std::io::IsTerminal;
 use std::process::ExitCode;
 
 fn main(rt: HostRuntime) -> ExitCode {
@@ -35,32 +40,105 @@ fn main(rt: HostRuntime) -> ExitCode {
     }
 }
 
-fn run(rt: &HostRuntime) -> Result<(), Failure> {
-    let Ok(args) = env::args(rt) else {
-        return Err(Failure::NotText);
-    };
-    let words: Vec<String> = args.skip(1).collect(rt.alloc())?;
-    run_request(rt, read_arguments(words.as_slice())?)
+/// The most bytes of an argument that a message prints.
+const LONGEST_NAME: usize = 4096;
+
+/// The failure for the first argument that is not UTF-8 text.
+fn not_text(rt: &HostRuntime) -> Failure {
+    let mut bytes = [0u8; LONGEST_NAME];
+    for number in 1..u32::MAX as usize {
+        let Ok(length) = rt.arg(number, &mut bytes) else {
+            break;
+        };
+        let argument = &bytes[..length];
+        if str::from_utf8(argument).is_err() {
+            return match format!(in rt.alloc(); "{}", argument.escape_ascii()) {
+                Ok(text) => Failure::NotText(number as u64, text),
+                Err(_) => Failure::Memory,
+            };
+        }
+    }
+    Failure::Memory
 }
 
-/// Does what a request says. The answer goes to standard output, or to the file that `--output` names, which is created
-/// once the whole answer is made.
-fn run_request(rt: &HostRuntime, request: Request<'_>) -> Result<(), Failure> {
-    let alloc = rt.alloc();
-    let (files, reads_lines, progress, output) = match request {
-        Request::Print(_) => (&[] as &[String], false, false, None),
+fn run(rt: &HostRuntime) -> Result<(), Failure> {
+    let Ok(args) = env::args(rt) else {
+        return Err(not_text(rt));
+    };
+    let words: Vec<String> = args.skip(1).collect(rt.alloc())?;
+    let request = read_arguments(words.as_slice())?;
+    match request {
+        Request::Print(_) => run_request(rt, request, DEFAULT_UPDATE_SEED, &[]),
         Request::Run(command, options, files) => {
+            check_terminal(rt, command, &options)?;
+            let seed = seed_of(rt, &options)?;
+            match options.list {
+                Some(list) => {
+                    let names = files_in_list(rt, list)?;
+                    run_request(rt, request, seed, names.as_slice())
+                }
+                None => run_request(rt, request, seed, files),
+            }
+        }
+    }
+}
+
+/// Fails if the bytes of an image would go to a terminal.
+fn check_terminal(
+    rt: &HostRuntime,
+    command: Command,
+    options: &Options<'_>,
+) -> Result<(), Failure> {
+    let writes_image = command != Command::Count && command != Command::Show;
+    if writes_image && !options.hex && options.output.is_none() && rt.stdout().is_terminal() {
+        Err(Failure::Terminal)
+    } else {
+        Ok(())
+    }
+}
+
+/// Does what a request says, under this seed, on these files. The answer goes to standard output, or to the file that
+/// `--output` names, which is created once the whole answer is made.
+fn run_request(
+    rt: &HostRuntime,
+    request: Request<'_>,
+    seed: u64,
+    files: &[String],
+) -> Result<(), Failure>
+    requires seeded { seed_hash seed ≢ 0 }
+{
+    let alloc = rt.alloc();
+    let (from_standard, progress, output) = match request {
+        Request::Print(_) => (false, false, None),
+        Request::Run(command, options, _) => {
             let reads_lines = command == Command::Count || command == Command::Sketch;
-            (files, reads_lines, options.progress, options.output)
+            let from_standard = reads_lines && options.list.is_none();
+            (from_standard, options.progress, options.output)
         }
     };
-    let sources = Files::named(rt, files, reads_lines);
-    let mut watch = Progress::new(rt, progress);
+    let sources = Files::named(rt, files, from_standard);
+    let mut console = Progress::new(rt, progress);
     match output {
-        None => perform(alloc, request, sources, &mut watch, &mut rt.stdout()),
+        None => perform(
+            alloc,
+            request,
+            seed,
+            files,
+            sources,
+            &mut console,
+            &mut rt.stdout(),
+        ),
         Some(name) => {
             let mut bytes = Vec::new(alloc);
-            perform(alloc, request, sources, &mut watch, &mut bytes)?;
+            perform(
+                alloc,
+                request,
+                seed,
+                files,
+                sources,
+                &mut console,
+                &mut bytes,
+            )?;
             output::put_file(rt, name, bytes.as_slice())
         }
     }

@@ -38,12 +38,42 @@ fn is_special(rt: &HostRuntime, name: &str) -> bool {
     }
 }
 
-/// Writes a file, all or nothing: it writes a new file beside it and then renames that. An existing file's permissions
-/// are kept.
+/// Whether the name is that of a folder.
+fn is_folder(rt: &HostRuntime, name: &str) -> bool {
+    match fs::metadata(rt, name) {
+        Ok(metadata) => metadata.is_dir(),
+        Err(_) => false,
+    }
+}
+
+/// Whether the name is that of a symbolic link.
+fn is_link(rt: &HostRuntime, name: &str) -> bool {
+    match fs::symlink_metadata(rt, name) {
+        Ok(metadata) => metadata.is_symlink(),
+        Err(_) => false,
+    }
+}
+
+/// Writes a file, all or nothing. Through a symbolic link it writes the file that the link leads to.
 fn write_file(rt: &HostRuntime, name: &str, bytes: &[u8]) -> io::Result<()> {
     if is_special(rt, name) {
         return fs::write(rt, name, bytes);
     }
+    if is_folder(rt, name) {
+        return Err(io::Error::from(ErrorKind::IsADirectory));
+    }
+    if !is_link(rt, name) {
+        return replace_file(rt, name, bytes);
+    }
+    match rt.canonicalize(rt.alloc(), name) {
+        Ok(target) => replace_file(rt, target.as_str(), bytes),
+        Err(_) => fs::write(rt, name, bytes),
+    }
+}
+
+/// Writes a file, all or nothing: it writes a new file beside it and then renames that. An existing file's permissions
+/// are kept.
+fn replace_file(rt: &HostRuntime, name: &str, bytes: &[u8]) -> io::Result<()> {
     let (beside, file) = new_beside(rt, name)?;
     let put = put_beside(rt, file, beside.as_str(), name, bytes);
     if put.is_err() {

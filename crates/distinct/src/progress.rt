@@ -1,7 +1,8 @@
-//! Reports of progress while lines are read.
+//! Remarks and reports of progress on standard error.
 
-use crate::estimate::estimate_so_far;
+use crate::remarks::{Console, Remark};
 use line_sketches::Watch;
+use reports::estimate_so_far;
 use std::alloc::Allocator;
 use std::time::{Duration, Instant};
 use theta_sketches::ThetaSketch;
@@ -66,5 +67,11 @@ impl<'a> Watch for Progress<'a> {
                 "distinct: {lines} lines, {bytes} bytes, about {count} distinct"
             );
         }
+    }
+}
+
+impl<'a> Console for Progress<'a> {
+    fn remark(&mut self, remark: Remark<'_>) {
+        let _ = eprintln!(self.rt; "distinct: {remark}");
     }
 }

@@ -1,75 +1,74 @@
-//! Tests of messages with their statuses, of help, and of what each command writes of texts in memory.
+//! Tests of messages with their statuses, and of what the program writes by its arguments, of texts in memory.
 
-ghost use Rattle.std.specs.Prelude.{◌≡◌, ℕ, List, [], Some, IfOk};
+ghost use Rattle.std.specs.Prelude.{◌≡◌, ◌≢◌, ℕ, List, [], Some, IfOk, map, string_bytes};
+ghost use Rattle.sketch_base.specs.Seed.{seed_hash};
 ghost use Rattle.theta_sketches.specs.Image.{written};
 ghost use Rattle.line_sketches.specs.Unions.{IsUnitedImage};
-ghost use Rattle.distinct.specs.Answers.{names_of, texts_of, sketch_of, count_line, in_form};
+ghost use Rattle.distinct_arguments.specs.Arguments.{action_of};
+ghost use Rattle.distinct_arguments.specs.Faults.{options_of};
+ghost use Rattle.distinct.specs.Answers.{names_of, texts_of, sketch_of, in_form};
 ghost use Rattle.distinct.specs.Answers.{IsIntersectionImage, IsDifferenceImage, IsShownOf, IsAnswer, Performs};
-ghost use Rattle.distinct.specs.Arguments.{action_of};
-ghost use Rattle.distinct.specs.Faults.{options_of};
 ghost use Rattle.distinct.specs.Images.{images_of};
+ghost use Rattle.distinct.specs.Texts.{count_text};
 
 use crate::answer::{answer, perform};
-use crate::arguments::{Command, Operator, Topic, has_option, read_arguments};
 use crate::failure::Failure;
-use crate::help::text_of;
-use crate::options::Options;
-use line_sketches::{Texts, Watch, hex_line, read_hex};
+use crate::lists::{Unlisted, names_in};
+use crate::remarks::{Console, Remark};
+use distinct_arguments::{Command, Fault, Operator, Options, Request, Seed, Topic, read_arguments, text_of};
+use line_sketches::{Flaw, Texts, Watch, hex_line, read_hex};
+use sketch_base::{ErrorKind as SketchError, compute_seed_hash};
 use std::alloc::{AllocError, Allocator, Global};
 use std::io::{Error, ErrorKind};
 use std::test::Fail;
 use theta_sketches::ThetaSketch;
 
-/// A word with controls that a terminal obeys: an escape sequence, a bell, a carriage return, a delete, and two
-/// controls of one character that begin an escape sequence.
+/// A name with controls that a terminal obeys: an escape sequence, a bell, a carriage return, a delete, and two controls of
+/// one character that begin an escape sequence.
 const CONTROLS: &str = "a\u{1b}[31mb\u{7}\r\u{7f}\u{9b}2J\u{90}\u{e9}";
 
 /// Each kind of failure.
 #[derive(Clone, Copy, Debug)]
 enum Kind {
     NotText,
-    NoCommand,
-    UnknownCommand,
-    UnknownOption,
-    OptionOfTwoLines,
-    NoValue,
-    WrongSize,
-    WrongField,
-    WrongSeparator,
+    Arguments,
+    ArgumentsMemory,
     NoFiles,
     NotTwo,
+    Terminal,
+    WrongCount,
+    NoSeed,
+    NoName,
     Memory,
     Unreadable,
-    NoSketch,
-    NoSketchOnLine,
+    NoSketch(Flaw),
+    NoSketchOnLine(Flaw),
+    NoHex,
     NoLine,
     NotWritten,
-    WordOfControls,
     NameOfControls,
 }
 
 fn failure_of(alloc: Global, kind: Kind) -> Result<Failure, AllocError> {
     let name = String::from_str(alloc, "it")?;
     Ok(match kind {
-        Kind::NotText => Failure::NotText,
-        Kind::NoCommand => Failure::NoCommand,
-        Kind::UnknownCommand => Failure::UnknownCommand(name),
-        Kind::UnknownOption => Failure::UnknownOption(name),
-        Kind::OptionOfTwoLines => Failure::UnknownOption(String::from_str(alloc, "-a\nb")?),
-        Kind::NoValue => Failure::NoValue(name),
-        Kind::WrongSize => Failure::WrongSize,
-        Kind::WrongField => Failure::WrongField,
-        Kind::WrongSeparator => Failure::WrongSeparator,
+        Kind::NotText => Failure::NotText(3, name),
+        Kind::Arguments => Failure::Arguments(Fault::WrongSize),
+        Kind::ArgumentsMemory => Failure::Arguments(Fault::Memory),
         Kind::NoFiles => Failure::NoFiles,
         Kind::NotTwo => Failure::NotTwo,
+        Kind::Terminal => Failure::Terminal,
+        Kind::WrongCount => Failure::WrongCount(2, 3),
+        Kind::NoSeed => Failure::NoSeed(name),
+        Kind::NoName => Failure::NoName(name, 2),
         Kind::Memory => Failure::Memory,
         Kind::Unreadable => Failure::Unreadable(name, Error::from(ErrorKind::NotFound)),
-        Kind::NoSketch => Failure::NoSketch(name, 0),
-        Kind::NoSketchOnLine => Failure::NoSketch(name, 7),
+        Kind::NoSketch(flaw) => Failure::NoSketch(name, 0, flaw),
+        Kind::NoSketchOnLine(flaw) => Failure::NoSketch(name, 7, flaw),
+        Kind::NoHex => Failure::NoHex(name, 7),
         Kind::NoLine => Failure::NoLine(name),
-        Kind::WordOfControls => Failure::UnknownCommand(String::from_str(alloc, CONTROLS)?),
-        Kind::NameOfControls => Failure::NoLine(String::from_str(alloc, CONTROLS)?),
         Kind::NotWritten => Failure::NotWritten(name, Error::from(ErrorKind::StorageFull)),
+        Kind::NameOfControls => Failure::NoLine(String::from_str(alloc, CONTROLS)?),
     })
 }
 
@@ -83,57 +82,87 @@ fn message_of(alloc: Global, kind: Kind) -> Result<(u8, String), AllocError> {
 #[test]
 fn prints_each_failure(rt: HostRuntime) -> Result<(), Fail> {
     for (kind, status, message) in [
-        (Kind::NotText, 2, "an argument is not UTF-8 text"),
         (
-            Kind::NoCommand,
+            Kind::NotText,
             2,
-            "no command: count, sketch, union, meet, minus or show (try --help)",
+            "argument 3, it, is not UTF-8 text: rename the file, or read it from standard input (distinct .. < FILE)",
         ),
-        (
-            Kind::UnknownCommand,
-            2,
-            "it: not one of count, sketch, union, meet, minus and show (try --help)",
-        ),
-        (Kind::UnknownOption, 2, "it: no such option (try --help)"),
-        (
-            Kind::OptionOfTwoLines,
-            2,
-            "-a\\nb: no such option (try --help)",
-        ),
-        (Kind::NoValue, 2, "it: missing value"),
-        (Kind::WrongSize, 2, "--lg-k takes a number from 4 to 26"),
-        (
-            Kind::WrongField,
-            2,
-            "--field takes a number from 1 to 4294967295",
-        ),
-        (Kind::WrongSeparator, 2, "--separator takes one byte"),
+        (Kind::Arguments, 2, "--lg-k takes a number from 4 to 26"),
+        (Kind::ArgumentsMemory, 1, "out of memory"),
         (Kind::NoFiles, 2, "no image given (try --help)"),
         (Kind::NotTwo, 2, "minus takes two images (try --help)"),
+        (
+            Kind::Terminal,
+            2,
+            "standard output is a terminal, and an image is not text: pass --output FILE, or --hex",
+        ),
+        (
+            Kind::WrongCount,
+            1,
+            "2 images found, 3 expected; nothing was written",
+        ),
+        (
+            Kind::NoSeed,
+            1,
+            "it: has no seed: a number from 0 to 18446744073709551615 whose seed hash is not 0",
+        ),
+        (Kind::NoName, 1, "it: name 2 is empty or not UTF-8 text"),
         (Kind::Memory, 1, "out of memory"),
         (Kind::Unreadable, 1, "it: entity not found"),
         (
-            Kind::NoSketch,
+            Kind::NoSketch(Flaw::Hexadecimal),
             1,
-            "it: not the image of one theta sketch, or cut short, or of another seed",
+            "it: is hexadecimal text: pass --hex",
         ),
         (
-            Kind::NoSketchOnLine,
+            Kind::NoSketch(Flaw::Short),
             1,
-            "it: line 7 is not the image of one theta sketch, or cut short, or of another seed",
+            "it: is not the image of a theta sketch",
         ),
+        (
+            Kind::NoSketch(Flaw::Family(7)),
+            1,
+            "it: is another kind of sketch (family 7); theta sketches are of family 3",
+        ),
+        (
+            Kind::NoSketch(Flaw::Version(4)),
+            1,
+            "it: is of version 4; versions 1 to 3 are read",
+        ),
+        (
+            Kind::NoSketch(Flaw::BigEndian),
+            1,
+            "it: is in big-endian order, which is not read",
+        ),
+        (
+            Kind::NoSketch(Flaw::Seed),
+            1,
+            "it: is a sketch under another seed than this command's: pass the --seed it was made with",
+        ),
+        (Kind::NoSketch(Flaw::Cut), 1, "it: is cut short"),
+        (
+            Kind::NoSketch(Flaw::Longer),
+            1,
+            "it: is longer than one image; with --hex a file may have many",
+        ),
+        (
+            Kind::NoSketch(Flaw::Damaged),
+            1,
+            "it: is damaged: its hashes or its theta are not those of a theta sketch",
+        ),
+        (
+            Kind::NoSketchOnLine(Flaw::Cut),
+            1,
+            "it: line 7 is cut short",
+        ),
+        (Kind::NoHex, 1, "it: line 7 is not hexadecimal"),
         (Kind::NoLine, 1, "it: has no line, and so no image"),
-        (
-            Kind::WordOfControls,
-            2,
-            "a\\u{1b}[31mb\\u{7}\\r\\u{7f}\\u{9b}2J\\u{90}\u{e9}: not one of count, sketch, union, meet, minus and show (try --help)",
-        ),
+        (Kind::NotWritten, 1, "it: no storage space"),
         (
             Kind::NameOfControls,
             1,
             "a\\u{1b}[31mb\\u{7}\\r\\u{7f}\\u{9b}2J\\u{90}\u{e9}: has no line, and so no image",
         ),
-        (Kind::NotWritten, 1, "it: no storage space"),
     ] {
         let printed = message_of(rt.alloc(), kind)?;
         assert_eq!(rt;
@@ -145,47 +174,7 @@ fn prints_each_failure(rt: HostRuntime) -> Result<(), Fail> {
     Ok(())
 }
 
-/// The help of each command names its options and no others.
-#[test]
-fn helps_with_each_option(rt: HostRuntime) {
-    for (command, begin) in [
-        (Command::Count, "distinct count [OPTION..] [FILE..]: "),
-        (Command::Sketch, "distinct sketch [OPTION..] [FILE..]: "),
-        (
-            Command::Combine(Operator::Union),
-            "distinct union [OPTION..] IMAGE..: ",
-        ),
-        (
-            Command::Combine(Operator::Meet),
-            "distinct meet [OPTION..] IMAGE..: ",
-        ),
-        (
-            Command::Combine(Operator::Minus),
-            "distinct minus [OPTION..] IMAGE IMAGE: ",
-        ),
-        (Command::Show, "distinct show [OPTION..] IMAGE..: "),
-    ] {
-        let text = text_of(Topic::Help(command));
-        assert!(rt; text.starts_with(begin), "{command:?}");
-        for option in [
-            "--lg-k",
-            "--field",
-            "--separator",
-            "--progress",
-            "--hex",
-            "--output",
-        ] {
-            let is_named = text.contains(option);
-            assert_eq!(rt;
-                is_named,
-                has_option(command, option),
-                "{command:?} {option}"
-            );
-        }
-    }
-}
-
-/// Ignores progress.
+/// Ignores progress and remarks.
 #[derive(Drop)]
 struct Quiet {}
 
@@ -193,38 +182,34 @@ impl Watch for Quiet {
     fn saw<A: Allocator>(&mut self, _bytes: usize, _lines: u64, _sketch: &ThetaSketch<A>) {}
 }
 
-/// What a command writes of texts in memory, as files of these names.
+impl Console for Quiet {
+    fn remark(&mut self, _remark: Remark<'_>) {}
+}
+
+/// What a command writes under a seed of texts in memory, as files of these names.
 fn answered(
     alloc: Global,
     command: Command,
     options: &Options<'_>,
+    seed: u64,
     names: &[String],
     texts: &[Vec<u8>],
 ) -> Result<Vec<u8>, Failure>
-    ensures written { IfOk result (λ v. IsAnswer command (options_of options.now) (names_of names.now) (texts_of texts.now) v.items) }
+    requires seeded { seed_hash seed ≢ 0 }
+    ensures written { IfOk result (λ v. IsAnswer command (options_of options.now) seed (names_of names.now) (texts_of texts.now) v.items) }
 {
     let mut bytes = Vec::new(alloc);
-    let mut watch = Quiet {};
+    let mut console = Quiet {};
     answer(
         alloc,
         command,
         options,
+        seed,
         names,
         Texts::new(texts),
-        &mut watch,
+        &mut console,
         &mut bytes,
     )?;
-    Ok(bytes)
-}
-
-/// What the program writes by its arguments, of texts in memory.
-fn performed(alloc: Global, words: &[String], texts: &[Vec<u8>]) -> Result<Vec<u8>, Failure>
-    ensures { IfOk result (λ v. Performs (action_of (names_of words.now)) (texts_of texts.now) (Some []) (Some v.items)) }
-{
-    let request = read_arguments(words)?;
-    let mut bytes = Vec::new(alloc);
-    let mut watch = Quiet {};
-    perform(alloc, request, Texts::new(texts), &mut watch, &mut bytes)?;
     Ok(bytes)
 }
 
@@ -232,78 +217,93 @@ fn performed(alloc: Global, words: &[String], texts: &[Vec<u8>]) -> Result<Vec<u
 fn count_of(
     alloc: Global,
     options: &Options<'_>,
+    seed: u64,
     names: &[String],
     texts: &[Vec<u8>],
 ) -> Result<Vec<u8>, Failure>
-    ensures counted { IfOk result (λ v. v.items ≡ count_line (sketch_of (options_of options.now) (texts_of texts.now))) }
+    requires seeded { seed_hash seed ≢ 0 }
+    ensures counted { IfOk result (λ v. v.items ≡ count_text (options_of options.now) (sketch_of (options_of options.now) seed (texts_of texts.now))) }
 {
-    answered(alloc, Command::Count, options, names, texts)
+    answered(alloc, Command::Count, options, seed, names, texts)
 }
 
 /// What `sketch` writes of texts.
 fn sketch_of(
     alloc: Global,
     options: &Options<'_>,
+    seed: u64,
     names: &[String],
     texts: &[Vec<u8>],
 ) -> Result<Vec<u8>, Failure>
-    ensures sketched { IfOk result (λ v. v.items ≡ in_form options.now.hex (written (sketch_of (options_of options.now) (texts_of texts.now)))) }
+    requires seeded { seed_hash seed ≢ 0 }
+    ensures sketched { IfOk result (λ v. v.items ≡ in_form options.now.hex (written (sketch_of (options_of options.now) seed (texts_of texts.now)))) }
 {
-    answered(alloc, Command::Sketch, options, names, texts)
+    answered(alloc, Command::Sketch, options, seed, names, texts)
 }
 
 /// What `union` writes of files of images.
 fn union_of(
     alloc: Global,
     options: &Options<'_>,
+    seed: u64,
     names: &[String],
     texts: &[Vec<u8>],
 ) -> Result<Vec<u8>, Failure>
-    ensures united { IfOk result (λ v. (image : List ℕ) × IsUnitedImage options.now.lg_k (images_of options.now.hex (texts_of texts.now)) image
+    requires seeded { seed_hash seed ≢ 0 }
+    ensures united { IfOk result (λ v. (image : List ℕ)
+        × IsUnitedImage seed options.now.lg_k (images_of options.now.hex (texts_of texts.now)) image
         × (v.items ≡ in_form options.now.hex image)) }
 {
     let union = Command::Combine(Operator::Union);
-    answered(alloc, union, options, names, texts)
+    answered(alloc, union, options, seed, names, texts)
 }
 
 /// What `meet` writes of files of images.
 fn meet_of(
     alloc: Global,
     options: &Options<'_>,
+    seed: u64,
     names: &[String],
     texts: &[Vec<u8>],
 ) -> Result<Vec<u8>, Failure>
-    ensures met { IfOk result (λ v. (image : List ℕ) × IsIntersectionImage (images_of options.now.hex (texts_of texts.now)) image
+    requires seeded { seed_hash seed ≢ 0 }
+    ensures met { IfOk result (λ v. (image : List ℕ)
+        × IsIntersectionImage seed (images_of options.now.hex (texts_of texts.now)) image
         × (v.items ≡ in_form options.now.hex image)) }
 {
     let meet = Command::Combine(Operator::Meet);
-    answered(alloc, meet, options, names, texts)
+    answered(alloc, meet, options, seed, names, texts)
 }
 
 /// What `minus` writes of files of two images.
 fn minus_of(
     alloc: Global,
     options: &Options<'_>,
+    seed: u64,
     names: &[String],
     texts: &[Vec<u8>],
 ) -> Result<Vec<u8>, Failure>
-    ensures lacking { IfOk result (λ v. (image : List ℕ) × IsDifferenceImage (images_of options.now.hex (texts_of texts.now)) image
+    requires seeded { seed_hash seed ≢ 0 }
+    ensures difference { IfOk result (λ v. (image : List ℕ)
+        × IsDifferenceImage seed (images_of options.now.hex (texts_of texts.now)) image
         × (v.items ≡ in_form options.now.hex image)) }
 {
     let minus = Command::Combine(Operator::Minus);
-    answered(alloc, minus, options, names, texts)
+    answered(alloc, minus, options, seed, names, texts)
 }
 
 /// What `show` writes of files of images.
 fn show_of(
     alloc: Global,
     options: &Options<'_>,
+    seed: u64,
     names: &[String],
     texts: &[Vec<u8>],
 ) -> Result<Vec<u8>, Failure>
-    ensures shown { IfOk result (λ v. IsShownOf options.now.hex (names_of names.now) (texts_of texts.now) v.items) }
+    requires seeded { seed_hash seed ≢ 0 }
+    ensures shown { IfOk result (λ v. IsShownOf (options_of options.now) seed (names_of names.now) (texts_of texts.now) v.items) }
 {
-    answered(alloc, Command::Show, options, names, texts)
+    answered(alloc, Command::Show, options, seed, names, texts)
 }
 
 /// What a command writes, by its helper.
@@ -311,17 +311,46 @@ fn written_by(
     alloc: Global,
     command: Command,
     options: &Options<'_>,
+    seed: u64,
     names: &[String],
     texts: &[Vec<u8>],
-) -> Result<Vec<u8>, Failure> {
+) -> Result<Vec<u8>, Failure>
+    requires seeded { seed_hash seed ≢ 0 }
+{
     match command {
-        Command::Count => count_of(alloc, options, names, texts),
-        Command::Sketch => sketch_of(alloc, options, names, texts),
-        Command::Combine(Operator::Union) => union_of(alloc, options, names, texts),
-        Command::Combine(Operator::Meet) => meet_of(alloc, options, names, texts),
-        Command::Combine(Operator::Minus) => minus_of(alloc, options, names, texts),
-        Command::Show => show_of(alloc, options, names, texts),
+        Command::Count => count_of(alloc, options, seed, names, texts),
+        Command::Sketch => sketch_of(alloc, options, seed, names, texts),
+        Command::Combine(Operator::Union) => union_of(alloc, options, seed, names, texts),
+        Command::Combine(Operator::Meet) => meet_of(alloc, options, seed, names, texts),
+        Command::Combine(Operator::Minus) => minus_of(alloc, options, seed, names, texts),
+        Command::Show => show_of(alloc, options, seed, names, texts),
     }
+}
+
+/// What a request writes of texts in memory, under a seed.
+fn performed(
+    alloc: Global,
+    words: &[String],
+    seed: u64,
+    names: &[String],
+    texts: &[Vec<u8>],
+) -> Result<Vec<u8>, Failure>
+    requires seeded { seed_hash seed ≢ 0 }
+    ensures { IfOk result (λ v. Performs (action_of (names_of words.now)) seed (names_of names.now) (texts_of texts.now) (Some []) (Some v.items)) }
+{
+    let request = read_arguments(words)?;
+    let mut bytes = Vec::new(alloc);
+    let mut console = Quiet {};
+    perform(
+        alloc,
+        request,
+        seed,
+        names,
+        Texts::new(texts),
+        &mut console,
+        &mut bytes,
+    )?;
+    Ok(bytes)
 }
 
 /// Texts as a list of words.
@@ -349,39 +378,69 @@ fn two_texts(alloc: Global, spelled: bool, texts: [&str; 2]) -> Result<Vec<Vec<u
     Ok(files)
 }
 
-/// What a command writes of two files, with `--hex` or without; an image as a line of hexadecimal digits.
-fn line_of(
+/// Bytes, or the line of hexadecimal digits of an image.
+fn in_digits(alloc: Global, is_image: bool, bytes: Vec<u8>) -> Result<Vec<u8>, AllocError> {
+    if is_image {
+        hex_line(alloc, bytes.as_slice())
+    } else {
+        Ok(bytes)
+    }
+}
+
+/// The number of a seed that was given as one.
+fn number_of(seed: Seed<'_>) -> u64 {
+    match seed {
+        Seed::Number(number) => number,
+        Seed::File(_) => 0,
+    }
+}
+
+/// What the program writes by these arguments of two files: by `perform`, and by the helper of its command. Files are
+/// spelled in hexadecimal if the command reads images without `--hex`.
+fn both_written(
     alloc: Global,
-    command: Command,
-    hex: bool,
+    arguments: &[&str],
     texts: [&str; 2],
-) -> Result<Vec<u8>, Failure> {
-    let options = Options {
-        lg_k: 5,
-        field: None,
-        separator: b'\t',
-        hex,
-        progress: false,
-        output: None,
+) -> Result<(Vec<u8>, Vec<u8>), Failure> {
+    let words = words_of(alloc, arguments)?;
+    let names = words_of(alloc, &["a", "b"])?;
+    let Request::Run(command, options, _) = read_arguments(words.as_slice())? else {
+        return Err(Failure::NoFiles);
     };
+    let seed = number_of(options.seed);
+    if compute_seed_hash(seed, SketchError::InvalidArgument).is_err() {
+        return Err(Failure::NoFiles);
+    }
     let reads_lines = command == Command::Count || command == Command::Sketch;
     let writes_lines = command == Command::Count || command == Command::Show;
-    let names = words_of(alloc, &["a", "b"])?;
-    let files = two_texts(alloc, !hex && !reads_lines, texts)?;
-    let written = written_by(alloc, command, &options, names.as_slice(), files.as_slice())?;
-    if hex || writes_lines {
-        Ok(written)
-    } else {
-        Ok(hex_line(alloc, written.as_slice())?)
-    }
+    let is_image = !options.hex && !writes_lines;
+    let files = two_texts(alloc, !options.hex && !reads_lines, texts)?;
+    let written = performed(alloc, words.as_slice(), seed, names.as_slice(), files.as_slice())?;
+    let second = written_by(
+        alloc,
+        command,
+        &options,
+        seed,
+        names.as_slice(),
+        files.as_slice(),
+    )?;
+    Ok((in_digits(alloc, is_image, written)?, in_digits(alloc, is_image, second)?))
 }
 
 /// Two texts of lines, each cut into lines by itself: three different lines.
 const TEXTS: [&str; 2] = ["ann\nbob", "bob\n\nann"];
 
-/// The image of their lines.
+/// The image of their lines, and that under seed 1.
 const THREE: &str =
     "02030300001acc930300000000000000dc8d24339151380f5f1032909707cc27fc08309e1c5ed36b\n";
+const THREE_UNDER_1: &str =
+    "02030300001a4ac4030000000000000056d802e1dab062185aae7fb7f2550823221ac34464fbcd3b\n";
+
+/// Twenty lines.
+const LETTERS: [&str; 2] = [
+    "a\nb\nc\nd\ne\nf\ng\nh\ni\nj\n",
+    "k\nl\nm\nn\no\np\nq\nr\ns\nt\n",
+];
 
 /// The images of `examples/lines/data/both.hex`.
 const EXACT: [&str; 2] = [
@@ -395,91 +454,123 @@ const ESTIMATING: [&str; 2] = [
     "03030300001acc9302000000000000000000909dceda82370000c84e676dc11b00002cf61a24a229",
 ];
 
-/// Each command, with `--hex` and without. What is to be written of `TEXTS` is by a program in Python that knows the public
-/// definition of the hash, of `EXACT` it is in `examples/lines`, and of `ESTIMATING` it is by `checks/answers.py`.
+/// Each command, with options and without. What is to be written of `TEXTS` and `LETTERS` is by a program in Python that knows
+/// the public definition of the hash and the formula of bounds, of `EXACT` it is in `examples/lines`, and of `ESTIMATING` it is by
+/// `checks/answers.py`.
 #[test]
-fn answers_each_command(rt: HostRuntime) -> Result<(), Fail> {
-    let union = Command::Combine(Operator::Union);
-    let meet = Command::Combine(Operator::Meet);
-    let minus = Command::Combine(Operator::Minus);
-    for (command, texts, line) in [
-        (Command::Count, TEXTS, "3\n"),
-        (Command::Sketch, TEXTS, THREE),
+fn writes_each_answer(rt: HostRuntime) -> Result<(), Fail> {
+    for (arguments, texts, line) in [
+        (&["count", "a", "b"] as &[&str], TEXTS, "3\n"),
+        (&["count", "--bounds", "a", "b"], TEXTS, "3 3 3\n"),
+        (&["count", "--lg-k", "4", "a", "b"], LETTERS, "18\n"),
+        (&["count", "--lg-k=4", "--bounds", "a", "b"], LETTERS, "18 16 21\n"),
+        (&["count", "--lg-k=4", "--bounds=3", "a", "b"], LETTERS, "18 16 23\n"),
         (
-            union,
+            &["count", "--tsv", "a", "b"],
+            TEXTS,
+            "estimate\tlower\tupper\texact\tretained\ttheta\n3\t3\t3\ttrue\t3\t9223372036854775807\n",
+        ),
+        (
+            &["count", "--lg-k=4", "--json", "--bounds=1", "a", "b"],
+            LETTERS,
+            "{\"estimate\":18,\"lower\":16,\"upper\":20,\"exact\":false,\"retained\":16,\"theta\":8286655706689789920}\n",
+        ),
+        (&["sketch", "a", "b"], TEXTS, THREE),
+        (&["sketch", "--hex", "a", "b"], TEXTS, THREE),
+        (&["sketch", "--hex", "--seed", "1", "a", "b"], TEXTS, THREE_UNDER_1),
+        (
+            &["union", "--lg-k", "5", "a", "b"],
             EXACT,
             "02030300001acc930600000000000000dc8d24339151380f5f1032909707cc27da4533470651e63c088534befe436f3f39151d0e0dd45d67fc08309e1c5ed36b\n",
         ),
         (
-            meet,
-            EXACT,
-            "02030300001acc930200000000000000dc8d24339151380f5f1032909707cc27\n",
-        ),
-        (
-            minus,
-            EXACT,
-            "02030300001acc930300000000000000088534befe436f3f39151d0e0dd45d67fc08309e1c5ed36b\n",
-        ),
-        (
-            Command::Show,
-            EXACT,
-            "a: 5 exact, retained 5, theta 9223372036854775807\nb: 3 exact, retained 3, theta 9223372036854775807\n",
-        ),
-        (
-            union,
+            &["union", "--hex", "--expect", "2", "a", "b"],
             ESTIMATING,
             "03030300001acc9303000000000000000000909dceda8237000064a7b3b6e00d0000c84e676dc11b00002cf61a24a229\n",
         ),
         (
-            meet,
+            &["meet", "a", "b"],
+            EXACT,
+            "02030300001acc930200000000000000dc8d24339151380f5f1032909707cc27\n",
+        ),
+        (
+            &["meet", "--hex", "--expect=2", "a", "b"],
             ESTIMATING,
             "03030300001acc9301000000000000000000909dceda82370000c84e676dc11b\n",
         ),
         (
-            minus,
+            &["minus", "a", "b"],
+            EXACT,
+            "02030300001acc930300000000000000088534befe436f3f39151d0e0dd45d67fc08309e1c5ed36b\n",
+        ),
+        (
+            &["minus", "--hex", "a", "b"],
             ESTIMATING,
             "03030300001acc9301000000000000000000909dceda8237000064a7b3b6e00d\n",
         ),
         (
-            Command::Show,
+            &["show", "a", "b"],
+            EXACT,
+            "a: 5 exact, retained 5, theta 9223372036854775807\nb: 3 exact, retained 3, theta 9223372036854775807\n",
+        ),
+        (
+            &["show", "--hex", "--bounds=1", "a", "b"],
             ESTIMATING,
-            "a: 6 estimated, retained 3, theta 5000000000000000000\nb: 5 estimated, retained 2, theta 4000000000000000000\n",
+            "a: 6 estimated, from 3 to 9, retained 3, theta 5000000000000000000\nb: 5 estimated, from 2 to 8, retained 2, theta 4000000000000000000\n",
+        ),
+        (
+            &["show", "--tsv", "a", "b"],
+            ESTIMATING,
+            "name\testimate\tlower\tupper\texact\tretained\ttheta\na\t6\t3\t12\tfalse\t3\t5000000000000000000\nb\t5\t2\t13\tfalse\t2\t4000000000000000000\n",
+        ),
+        (
+            &["show", "--json", "--hex", "a", "b"],
+            EXACT,
+            "{\"name\":\"a\",\"estimate\":5,\"lower\":5,\"upper\":5,\"exact\":true,\"retained\":5,\"theta\":9223372036854775807}\n{\"name\":\"b\",\"estimate\":3,\"lower\":3,\"upper\":3,\"exact\":true,\"retained\":3,\"theta\":9223372036854775807}\n",
         ),
     ] {
-        for hex in [false, true] {
-            let written = match line_of(rt.alloc(), command, hex, texts) {
-                Ok(bytes) => bytes,
-                Err(_) => Vec::new(rt.alloc()),
-            };
-            assert_eq!(rt; written.as_slice(), line.as_bytes(), "{command:?} {hex}");
-        }
+        let (first, second) = match both_written(rt.alloc(), arguments, texts) {
+            Ok(written) => written,
+            Err(_) => (Vec::new(rt.alloc()), Vec::new(rt.alloc())),
+        };
+        assert_eq!(rt; first.as_slice(), line.as_bytes(), "{arguments:?}");
+        assert_eq!(rt; second.as_slice(), line.as_bytes(), "{arguments:?}");
     }
     Ok(())
 }
 
-/// What the program writes by these arguments, of the texts of `TEXTS`.
-fn performed_on_texts(alloc: Global, arguments: &[&str]) -> Result<Vec<u8>, Failure> {
-    let words = words_of(alloc, arguments)?;
-    let files = two_texts(alloc, false, TEXTS)?;
-    performed(alloc, words.as_slice(), files.as_slice())
+/// Help reads no file.
+#[test]
+fn prints_help(rt: HostRuntime) -> Result<(), Fail> {
+    let words = words_of(rt.alloc(), &["count", "--help", "a", "b"])?;
+    let written = match performed(rt.alloc(), words.as_slice(), 1, &[], &[]) {
+        Ok(bytes) => bytes,
+        Err(_) => Vec::new(rt.alloc()),
+    };
+    let text = text_of(Topic::Help(Command::Count));
+    assert_eq!(rt; written.as_slice(), text.as_bytes());
+    Ok(())
 }
 
-/// From arguments to what is written: an option counts, and help reads no file.
+/// Names in lists, ended by NUL bytes, and the first that can't be one.
 #[test]
-fn performs_arguments(rt: HostRuntime) -> Result<(), Fail> {
-    for (arguments, text) in [
-        (["count", "--", "a", "b"], "3\n"),
-        (["sketch", "--hex", "a", "b"], THREE),
-        (
-            ["count", "--help", "a", "b"],
-            text_of(Topic::Help(Command::Count)),
-        ),
+fn reads_lists_of_names(rt: HostRuntime) -> Result<(), Fail> {
+    for (list, names) in [
+        ("", &[] as &[&str]),
+        ("a\0", &["a"]),
+        ("a\0b c\n\0é", &["a", "b c\n", "é"]),
     ] {
-        let written = match performed_on_texts(rt.alloc(), &arguments) {
-            Ok(bytes) => bytes,
-            Err(_) => Vec::new(rt.alloc()),
-        };
-        assert_eq!(rt; written.as_slice(), text.as_bytes(), "{text}");
+        let wanted = words_of(rt.alloc(), names)?;
+        match names_in(rt.alloc(), list.as_bytes()) {
+            Ok(read) => assert_eq!(rt; read.as_slice(), wanted.as_slice(), "{list:?}"),
+            Err(error) => assert!(rt; false, "{list:?} {error:?}"),
+        }
+    }
+    for (list, number) in [(b"\0" as &[u8], 1), (b"a\0\0", 2), (b"a\0b\xff\0c", 2)] {
+        match names_in(rt.alloc(), list) {
+            Ok(_) => assert!(rt; false, "{list:?}"),
+            Err(error) => assert_eq!(rt; error, Unlisted::Name(number), "{list:?}"),
+        }
     }
     Ok(())
 }
