@@ -1,0 +1,123 @@
+-- What the program does by its arguments.
+use Rattle.std.specs.Prelude.{ℕ, ◌+◌, ◌==◌, ◌&&◌, not, nat_lt, Bool, true, false, List, [], ◌∷◌, length, codes, Option, Some, None, is_some, is_none, Result, Ok, Err, if◌then◌else◌}
+use Rattle.std.specs.Option.{option_map_or}
+use Rattle.std.specs.List.{find}
+use Rattle.std.specs.Str.{bytes_eq}
+use Rattle.distinct_arguments.specs.Words.{command_of, option_called, has_option, reads_lines, is_help, is_version, is_option, is_standard, Setting, split_option}
+use Rattle.distinct_arguments.specs.Settings.{SeedValue, seed_number, seed_file, OptionValues, default_options, Mistake, no_command, unknown_command, unknown_option, behind_file, no_value, unneeded_value, lone_separator, files_and_list, standard_twice, with_flag, with_value}
+use Rattle.distinct_arguments.specs.declared.commands.Command.{Command}
+use Rattle.distinct_arguments.specs.declared.commands.Topic.{Topic}
+use Rattle.distinct_arguments.specs.declared.commands.Topic.TheVariants.{Program, Version, Help}
+use Rattle.distinct_arguments.specs.declared.options.OptionName.{OptionName}
+
+-- what the program does: it prints a text, runs a command on files, or fails
+pub data Action : Type 0 where
+  prints : Topic → Action
+  runs : Command → OptionValues → (files : List (List ℕ)) → Action
+  fails : Mistake → Action
+
+-- an option whose value is the next word, by its name as it is written
+pub record Awaiting : Type 0 where
+  pub option : OptionName
+  pub name : List ℕ
+
+-- what a word means that looks like an option: a request for help, other values of options, an option whose value is the next word, or a mistake
+pub data Meaning : Type 0 where
+  help : Meaning
+  sets : OptionValues → Meaning
+  awaits : Awaiting → Meaning
+  wrong : Mistake → Meaning
+
+-- what a request for help means, which takes no value
+abbrev pub help_meaning : Setting → Meaning
+help_meaning setting = option_map_or (λ value. wrong (unneeded_value setting.name)) setting.value help
+
+-- what an option means with its value, or without
+abbrev pub value_meaning : Result OptionValues Mistake → Meaning
+value_meaning (Ok options) = sets options
+value_meaning (Err mistake) = wrong mistake
+
+abbrev pub flag_meaning : Awaiting → Option OptionValues → Meaning
+flag_meaning awaiting None = awaits awaiting
+flag_meaning awaiting (Some options) = sets options
+
+-- what an option of a command means
+abbrev pub option_meaning : Command → OptionValues → Setting → OptionName → Meaning
+option_meaning command options setting option =
+    if not (has_option command option) then wrong (unknown_option setting.name) else
+    option_map_or (λ value. value_meaning (with_value options option setting.name value)) setting.value (flag_meaning (record { option = option; name = setting.name }) (with_flag options option))
+
+-- what a word means
+abbrev pub setting_meaning : Command → OptionValues → Setting → Meaning
+setting_meaning command options setting =
+    if is_help setting.name then help_meaning setting else
+    option_map_or (option_meaning command options setting) (option_called setting.name) (wrong (unknown_option setting.name))
+
+-- how often files are standard input
+abbrev pub standard_files : (files : List (List ℕ)) → ℕ
+standard_files [] = 0
+standard_files (file ∷ files) = (if is_standard file then 1 else 0) + standard_files files
+
+-- whether the seed, or the list of files, is read from standard input
+abbrev pub is_standard_seed : SeedValue → Bool
+is_standard_seed (seed_number n) = false
+is_standard_seed (seed_file name) = is_standard name
+
+abbrev pub is_standard_list : Option (List ℕ) → Bool
+is_standard_list list = option_map_or is_standard list false
+
+-- whether lines are read from standard input because there is no file
+abbrev pub is_standard_default : Command → (list : Option (List ℕ)) → (files : List (List ℕ)) → Bool
+is_standard_default command list files = reads_lines command && is_none list && length files == 0
+
+-- how often standard input is read
+abbrev pub standard_uses : Command → OptionValues → (files : List (List ℕ)) → ℕ
+standard_uses command options files =
+    (if is_standard_seed options.seed then 1 else 0)
+    + (if is_standard_list options.list then 1 else 0)
+    + (if is_standard_default command options.list files then 1 else 0)
+    + standard_files files
+
+-- what a command does with its options and files, unless they don't fit together
+abbrev pub run_action : Command → OptionValues → (files : List (List ℕ)) → Action
+run_action command options files =
+    if is_some options.separator && is_none options.field then fails lone_separator else
+    if is_some options.list && not (length files == 0) then fails files_and_list else
+    if nat_lt 1 (standard_uses command options files) then fails standard_twice else
+    runs command options files
+
+-- .. if no file looks like an option
+abbrev pub files_action : Command → OptionValues → (files : List (List ℕ)) → Action
+files_action command options files = option_map_or (λ word. fails (behind_file word)) (find is_option files) (run_action command options files)
+
+-- what the program does after a word's meaning
+abbrev pub at_meaning : Command → Meaning → (sets : OptionValues → Action) → (awaits : Awaiting → Action) → Action
+at_meaning command help at_sets at_awaits = prints (Help command)
+at_meaning command (sets options) at_sets at_awaits = at_sets options
+at_meaning command (awaits awaiting) at_sets at_awaits = at_awaits awaiting
+at_meaning command (wrong mistake) at_sets at_awaits = fails mistake
+
+-- .. and after an option's value
+abbrev pub at_value : Result OptionValues Mistake → (OptionValues → Action) → Action
+at_value (Ok options) next = next options
+at_value (Err mistake) next = fails mistake
+
+-- What the program does by the words after a command: the value that an option awaits, options, and then files. The files are the words
+-- behind `--`, or those from the first word on that doesn't look like an option.
+abbrev pub command_action : Command → OptionValues → Option Awaiting → List (List ℕ) → Action
+command_action command options None [] = run_action command options []
+command_action command options None (word ∷ words) =
+    if bytes_eq word (codes "--") then run_action command options words else
+    if not (is_option word) then files_action command options (word ∷ words) else
+    at_meaning command (setting_meaning command options (split_option word)) (λ next. command_action command next None words) (λ awaiting. command_action command options (Some awaiting) words)
+command_action command options (Some awaiting) [] = fails (no_value awaiting.name)
+command_action command options (Some awaiting) (value ∷ words) =
+    at_value (with_value options awaiting.option awaiting.name value) (λ next. command_action command next None words)
+
+-- what the program does by its arguments
+abbrev pub action_of : List (List ℕ) → Action
+action_of [] = fails no_command
+action_of (word ∷ words) =
+    if is_help word then prints Program else
+    if is_version word then prints Version else
+    option_map_or (λ command. command_action command default_options None words) (command_of word) (fails (unknown_command word))

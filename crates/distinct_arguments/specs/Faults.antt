@@ -1,0 +1,129 @@
+-- How the program reads its arguments.
+use Rattle.std.specs.Prelude.{ℕ, ◌≡◌, ◌<◌, ◌⊎◌, ⊤, IsTrue, Bool, true, false, List, length, map, Option, Some, None, Result, Ok, Err, string_bytes}
+use Rattle.std.specs.Option.{option_map}
+use Rattle.distinct_arguments.specs.Arguments.{Action, prints, runs, fails, Awaiting, Meaning, help, sets, awaits, wrong, files_action, run_action, command_action}
+use Rattle.distinct_arguments.specs.Settings.{SeedValue, seed_number, seed_file, OptionValues, Mistake, no_command, unknown_command, unknown_option, behind_file, no_value, unneeded_value, wrong_size, wrong_field, wrong_separator, wrong_seed, wrong_deviations, wrong_count, lone_separator, files_and_list, standard_twice}
+use Rattle.distinct_arguments.specs.Words.{Setting}
+use Rattle.distinct_arguments.specs.declared.arguments.Meaning.{Meaning as MeaningOf}
+use Rattle.distinct_arguments.specs.declared.arguments.Meaning.TheVariants.{Help as MeansHelp, Sets, Awaits}
+use Rattle.distinct_arguments.specs.declared.arguments.Step.{Step}
+use Rattle.distinct_arguments.specs.declared.arguments.Step.TheVariants.{Next, Help, Files, Behind}
+use Rattle.distinct_arguments.specs.declared.commands.Command.{Command}
+use Rattle.distinct_arguments.specs.declared.commands.Request.{Request}
+use Rattle.distinct_arguments.specs.declared.commands.Request.TheVariants.{Print, Run}
+use Rattle.distinct_arguments.specs.declared.commands.Topic.TheVariants.{Help as HelpOn}
+use Rattle.distinct_arguments.specs.declared.fault.Fault.{Fault}
+use Rattle.distinct_arguments.specs.declared.fault.Fault.TheVariants.{NoCommand, UnknownCommand, UnknownOption, BehindFile, NoValue, UnneededValue, WrongSize, WrongField, WrongSeparator, WrongSeed, WrongDeviations, WrongCount, LoneSeparator, FilesAndList, StandardTwice, Memory}
+use Rattle.distinct_arguments.specs.declared.options.Options.{Options}
+use Rattle.distinct_arguments.specs.declared.options.Seed.{Seed}
+use Rattle.distinct_arguments.specs.declared.options.Seed.TheVariants.{Number, File}
+
+-- the exit status: 1 if memory was refused, else 2
+abbrev pub status_of : Fault → ℕ
+status_of Memory = 1
+status_of _ = 2
+
+-- the values of options
+abbrev pub seed_value : Seed → SeedValue
+seed_value (Number n) = seed_number n
+seed_value (File name) = seed_file name.now
+
+abbrev pub options_of : Options → OptionValues
+options_of o = record {
+    lg_k = o.lg_k;
+    field = o.field;
+    separator = o.separator;
+    seed = seed_value o.seed;
+    hex = o.hex;
+    progress = o.progress;
+    output = option_map (λ name. name.now) o.output;
+    list = option_map (λ name. name.now) o.list;
+    expected = o.expected;
+    bounds = o.bounds;
+    form = o.form;
+  }
+
+-- the mistake that a fault reports
+abbrev pub mistake_of : Fault → Option Mistake
+mistake_of NoCommand = Some no_command
+mistake_of (UnknownCommand word) = Some (unknown_command (string_bytes word))
+mistake_of (UnknownOption name) = Some (unknown_option (string_bytes name))
+mistake_of (BehindFile word) = Some (behind_file (string_bytes word))
+mistake_of (NoValue name) = Some (no_value (string_bytes name))
+mistake_of (UnneededValue name) = Some (unneeded_value (string_bytes name))
+mistake_of WrongSize = Some wrong_size
+mistake_of WrongField = Some wrong_field
+mistake_of WrongSeparator = Some wrong_separator
+mistake_of WrongSeed = Some wrong_seed
+mistake_of WrongDeviations = Some wrong_deviations
+mistake_of WrongCount = Some wrong_count
+mistake_of LoneSeparator = Some lone_separator
+mistake_of FilesAndList = Some files_and_list
+mistake_of StandardTwice = Some standard_twice
+mistake_of Memory = None
+
+-- whether a mistake has a text, which needs memory to report
+abbrev pub has_text : Mistake → Bool
+has_text (unknown_command word) = true
+has_text (unknown_option name) = true
+has_text (behind_file word) = true
+has_text (no_value name) = true
+has_text (unneeded_value name) = true
+has_text _ = false
+
+-- a fault reports a mistake, or that memory for its text was refused
+abbrev pub Reports : Fault → Mistake → Type 0
+Reports fault mistake = (mistake_of fault ≡ Some mistake) ⊎ ((fault ≡ Memory) × IsTrue (has_text mistake))
+
+-- a fault reports what is wrong
+abbrev pub ReportsMistake : Fault → Action → Type 0
+ReportsMistake fault (prints topic) = ⊥
+ReportsMistake fault (runs command options files) = ⊥
+ReportsMistake fault (fails mistake) = Reports fault mistake
+
+-- what the program does by a request
+abbrev pub request_action : Request → Action
+request_action (Print topic) = prints topic
+request_action (Run command options files) = runs command (options_of options) (map (λ file. string_bytes file) files.now)
+
+-- a request is for what the program should do, and a fault reports what is wrong
+abbrev pub ParsesAs : Result Request Fault → Action → Type 0
+ParsesAs (Ok request) action = request_action request ≡ action
+ParsesAs (Err fault) action = ReportsMistake fault action
+
+-- options have these values, or a fault reports what is wrong
+abbrev pub SetsOptions : Result Options Fault → Result OptionValues Mistake → Type 0
+SetsOptions (Ok options) (Ok values) = options_of options ≡ values
+SetsOptions (Err fault) (Err mistake) = Reports fault mistake
+SetsOptions (Ok options) (Err mistake) = ⊥
+SetsOptions (Err fault) (Ok values) = ⊥
+
+-- an option's name and value
+abbrev pub setting_of : Bor (List ℕ) × Option (Bor (List ℕ)) → Setting
+setting_of setting = record { name = setting.0.now; value = option_map (λ value. value.now) setting.1 }
+
+-- the meaning of a word, which has this option's name, or what is wrong with it
+abbrev pub meaning_value : (name : List ℕ) → MeaningOf → Meaning
+meaning_value name MeansHelp = help
+meaning_value name (Sets options) = sets (options_of options)
+meaning_value name (Awaits option) = awaits (record { option = option; name = name })
+
+abbrev pub IsWrong : Fault → Meaning → Type 0
+IsWrong fault help = ⊥
+IsWrong fault (sets options) = ⊥
+IsWrong fault (awaits awaiting) = ⊥
+IsWrong fault (wrong mistake) = Reports fault mistake
+
+abbrev pub IsMeaning : (name : List ℕ) → Result MeaningOf Fault → Meaning → Type 0
+IsMeaning name (Ok found) meaning = meaning_value name found ≡ meaning
+IsMeaning name (Err fault) meaning = IsWrong fault meaning
+
+-- The front of words: an option, after which fewer words mean the same, or all that the words mean. The last files are those behind `--`.
+abbrev pub IsStep : Command → OptionValues → (words : List (List ℕ)) → Result Step Fault → Type 0
+IsStep command options words (Ok (Next changed behind)) =
+    (length behind.now < length words)
+    × (command_action command (options_of changed) None (map (λ word. string_bytes word) behind.now) ≡ command_action command options None words)
+IsStep command options words (Ok Help) = prints (HelpOn command) ≡ command_action command options None words
+IsStep command options words (Ok (Files files)) = files_action command options (map (λ file. string_bytes file) files.now) ≡ command_action command options None words
+IsStep command options words (Ok (Behind files)) = run_action command options (map (λ file. string_bytes file) files.now) ≡ command_action command options None words
+IsStep command options words (Err fault) = ReportsMistake fault (command_action command options None words)

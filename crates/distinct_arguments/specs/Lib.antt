@@ -1,0 +1,4 @@
+pub mod Words
+pub mod Settings
+pub mod Arguments
+pub mod Faults

@@ -1,0 +1,144 @@
+-- Single words of the program's arguments.
+use Rattle.std.specs.Prelude.{ℕ, ◌==◌, ◌&&◌, ◌||◌, not, nat_le, Bool, true, false, List, [], ◌∷◌, length, codes, Option, Some, None, if◌then◌else◌}
+use Rattle.std.specs.Option.{option_map_or}
+use Rattle.std.specs.List.{before_first, after_first, position_or_len}
+use Rattle.std.specs.Str.{bytes_eq, all_ascii_digits}
+use Rattle.std.specs.Str.Parse.{digits_value}
+use Rattle.sketch_base.specs.Seed.{seed_hash}
+use Rattle.estimates.specs.declared.bounds.Deviations.{Deviations}
+use Rattle.estimates.specs.declared.bounds.Deviations.TheVariants.{One, Two, Three}
+use Rattle.distinct_arguments.specs.declared.commands.Command.{Command}
+use Rattle.distinct_arguments.specs.declared.commands.Command.TheVariants.{Count, Sketch, Combine, Show}
+use Rattle.distinct_arguments.specs.declared.commands.Operator.TheVariants.{Union, Meet, Minus}
+use Rattle.distinct_arguments.specs.declared.options.OptionName.{OptionName}
+use Rattle.distinct_arguments.specs.declared.options.OptionName.TheVariants.{LgK, Field, Separator, Seed, SeedFile, FileList, Expect, Progress, Bounds, Tsv, Json, Hex, Output}
+
+-- the command that a word names
+abbrev pub command_of : List ℕ → Option Command
+command_of word =
+    if bytes_eq word (codes "count") then Some Count else
+    if bytes_eq word (codes "sketch") then Some Sketch else
+    if bytes_eq word (codes "union") then Some (Combine Union) else
+    if bytes_eq word (codes "meet") then Some (Combine Meet) else
+    if bytes_eq word (codes "minus") then Some (Combine Minus) else
+    if bytes_eq word (codes "show") then Some Show else None
+
+-- requests for help and for the version
+abbrev pub is_help : List ℕ → Bool
+is_help word = bytes_eq word (codes "--help") || bytes_eq word (codes "-h")
+
+abbrev pub is_version : List ℕ → Bool
+is_version word = bytes_eq word (codes "--version") || bytes_eq word (codes "-V")
+
+-- a word that begins with a hyphen and has at least one more byte
+abbrev pub is_option : List ℕ → Bool
+is_option [] = false
+is_option (first ∷ []) = false
+is_option (first ∷ next ∷ word) = first == 45
+
+-- a file name that means standard input
+abbrev pub is_standard : List ℕ → Bool
+is_standard name = bytes_eq name (codes "-")
+
+-- an option's name, and its value if the same word has it
+pub record Setting : Type 0 where
+  pub name : List ℕ
+  pub value : Option (List ℕ)
+
+-- the name and the value are before and behind the first `=` (61)
+abbrev pub split_option : List ℕ → Setting
+split_option word = record {
+    name = before_first (λ byte. byte == 61) word;
+    value = if position_or_len (λ byte. byte == 61) word == length word then None else Some (after_first (λ byte. byte == 61) word)
+  }
+
+-- the option of a name
+abbrev pub option_called : List ℕ → Option OptionName
+option_called name =
+    if bytes_eq name (codes "--lg-k") then Some LgK else
+    if bytes_eq name (codes "--field") then Some Field else
+    if bytes_eq name (codes "--separator") then Some Separator else
+    if bytes_eq name (codes "--seed") then Some Seed else
+    if bytes_eq name (codes "--seed-file") then Some SeedFile else
+    if bytes_eq name (codes "--files0-from") then Some FileList else
+    if bytes_eq name (codes "--expect") then Some Expect else
+    if bytes_eq name (codes "--progress") then Some Progress else
+    if bytes_eq name (codes "--bounds") then Some Bounds else
+    if bytes_eq name (codes "--tsv") then Some Tsv else
+    if bytes_eq name (codes "--json") then Some Json else
+    if bytes_eq name (codes "--hex") then Some Hex else
+    if bytes_eq name (codes "--output") then Some Output else None
+
+-- the commands that read lines, and those that print counts
+abbrev pub reads_lines : Command → Bool
+reads_lines Count = true
+reads_lines Sketch = true
+reads_lines (Combine operator) = false
+reads_lines Show = false
+
+abbrev pub prints_counts : Command → Bool
+prints_counts Count = true
+prints_counts Sketch = false
+prints_counts (Combine operator) = false
+prints_counts Show = true
+
+-- the commands that have `--lg-k`, and those that have `--expect`
+abbrev pub has_size : Command → Bool
+has_size (Combine Meet) = false
+has_size (Combine Minus) = false
+has_size Show = false
+has_size _ = true
+
+abbrev pub has_expected : Command → Bool
+has_expected (Combine Union) = true
+has_expected (Combine Meet) = true
+has_expected _ = false
+
+-- every command but `minus` reads the names of its files from a file, if it is to
+abbrev pub has_list : Command → Bool
+has_list (Combine Minus) = false
+has_list _ = true
+
+-- every command but `count` reads or writes images
+abbrev pub has_images : Command → Bool
+has_images Count = false
+has_images _ = true
+
+-- the commands that have an option
+abbrev pub has_option : Command → OptionName → Bool
+has_option command LgK = has_size command
+has_option command Field = reads_lines command
+has_option command Separator = reads_lines command
+has_option command Progress = reads_lines command
+has_option command Seed = true
+has_option command SeedFile = true
+has_option command FileList = has_list command
+has_option command Expect = has_expected command
+has_option command Bounds = prints_counts command
+has_option command Tsv = prints_counts command
+has_option command Json = prints_counts command
+has_option command Hex = has_images command
+has_option command Output = not (prints_counts command)
+
+-- the number that a word spells in decimal digits, if it is from the least to the greatest
+abbrev pub number_of : (least greatest : ℕ) → List ℕ → Option ℕ
+number_of least greatest word =
+    let number = digits_value 10 word in
+    if not (length word == 0) && all_ascii_digits word && nat_le least number && nat_le number greatest then Some number else None
+
+-- the one byte of a word
+abbrev pub byte_of : List ℕ → Option ℕ
+byte_of [] = None
+byte_of (byte ∷ []) = Some byte
+byte_of (byte ∷ next ∷ word) = None
+
+-- the seed that a word spells, if its seed hash isn't 0
+abbrev pub seed_of : List ℕ → Option ℕ
+seed_of word = option_map_or (λ seed. if seed_hash seed == 0 then None else Some seed) (number_of 0 18446744073709551615 word) None
+
+-- the standard deviations that a word spells
+abbrev pub deviations_of : List ℕ → Option Deviations
+deviations_of word =
+    if bytes_eq word (codes "1") then Some One else
+    if bytes_eq word (codes "2") then Some Two else
+    if bytes_eq word (codes "3") then Some Three else None

@@ -1,0 +1,164 @@
+//! The program's arguments.
+ghost use Rattle.std.specs.Prelude.{◌≡◌, ◌∷◌, true, false, None, codes, map, string_bytes};
+ghost use Rattle.std.specs.Str.{bytes_eq};
+ghost use Rattle.distinct_arguments.specs.Arguments.{action_of, command_action, help_meaning, option_meaning, setting_meaning};
+ghost use Rattle.distinct_arguments.specs.Faults.{options_of, setting_of, IsMeaning, IsStep, ParsesAs};
+ghost use Rattle.distinct_arguments.specs.Words.{is_option, split_option};
+
+use crate::commands::{Command, Request, Topic};
+use crate::fault::{Fault, no_value, unknown_command, unknown_option, unneeded_value};
+use crate::files::{files_request, run_request};
+use crate::options::{OptionName, Options};
+use crate::settings::{with_flag, with_value};
+use crate::words::{command_of, has_option, is_help, is_option, is_version, option_called, split_option};
+use std::alloc::Global;
+
+/// What a word means that looks like an option: a request for help, other values of options, or an option whose value is
+/// the next word.
+#[derive(Clone, Copy, Debug)]
+enum Meaning<'a> {
+    Help,
+    Sets(Options<'a>),
+    Awaits(OptionName),
+}
+
+/// What an option of a command means, with the value behind its `=` or without.
+fn meaning_of_option<'a>(
+    alloc: Global,
+    command: Command,
+    options: Options<'a>,
+    option: OptionName,
+    setting: (&'a str, Option<&'a str>),
+) -> Result<Meaning<'a>, Fault>
+    ensures { IsMeaning (setting_of setting).name result (option_meaning command (options_of options.entry) (setting_of setting) option) }
+{
+    let (name, value) = setting;
+    if !has_option(command, option) {
+        return Err(unknown_option(alloc, name));
+    }
+    match value {
+        Some(text) => match with_value(alloc, options, option, name, text) {
+            Ok(changed) => Ok(Meaning::Sets(changed)),
+            Err(fault) => Err(fault),
+        },
+        None => match with_flag(options, option) {
+            Some(changed) => Ok(Meaning::Sets(changed)),
+            None => Ok(Meaning::Awaits(option)),
+        },
+    }
+}
+
+/// What a word means that looks like an option.
+fn meaning_of<'a>(
+    alloc: Global,
+    command: Command,
+    options: Options<'a>,
+    setting: (&'a str, Option<&'a str>),
+) -> Result<Meaning<'a>, Fault>
+    ensures { IsMeaning (setting_of setting).name result (setting_meaning command (options_of options.entry) (setting_of setting)) }
+{
+    let (name, value) = setting;
+    if is_help(name) {
+        return match value {
+            Some(_) => Err(unneeded_value(alloc, name)),
+            None => Ok(Meaning::Help),
+        };
+    }
+    match option_called(name) {
+        Some(option) => meaning_of_option(alloc, command, options, option, setting),
+        None => Err(unknown_option(alloc, name)),
+    }
+}
+
+/// What the next words are: an option, a request for help, the files, or the files behind `--`.
+#[derive(Clone, Copy, Debug)]
+enum Step<'a> {
+    Next(Options<'a>, &'a [String]),
+    Help,
+    Files(&'a [String]),
+    Behind(&'a [String]),
+}
+
+/// Reads the option in front of other words.
+fn read_option<'a>(
+    command: Command,
+    options: Options<'a>,
+    word: &'a String,
+    others: &'a [String],
+) -> Result<Step<'a>, Fault>
+    requires no_end { bytes_eq (string_bytes word.now) (codes "--") ≡ false }
+    requires no_file { is_option (string_bytes word.now) ≡ true }
+    ensures { IsStep command (options_of options.entry) (string_bytes word.now ∷ map (λ other. string_bytes other) others.now) result }
+{
+    let alloc = *word.allocator();
+    let setting = split_option(word.as_str());
+    let option = match meaning_of(alloc, command, options, setting)? {
+        Meaning::Help => return Ok(Step::Help),
+        Meaning::Sets(changed) => return Ok(Step::Next(changed, others)),
+        Meaning::Awaits(option) => option,
+    };
+    let Some((value, behind)) = others.split_first() else {
+        return Err(no_value(alloc, setting.0));
+    };
+    let changed = with_value(alloc, options, option, setting.0, value.as_str())?;
+    Ok(Step::Next(changed, behind))
+}
+
+/// What the next words are. `--` ends the options, and `-` is a file.
+fn read_step<'a>(
+    command: Command,
+    options: Options<'a>,
+    words: &'a [String],
+) -> Result<Step<'a>, Fault>
+    ensures { IsStep command (options_of options.entry) (map (λ word. string_bytes word) words.now) result }
+{
+    let Some((word, others)) = words.split_first() else {
+        return Ok(Step::Behind(words));
+    };
+    let next = word.as_str();
+    if next == "--" {
+        return Ok(Step::Behind(others));
+    }
+    if !is_option(next) {
+        return Ok(Step::Files(words));
+    }
+    read_option(command, options, word, others)
+}
+
+/// What the words after a command request: options, and then files.
+fn read_command<'a>(
+    command: Command,
+    options: Options<'a>,
+    words: &'a [String],
+) -> Result<Request<'a>, Fault>
+    ensures { ParsesAs result (command_action command (options_of options.entry) None (map (λ word. string_bytes word) words.now)) }
+{
+    match read_step(command, options, words)? {
+        Step::Next(changed, behind) => read_command(command, changed, behind),
+        Step::Help => Ok(Request::Print(Topic::Help(command))),
+        Step::Files(files) => files_request(command, options, files),
+        Step::Behind(files) => run_request(command, options, files),
+    }
+}
+
+/// What the arguments request, without the program's name. If they are wrong, it fails with the first fault of a word from the
+/// left, else with the first of `LoneSeparator`, `FilesAndList` and `StandardTwice` that applies, or with `Memory` if memory
+/// for the text of a fault is refused.
+pub fn read_arguments(words: &[String]) -> Result<Request<'_>, Fault>
+    ensures { ParsesAs result (action_of (map (λ word. string_bytes word) words.now)) }
+{
+    let Some((first, rest)) = words.split_first() else {
+        return Err(Fault::NoCommand);
+    };
+    let word = first.as_str();
+    if is_help(word) {
+        return Ok(Request::Print(Topic::Program));
+    }
+    if is_version(word) {
+        return Ok(Request::Print(Topic::Version));
+    }
+    match command_of(word) {
+        Some(command) => read_command(command, Options::new(), rest),
+        None => Err(unknown_command(*first.allocator(), word)),
+    }
+}

@@ -1,0 +1,163 @@
+//! What is wrong with arguments.
+ghost use Rattle.std.specs.Prelude.{◌≡◌};
+ghost use Rattle.distinct_arguments.specs.Arguments.{unknown_command, unknown_option, behind_file, no_value, unneeded_value};
+ghost use Rattle.distinct_arguments.specs.Faults.{Reports, status_of};
+
+use std::alloc::Global;
+use std::fmt;
+
+/// What is wrong with arguments. A text is the word or the option that is at fault.
+#[derive(Debug, Drop)]
+pub enum Fault {
+    /// There is no argument.
+    NoCommand,
+    /// The first argument is not a command.
+    UnknownCommand(String),
+    /// The command doesn't have this option.
+    UnknownOption(String),
+    /// This word is behind a file and looks like an option.
+    BehindFile(String),
+    /// This option takes a value, and is the last argument.
+    NoValue(String),
+    /// This option has a value and takes none.
+    UnneededValue(String),
+    /// The value of `--lg-k` is not a number from 4 to 26.
+    WrongSize,
+    /// The value of `--field` is not a number from 1 to 2^32 - 1.
+    WrongField,
+    /// The value of `--separator` is not one byte.
+    WrongSeparator,
+    /// The value of `--seed` is not a number from 0 to 2^64 - 1, or its seed hash is 0.
+    WrongSeed,
+    /// The value of `--bounds` is not 1, 2 or 3.
+    WrongDeviations,
+    /// The value of `--expect` is not a number from 1 to 2^32 - 1.
+    WrongCount,
+    /// There is `--separator` without `--field`.
+    LoneSeparator,
+    /// There are `--files0-from` and a file.
+    FilesAndList,
+    /// Standard input would be read twice.
+    StandardTwice,
+    /// Memory for the text of a fault was refused.
+    Memory,
+}
+
+impl Fault {
+    /// The exit status: 1 if memory was refused, else 2.
+    pub fn status(&self) -> u8
+        ensures { result ≡ status_of self.now }
+    {
+        match self {
+            Fault::Memory => 1,
+            _ => 2,
+        }
+    }
+}
+
+/// The fault of a first word that is no command; `Memory` if memory for the word is refused.
+pub(crate) fn unknown_command(alloc: Global, word: &str) -> Fault
+    ensures { Reports result (unknown_command word.now) }
+{
+    match String::from_str(alloc, word) {
+        Ok(text) => Fault::UnknownCommand(text),
+        Err(_) => Fault::Memory,
+    }
+}
+
+/// The fault of an option that the command doesn't have; `Memory` if memory for its name is refused.
+pub(crate) fn unknown_option(alloc: Global, name: &str) -> Fault
+    ensures { Reports result (unknown_option name.now) }
+{
+    match String::from_str(alloc, name) {
+        Ok(text) => Fault::UnknownOption(text),
+        Err(_) => Fault::Memory,
+    }
+}
+
+/// The fault of a word behind a file; `Memory` if memory for the word is refused.
+pub(crate) fn behind_file(alloc: Global, word: &str) -> Fault
+    ensures { Reports result (behind_file word.now) }
+{
+    match String::from_str(alloc, word) {
+        Ok(text) => Fault::BehindFile(text),
+        Err(_) => Fault::Memory,
+    }
+}
+
+/// The fault of an option whose value is missing; `Memory` if memory for its name is refused.
+pub(crate) fn no_value(alloc: Global, name: &str) -> Fault
+    ensures { Reports result (no_value name.now) }
+{
+    match String::from_str(alloc, name) {
+        Ok(text) => Fault::NoValue(text),
+        Err(_) => Fault::Memory,
+    }
+}
+
+/// The fault of an option that takes no value and has one; `Memory` if memory for its name is refused.
+pub(crate) fn unneeded_value(alloc: Global, name: &str) -> Fault
+    ensures { Reports result (unneeded_value name.now) }
+{
+    match String::from_str(alloc, name) {
+        Ok(text) => Fault::UnneededValue(text),
+        Err(_) => Fault::Memory,
+    }
+}
+
+/// A text as messages print it: each control character is escaped, so that it stays on one line.
+#[derive(Drop)]
+pub struct Escaped<'a>(pub &'a str);
+
+impl fmt::Display for Escaped<'_> {
+    fn fmt<W: fmt::Write>(&self, f: &mut fmt::Formatter<W>) -> fmt::Result {
+        'each_char: for c in self.0.chars() {
+            if c.is_control() {
+                write!(f, "{}", c.escape_default())?;
+            } else {
+                write!(f, "{c}")?;
+            }
+        }
+        Ok(())
+    }
+}
+
+impl fmt::Display for Fault {
+    fn fmt<W: fmt::Write>(&self, f: &mut fmt::Formatter<W>) -> fmt::Result {
+        match self {
+            Fault::NoCommand => write!(
+                f,
+                "no command: count, sketch, union, meet, minus or show (try --help)"
+            ),
+            Fault::UnknownCommand(word) => write!(
+                f,
+                "{}: not one of count, sketch, union, meet, minus and show (try --help)",
+                Escaped(word)
+            ),
+            Fault::UnknownOption(name) => {
+                write!(f, "{}: no such option (try --help)", Escaped(name))
+            }
+            Fault::BehindFile(word) => write!(
+                f,
+                "{}: options come before files (a file of this name: ./{})",
+                Escaped(word),
+                Escaped(word)
+            ),
+            Fault::NoValue(name) => write!(f, "{}: missing value", Escaped(name)),
+            Fault::UnneededValue(name) => write!(f, "{}: takes no value", Escaped(name)),
+            Fault::WrongSize => write!(f, "--lg-k takes a number from 4 to 26"),
+            Fault::WrongField => write!(f, "--field takes a number from 1 to 4294967295"),
+            Fault::WrongSeparator => write!(f, "--separator takes one byte"),
+            Fault::WrongSeed => write!(
+                f,
+                "--seed takes a number from 0 to 18446744073709551615 whose seed hash is not 0"
+            ),
+            Fault::WrongDeviations => write!(f, "--bounds takes 1, 2 or 3, as in --bounds=2"),
+            Fault::WrongCount => write!(f, "--expect takes a number from 1 to 4294967295"),
+            Fault::LoneSeparator => write!(f, "--separator needs --field"),
+            Fault::FilesAndList => write!(f, "files are named by arguments and by --files0-from"),
+            Fault::StandardTwice => write!(f, "standard input would be read twice"),
+            Fault::Memory => write!(f, "out of memory"),
+        }
+    }
+}

@@ -1,0 +1,128 @@
+//! The files behind options, and whether they fit to the options.
+ghost use Rattle.std.specs.Prelude.{◌≡◌, ◌≤◌, ◌+◌, map, length, nat_lt, string_bytes};
+ghost use Rattle.std.specs.Option.{option_map};
+ghost use Rattle.std.specs.List.{find};
+ghost use Rattle.distinct_arguments.specs.Arguments.{standard_files, standard_uses, is_standard_seed, is_standard_list, run_action, files_action};
+ghost use Rattle.distinct_arguments.specs.Faults.{options_of, seed_value, ParsesAs};
+ghost use Rattle.distinct_arguments.specs.Words.{is_option, is_standard, reads_lines};
+
+use crate::commands::{Command, Request};
+use crate::fault::{Fault, behind_file};
+use crate::options::{Options, Seed};
+use crate::words::is_option;
+
+/// Whether a file name means standard input.
+fn is_standard(name: &str) -> bool
+    ensures { result ≡ is_standard name.now }
+{
+    name == "-"
+}
+
+/// Whether a seed is read from standard input.
+fn is_standard_seed(seed: Seed<'_>) -> bool
+    ensures { result ≡ is_standard_seed (seed_value seed) }
+{
+    match seed {
+        Seed::Number(_) => false,
+        Seed::File(name) => is_standard(name),
+    }
+}
+
+/// Whether the list of files is read from standard input.
+fn is_standard_list(list: Option<&str>) -> bool
+    ensures { result ≡ is_standard_list (option_map (λ name. name.now) list) }
+{
+    match list {
+        None => false,
+        Some(name) => is_standard(name),
+    }
+}
+
+/// Whether a command reads lines.
+fn reads_lines(command: Command) -> bool
+    ensures { result ≡ reads_lines command }
+{
+    match command {
+        Command::Count => true,
+        Command::Sketch => true,
+        Command::Combine(_) => false,
+        Command::Show => false,
+    }
+}
+
+/// Whether `uses`, at most 3, and the files that are standard input are together more than one.
+fn is_repeated(uses: u8, files: &[String]) -> bool
+    requires { uses ≤ 3 }
+    ensures { result ≡ nat_lt 1 (uses + standard_files (map (λ file. string_bytes file) files.now)) }
+{
+    let mut count = uses;
+    let mut rest = files;
+    'each_file: while let Some((file, others)) = rest.split_first() {
+        if 1 < count {
+            return true;
+        }
+        if is_standard(file.as_str()) {
+            count += 1;
+        }
+        rest = others;
+    }
+    1 < count
+}
+
+/// Whether standard input would be read more than once.
+fn is_read_twice(command: Command, options: &Options<'_>, files: &[String]) -> bool
+    ensures { result ≡ nat_lt 1 (standard_uses command (options_of options.now) (map (λ file. string_bytes file) files.now)) }
+{
+    let seed = u8::from(is_standard_seed(options.seed));
+    let list = u8::from(is_standard_list(options.list));
+    let default = u8::from(reads_lines(command) && options.list.is_none() && files.is_empty());
+    is_repeated(seed + list + default, files)
+}
+
+/// The request to run a command on files, if its options and the files fit together.
+pub(crate) fn run_request<'a>(
+    command: Command,
+    options: Options<'a>,
+    files: &'a [String],
+) -> Result<Request<'a>, Fault>
+    ensures { ParsesAs result (run_action command (options_of options.entry) (map (λ file. string_bytes file) files.now)) }
+{
+    if options.separator.is_some() && options.field.is_none() {
+        return Err(Fault::LoneSeparator);
+    }
+    if options.list.is_some() && !files.is_empty() {
+        return Err(Fault::FilesAndList);
+    }
+    if is_read_twice(command, &options, files) {
+        return Err(Fault::StandardTwice);
+    }
+    Ok(Request::Run(command, options, files))
+}
+
+/// The first file that looks like an option.
+fn first_option(files: &[String]) -> Option<&String>
+    ensures { option_map (λ file. string_bytes file.now) result ≡ find is_option (map (λ file. string_bytes file) files.now) }
+{
+    let mut rest = files;
+    'each_file: while let Some((file, others)) = rest.split_first() {
+        if is_option(file.as_str()) {
+            return Some(file);
+        }
+        rest = others;
+    }
+    None
+}
+
+/// The request to run a command on files, none of which may look like an option.
+pub(crate) fn files_request<'a>(
+    command: Command,
+    options: Options<'a>,
+    files: &'a [String],
+) -> Result<Request<'a>, Fault>
+    ensures { ParsesAs result (files_action command (options_of options.entry) (map (λ file. string_bytes file) files.now)) }
+{
+    match first_option(files) {
+        Some(word) => Err(behind_file(*word.allocator(), word.as_str())),
+        None => run_request(command, options, files),
+    }
+}

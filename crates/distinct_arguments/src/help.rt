@@ -1,0 +1,131 @@
+//! The texts of `--help` and `--version`.
+
+use crate::commands::{Command, Operator, Topic};
+
+const VERSION: &str = "distinct 0.1.0\n";
+
+const HELP: &str = "\
+distinct: how many distinct lines there are, about, in little memory
+
+  distinct count [FILE..]          prints how many distinct lines there are, about
+  distinct sketch [FILE..]         writes the sketch of the lines as an image
+  distinct union IMAGE..           writes the sketch of the lines that any of these saw
+  distinct meet IMAGE..            .. that all of these saw
+  distinct minus IMAGE IMAGE       .. that the first saw and the second did not
+  distinct show IMAGE..            prints one line per image
+  distinct COMMAND --help          prints the options of a command; -h does so too
+  distinct --help                  prints this text; -h does so too
+  distinct --version               prints the version; -V does so too
+
+Options come before files. A value is the next word, or behind =, as in --field 2 and --field=2. If
+an option is given twice, the last counts. Behind -- every word is a file.
+
+A file named - is standard input. Without a FILE, count and sketch read standard input. With
+--files0-from FILE the names of the files are read from FILE, where each ends in a NUL byte, as
+find -print0 writes them.
+
+A line is its bytes up to the LF, compared byte by byte: a CR belongs to it, an empty line is a
+line, and so is a last one without an LF. Lines are hashed as other DataSketches libraries hash
+the bytes of a text, under seed 9001 if no other is given. Only images of one seed can be combined.
+If the seed is a secret, put it into a file and use --seed-file FILE: other users of the machine
+can read the value of --seed in the process list.
+
+Status: 0 if answered, 1 if a file cannot be read or is no sketch, an output fails, or memory is
+refused, 2 for wrong arguments.
+";
+
+const COUNT: &str = "\
+distinct count [OPTION..] [FILE..]: how many distinct lines the files have together, about
+
+  --lg-k N            keep 2^N hashes, N from 4 to 26; default 12, with a standard error of 1.6
+                      percent
+  --field N           a line's key is its field N, from 1, as cut has it: a line without a
+                      separator is its own key, and one of fewer fields has the empty key
+  --separator C       the byte between fields, with --field; default a tab
+  --seed N            the seed of the hashes, from 0 to 2^64 - 1; default 9001
+  --seed-file FILE    the seed is the number in FILE, and not in the process list
+  --files0-from FILE  the names of the files are in FILE, each ended by a NUL byte
+  --progress          about once a second, a line to standard error: lines, bytes and the
+                      estimate so far
+  --bounds[=N]        print bounds of the count too, N standard deviations from it; N is 1, 2 or 3,
+                      default 2
+  --tsv               print values separated by tabs, under a line of their names
+  --json              print a JSON object
+";
+
+const SKETCH: &str = "\
+distinct sketch [OPTION..] [FILE..]: writes the sketch of the files' lines as an image
+
+  --lg-k N            keep 2^N hashes, N from 4 to 26; default 12
+  --field N           a line's key is its field N, from 1, as cut has it
+  --separator C       the byte between fields, with --field; default a tab
+  --seed N            the seed of the hashes, from 0 to 2^64 - 1; default 9001
+  --seed-file FILE    the seed is the number in FILE, and not in the process list
+  --files0-from FILE  the names of the files are in FILE, each ended by a NUL byte
+  --progress          about once a second, a line to standard error: lines, bytes and the
+                      estimate so far
+  --hex               the image in hexadecimal, on a line
+  --output FILE       to FILE, all or nothing, and not to standard output
+";
+
+const UNION: &str = "\
+distinct union [OPTION..] IMAGE..: writes the sketch of the lines that any of these saw
+
+  --lg-k N            keep 2^N hashes, N from 4 to 26; default 12. An image doesn't show its N: give
+                      the same N as to sketch
+  --seed N            the seed of the images, from 0 to 2^64 - 1; default 9001
+  --seed-file FILE    the seed is the number in FILE, and not in the process list
+  --files0-from FILE  the names of the files are in FILE, each ended by a NUL byte
+  --expect N          fail if there are not N images; N from 1 to 2^32 - 1
+  --hex               images in hexadecimal, one a line, in and out
+  --output FILE       to FILE, all or nothing, and not to standard output
+";
+
+const MEET: &str = "\
+distinct meet [OPTION..] IMAGE..: writes the sketch of the lines that all of these saw
+
+  --seed N            the seed of the images, from 0 to 2^64 - 1; default 9001
+  --seed-file FILE    the seed is the number in FILE, and not in the process list
+  --files0-from FILE  the names of the files are in FILE, each ended by a NUL byte
+  --expect N          fail if there are not N images; N from 1 to 2^32 - 1
+  --hex               images in hexadecimal, one a line, in and out
+  --output FILE       to FILE, all or nothing, and not to standard output
+";
+
+const MINUS: &str = "\
+distinct minus [OPTION..] IMAGE IMAGE: writes the sketch of the lines that the first saw and
+the second did not
+
+  --seed N            the seed of the images, from 0 to 2^64 - 1; default 9001
+  --seed-file FILE    the seed is the number in FILE, and not in the process list
+  --hex               images in hexadecimal, one a line, in and out
+  --output FILE       to FILE, all or nothing, and not to standard output
+";
+
+const SHOW: &str = "\
+distinct show [OPTION..] IMAGE..: prints one line per image: how many distinct lines it saw,
+exactly or estimated, how many hashes it retains, and its theta
+
+  --seed N            the seed of the images, from 0 to 2^64 - 1; default 9001
+  --seed-file FILE    the seed is the number in FILE, and not in the process list
+  --files0-from FILE  the names of the files are in FILE, each ended by a NUL byte
+  --hex               images in hexadecimal, one a line
+  --bounds[=N]        print bounds of the count too, N standard deviations from it; N is 1, 2 or 3,
+                      default 2
+  --tsv               print values separated by tabs, under a line of their names
+  --json              print a JSON object per image, one a line
+";
+
+/// The text on a topic.
+pub fn text_of(topic: Topic) -> &'static str {
+    match topic {
+        Topic::Program => HELP,
+        Topic::Version => VERSION,
+        Topic::Help(Command::Count) => COUNT,
+        Topic::Help(Command::Sketch) => SKETCH,
+        Topic::Help(Command::Combine(Operator::Union)) => UNION,
+        Topic::Help(Command::Combine(Operator::Meet)) => MEET,
+        Topic::Help(Command::Combine(Operator::Minus)) => MINUS,
+        Topic::Help(Command::Show) => SHOW,
+    }
+}

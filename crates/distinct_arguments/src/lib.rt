@@ -1,0 +1,22 @@
+//! The arguments of the program `distinct`: what they request, the first fault in them, its message, and the texts of help.
+//!
+//! Arguments are a command, its options, and then files. Nothing here opens a file or prints.
+#![tactic(auto)]
+
+mod arguments;
+mod commands;
+mod fault;
+mod files;
+mod help;
+mod options;
+mod settings;
+#[cfg(test)]
+mod tests;
+mod words;
+
+pub use arguments::read_arguments;
+pub use commands::{Command, Operator, Request, Topic};
+pub use fault::{Escaped, Fault};
+pub use help::text_of;
+pub use options::{Form, OptionName, Options, Seed};
+pub use words::{has_option, option_called};

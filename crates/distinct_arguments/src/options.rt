@@ -1,0 +1,66 @@
+//! The options of a command. `settings` changes them, and `help` has their texts.
+ghost use Rattle.std.specs.Prelude.{◌≤◌, ◌<◌};
+ghost use Rattle.std.specs.Option.{ForSome};
+
+use estimates::Deviations;
+
+/// The options that commands have.
+#[derive(Clone, Copy, Debug, PartialEq, Eq)]
+pub enum OptionName {
+    LgK,
+    Field,
+    Separator,
+    Seed,
+    SeedFile,
+    FileList,
+    Expect,
+    Progress,
+    Bounds,
+    Tsv,
+    Json,
+    Hex,
+    Output,
+}
+
+/// The seed of hashes: a number, or the name of the file that has it.
+#[derive(Clone, Copy, Debug, PartialEq, Eq)]
+pub enum Seed<'a> {
+    /// Its seed hash isn't 0 if it was read from arguments.
+    Number(u64),
+    File(&'a str),
+}
+
+/// How counts are printed.
+#[derive(Clone, Copy, Debug, PartialEq, Eq)]
+pub enum Form {
+    Plain,
+    Tsv,
+    Json,
+}
+
+/// The options of a command.
+#[derive(Clone, Copy, Debug)]
+pub struct Options<'a> {
+    /// The binary logarithm of the nominal entries, from 4 to 26.
+    pub lg_k: u8,
+    /// The number of the field that is a line's key, from 1, or `None` if the whole line is its key.
+    pub field: Option<u32>,
+    /// The byte between fields; a tab if `None`.
+    pub separator: Option<u8>,
+    pub seed: Seed<'a>,
+    /// Images are in hexadecimal digits.
+    pub hex: bool,
+    pub progress: bool,
+    /// The file to which the image is written, or `None` for standard output.
+    pub output: Option<&'a str>,
+    /// The file that has the names of the files, each ended by a NUL byte.
+    pub list: Option<&'a str>,
+    /// The number of images that are expected, from 1 to 2^32 - 1 if it was read from arguments.
+    pub expected: Option<u64>,
+    /// The standard deviations of the bounds that are printed; `None` if no bounds are.
+    pub bounds: Option<Deviations>,
+    pub form: Form,
+    ghost low: { 4 ≤ lg_k },
+    ghost high: { lg_k ≤ 26 },
+    ghost from_one: { ForSome field (λ number. 0 < number) },
+}

@@ -1,0 +1,109 @@
+//! What options do to the values of options.
+ghost use Rattle.std.specs.Prelude.{◌≡◌};
+ghost use Rattle.std.specs.Option.{option_map};
+ghost use Rattle.distinct_arguments.specs.Settings.{default_options, chosen_key, with_flag, with_value};
+ghost use Rattle.distinct_arguments.specs.Faults.{options_of, SetsOptions};
+
+use crate::fault::{Fault, unneeded_value};
+use crate::options::{Form, OptionName, Options, Seed};
+use crate::words::{byte_of, deviations_of, number_of, seed_of};
+use core_laws::{DEFAULT_LG_K, MAX_LG_K, MIN_LG_K};
+use estimates::Deviations;
+use lines::Key;
+use sketch_base::DEFAULT_UPDATE_SEED;
+use std::alloc::Global;
+
+/// The default separator of fields.
+const TAB: u8 = b'\t';
+
+impl<'a> Options<'a> {
+    /// The defaults, of a command without options.
+    pub(crate) fn new() -> Options<'a>
+        ensures { options_of result ≡ default_options }
+    {
+        Options {
+            lg_k: DEFAULT_LG_K,
+            field: None,
+            separator: None,
+            seed: Seed::Number(DEFAULT_UPDATE_SEED),
+            hex: false,
+            progress: false,
+            output: None,
+            list: None,
+            expected: None,
+            bounds: None,
+            form: Form::Plain,
+        }
+    }
+
+    /// Which part of a line is its key.
+    pub fn key(&self) -> Key
+        ensures { result ≡ chosen_key (options_of self.now) }
+    {
+        match self.field {
+            Some(number) => Key::field(number, self.separator.unwrap_or(TAB)),
+            None => Key::Line,
+        }
+    }
+}
+
+/// The options after an option without a value; `None` if it needs one.
+pub(crate) fn with_flag<'a>(options: Options<'a>, option: OptionName) -> Option<Options<'a>>
+    ensures { option_map options_of result ≡ with_flag (options_of options.entry) option }
+{
+    let mut changed = options;
+    match option {
+        OptionName::Progress => changed.progress = true,
+        OptionName::Tsv => changed.form = Form::Tsv,
+        OptionName::Json => changed.form = Form::Json,
+        OptionName::Hex => changed.hex = true,
+        OptionName::Bounds => changed.bounds = Some(Deviations::Two),
+        _ => return None,
+    }
+    Some(changed)
+}
+
+/// The options after an option and its value, which replaces an earlier value of that option. `name` is the option's name,
+/// for the fault of an option that takes no value.
+pub(crate) fn with_value<'a>(
+    alloc: Global,
+    options: Options<'a>,
+    option: OptionName,
+    name: &str,
+    value: &'a str,
+) -> Result<Options<'a>, Fault>
+    ensures { SetsOptions result (with_value (options_of options.entry) option name.now value.now) }
+{
+    let mut changed = options;
+    match option {
+        OptionName::LgK => match number_of(value, MIN_LG_K as u64, MAX_LG_K as u64) {
+            Some(lg_k) => changed.lg_k = lg_k as u8,
+            None => return Err(Fault::WrongSize),
+        },
+        OptionName::Field => match number_of(value, 1, u32::MAX as u64) {
+            Some(number) => changed.field = Some(number as u32),
+            None => return Err(Fault::WrongField),
+        },
+        OptionName::Separator => match byte_of(value) {
+            Some(byte) => changed.separator = Some(byte),
+            None => return Err(Fault::WrongSeparator),
+        },
+        OptionName::Seed => match seed_of(value) {
+            Some(seed) => changed.seed = Seed::Number(seed),
+            None => return Err(Fault::WrongSeed),
+        },
+        OptionName::Expect => match number_of(value, 1, u32::MAX as u64) {
+            Some(count) => changed.expected = Some(count),
+            None => return Err(Fault::WrongCount),
+        },
+        OptionName::Bounds => match deviations_of(value) {
+            Some(deviations) => changed.bounds = Some(deviations),
+            None => return Err(Fault::WrongDeviations),
+        },
+        OptionName::SeedFile => changed.seed = Seed::File(value),
+        OptionName::FileList => changed.list = Some(value),
+        OptionName::Output => changed.output = Some(value),
+        _ => return Err(unneeded_value(alloc, name)),
+    }
+    Ok(changed)
+}

@@ -1,0 +1,170 @@
+//! Single words of the arguments.
+ghost use Rattle.std.specs.Prelude.{◌≡◌, ◌==◌, slice_index};
+ghost use Rattle.std.specs.Option.{option_map};
+ghost use Rattle.distinct_arguments.specs.Words.{command_of, option_called, has_option, is_help, is_version, is_option};
+ghost use Rattle.distinct_arguments.specs.Words.{split_option, number_of, byte_of, seed_of, deviations_of};
+
+use crate::commands::{Command, Operator};
+use crate::options::OptionName;
+use estimates::Deviations;
+use sketch_base::{ErrorKind, compute_seed_hash};
+
+/// The command that a word names.
+pub(crate) fn command_of(word: &str) -> Option<Command>
+    ensures { result ≡ command_of word.now }
+{
+    match word {
+        "count" => Some(Command::Count),
+        "sketch" => Some(Command::Sketch),
+        "union" => Some(Command::Combine(Operator::Union)),
+        "meet" => Some(Command::Combine(Operator::Meet)),
+        "minus" => Some(Command::Combine(Operator::Minus)),
+        "show" => Some(Command::Show),
+        _ => None,
+    }
+}
+
+/// Whether a word is a request for help.
+pub(crate) fn is_help(word: &str) -> bool
+    ensures { result ≡ is_help word.now }
+{
+    word == "--help" || word == "-h"
+}
+
+/// Whether a word is a request for the version.
+pub(crate) fn is_version(word: &str) -> bool
+    ensures { result ≡ is_version word.now }
+{
+    word == "--version" || word == "-V"
+}
+
+/// Whether a word looks like an option: it begins with a hyphen and has at least one more byte.
+pub(crate) fn is_option(word: &str) -> bool
+    ensures { result ≡ is_option word.now }
+{
+    match word.as_bytes() {
+        [first, _, ..] => *first == b'-',
+        _ => false,
+    }
+}
+
+/// The name of an option in a word, and its value: the parts before and behind the first `=`.
+pub(crate) fn split_option(word: &str) -> (&str, Option<&str>)
+    ensures name { result.0.now ≡ (split_option word.now).name }
+    ensures value { option_map (λ value. value.now) result.1 ≡ (split_option word.now).value }
+{
+    match word.split_once('=') {
+        Some((name, value)) => (name, Some(value)),
+        None => (word, None),
+    }
+}
+
+/// The option of a name, such as `--lg-k`.
+pub fn option_called(name: &str) -> Option<OptionName>
+    ensures { result ≡ option_called name.now }
+{
+    match name {
+        "--lg-k" => Some(OptionName::LgK),
+        "--field" => Some(OptionName::Field),
+        "--separator" => Some(OptionName::Separator),
+        "--seed" => Some(OptionName::Seed),
+        "--seed-file" => Some(OptionName::SeedFile),
+        "--files0-from" => Some(OptionName::FileList),
+        "--expect" => Some(OptionName::Expect),
+        "--progress" => Some(OptionName::Progress),
+        "--bounds" => Some(OptionName::Bounds),
+        "--tsv" => Some(OptionName::Tsv),
+        "--json" => Some(OptionName::Json),
+        "--hex" => Some(OptionName::Hex),
+        "--output" => Some(OptionName::Output),
+        _ => None,
+    }
+}
+
+/// Whether a command has an option.
+pub fn has_option(command: Command, option: OptionName) -> bool
+    ensures { result ≡ has_option command option }
+{
+    let reads_lines = command == Command::Count || command == Command::Sketch;
+    let prints_counts = command == Command::Count || command == Command::Show;
+    match option {
+        OptionName::Seed => true,
+        OptionName::SeedFile => true,
+        OptionName::LgK => reads_lines || command == Command::Combine(Operator::Union),
+        OptionName::Field => reads_lines,
+        OptionName::Separator => reads_lines,
+        OptionName::Progress => reads_lines,
+        OptionName::FileList => command != Command::Combine(Operator::Minus),
+        OptionName::Expect => {
+            command == Command::Combine(Operator::Union)
+                || command == Command::Combine(Operator::Meet)
+        }
+        OptionName::Bounds => prints_counts,
+        OptionName::Tsv => prints_counts,
+        OptionName::Json => prints_counts,
+        OptionName::Hex => command != Command::Count,
+        OptionName::Output => !prints_counts,
+    }
+}
+
+/// Whether a word begins with a plus.
+fn begins_with_plus(word: &str) -> bool
+    ensures { result ≡ (slice_index word.now 0 == 43) }
+{
+    match word.as_bytes() {
+        [first, ..] => *first == b'+',
+        [] => false,
+    }
+}
+
+/// The number that a word spells in digits, if it is from `least` to `greatest`.
+pub(crate) fn number_of(word: &str, least: u64, greatest: u64) -> Option<u64>
+    ensures { result ≡ number_of least greatest word.now }
+{
+    if begins_with_plus(word) {
+        return None;
+    }
+    match word.parse::<u64>() {
+        Ok(number) => {
+            if least <= number && number <= greatest {
+                Some(number)
+            } else {
+                None
+            }
+        }
+        Err(_) => None,
+    }
+}
+
+/// The byte of a word that has just one.
+pub(crate) fn byte_of(word: &str) -> Option<u8>
+    ensures { result ≡ byte_of word.now }
+{
+    match word.as_bytes() {
+        [byte] => Some(*byte),
+        _ => None,
+    }
+}
+
+/// The seed that a word spells in digits, if its seed hash isn't 0.
+pub(crate) fn seed_of(word: &str) -> Option<u64>
+    ensures { result ≡ seed_of word.now }
+{
+    let number = number_of(word, 0, u64::MAX)?;
+    match compute_seed_hash(number, ErrorKind::InvalidArgument) {
+        Ok(_) => Some(number),
+        Err(_) => None,
+    }
+}
+
+/// The standard deviations that a word spells.
+pub(crate) fn deviations_of(word: &str) -> Option<Deviations>
+    ensures { result ≡ deviations_of word.now }
+{
+    match word {
+        "1" => Some(Deviations::One),
+        "2" => Some(Deviations::Two),
+        "3" => Some(Deviations::Three),
+        _ => None,
+    }
+}
