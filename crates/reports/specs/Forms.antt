@@ -15,7 +15,7 @@ abbrev pub shown_estimate : Report → List ℕ
 shown_estimate r =
     decimal r.estimate
     ++ (if r.exact then codes " exact"
-       else codes " estimated, from " ++ decimal r.interval.lower ++ codes " to " ++ decimal r.interval.upper)
+    else codes " estimated, from " ++ decimal r.interval.lower ++ codes " to " ++ decimal r.interval.upper)
 
 -- the line that shows a report
 abbrev pub shown_line : (name : List ℕ) → Report → List ℕ

@@ -15,12 +15,12 @@ rounded f = nearest f.0 f.1
 -- the greatest
 unfoldable pub report_of : (z : ℕ) → Compact ℕ → Report
 report_of z s = record {
-    estimate = rounded (compact_fraction s);
-    interval = count_bounds z (length s.entries) s.theta;
-    exact = s.empty || s.theta == MAX_THETA;
-    retained = length s.entries;
-    theta = s.theta;
-  }
+  estimate = rounded (compact_fraction s);
+  interval = count_bounds z (length s.entries) s.theta;
+  exact = s.empty || s.theta == MAX_THETA;
+  retained = length s.entries;
+  theta = s.theta;
+}
 
 -- both ends of an interval are n
 abbrev pub only : (n : ℕ) → Interval

@@ -38,10 +38,7 @@ fn rounded(over: u128, under: u128) -> u128
 
 /// What a sketch says of its stream, with bounds of these standard deviations. The estimate is within the bounds. If the
 /// report isn't exact, the upper bound is above the number of retained entries, also if there are none.
-pub fn report_of<A: Allocator>(
-    sketch: &CompactThetaSketch<A>,
-    deviations: Deviations,
-) -> Report
+pub fn report_of<A: Allocator>(sketch: &CompactThetaSketch<A>, deviations: Deviations) -> Report
     ensures made { result ≡ report_of (deviation_count deviations) sketch.now }
     ensures consistent { IsConsistent result }
 {
