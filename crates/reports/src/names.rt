@@ -66,9 +66,10 @@ pub(crate) fn put_json_string<A: Allocator>(
 ) -> Result<(), AllocError>
     ensures { OnOk result (string_bytes text.new ≡ string_bytes text.old ++ json_string name.now) }
 {
-    text.push('"')?;
+    text.push_str("\"")?;
     'each_char: for c in name.chars() {
         put_json_char(text, c)?;
     }
-    text.push('"')
+    text.push_str("\"")?;
+    Ok(())
 }
