@@ -1,0 +1,15 @@
+use Rattle.std.proofs.Common.{sym, ◌∙◌, append_assoc, append-nil}
+use Rattle.std.proofs.lemmas.Str.{IsUtf8-past_char}
+use Rattle.reports.specs.Names.{line_char}
+use Rattle.reports.proofs.Respellings.{respelled_empty, respelled_step}
+use Rattle.reports.proofs.names.escaped_name.Goals as goal
+
+pub each_char-preserved : goal.each_char-preserved
+each_char-preserved g c =
+    let utf8 = c.each_char.invariant.0 in
+    let parts = c.in-Some.ensures.steps.0 in
+    let whole = rw (respelled_step line_char _ _ c.in-Some.c utf8 parts) at c.each_char.invariant.1 in
+    (IsUtf8-past_char _ _ c.in-Some.c utf8 parts, rw (c.in_ok-put_line_char.ensures, append_assoc) whole)
+
+pub returns : goal.returns
+returns g c = sym (append-nil _) ∙ rw (respelled_empty line_char _ c.in-None.ensures.steps.0.0) at c.each_char.invariant.1

@@ -1,0 +1,16 @@
+//! What a sketch says of its stream, and the lines that programs write of it.
+//!
+//! A report is the estimate of a sketch with its bounds, whether they are exact, and the number of retained entries with
+//! theta. It is written as a line of a count, a line that is shown, a row of a table, or a line of JSON.
+#![tactic(auto)]
+
+mod forms;
+pub mod laws;
+mod names;
+mod report;
+#[cfg(test)]
+mod tests;
+
+pub use forms::{count_line, json_line, shown_line, tsv_head, tsv_row};
+pub use names::escaped_name;
+pub use report::{Report, estimate_so_far, report_of};
