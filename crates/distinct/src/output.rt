@@ -5,7 +5,7 @@ ghost use Rattle.distinct.specs.Failures.{IsOfWriting, ReportsNotWritten};
 
 use crate::failure::Failure;
 use std::alloc::Global;
-use std::fs::File;
+use std::fs::{File, Files};
 use std::io::{ErrorKind, Write};
 use std::{fs, io};
 

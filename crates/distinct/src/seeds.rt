@@ -6,7 +6,7 @@ ghost use Rattle.distinct.specs.Seeds.{IsSeedOf};
 
 use crate::failure::Failure;
 use crate::inputs::{called, read_whole};
-use distinct_arguments::{Fault, Options, Seed, seed_number};
+use distinct_arguments::{Fault, Options, Seed};
 use sketch_base::{ErrorKind, compute_seed_hash};
 
 /// The seed of a command: the number that `--seed` names, or that its file has, with blanks around it allowed.
@@ -29,7 +29,7 @@ fn read_seed(rt: &HostRuntime, name: &str) -> Result<u64, Failure>
 {
     let bytes = read_whole(rt, name)?;
     if let Ok(text) = str::from_utf8(bytes.trim_ascii()) {
-        if let Some(seed) = seed_number(text) {
+        if let Some(seed) = distinct_arguments::seed_of(text) {
             return Ok(seed);
         }
     }

@@ -147,7 +147,7 @@ pub(crate) fn byte_of(word: &str) -> Option<u8>
 }
 
 /// The seed that a word spells in digits, if its seed hash isn't 0.
-pub(crate) fn seed_of(word: &str) -> Option<u64>
+pub fn seed_of(word: &str) -> Option<u64>
     ensures { result ≡ seed_of word.now }
 {
     let number = number_of(word, 0, u64::MAX)?;
