@@ -1,0 +1,533 @@
+#!/usr/bin/env python3
+"""What the program `distinct` writes, computed from docs/FORMATS.md, docs/SPECIFICATION.md and docs/DISTINCT.md alone.
+
+checks/lines.py COMMAND [OPTION..] [FILE..] writes it. checks/lines.py --check FOLDER compares it with the cases of a folder,
+such as examples/lines: what is written, to standard output and to files, and the status; where a case has NAME.stderr, also
+the message, if a file's contents are at fault. It doesn't know the messages of wrong arguments and of the system, nor the
+texts of --help and --version. It shares no code with the program.
+"""
+import json
+import math
+import os
+import re
+import struct
+import sys
+
+MAX_THETA = 2**63 - 1
+DEFAULT_SEED = 9001
+M64 = 2**64 - 1
+
+LINES = "--lg-k --field --separator --seed --seed-file --files0-from --progress "
+OPTIONS = {
+    "count": LINES + "--bounds --tsv --json",
+    "sketch": LINES + "--hex --output",
+    "union": "--lg-k --seed --seed-file --files0-from --expect --hex --output",
+    "meet": "--seed --seed-file --files0-from --expect --hex --output",
+    "minus": "--seed --seed-file --hex --output",
+    "show": "--seed --seed-file --files0-from --hex --bounds --tsv --json",
+}
+RANGES = {"--lg-k": (4, 26), "--field": (1, 2**32 - 1), "--seed": (0, M64), "--expect": (1, 2**32 - 1)}
+
+
+class Fault(Exception):
+    """Wrong arguments: status 2."""
+
+
+class Failure(Exception):
+    """What a file has is at fault: status 1 and this message."""
+
+
+class Uncomputed(Exception):
+    """Something that this page knows nothing of."""
+
+
+# The hash, and sketches as None, if empty, or their hashes and their theta.
+
+
+def rotl(x, n):
+    return (x << n | x >> (64 - n)) & M64
+
+
+def first_mixing(k):
+    return rotl(k * 0x87C37B91114253D5 & M64, 31) * 0x4CF5AD432745937F & M64
+
+
+def second_mixing(k):
+    return rotl(k * 0x4CF5AD432745937F & M64, 33) * 0x87C37B91114253D5 & M64
+
+
+def spread(x):
+    for factor in (0xFF51AFD7ED558CCD, 0xC4CEB9FE1A85EC53):
+        x = (x ^ x >> 33) * factor & M64
+    return x ^ x >> 33
+
+
+def murmur(data, seed):
+    """The first half of MurmurHash3 x64 128."""
+    h1 = h2 = seed
+    whole = len(data) // 16 * 16
+    for place in range(0, whole, 16):
+        k1, k2 = struct.unpack_from("<QQ", data, place)
+        h1 = (rotl(h1 ^ first_mixing(k1), 27) + h2) * 5 + 0x52DCE729 & M64
+        h2 = (rotl(h2 ^ second_mixing(k2), 31) + h1) * 5 + 0x38495AB5 & M64
+    k1, k2 = struct.unpack("<QQ", data[whole:].ljust(16, b"\0"))
+    h1 ^= first_mixing(k1) ^ len(data)
+    h2 ^= second_mixing(k2) ^ len(data)
+    h1 = h1 + h2 & M64
+    h2 = h2 + h1 & M64
+    return spread(h1) + spread(h2) & M64
+
+
+def seed_hash(seed):
+    return murmur(struct.pack("<Q", seed), 0) & 0xFFFF
+
+
+def key_of(line, field, separator):
+    """A line's key, as `cut -f` has it."""
+    if field is None or separator not in line:
+        return line
+    return dict(enumerate(line.split(separator), 1)).get(field, b"")
+
+
+def lines_of(text):
+    lines = text.split(b"\n")
+    return lines if lines[-1] else lines[:-1]
+
+
+def cut(k, hashes, theta):
+    """The hashes below theta; of more than k the k smallest, and theta is then the next one."""
+    kept = sorted(h for h in hashes if 0 < h < theta)
+    return (set(kept), theta) if len(kept) <= k else (set(kept[:k]), kept[k])
+
+
+def sketch_of(texts, options, seed):
+    keys = {key_of(line, options["--field"], options["--separator"]) for text in texts for line in lines_of(text)}
+    return cut(2 ** options["--lg-k"], {murmur(key, seed) >> 1 for key in keys}, MAX_THETA) if keys else None
+
+
+def unite(k, parts):
+    parts = [part for part in parts if part]
+    if not parts:
+        return None
+    return cut(k, set().union(*(hashes for hashes, _ in parts)), min(theta for _, theta in parts))
+
+
+def meet(parts):
+    met = parts[0]
+    for part in parts[1:]:
+        if not met or not part:
+            return None
+        theta = min(met[1], part[1])
+        shared = met[0] & part[0]
+        if met[0] and part[0] and not shared and theta == MAX_THETA:
+            return None
+        met = ({h for h in shared if h < theta}, theta)
+    return met
+
+
+def minus(first, second):
+    if not first or not second:
+        return first
+    theta = min(first[1], second[1])
+    kept = {h for h in first[0] - second[0] if h < theta}
+    return (kept, theta) if kept or theta < MAX_THETA else None
+
+
+# Images.
+
+
+def image_of(sketch, own_hash):
+    """The image of an ordered sketch."""
+    if not sketch:
+        return bytes.fromhex("010303 0000 1e 0000")
+    hashes, theta = sketch
+    longs = 3 if theta < MAX_THETA else 1 if len(hashes) == 1 else 2
+    head = struct.pack("<BBBHBH", longs, 3, 3, 0, 0x1A, own_hash)
+    head += struct.pack("<II", len(hashes), 0) * (longs > 1) + struct.pack("<Q", theta) * (longs > 2)
+    return head + b"".join(struct.pack("<Q", h) for h in sorted(hashes))
+
+
+def is_empty(image):
+    """Whether the preamble alone makes it the image of an empty sketch."""
+    return image[1] == 3 and bool(image[5] & 4) or image[1] == 2 and image[0] == 1
+
+
+def preamble_length(image):
+    return 8 if is_empty(image) else 24 if image[1] == 1 else 8 * image[0]
+
+
+def image_length(image):
+    """The length of the image that the bytes begin, or None if too few are there."""
+    if len(image) < 8 or not 1 <= image[1] <= 3 or len(image) < preamble_length(image):
+        return None
+    if is_empty(image):
+        return 8
+    if image[1] == 3 and image[0] == 1:
+        return 16
+    return preamble_length(image) + 8 * struct.unpack_from("<I", image, 8)[0]
+
+
+def flaw_of(image, own_hash):
+    """Why bytes are not one image that is read: the first reason."""
+    length = image_length(image)
+    if len(image) >= 16 and re.fullmatch(rb"[0-9a-fA-F]{16}", image[:16]):
+        return "is hexadecimal text: pass --hex"
+    if len(image) < 8:
+        return "is not the image of a theta sketch"
+    if image[2] != 3:
+        return f"is another kind of sketch (family {image[2]}); theta sketches are of family 3"
+    if not 1 <= image[1] <= 3:
+        return f"is of version {image[1]}; versions 1 to 3 are read"
+    if image[1] == 3 and image[5] & 1:
+        return "is in big-endian order, which is not read"
+    if image[1] > 1 and not is_emptied(image) and struct.unpack_from("<H", image, 6)[0] != own_hash:
+        return "is a sketch under another seed than this command's: pass the --seed it was made with"
+    if length is None or length > len(image):
+        return "is cut short"
+    if length < len(image):
+        return "is longer than one image; with --hex a file may have many"
+    return "is damaged: its hashes or its theta are not those of a theta sketch"
+
+
+def is_emptied(image):
+    """Whether an image is read as the empty sketch."""
+    if is_empty(image):
+        return True
+    return image[1] < 3 and image_length(image) == preamble_length(image) and theta_of(image) == MAX_THETA
+
+
+def theta_of(image):
+    return struct.unpack_from("<Q", image, 16)[0] if preamble_length(image) == 24 else MAX_THETA
+
+
+def sketch_of_image(image, own_hash):
+    """The sketch that one image is read as."""
+    length = image_length(image)
+    if length != len(image) or image[2] != 3 or not 1 <= image[0] <= 3:
+        raise Failure(flaw_of(image, own_hash))
+    if is_emptied(image):
+        return None
+    theta = theta_of(image)
+    hashes = [it[0] for it in struct.iter_unpack("<Q", image[preamble_length(image) if length > 16 else 8 :])]
+    ascends = image[1] < 3 or image[5] & 16
+    is_whole = 1 <= theta <= MAX_THETA and all(0 < h < theta for h in hashes) and len(set(hashes)) == len(hashes)
+    if not is_whole or ascends and hashes != sorted(hashes):
+        raise Failure(flaw_of(image, own_hash))
+    if image[1] > 1 and struct.unpack_from("<H", image, 6)[0] != own_hash:
+        raise Failure(flaw_of(image, own_hash))
+    return set(hashes), theta
+
+
+# What is printed.
+
+
+def ceil_sqrt(number):
+    return math.isqrt(number - 1) + 1 if number else 0
+
+
+def count_bounds(z, retained, theta):
+    """The ends of the Wilson score interval (docs/SPECIFICATION.md, "Bounds of a count")."""
+    spread_of_z = z * z * (MAX_THETA - theta)
+    scaled = retained * MAX_THETA
+    reach = ceil_sqrt(spread_of_z) * ceil_sqrt(spread_of_z + 4 * scaled)
+    middle = 2 * scaled + spread_of_z
+    return max(max(middle - reach, 0) // (2 * theta), retained), -(-(middle + reach) // (2 * theta))
+
+
+def report_of(sketch, z):
+    hashes, theta = sketch or (set(), MAX_THETA)
+    lower, upper = count_bounds(z, len(hashes), theta)
+    estimate = (2 * len(hashes) * MAX_THETA + theta) // (2 * theta)
+    return dict(estimate=estimate, lower=lower, upper=upper, exact=theta == MAX_THETA, retained=len(hashes), theta=theta)
+
+
+def escaped(name):
+    """A name whose control characters are escaped."""
+    short = {"\t": r"\t", "\r": r"\r", "\n": r"\n"}
+    return re.sub(r"[\0-\x1f\x7f-\x9f]", lambda it: short.get(it[0], r"\u{%x}" % ord(it[0])), name)
+
+
+def json_string(name):
+    name = re.sub(r'["\\]', lambda it: "\\" + it[0], name)
+    return '"' + re.sub(r"[\0-\x1f]", lambda it: r"\u%04x" % ord(it[0]), name) + '"'
+
+
+def printed(rows, options, command):
+    """The answer of `count` or `show` on reports, each with its name or None."""
+    if options["form"] == "--tsv":
+        names = ["name"] * (command == "show") + list(report_of(None, 2))
+        table = [[escaped(name or "")] * (name is not None) + [json.dumps(it) for it in row.values()] for name, row in rows]
+        return "".join("\t".join(it) + "\n" for it in [names, *table])
+    if options["form"] == "--json":
+        named = [[f'"name":{json_string(name or "")}'] * (name is not None) for name, _ in rows]
+        pairs = [[f'"{key}":{json.dumps(it)}' for key, it in row.items()] for _, row in rows]
+        return "".join("{" + ",".join(name + pair) + "}\n" for name, pair in zip(named, pairs))
+    if command == "count":
+        shown = ["estimate", "lower", "upper"] if options["--bounds"] else ["estimate"]
+        return "".join(" ".join(str(row[it]) for it in shown) + "\n" for _, row in rows)
+    line = "{}: {estimate} {kind}, retained {retained}, theta {theta}\n"
+    kinds = ["exact" if row["exact"] else "estimated, from {lower} to {upper}".format(**row) for _, row in rows]
+    return "".join(line.format(escaped(name), kind=kind, **row) for (name, row), kind in zip(rows, kinds))
+
+
+# Arguments.
+
+
+def number_of(option, value):
+    least, greatest = RANGES[option]
+    if not re.fullmatch(r"[0-9]+", value) or not least <= int(value) <= greatest:
+        raise Fault(f"{option} {value}")
+    if option == "--seed" and seed_hash(int(value)) == 0:
+        raise Fault("a seed whose hash is 0")
+    return int(value)
+
+
+def set_option(command, options, words):
+    """Sets the option that the words begin with; takes its words off."""
+    option, has_value, value = words.pop(0).partition("=")
+    if option not in OPTIONS[command].split():
+        raise Fault(f"no option {option}")
+    if option in ("--hex", "--progress", "--tsv", "--json", "--bounds"):
+        if has_value and (option != "--bounds" or value not in "1 2 3".split()):
+            raise Fault(f"a value of {option}")
+        if option == "--bounds":
+            options[option] = int(value or 2)
+        else:
+            options[option if option in ("--hex", "--progress") else "form"] = option
+        return
+    if not has_value and not words:
+        raise Fault(f"no value of {option}")
+    value = value if has_value else words.pop(0)
+    if option == "--separator" and len(value.encode()) != 1:
+        raise Fault("a separator of another length than 1")
+    if option in ("--seed", "--seed-file"):
+        options["seed"] = option, value if option == "--seed-file" else number_of(option, value)
+    else:
+        options[option] = number_of(option, value) if option in RANGES else value
+
+
+def read_arguments(words):
+    """The command, its options and its files."""
+    words = list(words)
+    if words and words[0] in ("--help", "-h", "--version", "-V"):
+        raise Uncomputed(words[0])
+    if not words or words[0] not in OPTIONS:
+        raise Fault("no command")
+    command = words.pop(0)
+    options = {"--lg-k": 12, "seed": ("--seed", DEFAULT_SEED), "form": None}
+    ended = False
+    while words and words[0].startswith("-") and words[0] != "-" and not ended:
+        if words[0] in ("--help", "-h"):
+            raise Uncomputed(f"{command} --help")
+        ended = words[0] == "--" and bool(words.pop(0))
+        if not ended:
+            set_option(command, options, words)
+    if not ended and any(it.startswith("-") and it != "-" for it in words):
+        raise Fault("an option behind a file")
+    if "--separator" in options and "--field" not in options:
+        raise Fault("--separator without --field")
+    if "--files0-from" in options and words:
+        raise Fault("a list and files")
+    if command in ("count", "sketch") and not words and "--files0-from" not in options:
+        words = ["-"]
+    if [options["seed"][1], options.get("--files0-from"), *words].count("-") > 1:
+        raise Fault("standard input twice")
+    for option in ("--field", "--bounds", "--hex", "--output", "--expect"):
+        options.setdefault(option)
+    options["--separator"] = options.get("--separator", "\t").encode()
+    return command, options, words
+
+
+# The commands, over the files of a table from names to bytes.
+
+
+def text_of(files, name):
+    if name not in files:
+        raise Uncomputed(f"the file {name}")
+    return files[name]
+
+
+def called(name):
+    return "standard input" if name == "-" else name
+
+
+def images_in(files, names, hex_lines):
+    """The name in messages, the name in answers, and the bytes of each image, in turn."""
+    for name in names:
+        text = text_of(files, name)
+        shown = escaped(called(name))
+        if not hex_lines:
+            yield f"{shown}: ", called(name), text
+            continue
+        if not text:
+            raise Failure(f"{shown}: has no line, and so no image")
+        for number, line in enumerate(lines_of(text), 1):
+            digits = line.strip(b" \t\r\f")
+            if not re.fullmatch(rb"([0-9a-fA-F]{2})*", digits):
+                raise Failure(f"{shown}: line {number} is not hexadecimal")
+            yield f"{shown}: line {number} ", called(name), bytes.fromhex(digits.decode())
+
+
+def sketches_in(files, names, hex_lines, own_hash):
+    """The name and the sketch of each image."""
+    for place, name, image in images_in(files, names, hex_lines):
+        try:
+            yield name, sketch_of_image(image, own_hash)
+        except Failure as flaw:
+            raise Failure(f"{place}{flaw}") from None
+
+
+def seed_of(files, options):
+    option, value = options["seed"]
+    if option == "--seed":
+        return value
+    text = text_of(files, value).decode()
+    try:
+        return number_of("--seed", text.removesuffix("\n"))
+    except Fault:
+        raise Failure(f"{called(value)}: is no seed") from None
+
+
+def combined(command, sketches, options, messages):
+    """What `union`, `meet` or `minus` makes of images."""
+    if command == "minus" and len(sketches) != 2:
+        raise Fault("not two images")
+    if options["--expect"] not in (None, len(sketches)):
+        raise Failure(f"{len(sketches)} images found, {options['--expect']} expected; nothing was written")
+    parts = [part for _, part in sketches]
+    if command == "union":
+        lg_k = options["--lg-k"]
+        most, name = max((len(part[0]) if part else 0, -place, name) for place, (name, part) in enumerate(sketches))[::2]
+        if most > 2**lg_k:
+            less = "the union is less exact than its images"
+            messages.append(f"warning: {name} retains {most} hashes, and --lg-k {lg_k} keeps {2**lg_k}: {less}")
+        return unite(2**lg_k, parts)
+    return meet(parts) if command == "meet" else minus(*parts)
+
+
+def run(words, files, messages):
+    """What the program writes to standard output. It changes the file that `--output` names."""
+    command, options, names = read_arguments(words)
+    hex_lines = options["--hex"]
+    if command == "minus" and not hex_lines and len(names) != 2:
+        raise Fault("not two files")
+    if command not in ("count", "sketch") and not names and "--files0-from" not in options:
+        raise Fault("no image")
+    seed = seed_of(files, options)
+    if "--files0-from" in options:
+        names = [it.decode() for it in text_of(files, options["--files0-from"]).split(b"\0") if it]
+    if command in ("count", "sketch"):
+        sketch = sketch_of([text_of(files, name) for name in names], options, seed)
+        rows = [(None, sketch)]
+    else:
+        rows = list(sketches_in(files, names, hex_lines, seed_hash(seed)))
+        if not rows:
+            raise Fault("no image")
+    if command in ("count", "show"):
+        z = options["--bounds"] or 2
+        return printed([(name, report_of(it, z)) for name, it in rows], options, command).encode()
+    if command != "sketch":
+        sketch = combined(command, rows, options, messages)
+    image = image_of(sketch, seed_hash(seed))
+    answer = image.hex().encode() + b"\n" if hex_lines else image
+    if options["--output"] is None:
+        return answer
+    files[options["--output"]] = answer
+    return b""
+
+
+# The cases of a folder.
+
+
+def bytes_of(path):
+    if not os.path.exists(path):
+        return b""
+    with open(path, "rb") as file:
+        return file.read()
+
+
+def files_of(folder, mark=""):
+    if not os.path.isdir(folder):
+        return {}
+    return {mark + it: bytes_of(f"{folder}/{it}") for it in os.listdir(folder) if os.path.isfile(f"{folder}/{it}")}
+
+
+def wrong_in(case):
+    """What differs in a case, if anything."""
+    data = os.path.join(os.path.dirname(case), "data")
+    files = files_of(data) | files_of(case + ".before", "@") | {"-": bytes_of(case + ".stdin")}
+    files |= {it.decode(): files["keys.theta"] for it in files["odd.list"].split(b"\0") if it}
+    status, answer, messages = 0, b"", []
+    if b"(os error " in bytes_of(case + ".stderr"):
+        raise Uncomputed("an error of the system")
+    try:
+        answer = run(bytes_of(case + ".args").decode().splitlines(), files, messages)
+    except Fault:
+        status, messages = 2, None
+    except Failure as failure:
+        status, messages = 1, [str(failure)]
+    if any("/" in it for it in files):
+        raise Uncomputed("a file in another folder")
+    if status != int(bytes_of(case + ".status") or 0):
+        return "status"
+    if answer != bytes_of(case + ".stdout"):
+        return "answer"
+    said = "".join(f"distinct: {it}\n" for it in messages or [])
+    if messages is not None and os.path.exists(case + ".stderr") and said.encode() != bytes_of(case + ".stderr"):
+        return "message"
+    after = {name: text for name, text in files.items() if name.startswith("@")}
+    if os.path.exists(case + ".before") and after != files_of(case + ".after", "@"):
+        return "files"
+    return None
+
+
+def check(folder):
+    wrong, uncomputed, number = [], [], 0
+    for it in sorted(os.listdir(folder)):
+        if not it.endswith(".args"):
+            continue
+        case = os.path.join(folder, it[: -len(".args")])
+        try:
+            differs = wrong_in(case)
+            number += 1
+            wrong += [f"{case}: another {differs}"] * (differs is not None)
+        except Uncomputed as reason:
+            is_text = str(reason).endswith(("--help", "-h", "--version", "-V"))
+            kind = wrong if not is_text and not bytes_of(case + ".status") else uncomputed
+            kind.append(f"{case}: not computed: {reason}")
+    if wrong:
+        sys.exit("\n".join(wrong))
+    print("\n".join(uncomputed + [f"lines: {number} cases are as computed, {len(uncomputed)} are not computed"]))
+    sys.exit()
+
+
+class OpenFiles(dict):
+    """The files of this folder, by their names."""
+
+    def __contains__(self, name):
+        return name == "-" or os.path.isfile(name)
+
+    def __getitem__(self, name):
+        return sys.stdin.buffer.read() if name == "-" else bytes_of(name)
+
+    def __setitem__(self, name, text):
+        with open(name, "wb") as file:
+            file.write(text)
+
+
+def main():
+    if sys.argv[1:2] == ["--check"]:
+        check(sys.argv[2].rstrip("/"))
+    messages = []
+    try:
+        sys.stdout.buffer.write(run(sys.argv[1:], OpenFiles(), messages))
+    except Fault as fault:
+        sys.exit(print(f"lines: wrong arguments: {fault}", file=sys.stderr) or 2)
+    except (Failure, Uncomputed) as failure:
+        messages.append(str(failure))
+        sys.exit(print(f"distinct: {failure}", file=sys.stderr) or 1)
+    for it in messages:
+        print(f"distinct: {it}", file=sys.stderr)
+
+
+main()
