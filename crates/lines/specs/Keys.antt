@@ -16,6 +16,10 @@ abbrev pub key_of : Key → List ℕ → List ℕ
 key_of Line line = line
 key_of (Field before separator) line = if length (fields_of separator line) == 1 then line else get_or (fields_of separator line) before []
 
+-- hashing by this key, under this seed
+abbrev pub hashing_of : Key → (seed : ℕ) → Hashing
+hashing_of key seed = record { key = key; seed = seed }
+
 -- the hash of a line's key
 abbrev pub line_hash : Hashing → List ℕ → ℕ
 line_hash hashing line = hash_of hashing.seed (key_of hashing.key line)
