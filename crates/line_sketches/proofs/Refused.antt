@@ -1,39 +1,70 @@
 -- When operators on sketches of lines refuse.
-use Rattle.std.proofs.Common.{◌≡◌, ℕ, ◌<◌, ◌≤◌, ◌+◌, Bool, true, false, cond, List, [], ◌∷◌, ◌++◌, length, get_or, drop, Option, Some, None, refl, ap, sym, subst, ◌∙◌, arith, inl, inr, add-one, drop-cons}
+use Rattle.std.proofs.Common.{◌≡◌, ℕ, ◌<◌, ◌≤◌, ◌+◌, Bool, true, false, cond, List, [], ◌∷◌, ◌++◌, length, get_or, drop, Option, Some, None, Result, Err, refl, ap, sym, subst, ◌∙◌, arith, inl, inr, add-one, drop-cons}
 use Rattle.std.proofs.lemmas.List.{drop_all}
 use Rattle.std.proofs.lemmas.Bool.Decides.{nat_tests}
-use Rattle.std.specs.Prelude.{◌⊎◌, ◌==◌, ◌||◌, IfSome, MatchOption}
+use Rattle.std.specs.Prelude.{◌⊎◌, ◌==◌, ◌||◌, IsTrue, IfSome, MatchOption}
 use Rattle.sketch_base.specs.Seed.{seed_hash}
 use Rattle.sketch_base.specs.declared.error.ErrorKind.{ErrorKind}
 use Rattle.sketch_base.specs.declared.error.ErrorKind.TheVariants.{OutOfMemory, InvalidArgument, Failed}
-use Rattle.sketch_base.specs.declared.seed.TheConstants.{DEFAULT_UPDATE_SEED}
 use Rattle.core_compact.specs.CompactState.{Compact, compact_value, shown_of}
 use Rattle.core_images.specs.Entry.{SpellsHash}
 use Rattle.core_images.specs.declared.preamble.Preamble.{Preamble}
 use Rattle.core_images.specs.Read.{IsRefused, ReadsFlagged, empty_image, single_image, exact_image, estimating_image}
 use Rattle.core_laws.specs.Entries.{hash_key, first_hash}
 use Rattle.core_laws.specs.Operators.{meet_next}
+use Rattle.core_laws.specs.Refusal.{Refuses}
 use Rattle.core_laws.specs.Shown.{Shown}
 use Rattle.core_laws.specs.Values.{Sketch}
-use Rattle.core_operators.specs.Intersection.{Intersection, is_settled, intersect_refusal}
+use Rattle.core_operators.specs.Intersection.{Intersection, is_settled, intersect_refusal, seed_refusal}
 use Rattle.core_operators.specs.Union.{Union, update_refusal}
 use Rattle.theta_sketches.specs.Image.{Reads, IsReadable, ReadsUnflagged, vacant_image, filled_image, version_3, version_2_empty, version_2_exact, version_2_estimating, version_1}
-use Rattle.line_sketches.specs.Meeting.{one_refusal, or_later, meet_refusal}
-use Rattle.core_laws.specs.declared.TheConstants.{MAX_THETA}
+use Rattle.line_sketches.specs.Meeting.{one_refusal, first_refusal, meet_refusal}
+use Rattle.core_laws.specs.declared.TheConstants.{MAX_THETA, MIN_LG_K}
 use Rattle.core_laws.specs.Settings.{settings_refusal}
 use Rattle.lines.specs.Lines.{lines_of}
-use Rattle.lines.specs.declared.key.Key.{Key}
-use Rattle.line_sketches.specs.Keys.{value_of_lines, ordered_sketch, image_of_text}
+use Rattle.lines.specs.declared.key.Hashing.{Hashing}
+use Rattle.line_sketches.specs.Keys.{value_of_lines, sketch_of_value, image_of_text}
 use Rattle.line_sketches.specs.Refusals.{IsNoImage, HasNoImage, IsImageRefusal, IsImagesRefusal}
 use Rattle.line_sketches.specs.Shards.{AreRead, sketches_of_texts, images_of_texts}
 use Rattle.line_sketches.proofs.Compacts.{images_read}
-use Rattle.line_sketches.proofs.DefaultSeed.{seeded}
 use Rattle.line_sketches.proofs.Rereads.{ReadsAgain}
-use Rattle.line_sketches.proofs.Unions.{size_small}
+use Rattle.line_sketches.proofs.Unions.{size_small, seeded}
 use Rattle.line_sketches.specs.declared.sketching.Unread.{Unread}
 use Rattle.line_sketches.specs.declared.sketching.Unread.TheVariants as unread
 use Rattle.line_sketches.specs.Sources.{GivesNext, Continues, IsFirst}
 use Rattle.line_sketches.specs.Unions.{IsReady}
+
+-- ---- refusals in general
+
+-- if nothing is refused, only memory can be
+pub only_memory : (refusal : Option ErrorKind) (takes_memory : Bool) (e : ErrorKind) → refusal ≡ None → (refusal ≡ Some e) ⊎ ((e ≡ OutOfMemory) × IsTrue takes_memory) → (e ≡ OutOfMemory) × IsTrue takes_memory
+only_memory refusal takes_memory e none (inl is) = let both : None ≡ Some e = sym none ∙ is in absurd (cc)
+only_memory refusal takes_memory e none (inr memory) = memory
+
+-- a call that takes no memory returns its refusal
+pub only_kind : (refusal : Option ErrorKind) (e : ErrorKind) → (refusal ≡ Some e) ⊎ ((e ≡ OutOfMemory) × IsTrue false) → refusal ≡ Some e
+only_kind refusal e (inl is) = is
+only_kind refusal e (inr memory) = let wrong : false ≡ true = memory.1 in absurd (cc)
+
+pub refuses_memory : {T : Type 0} (r : Result T ErrorKind) (refusal : Option ErrorKind) (e : ErrorKind) → r ≡ Err e → e ≡ OutOfMemory → Refuses r refusal true
+refuses_memory r refusal e is memory = subst (λ s. Refuses s refusal true) (sym is) (inr (memory, refl))
+
+pub refuses_kind : {T : Type 0} (r : Result T ErrorKind) (refusal : Option ErrorKind) (e : ErrorKind) → r ≡ Err e → refusal ≡ Some e → Refuses r refusal true
+refuses_kind r refusal e is kind = subst (λ s. Refuses s refusal true) (sym is) (inl kind)
+
+pub refuses_same : {T : Type 0} (r : Result T ErrorKind) (a b : Option ErrorKind) → a ≡ b → Refuses r b true → Refuses r a true
+refuses_same r a b same refuses = subst (λ o. Refuses r o true) (sym same) refuses
+
+-- the first of two refusals
+pub first_none : (a b : Option ErrorKind) → a ≡ None → first_refusal a b ≡ b
+first_none a b none = ap (λ o. first_refusal o b) none
+
+pub first_some : (a b : Option ErrorKind) (kind : ErrorKind) → a ≡ Some kind → first_refusal a b ≡ Some kind
+first_some a b kind is = ap (λ o. first_refusal o b) is
+
+-- the least size is accepted with each seed that is
+pub least_size : (seed : ℕ) → seed_refusal seed ≡ None → settings_refusal MIN_LG_K MAX_THETA seed ≡ None
+least_size seed accepted = grind (arith, nat_tests)
 
 -- ---- a sketch that is read has the reader's seed
 
@@ -62,26 +93,26 @@ read_seed bytes h s reads = elim reads.spelled as (λ s spelled. s.seed_hash ≡
 
 -- ---- intersections
 
-pub one_of : {P : Type 0} (i : Intersection ℕ P) (s : Compact ℕ) (shows : Shown) → i.seed_hash ≡ seed_hash DEFAULT_UPDATE_SEED → shows ≡ shown_of hash_key s → intersect_refusal i shows ≡ one_refusal i.result s
-one_of i s shows seed is = ap (intersect_refusal i) is ∙ ap (λ h. cond (is_settled i.result || s.empty) None (cond (h == s.seed_hash) None (Some InvalidArgument))) seed
+pub one_of : {P : Type 0} (seed : ℕ) (i : Intersection ℕ P) (s : Compact ℕ) (shows : Shown) → i.seed_hash ≡ seed_hash seed → shows ≡ shown_of hash_key s → intersect_refusal i shows ≡ one_refusal seed i.result s
+one_of seed i s shows same is = ap (intersect_refusal i) is ∙ ap (λ h. cond (is_settled i.result || s.empty) None (cond (h == s.seed_hash) None (Some InvalidArgument))) same
 
 split_at : (sketches : List (Compact ℕ)) (i : ℕ) (d : Compact ℕ) → i < length sketches → drop i sketches ≡ get_or sketches i d ∷ drop (i + 1) sketches
 split_at sketches i d lt = rw add-one (drop-cons sketches i d lt)
 
 -- one more sketch
-pub met_further : (old now next : Option (Sketch ℕ)) (sketches : List (Compact ℕ)) (i : ℕ) (d : Compact ℕ) → i < length sketches → meet_refusal old sketches ≡ meet_refusal now (drop i sketches) → one_refusal now (get_or sketches i d) ≡ None →
-    next ≡ Some (meet_next hash_key first_hash now (compact_value hash_key (get_or sketches i d))) → meet_refusal old sketches ≡ meet_refusal next (drop (i + 1) sketches)
-met_further old now next sketches i d lt so_far accepted is =
-    so_far ∙ ap (meet_refusal now) (split_at sketches i d lt) ∙ ap (λ o. or_later o (meet_refusal (Some (meet_next hash_key first_hash now (compact_value hash_key (get_or sketches i d)))) (drop (i + 1) sketches))) accepted
-    ∙ ap (λ o. meet_refusal o (drop (i + 1) sketches)) (sym is)
+pub met_further : (seed : ℕ) (old now next : Option (Sketch ℕ)) (sketches : List (Compact ℕ)) (i : ℕ) (d : Compact ℕ) → i < length sketches → meet_refusal seed old sketches ≡ meet_refusal seed now (drop i sketches) → one_refusal seed now (get_or sketches i d) ≡ None →
+    next ≡ Some (meet_next hash_key first_hash now (compact_value hash_key (get_or sketches i d))) → meet_refusal seed old sketches ≡ meet_refusal seed next (drop (i + 1) sketches)
+met_further seed old now next sketches i d lt so_far accepted is =
+    so_far ∙ ap (meet_refusal seed now) (split_at sketches i d lt) ∙ ap (λ o. first_refusal o (meet_refusal seed (Some (meet_next hash_key first_hash now (compact_value hash_key (get_or sketches i d)))) (drop (i + 1) sketches))) accepted
+    ∙ ap (λ o. meet_refusal seed o (drop (i + 1) sketches)) (sym is)
 
 -- a sketch that is refused
-pub met_refused : (old now : Option (Sketch ℕ)) (sketches : List (Compact ℕ)) (i : ℕ) (d : Compact ℕ) (kind : ErrorKind) → i < length sketches → meet_refusal old sketches ≡ meet_refusal now (drop i sketches) → one_refusal now (get_or sketches i d) ≡ Some kind → meet_refusal old sketches ≡ Some kind
-met_refused old now sketches i d kind lt so_far refused =
-    so_far ∙ ap (meet_refusal now) (split_at sketches i d lt) ∙ ap (λ o. or_later o (meet_refusal (Some (meet_next hash_key first_hash now (compact_value hash_key (get_or sketches i d)))) (drop (i + 1) sketches))) refused
+pub met_refused : (seed : ℕ) (old now : Option (Sketch ℕ)) (sketches : List (Compact ℕ)) (i : ℕ) (d : Compact ℕ) (kind : ErrorKind) → i < length sketches → meet_refusal seed old sketches ≡ meet_refusal seed now (drop i sketches) → one_refusal seed now (get_or sketches i d) ≡ Some kind → meet_refusal seed old sketches ≡ Some kind
+met_refused seed old now sketches i d kind lt so_far refused =
+    so_far ∙ ap (meet_refusal seed now) (split_at sketches i d lt) ∙ ap (λ o. first_refusal o (meet_refusal seed (Some (meet_next hash_key first_hash now (compact_value hash_key (get_or sketches i d)))) (drop (i + 1) sketches))) refused
 
-pub met_all : (old now : Option (Sketch ℕ)) (sketches : List (Compact ℕ)) (i : ℕ) → length sketches ≤ i → meet_refusal old sketches ≡ meet_refusal now (drop i sketches) → meet_refusal old sketches ≡ None
-met_all old now sketches i le so_far = so_far ∙ ap (meet_refusal now) (drop_all i sketches le)
+pub met_all : (seed : ℕ) (old now : Option (Sketch ℕ)) (sketches : List (Compact ℕ)) (i : ℕ) → length sketches ≤ i → meet_refusal seed old sketches ≡ meet_refusal seed now (drop i sketches) → meet_refusal seed old sketches ≡ None
+met_all seed old now sketches i le so_far = so_far ∙ ap (meet_refusal seed now) (drop_all i sketches le)
 
 memory_or_kind : (A B : Type 0) (o : Option ErrorKind) (e : ErrorKind) → MatchOption o (A × B × (e ≡ OutOfMemory)) (λ kind. e ≡ kind) → (o ≡ Some e) ⊎ (e ≡ OutOfMemory)
 memory_or_kind A B None e refused = inr refused.2
@@ -105,35 +136,35 @@ pub union_memory : {P : Type 0} (old new : Union ℕ P) (shows : Shown) (e : Err
     MatchOption (update_refusal old shows) ((shows.empty ≡ false) × (e ≡ OutOfMemory) × (new ≡ record old { failed = true; held = new.held })) (λ kind. (e ≡ kind) × (new ≡ old)) → e ≡ OutOfMemory
 union_memory old new shows e none refused = memory_of (shows.empty ≡ false) (new ≡ record old { failed = true; held = new.held }) (new ≡ old) (update_refusal old shows) e none refused
 
-pub ready_accepts : {P : Type 0} (u : Union ℕ P) (s : Compact ℕ) (shows : Shown) → IsReady u → s.seed_hash ≡ seed_hash DEFAULT_UPDATE_SEED → shows ≡ shown_of hash_key s → update_refusal u shows ≡ None
-ready_accepts u s shows ready seed is = ap (update_refusal u) is ∙ accepts_of u.failed s.empty u.seed_hash s.seed_hash ready.sound (ready.seeded ∙ sym seed)
+pub ready_accepts : {P : Type 0} (seed : ℕ) (u : Union ℕ P) (s : Compact ℕ) (shows : Shown) → IsReady seed u → s.seed_hash ≡ seed_hash seed → shows ≡ shown_of hash_key s → update_refusal u shows ≡ None
+ready_accepts seed u s shows ready same is = ap (update_refusal u) is ∙ accepts_of u.failed s.empty u.seed_hash s.seed_hash ready.sound (ready.seeded ∙ sym same)
 
 -- ---- images one after another
 
 -- some image after those that were read is not an image
-pub faulty_next : {S : Type 0} (remaining : S → Option (List ℕ)) (old now new : Option (List (List ℕ))) (o : Option S) (source : S) → Continues old now (λ taken. Unit {0}) → GivesNext remaining now new o → o ≡ Some source → IfSome (remaining source) IsNoImage → IfSome old HasNoImage
-faulty_next remaining None now new o source so_far gives is faulty = tt
-faulty_next remaining (Some texts) None new o source so_far gives is faulty = absurd so_far
-faulty_next remaining (Some texts) (Some left) new o source so_far gives is faulty =
+pub faulty_next : {S : Type 0} (seed : ℕ) (remaining : S → Option (List ℕ)) (old now new : Option (List (List ℕ))) (o : Option S) (source : S) → Continues old now (λ taken. Unit {0}) → GivesNext remaining now new o → o ≡ Some source → IfSome (remaining source) (IsNoImage seed) → IfSome old (HasNoImage seed)
+faulty_next seed remaining None now new o source so_far gives is faulty = tt
+faulty_next seed remaining (Some texts) None new o source so_far gives is faulty = absurd so_far
+faulty_next seed remaining (Some texts) (Some left) new o source so_far gives is faulty =
     let first : IsFirst remaining left source new = subst (GivesNext remaining (Some left) new) is gives in record {
       front = so_far.0;
       faulty = first.text;
       back = first.texts_left;
       parted = so_far.1 ∙ ap (λ ts. so_far.0 ++ ts) first.parted;
-      no_image = subst (λ (t : Option (List ℕ)). IfSome t IsNoImage) first.has faulty;
+      no_image = subst (λ (t : Option (List ℕ)). IfSome t (IsNoImage seed)) first.has faulty;
     }
 
-pub images_refused : (image : Option (List ℕ)) (images : Option (List (List ℕ))) (u : Unread) → (IfSome image IsNoImage → IfSome images HasNoImage) → IsImageRefusal image u → IsImagesRefusal images u
-images_refused image images (unread.Refused kind) step (inl memory) = inl memory
-images_refused image images (unread.Refused kind) step (inr none) = inr (none.0, step none.1)
-images_refused image images (unread.Failed error) step refused = tt
+pub images_refused : (seed : ℕ) (image : Option (List ℕ)) (images : Option (List (List ℕ))) (u : Unread) → (IfSome image (IsNoImage seed) → IfSome images (HasNoImage seed)) → IsImageRefusal seed image u → IsImagesRefusal seed images u
+images_refused seed image images (unread.Refused kind) step (inl memory) = inl memory
+images_refused seed image images (unread.Refused kind) step (inr none) = inr (none.0, step none.1)
+images_refused seed image images (unread.Failed error) step refused = tt
 
 -- ---- images of texts
 
 -- the image of a text is read, so only memory is refused
-pub text_refused : (again : ReadsAgain) (key : Key) (lg_k : ℕ) (text image : List ℕ) (e : ErrorKind) → settings_refusal lg_k MAX_THETA DEFAULT_UPDATE_SEED ≡ None → image ≡ image_of_text key lg_k text →
-    IsRefused e (IsReadable image (seed_hash DEFAULT_UPDATE_SEED)) → e ≡ OutOfMemory
-text_refused again key lg_k text image e none is (inl memory) = memory
-text_refused again key lg_k text image e none is (inr invalid) =
-    let read : AreRead (images_of_texts key lg_k (text ∷ [])) (sketches_of_texts key lg_k (text ∷ [])) = images_read key again seeded lg_k (size_small lg_k none) (text ∷ []) in
-    absurd (invalid.1 (subst (λ (bytes : List ℕ). IsReadable bytes (seed_hash DEFAULT_UPDATE_SEED)) (sym is) (ordered_sketch (value_of_lines key lg_k (lines_of text)), read.0)))
+pub text_refused : (again : ReadsAgain) (hashing : Hashing) (lg_k : ℕ) (text image : List ℕ) (e : ErrorKind) → settings_refusal lg_k MAX_THETA hashing.seed ≡ None → image ≡ image_of_text hashing lg_k text →
+    IsRefused e (IsReadable image (seed_hash hashing.seed)) → e ≡ OutOfMemory
+text_refused again hashing lg_k text image e none is (inl memory) = memory
+text_refused again hashing lg_k text image e none is (inr invalid) =
+    let read : AreRead hashing.seed (images_of_texts hashing lg_k (text ∷ [])) (sketches_of_texts hashing lg_k (text ∷ [])) = images_read hashing again (seeded hashing.seed lg_k none) lg_k (size_small hashing.seed lg_k none) (text ∷ []) in
+    absurd (invalid.1 (subst (λ (bytes : List ℕ). IsReadable bytes (seed_hash hashing.seed)) (sym is) (sketch_of_value hashing.seed (value_of_lines hashing lg_k (lines_of text)), read.0)))

@@ -2,7 +2,6 @@
 use Rattle.std.proofs.Common.{◌≡◌, ℕ, List, [], ◌∷◌, ◌++◌, ◌<◌, ◌^◌, arith, refl, sym, ap, subst, ◌∙◌}
 use Rattle.std.proofs.lemmas.List.{append-nil}
 use Rattle.sketch_base.specs.Seed.{seed_hash}
-use Rattle.sketch_base.specs.declared.seed.TheConstants.{DEFAULT_UPDATE_SEED}
 use Rattle.core_compact.specs.CompactState.{Compact, IsCompact, compact_value}
 use Rattle.core_laws.specs.Maps.{IsAscending}
 use Rattle.core_laws.specs.Cuts.{Retained}
@@ -13,35 +12,35 @@ use Rattle.core_laws.proofs.maps.Ascending.{ascending-filter}
 use Rattle.core_table.proofs.OtherOrders.{map_of-ascending}
 use Rattle.theta_sketches.specs.Image.{Reads, written}
 use Rattle.lines.specs.Lines.{lines_of}
-use Rattle.line_sketches.specs.Keys.{key_set, value_of_lines, ordered_sketch}
+use Rattle.line_sketches.specs.Keys.{key_set, value_of_lines, sketch_of_value}
 use Rattle.line_sketches.specs.Shards.{AreRead, sketches_of_texts, values_of_sketches, values_of_texts}
 use Rattle.line_sketches.proofs.Shards.{sample}
-use Rattle.lines.specs.declared.key.Key.{Key}
+use Rattle.lines.specs.declared.key.Hashing.{Hashing}
 
 -- bytes are read as one sketch at most
 abbrev pub ReadsOne : Type 0
 ReadsOne = (bytes : List ℕ) (h : ℕ) (r s : Compact ℕ) → Reads bytes h r → Reads bytes h s → r ≡ s
 
-module _ (key : Key) where
-  again : (v : Retained ℕ) (whole : List ℕ) → IsSample hash_key (NonEmpty v) whole → compact_value hash_key (ordered_sketch (NonEmpty v)) ≡ NonEmpty v
+module _ (hashing : Hashing) where
+  again : (v : Retained ℕ) (whole : List ℕ) → IsSample hash_key (NonEmpty v) whole → compact_value hash_key (sketch_of_value hashing.seed (NonEmpty v)) ≡ NonEmpty v
   again v whole s =
       let up : IsAscending hash_key v.entries = subst (IsAscending hash_key) (sym s.all_below) (ascending-filter hash_key _ whole s.ascending) in
       ap (λ xs. NonEmpty (record { entries = xs; theta = v.theta })) (map_of-ascending hash_key v.entries up)
 
-  value_again : (lg_k : ℕ) (lines : List (List ℕ)) → compact_value hash_key (ordered_sketch (value_of_lines key lg_k lines)) ≡ value_of_lines key lg_k lines
+  value_again : (lg_k : ℕ) (lines : List (List ℕ)) → compact_value hash_key (sketch_of_value hashing.seed (value_of_lines hashing lg_k lines)) ≡ value_of_lines hashing lg_k lines
   value_again lg_k [] = refl
-  value_again lg_k (line ∷ lines) = again _ (key_set key (line ∷ lines)) (sample key lg_k (line ∷ lines))
+  value_again lg_k (line ∷ lines) = again _ (key_set hashing (line ∷ lines)) (sample hashing lg_k (line ∷ lines))
 
   module _ (one : ReadsOne) (lg_k : ℕ) where
-    pub values_read : (images : List (List ℕ)) (sketches : List (Compact ℕ)) (texts : List (List ℕ)) → AreRead images (sketches_of_texts key lg_k texts) → AreRead images sketches → values_of_sketches sketches ≡ values_of_texts key lg_k texts
+    pub values_read : (images : List (List ℕ)) (sketches : List (Compact ℕ)) (texts : List (List ℕ)) → AreRead hashing.seed images (sketches_of_texts hashing lg_k texts) → AreRead hashing.seed images sketches → values_of_sketches sketches ≡ values_of_texts hashing lg_k texts
     values_read [] [] [] written read = refl
     values_read [] [] (t ∷ ts) written read = absurd written
     values_read [] (s ∷ ss) ts written read = absurd read
     values_read (b ∷ bs) [] ts written read = absurd read
     values_read (b ∷ bs) (s ∷ ss) [] written read = absurd written
     values_read (b ∷ bs) (s ∷ ss) (t ∷ ts) written read =
-        ap (λ v. v ∷ values_of_sketches ss) (ap (λ r. compact_value hash_key r) (one b (seed_hash DEFAULT_UPDATE_SEED) s (ordered_sketch (value_of_lines key lg_k (lines_of t))) read.0 written.0) ∙ value_again lg_k (lines_of t))
-        ∙ ap (λ vs. value_of_lines key lg_k (lines_of t) ∷ vs) (values_read bs ss ts written.1 read.1)
+        ap (λ v. v ∷ values_of_sketches ss) (ap (λ r. compact_value hash_key r) (one b (seed_hash hashing.seed) s (sketch_of_value hashing.seed (value_of_lines hashing lg_k (lines_of t))) read.0 written.0) ∙ value_again lg_k (lines_of t))
+        ∙ ap (λ vs. value_of_lines hashing lg_k (lines_of t) ∷ vs) (values_read bs ss ts written.1 read.1)
 
 -- what is written is read
 seed_hash-small : (seed : ℕ) → seed_hash seed < 2 ^ 16

@@ -21,12 +21,12 @@ use Rattle.core_laws.proofs.cuts.WithinWholeMaps.{found_key}
 use Rattle.core_laws.proofs.operators.Samples.{union_lawful}
 use Rattle.lines.specs.Lines.{lines_of, lines_of_all, IsWhole, nothing, ended, AreWhole}
 use Rattle.lines.specs.Keys.{line_hash}
-use Rattle.line_sketches.specs.Keys.{adds, key_set, value_of_lines, IsAmong, HaveSameLines}
+use Rattle.line_sketches.specs.Keys.{line_steps, key_set, value_of_lines, IsAmong, HaveSameLines}
 use Rattle.line_sketches.specs.Shards.{united, values_of_texts}
 use Rattle.line_sketches.proofs.Worth.{value_is_leaf}
-use Rattle.lines.specs.declared.key.Key.{Key}
+use Rattle.lines.specs.declared.key.Hashing.{Hashing}
 
-module _ (key : Key) where
+module _ (hashing : Hashing) where
   -- ---- lines of texts that follow one another
 
   onto_first-append : (b : ℕ) (ls ms : List (List ℕ)) → (ls ≡ [] → ⊥) → onto_first b (ls ++ ms) ≡ onto_first b ls ++ ms
@@ -67,7 +67,7 @@ module _ (key : Key) where
   -- ---- sets of hashes
 
   abbrev hashes : List (List ℕ) → List ℕ
-  hashes lines = filter is_carried (map (line_hash key) lines)
+  hashes lines = filter is_carried (map (line_hash hashing) lines)
 
   same_key : (x y : ℕ) → hash_key x ≡ hash_key y → hash_key (first_hash x y) ≡ hash_key y
   same_key x y same = same
@@ -75,11 +75,11 @@ module _ (key : Key) where
   upsert_join : (h : ℕ) (w : List ℕ) → whole_upsert hash_key h (hash_step h) w ≡ join hash_key first_hash w h
   upsert_join h w = elim (entry_at hash_key w h) as (λ o. option_map_or (λ x. with_entry hash_key w x) o (with_entry hash_key w h) ≡ with_entry hash_key w (option_map_or (λ x. first_hash x h) o h)) [ Some x ↦ refl | None ↦ refl ]
 
-  whole-joined : (lines : List (List ℕ)) (w : List ℕ) → whole_from hash_key hash_step_of (adds key lines) w ≡ joined hash_key first_hash w (hashes lines)
+  whole-joined : (lines : List (List ℕ)) (w : List ℕ) → whole_from hash_key hash_step_of (line_steps hashing lines) w ≡ joined hash_key first_hash w (hashes lines)
   whole-joined [] w = refl
   whole-joined (line ∷ lines) w =
-      elim (is_carried (line_hash key line)) as (λ b. whole_from hash_key hash_step_of (adds key lines) (cond b (whole_upsert hash_key (line_hash key line) (hash_step (line_hash key line)) w) w) ≡ joined hash_key first_hash w (cond b (line_hash key line ∷ hashes lines) (hashes lines))) [
-        | true ↦ ap (whole_from hash_key hash_step_of (adds key lines)) (upsert_join (line_hash key line) w) ∙ whole-joined lines (join hash_key first_hash w (line_hash key line))
+      elim (is_carried (line_hash hashing line)) as (λ b. whole_from hash_key hash_step_of (line_steps hashing lines) (cond b (whole_upsert hash_key (line_hash hashing line) (hash_step (line_hash hashing line)) w) w) ≡ joined hash_key first_hash w (cond b (line_hash hashing line ∷ hashes lines) (hashes lines))) [
+        | true ↦ ap (whole_from hash_key hash_step_of (line_steps hashing lines)) (upsert_join (line_hash hashing line) w) ∙ whole-joined lines (join hash_key first_hash w (line_hash hashing line))
         | false ↦ whole-joined lines w
       ]
 
@@ -112,41 +112,41 @@ module _ (key : Key) where
       (λ q. look (joined hash_key first_hash [] xs) w q ∙ ap (either first_hash (entry_at hash_key w q)) (look xs [] q ∙ either_none (entry_at hash_key xs q)) ∙ sym (look xs w q))
 
   -- a set of hashes joins as its lines do
-  set-joined : (lines : List (List ℕ)) (w : List ℕ) → IsAscending hash_key w → joined hash_key first_hash w (key_set key lines) ≡ whole_from hash_key hash_step_of (adds key lines) w
+  set-joined : (lines : List (List ℕ)) (w : List ℕ) → IsAscending hash_key w → joined hash_key first_hash w (key_set hashing lines) ≡ whole_from hash_key hash_step_of (line_steps hashing lines) w
   set-joined lines w w_up = ap (joined hash_key first_hash w) (whole-joined lines []) ∙ joined-again (hashes lines) w w_up ∙ sym (whole-joined lines w)
 
-  from-append : (xs ys : List (List ℕ)) (w : List ℕ) → whole_from hash_key hash_step_of (adds key (xs ++ ys)) w ≡ whole_from hash_key hash_step_of (adds key ys) (whole_from hash_key hash_step_of (adds key xs) w)
+  from-append : (xs ys : List (List ℕ)) (w : List ℕ) → whole_from hash_key hash_step_of (line_steps hashing (xs ++ ys)) w ≡ whole_from hash_key hash_step_of (line_steps hashing ys) (whole_from hash_key hash_step_of (line_steps hashing xs) w)
   from-append [] ys w = refl
-  from-append (x ∷ xs) ys w = from-append xs ys (whole_step hash_key hash_step_of (Add (line_hash key x) (tt {0})) w)
+  from-append (x ∷ xs) ys w = from-append xs ys (whole_step hash_key hash_step_of (Add (line_hash hashing x) (tt {0})) w)
 
-  sets-joined : (parts : List (List (List ℕ))) (w : List ℕ) → IsAscending hash_key w → joined_all hash_key first_hash w (map (key_set key) parts) ≡ whole_from hash_key hash_step_of (adds key (all_lines parts)) w
+  sets-joined : (parts : List (List (List ℕ))) (w : List ℕ) → IsAscending hash_key w → joined_all hash_key first_hash w (map (key_set hashing) parts) ≡ whole_from hash_key hash_step_of (line_steps hashing (all_lines parts)) w
   sets-joined [] w w_up = refl
   sets-joined (part ∷ parts) w w_up =
-      sets-joined parts (joined hash_key first_hash w (key_set key part)) (up (key_set key part) w w_up)
-      ∙ ap (whole_from hash_key hash_step_of (adds key (all_lines parts))) (set-joined part w w_up)
+      sets-joined parts (joined hash_key first_hash w (key_set hashing part)) (up (key_set hashing part) w w_up)
+      ∙ ap (whole_from hash_key hash_step_of (line_steps hashing (all_lines parts))) (set-joined part w w_up)
       ∙ sym (from-append part (all_lines parts) w)
 
   -- ---- values of lines
 
   module _ (lg_k : ℕ) where
     abbrev value : List (List ℕ) → Sketch ℕ
-    value lines = value_of_lines key lg_k lines
+    value lines = value_of_lines hashing lg_k lines
 
     trim-whole : (steps : List (LeafStep (Unit {0}))) (w : List ℕ) → whole_from hash_key hash_step_of (steps ++ Trim ∷ []) w ≡ whole_from hash_key hash_step_of steps w
     trim-whole [] w = refl
     trim-whole (step ∷ steps) w = trim-whole steps (whole_step hash_key hash_step_of step w)
 
-    pub sample : (lines : List (List ℕ)) → IsSample hash_key (value lines) (key_set key lines)
-    sample lines = rw (value_is_leaf key lg_k lines, ← trim-whole (adds key lines) []) (leaf-sample hash_key hash_step_of hash_keeps (2 ^ lg_k) MAX_THETA (adds key lines ++ Trim ∷ []) (omega arith))
+    pub sample : (lines : List (List ℕ)) → IsSample hash_key (value lines) (key_set hashing lines)
+    sample lines = rw (value_is_leaf hashing lg_k lines, ← trim-whole (line_steps hashing lines) []) (leaf-sample hash_key hash_step_of hash_keeps (2 ^ lg_k) MAX_THETA (line_steps hashing lines ++ Trim ∷ []) (omega arith))
 
-    lawful : (lines : List (List ℕ)) → IsLawfulValue hash_key (2 ^ lg_k) MAX_THETA (value lines) (key_set key lines)
-    lawful lines = rw (value_is_leaf key lg_k lines, ← trim-whole (adds key lines) []) (leaf-lawful hash_key hash_step_of hash_keeps (2 ^ lg_k) MAX_THETA (adds key lines ++ Trim ∷ []) (omega arith))
+    lawful : (lines : List (List ℕ)) → IsLawfulValue hash_key (2 ^ lg_k) MAX_THETA (value lines) (key_set hashing lines)
+    lawful lines = rw (value_is_leaf hashing lg_k lines, ← trim-whole (line_steps hashing lines) []) (leaf-lawful hash_key hash_step_of hash_keeps (2 ^ lg_k) MAX_THETA (line_steps hashing lines ++ Trim ∷ []) (omega arith))
 
-    samples : (parts : List (List (List ℕ))) → AreSamples hash_key (map value parts) (map (key_set key) parts)
+    samples : (parts : List (List (List ℕ))) → AreSamples hash_key (map value parts) (map (key_set hashing) parts)
     samples [] = tt
     samples (part ∷ parts) = (sample part, samples parts)
 
-    lawfuls : (parts : List (List (List ℕ))) → AreLawful hash_key (2 ^ lg_k) MAX_THETA (map value parts) (map (key_set key) parts)
+    lawfuls : (parts : List (List (List ℕ))) → AreLawful hash_key (2 ^ lg_k) MAX_THETA (map value parts) (map (key_set hashing) parts)
     lawfuls [] = tt
     lawfuls (part ∷ parts) = (lawful part, lawfuls parts)
 
@@ -168,17 +168,17 @@ module _ (key : Key) where
     united_lines parts = (elim (all_lines parts) as (λ all. all_lines parts ≡ all → united lg_k (map value parts) ≡ value all) [
       | [] ↦ λ e. ap (unite_nonempty hash_key first_hash (2 ^ lg_k) MAX_THETA) (all_none parts e)
       | line ∷ lines ↦ λ e.
-          union_lawful hash_key first_hash same_key (2 ^ lg_k) MAX_THETA MAX_THETA (map value parts) (map (key_set key) parts) (omega arith) (samples parts) (lawfuls parts) (λ none. some_none line lines (all_lines parts) e (none_none parts none))
-          ∙ ap (λ keys. NonEmpty (kmin (2 ^ lg_k) keys MAX_THETA)) (sets-joined parts [] (ascending-nil hash_key) ∙ ap (key_set key) e)
+          union_lawful hash_key first_hash same_key (2 ^ lg_k) MAX_THETA MAX_THETA (map value parts) (map (key_set hashing) parts) (omega arith) (samples parts) (lawfuls parts) (λ none. some_none line lines (all_lines parts) e (none_none parts none))
+          ∙ ap (λ keys. NonEmpty (kmin (2 ^ lg_k) keys MAX_THETA)) (sets-joined parts [] (ascending-nil hash_key) ∙ ap (key_set hashing) e)
     ]) refl
 
-  values_map : (lg_k : ℕ) (texts : List (List ℕ)) → values_of_texts key lg_k texts ≡ map (value_of_lines key lg_k) (map lines_of texts)
+  values_map : (lg_k : ℕ) (texts : List (List ℕ)) → values_of_texts hashing lg_k texts ≡ map (value_of_lines hashing lg_k) (map lines_of texts)
   values_map lg_k [] = refl
-  values_map lg_k (text ∷ texts) = ap (λ vs. value_of_lines key lg_k (lines_of text) ∷ vs) (values_map lg_k texts)
+  values_map lg_k (text ∷ texts) = ap (λ vs. value_of_lines hashing lg_k (lines_of text) ∷ vs) (values_map lg_k texts)
 
-  pub united_texts : (lg_k : ℕ) (texts : List (List ℕ)) → AreWhole texts → united lg_k (values_of_texts key lg_k texts) ≡ value_of_lines key lg_k (lines_of (concat texts))
+  pub united_texts : (lg_k : ℕ) (texts : List (List ℕ)) → AreWhole texts → united lg_k (values_of_texts hashing lg_k texts) ≡ value_of_lines hashing lg_k (lines_of (concat texts))
   united_texts lg_k texts whole =
-      ap (united lg_k) (values_map lg_k texts) ∙ united_lines lg_k (map lines_of texts) ∙ ap (value_of_lines key lg_k) (sym (lines_concat texts whole))
+      ap (united lg_k) (values_map lg_k texts) ∙ united_lines lg_k (map lines_of texts) ∙ ap (value_of_lines hashing lg_k) (sym (lines_concat texts whole))
 
   -- ---- texts of which each is cut into lines by itself
 
@@ -186,9 +186,9 @@ module _ (key : Key) where
   lines_apart [] = refl
   lines_apart (text ∷ texts) = ap (λ ls. lines_of text ++ ls) (lines_apart texts)
 
-  pub united_lines_apart : (lg_k : ℕ) (texts : List (List ℕ)) → united lg_k (values_of_texts key lg_k texts) ≡ value_of_lines key lg_k (lines_of_all texts)
+  pub united_lines_apart : (lg_k : ℕ) (texts : List (List ℕ)) → united lg_k (values_of_texts hashing lg_k texts) ≡ value_of_lines hashing lg_k (lines_of_all texts)
   united_lines_apart lg_k texts =
-      ap (united lg_k) (values_map lg_k texts) ∙ united_lines lg_k (map lines_of texts) ∙ ap (value_of_lines key lg_k) (lines_apart texts)
+      ap (united lg_k) (values_map lg_k texts) ∙ united_lines lg_k (map lines_of texts) ∙ ap (value_of_lines hashing lg_k) (lines_apart texts)
 
   -- ---- the same lines, in any order
 
@@ -198,7 +198,7 @@ module _ (key : Key) where
   itself : (a : ℕ) → eqb a a ≡ true
   itself a = grind (arith, nat_tests)
 
-  set_look : (lines : List (List ℕ)) (q : ℕ) → entry_at hash_key (key_set key lines) q ≡ entry_at hash_key (hashes lines) q
+  set_look : (lines : List (List ℕ)) (q : ℕ) → entry_at hash_key (key_set hashing lines) q ≡ entry_at hash_key (hashes lines) q
   set_look lines q = ap (λ (w : List ℕ). entry_at hash_key w q) (whole-joined lines []) ∙ look (hashes lines) [] q ∙ either_none (entry_at hash_key (hashes lines) q)
 
   carried_first : (h : ℕ) (hs : List ℕ) → is_carried h ≡ true → entry_at hash_key (cond (is_carried h) (h ∷ hs) hs) h ≡ Some h
@@ -215,17 +215,17 @@ module _ (key : Key) where
       ]
 
   -- the hash of a line, if a sketch may retain it, is found among those of lines
-  look_line : (lines : List (List ℕ)) (line : List ℕ) → IsAmong line lines → is_carried (line_hash key line) ≡ true → entry_at hash_key (hashes lines) (line_hash key line) ≡ Some (line_hash key line)
+  look_line : (lines : List (List ℕ)) (line : List ℕ) → IsAmong line lines → is_carried (line_hash hashing line) ≡ true → entry_at hash_key (hashes lines) (line_hash hashing line) ≡ Some (line_hash hashing line)
   look_line [] line among carried = absurd among
   look_line (other ∷ lines) line among carried =
       elim among [
-        | inl same ↦ subst (λ (l : List ℕ). entry_at hash_key (hashes (l ∷ lines)) (line_hash key line) ≡ Some (line_hash key line)) same (carried_first (line_hash key line) (hashes lines) carried)
-        | inr later ↦ carried_later (line_hash key other) (line_hash key line) (hashes lines) (look_line lines line later carried)
+        | inl same ↦ subst (λ (l : List ℕ). entry_at hash_key (hashes (l ∷ lines)) (line_hash hashing line) ≡ Some (line_hash hashing line)) same (carried_first (line_hash hashing line) (hashes lines) carried)
+        | inr later ↦ carried_later (line_hash hashing other) (line_hash hashing line) (hashes lines) (look_line lines line later carried)
       ]
 
   -- a hash that is found is that of a line
   abbrev IsFound : List (List ℕ) → ℕ → Type 0
-  IsFound lines q = (line : List ℕ) × IsAmong line lines × (line_hash key line ≡ q) × (is_carried q ≡ true)
+  IsFound lines q = (line : List ℕ) × IsAmong line lines × (line_hash hashing line ≡ q) × (is_carried q ≡ true)
 
   found_later : (other : List ℕ) (lines : List (List ℕ)) (q : ℕ) → IsFound lines q → IsFound (other ∷ lines) q
   found_later other lines q found = (found.0, inr found.1, found.2, found.3)
@@ -233,9 +233,9 @@ module _ (key : Key) where
   found_line : (lines : List (List ℕ)) (q e : ℕ) → entry_at hash_key (hashes lines) q ≡ Some e → IsFound lines q
   found_line [] q e found = absurd (cc)
   found_line (other ∷ lines) q e found =
-      (elim (is_carried (line_hash key other)) as (λ b. is_carried (line_hash key other) ≡ b → entry_at hash_key (cond b (line_hash key other ∷ hashes lines) (hashes lines)) q ≡ Some e → IsFound (other ∷ lines) q) [
-        | true ↦ λ carried f. (elim (eqb (line_hash key other) q) as (λ b. eqb (line_hash key other) q ≡ b → cond b (Some (line_hash key other)) (entry_at hash_key (hashes lines) q) ≡ Some e → IsFound (other ∷ lines) q) [
-          | true ↦ λ same g. let is : line_hash key other ≡ q = equal_by (line_hash key other) q same in (other, inl refl, is, subst (λ (h : ℕ). is_carried h ≡ true) is carried)
+      (elim (is_carried (line_hash hashing other)) as (λ b. is_carried (line_hash hashing other) ≡ b → entry_at hash_key (cond b (line_hash hashing other ∷ hashes lines) (hashes lines)) q ≡ Some e → IsFound (other ∷ lines) q) [
+        | true ↦ λ carried f. (elim (eqb (line_hash hashing other) q) as (λ b. eqb (line_hash hashing other) q ≡ b → cond b (Some (line_hash hashing other)) (entry_at hash_key (hashes lines) q) ≡ Some e → IsFound (other ∷ lines) q) [
+          | true ↦ λ same g. let is : line_hash hashing other ≡ q = equal_by (line_hash hashing other) q same in (other, inl refl, is, subst (λ (h : ℕ). is_carried h ≡ true) is carried)
           | false ↦ λ same g. found_later other lines q (found_line lines q e g)
         ]) refl f
         | false ↦ λ carried f. found_later other lines q (found_line lines q e f)
@@ -256,13 +256,13 @@ module _ (key : Key) where
         ]) refl
       ]) refl
 
-  set_up : (lines : List (List ℕ)) → IsAscending hash_key (key_set key lines)
+  set_up : (lines : List (List ℕ)) → IsAscending hash_key (key_set hashing lines)
   set_up lines = subst (IsAscending hash_key) (sym (whole-joined lines [])) (up (hashes lines) [] (ascending-nil hash_key))
 
-  same_keys : (xs ys : List (List ℕ)) → HaveSameLines xs ys → key_set key xs ≡ key_set key ys
-  same_keys xs ys same = same_map hash_key (key_set key xs) (key_set key ys) (set_up xs) (set_up ys) (λ q. set_look xs q ∙ same_look xs ys same q ∙ sym (set_look ys q))
+  same_keys : (xs ys : List (List ℕ)) → HaveSameLines xs ys → key_set hashing xs ≡ key_set hashing ys
+  same_keys xs ys same = same_map hash_key (key_set hashing xs) (key_set hashing ys) (set_up xs) (set_up ys) (λ q. set_look xs q ∙ same_look xs ys same q ∙ sym (set_look ys q))
 
-  pub same_value : (lg_k : ℕ) (xs ys : List (List ℕ)) → HaveSameLines xs ys → value_of_lines key lg_k xs ≡ value_of_lines key lg_k ys
+  pub same_value : (lg_k : ℕ) (xs ys : List (List ℕ)) → HaveSameLines xs ys → value_of_lines hashing lg_k xs ≡ value_of_lines hashing lg_k ys
   same_value lg_k [] [] same = refl
   same_value lg_k [] (y ∷ ys) same = absurd (same.1 y (inl refl))
   same_value lg_k (x ∷ xs) [] same = absurd (same.0 x (inl refl))

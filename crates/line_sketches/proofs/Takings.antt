@@ -9,10 +9,10 @@ use Rattle.core_laws.specs.Insertion.{after_upsert}
 use Rattle.core_state.specs.Updatable.{Updatable}
 use Rattle.lines.specs.Lines.{lines_of, lines_after, Lacks}
 use Rattle.lines.specs.Keys.{line_hash}
-use Rattle.line_sketches.specs.Keys.{Held, held, with_line, with_lines}
+use Rattle.line_sketches.specs.Keys.{LineState, state_of, with_line, with_lines}
 use Rattle.line_sketches.specs.Taking.{Takes, Leaves, AreHashesOfLines}
 use Rattle.lines.proofs.Texts.{lines_after-line, lines_after-lacking, lines_whole}
-use Rattle.lines.specs.declared.key.Key.{Key}
+use Rattle.lines.specs.declared.key.Hashing.{Hashing}
 
 and_true : (b : Bool) → (b && (0 == 0)) ≡ b
 and_true true = refl
@@ -22,12 +22,12 @@ and_false : (b : Bool) (n : ℕ) → (b && (suc n == 0)) ≡ false
 and_false true n = grind (arith, nat_tests)
 and_false false n = refl
 
-module _ (key : Key) where
+module _ (hashing : Hashing) where
   -- one more line is hashed
-  pub hashed_more : (text hashes rest line others : List ℕ) (hash : ℕ) → AreHashesOfLines key text hashes rest → rest ≡ line ++ 10 ∷ others → Lacks 10 line → hash ≡ line_hash key line → AreHashesOfLines key text (hashes ++ hash ∷ []) others
+  pub hashed_more : (text hashes rest line others : List ℕ) (hash : ℕ) → AreHashesOfLines hashing text hashes rest → rest ≡ line ++ 10 ∷ others → Lacks 10 line → hash ≡ line_hash hashing line → AreHashesOfLines hashing text (hashes ++ hash ∷ []) others
   hashed_more text hashes rest line others hash before is lacks hashed = (
     before.0 ++ line ∷ [],
-    ap (λ hs. hs ++ hash ∷ []) before.1 ∙ ap (λ (h : ℕ). map (line_hash key) before.0 ++ h ∷ []) hashed ∙ sym (map-append (line_hash key) before.0 (line ∷ [])),
+    ap (λ hs. hs ++ hash ∷ []) before.1 ∙ ap (λ (h : ℕ). map (line_hash hashing) before.0 ++ h ∷ []) hashed ∙ sym (map-append (line_hash hashing) before.0 (line ∷ [])),
     λ more.
         before.2 more ∙ ap (λ bs. before.0 ++ lines_after [] (bs ++ more)) is
         ∙ ap (λ bs. before.0 ++ lines_after [] bs) (append_assoc line (10 ∷ others) more)
@@ -35,64 +35,64 @@ module _ (key : Key) where
         ∙ sym (append_assoc before.0 (line ∷ []) (lines_after [] (others ++ more))),
   )
 
-  pub hashed_next : (text hashes rest line others : List ℕ) (count index hash : ℕ) → count ≡ index → index < length hashes → AreHashesOfLines key text (take count hashes) rest → rest ≡ line ++ 10 ∷ others → Lacks 10 line → hash ≡ line_hash key line →
-      AreHashesOfLines key text (take (count + 1) (set hashes index hash)) others
+  pub hashed_next : (text hashes rest line others : List ℕ) (count index hash : ℕ) → count ≡ index → index < length hashes → AreHashesOfLines hashing text (take count hashes) rest → rest ≡ line ++ 10 ∷ others → Lacks 10 line → hash ≡ line_hash hashing line →
+      AreHashesOfLines hashing text (take (count + 1) (set hashes index hash)) others
   hashed_next text hashes rest line others count index hash same lt before is lacks hashed =
       let now : take (count + 1) (set hashes index hash) ≡ take count hashes ++ hash ∷ [] = ap (λ (n : ℕ). take (n + 1) (set hashes index hash)) same ∙ take_more_set hashes index hash lt ∙ ap (λ (n : ℕ). take n hashes ++ hash ∷ []) (sym same) in
-      subst (λ hs. AreHashesOfLines key text hs others) (sym now) (hashed_more text (take count hashes) rest line others hash before is lacks hashed)
+      subst (λ hs. AreHashesOfLines hashing text hs others) (sym now) (hashed_more text (take count hashes) rest line others hash before is lacks hashed)
 
   -- one line is inserted
-  pub held_line : (s t : Updatable ℕ) (hash : ℕ) (line : List ℕ) → hash ≡ line_hash key line → t.map ≡ record s.map { kept = after_upsert hash_key (2 ^ s.map.lg_nom) hash (hash_step hash) s.map.kept } → t.empty ≡ false →
-      held t ≡ with_line key (held s) line
-  held_line s t hash line is map_is empty_is =
+  pub state_after_line : (s t : Updatable ℕ) (hash : ℕ) (line : List ℕ) → hash ≡ line_hash hashing line → t.map ≡ record s.map { kept = after_upsert hash_key (2 ^ s.map.lg_nom) hash (hash_step hash) s.map.kept } → t.empty ≡ false →
+      state_of t ≡ with_line hashing (state_of s) line
+  state_after_line s t hash line is map_is empty_is =
       let made : ℕ → MapTable ℕ = λ h. record s.map { kept = after_upsert hash_key (2 ^ s.map.lg_nom) h (hash_step h) s.map.kept } in
-      let whole : t.map ≡ made (line_hash key line) = map_is ∙ ap made is in
+      let whole : t.map ≡ made (line_hash hashing line) = map_is ∙ ap made is in
       λ i. record { map = whole i; empty = empty_is i }
 
   -- lines are inserted by their hashes
-  with_lines-hashes : (lines : List (List ℕ)) (s : Held) →
-      with_lines key s lines ≡ record { map = after_hashes (map (line_hash key) lines) s.map; empty = s.empty && (length (map (line_hash key) lines) == 0) }
+  with_lines-hashes : (lines : List (List ℕ)) (s : LineState) →
+      with_lines hashing s lines ≡ record { map = after_hashes (map (line_hash hashing) lines) s.map; empty = s.empty && (length (map (line_hash hashing) lines) == 0) }
   with_lines-hashes [] s = λ i. record { map = s.map; empty = sym (and_true s.empty) i }
-  with_lines-hashes (line ∷ lines) s = with_lines-hashes lines (with_line key s line) ∙ (λ i. record { map = after_hashes (map (line_hash key) (line ∷ lines)) s.map; empty = sym (and_false s.empty (length (map (line_hash key) lines))) i })
+  with_lines-hashes (line ∷ lines) s = with_lines-hashes lines (with_line hashing s line) ∙ (λ i. record { map = after_hashes (map (line_hash hashing) (line ∷ lines)) s.map; empty = sym (and_false s.empty (length (map (line_hash hashing) lines))) i })
 
-  pub held_lines : (s t : Updatable ℕ) (hashes : List ℕ) (lines : List (List ℕ)) → hashes ≡ map (line_hash key) lines → t.map ≡ after_hashes hashes s.map → t.empty ≡ (s.empty && (length hashes == 0)) →
-      held t ≡ with_lines key (held s) lines
-  held_lines s t hashes lines is map_is empty_is =
-      let whole : t.map ≡ after_hashes (map (line_hash key) lines) s.map = map_is ∙ ap (λ hs. after_hashes hs s.map) is in
-      let none : t.empty ≡ (s.empty && (length (map (line_hash key) lines) == 0)) = empty_is ∙ ap (λ hs. s.empty && (length hs == 0)) is in
-      (λ i. record { map = whole i; empty = none i }) ∙ sym (with_lines-hashes lines (held s))
+  pub state_after_lines : (s t : Updatable ℕ) (hashes : List ℕ) (lines : List (List ℕ)) → hashes ≡ map (line_hash hashing) lines → t.map ≡ after_hashes hashes s.map → t.empty ≡ (s.empty && (length hashes == 0)) →
+      state_of t ≡ with_lines hashing (state_of s) lines
+  state_after_lines s t hashes lines is map_is empty_is =
+      let whole : t.map ≡ after_hashes (map (line_hash hashing) lines) s.map = map_is ∙ ap (λ hs. after_hashes hs s.map) is in
+      let none : t.empty ≡ (s.empty && (length (map (line_hash hashing) lines) == 0)) = empty_is ∙ ap (λ hs. s.empty && (length hs == 0)) is in
+      (λ i. record { map = whole i; empty = none i }) ∙ sym (with_lines-hashes lines (state_of s))
 
-  with_lines-append : (lines others : List (List ℕ)) (s : Held) → with_lines key s (lines ++ others) ≡ with_lines key (with_lines key s lines) others
+  with_lines-append : (lines others : List (List ℕ)) (s : LineState) → with_lines hashing s (lines ++ others) ≡ with_lines hashing (with_lines hashing s lines) others
   with_lines-append [] others s = refl
-  with_lines-append (line ∷ lines) others s = with_lines-append lines others (with_line key s line)
+  with_lines-append (line ∷ lines) others s = with_lines-append lines others (with_line hashing s line)
 
   -- after more lines less is left
-  pub leaves_lines : (a : Held) (s t : Updatable ℕ) (text rest others hashes : List ℕ) → Leaves key a text (held s) rest → AreHashesOfLines key rest hashes others →
-      t.map ≡ after_hashes hashes s.map → t.empty ≡ (s.empty && (length hashes == 0)) → Leaves key a text (held t) others
+  pub leaves_lines : (a : LineState) (s t : Updatable ℕ) (text rest others hashes : List ℕ) → Leaves hashing a text (state_of s) rest → AreHashesOfLines hashing rest hashes others →
+      t.map ≡ after_hashes hashes s.map → t.empty ≡ (s.empty && (length hashes == 0)) → Leaves hashing a text (state_of t) others
   leaves_lines a s t text rest others hashes before are map_is empty_is = λ more.
-      before more ∙ ap (with_lines key (held s)) (are.2 more) ∙ with_lines-append are.0 (lines_after [] (others ++ more)) (held s)
-      ∙ ap (λ u. with_lines key u (lines_after [] (others ++ more))) (sym (held_lines s t hashes are.0 are.1 map_is empty_is))
+      before more ∙ ap (with_lines hashing (state_of s)) (are.2 more) ∙ with_lines-append are.0 (lines_after [] (others ++ more)) (state_of s)
+      ∙ ap (λ u. with_lines hashing u (lines_after [] (others ++ more))) (sym (state_after_lines s t hashes are.0 are.1 map_is empty_is))
 
   -- a block without an LF
-  pub takes_lacking : (a : Held) (front block : List ℕ) → Lacks 10 block → Takes key a front block a (front ++ block)
-  takes_lacking a front block lacks = λ more. ap (with_lines key a) (lines_after-lacking front block more lacks)
+  pub takes_lacking : (a : LineState) (front block : List ℕ) → Lacks 10 block → Takes hashing a front block a (front ++ block)
+  takes_lacking a front block lacks = λ more. ap (with_lines hashing a) (lines_after-lacking front block more lacks)
 
   -- a block with one
-  pub takes_block : (a b c : Held) (front block line others rest : List ℕ) → block ≡ line ++ 10 ∷ others → Lacks 10 line → b ≡ with_line key a (front ++ line) → Leaves key b others c rest → Lacks 10 rest → Takes key a front block c ([] ++ rest)
+  pub takes_block : (a b c : LineState) (front block line others rest : List ℕ) → block ≡ line ++ 10 ∷ others → Lacks 10 line → b ≡ with_line hashing a (front ++ line) → Leaves hashing b others c rest → Lacks 10 rest → Takes hashing a front block c ([] ++ rest)
   takes_block a b c front block line others rest is lacks taken leaves rest_lacks = λ more.
-      ap (λ bs. with_lines key a (lines_after front (bs ++ more))) is
-      ∙ ap (λ bs. with_lines key a (lines_after front bs)) (append_assoc line (10 ∷ others) more)
-      ∙ ap (with_lines key a) (lines_after-line front line (others ++ more) lacks)
-      ∙ ap (λ s. with_lines key s (lines_after [] (others ++ more))) (sym taken)
+      ap (λ bs. with_lines hashing a (lines_after front (bs ++ more))) is
+      ∙ ap (λ bs. with_lines hashing a (lines_after front bs)) (append_assoc line (10 ∷ others) more)
+      ∙ ap (with_lines hashing a) (lines_after-line front line (others ++ more) lacks)
+      ∙ ap (λ s. with_lines hashing s (lines_after [] (others ++ more))) (sym taken)
       ∙ leaves more
-      ∙ ap (with_lines key c) (lines_after-lacking [] rest more rest_lacks)
+      ∙ ap (with_lines hashing c) (lines_after-lacking [] rest more rest_lacks)
 
   -- two pieces in turn
-  pub takes_both : (a b c : Held) (front piece mid block after : List ℕ) → Takes key a front piece b mid → Takes key b mid block c after → Takes key a front (piece ++ block) c after
+  pub takes_both : (a b c : LineState) (front piece mid block after : List ℕ) → Takes hashing a front piece b mid → Takes hashing b mid block c after → Takes hashing a front (piece ++ block) c after
   takes_both a b c front piece mid block after first second = λ more.
-      ap (λ bs. with_lines key a (lines_after front bs)) (append_assoc piece block more) ∙ first (block ++ more) ∙ second more
+      ap (λ bs. with_lines hashing a (lines_after front bs)) (append_assoc piece block more) ∙ first (block ++ more) ∙ second more
 
   -- at the end
-  pub takes_all : (a b : Held) (text last : List ℕ) → Takes key a [] text b last → with_lines key a (lines_of text) ≡ with_lines key b (lines_after last [])
+  pub takes_all : (a b : LineState) (text last : List ℕ) → Takes hashing a [] text b last → with_lines hashing a (lines_of text) ≡ with_lines hashing b (lines_after last [])
   takes_all a b text last takes =
-      ap (with_lines key a) (sym (lines_whole text)) ∙ ap (λ bs. with_lines key a (lines_after [] bs)) (sym (append-nil text)) ∙ takes []
+      ap (with_lines hashing a) (sym (lines_whole text)) ∙ ap (λ bs. with_lines hashing a (lines_after [] bs)) (sym (append-nil text)) ∙ takes []

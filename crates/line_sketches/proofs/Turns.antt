@@ -2,8 +2,8 @@
 use Rattle.std.proofs.Common.{◌≡◌, ℕ, List, [], ◌∷◌, ◌++◌, Option, Some, None, refl, sym, ap, subst, ◌∙◌, append_assoc, append-nil}
 use Rattle.std.specs.Prelude.{IfSome}
 use Rattle.lines.specs.Lines.{lines_of, lines_of_all}
-use Rattle.lines.specs.declared.key.Key.{Key}
-use Rattle.line_sketches.specs.Keys.{Held, with_line, with_lines}
+use Rattle.lines.specs.declared.key.Hashing.{Hashing}
+use Rattle.line_sketches.specs.Keys.{LineState, with_line, with_lines}
 use Rattle.line_sketches.specs.Sources.{IsFirst, GivesNext, LeadsTo, Continues}
 
 pub if_some : {T : Type 0} (o : Option T) (P Q : T → Type 0) → ((x : T) → P x → Q x) → IfSome o P → IfSome o Q
@@ -14,36 +14,36 @@ pub if_any : {T : Type 0} (o : Option T) → IfSome o (λ x. Unit {0})
 if_any None = tt
 if_any (Some x) = tt
 
-module _ (key : Key) where
-  with_lines-append : (s : Held) (xs ys : List (List ℕ)) → with_lines key s (xs ++ ys) ≡ with_lines key (with_lines key s xs) ys
+module _ (hashing : Hashing) where
+  with_lines-append : (s : LineState) (xs ys : List (List ℕ)) → with_lines hashing s (xs ++ ys) ≡ with_lines hashing (with_lines hashing s xs) ys
   with_lines-append s [] ys = refl
-  with_lines-append s (x ∷ xs) ys = with_lines-append (with_line key s x) xs ys
+  with_lines-append s (x ∷ xs) ys = with_lines-append (with_line hashing s x) xs ys
 
-  pub leads_itself : (texts : Option (List (List ℕ))) (s : Held) → LeadsTo key texts s texts s
+  pub leads_itself : (texts : Option (List (List ℕ))) (s : LineState) → LeadsTo hashing texts s texts s
   leads_itself None s = tt
   leads_itself (Some texts) s = refl
 
   module _ {S : Type 0} (remaining : S → Option (List ℕ)) where
-    one_more : (texts : List (List ℕ)) (left : List (List ℕ)) (s t u : Held) (source : S) (new : Option (List (List ℕ))) → with_lines key s (lines_of_all texts) ≡ with_lines key t (lines_of_all left) →
-        IsFirst remaining left source new → IfSome (remaining source) (λ text. u ≡ with_lines key t (lines_of text)) → LeadsTo key (Some texts) s new u
+    one_more : (texts : List (List ℕ)) (left : List (List ℕ)) (s t u : LineState) (source : S) (new : Option (List (List ℕ))) → with_lines hashing s (lines_of_all texts) ≡ with_lines hashing t (lines_of_all left) →
+        IsFirst remaining left source new → IfSome (remaining source) (λ text. u ≡ with_lines hashing t (lines_of text)) → LeadsTo hashing (Some texts) s new u
     one_more texts left s t u source new so_far first taken =
-        let is : u ≡ with_lines key t (lines_of first.text) = subst (λ (o : Option (List ℕ)). IfSome o (λ text. u ≡ with_lines key t (lines_of text))) first.has taken in
-        subst (λ (o : Option (List (List ℕ))). LeadsTo key (Some texts) s o u) (sym first.leaves)
-        (so_far ∙ ap (λ ts. with_lines key t (lines_of_all ts)) first.parted ∙ with_lines-append t (lines_of first.text) (lines_of_all first.texts_left) ∙ ap (λ v. with_lines key v (lines_of_all first.texts_left)) (sym is))
+        let is : u ≡ with_lines hashing t (lines_of first.text) = subst (λ (o : Option (List ℕ)). IfSome o (λ text. u ≡ with_lines hashing t (lines_of text))) first.has taken in
+        subst (λ (o : Option (List (List ℕ))). LeadsTo hashing (Some texts) s o u) (sym first.leaves)
+        (so_far ∙ ap (λ ts. with_lines hashing t (lines_of_all ts)) first.parted ∙ with_lines-append t (lines_of first.text) (lines_of_all first.texts_left) ∙ ap (λ v. with_lines hashing v (lines_of_all first.texts_left)) (sym is))
 
     -- one more source
-    pub leads_next : (old now new : Option (List (List ℕ))) (s t u : Held) (o : Option S) (source : S) → LeadsTo key old s now t → GivesNext remaining now new o → o ≡ Some source →
-        IfSome (remaining source) (λ text. u ≡ with_lines key t (lines_of text)) → LeadsTo key old s new u
+    pub leads_next : (old now new : Option (List (List ℕ))) (s t u : LineState) (o : Option S) (source : S) → LeadsTo hashing old s now t → GivesNext remaining now new o → o ≡ Some source →
+        IfSome (remaining source) (λ text. u ≡ with_lines hashing t (lines_of text)) → LeadsTo hashing old s new u
     leads_next None now new s t u o source so_far gives is taken = tt
     leads_next (Some texts) None new s t u o source so_far gives is taken = absurd so_far
     leads_next (Some texts) (Some left) new s t u o source so_far gives is taken = one_more texts left s t u source new so_far (subst (GivesNext remaining (Some left) new) is gives) taken
 
     -- at the end
-    pub leads_end : (old now new : Option (List (List ℕ))) (s t : Held) (o : Option S) (P : List (List ℕ) → Type 0) → LeadsTo key old s now t → GivesNext remaining now new o → o ≡ None →
-        ((texts : List (List ℕ)) → t ≡ with_lines key s (lines_of_all texts) → P texts) → IfSome old P
+    pub leads_end : (old now new : Option (List (List ℕ))) (s t : LineState) (o : Option S) (P : List (List ℕ) → Type 0) → LeadsTo hashing old s now t → GivesNext remaining now new o → o ≡ None →
+        ((texts : List (List ℕ)) → t ≡ with_lines hashing s (lines_of_all texts) → P texts) → IfSome old P
     leads_end None now new s t o P so_far gives is then = tt
     leads_end (Some texts) None new s t o P so_far gives is then = absurd so_far
-    leads_end (Some texts) (Some left) new s t o P so_far gives is then = then texts (sym (so_far ∙ ap (λ ts. with_lines key t (lines_of_all ts)) (subst (GivesNext remaining (Some left) new) is gives)))
+    leads_end (Some texts) (Some left) new s t o P so_far gives is then = then texts (sym (so_far ∙ ap (λ ts. with_lines hashing t (lines_of_all ts)) (subst (GivesNext remaining (Some left) new) is gives)))
 
 -- ---- what holds of all texts that were read
 

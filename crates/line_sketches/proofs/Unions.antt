@@ -1,5 +1,5 @@
 -- Sketches that are united one after another.
-use Rattle.std.proofs.Common.{◌≡◌, ℕ, ◌^◌, ◌≤◌, true, false, cond, List, [], ◌∷◌, ◌++◌, None, arith, refl, sym, ap, ◌∙◌}
+use Rattle.std.proofs.Common.{◌≡◌, ℕ, ◌^◌, ◌<◌, ◌≤◌, true, false, cond, List, [], ◌∷◌, ◌++◌, None, arith, refl, sym, ap, ◌∙◌}
 use Rattle.core_compact.specs.CompactState.{Compact, compact_value}
 use Rattle.core_laws.specs.Maps.{map_of}
 use Rattle.core_laws.specs.Entries.{hash_key, first_hash}
@@ -10,7 +10,6 @@ use Rattle.core_laws.specs.Shown.{Shown, shown_value}
 use Rattle.core_laws.proofs.operators.Unions.{nonempties-more, union_of_union}
 use Rattle.std.proofs.lemmas.Bool.Decides.{nat_tests}
 use Rattle.sketch_base.specs.Seed.{seed_hash}
-use Rattle.sketch_base.specs.declared.seed.TheConstants.{DEFAULT_UPDATE_SEED}
 use Rattle.core_laws.specs.declared.TheConstants.{MAX_THETA}
 use Rattle.theta_sketches.specs.Image.{Reads}
 use Rattle.core_laws.specs.Settings.{settings_refusal}
@@ -39,53 +38,56 @@ joined_next old new values (NonEmpty v) so_far join =
     ∙ sym (union_of_union hash_key first_hash (λ x y same. same) (2 ^ old.lg_k) old.start values (NonEmpty v))
 
 -- the settings of a union stay
-made_same : {P : Type 0} (lg_k : ℕ) (old new : Union ℕ P) → old ≡ record (empty_union lg_k MAX_THETA (seed_hash DEFAULT_UPDATE_SEED) old.policy) { empty = old.empty; held = old.held } → new ≡ record old { empty = new.empty; held = new.held } →
-    new ≡ record (empty_union lg_k MAX_THETA (seed_hash DEFAULT_UPDATE_SEED) new.policy) { empty = new.empty; held = new.held }
-made_same {P} lg_k old new was made =
+made_same : {P : Type 0} (seed lg_k : ℕ) (old new : Union ℕ P) → old ≡ record (empty_union lg_k MAX_THETA (seed_hash seed) old.policy) { empty = old.empty; held = old.held } → new ≡ record old { empty = new.empty; held = new.held } →
+    new ≡ record (empty_union lg_k MAX_THETA (seed_hash seed) new.policy) { empty = new.empty; held = new.held }
+made_same {P} seed lg_k old new was made =
     let again : Union ℕ P → Union ℕ P = λ u. record u { empty = new.empty; held = new.held } in
-    let policy : P → Union ℕ P = λ p. record (empty_union lg_k MAX_THETA (seed_hash DEFAULT_UPDATE_SEED) p) { empty = new.empty; held = new.held } in
+    let policy : P → Union ℕ P = λ p. record (empty_union lg_k MAX_THETA (seed_hash seed) p) { empty = new.empty; held = new.held } in
     made ∙ ap again was ∙ ap policy (sym (ap (λ u. u.policy) made))
 
 -- one more image
-are_read-more : (images : List (List ℕ)) (sketches : List (Compact ℕ)) (image : List ℕ) (s : Compact ℕ) → AreRead images sketches → Reads image (seed_hash DEFAULT_UPDATE_SEED) s → AreRead (images ++ image ∷ []) (sketches ++ s ∷ [])
-are_read-more [] [] image s all one = (one, tt)
-are_read-more [] (t ∷ ts) image s all one = absurd all
-are_read-more (b ∷ bs) [] image s all one = absurd all
-are_read-more (b ∷ bs) (t ∷ ts) image s all one = (all.0, are_read-more bs ts image s all.1 one)
+are_read-more : (seed : ℕ) (images : List (List ℕ)) (sketches : List (Compact ℕ)) (image : List ℕ) (s : Compact ℕ) → AreRead seed images sketches → Reads image (seed_hash seed) s → AreRead seed (images ++ image ∷ []) (sketches ++ s ∷ [])
+are_read-more seed [] [] image s all one = (one, tt)
+are_read-more seed [] (t ∷ ts) image s all one = absurd all
+are_read-more seed (b ∷ bs) [] image s all one = absurd all
+are_read-more seed (b ∷ bs) (t ∷ ts) image s all one = (all.0, are_read-more seed bs ts image s all.1 one)
 
 values-more : (sketches : List (Compact ℕ)) (s : Compact ℕ) → values_of_sketches (sketches ++ s ∷ []) ≡ values_of_sketches sketches ++ compact_value hash_key s ∷ []
 values-more [] s = refl
 values-more (t ∷ ts) s = ap (λ vs. compact_value hash_key t ∷ vs) (values-more ts s)
 
-pub image_more : {P : Type 0} (lg_k : ℕ) (images : List (List ℕ)) (image : List ℕ) (s : Compact ℕ) (old new : Union ℕ P) (shows : Shown) (listing : List ℕ) → HasUnited lg_k images old → Reads image (seed_hash DEFAULT_UPDATE_SEED) s →
+pub image_more : {P : Type 0} (seed lg_k : ℕ) (images : List (List ℕ)) (image : List ℕ) (s : Compact ℕ) (old new : Union ℕ P) (shows : Shown) (listing : List ℕ) → HasUnited seed lg_k images old → Reads image (seed_hash seed) s →
     (shows.empty ≡ true → new ≡ old) → (shows.empty ≡ false → union_value hash_key new ≡ unite hash_key first_hash (2 ^ old.lg_k) old.start (union_value hash_key old ∷ shown_value hash_key shows listing ∷ [])) →
-    shown_value hash_key shows listing ≡ compact_value hash_key s → new ≡ record old { empty = new.empty; held = new.held } → HasUnited lg_k (images ++ image ∷ []) new
-image_more lg_k images image s old new shows listing has reads skipped joins is made =
+    shown_value hash_key shows listing ≡ compact_value hash_key s → new ≡ record old { empty = new.empty; held = new.held } → HasUnited seed lg_k (images ++ image ∷ []) new
+image_more seed lg_k images image s old new shows listing has reads skipped joins is made =
     let lg : old.lg_k ≡ lg_k = ap (λ u. u.lg_k) has.made in
     let start : old.start ≡ MAX_THETA = ap (λ u. u.start) has.made in
     let by : ℕ → ℕ → List (Sketch ℕ) → Sketch ℕ = λ l t vs. unite hash_key first_hash (2 ^ l) t vs in
     let so_far : union_value hash_key old ≡ by old.lg_k old.start (values_of_sketches has.sketches) = has.value ∙ ap (λ l. by l MAX_THETA (values_of_sketches has.sketches)) (sym lg) ∙ ap (λ t. by old.lg_k t (values_of_sketches has.sketches)) (sym start) in record {
       sketches = has.sketches ++ s ∷ [];
-      are_read = are_read-more images has.sketches image s has.are_read reads;
+      are_read = are_read-more seed images has.sketches image s has.are_read reads;
       value =
           joined_next old new (values_of_sketches has.sketches) (shown_value hash_key shows listing) so_far (joins_shown old new shows listing skipped joins)
           ∙ ap (λ l. by l old.start (values_of_sketches has.sketches ++ shown_value hash_key shows listing ∷ [])) lg
           ∙ ap (λ t. by lg_k t (values_of_sketches has.sketches ++ shown_value hash_key shows listing ∷ [])) start
           ∙ ap (λ v. by lg_k MAX_THETA (values_of_sketches has.sketches ++ v ∷ [])) is
           ∙ ap (by lg_k MAX_THETA) (sym (values-more has.sketches s));
-      made = made_same lg_k old new has.made made;
+      made = made_same seed lg_k old new has.made made;
     }
 
 -- a new union has united nothing
-pub nothing_united : {P : Type 0} (lg_k : ℕ) (u : Union ℕ P) → u ≡ empty_union lg_k MAX_THETA (seed_hash DEFAULT_UPDATE_SEED) u.policy → HasUnited lg_k [] u
-nothing_united {P} lg_k u is =
-    let with_policy : P → Union ℕ P = λ p. empty_union lg_k MAX_THETA (seed_hash DEFAULT_UPDATE_SEED) p in record {
+pub nothing_united : {P : Type 0} (seed lg_k : ℕ) (u : Union ℕ P) → u ≡ empty_union lg_k MAX_THETA (seed_hash seed) u.policy → HasUnited seed lg_k [] u
+nothing_united {P} seed lg_k u is =
+    let with_policy : P → Union ℕ P = λ p. empty_union lg_k MAX_THETA (seed_hash seed) p in record {
       sketches = [];
       are_read = tt;
       value = ap (union_value hash_key) is;
       made = is ∙ (λ i. record (with_policy u.policy) { empty = sym (ap (λ v. v.empty) is) i; held = sym (ap (λ v. v.held) is) i });
     }
 
--- the sizes of a union
-pub size_small : (lg_k : ℕ) → settings_refusal lg_k MAX_THETA DEFAULT_UPDATE_SEED ≡ None → lg_k ≤ 26
-size_small lg_k is = grind (arith, nat_tests)
+-- the settings of a union
+pub size_small : (seed lg_k : ℕ) → settings_refusal lg_k MAX_THETA seed ≡ None → lg_k ≤ 26
+size_small seed lg_k is = grind (arith, nat_tests)
+
+pub seeded : (seed lg_k : ℕ) → settings_refusal lg_k MAX_THETA seed ≡ None → 0 < seed_hash seed
+seeded seed lg_k is = grind (arith, nat_tests)

@@ -1,14 +1,14 @@
 -- Bytes as text: two hexadecimal digits each.
-use Rattle.std.specs.Prelude.{ℕ, ◌+◌, ◌-◌, ◌*◌, ◌/◌, ◌%◌, ◌&&◌, nat_lt, nat_le, List, [], ◌∷◌, Option, Some, None, if◌then◌else◌}
+use Rattle.std.specs.Prelude.{ℕ, ◌+◌, ◌-◌, ◌*◌, ◌/◌, ◌%◌, ◌&&◌, nat_lt, nat_le, Bool, true, is_some, List, [], ◌∷◌, Option, Some, None, if◌then◌else◌}
 
 -- a digit from 0 to 15 as a letter
-abbrev pub hex_digit : ℕ → ℕ
-hex_digit n = if nat_lt n 10 then 48 + n else 87 + n
+abbrev pub digit_letter : ℕ → ℕ
+digit_letter n = if nat_lt n 10 then 48 + n else 87 + n
 
 -- bytes as letters, the high digit first
 abbrev pub hex_of : List ℕ → List ℕ
 hex_of [] = []
-hex_of (byte ∷ bytes) = hex_digit (byte / 16) ∷ hex_digit (byte % 16) ∷ hex_of bytes
+hex_of (byte ∷ bytes) = digit_letter (byte / 16) ∷ digit_letter (byte % 16) ∷ hex_of bytes
 
 -- the digit of a letter, of either case
 abbrev pub digit_of : ℕ → Option ℕ
@@ -17,6 +17,11 @@ digit_of c =
     else if nat_le 97 c && nat_le c 102 then Some (c - 87)
     else if nat_le 65 c && nat_le c 70 then Some (c - 55)
     else None
+
+-- whether all letters are digits, of either case
+abbrev pub are_digits : List ℕ → Bool
+are_digits [] = true
+are_digits (letter ∷ letters) = is_some (digit_of letter) && are_digits letters
 
 -- the byte of two digits
 abbrev pub pair_of : (high low : Option ℕ) → Option ℕ

@@ -1,7 +1,6 @@
 -- The hashes of lines, and their sketch.
 use Rattle.std.specs.Prelude.{ℕ, ◌≡◌, ◌⊎◌, ◌^◌, Bool, true, false, List, [], ◌∷◌, map}
 use Rattle.sketch_base.specs.Seed.{seed_hash}
-use Rattle.sketch_base.specs.declared.seed.TheConstants.{DEFAULT_UPDATE_SEED}
 use Rattle.core_compact.specs.CompactState.{Compact, empty_compact}
 use Rattle.core_laws.specs.Entries.{hash_step, hash_key}
 use Rattle.core_laws.specs.declared.leaf.LeafStep.{LeafStep}
@@ -15,25 +14,25 @@ use Rattle.core_laws.specs.declared.TheConstants.{MAX_THETA}
 use Rattle.theta_sketches.specs.Image.{written}
 use Rattle.lines.specs.Keys.{line_hash}
 use Rattle.lines.specs.Lines.{lines_of}
-use Rattle.lines.specs.declared.key.Key.{Key}
+use Rattle.lines.specs.declared.key.Hashing.{Hashing}
 
 -- lines, as the steps of a leaf
-abbrev pub adds : Key → List (List ℕ) → List (LeafStep (Unit {0}))
-adds key lines = map (λ line. Add (line_hash key line) tt) lines
+abbrev pub line_steps : Hashing → List (List ℕ) → List (LeafStep (Unit {0}))
+line_steps hashing lines = map (λ line. Add (line_hash hashing line) tt) lines
 
 -- the set of the hashes of lines
-abbrev pub key_set : Key → List (List ℕ) → List ℕ
-key_set key lines = added (adds key lines)
+abbrev pub key_set : Hashing → List (List ℕ) → List ℕ
+key_set hashing lines = added (line_steps hashing lines)
 
 -- the value of lines: the k smallest of the set of their hashes, and Empty if there are no lines
-abbrev pub value_of_lines : Key → (lg_k : ℕ) → List (List ℕ) → Sketch ℕ
-value_of_lines key lg_k [] = Empty
-value_of_lines key lg_k (line ∷ lines) = NonEmpty (kmin (2 ^ lg_k) (key_set key (line ∷ lines)) MAX_THETA)
+abbrev pub value_of_lines : Hashing → (lg_k : ℕ) → List (List ℕ) → Sketch ℕ
+value_of_lines hashing lg_k [] = Empty
+value_of_lines hashing lg_k (line ∷ lines) = NonEmpty (kmin (2 ^ lg_k) (key_set hashing (line ∷ lines)) MAX_THETA)
 
--- the ordered sketch of a value
-abbrev pub ordered_sketch : Sketch ℕ → Compact ℕ
-ordered_sketch Empty = empty_compact (seed_hash DEFAULT_UPDATE_SEED)
-ordered_sketch (NonEmpty v) = record { empty = false; entries = v.entries; theta = v.theta; seed_hash = seed_hash DEFAULT_UPDATE_SEED; ordered = true }
+-- the ordered sketch of a value, under this seed
+abbrev pub sketch_of_value : (seed : ℕ) → Sketch ℕ → Compact ℕ
+sketch_of_value seed Empty = empty_compact (seed_hash seed)
+sketch_of_value seed (NonEmpty v) = record { empty = false; entries = v.entries; theta = v.theta; seed_hash = seed_hash seed; ordered = true }
 
 -- a line is among lines
 abbrev pub IsAmong : (line : List ℕ) → List (List ℕ) → Type 0
@@ -45,29 +44,29 @@ abbrev pub HaveSameLines : (lines others : List (List ℕ)) → Type 0
 HaveSameLines lines others = ((line : List ℕ) → IsAmong line lines → IsAmong line others) × ((line : List ℕ) → IsAmong line others → IsAmong line lines)
 
 -- the image of lines
-abbrev pub image_of_lines : Key → (lg_k : ℕ) → List (List ℕ) → List ℕ
-image_of_lines key lg_k lines = written (ordered_sketch (value_of_lines key lg_k lines))
+abbrev pub image_of_lines : Hashing → (lg_k : ℕ) → List (List ℕ) → List ℕ
+image_of_lines hashing lg_k lines = written (sketch_of_value hashing.seed (value_of_lines hashing lg_k lines))
 
 -- the image of a text's lines
-abbrev pub image_of_text : Key → (lg_k : ℕ) → List ℕ → List ℕ
-image_of_text key lg_k text = written (ordered_sketch (value_of_lines key lg_k (lines_of text)))
+abbrev pub image_of_text : Hashing → (lg_k : ℕ) → List ℕ → List ℕ
+image_of_text hashing lg_k text = written (sketch_of_value hashing.seed (value_of_lines hashing lg_k (lines_of text)))
 
 -- the state of a sketch without the order of its listing
-pub record Held : Type 0 where
+pub record LineState : Type 0 where
   pub map : MapTable ℕ
   pub empty : Bool
 
-abbrev pub held : Updatable ℕ → Held
-held s = record { map = s.map; empty = s.empty }
+abbrev pub state_of : Updatable ℕ → LineState
+state_of s = record { map = s.map; empty = s.empty }
 
 -- the state of a new sketch
-abbrev pub new_held : (lg_k : ℕ) → Held
-new_held lg_k = record { map = empty_table lg_k MAX_THETA DEFAULT_UPDATE_SEED; empty = true }
+abbrev pub new_state : (seed lg_k : ℕ) → LineState
+new_state seed lg_k = record { map = empty_table lg_k MAX_THETA seed; empty = true }
 
 -- the state after one more line, and after more lines
-abbrev pub with_line : Key → Held → List ℕ → Held
-with_line key s line = record { map = record s.map { kept = after_upsert hash_key (2 ^ s.map.lg_nom) (line_hash key line) (hash_step (line_hash key line)) s.map.kept }; empty = false }
+abbrev pub with_line : Hashing → LineState → List ℕ → LineState
+with_line hashing s line = record { map = record s.map { kept = after_upsert hash_key (2 ^ s.map.lg_nom) (line_hash hashing line) (hash_step (line_hash hashing line)) s.map.kept }; empty = false }
 
-abbrev pub with_lines : Key → Held → List (List ℕ) → Held
-with_lines key s [] = s
-with_lines key s (line ∷ lines) = with_lines key (with_line key s line) lines
+abbrev pub with_lines : Hashing → LineState → List (List ℕ) → LineState
+with_lines hashing s [] = s
+with_lines hashing s (line ∷ lines) = with_lines hashing (with_line hashing s line) lines

@@ -4,5 +4,6 @@ pub mod Shards
 pub mod Sources
 pub mod Unions
 pub mod Hex
+pub mod Header
 pub mod Meeting
 pub mod Refusals

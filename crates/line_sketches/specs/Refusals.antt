@@ -5,7 +5,6 @@ use Rattle.std.specs.declared.io.ErrorKind.TheVariants.{Interrupted}
 use Rattle.sketch_base.specs.Seed.{seed_hash}
 use Rattle.sketch_base.specs.declared.error.ErrorKind.{ErrorKind}
 use Rattle.sketch_base.specs.declared.error.ErrorKind.TheVariants.{OutOfMemory, InvalidData}
-use Rattle.sketch_base.specs.declared.seed.TheConstants.{DEFAULT_UPDATE_SEED}
 use Rattle.theta_sketches.specs.Image.{IsReadable}
 use Rattle.line_sketches.specs.declared.sketching.Unread.{Unread}
 use Rattle.line_sketches.specs.declared.sketching.Unread.TheVariants.{Refused, Failed}
@@ -24,29 +23,29 @@ abbrev pub IsLasting : Unread → Type 0
 IsLasting (Refused kind) = ⊤
 IsLasting (Failed error) = error_kind error ≢ Interrupted
 
--- the bytes are not an image of a sketch of the default seed
-abbrev pub IsNoImage : List ℕ → Type 0
-IsNoImage bytes = IsReadable bytes (seed_hash DEFAULT_UPDATE_SEED) → ⊥
+-- the bytes are not an image of a sketch of this seed
+abbrev pub IsNoImage : (seed : ℕ) → List ℕ → Type 0
+IsNoImage seed bytes = IsReadable bytes (seed_hash seed) → ⊥
 
 -- some of these are not an image
-pub record HasNoImage (texts : List (List ℕ)) : Type 0 where
+pub record HasNoImage (seed : ℕ) (texts : List (List ℕ)) : Type 0 where
   pub front : List (List ℕ)
   pub faulty : List ℕ
   pub back : List (List ℕ)
   pub parted : texts ≡ front ++ faulty ∷ back
-  pub no_image : IsNoImage faulty
+  pub no_image : IsNoImage seed faulty
 
 -- one image is not read: memory ran out, or it is not an image, or its source failed
-abbrev pub IsImageRefusal : Option (List ℕ) → Unread → Type 0
-IsImageRefusal image (Refused kind) = (kind ≡ OutOfMemory) ⊎ ((kind ≡ InvalidData) × IfSome image IsNoImage)
-IsImageRefusal image (Failed error) = ⊤
+abbrev pub IsImageRefusal : (seed : ℕ) → Option (List ℕ) → Unread → Type 0
+IsImageRefusal seed image (Refused kind) = (kind ≡ OutOfMemory) ⊎ ((kind ≡ InvalidData) × IfSome image (IsNoImage seed))
+IsImageRefusal seed image (Failed error) = ⊤
 
 -- images are not read, one after another
-abbrev pub IsImagesRefusal : Option (List (List ℕ)) → Unread → Type 0
-IsImagesRefusal images (Refused kind) = (kind ≡ OutOfMemory) ⊎ ((kind ≡ InvalidData) × IfSome images HasNoImage)
-IsImagesRefusal images (Failed error) = ⊤
+abbrev pub IsImagesRefusal : (seed : ℕ) → Option (List (List ℕ)) → Unread → Type 0
+IsImagesRefusal seed images (Refused kind) = (kind ≡ OutOfMemory) ⊎ ((kind ≡ InvalidData) × IfSome images (HasNoImage seed))
+IsImagesRefusal seed images (Failed error) = ⊤
 
 -- images are not united: by a refusal before any is read, or because one is not read
-abbrev pub IsUniteRefusal : Option ErrorKind → Option (List (List ℕ)) → Unread → Type 0
-IsUniteRefusal refusal images (Refused kind) = (refusal ≡ Some kind) ⊎ (kind ≡ OutOfMemory) ⊎ ((kind ≡ InvalidData) × (refusal ≡ None) × IfSome images HasNoImage)
-IsUniteRefusal refusal images (Failed error) = refusal ≡ None
+abbrev pub IsUniteRefusal : (seed : ℕ) → Option ErrorKind → Option (List (List ℕ)) → Unread → Type 0
+IsUniteRefusal seed refusal images (Refused kind) = (refusal ≡ Some kind) ⊎ (kind ≡ OutOfMemory) ⊎ ((kind ≡ InvalidData) × (refusal ≡ None) × IfSome images (HasNoImage seed))
+IsUniteRefusal seed refusal images (Failed error) = refusal ≡ None

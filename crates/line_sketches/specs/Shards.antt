@@ -1,7 +1,6 @@
 -- Texts that are sketched apart, and united.
 use Rattle.std.specs.Prelude.{ℕ, ◌^◌, ⊤, List, [], ◌∷◌, map}
 use Rattle.sketch_base.specs.Seed.{seed_hash}
-use Rattle.sketch_base.specs.declared.seed.TheConstants.{DEFAULT_UPDATE_SEED}
 use Rattle.core_compact.specs.CompactState.{Compact, compact_value}
 use Rattle.core_laws.specs.Entries.{hash_key, first_hash}
 use Rattle.core_laws.specs.Operators.{unite}
@@ -9,32 +8,32 @@ use Rattle.core_laws.specs.Values.{Sketch}
 use Rattle.core_laws.specs.declared.TheConstants.{MAX_THETA}
 use Rattle.theta_sketches.specs.Image.{Reads}
 use Rattle.lines.specs.Lines.{lines_of}
-use Rattle.lines.specs.declared.key.Key.{Key}
-use Rattle.line_sketches.specs.Keys.{value_of_lines, image_of_text, ordered_sketch}
+use Rattle.lines.specs.declared.key.Hashing.{Hashing}
+use Rattle.line_sketches.specs.Keys.{value_of_lines, image_of_text, sketch_of_value}
 
 -- the union of values, as `distinct union` makes it
 abbrev pub united : (lg_k : ℕ) → List (Sketch ℕ) → Sketch ℕ
 united lg_k values = unite hash_key first_hash (2 ^ lg_k) MAX_THETA values
 
 -- the values of texts
-abbrev pub values_of_texts : Key → (lg_k : ℕ) → List (List ℕ) → List (Sketch ℕ)
-values_of_texts key lg_k texts = map (λ text. value_of_lines key lg_k (lines_of text)) texts
+abbrev pub values_of_texts : Hashing → (lg_k : ℕ) → List (List ℕ) → List (Sketch ℕ)
+values_of_texts hashing lg_k texts = map (λ text. value_of_lines hashing lg_k (lines_of text)) texts
 
 -- the images of texts
-abbrev pub images_of_texts : Key → (lg_k : ℕ) → List (List ℕ) → List (List ℕ)
-images_of_texts key lg_k texts = map (λ text. image_of_text key lg_k text) texts
+abbrev pub images_of_texts : Hashing → (lg_k : ℕ) → List (List ℕ) → List (List ℕ)
+images_of_texts hashing lg_k texts = map (λ text. image_of_text hashing lg_k text) texts
 
 -- the values of compact sketches
 abbrev pub values_of_sketches : List (Compact ℕ) → List (Sketch ℕ)
 values_of_sketches sketches = map (λ s. compact_value hash_key s) sketches
 
--- each image is read as its sketch
-abbrev pub AreRead : List (List ℕ) → List (Compact ℕ) → Type 0
-AreRead [] [] = ⊤
-AreRead (bytes ∷ images) (s ∷ sketches) = Reads bytes (seed_hash DEFAULT_UPDATE_SEED) s × AreRead images sketches
-AreRead [] (s ∷ sketches) = ⊥
-AreRead (bytes ∷ images) [] = ⊥
+-- each image is read as its sketch, under this seed
+abbrev pub AreRead : (seed : ℕ) → List (List ℕ) → List (Compact ℕ) → Type 0
+AreRead seed [] [] = ⊤
+AreRead seed (bytes ∷ images) (s ∷ sketches) = Reads bytes (seed_hash seed) s × AreRead seed images sketches
+AreRead seed [] (s ∷ sketches) = ⊥
+AreRead seed (bytes ∷ images) [] = ⊥
 
 -- the sketches of texts
-abbrev pub sketches_of_texts : Key → (lg_k : ℕ) → List (List ℕ) → List (Compact ℕ)
-sketches_of_texts key lg_k texts = map (λ text. ordered_sketch (value_of_lines key lg_k (lines_of text))) texts
+abbrev pub sketches_of_texts : Hashing → (lg_k : ℕ) → List (List ℕ) → List (Compact ℕ)
+sketches_of_texts hashing lg_k texts = map (λ text. sketch_of_value hashing.seed (value_of_lines hashing lg_k (lines_of text))) texts

@@ -1,8 +1,8 @@
 -- Texts, one after another, each with its own reader.
 use Rattle.std.specs.Prelude.{ℕ, ◌≡◌, ⊤, List, [], ◌∷◌, ◌++◌, Option, Some, None}
 use Rattle.lines.specs.Lines.{lines_of_all}
-use Rattle.lines.specs.declared.key.Key.{Key}
-use Rattle.line_sketches.specs.Keys.{Held, with_lines}
+use Rattle.lines.specs.declared.key.Hashing.{Hashing}
+use Rattle.line_sketches.specs.Keys.{LineState, with_lines}
 
 -- the next source has the first text, and the others are left
 pub record IsFirst {S : Type 0} (remaining : S → Option (List ℕ)) (texts : List (List ℕ)) (source : S) (left : Option (List (List ℕ))) : Type 0 where
@@ -19,10 +19,10 @@ GivesNext remaining (Some texts) new None = texts ≡ []
 GivesNext remaining (Some texts) new (Some source) = IsFirst remaining texts source new
 
 -- inserting all old texts into the old state gives the same as inserting the texts that are left into the state now
-abbrev pub LeadsTo : Key → (old : Option (List (List ℕ))) (s : Held) (new : Option (List (List ℕ))) (t : Held) → Type 0
-LeadsTo key None s new t = ⊤
-LeadsTo key (Some texts) s None t = ⊥
-LeadsTo key (Some texts) s (Some left) t = with_lines key s (lines_of_all texts) ≡ with_lines key t (lines_of_all left)
+abbrev pub LeadsTo : Hashing → (old : Option (List (List ℕ))) (s : LineState) (new : Option (List (List ℕ))) (t : LineState) → Type 0
+LeadsTo hashing None s new t = ⊤
+LeadsTo hashing (Some texts) s None t = ⊥
+LeadsTo hashing (Some texts) s (Some left) t = with_lines hashing s (lines_of_all texts) ≡ with_lines hashing t (lines_of_all left)
 
 -- this holds of the texts that were read, and the others are left
 abbrev pub Continues : (old new : Option (List (List ℕ))) → (List (List ℕ) → Type 0) → Type 0

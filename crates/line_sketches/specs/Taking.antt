@@ -2,17 +2,17 @@
 use Rattle.std.specs.Prelude.{ℕ, ◌≡◌, List, [], ◌++◌, map}
 use Rattle.lines.specs.Keys.{line_hash}
 use Rattle.lines.specs.Lines.{lines_after}
-use Rattle.lines.specs.declared.key.Key.{Key}
-use Rattle.line_sketches.specs.Keys.{Held, with_lines}
+use Rattle.lines.specs.declared.key.Hashing.{Hashing}
+use Rattle.line_sketches.specs.Keys.{LineState, with_lines}
 
 -- A piece leads from a state and an open line to another state and another open line: with any continuation of the text, both give the same.
-abbrev pub Takes : Key → (old : Held) (front piece : List ℕ) (new : Held) (left : List ℕ) → Type 0
-Takes key old front piece new left = (more : List ℕ) → with_lines key old (lines_after front (piece ++ more)) ≡ with_lines key new (lines_after left more)
+abbrev pub Takes : Hashing → (old : LineState) (front piece : List ℕ) (new : LineState) (left : List ℕ) → Type 0
+Takes hashing old front piece new left = (more : List ℕ) → with_lines hashing old (lines_after front (piece ++ more)) ≡ with_lines hashing new (lines_after left more)
 
 -- The same, if the rest of the piece is not inserted yet.
-abbrev pub Leaves : Key → (old : Held) (piece : List ℕ) (new : Held) (left : List ℕ) → Type 0
-Leaves key old piece new left = (more : List ℕ) → with_lines key old (lines_after [] (piece ++ more)) ≡ with_lines key new (lines_after [] (left ++ more))
+abbrev pub Leaves : Hashing → (old : LineState) (piece : List ℕ) (new : LineState) (left : List ℕ) → Type 0
+Leaves hashing old piece new left = (more : List ℕ) → with_lines hashing old (lines_after [] (piece ++ more)) ≡ with_lines hashing new (lines_after [] (left ++ more))
 
 -- Some first lines of a text have these hashes, and `rest` follows them: with any continuation, the text's lines are these and then those of the rest and the continuation.
-abbrev pub AreHashesOfLines : Key → (text hashes rest : List ℕ) → Type 0
-AreHashesOfLines key text hashes rest = (lines : List (List ℕ)) × (hashes ≡ map (line_hash key) lines) × ((more : List ℕ) → lines_after [] (text ++ more) ≡ lines ++ lines_after [] (rest ++ more))
+abbrev pub AreHashesOfLines : Hashing → (text hashes rest : List ℕ) → Type 0
+AreHashesOfLines hashing text hashes rest = (lines : List (List ℕ)) × (hashes ≡ map (line_hash hashing) lines) × ((more : List ℕ) → lines_after [] (text ++ more) ≡ lines ++ lines_after [] (rest ++ more))

@@ -1,13 +1,13 @@
 //! Images as text: two hexadecimal digits per byte.
 ghost use Rattle.std.specs.Prelude.{◌≡◌, ◌++◌, ◌∷◌, ◌<◌, ℕ, List, [], Option, Some, None, IfOk, IfSome, OnOk, MatchOption};
-ghost use Rattle.line_sketches.specs.Hex.{hex_digit, hex_of, digit_of, pair_of, bytes_of_hex};
+ghost use Rattle.line_sketches.specs.Hex.{digit_letter, hex_of, digit_of, are_digits, pair_of, bytes_of_hex};
 
 use std::alloc::{AllocError, Allocator};
 
 /// The letter of a digit.
-fn hex_digit(digit: u8) -> u8
+fn digit_letter(digit: u8) -> u8
     requires { digit < 16 }
-    ensures { result ≡ hex_digit digit }
+    ensures { result ≡ digit_letter digit }
 {
     if digit < 10 { 48 + digit } else { 87 + digit }
 }
@@ -16,8 +16,8 @@ fn hex_digit(digit: u8) -> u8
 fn put_byte<A: Allocator>(line: &mut Vec<u8, A>, byte: u8) -> Result<(), AllocError>
     ensures { OnOk result (line.new.items ≡ line.old.items ++ hex_of (byte ∷ [])) }
 {
-    line.push(hex_digit(byte / 16))?;
-    line.push(hex_digit(byte % 16))?;
+    line.push(digit_letter(byte / 16))?;
+    line.push(digit_letter(byte % 16))?;
     Ok(())
 }
 
@@ -45,6 +45,18 @@ fn digit_of(letter: u8) -> Option<u8>
         b'A'..=b'F' => Some(letter - 55),
         _ => None,
     }
+}
+
+/// Whether all bytes are hexadecimal digits, of either case.
+pub(crate) fn are_digits(letters: &[u8]) -> bool
+    ensures { result ≡ are_digits letters.now }
+{
+    'test_each: for letter in letters {
+        if digit_of(*letter).is_none() {
+            return false;
+        }
+    }
+    true
 }
 
 /// The byte of two letters.

@@ -8,11 +8,13 @@
 //!
 //! ```
 //! let mut block = vec![in alloc; 0u8; BLOCK]?;
-//! let sketch = sketch_lines(alloc, Key::Line, 12, &mut reader, &mut block, &mut watch)?;
+//! let hashing = Hashing { key: Key::Line, seed: 9001 };
+//! let sketch = sketch_lines(alloc, hashing, 12, &mut reader, &mut block, &mut watch)?;
 //! let line = hex_line(alloc, image_of(&sketch)?.as_slice())?;
 //! ```
 #![tactic(auto)]
 
+mod header;
 mod hex;
 mod images;
 pub mod laws;
@@ -20,8 +22,9 @@ mod sketching;
 mod sources;
 mod uniting;
 
+pub use header::{Flaw, entry_count, flaw_of, image_length};
 pub use hex::{hex_line, read_hex};
-pub use images::{image_of, lacked, met, read_image};
+pub use images::{difference, image_of, intersection, read_image};
 pub use sketching::{Unread, Watch, add_lines, finished, new_sketch, sketch_lines};
 pub use sources::{BLOCK, Sources, Texts, add_sources, sketch_sources};
 pub use uniting::{image_of_texts, unite_images};

@@ -1,17 +1,16 @@
 //! Sketches of the lines of a reader.
 ghost use Rattle.std.specs.Prelude.{◌≡◌, ◌+◌, ◌<◌, ◌≤◌, ℕ, List, [], length, take, IfOk, IfErr, OnOk, IfSome, None, true};
-ghost use Rattle.sketch_base.specs.declared.seed.TheConstants.{DEFAULT_UPDATE_SEED};
 ghost use Rattle.core_laws.specs.Refusal.{Refuses};
 ghost use Rattle.core_laws.specs.Settings.{settings_refusal};
 ghost use Rattle.core_laws.specs.declared.TheConstants.{MAX_THETA};
 ghost use Rattle.lines.specs.Lines.{lines_of, lines_after, Lacks};
 ghost use Rattle.lines.specs.Open.{IsOpen};
-ghost use Rattle.lines.specs.declared.key.Key.{Key};
-ghost use Rattle.line_sketches.specs.Keys.{held, new_held, with_lines, value_of_lines, ordered_sketch};
+ghost use Rattle.lines.specs.declared.key.Hashing.{Hashing};
+ghost use Rattle.line_sketches.specs.Keys.{state_of, new_state, with_lines, value_of_lines, sketch_of_value};
 ghost use Rattle.line_sketches.specs.Taking.{Takes, Leaves, AreHashesOfLines};
 ghost use Rattle.line_sketches.specs.Refusals.{RefusesRead, IsLasting};
 
-use lines::{Key, OpenLine, cut_line, line_hash};
+use lines::{Hashing, OpenLine, cut_line, line_hash};
 use sketch_base::Error;
 use std::alloc::{AllocError, Allocator};
 use std::io;
@@ -21,8 +20,8 @@ use theta_sketches::{CompactThetaSketch, ThetaSketch, ThetaSketchBuilder};
 /// Why lines or images were not read.
 #[derive(Debug, Drop)]
 pub enum Unread {
-    /// Memory was refused (`OutOfMemory`), an `lg_k` isn't from 4 to 26, or a sketch is of another seed
-    /// (`InvalidArgument`), or a source is not an image (`InvalidData`).
+    /// Memory was refused (`OutOfMemory`), an `lg_k` isn't from 4 to 26, the seed hash is 0, or a sketch is of another
+    /// seed (`InvalidArgument`), or a source is not an image (`InvalidData`).
     Refused(Error),
     /// A source failed, or couldn't be opened.
     Failed(io::Error),
@@ -57,13 +56,20 @@ pub trait Watch {
     fn saw<A: Allocator>(&mut self, bytes: usize, lines: u64, sketch: &ThetaSketch<A>);
 }
 
-/// A new sketch of 2^`lg_k` nominal entries. Refused with `InvalidArgument` for an `lg_k` that isn't from 4 to 26, and with
-/// `OutOfMemory`.
-pub fn new_sketch<A: Allocator + Drop>(alloc: A, lg_k: u8) -> Result<ThetaSketch<A>, Error>
-    ensures new { IfOk result (λ s. held s ≡ new_held lg_k) }
-    ensures refused { Refuses result (settings_refusal lg_k MAX_THETA DEFAULT_UPDATE_SEED) true }
+/// A new sketch of 2^`lg_k` nominal entries, under this seed. Refused with `InvalidArgument` for an `lg_k` that isn't
+/// from 4 to 26 or a seed whose seed hash is 0, and with `OutOfMemory`.
+pub fn new_sketch<A: Allocator + Drop>(
+    alloc: A,
+    seed: u64,
+    lg_k: u8,
+) -> Result<ThetaSketch<A>, Error>
+    ensures new { IfOk result (λ s. state_of s ≡ new_state seed lg_k) }
+    ensures refused { Refuses result (settings_refusal lg_k MAX_THETA seed) true }
 {
-    ThetaSketchBuilder::default().lg_k(lg_k).build(alloc)
+    ThetaSketchBuilder::default()
+        .lg_k(lg_k)
+        .seed(seed)
+        .build(alloc)
 }
 
 /// How many lines are hashed before their hashes are inserted together.
@@ -71,9 +77,9 @@ const LINES_AT_ONCE: usize = 256;
 
 /// Hashes the first lines of a text that end in an LF, in order, into `hashes`: all of them, or as many as there is
 /// room for. Returns their number and the text after the last of them.
-fn hash_lines<'a>(key: Key, text: &'a [u8], hashes: &mut [u64]) -> (usize, &'a [u8])
+fn hash_lines<'a>(hashing: Hashing, text: &'a [u8], hashes: &mut [u64]) -> (usize, &'a [u8])
     ensures few { result.0 ≤ length hashes.old }
-    ensures lines { AreHashesOfLines key text.now (take result.0 hashes.new) result.1.now }
+    ensures lines { AreHashesOfLines hashing text.now (take result.0 hashes.new) result.1.now }
     ensures all { result.0 < length hashes.old → Lacks 10 result.1.now }
     ensures shorter { length result.1.now + result.0 ≤ length text.now }
 {
@@ -83,7 +89,7 @@ fn hash_lines<'a>(key: Key, text: &'a [u8], hashes: &mut [u64]) -> (usize, &'a [
         let Some((line, others)) = cut_line(rest) else {
             return (count, rest);
         };
-        *hash = line_hash(key, line);
+        *hash = line_hash(hashing, line);
         rest = others;
         count += 1;
     }
@@ -93,18 +99,18 @@ fn hash_lines<'a>(key: Key, text: &'a [u8], hashes: &mut [u64]) -> (usize, &'a [
 /// Inserts the lines of a text that end in an LF. Returns the text after the last of them, and their number.
 fn take_lines<'a, A: Allocator + Clone>(
     sketch: &mut ThetaSketch<A>,
-    key: Key,
+    hashing: Hashing,
     text: &'a [u8],
 ) -> Result<(&'a [u8], u64), Error>
     ensures lacks { IfOk result (λ x. Lacks 10 x.0.now) }
-    ensures leaves { IfOk result (λ x. Leaves key (held sketch.old) text.now (held sketch.new) x.0.now) }
+    ensures leaves { IfOk result (λ x. Leaves hashing (state_of sketch.old) text.now (state_of sketch.new) x.0.now) }
     ensures refused { Refuses result None true }
 {
     let mut hashes = [0u64; LINES_AT_ONCE];
     let mut rest = text;
     let mut count = 0u64;
     'take_some: loop {
-        let (lines, behind) = hash_lines(key, rest, &mut hashes);
+        let (lines, behind) = hash_lines(hashing, rest, &mut hashes);
         sketch.update_hashes(&hashes[..lines])?;
         rest = behind;
         count = count.wrapping_add(lines as u64);
@@ -118,16 +124,16 @@ fn take_lines<'a, A: Allocator + Clone>(
 /// block's last LF. Returns how many lines ended.
 fn take_block<A: Allocator + Clone>(
     sketch: &mut ThetaSketch<A>,
-    key: Key,
+    hashing: Hashing,
     last: &mut OpenLine,
     block: &[u8],
 ) -> Result<u64, Error>
     ensures takes { (before : List ℕ)
-        → IsOpen key before last.old
+        → IsOpen hashing before last.old
         → OnOk result (
         (after : List ℕ)
-        × IsOpen key after last.new
-        × Takes key (held sketch.old) before block.now (held sketch.new) after) }
+        × IsOpen hashing after last.new
+        × Takes hashing (state_of sketch.old) before block.now (state_of sketch.new) after) }
     ensures refused { Refuses result None true }
 {
     let Some((first, others)) = cut_line(block) else {
@@ -136,8 +142,8 @@ fn take_block<A: Allocator + Clone>(
     };
     last.extend(first);
     sketch.update_hash(last.hash())?;
-    *last = OpenLine::new(key);
-    let (rest, count) = take_lines(sketch, key, others)?;
+    *last = OpenLine::new(hashing);
+    let (rest, count) = take_lines(sketch, hashing, others)?;
     last.extend(rest);
     Ok(count.wrapping_add(1))
 }
@@ -147,9 +153,9 @@ fn take_last<A: Allocator + Clone>(
     sketch: &mut ThetaSketch<A>,
     last: &OpenLine,
 ) -> Result<(), Error>
-    ensures taken { (key : Key) (front : List ℕ)
-        → IsOpen key front last.now
-        → OnOk result (held sketch.new ≡ with_lines key (held sketch.old) (lines_after front [])) }
+    ensures taken { (hashing : Hashing) (front : List ℕ)
+        → IsOpen hashing front last.now
+        → OnOk result (state_of sketch.new ≡ with_lines hashing (state_of sketch.old) (lines_after front [])) }
     ensures refused { Refuses result None true }
 {
     if last.is_begun() {
@@ -158,7 +164,8 @@ fn take_last<A: Allocator + Clone>(
     Ok(())
 }
 
-/// Inserts all lines that a reader has left, block by block, each by its key. An interrupted read is repeated.
+/// Inserts all lines that a reader has left, block by block, each by its key, hashed under the sketch's seed if that is
+/// the seed of `hashing`. An interrupted read is repeated.
 ///
 /// Refused only with `OutOfMemory`. If the reader fails, its error is returned, which is never an interrupted read.
 /// After an error some first part of the lines is inserted; no clause says so.
@@ -166,17 +173,17 @@ fn take_last<A: Allocator + Clone>(
 /// `block` has at least one byte, and its length is the most that one read gets. Its old contents are not used.
 pub fn add_lines<A: Allocator + Clone, R: Read, W: Watch>(
     sketch: &mut ThetaSketch<A>,
-    key: Key,
+    hashing: Hashing,
     reader: &mut R,
     block: &mut [u8],
     watch: &mut W,
 ) -> Result<(), Unread>
     requires room { 0 < length block.old }
-    ensures lines { IfSome (R.remaining reader.old) (λ text. OnOk result (held sketch.new ≡ with_lines key (held sketch.old) (lines_of text))) }
+    ensures lines { IfSome (R.remaining reader.old) (λ text. OnOk result (state_of sketch.new ≡ with_lines hashing (state_of sketch.old) (lines_of text))) }
     ensures refused { RefusesRead result None }
     ensures retried { IfErr result IsLasting }
 {
-    let mut last = OpenLine::new(key);
+    let mut last = OpenLine::new(hashing);
     for _ in 0..u64::MAX {
         match reader.read(block) {
             Ok(0) => {
@@ -184,7 +191,7 @@ pub fn add_lines<A: Allocator + Clone, R: Read, W: Watch>(
                 return Ok(());
             }
             Ok(count) => {
-                let lines = take_block(sketch, key, &mut last, &block[..count])?;
+                let lines = take_block(sketch, hashing, &mut last, &block[..count])?;
                 watch.saw(count, lines, sketch);
             }
             Err(error) => {
@@ -201,15 +208,15 @@ pub fn add_lines<A: Allocator + Clone, R: Read, W: Watch>(
 /// inserted; no clause says so.
 pub(crate) fn add_text<A: Allocator + Clone, W: Watch>(
     sketch: &mut ThetaSketch<A>,
-    key: Key,
+    hashing: Hashing,
     text: &[u8],
     watch: &mut W,
 ) -> Result<(), Error>
-    ensures lines { OnOk result (held sketch.new ≡ with_lines key (held sketch.old) (lines_of text.now)) }
+    ensures lines { OnOk result (state_of sketch.new ≡ with_lines hashing (state_of sketch.old) (lines_of text.now)) }
     ensures refused { Refuses result None true }
 {
-    let mut last = OpenLine::new(key);
-    let lines = take_block(sketch, key, &mut last, text)?;
+    let mut last = OpenLine::new(hashing);
+    let lines = take_block(sketch, hashing, &mut last, text)?;
     watch.saw(text.len(), lines, sketch);
     take_last(sketch, &last)
 }
@@ -219,9 +226,9 @@ pub(crate) fn add_text<A: Allocator + Clone, W: Watch>(
 pub fn finished<A: Allocator + Clone>(
     sketch: &mut ThetaSketch<A>,
 ) -> Result<CompactThetaSketch<A>, Error>
-    ensures sketch { (key : Key) (lg_k : ℕ) (lines : List (List ℕ))
-        → held sketch.old ≡ with_lines key (new_held lg_k) lines
-        → IfOk result (λ s. s ≡ ordered_sketch (value_of_lines key lg_k lines)) }
+    ensures sketch { (hashing : Hashing) (lg_k : ℕ) (lines : List (List ℕ))
+        → state_of sketch.old ≡ with_lines hashing (new_state hashing.seed lg_k) lines
+        → IfOk result (λ s. s ≡ sketch_of_value hashing.seed (value_of_lines hashing lg_k lines)) }
     ensures refused { Refuses result None true }
 {
     sketch.trim()?;
@@ -229,24 +236,26 @@ pub fn finished<A: Allocator + Clone>(
 }
 
 /// The sketch of all lines that a reader has left. Refused with `InvalidArgument` only for an `lg_k` that isn't from 4 to
-/// 26, and with `OutOfMemory`. If a read fails, its error is returned, which is never that a read was interrupted. For
-/// a wrong `lg_k` nothing is read. No clause says that the error is the read's, and none that nothing is read.
+/// 26 or a seed whose seed hash is 0, and with `OutOfMemory`. If a read fails, its error is returned, which is never
+/// that a read was interrupted. For a wrong `lg_k` or seed nothing is read. No clause says that the error is the
+/// read's, and none that nothing is read.
 ///
 /// `block` has at least one byte, and its length is the most that one read gets. Its old contents are not used.
 pub fn sketch_lines<A: Allocator + Clone + Drop, R: Read, W: Watch>(
     alloc: A,
-    key: Key,
+    hashing: Hashing,
     lg_k: u8,
     reader: &mut R,
     block: &mut [u8],
     watch: &mut W,
 ) -> Result<CompactThetaSketch<A>, Unread>
     requires room { 0 < length block.old }
-    ensures sketch { IfSome (R.remaining reader.old) (λ text. IfOk result (λ s. s ≡ ordered_sketch (value_of_lines key lg_k (lines_of text)))) }
-    ensures refused { RefusesRead result (settings_refusal lg_k MAX_THETA DEFAULT_UPDATE_SEED) }
+    ensures sketch { IfSome (R.remaining reader.old) (λ text.
+        IfOk result (λ s. s ≡ sketch_of_value hashing.seed (value_of_lines hashing lg_k (lines_of text)))) }
+    ensures refused { RefusesRead result (settings_refusal lg_k MAX_THETA hashing.seed) }
     ensures retried { IfErr result IsLasting }
 {
-    let mut sketch = new_sketch(alloc, lg_k)?;
-    add_lines(&mut sketch, key, reader, block, watch)?;
+    let mut sketch = new_sketch(alloc, hashing.seed, lg_k)?;
+    add_lines(&mut sketch, hashing, reader, block, watch)?;
     Ok(finished(&mut sketch)?)
 }

@@ -1,15 +1,14 @@
 //! Texts, one after another, each with its own reader.
 ghost use Rattle.std.specs.Prelude.{◌≡◌, ℕ, List, Option, None, Some, map, IfOk, OnOk, IfSome};
 ghost use Rattle.lines.specs.Lines.{lines_of, lines_of_all};
-ghost use Rattle.line_sketches.specs.Keys.{held, with_lines, value_of_lines, ordered_sketch};
+ghost use Rattle.line_sketches.specs.Keys.{state_of, with_lines, value_of_lines, sketch_of_value};
 ghost use Rattle.line_sketches.specs.Sources.{GivesNext};
 ghost use Rattle.line_sketches.specs.Refusals.{RefusesRead};
-ghost use Rattle.sketch_base.specs.declared.seed.TheConstants.{DEFAULT_UPDATE_SEED};
 ghost use Rattle.core_laws.specs.declared.TheConstants.{MAX_THETA};
 ghost use Rattle.core_laws.specs.Settings.{settings_refusal};
 
 use crate::sketching::{Unread, Watch, add_lines, finished, new_sketch};
-use lines::Key;
+use lines::Hashing;
 use sketch_base::Error;
 use std::alloc::{AllocError, Allocator, Global};
 use std::io;
@@ -66,15 +65,15 @@ impl<'a, A: Allocator> Sources for Texts<'a, A> {
 fn add_source<A: Allocator + Clone, B: Allocator, R: Read, W: Watch>(
     sketch: &mut ThetaSketch<A>,
     alloc: B,
-    key: Key,
+    hashing: Hashing,
     reader: &mut R,
     watch: &mut W,
 ) -> Result<(), Unread>
-    ensures lines { IfSome (R.remaining reader.old) (λ text. OnOk result (held sketch.new ≡ with_lines key (held sketch.old) (lines_of text))) }
+    ensures lines { IfSome (R.remaining reader.old) (λ text. OnOk result (state_of sketch.new ≡ with_lines hashing (state_of sketch.old) (lines_of text))) }
     ensures refused { RefusesRead result None }
 {
     let mut block = vec![in alloc; 0u8; BLOCK]?;
-    add_lines(sketch, key, reader, &mut block, watch)
+    add_lines(sketch, hashing, reader, &mut block, watch)
 }
 
 /// Inserts the lines of all texts, each cut into lines by itself: a last line without an LF isn't joined to the next text.
@@ -84,17 +83,17 @@ fn add_source<A: Allocator + Clone, B: Allocator, R: Read, W: Watch>(
 pub fn add_sources<A: Allocator + Clone, B: Allocator + Clone + Drop, S: Sources, W: Watch>(
     sketch: &mut ThetaSketch<A>,
     alloc: B,
-    key: Key,
+    hashing: Hashing,
     sources: &mut S,
     watch: &mut W,
 ) -> Result<(), Unread>
-    ensures lines { IfSome (S.texts sources.old) (λ texts. OnOk result (held sketch.new ≡ with_lines key (held sketch.old) (lines_of_all texts))) }
+    ensures lines { IfSome (S.texts sources.old) (λ texts. OnOk result (state_of sketch.new ≡ with_lines hashing (state_of sketch.old) (lines_of_all texts))) }
     ensures refused { RefusesRead result None }
 {
     for _ in 0..u64::MAX {
         match sources.next_source() {
             Ok(Some(mut source)) => {
-                add_source(sketch, alloc.clone()?, key, &mut source, watch)?;
+                add_source(sketch, alloc.clone()?, hashing, &mut source, watch)?;
             }
             Ok(None) => return Ok(()),
             Err(error) => return Err(Unread::Failed(error)),
@@ -104,19 +103,20 @@ pub fn add_sources<A: Allocator + Clone, B: Allocator + Clone + Drop, S: Sources
 }
 
 /// The sketch of the lines of all texts, each text's by themselves. Refused with `InvalidArgument` only for an `lg_k`
-/// that isn't from 4 to 26, and with `OutOfMemory`. If a source fails, or can't be opened, its error is returned, and
-/// for a wrong `lg_k` nothing is read; no clause says so.
+/// that isn't from 4 to 26 or a seed whose seed hash is 0, and with `OutOfMemory`. If a source fails, or can't be
+/// opened, its error is returned, and for a wrong `lg_k` or seed nothing is read; no clause says so.
 pub fn sketch_sources<A: Allocator + Clone + Drop, S: Sources, W: Watch>(
     alloc: A,
-    key: Key,
+    hashing: Hashing,
     lg_k: u8,
     sources: &mut S,
     watch: &mut W,
 ) -> Result<CompactThetaSketch<A>, Unread>
-    ensures sketch { IfSome (S.texts sources.old) (λ texts. IfOk result (λ s. s ≡ ordered_sketch (value_of_lines key lg_k (lines_of_all texts)))) }
-    ensures refused { RefusesRead result (settings_refusal lg_k MAX_THETA DEFAULT_UPDATE_SEED) }
+    ensures sketch { IfSome (S.texts sources.old) (λ texts.
+        IfOk result (λ s. s ≡ sketch_of_value hashing.seed (value_of_lines hashing lg_k (lines_of_all texts)))) }
+    ensures refused { RefusesRead result (settings_refusal lg_k MAX_THETA hashing.seed) }
 {
-    let mut sketch = new_sketch(alloc.clone()?, lg_k)?;
-    add_sources(&mut sketch, alloc, key, sources, watch)?;
+    let mut sketch = new_sketch(alloc.clone()?, hashing.seed, lg_k)?;
+    add_sources(&mut sketch, alloc, hashing, sources, watch)?;
     Ok(finished(&mut sketch)?)
 }

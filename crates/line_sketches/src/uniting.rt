@@ -1,6 +1,7 @@
 //! Unions of images, and which lines they are the images of.
 ghost use Rattle.std.specs.Prelude.{◌≡◌, ◌++◌, ◌∷◌, ℕ, List, [], map, true, None, IfOk, IfErr, OnOk, IfSome};
 ghost use Rattle.std.specs.List.{concat};
+ghost use Rattle.lines.specs.Keys.{hashing_of};
 ghost use Rattle.lines.specs.Lines.{lines_of_all, AreWhole};
 ghost use Rattle.lines.specs.declared.key.Key.{Key};
 ghost use Rattle.line_sketches.specs.Keys.{image_of_text, image_of_lines, HaveSameLines};
@@ -8,7 +9,6 @@ ghost use Rattle.line_sketches.specs.Shards.{images_of_texts};
 ghost use Rattle.line_sketches.specs.Unions.{HasUnited, IsReady, IsUnitedImage, UnitesTexts};
 ghost use Rattle.line_sketches.specs.Refusals.{IsImageRefusal, IsImagesRefusal, IsUniteRefusal};
 ghost use Rattle.sketch_base.specs.Seed.{seed_hash};
-ghost use Rattle.sketch_base.specs.declared.seed.TheConstants.{DEFAULT_UPDATE_SEED};
 ghost use Rattle.core_images.specs.Read.{IsRefused};
 ghost use Rattle.core_laws.specs.Refusal.{Refuses};
 ghost use Rattle.core_laws.specs.declared.TheConstants.{MAX_THETA};
@@ -18,27 +18,28 @@ ghost use Rattle.core_laws.specs.Settings.{settings_refusal};
 use crate::images::{image_of, new_union, read_image};
 use crate::sketching::{Unread, Watch, add_text, finished, new_sketch};
 use crate::sources::Sources;
-use lines::Key;
+use lines::Hashing;
 use sketch_base::Error;
 use std::alloc::{AllocError, Allocator, Global};
 use std::io::Read;
 use theta_sketches::ThetaUnion;
 use theta_sketches::laws::{one_reading, read_again};
 
-/// Adds an image to a union. Refused with `InvalidData` if the bytes aren't an image of a theta sketch of the default
-/// seed, and with `OutOfMemory`.
+/// Adds an image to a union of sketches of this seed. Refused with `InvalidData` if the bytes aren't an image of a theta
+/// sketch of this seed, and with `OutOfMemory`.
 fn add_image<A: Allocator + Clone, B: Allocator + Clone + Drop>(
     union: &mut ThetaUnion<A>,
     alloc: B,
+    seed: u64,
     image: &[u8],
 ) -> Result<(), Error>
     ensures united { (lg_k : ℕ) (images : List (List ℕ))
-        → HasUnited lg_k images union.old
-        → OnOk result (HasUnited lg_k (images ++ image.now ∷ []) union.new) }
-    ensures refused { IsReady union.old → IfErr result (λ e. IsRefused e (IsReadable image.now (seed_hash DEFAULT_UPDATE_SEED))) }
-    ensures ready { IsReady union.old → OnOk result (IsReady union.new) }
+        → HasUnited seed lg_k images union.old
+        → OnOk result (HasUnited seed lg_k (images ++ image.now ∷ []) union.new) }
+    ensures refused { IsReady seed union.old → IfErr result (λ e. IsRefused e (IsReadable image.now (seed_hash seed))) }
+    ensures ready { IsReady seed union.old → OnOk result (IsReady seed union.new) }
 {
-    let sketch = read_image(alloc, image)?;
+    let sketch = read_image(alloc, seed, image)?;
     union.update(sketch.as_view())?;
     Ok(())
 }
@@ -47,19 +48,20 @@ fn add_image<A: Allocator + Clone, B: Allocator + Clone + Drop>(
 fn add_reader<A: Allocator + Clone, B: Allocator + Clone + Drop, R: Read>(
     union: &mut ThetaUnion<A>,
     alloc: B,
+    seed: u64,
     reader: &mut R,
 ) -> Result<(), Unread>
     ensures united { (lg_k : ℕ) (images : List (List ℕ))
-        → HasUnited lg_k images union.old
-        → IfSome (R.remaining reader.old) (λ image. OnOk result (HasUnited lg_k (images ++ image ∷ []) union.new)) }
-    ensures refused { IsReady union.old → IfErr result (IsImageRefusal (R.remaining reader.old)) }
-    ensures ready { IsReady union.old → OnOk result (IsReady union.new) }
+        → HasUnited seed lg_k images union.old
+        → IfSome (R.remaining reader.old) (λ image. OnOk result (HasUnited seed lg_k (images ++ image ∷ []) union.new)) }
+    ensures refused { IsReady seed union.old → IfErr result (IsImageRefusal seed (R.remaining reader.old)) }
+    ensures ready { IsReady seed union.old → OnOk result (IsReady seed union.new) }
 {
     let mut image = Vec::new(alloc.clone()?);
     if let Err(error) = reader.read_to_end(&mut image) {
         return Err(Unread::Failed(error));
     }
-    add_image(union, alloc, image.as_slice())?;
+    add_image(union, alloc, seed, image.as_slice())?;
     Ok(())
 }
 
@@ -67,18 +69,19 @@ fn add_reader<A: Allocator + Clone, B: Allocator + Clone + Drop, R: Read>(
 fn add_images<A: Allocator + Clone, B: Allocator + Clone + Drop, S: Sources>(
     union: &mut ThetaUnion<A>,
     alloc: B,
+    seed: u64,
     sources: &mut S,
 ) -> Result<(), Unread>
     ensures united { (lg_k : ℕ) (images : List (List ℕ))
-        → HasUnited lg_k images union.old
-        → IfSome (S.texts sources.old) (λ more. OnOk result (HasUnited lg_k (images ++ more) union.new)) }
-    ensures refused { IsReady union.old → IfErr result (IsImagesRefusal (S.texts sources.old)) }
-    ensures ready { IsReady union.old → OnOk result (IsReady union.new) }
+        → HasUnited seed lg_k images union.old
+        → IfSome (S.texts sources.old) (λ more. OnOk result (HasUnited seed lg_k (images ++ more) union.new)) }
+    ensures refused { IsReady seed union.old → IfErr result (IsImagesRefusal seed (S.texts sources.old)) }
+    ensures ready { IsReady seed union.old → OnOk result (IsReady seed union.new) }
 {
     for _ in 0..u64::MAX {
         match sources.next_source() {
             Ok(Some(mut source)) => {
-                add_reader(union, alloc.clone()?, &mut source)?;
+                add_reader(union, alloc.clone()?, seed, &mut source)?;
             }
             Ok(None) => return Ok(()),
             Err(error) => return Err(Unread::Failed(error)),
@@ -89,57 +92,60 @@ fn add_images<A: Allocator + Clone, B: Allocator + Clone + Drop, S: Sources>(
 
 /// The image of the result of a union, ordered.
 fn united_image<A: Allocator + Clone + Drop>(union: &ThetaUnion<A>) -> Result<Vec<u8, A>, Error>
-    ensures image { (lg_k : ℕ) (images : List (List ℕ)) → HasUnited lg_k images union.now → IfOk result (λ v. IsUnitedImage lg_k images v.items) }
-    ensures refused { IsReady union.now → Refuses result None true }
+    ensures image { (seed lg_k : ℕ) (images : List (List ℕ))
+        → HasUnited seed lg_k images union.now
+        → IfOk result (λ v. IsUnitedImage seed lg_k images v.items) }
+    ensures refused { (seed : ℕ) → IsReady seed union.now → Refuses result None true }
 {
     let sketch = union.to_sketch(true)?;
     image_of(&sketch)
 }
 
-/// The image of the union of images, each with its own reader.
+/// The image of the union of images of this seed, each with its own reader.
 ///
-/// If the images are those of texts that were sketched apart, by one key and with this `lg_k`, it is the image of all
-/// their lines, byte for byte, in any order of the images. If each text but the last is empty or ends in an LF, it is
-/// also the image of the concatenated texts. An image doesn't show the key and the `lg_k` that it was made with.
+/// If the images are those of texts that were sketched apart, by one key, with this seed and this `lg_k`, it is the image
+/// of all their lines, byte for byte, in any order of the images. If each text but the last is empty or ends in an LF,
+/// it is also the image of the concatenated texts. An image doesn't show the key and the `lg_k` that it was made with.
 ///
-/// Refused with `InvalidArgument` only for an `lg_k` that isn't from 4 to 26; with `InvalidData` only if some source is
-/// no image of a theta sketch of the default seed; and with `OutOfMemory`. If a source fails, or can't be opened, its
-/// error is returned, and for a wrong `lg_k` nothing is read; no clause says so.
+/// Refused with `InvalidArgument` only for an `lg_k` that isn't from 4 to 26 or a seed whose seed hash is 0; with
+/// `InvalidData` only if some source is no image of a theta sketch of this seed; and with `OutOfMemory`. If a source
+/// fails, or can't be opened, its error is returned, and for a wrong `lg_k` or seed nothing is read; no clause says so.
 pub fn unite_images<A: Allocator + Clone + Drop, S: Sources>(
     alloc: A,
+    seed: u64,
     lg_k: u8,
     images: &mut S,
 ) -> Result<Vec<u8, A>, Unread>
-    ensures united { IfSome (S.texts images.old) (λ all. IfOk result (λ v. IsUnitedImage lg_k all v.items)) }
+    ensures united { IfSome (S.texts images.old) (λ all. IfOk result (λ v. IsUnitedImage seed lg_k all v.items)) }
     ensures whole { IfSome (S.texts images.old) (λ all.
         (key : Key) (texts : List (List ℕ))
         → AreWhole texts
-        → all ≡ images_of_texts key lg_k texts
-        → IfOk result (λ v. v.items ≡ image_of_text key lg_k (concat texts))) }
-    ensures apart { IfSome (S.texts images.old) (λ all. IfOk result (λ v. UnitesTexts lg_k all v.items)) }
-    ensures accepted { OnOk result (settings_refusal lg_k MAX_THETA DEFAULT_UPDATE_SEED ≡ None) }
-    ensures refused { IfErr result (IsUniteRefusal (settings_refusal lg_k MAX_THETA DEFAULT_UPDATE_SEED) (S.texts images.old)) }
+        → all ≡ images_of_texts (hashing_of key seed) lg_k texts
+        → IfOk result (λ v. v.items ≡ image_of_text (hashing_of key seed) lg_k (concat texts))) }
+    ensures apart { IfSome (S.texts images.old) (λ all. IfOk result (λ v. UnitesTexts seed lg_k all v.items)) }
+    ensures accepted { OnOk result (settings_refusal lg_k MAX_THETA seed ≡ None) }
+    ensures refused { IfErr result (IsUniteRefusal seed (settings_refusal lg_k MAX_THETA seed) (S.texts images.old)) }
 {
     one_reading();
     read_again();
-    let mut union = new_union(alloc.clone()?, lg_k)?;
-    add_images(&mut union, alloc, images)?;
+    let mut union = new_union(alloc.clone()?, seed, lg_k)?;
+    add_images(&mut union, alloc, seed, images)?;
     Ok(united_image(&union)?)
 }
 
 /// The image of the lines of one text.
 fn image_of_text<W: Watch>(
     alloc: Global,
-    key: Key,
+    hashing: Hashing,
     lg_k: u8,
     text: &[u8],
     watch: &mut W,
 ) -> Result<Vec<u8>, Error>
-    ensures image { IfOk result (λ v. v.items ≡ image_of_text key lg_k text.now) }
-    ensures refused { Refuses result (settings_refusal lg_k MAX_THETA DEFAULT_UPDATE_SEED) true }
+    ensures image { IfOk result (λ v. v.items ≡ image_of_text hashing lg_k text.now) }
+    ensures refused { Refuses result (settings_refusal lg_k MAX_THETA hashing.seed) true }
 {
-    let mut sketch = new_sketch(alloc, lg_k)?;
-    add_text(&mut sketch, key, text, watch)?;
+    let mut sketch = new_sketch(alloc, hashing.seed, lg_k)?;
+    add_text(&mut sketch, hashing, text, watch)?;
     let compact = finished(&mut sketch)?;
     image_of(&compact)
 }
@@ -147,26 +153,27 @@ fn image_of_text<W: Watch>(
 /// The image of all lines of texts in memory, each text cut into lines by itself: each is sketched apart, and their
 /// images are united. The result doesn't depend on the order of the texts or of their lines, or on repeats.
 ///
-/// Refused with `InvalidArgument` for an `lg_k` that isn't from 4 to 26, and else only with `OutOfMemory`.
+/// Refused with `InvalidArgument` for an `lg_k` that isn't from 4 to 26 or a seed whose seed hash is 0, and else only
+/// with `OutOfMemory`.
 pub fn image_of_texts<W: Watch>(
     alloc: Global,
-    key: Key,
+    hashing: Hashing,
     lg_k: u8,
     texts: &[Vec<u8>],
     watch: &mut W,
 ) -> Result<Vec<u8>, Error>
     ensures image { (lines : List (List ℕ))
         → HaveSameLines (lines_of_all (map (λ text. text.items) texts.now)) lines
-        → IfOk result (λ v. v.items ≡ image_of_lines key lg_k lines) }
-    ensures refused { Refuses result (settings_refusal lg_k MAX_THETA DEFAULT_UPDATE_SEED) true }
+        → IfOk result (λ v. v.items ≡ image_of_lines hashing lg_k lines) }
+    ensures refused { Refuses result (settings_refusal lg_k MAX_THETA hashing.seed) true }
 {
     one_reading();
     read_again();
-    let mut union = new_union(alloc, lg_k)?;
+    let mut union = new_union(alloc, hashing.seed, lg_k)?;
     let mut left = texts;
     while let Some((text, others)) = left.split_first() {
-        let image = image_of_text(alloc, key, lg_k, text.as_slice(), watch)?;
-        add_image(&mut union, alloc, image.as_slice())?;
+        let image = image_of_text(alloc, hashing, lg_k, text.as_slice(), watch)?;
+        add_image(&mut union, alloc, hashing.seed, image.as_slice())?;
         left = others;
     }
     united_image(&union)

@@ -2,7 +2,7 @@
 use Rattle.std.specs.Prelude.{ℕ, ◌==◌, List, [], ◌∷◌, length, get_or, if◌then◌else◌}
 use Rattle.std.specs.List.{onto_first}
 use Rattle.sketch_base.specs.Seed.{hash_of}
-use Rattle.sketch_base.specs.declared.seed.TheConstants.{DEFAULT_UPDATE_SEED}
+use Rattle.lines.specs.declared.key.Hashing.{Hashing}
 use Rattle.lines.specs.declared.key.Key.{Key}
 use Rattle.lines.specs.declared.key.Key.TheVariants.{Line, Field}
 
@@ -16,6 +16,10 @@ abbrev pub key_of : Key → List ℕ → List ℕ
 key_of Line line = line
 key_of (Field before separator) line = if length (fields_of separator line) == 1 then line else get_or (fields_of separator line) before []
 
+-- hashing by this key, under this seed
+abbrev pub hashing_of : Key → (seed : ℕ) → Hashing
+hashing_of key seed = record { key = key; seed = seed }
+
 -- the hash of a line's key
-abbrev pub line_hash : Key → List ℕ → ℕ
-line_hash key line = hash_of DEFAULT_UPDATE_SEED (key_of key line)
+abbrev pub line_hash : Hashing → List ℕ → ℕ
+line_hash hashing line = hash_of hashing.seed (key_of hashing.key line)

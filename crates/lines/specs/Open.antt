@@ -1,8 +1,8 @@
 -- A line that has begun.
 use Rattle.std.specs.Prelude.{ℕ, ◌≡◌, ◌==◌, ◌+◌, ◌-◌, not, min, List, length}
 use Rattle.sketch_base.specs.MurmurState.{HasWritten}
-use Rattle.sketch_base.specs.declared.seed.TheConstants.{DEFAULT_UPDATE_SEED}
 use Rattle.lines.specs.Keys.{key_of, fields_of}
+use Rattle.lines.specs.declared.key.Hashing.{Hashing}
 use Rattle.lines.specs.declared.key.Key.{Key}
 use Rattle.lines.specs.declared.key.Key.TheVariants.{Line, Field}
 use Rattle.lines.specs.declared.open_key.OpenKey.{OpenKey}
@@ -13,13 +13,13 @@ abbrev pub passed_of : Key → List ℕ → ℕ
 passed_of Line line = 0
 passed_of (Field before separator) line = min (length (fields_of separator line) - 1) (before + 1)
 
--- the hasher has the key of these bytes
-pub record IsOpenKey (key : Key) (bytes : List ℕ) (open_key : OpenKey) : Type 0 where
-  pub hashed : HasWritten DEFAULT_UPDATE_SEED (key_of key bytes) open_key.hasher
+-- the hasher, of this seed, has the key of these bytes
+pub record IsOpenKey (seed : ℕ) (key : Key) (bytes : List ℕ) (open_key : OpenKey) : Type 0 where
+  pub hashed : HasWritten seed (key_of key bytes) open_key.hasher
   pub counted : open_key.passed ≡ passed_of key bytes
 
 -- the open line has these bytes
-pub record IsOpen (key : Key) (bytes : List ℕ) (line : OpenLine) : Type 0 where
-  pub keyed : line.key ≡ key
-  pub hashed : IsOpenKey key bytes line.open_key
+pub record IsOpen (hashing : Hashing) (bytes : List ℕ) (line : OpenLine) : Type 0 where
+  pub same_hashing : line.hashing ≡ hashing
+  pub hashed : IsOpenKey hashing.seed hashing.key bytes line.open_key
   pub begun : line.begun ≡ not (length bytes == 0)

@@ -1,4 +1,4 @@
-//! Keys of lines.
+//! Keys of lines, and how they are hashed.
 ghost use Rattle.std.specs.Prelude.{◌≡◌, ◌-◌, ◌<◌};
 ghost use Rattle.lines.specs.declared.key.Key.TheVariants.{Field};
 
@@ -24,4 +24,17 @@ impl Key {
     {
         Key::Field(number - 1, separator)
     }
+}
+
+/// How a line is hashed: which part of it is its key, and the seed.
+///
+/// ```
+/// let whole_lines = Hashing { key: Key::Line, seed: 9001 };
+/// ```
+#[derive(Clone, Copy, Debug, PartialEq, Eq)]
+pub struct Hashing {
+    /// Which part of a line is hashed.
+    pub key: Key,
+    /// The seed of the hash.
+    pub seed: u64,
 }

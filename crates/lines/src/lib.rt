@@ -10,5 +10,5 @@ mod open_key;
 mod open_line;
 
 pub use cut::{cut_at, cut_line};
-pub use key::Key;
+pub use key::{Hashing, Key};
 pub use open_line::{OpenLine, line_hash};

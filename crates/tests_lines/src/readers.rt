@@ -3,12 +3,18 @@
 use line_sketches::{
     Unread, Watch, add_lines, finished, hex_line, image_of, new_sketch, sketch_lines,
 };
-use lines::Key;
+use lines::{Hashing, Key};
 use std::alloc::{Allocator, Global};
 use std::io;
 use std::io::{Error, ErrorKind, Read};
 use std::test::Fail;
 use theta_sketches::ThetaSketch;
+
+/// Whole lines under the default seed.
+pub const WHOLE_LINES: Hashing = Hashing {
+    key: Key::Line,
+    seed: 9001,
+};
 
 /// Counts the lines and bytes that were read.
 #[derive(Drop)]
@@ -60,7 +66,7 @@ impl Read for Pieces<'_> {
 /// of lines and bytes that were seen; no image if the call fails.
 fn image_in_pieces(
     alloc: Global,
-    key: Key,
+    hashing: Hashing,
     text: &[u8],
     piece: usize,
     size: usize,
@@ -74,7 +80,7 @@ fn image_in_pieces(
     };
     let mut counter = Counter { lines: 0, bytes: 0 };
     let mut block = vec![in alloc; 0u8; size.max(1)]?;
-    let line = match sketch_lines(alloc, key, 12, &mut reader, &mut block, &mut counter) {
+    let line = match sketch_lines(alloc, hashing, 12, &mut reader, &mut block, &mut counter) {
         Ok(sketch) => match image_of(&sketch) {
             Ok(image) => hex_line(alloc, image.as_slice())?,
             Err(_) => Vec::new(alloc),
@@ -114,7 +120,7 @@ fn reads_in_pieces(rt: HostRuntime) -> Result<(), Fail> {
         (33, 64),
         (1000, 1000),
     ] {
-        let said = image_in_pieces(rt.alloc(), Key::Line, TEXT, piece, size, None)?;
+        let said = image_in_pieces(rt.alloc(), WHOLE_LINES, TEXT, piece, size, None)?;
         let found = (said.0.as_slice(), said.1, said.2);
         assert_eq!(rt; found, (IMAGE, 5, TEXT.len()), "in {piece}");
     }
@@ -125,9 +131,42 @@ fn reads_in_pieces(rt: HostRuntime) -> Result<(), Fail> {
 fn takes_fields(rt: HostRuntime) -> Result<(), Fail> {
     for (number, image) in [(1, FIRST), (2, SECOND)] {
         for (piece, size) in [(1, 64), (3, 2), (1000, 1000)] {
-            let key = Key::Field(number - 1, b',');
-            let said = image_in_pieces(rt.alloc(), key, LOG, piece, size, None)?;
+            let hashing = Hashing {
+                key: Key::Field(number - 1, b','),
+                seed: 9001,
+            };
+            let said = image_in_pieces(rt.alloc(), hashing, LOG, piece, size, None)?;
             assert_eq!(rt; said.0.as_slice(), image, "in {piece}");
+        }
+    }
+    Ok(())
+}
+
+/// The images of `TEXT` under the seeds 42 and 0, and of the second fields of `LOG` under the seed 42. Under the seed 0
+/// the hash of the empty line is 0, so that no sketch retains it.
+const IMAGE_42: &[u8] =
+    b"02030300001af87d0500000000000000c907090124292508fbb607dcb134173a4711255bd8340d5091c20dfdbe5315788faf4c92bc4e177d\n";
+
+const IMAGE_0: &[u8] =
+    b"02030300001acbc30400000000000000d6c47fb6d1f9a60a9528584ab64ecc38ee575a30868f8d5a63bd3b78a7a7a45f\n";
+
+const SECOND_42: &[u8] =
+    b"02030300001af87d0500000000000000b5c2c10fb823000cfbb607dcb134173a4711255bd8340d50c15b7c474f3ccc7391c20dfdbe531578\n";
+
+#[test]
+fn hashes_under_each_seed(rt: HostRuntime) -> Result<(), Fail> {
+    let line = Key::Line;
+    let second = Key::Field(1, b',');
+    for (key, seed, text, image) in [
+        (line, 42, TEXT, IMAGE_42),
+        (line, 0, TEXT, IMAGE_0),
+        (second, 42, LOG, SECOND_42),
+        (line, 50541, TEXT, b"".as_slice()),
+    ] {
+        for (piece, size) in [(1, 64), (1000, 1000)] {
+            let hashing = Hashing { key, seed };
+            let said = image_in_pieces(rt.alloc(), hashing, text, piece, size, None)?;
+            assert_eq!(rt; said.0.as_slice(), image, "{key:?} {seed} in {piece}");
         }
     }
     Ok(())
@@ -137,7 +176,7 @@ fn takes_fields(rt: HostRuntime) -> Result<(), Fail> {
 fn fails_with_a_read(rt: HostRuntime) -> Result<(), Fail> {
     for (piece, size) in [(1, 1), (7, 5), (1000, 1000)] {
         let pipe = Some(ErrorKind::BrokenPipe);
-        let said = image_in_pieces(rt.alloc(), Key::Line, TEXT, piece, size, pipe)?;
+        let said = image_in_pieces(rt.alloc(), WHOLE_LINES, TEXT, piece, size, pipe)?;
         assert_eq!(rt; said.0.len(), 0, "in {piece}");
     }
     Ok(())
@@ -160,10 +199,10 @@ fn kept_after_failure(
     };
     let mut counter = Counter { lines: 0, bytes: 0 };
     let mut block = vec![in alloc; 0u8; size.max(1)]?;
-    let mut sketch = new_sketch(alloc, 12)?;
+    let mut sketch = new_sketch(alloc, 9001, 12)?;
     let failed = match add_lines(
         &mut sketch,
-        Key::Line,
+        WHOLE_LINES,
         &mut reader,
         &mut block,
         &mut counter,
@@ -180,7 +219,7 @@ fn kept_after_failure(
 #[test]
 fn keeps_lines_before_a_failure(rt: HostRuntime) -> Result<(), Fail> {
     let cut = b"ann\nbob\nann\nzo";
-    let whole = image_in_pieces(rt.alloc(), Key::Line, b"ann\nbob\n", 1000, 1000, None)?;
+    let whole = image_in_pieces(rt.alloc(), WHOLE_LINES, b"ann\nbob\n", 1000, 1000, None)?;
     for (piece, size) in [(1, 1), (5, 3), (1000, 1000)] {
         match kept_after_failure(rt.alloc(), cut, piece, size, ErrorKind::BrokenPipe) {
             Ok((image, failed)) => {

@@ -2,12 +2,12 @@
 //! that fail, and bytes that are no image.
 ghost use Rattle.std.specs.Prelude.{None};
 
-use crate::readers::Counter;
+use crate::readers::{Counter, WHOLE_LINES};
 use line_sketches::{
-    Sources, Unread, hex_line, image_of, lacked, met, read_hex, read_image, sketch_lines,
-    sketch_sources, unite_images,
+    Sources, Unread, difference, hex_line, image_of, intersection, read_hex, read_image,
+    sketch_lines, sketch_sources, unite_images,
 };
-use lines::Key;
+use lines::{Hashing, Key};
 use refusing_allocator::{Refusal, Refusing};
 use sketch_base::ErrorKind;
 use std::alloc::{AllocError, Allocator, Global};
@@ -158,33 +158,49 @@ fn sketches_reader(heap: &Heap) -> Result<bool, Unread> {
         text: FIRST_TEXT,
         failure: None,
     };
-    let sketch = sketch_lines(heap, Key::Line, 12, &mut reader, &mut block, &mut counter)?;
+    let sketch = sketch_lines(heap, WHOLE_LINES, 12, &mut reader, &mut block, &mut counter)?;
     is_image(heap, image_of(&sketch)?, FIRST)
 }
 
 fn sketches_sources(heap: &Heap, all: &[Vec<u8>]) -> Result<bool, Unread> {
     let mut counter = Counter { lines: 0, bytes: 0 };
-    let sketch = sketch_sources(heap, Key::Line, 12, &mut whole_texts(all), &mut counter)?;
+    let sketch = sketch_sources(heap, WHOLE_LINES, 12, &mut whole_texts(all), &mut counter)?;
     is_image(heap, image_of(&sketch)?, BOTH)
 }
 
-fn unites(heap: &Heap, images: &[Vec<u8>]) -> Result<bool, Unread> {
-    let image = unite_images(heap, 12, &mut whole_texts(images))?;
-    is_image(heap, image, BOTH)
+fn unites(heap: &Heap, images: &[Vec<u8>], seed: u64, wanted: &[u8]) -> Result<bool, Unread> {
+    let image = unite_images(heap, seed, 12, &mut whole_texts(images))?;
+    is_image(heap, image, wanted)
 }
 
-fn meets(heap: &Heap) -> Result<bool, Unread> {
-    let first = read_image(heap, bytes_of(heap, FIRST)?.as_slice())?;
-    let second = read_image(heap, bytes_of(heap, SECOND)?.as_slice())?;
-    let sketch = met(heap, &[first, second])?;
-    is_image(heap, image_of(&sketch)?, SHARED)
+/// Two images, the seed that they are read under, and the seed of the operator.
+#[derive(Clone, Copy)]
+struct Pair<'a> {
+    first: &'a [u8],
+    second: &'a [u8],
+    read: u64,
+    seed: u64,
 }
 
-fn lacks(heap: &Heap) -> Result<bool, Unread> {
-    let first = read_image(heap, bytes_of(heap, FIRST)?.as_slice())?;
-    let second = read_image(heap, bytes_of(heap, SECOND)?.as_slice())?;
-    let sketch = lacked(heap, &first, &second)?;
-    is_image(heap, image_of(&sketch)?, FIRST_ALONE)
+const PAIR: Pair<'static> = Pair {
+    first: FIRST,
+    second: SECOND,
+    read: 9001,
+    seed: 9001,
+};
+
+fn meets(heap: &Heap, pair: Pair<'_>, wanted: &[u8]) -> Result<bool, Unread> {
+    let first = read_image(heap, pair.read, bytes_of(heap, pair.first)?.as_slice())?;
+    let second = read_image(heap, pair.read, bytes_of(heap, pair.second)?.as_slice())?;
+    let sketch = intersection(heap, pair.seed, &[first, second])?;
+    is_image(heap, image_of(&sketch)?, wanted)
+}
+
+fn subtracts(heap: &Heap, pair: Pair<'_>, wanted: &[u8]) -> Result<bool, Unread> {
+    let first = read_image(heap, pair.read, bytes_of(heap, pair.first)?.as_slice())?;
+    let second = read_image(heap, pair.read, bytes_of(heap, pair.second)?.as_slice())?;
+    let sketch = difference(heap, pair.seed, &first, &second)?;
+    is_image(heap, image_of(&sketch)?, wanted)
 }
 
 /// Texts in memory, and their images.
@@ -207,17 +223,22 @@ fn image_in(alloc: Global, line: &[u8]) -> Result<Vec<u8>, AllocError> {
     }
 }
 
+fn images_in(alloc: Global, lines: [&[u8]; 2]) -> Result<Vec<Vec<u8>>, AllocError> {
+    let mut images = Vec::new(alloc);
+    for line in lines {
+        let image = image_in(alloc, line)?;
+        images.push(image)?;
+    }
+    Ok(images)
+}
+
 fn inputs_in(alloc: Global) -> io::Result<Inputs> {
     let mut texts = Vec::new(alloc);
-    let mut images = Vec::new(alloc);
     for text in [FIRST_TEXT, SECOND_TEXT] {
         let copy = copy_of(alloc, text)?;
         texts.push(copy)?;
     }
-    for line in [FIRST, SECOND] {
-        let image = image_in(alloc, line)?;
-        images.push(image)?;
-    }
+    let images = images_in(alloc, [FIRST, SECOND])?;
     Ok(Inputs { texts, images })
 }
 
@@ -225,9 +246,9 @@ fn make(heap: &Heap, inputs: &Inputs, call: Call) -> Outcome {
     outcome_of(match call {
         Call::SketchReader => sketches_reader(heap),
         Call::SketchSources => sketches_sources(heap, inputs.texts.as_slice()),
-        Call::Unite => unites(heap, inputs.images.as_slice()),
-        Call::Meet => meets(heap),
-        Call::Minus => lacks(heap),
+        Call::Unite => unites(heap, inputs.images.as_slice(), 9001, BOTH),
+        Call::Meet => meets(heap, PAIR, SHARED),
+        Call::Minus => subtracts(heap, PAIR, FIRST_ALONE),
     })
 }
 
@@ -268,21 +289,26 @@ fn reports_memory(rt: HostRuntime) -> Result<(), Fail> {
     Ok(())
 }
 
-fn sketched(alloc: Global, lg_k: u8, sources: &mut Texts<'_>) -> Result<bool, Unread> {
+fn sketched(alloc: Global, seed: u64, lg_k: u8, sources: &mut Texts<'_>) -> Result<bool, Unread> {
     let mut counter = Counter { lines: 0, bytes: 0 };
-    sketch_sources(alloc, Key::Line, lg_k, sources, &mut counter)?;
+    let hashing = Hashing {
+        key: Key::Line,
+        seed,
+    };
+    sketch_sources(alloc, hashing, lg_k, sources, &mut counter)?;
     Ok(true)
 }
 
-fn united(alloc: Global, lg_k: u8, sources: &mut Texts<'_>) -> Result<bool, Unread> {
-    unite_images(alloc, lg_k, sources)?;
+fn united(alloc: Global, seed: u64, lg_k: u8, sources: &mut Texts<'_>) -> Result<bool, Unread> {
+    unite_images(alloc, seed, lg_k, sources)?;
     Ok(true)
 }
 
-/// The outcome of sketching texts with this size, or of uniting them as images, if their readers fail at their end or
+/// The outcome of sketching texts with this seed and size, or of uniting them as images, if their readers fail at their end or
 /// opening a further text fails; and the number of texts that were opened.
 fn taken_in<'a>(
     alloc: Global,
+    seed: u64,
     lg_k: u8,
     all: &'a [Vec<u8>],
     failure: Option<io::ErrorKind>,
@@ -295,9 +321,9 @@ fn taken_in<'a>(
         missing,
     };
     let answer = if unites {
-        united(alloc, lg_k, &mut sources)
+        united(alloc, seed, lg_k, &mut sources)
     } else {
-        sketched(alloc, lg_k, &mut sources)
+        sketched(alloc, seed, lg_k, &mut sources)
     };
     (
         outcome_of(answer),
@@ -312,10 +338,11 @@ fn reports_sources(rt: HostRuntime) -> Result<(), Fail> {
     let none = Some(io::ErrorKind::NotFound);
     let size = Outcome::Refused(ErrorKind::InvalidArgument);
     let image = Outcome::Refused(ErrorKind::InvalidData);
-    for (lg_k, failure, missing, unites, wanted) in [
-        (4, None, None, false, (Outcome::Answered, 2)),
-        (26, None, None, false, (Outcome::Answered, 2)),
+    for (seed, lg_k, failure, missing, unites, wanted) in [
+        (9001, 4, None, None, false, (Outcome::Answered, 2)),
+        (9001, 26, None, None, false, (Outcome::Answered, 2)),
         (
+            9001,
             12,
             pipe,
             None,
@@ -323,6 +350,7 @@ fn reports_sources(rt: HostRuntime) -> Result<(), Fail> {
             (Outcome::Failed(io::ErrorKind::BrokenPipe), 1),
         ),
         (
+            9001,
             12,
             pipe,
             None,
@@ -330,27 +358,89 @@ fn reports_sources(rt: HostRuntime) -> Result<(), Fail> {
             (Outcome::Failed(io::ErrorKind::BrokenPipe), 1),
         ),
         (
+            9001,
             12,
             None,
             none,
             false,
             (Outcome::Failed(io::ErrorKind::NotFound), 2),
         ),
-        (3, pipe, None, false, (size, 0)),
-        (27, pipe, None, false, (size, 0)),
-        (3, pipe, None, true, (size, 0)),
-        (27, pipe, None, true, (size, 0)),
-        (12, None, None, true, (image, 1)),
+        (9001, 3, pipe, None, false, (size, 0)),
+        (9001, 27, pipe, None, false, (size, 0)),
+        (9001, 3, pipe, None, true, (size, 0)),
+        (9001, 27, pipe, None, true, (size, 0)),
+        (9001, 12, None, None, true, (image, 1)),
+        (50541, 12, pipe, None, false, (size, 0)),
+        (50541, 12, pipe, None, true, (size, 0)),
     ] {
         let outcome = taken_in(
             rt.alloc(),
+            seed,
             lg_k,
             inputs.texts.as_slice(),
             failure,
             missing,
             unites,
         );
-        assert_eq!(rt; outcome, wanted, "{lg_k} {unites}");
+        assert_eq!(rt; outcome, wanted, "{seed} {lg_k} {unites}");
+    }
+    Ok(())
+}
+
+/// The images of the two texts and of the results under the seed 42, by the same program.
+const PAIR_42: Pair<'static> = Pair {
+    first: b"02030300001af87d0400000000000000fbb607dcb134173a4711255bd8340d5091c20dfdbe5315788faf4c92bc4e177d\n",
+    second: b"02030300001af87d0500000000000000b5c2c10fb823000cfbb607dcb134173a4711255bd8340d50c15b7c474f3ccc7391c20dfdbe531578\n",
+    read: 42,
+    seed: 42,
+};
+
+const BOTH_42: &[u8] =
+    b"02030300001af87d0600000000000000b5c2c10fb823000cfbb607dcb134173a4711255bd8340d50c15b7c474f3ccc7391c20dfdbe5315788faf4c92bc4e177d\n";
+
+const SHARED_42: &[u8] =
+    b"02030300001af87d0300000000000000fbb607dcb134173a4711255bd8340d5091c20dfdbe531578\n";
+
+const FIRST_ALONE_42: &[u8] = b"01030300001af87d8faf4c92bc4e177d\n";
+
+/// The outcome of a call on the images of seed 42, read under one seed, with an operator of another.
+fn under_seeds(alloc: Global, heap: &Heap, call: Call, read: u64, seed: u64) -> Outcome {
+    let pair = Pair {
+        read,
+        seed,
+        ..PAIR_42
+    };
+    outcome_of(match call {
+        Call::Unite => match images_in(alloc, [pair.first, pair.second]) {
+            Ok(images) => unites(heap, images.as_slice(), seed, BOTH_42),
+            Err(error) => Err(Unread::from(error)),
+        },
+        Call::Meet => meets(heap, pair, SHARED_42),
+        _ => subtracts(heap, pair, FIRST_ALONE_42),
+    })
+}
+
+/// 50541 is the least seed whose seed hash is 0.
+#[test]
+fn operators_under_each_seed(rt: HostRuntime) -> Result<(), Fail> {
+    let heap = Refusing::new(rt.alloc());
+    let seed_refused = Outcome::Refused(ErrorKind::InvalidArgument);
+    let image_refused = Outcome::Refused(ErrorKind::InvalidData);
+    for (call, read, seed, wanted) in [
+        (Call::Unite, 42, 42, Outcome::Answered),
+        (Call::Meet, 42, 42, Outcome::Answered),
+        (Call::Minus, 42, 42, Outcome::Answered),
+        (Call::Unite, 42, 9001, image_refused),
+        (Call::Meet, 42, 9001, seed_refused),
+        (Call::Minus, 42, 9001, seed_refused),
+        (Call::Meet, 9001, 9001, image_refused),
+        (Call::Unite, 42, 50541, seed_refused),
+        (Call::Meet, 42, 50541, seed_refused),
+        (Call::Minus, 42, 50541, seed_refused),
+        (Call::Meet, 50541, 50541, image_refused),
+    ] {
+        let outcome = under_seeds(rt.alloc(), &heap, call, read, seed);
+        assert_eq!(rt; outcome, wanted, "{call:?} {read} {seed}");
     }
     Ok(())
 }

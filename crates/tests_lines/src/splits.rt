@@ -1,7 +1,7 @@
 //! Texts that are split into parts in many ways; the parts are sketched separately and united.
-use crate::readers::Counter;
+use crate::readers::{Counter, WHOLE_LINES};
 use line_sketches::{Texts, image_of, image_of_texts, sketch_sources, unite_images};
-use lines::{Key, cut_line};
+use lines::cut_line;
 use std::alloc::Global;
 use std::io;
 use std::test::Fail;
@@ -47,7 +47,7 @@ fn parts_of(alloc: Global, text: &[u8], every: u32) -> io::Result<Vec<Vec<u8>>> 
 fn image_at_once(alloc: Global, texts: &[Vec<u8>]) -> io::Result<Vec<u8>> {
     let mut counter = Counter { lines: 0, bytes: 0 };
     let mut parts = Texts::new(texts);
-    match sketch_sources(alloc, Key::Line, 5, &mut parts, &mut counter) {
+    match sketch_sources(alloc, WHOLE_LINES, 5, &mut parts, &mut counter) {
         Ok(sketch) => match image_of(&sketch) {
             Ok(image) => Ok(image),
             Err(_) => Ok(Vec::new(alloc)),
@@ -67,7 +67,7 @@ fn united(alloc: Global, texts: &[Vec<u8>], reversed: bool) -> io::Result<Vec<u8
         images.reverse();
     }
     let mut parts = Texts::new(images.as_slice());
-    match unite_images(alloc, 5, &mut parts) {
+    match unite_images(alloc, 9001, 5, &mut parts) {
         Ok(image) => Ok(image),
         Err(_) => Ok(Vec::new(alloc)),
     }
@@ -76,7 +76,7 @@ fn united(alloc: Global, texts: &[Vec<u8>], reversed: bool) -> io::Result<Vec<u8
 /// The image of the lines of texts by one call, whose contract states the image.
 fn united_by_one_call(alloc: Global, texts: &[Vec<u8>]) -> Vec<u8> {
     let mut counter = Counter { lines: 0, bytes: 0 };
-    match image_of_texts(alloc, Key::Line, 5, texts, &mut counter) {
+    match image_of_texts(alloc, WHOLE_LINES, 5, texts, &mut counter) {
         Ok(image) => image,
         Err(_) => Vec::new(alloc),
     }

@@ -1,7 +1,7 @@
 use Rattle.std.proofs.Common.{◌≡◌, ◌++◌, [], take, sym, ap, ◌∙◌, refl, arith}
 use Rattle.std.proofs.lemmas.List.{append-nil}
 use Rattle.std.proofs.KnownBytes.{Consumes-nil, Consumes-whole, Consumes-trans, Consumes-kept}
-use Rattle.line_sketches.specs.Keys.{held, with_lines}
+use Rattle.line_sketches.specs.Keys.{state_of, with_lines}
 use Rattle.lines.specs.Lines.{lines_of}
 use Rattle.line_sketches.proofs.Takings.{takes_all, takes_both}
 use Rattle.line_sketches.proofs.sketching.add_lines.Goals.{in-Ok+in_ok-lines-in-Ok, in-Err+else-ne}
@@ -18,7 +18,7 @@ returns-in-Ok-eq0-clause-lines g c =
     Consumes-whole (g.R.Read.remaining c.args.reader.now) (g.R.Read.remaining c.read.new.self) all _
     (Consumes-trans (g.R.Read.remaining c.args.reader.now) (g.R.Read.remaining c.loop.reader) (g.R.Read.remaining c.read.new.self) inv.0 (take c.in-Ok-eq0.field-0 c.read.new.buf) inv.2 c.in-Ok-eq0.ensures.bytes.0)
     (c.in-Ok-eq0.ensures.bytes.1 c.in-Ok-eq0.field-0-test (omega arith))
-    (c.in_ok-take_last-in-Ok-eq0.ensures.taken c.args.key inv.1 inv.3 ∙ sym (takes_all c.args.key (held c.args.sketch.now) (held c.loop.sketch) inv.0 inv.1 inv.4) ∙ ap (λ bs. with_lines c.args.key (held c.args.sketch.now) (lines_of bs)) (sym none))
+    (c.in_ok-take_last-in-Ok-eq0.ensures.taken c.args.hashing inv.1 inv.3 ∙ sym (takes_all c.args.hashing (state_of c.args.sketch.now) (state_of c.loop.sketch) inv.0 inv.1 inv.4) ∙ ap (λ bs. with_lines c.args.hashing (state_of c.args.sketch.now) (lines_of bs)) (sym none))
 
 pub loop-preserved : goal.loop-preserved
 loop-preserved g c = let inv = c.loop.invariant in elim c.match-read.branch [
@@ -30,7 +30,7 @@ loop-preserved g c = let inv = c.loop.invariant in elim c.match-read.branch [
         step.0,
         Consumes-trans (g.R.Read.remaining c.args.reader.now) (g.R.Read.remaining c.loop.reader) (g.R.Read.remaining c.read.new.self) inv.0 block inv.2 w.in-Ok.ensures.bytes.0,
         step.1,
-        takes_both c.args.key (held c.args.sketch.now) (held c.loop.sketch) (held w.take_block.new.sketch) [] inv.0 inv.1 block step.0 inv.4 step.2,
+        takes_both c.args.hashing (state_of c.args.sketch.now) (state_of c.loop.sketch) (state_of w.take_block.new.sketch) [] inv.0 inv.1 block step.0 inv.4 step.2,
       )
   | in-Err+else-ne w ↦
       rw (w.last-is, w.sketch-is) (

@@ -4,8 +4,8 @@ use Rattle.line_sketches.proofs.Worth.{trimmed_value, trimmed_seed, ordered_resu
 use Rattle.line_sketches.proofs.sketching.finished.Goals as goal
 
 pub returns-clause-sketch : goal.returns-clause-sketch
-returns-clause-sketch g c = λ key lg_k lines is.
-    ordered_result c.compact.result (sketch_value c.trim.new.self) (value_of_lines key lg_k lines) c.trim.new.self.map.seed_hash
-    (trimmed_seed key lg_k lines c.args.sketch.now c.trim.new.self is c.in_ok-trim.ensures.after)
-    (trimmed_value key lg_k lines c.args.sketch.now c.trim.new.self is c.in_ok-trim.ensures.same_emptiness c.in_ok-trim.ensures.after)
+returns-clause-sketch g c = λ hashing lg_k lines is.
+    ordered_result hashing.seed c.compact.result (sketch_value c.trim.new.self) (value_of_lines hashing lg_k lines) c.trim.new.self.map.seed_hash
+    (trimmed_seed hashing lg_k lines c.args.sketch.now c.trim.new.self is c.in_ok-trim.ensures.after)
+    (trimmed_value hashing lg_k lines c.args.sketch.now c.trim.new.self is c.in_ok-trim.ensures.same_emptiness c.in_ok-trim.ensures.after)
     c.compact.ensures.ok

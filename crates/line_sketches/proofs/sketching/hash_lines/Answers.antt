@@ -10,6 +10,6 @@ hash_each-preserved c =
     let lt : c.hash_each.hash-index < length c.hash_each.hashes = omega (arith, c.hash_each-test.true, c.hash_each.auto.hashes) in
     record {
       count = omega (arith, was.count);
-      hashed = hashed_next c.args.key c.args.text.now c.hash_each.hashes c.hash_each.rest.now c.in-Some.line.now c.in-Some.others.now c.hash_each.count c.hash_each.hash-index c.line_hash.result was.count lt was.hashed parts c.in-Some.ensures.line c.line_hash.ensures;
+      hashed = hashed_next c.args.hashing c.args.text.now c.hash_each.hashes c.hash_each.rest.now c.in-Some.line.now c.in-Some.others.now c.hash_each.count c.hash_each.hash-index c.line_hash.result was.count lt was.hashed parts c.in-Some.ensures.line c.line_hash.ensures;
       shorter = omega (arith, long, was.shorter);
     }

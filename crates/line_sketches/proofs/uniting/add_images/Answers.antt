@@ -10,7 +10,7 @@ use Rattle.line_sketches.proofs.uniting.add_images.Goals as goal
 pub loop-init : goal.loop-init
 loop-init g c = record {
   united = λ lg_k images has.
-      continues_itself (g.S.Sources.texts c.args.sources.now) (λ taken. HasUnited lg_k (images ++ taken) c.args.union.now) (subst (λ (is : List (List ℕ)). HasUnited lg_k is c.args.union.now) (sym (append-nil images)) has);
+      continues_itself (g.S.Sources.texts c.args.sources.now) (λ taken. HasUnited c.args.seed lg_k (images ++ taken) c.args.union.now) (subst (λ (is : List (List ℕ)). HasUnited c.args.seed lg_k is c.args.union.now) (sym (append-nil images)) has);
   ready = λ ready. ready;
   parted = continues_itself (g.S.Sources.texts c.args.sources.now) (λ taken. Unit {0}) tt;
 }
@@ -18,10 +18,10 @@ loop-init g c = record {
 pub loop-preserved : goal.loop-preserved
 loop-preserved g c = record {
   united = λ lg_k images has.
-      continues_next g.S.Source.Read.remaining (λ taken. HasUnited lg_k (images ++ taken) c.loop.union) (λ taken. HasUnited lg_k (images ++ taken) c.add_reader.new.union)
+      continues_next g.S.Source.Read.remaining (λ taken. HasUnited c.args.seed lg_k (images ++ taken) c.loop.union) (λ taken. HasUnited c.args.seed lg_k (images ++ taken) c.add_reader.new.union)
       (g.S.Sources.texts c.args.sources.now) (g.S.Sources.texts c.loop.sources) (g.S.Sources.texts c.next_source.new.self) c.in-Ok-Some.field-0 c.in-Ok-Some.source (c.loop.invariant.united lg_k images has) c.in-Ok-Some.ensures c.in-Ok-Some.field-0-is
-      (λ taken held. if_some (g.S.Source.Read.remaining c.in-Ok-Some.source) (λ image. HasUnited lg_k ((images ++ taken) ++ image ∷ []) c.add_reader.new.union) (λ image. HasUnited lg_k (images ++ (taken ++ image ∷ [])) c.add_reader.new.union)
-      (λ image now. subst (λ (is : List (List ℕ)). HasUnited lg_k is c.add_reader.new.union) (append_assoc images taken (image ∷ [])) now) (c.in_ok-add_reader-in-Ok-Some.ensures.united lg_k (images ++ taken) held));
+      (λ taken held. if_some (g.S.Source.Read.remaining c.in-Ok-Some.source) (λ image. HasUnited c.args.seed lg_k ((images ++ taken) ++ image ∷ []) c.add_reader.new.union) (λ image. HasUnited c.args.seed lg_k (images ++ (taken ++ image ∷ [])) c.add_reader.new.union)
+      (λ image now. subst (λ (is : List (List ℕ)). HasUnited c.args.seed lg_k is c.add_reader.new.union) (append_assoc images taken (image ∷ [])) now) (c.in_ok-add_reader-in-Ok-Some.ensures.united lg_k (images ++ taken) held));
   ready = λ ready. c.in_ok-add_reader-in-Ok-Some.ensures.ready (c.loop.invariant.ready ready);
   parted = continues_next g.S.Source.Read.remaining (λ taken. Unit {0}) (λ taken. Unit {0}) (g.S.Sources.texts c.args.sources.now) (g.S.Sources.texts c.loop.sources) (g.S.Sources.texts c.next_source.new.self)
       c.in-Ok-Some.field-0 c.in-Ok-Some.source c.loop.invariant.parted c.in-Ok-Some.ensures c.in-Ok-Some.field-0-is (λ taken one. if_any (g.S.Source.Read.remaining c.in-Ok-Some.source));
@@ -29,7 +29,7 @@ loop-preserved g c = record {
 
 pub returns-in-Ok-None-clause-united : goal.returns-in-Ok-None-clause-united
 returns-in-Ok-None-clause-united g c = λ lg_k images has.
-    continues_end g.S.Source.Read.remaining (λ taken. HasUnited lg_k (images ++ taken) c.loop.union) (λ taken. HasUnited lg_k (images ++ taken) c.loop.union)
+    continues_end g.S.Source.Read.remaining (λ taken. HasUnited c.args.seed lg_k (images ++ taken) c.loop.union) (λ taken. HasUnited c.args.seed lg_k (images ++ taken) c.loop.union)
     (g.S.Sources.texts c.args.sources.now) (g.S.Sources.texts c.loop.sources) (g.S.Sources.texts c.next_source.new.self) c.in-Ok-None.field-0 (c.loop.invariant.united lg_k images has) c.in-Ok-None.ensures c.in-Ok-None.field-0-is
 
 pub returns-in-Ok-None-clause-ready : goal.returns-in-Ok-None-clause-ready
@@ -42,5 +42,5 @@ returns-in_err-add_reader-in-Ok-Some-clause-refused g c = λ ready.
     let result = c.from_residual-in_err-add_reader-in-Ok-Some.result in
     let p = err_from_is_err_and result c.from_residual-in_err-add_reader-in-Ok-Some.ensures.1 in
     let refused = c.in_err-add_reader-in-Ok-Some.ensures.refused (c.loop.invariant.ready ready) in
-    let step = faulty_next g.S.Source.Read.remaining texts (g.S.Sources.texts c.loop.sources) (g.S.Sources.texts c.next_source.new.self) c.in-Ok-Some.field-0 c.in-Ok-Some.source c.loop.invariant.parted c.in-Ok-Some.ensures c.in-Ok-Some.field-0-is in
-    subst (λ r. IfErr r (IsImagesRefusal texts)) (sym p.1) (subst (IsImagesRefusal texts) (sym p.2) (images_refused image texts c.in_err-add_reader-in-Ok-Some.field-0.0 step refused))
+    let step = faulty_next c.args.seed g.S.Source.Read.remaining texts (g.S.Sources.texts c.loop.sources) (g.S.Sources.texts c.next_source.new.self) c.in-Ok-Some.field-0 c.in-Ok-Some.source c.loop.invariant.parted c.in-Ok-Some.ensures c.in-Ok-Some.field-0-is in
+    subst (λ r. IfErr r (IsImagesRefusal c.args.seed texts)) (sym p.1) (subst (IsImagesRefusal c.args.seed texts) (sym p.2) (images_refused c.args.seed image texts c.in_err-add_reader-in-Ok-Some.field-0.0 step refused))

@@ -1,7 +1,6 @@
 use Rattle.std.proofs.Common.{◌≡◌, ◌∷◌, ◌++◌, [], ℕ, Vec, Global, Option, Result, Ok, Err, true, refl, ap, sym, subst, ◌∙◌, arith}
 use Rattle.std.specs.Prelude.{length, map, IfOk}
 use Rattle.std.proofs.lemmas.Result.{err_from_is_err_and}
-use Rattle.sketch_base.specs.declared.seed.TheConstants.{DEFAULT_UPDATE_SEED}
 use Rattle.core_laws.specs.Refusal.{Refuses}
 use Rattle.core_laws.specs.declared.TheConstants.{MAX_THETA}
 use Rattle.core_laws.specs.Settings.{settings_refusal}
@@ -9,14 +8,13 @@ use Rattle.line_sketches.specs.Keys.{image_of_text, image_of_lines}
 use Rattle.line_sketches.specs.Shards.{images_of_texts}
 use Rattle.line_sketches.specs.Unions.{IsUnitedImage}
 use Rattle.line_sketches.proofs.Compacts.{text_more, texts_made, united_apart}
-use Rattle.line_sketches.proofs.DefaultSeed.{refuses_memory}
-use Rattle.line_sketches.proofs.Refused.{text_refused}
+use Rattle.line_sketches.proofs.Refused.{refuses_memory, text_refused}
 use Rattle.line_sketches.proofs.Unions.{nothing_united, size_small}
 use Rattle.line_sketches.proofs.uniting.image_of_texts.Goals as goal
 
 pub loop-text-init : goal.loop-text-init
 loop-text-init g c = record {
-  united = ([], refl, nothing_united c.args.lg_k c.in_ok-union.union c.in_ok-union.ensures.made);
+  united = ([], refl, nothing_united c.args.hashing.seed c.args.lg_k c.in_ok-union.union c.in_ok-union.ensures.made);
   ready = record { sound = ap (λ u. u.failed) c.in_ok-union.ensures.made; seeded = ap (λ u. u.seed_hash) c.in_ok-union.ensures.made };
 }
 
@@ -24,12 +22,12 @@ pub loop-text-preserved : goal.loop-text-preserved
 loop-text-preserved g c =
     let inv = c.loop-text.invariant.united in
     let image = c.as_slice-in-Some.result.now in
-    let is = c.as_slice-in-Some.ensures.value ∙ c.in_ok-image.ensures.image ∙ ap (image_of_text c.args.key c.args.lg_k) c.as_slice.ensures.value in
+    let is = c.as_slice-in-Some.ensures.value ∙ c.in_ok-image.ensures.image ∙ ap (image_of_text c.args.hashing c.args.lg_k) c.as_slice.ensures.value in
     record {
       united = (
         inv.0 ++ image ∷ [],
-        text_more (λ (v : Vec ℕ Global). v.items) c.args.key c.args.lg_k inv.0 image c.in-Some.text.now c.loop-text.left.now c.in-Some.others.now
-            (images_of_texts c.args.key c.args.lg_k (map (λ (v : Vec ℕ Global). v.items) c.args.texts.now)) inv.1 c.in-Some.ensures.cases.0 is,
+        text_more (λ (v : Vec ℕ Global). v.items) c.args.hashing c.args.lg_k inv.0 image c.in-Some.text.now c.loop-text.left.now c.in-Some.others.now
+            (images_of_texts c.args.hashing c.args.lg_k (map (λ (v : Vec ℕ Global). v.items) c.args.texts.now)) inv.1 c.in-Some.ensures.cases.0 is,
         c.in_ok-add_image.ensures.united c.args.lg_k inv.0 inv.2,
       );
       ready = c.in_ok-add_image.ensures.ready c.loop-text.invariant.ready;
@@ -39,9 +37,9 @@ pub returns-in_err-add_image-clause-refused : goal.returns-in_err-add_image-clau
 returns-in_err-add_image-clause-refused g c =
     let result = c.from_residual-in_err-add_image.result in
     let p = err_from_is_err_and result c.from_residual-in_err-add_image.ensures.1 in
-    let is = c.as_slice-in-Some.ensures.value ∙ c.in_ok-image.ensures.image ∙ ap (image_of_text c.args.key c.args.lg_k) c.as_slice.ensures.value in
-    refuses_memory result (settings_refusal c.args.lg_k MAX_THETA DEFAULT_UPDATE_SEED) p.0 p.1
-    (p.2 ∙ text_refused c.read_again.ensures c.args.key c.args.lg_k c.in-Some.text.now.items c.as_slice-in-Some.result.now c.in_err-add_image.field-0.0 c.in_ok-union.ensures.refused is (c.in_err-add_image.ensures.refused c.loop-text.invariant.ready))
+    let is = c.as_slice-in-Some.ensures.value ∙ c.in_ok-image.ensures.image ∙ ap (image_of_text c.args.hashing c.args.lg_k) c.as_slice.ensures.value in
+    refuses_memory result (settings_refusal c.args.lg_k MAX_THETA c.args.hashing.seed) p.0 p.1
+    (p.2 ∙ text_refused c.read_again.ensures c.args.hashing c.args.lg_k c.in-Some.text.now.items c.as_slice-in-Some.result.now c.in_err-add_image.field-0.0 c.in_ok-union.ensures.refused is (c.in_err-add_image.ensures.refused c.loop-text.invariant.ready))
 
 if_ok : {V E : Type 0} (r : Result V E) (P Q : V → Type 0) → IfOk r P → ((v : V) → P v → Q v) → IfOk r Q
 if_ok (Ok v) P Q holds then = then v holds
@@ -53,8 +51,8 @@ returns g c = record {
       let none : length c.loop-text.left.now ≡ 0 = grind (arith, c.in_default.ensures.cases, c.in_default.ensures.variant, c.in_default.not-Some) in
       let texts = map (λ (v : Vec ℕ Global). v.items) c.args.texts.now in
       let inv = c.loop-text.invariant.united in
-      let are = texts_made (λ (v : Vec ℕ Global). v.items) c.args.key c.args.lg_k inv.0 c.loop-text.left.now (images_of_texts c.args.key c.args.lg_k texts) inv.1 none in
-      if_ok c.united_image.result (λ v. IsUnitedImage c.args.lg_k inv.0 v.items) (λ v. v.items ≡ image_of_lines c.args.key c.args.lg_k lines) (c.united_image.ensures.image c.args.lg_k inv.0 inv.2)
-      (λ v image. united_apart c.one_reading.ensures c.read_again.ensures c.args.key c.args.lg_k (size_small c.args.lg_k c.in_ok-union.ensures.refused) texts lines inv.0 v.items same are image);
-  refused = subst (λ (o : Option _). Refuses c.united_image.result o true) (sym c.in_ok-union.ensures.refused) (c.united_image.ensures.refused c.loop-text.invariant.ready);
+      let are = texts_made (λ (v : Vec ℕ Global). v.items) c.args.hashing c.args.lg_k inv.0 c.loop-text.left.now (images_of_texts c.args.hashing c.args.lg_k texts) inv.1 none in
+      if_ok c.united_image.result (λ v. IsUnitedImage c.args.hashing.seed c.args.lg_k inv.0 v.items) (λ v. v.items ≡ image_of_lines c.args.hashing c.args.lg_k lines) (c.united_image.ensures.image c.args.hashing.seed c.args.lg_k inv.0 inv.2)
+      (λ v image. united_apart c.one_reading.ensures c.read_again.ensures c.args.hashing c.args.lg_k (size_small c.args.hashing.seed c.args.lg_k c.in_ok-union.ensures.refused) texts lines inv.0 v.items same are image);
+  refused = subst (λ (o : Option _). Refuses c.united_image.result o true) (sym c.in_ok-union.ensures.refused) (c.united_image.ensures.refused c.args.hashing.seed c.loop-text.invariant.ready);
 }

@@ -7,8 +7,8 @@ use Rattle.line_sketches.proofs.uniting.image_of_texts.Given as goal
 -- the images so far are united, and those of the texts that are left complete the images of all
 abbrev pub invariant-loop-text : goal.invariant-loop-text
 invariant-loop-text g l = record {
-  united : (images : List (List ℕ)) × (images ++ images_of_texts l.key l.lg_k (map (λ v. v.items) l.left) ≡ images_of_texts l.key l.lg_k (map (λ v. v.items) l.texts)) × HasUnited l.lg_k images l.union;
-  ready : IsReady l.union;
+  united : (images : List (List ℕ)) × (images ++ images_of_texts l.hashing l.lg_k (map (λ v. v.items) l.left) ≡ images_of_texts l.hashing l.lg_k (map (λ v. v.items) l.texts)) × HasUnited l.hashing.seed l.lg_k images l.union;
+  ready : IsReady l.hashing.seed l.union;
 }
 
 abbrev pub decreases-loop-text : goal.decreases-loop-text
