@@ -158,7 +158,7 @@ def preamble_length(image):
 
 def image_length(image):
     """The length of the image that the bytes begin, or None if too few are there."""
-    if len(image) < 8 or not 1 <= image[1] <= 3 or len(image) < preamble_length(image):
+    if len(image) < 8 or not (1 <= image[0] <= 3 and 1 <= image[1] <= 3) or len(image) < preamble_length(image):
         return None
     if is_empty(image):
         return 8
@@ -182,11 +182,11 @@ def flaw_of(image, own_hash):
         return "is in big-endian order, which is not read"
     if image[1] > 1 and not is_emptied(image) and struct.unpack_from("<H", image, 6)[0] != own_hash:
         return "is a sketch under another seed than this command's: pass the --seed it was made with"
+    if not 1 <= image[0] <= 3 or length == len(image):
+        return "is damaged: its hashes or its theta are not those of a theta sketch"
     if length is None or length > len(image):
         return "is cut short"
-    if length < len(image):
-        return "is longer than one image; with --hex a file may have many"
-    return "is damaged: its hashes or its theta are not those of a theta sketch"
+    return "is longer than one image; with --hex a file may have many"
 
 
 def is_emptied(image):
@@ -203,7 +203,7 @@ def theta_of(image):
 def sketch_of_image(image, own_hash):
     """The sketch that one image is read as."""
     length = image_length(image)
-    if length != len(image) or image[2] != 3 or not 1 <= image[0] <= 3:
+    if length != len(image) or image[2] != 3:
         raise Failure(flaw_of(image, own_hash))
     if is_emptied(image):
         return None
