@@ -3,7 +3,6 @@ use Rattle.std.specs.Prelude.{ℕ, ◌≡◌, ◌<◌, ◌⊎◌, ⊤, IsTrue, B
 use Rattle.std.specs.Option.{option_map}
 use Rattle.distinct_arguments.specs.Arguments.{Action, prints, runs, fails, Awaiting, Meaning, help, sets, awaits, wrong, files_action, run_action, command_action}
 use Rattle.distinct_arguments.specs.Settings.{SeedValue, seed_number, seed_file, OptionValues, Mistake, no_command, unknown_command, unknown_option, behind_file, no_value, unneeded_value, wrong_size, wrong_field, wrong_separator, wrong_seed, wrong_deviations, wrong_count, lone_separator, files_and_list, standard_twice}
-use Rattle.distinct_arguments.specs.Words.{Setting}
 use Rattle.distinct_arguments.specs.declared.arguments.Meaning.{Meaning as MeaningOf}
 use Rattle.distinct_arguments.specs.declared.arguments.Meaning.TheVariants.{Help as MeansHelp, Sets, Awaits}
 use Rattle.distinct_arguments.specs.declared.arguments.Step.{Step}
@@ -97,10 +96,6 @@ SetsOptions (Ok options) (Ok values) = options_of options ≡ values
 SetsOptions (Err fault) (Err mistake) = Reports fault mistake
 SetsOptions (Ok options) (Err mistake) = ⊥
 SetsOptions (Err fault) (Ok values) = ⊥
-
--- an option's name and value
-abbrev pub setting_of : Bor (List ℕ) × Option (Bor (List ℕ)) → Setting
-setting_of setting = record { name = setting.0.now; value = option_map (λ value. value.now) setting.1 }
 
 -- the meaning of a word, which has this option's name, or what is wrong with it
 abbrev pub meaning_value : (name : List ℕ) → MeaningOf → Meaning

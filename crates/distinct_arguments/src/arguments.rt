@@ -1,8 +1,9 @@
 //! The program's arguments.
 ghost use Rattle.std.specs.Prelude.{◌≡◌, ◌∷◌, true, false, None, codes, map, string_bytes};
+ghost use Rattle.std.specs.Option.{option_map};
 ghost use Rattle.std.specs.Str.{bytes_eq};
 ghost use Rattle.distinct_arguments.specs.Arguments.{action_of, command_action, help_meaning, option_meaning, setting_meaning};
-ghost use Rattle.distinct_arguments.specs.Faults.{options_of, setting_of, IsMeaning, IsStep, ParsesAs};
+ghost use Rattle.distinct_arguments.specs.Faults.{options_of, IsMeaning, IsStep, ParsesAs};
 ghost use Rattle.distinct_arguments.specs.Words.{is_option, split_option};
 
 use crate::commands::{Command, Request, Topic};
@@ -28,11 +29,11 @@ fn meaning_of_option<'a>(
     command: Command,
     options: Options<'a>,
     option: OptionName,
-    setting: (&'a str, Option<&'a str>),
+    name: &str,
+    value: Option<&'a str>,
 ) -> Result<Meaning<'a>, Fault>
-    ensures { IsMeaning (setting_of setting).name result (option_meaning command (options_of options.entry) (setting_of setting) option) }
+    ensures { IsMeaning name.now result (option_meaning command (options_of options.entry) (record { name = name.now; value = option_map (λ text. text.now) value.entry }) option) }
 {
-    let (name, value) = setting;
     if !has_option(command, option) {
         return Err(unknown_option(alloc, name));
     }
@@ -53,11 +54,11 @@ fn meaning_of<'a>(
     alloc: Global,
     command: Command,
     options: Options<'a>,
-    setting: (&'a str, Option<&'a str>),
+    name: &str,
+    value: Option<&'a str>,
 ) -> Result<Meaning<'a>, Fault>
-    ensures { IsMeaning (setting_of setting).name result (setting_meaning command (options_of options.entry) (setting_of setting)) }
+    ensures { IsMeaning name.now result (setting_meaning command (options_of options.entry) (record { name = name.now; value = option_map (λ text. text.now) value.entry })) }
 {
-    let (name, value) = setting;
     if is_help(name) {
         return match value {
             Some(_) => Err(unneeded_value(alloc, name)),
@@ -65,7 +66,7 @@ fn meaning_of<'a>(
         };
     }
     match option_called(name) {
-        Some(option) => meaning_of_option(alloc, command, options, option, setting),
+        Some(option) => meaning_of_option(alloc, command, options, option, name, value),
         None => Err(unknown_option(alloc, name)),
     }
 }
@@ -91,16 +92,16 @@ fn read_option<'a>(
     ensures { IsStep command (options_of options.entry) (string_bytes word.now ∷ map (λ other. string_bytes other) others.now) result }
 {
     let alloc = *word.allocator();
-    let setting = split_option(word.as_str());
-    let option = match meaning_of(alloc, command, options, setting)? {
+    let (name, text) = split_option(word.as_str());
+    let option = match meaning_of(alloc, command, options, name, text)? {
         Meaning::Help => return Ok(Step::Help),
         Meaning::Sets(changed) => return Ok(Step::Next(changed, others)),
         Meaning::Awaits(option) => option,
     };
     let Some((value, behind)) = others.split_first() else {
-        return Err(no_value(alloc, setting.0));
+        return Err(no_value(alloc, name));
     };
-    let changed = with_value(alloc, options, option, setting.0, value.as_str())?;
+    let changed = with_value(alloc, options, option, name, value.as_str())?;
     Ok(Step::Next(changed, behind))
 }
 
