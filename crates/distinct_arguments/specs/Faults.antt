@@ -113,12 +113,12 @@ abbrev pub IsMeaning : (name : List ℕ) → Result MeaningOf Fault → Meaning 
 IsMeaning name (Ok found) meaning = meaning_value name found ≡ meaning
 IsMeaning name (Err fault) meaning = IsWrong fault meaning
 
--- The front of words: an option, after which fewer words mean the same, or all that the words mean. The last files are those behind `--`.
-abbrev pub IsStep : Command → OptionValues → (words : List (List ℕ)) → Result Step Fault → Type 0
-IsStep command options words (Ok (Next changed behind)) =
-    (length behind.now < length words)
-    × (command_action command (options_of changed) None (map (λ word. string_bytes word) behind.now) ≡ command_action command options None words)
-IsStep command options words (Ok Help) = prints (HelpOn command) ≡ command_action command options None words
-IsStep command options words (Ok (Files files)) = files_action command options (map (λ file. string_bytes file) files.now) ≡ command_action command options None words
-IsStep command options words (Ok (Behind files)) = run_action command options (map (λ file. string_bytes file) files.now) ≡ command_action command options None words
-IsStep command options words (Err fault) = ReportsMistake fault (command_action command options None words)
+-- The front of words after a command: an option, behind which fewer words than this count have the same action, or all that the words
+-- mean. The last files are those behind `--`.
+abbrev pub IsStep : Command → OptionValues → (count : ℕ) → Action → Result Step Fault → Type 0
+IsStep command options count action (Ok (Next changed behind)) =
+    (length behind.now < count) × (command_action command (options_of changed) None (map (λ word. string_bytes word) behind.now) ≡ action)
+IsStep command options count action (Ok Help) = prints (HelpOn command) ≡ action
+IsStep command options count action (Ok (Files files)) = files_action command options (map (λ file. string_bytes file) files.now) ≡ action
+IsStep command options count action (Ok (Behind files)) = run_action command options (map (λ file. string_bytes file) files.now) ≡ action
+IsStep command options count action (Err fault) = ReportsMistake fault action
