@@ -3,7 +3,6 @@ use Rattle.std.specs.Prelude.{ℕ, ◌≡◌, ◌<◌, ◌⊎◌, ⊤, IsTrue, B
 use Rattle.std.specs.Option.{option_map}
 use Rattle.distinct_arguments.specs.Arguments.{Action, prints, runs, fails, Awaiting, Meaning, help, sets, awaits, wrong, files_action, run_action, command_action}
 use Rattle.distinct_arguments.specs.Settings.{SeedValue, seed_number, seed_file, OptionValues, Mistake, no_command, unknown_command, unknown_option, behind_file, no_value, unneeded_value, wrong_size, wrong_field, wrong_separator, wrong_seed, wrong_deviations, wrong_count, lone_separator, files_and_list, standard_twice}
-use Rattle.distinct_arguments.specs.Words.{Setting}
 use Rattle.distinct_arguments.specs.declared.arguments.Meaning.{Meaning as MeaningOf}
 use Rattle.distinct_arguments.specs.declared.arguments.Meaning.TheVariants.{Help as MeansHelp, Sets, Awaits}
 use Rattle.distinct_arguments.specs.declared.arguments.Step.{Step}
@@ -98,10 +97,6 @@ SetsOptions (Err fault) (Err mistake) = Reports fault mistake
 SetsOptions (Ok options) (Err mistake) = ⊥
 SetsOptions (Err fault) (Ok values) = ⊥
 
--- an option's name and value
-abbrev pub setting_of : Bor (List ℕ) × Option (Bor (List ℕ)) → Setting
-setting_of setting = record { name = setting.0.now; value = option_map (λ value. value.now) setting.1 }
-
 -- the meaning of a word, which has this option's name, or what is wrong with it
 abbrev pub meaning_value : (name : List ℕ) → MeaningOf → Meaning
 meaning_value name MeansHelp = help
@@ -118,12 +113,12 @@ abbrev pub IsMeaning : (name : List ℕ) → Result MeaningOf Fault → Meaning 
 IsMeaning name (Ok found) meaning = meaning_value name found ≡ meaning
 IsMeaning name (Err fault) meaning = IsWrong fault meaning
 
--- The front of words: an option, after which fewer words mean the same, or all that the words mean. The last files are those behind `--`.
-abbrev pub IsStep : Command → OptionValues → (words : List (List ℕ)) → Result Step Fault → Type 0
-IsStep command options words (Ok (Next changed behind)) =
-    (length behind.now < length words)
-    × (command_action command (options_of changed) None (map (λ word. string_bytes word) behind.now) ≡ command_action command options None words)
-IsStep command options words (Ok Help) = prints (HelpOn command) ≡ command_action command options None words
-IsStep command options words (Ok (Files files)) = files_action command options (map (λ file. string_bytes file) files.now) ≡ command_action command options None words
-IsStep command options words (Ok (Behind files)) = run_action command options (map (λ file. string_bytes file) files.now) ≡ command_action command options None words
-IsStep command options words (Err fault) = ReportsMistake fault (command_action command options None words)
+-- The front of words after a command: an option, behind which fewer words than this count have the same action, or all that the words
+-- mean. The last files are those behind `--`.
+abbrev pub IsStep : Command → OptionValues → (count : ℕ) → Action → Result Step Fault → Type 0
+IsStep command options count action (Ok (Next changed behind)) =
+    (length behind.now < count) × (command_action command (options_of changed) None (map (λ word. string_bytes word) behind.now) ≡ action)
+IsStep command options count action (Ok Help) = prints (HelpOn command) ≡ action
+IsStep command options count action (Ok (Files files)) = files_action command options (map (λ file. string_bytes file) files.now) ≡ action
+IsStep command options count action (Ok (Behind files)) = run_action command options (map (λ file. string_bytes file) files.now) ≡ action
+IsStep command options count action (Err fault) = ReportsMistake fault action

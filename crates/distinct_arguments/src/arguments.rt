@@ -1,8 +1,9 @@
 //! The program's arguments.
-ghost use Rattle.std.specs.Prelude.{◌≡◌, ◌∷◌, true, false, None, codes, map, string_bytes};
+ghost use Rattle.std.specs.Prelude.{◌≡◌, ◌+◌, ◌∷◌, true, false, Some, None, codes, length, map, string_bytes};
+ghost use Rattle.std.specs.Option.{option_map};
 ghost use Rattle.std.specs.Str.{bytes_eq};
 ghost use Rattle.distinct_arguments.specs.Arguments.{action_of, command_action, help_meaning, option_meaning, setting_meaning};
-ghost use Rattle.distinct_arguments.specs.Faults.{options_of, setting_of, IsMeaning, IsStep, ParsesAs};
+ghost use Rattle.distinct_arguments.specs.Faults.{options_of, IsMeaning, IsStep, ParsesAs};
 ghost use Rattle.distinct_arguments.specs.Words.{is_option, split_option};
 
 use crate::commands::{Command, Request, Topic};
@@ -28,11 +29,11 @@ fn meaning_of_option<'a>(
     command: Command,
     options: Options<'a>,
     option: OptionName,
-    setting: (&'a str, Option<&'a str>),
+    name: &str,
+    value: Option<&'a str>,
 ) -> Result<Meaning<'a>, Fault>
-    ensures { IsMeaning (setting_of setting).name result (option_meaning command (options_of options.entry) (setting_of setting) option) }
+    ensures { IsMeaning name.now result (option_meaning command (options_of options.entry) (record { name = name.now; value = option_map (λ text. text.now) value.entry }) option) }
 {
-    let (name, value) = setting;
     if !has_option(command, option) {
         return Err(unknown_option(alloc, name));
     }
@@ -53,11 +54,11 @@ fn meaning_of<'a>(
     alloc: Global,
     command: Command,
     options: Options<'a>,
-    setting: (&'a str, Option<&'a str>),
+    name: &str,
+    value: Option<&'a str>,
 ) -> Result<Meaning<'a>, Fault>
-    ensures { IsMeaning (setting_of setting).name result (setting_meaning command (options_of options.entry) (setting_of setting)) }
+    ensures { IsMeaning name.now result (setting_meaning command (options_of options.entry) (record { name = name.now; value = option_map (λ text. text.now) value.entry })) }
 {
-    let (name, value) = setting;
     if is_help(name) {
         return match value {
             Some(_) => Err(unneeded_value(alloc, name)),
@@ -65,7 +66,7 @@ fn meaning_of<'a>(
         };
     }
     match option_called(name) {
-        Some(option) => meaning_of_option(alloc, command, options, option, setting),
+        Some(option) => meaning_of_option(alloc, command, options, option, name, value),
         None => Err(unknown_option(alloc, name)),
     }
 }
@@ -79,6 +80,27 @@ enum Step<'a> {
     Behind(&'a [String]),
 }
 
+/// Reads the value of an option of this name, which is the next word.
+fn read_value<'a>(
+    alloc: Global,
+    command: Command,
+    options: Options<'a>,
+    option: OptionName,
+    name: &str,
+    words: &'a [String],
+) -> Result<Step<'a>, Fault>
+    ensures { IsStep command (options_of options.entry) (length words.now + 1)
+        (command_action command (options_of options.entry) (Some (record { option = option; name = name.now })) (map (λ word. string_bytes word) words.now)) result }
+{
+    let Some((value, behind)) = words.split_first() else {
+        return Err(no_value(alloc, name));
+    };
+    match with_value(alloc, options, option, name, value.as_str()) {
+        Ok(changed) => Ok(Step::Next(changed, behind)),
+        Err(fault) => Err(fault),
+    }
+}
+
 /// Reads the option in front of other words.
 fn read_option<'a>(
     command: Command,
@@ -88,20 +110,19 @@ fn read_option<'a>(
 ) -> Result<Step<'a>, Fault>
     requires no_end { bytes_eq (string_bytes word.now) (codes "--") ≡ false }
     requires no_file { is_option (string_bytes word.now) ≡ true }
-    ensures { IsStep command (options_of options.entry) (string_bytes word.now ∷ map (λ other. string_bytes other) others.now) result }
+    ensures { IsStep command (options_of options.entry) (length others.now + 1)
+        (command_action command (options_of options.entry) None (string_bytes word.now ∷ map (λ other. string_bytes other) others.now)) result }
 {
     let alloc = *word.allocator();
-    let setting = split_option(word.as_str());
-    let option = match meaning_of(alloc, command, options, setting)? {
-        Meaning::Help => return Ok(Step::Help),
-        Meaning::Sets(changed) => return Ok(Step::Next(changed, others)),
-        Meaning::Awaits(option) => option,
-    };
-    let Some((value, behind)) = others.split_first() else {
-        return Err(no_value(alloc, setting.0));
-    };
-    let changed = with_value(alloc, options, option, setting.0, value.as_str())?;
-    Ok(Step::Next(changed, behind))
+    let (name, text) = split_option(word.as_str());
+    match meaning_of(alloc, command, options, name, text) {
+        Ok(Meaning::Help) => Ok(Step::Help),
+        Ok(Meaning::Sets(changed)) => Ok(Step::Next(changed, others)),
+        Ok(Meaning::Awaits(option)) => {
+            read_value(alloc, command, options, option, name, others)
+        }
+        Err(fault) => Err(fault),
+    }
 }
 
 /// What the next words are. `--` ends the options, and `-` is a file.
@@ -110,7 +131,8 @@ fn read_step<'a>(
     options: Options<'a>,
     words: &'a [String],
 ) -> Result<Step<'a>, Fault>
-    ensures { IsStep command (options_of options.entry) (map (λ word. string_bytes word) words.now) result }
+    ensures { IsStep command (options_of options.entry) (length words.now)
+        (command_action command (options_of options.entry) None (map (λ word. string_bytes word) words.now)) result }
 {
     let Some((word, others)) = words.split_first() else {
         return Ok(Step::Behind(words));
@@ -133,11 +155,12 @@ fn read_command<'a>(
 ) -> Result<Request<'a>, Fault>
     ensures { ParsesAs result (command_action command (options_of options.entry) None (map (λ word. string_bytes word) words.now)) }
 {
-    match read_step(command, options, words)? {
-        Step::Next(changed, behind) => read_command(command, changed, behind),
-        Step::Help => Ok(Request::Print(Topic::Help(command))),
-        Step::Files(files) => files_request(command, options, files),
-        Step::Behind(files) => run_request(command, options, files),
+    match read_step(command, options, words) {
+        Ok(Step::Next(changed, behind)) => read_command(command, changed, behind),
+        Ok(Step::Help) => Ok(Request::Print(Topic::Help(command))),
+        Ok(Step::Files(files)) => files_request(command, options, files),
+        Ok(Step::Behind(files)) => run_request(command, options, files),
+        Err(fault) => Err(fault),
     }
 }
 

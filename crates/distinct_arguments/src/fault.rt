@@ -1,6 +1,6 @@
 //! What is wrong with arguments.
 ghost use Rattle.std.specs.Prelude.{◌≡◌};
-ghost use Rattle.distinct_arguments.specs.Arguments.{unknown_command, unknown_option, behind_file, no_value, unneeded_value};
+ghost use Rattle.distinct_arguments.specs.Settings.{unknown_command, unknown_option, behind_file, no_value, unneeded_value};
 ghost use Rattle.distinct_arguments.specs.Faults.{Reports, status_of};
 
 use std::alloc::Global;

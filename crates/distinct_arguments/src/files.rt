@@ -20,7 +20,7 @@ fn is_standard(name: &str) -> bool
 
 /// Whether a seed is read from standard input.
 fn is_standard_seed(seed: Seed<'_>) -> bool
-    ensures { result ≡ is_standard_seed (seed_value seed) }
+    ensures { result ≡ is_standard_seed (seed_value seed.entry) }
 {
     match seed {
         Seed::Number(_) => false,
@@ -30,7 +30,7 @@ fn is_standard_seed(seed: Seed<'_>) -> bool
 
 /// Whether the list of files is read from standard input.
 fn is_standard_list(list: Option<&str>) -> bool
-    ensures { result ≡ is_standard_list (option_map (λ name. name.now) list) }
+    ensures { result ≡ is_standard_list (option_map (λ name. name.now) list.entry) }
 {
     match list {
         None => false,
