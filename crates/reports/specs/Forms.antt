@@ -60,12 +60,12 @@ json_head (Some name) = codes "{\"name\":" ++ json_string name ++ codes ","
 -- the fields of a report in a JSON object
 abbrev pub json_fields : Report → List ℕ
 json_fields r =
-    codes "\"estimate\":" ++ decimal r.estimate
+    codes "\"estimate\":" ++ (decimal r.estimate
     ++ codes ",\"lower\":" ++ decimal r.interval.lower
     ++ codes ",\"upper\":" ++ decimal r.interval.upper
     ++ codes ",\"exact\":" ++ truth r.exact
     ++ codes ",\"retained\":" ++ decimal r.retained
-    ++ codes ",\"theta\":" ++ decimal r.theta
+    ++ codes ",\"theta\":" ++ decimal r.theta)
 
 -- a report as a JSON object, on a line
 abbrev pub json_line : Option (List ℕ) → Report → List ℕ
