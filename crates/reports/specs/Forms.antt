@@ -52,19 +52,21 @@ tsv_row name r =
     ++ codes "\t" ++ decimal r.theta
     ++ codes "\n"
 
--- the field of a name, and the comma behind it, if there is a name
-abbrev pub json_name : Option (List ℕ) → List ℕ
-json_name None = []
-json_name (Some name) = codes "\"name\":" ++ json_string name ++ codes ","
+-- the beginning of a JSON object: its brace, and the field of a name with a comma if there is a name
+abbrev pub json_head : Option (List ℕ) → List ℕ
+json_head None = codes "{"
+json_head (Some name) = codes "{\"name\":" ++ json_string name ++ codes ","
 
--- a report as a JSON object, on a line
-abbrev pub json_line : Option (List ℕ) → Report → List ℕ
-json_line name r =
-    codes "{" ++ json_name name
-    ++ codes "\"estimate\":" ++ decimal r.estimate
+-- the fields of a report in a JSON object
+abbrev pub json_fields : Report → List ℕ
+json_fields r =
+    codes "\"estimate\":" ++ (decimal r.estimate
     ++ codes ",\"lower\":" ++ decimal r.interval.lower
     ++ codes ",\"upper\":" ++ decimal r.interval.upper
     ++ codes ",\"exact\":" ++ truth r.exact
     ++ codes ",\"retained\":" ++ decimal r.retained
-    ++ codes ",\"theta\":" ++ decimal r.theta
-    ++ codes "}\n"
+    ++ codes ",\"theta\":" ++ decimal r.theta)
+
+-- a report as a JSON object, on a line
+abbrev pub json_line : Option (List ℕ) → Report → List ℕ
+json_line name r = json_head name ++ json_fields r ++ codes "}\n"

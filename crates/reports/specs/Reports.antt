@@ -1,5 +1,5 @@
 -- What a sketch says of its stream.
-use Rattle.std.specs.Prelude.{ℕ, ◌≡◌, ◌<◌, ◌≤◌, ◌==◌, ◌||◌, true, false, length}
+use Rattle.std.specs.Prelude.{ℕ, Bool, ◌≡◌, ◌<◌, ◌≤◌, ◌==◌, ◌||◌, true, false, length}
 use Rattle.core_compact.specs.CompactState.{Compact}
 use Rattle.core_laws.specs.declared.TheConstants.{MAX_THETA}
 use Rattle.core_state.specs.Fraction.{compact_fraction}
@@ -11,16 +11,19 @@ use Rattle.reports.specs.declared.report.Report.{Report}
 abbrev pub rounded : ℕ × ℕ → ℕ
 rounded f = nearest f.0 f.1
 
--- the report of a compact sketch, with bounds of z standard deviations; it is exact if the sketch is empty or its theta is
--- the greatest
+-- whether a compact sketch counts exactly: it is empty, or its theta is the greatest
+abbrev pub is_exact : Compact ℕ → Bool
+is_exact s = s.empty || s.theta == MAX_THETA
+
+-- the report of a compact sketch, with bounds of z standard deviations
 unfoldable pub report_of : (z : ℕ) → Compact ℕ → Report
 report_of z s = record {
-  estimate = rounded (compact_fraction s);
-  interval = count_bounds z (length s.entries) s.theta;
-  exact = s.empty || s.theta == MAX_THETA;
-  retained = length s.entries;
-  theta = s.theta;
-}
+    estimate = rounded (compact_fraction s);
+    interval = count_bounds z (length s.entries) s.theta;
+    exact = is_exact s;
+    retained = length s.entries;
+    theta = s.theta;
+  }
 
 -- both ends of an interval are n
 abbrev pub only : (n : ℕ) → Interval

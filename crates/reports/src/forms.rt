@@ -1,7 +1,7 @@
 //! The lines that are written of a report. Each ends in LF, and fails only if memory is refused.
 ghost use Rattle.std.specs.Prelude.{◌≡◌, ◌++◌, IfOk, OnOk, string_bytes};
 ghost use Rattle.std.specs.Option.{option_map};
-ghost use Rattle.reports.specs.Forms.{count_line, json_line, shown_estimate, shown_line, truth, tsv_head, tsv_row};
+ghost use Rattle.reports.specs.Forms.{count_line, json_fields, json_head, json_line, shown_estimate, shown_line, truth, tsv_head, tsv_name, tsv_row};
 ghost use Rattle.reports.specs.Names.{escaped_name};
 
 use crate::names::{escaped_name, put_json_string};
@@ -80,6 +80,18 @@ pub fn tsv_head<A: Allocator>(alloc: A, named: bool) -> Result<String<A>, AllocE
     }
 }
 
+/// The name of a row and a tab, or nothing if there is no name.
+fn row_name<A: Allocator>(alloc: A, name: Option<&str>) -> Result<String<A>, AllocError>
+    ensures { IfOk result (λ text. string_bytes text ≡ tsv_name (option_map (λ s. s.now) name.entry)) }
+{
+    let Some(name) = name else {
+        return Ok(String::new(alloc));
+    };
+    let mut text = escaped_name(alloc, name)?;
+    text.push_str("\t")?;
+    Ok(text)
+}
+
 /// The row of a report in a table: its values in the order of `tsv_head`, separated by tabs, behind the name if there is
 /// one. Control characters of the name are escaped, tabs too.
 pub fn tsv_row<A: Allocator>(
@@ -95,19 +107,41 @@ pub fn tsv_row<A: Allocator>(
     let exact = truth(report.exact);
     let retained = report.retained;
     let theta = report.theta;
-    let mut row = match name {
-        None => String::new(alloc),
-        Some(name) => {
-            let mut row = escaped_name(alloc, name)?;
-            row.push('\t')?;
-            row
-        }
-    };
+    let mut row = row_name(alloc, name)?;
     write!(
         row,
         "{estimate}\t{lower}\t{upper}\t{exact}\t{retained}\t{theta}\n"
     )?;
     Ok(row)
+}
+
+/// The beginning of a JSON object: its brace, and the field of a name with a comma if there is a name.
+fn object_head<A: Allocator>(alloc: A, name: Option<&str>) -> Result<String<A>, AllocError>
+    ensures { IfOk result (λ text. string_bytes text ≡ json_head (option_map (λ s. s.now) name.entry)) }
+{
+    let Some(name) = name else {
+        return String::from_str(alloc, "{");
+    };
+    let mut text = String::from_str(alloc, "{\"name\":")?;
+    put_json_string(&mut text, name)?;
+    text.push_str(",")?;
+    Ok(text)
+}
+
+/// Appends the fields of a report in a JSON object.
+fn put_fields<A: Allocator>(line: &mut String<A>, report: Report) -> Result<(), AllocError>
+    ensures { OnOk result (string_bytes line.new ≡ string_bytes line.old ++ json_fields report) }
+{
+    let estimate = report.estimate;
+    let lower = report.interval.lower;
+    let upper = report.interval.upper;
+    let exact = truth(report.exact);
+    let retained = report.retained;
+    let theta = report.theta;
+    write!(
+        line,
+        "\"estimate\":{estimate},\"lower\":{lower},\"upper\":{upper},\"exact\":{exact},\"retained\":{retained},\"theta\":{theta}"
+    )
 }
 
 /// A report as a JSON object on a line, with the name as its first field if there is one.
@@ -118,22 +152,8 @@ pub fn json_line<A: Allocator>(
 ) -> Result<String<A>, AllocError>
     ensures { IfOk result (λ text. string_bytes text ≡ json_line (option_map (λ s. s.now) name.entry) report) }
 {
-    let estimate = report.estimate;
-    let lower = report.interval.lower;
-    let upper = report.interval.upper;
-    let exact = truth(report.exact);
-    let retained = report.retained;
-    let theta = report.theta;
-    let mut line = String::new(alloc);
-    line.push('{')?;
-    if let Some(name) = name {
-        line.push_str("\"name\":")?;
-        put_json_string(&mut line, name)?;
-        line.push(',')?;
-    }
-    write!(
-        line,
-        "\"estimate\":{estimate},\"lower\":{lower},\"upper\":{upper},\"exact\":{exact},\"retained\":{retained},\"theta\":{theta}}}\n"
-    )?;
+    let mut line = object_head(alloc, name)?;
+    put_fields(&mut line, report)?;
+    line.push_str("}\n")?;
     Ok(line)
 }

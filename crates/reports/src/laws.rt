@@ -1,10 +1,10 @@
-//! Laws of reports and names: each is the contract of a function that does nothing, so that a caller can use it.
-ghost use Rattle.std.specs.Prelude.{ℕ, ◌<◌, List, IsUtf8};
+//! Laws of reports: each is the contract of a function that does nothing, so that a caller can use it.
+ghost use Rattle.std.specs.Prelude.{ℕ, ◌<◌};
 ghost use Rattle.core_compact.specs.CompactState.{Compact, IsCompact};
 ghost use Rattle.core_laws.specs.Entries.{hash_key};
 ghost use Rattle.reports.specs.Reports.{IsConsistent, report_of};
 
-/// The numbers of the report of a sketch agree with one another, for any standard deviations.
+/// The numbers of a report agree with one another, for any standard deviations.
 pub fn reports_are_consistent()
     ensures { (z : ℕ) (s : Compact ℕ) → 0 < z → IsCompact hash_key s → IsConsistent (report_of z s) }
 {}

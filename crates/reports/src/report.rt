@@ -3,7 +3,7 @@ ghost use Rattle.std.specs.Prelude.{◌≡◌, ◌<◌, ◌^◌};
 ghost use Rattle.core_laws.specs.Values.{fraction_of};
 ghost use Rattle.core_state.specs.Updatable.{sketch_value};
 ghost use Rattle.estimates.specs.Bounds.{deviation_count, nearest};
-ghost use Rattle.reports.specs.Reports.{IsConsistent, report_of, rounded};
+ghost use Rattle.reports.specs.Reports.{IsConsistent, is_exact, report_of, rounded};
 
 use core_laws::MAX_THETA;
 use estimates::{Deviations, Interval, count_bounds};
@@ -36,6 +36,13 @@ fn rounded(over: u128, under: u128) -> u128
     (2 * over + under) / (2 * under)
 }
 
+/// Whether a sketch is empty or its theta is `MAX_THETA`.
+fn is_exact<A: Allocator>(sketch: &CompactThetaSketch<A>) -> bool
+    ensures { result ≡ is_exact sketch.now }
+{
+    sketch.is_empty() || sketch.theta64() == MAX_THETA
+}
+
 /// What a sketch says of its stream, with bounds of these standard deviations. The estimate is within the bounds. If the
 /// report isn't exact, the upper bound is above the number of retained entries, also if there are none.
 pub fn report_of<A: Allocator>(sketch: &CompactThetaSketch<A>, deviations: Deviations) -> Report
@@ -48,7 +55,7 @@ pub fn report_of<A: Allocator>(sketch: &CompactThetaSketch<A>, deviations: Devia
     Report {
         estimate: rounded(over, under),
         interval: count_bounds(retained, theta, deviations),
-        exact: sketch.is_empty() || theta == MAX_THETA,
+        exact: is_exact(sketch),
         retained,
         theta,
     }
