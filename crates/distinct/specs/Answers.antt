@@ -14,7 +14,7 @@ use Rattle.line_sketches.specs.Shards.{values_of_sketches, AreRead}
 use Rattle.line_sketches.specs.Unions.{IsUnitedImage}
 use Rattle.distinct_arguments.specs.Settings.{OptionValues}
 use Rattle.distinct_arguments.specs.Arguments.{Action, prints, runs, fails}
-use Rattle.distinct.specs.Failures.{called, hashing_of}
+use Rattle.distinct.specs.Failures.{called, chosen_hashing}
 use Rattle.distinct.specs.Images.{images_of}
 use Rattle.distinct.specs.Texts.{count_text, shown_text, head_of}
 use Rattle.distinct_arguments.specs.declared.commands.Command.{Command}
@@ -31,7 +31,7 @@ texts_of texts = map (λ text. text.items) texts
 
 -- the sketch of the lines of all texts, each text cut into lines by itself, with the key and the size that the options set, under a seed
 abbrev pub sketch_of : OptionValues → (seed : ℕ) → (texts : List (List ℕ)) → Compact ℕ
-sketch_of options seed texts = sketch_of_value seed (value_of_lines (hashing_of options seed) options.lg_k (lines_of_all texts))
+sketch_of options seed texts = sketch_of_value seed (value_of_lines (chosen_hashing options seed) options.lg_k (lines_of_all texts))
 
 -- an image as it is written: its bytes, or a line of their hexadecimal digits
 abbrev pub in_form : (hex : Bool) → (image : List ℕ) → List ℕ

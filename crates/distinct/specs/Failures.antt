@@ -106,5 +106,5 @@ IsOfCommand command options count texts (WrongCount counted number) = (options.e
 IsOfCommand command options count texts failure = status_of failure ≡ 1
 
 -- how lines are hashed: by the field of the number that options choose, the first being 1, or the whole line
-abbrev pub hashing_of : OptionValues → (seed : ℕ) → Hashing
-hashing_of options seed = record { key = chosen_key options; seed = seed }
+abbrev pub chosen_hashing : OptionValues → (seed : ℕ) → Hashing
+chosen_hashing options seed = record { key = chosen_key options; seed = seed }
