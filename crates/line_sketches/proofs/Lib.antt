@@ -9,3 +9,4 @@ pub mod Digits
 pub mod Meets
 pub mod DefaultSeed
 pub mod Refused
+pub mod Preambles

@@ -36,7 +36,7 @@ preamble_length bytes = if version_at bytes == 1 then 24 else if is_flagged_empt
 
 -- whether the bytes begin with a whole preamble
 abbrev pub has_preamble : List ℕ → Bool
-has_preamble bytes = nat_le 8 (length bytes) && has_longs bytes && has_version bytes && nat_le (preamble_length bytes) (length bytes)
+has_preamble bytes = nat_le 8 (length bytes) && (has_longs bytes && (has_version bytes && nat_le (preamble_length bytes) (length bytes)))
 
 -- the number of hashes behind a whole preamble: a single long means one hash in version 3 and none in version 2
 abbrev pub announced_count : List ℕ → ℕ
@@ -63,7 +63,7 @@ pub record BeginsWithImage (bytes : List ℕ) (h : ℕ) (s : Compact ℕ) : Type
 
 -- whether an image of version 2 is that of the empty sketch: by a single long, or by no hashes at the greatest theta
 abbrev pub is_vacant_image : List ℕ → Bool
-is_vacant_image bytes = longs_at bytes == 1 || has_preamble bytes && count_at bytes == 0 && (longs_at bytes == 2 || theta_at bytes == MAX_THETA)
+is_vacant_image bytes = longs_at bytes == 1 || (has_preamble bytes && (count_at bytes == 0 && (longs_at bytes == 2 || theta_at bytes == MAX_THETA)))
 
 -- whether the seed hash of an image is checked: not in version 1, which has none, nor if the sketch is empty
 abbrev pub checks_seed : List ℕ → Bool
