@@ -1,6 +1,6 @@
 -- For sketches of one seed whose hash is not 0, and sizes in range, the only error is refused memory.
 use Rattle.std.proofs.Common.{◌≡◌, ℕ, ◌≤◌, Bool, true, false, cond, List, [], ◌∷◌, ◌++◌, Option, Some, None, refl, sym, ap, subst, ◌∙◌, arith, inl, inr}
-use Rattle.std.specs.Prelude.{◌⊎◌, ◌==◌, ◌||◌, ◌≢◌}
+use Rattle.std.specs.Prelude.{◌⊎◌, ◌==◌, ◌||◌, ◌≢◌, IsTrue}
 use Rattle.std.proofs.lemmas.Bool.Decides.{nat_tests}
 use Rattle.sketch_base.specs.Seed.{seed_hash}
 use Rattle.sketch_base.specs.declared.error.ErrorKind.{ErrorKind}
@@ -10,9 +10,9 @@ use Rattle.core_laws.specs.Entries.{hash_key, first_hash}
 use Rattle.core_laws.specs.Operators.{meet_next}
 use Rattle.core_laws.specs.Values.{Sketch}
 use Rattle.core_laws.specs.declared.TheConstants.{MAX_THETA}
-use Rattle.core_operators.specs.Intersection.{is_settled}
+use Rattle.core_operators.specs.Intersection.{is_settled, seed_refusal}
 use Rattle.core_laws.specs.Settings.{settings_refusal}
-use Rattle.line_sketches.specs.Meeting.{first_refusal, meet_refusal}
+use Rattle.line_sketches.specs.Meeting.{first_refusal, meet_refusal, refusal_of_intersection}
 use Rattle.line_sketches.specs.Refusals.{IsUnread, IsUniteRefusal}
 use Rattle.line_sketches.specs.declared.sketching.Unread.{Unread}
 use Rattle.line_sketches.specs.declared.sketching.Unread.TheVariants.{Refused}
@@ -29,13 +29,13 @@ read_of refusal e none (inr memory) = memory
 pub read_kind : (refusal : Option ErrorKind) (u : Unread) (e : ErrorKind) → refusal ≡ None → u ≡ Refused e → IsUnread refusal u → e ≡ OutOfMemory
 read_kind refusal u e none is refused = read_of refusal e none (subst (IsUnread refusal) is refused)
 
-unite_of : (refusal : Option ErrorKind) (images : Option (List (List ℕ))) (e : ErrorKind) → refusal ≡ None → IsUniteRefusal refusal images (Refused e) → (e ≡ OutOfMemory) ⊎ (e ≡ InvalidData)
-unite_of refusal images e none (inl is) = let both : None ≡ Some e = sym none ∙ is in absurd (cc)
-unite_of refusal images e none (inr (inl memory)) = inl memory
-unite_of refusal images e none (inr (inr faulty)) = inr faulty.0
+unite_of : (seed : ℕ) (refusal : Option ErrorKind) (images : Option (List (List ℕ))) (e : ErrorKind) → refusal ≡ None → IsUniteRefusal seed refusal images (Refused e) → (e ≡ OutOfMemory) ⊎ (e ≡ InvalidData)
+unite_of seed refusal images e none (inl is) = let both : None ≡ Some e = sym none ∙ is in absurd (cc)
+unite_of seed refusal images e none (inr (inl memory)) = inl memory
+unite_of seed refusal images e none (inr (inr faulty)) = inr faulty.0
 
-pub unite_kind : (refusal : Option ErrorKind) (images : Option (List (List ℕ))) (u : Unread) (e : ErrorKind) → refusal ≡ None → u ≡ Refused e → IsUniteRefusal refusal images u → (e ≡ OutOfMemory) ⊎ (e ≡ InvalidData)
-unite_kind refusal images u e none is refused = unite_of refusal images e none (subst (IsUniteRefusal refusal images) is refused)
+pub unite_kind : (seed : ℕ) (refusal : Option ErrorKind) (images : Option (List (List ℕ))) (u : Unread) (e : ErrorKind) → refusal ≡ None → u ≡ Refused e → IsUniteRefusal seed refusal images u → (e ≡ OutOfMemory) ⊎ (e ≡ InvalidData)
+unite_kind seed refusal images u e none is refused = unite_of seed refusal images e none (subst (IsUniteRefusal seed refusal images) is refused)
 
 -- sketches of one seed
 one_accepted : (settled empty : Bool) (x y : ℕ) → y ≡ x → cond (settled || empty) None (cond (x == y) None (Some InvalidArgument)) ≡ None
@@ -52,3 +52,14 @@ meet_accepted seed so_far (s ∷ sketches) seeded =
 pub seeded-more : (seed : ℕ) (sketches : List (Compact ℕ)) (s : Compact ℕ) → AreSeeded seed sketches → s.seed_hash ≡ seed_hash seed → AreSeeded seed (sketches ++ s ∷ [])
 seeded-more seed [] s all one = (one, tt)
 seeded-more seed (t ∷ ts) s all one = (all.0, seeded-more seed ts s all.1 one)
+
+-- intersections of such sketches
+pub intersection_accepted : (seed : ℕ) (sketches : List (Compact ℕ)) → seed_hash seed ≢ 0 → AreSeeded seed sketches → refusal_of_intersection seed sketches ≡ None
+intersection_accepted seed sketches nonzero seeded =
+    let accepted : seed_refusal seed ≡ None = grind (arith, nat_tests) in
+    ap (λ o. first_refusal o (meet_refusal seed None sketches)) accepted ∙ meet_accepted seed None sketches seeded
+
+-- the refusal of nothing is memory
+pub memory_of : (refusal : Option ErrorKind) (e : ErrorKind) → refusal ≡ None → (refusal ≡ Some e) ⊎ ((e ≡ OutOfMemory) × IsTrue true) → e ≡ OutOfMemory
+memory_of refusal e none (inl is) = let both : None ≡ Some e = sym none ∙ is in absurd (cc)
+memory_of refusal e none (inr memory) = memory.0

@@ -1,9 +1,7 @@
-use Rattle.std.proofs.Common.{true, None}
-use Rattle.line_sketches.specs.Meeting.{meet_refusal}
-use Rattle.line_sketches.proofs.DefaultSeed.{only_memory}
-use Rattle.distinct.proofs.OnlyMemory.{meet_accepted}
+use Rattle.line_sketches.specs.Meeting.{refusal_of_intersection}
+use Rattle.distinct.proofs.OnlyMemory.{memory_of, intersection_accepted}
 use Rattle.distinct.proofs.combine.meet_image.Goals as goal
 
 pub out_of_memory-requires : goal.out_of_memory-requires
-out_of_memory-requires c =
-    let only = only_memory (meet_refusal None c.args.sketches.now) true c.in-Err.error (meet_accepted None c.args.sketches.now c.requires) c.in-Err.ensures.refused in only.0
+out_of_memory-requires g c =
+    memory_of (refusal_of_intersection c.args.seed c.args.sketches.now) c.in-Err.error (intersection_accepted c.args.seed c.args.sketches.now c.requires.seed c.requires.seeded) c.in-Err.ensures.refused
