@@ -1,6 +1,6 @@
 -- For sketches of one seed whose hash is not 0, and sizes in range, the only error is refused memory.
 use Rattle.std.proofs.Common.{◌≡◌, ℕ, ◌≤◌, Bool, true, false, cond, List, [], ◌∷◌, ◌++◌, Option, Some, None, refl, sym, ap, subst, ◌∙◌, arith, inl, inr}
-use Rattle.std.specs.Prelude.{◌⊎◌, ◌==◌, ◌||◌, ◌≢◌, IsTrue}
+use Rattle.std.specs.Prelude.{◌⊎◌, ◌==◌, ◌||◌, ◌≢◌}
 use Rattle.std.proofs.lemmas.Bool.Decides.{nat_tests}
 use Rattle.sketch_base.specs.Seed.{seed_hash}
 use Rattle.sketch_base.specs.declared.error.ErrorKind.{ErrorKind}
@@ -58,8 +58,3 @@ pub intersection_accepted : (seed : ℕ) (sketches : List (Compact ℕ)) → see
 intersection_accepted seed sketches nonzero seeded =
     let accepted : seed_refusal seed ≡ None = grind (arith, nat_tests) in
     ap (λ o. first_refusal o (meet_refusal seed None sketches)) accepted ∙ meet_accepted seed None sketches seeded
-
--- the refusal of nothing is memory
-pub memory_of : (refusal : Option ErrorKind) (e : ErrorKind) → refusal ≡ None → (refusal ≡ Some e) ⊎ ((e ≡ OutOfMemory) × IsTrue true) → e ≡ OutOfMemory
-memory_of refusal e none (inl is) = let both : None ≡ Some e = sym none ∙ is in absurd (cc)
-memory_of refusal e none (inr memory) = memory.0

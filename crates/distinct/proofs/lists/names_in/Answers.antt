@@ -1,0 +1,15 @@
+use Rattle.std.proofs.Common.{[], ◌∷◌, ◌++◌, sym, ap, ◌∙◌, append_assoc}
+use Rattle.distinct.specs.Answers.{names_of}
+use Rattle.distinct.specs.Lists.{names_in}
+use Rattle.distinct.proofs.ListNames.{name_ended}
+use Rattle.distinct.proofs.lists.names_in.Goals as goal
+
+pub cut_each-preserved : goal.cut_each-preserved
+cut_each-preserved c =
+    let old = names_of c.cut_each.names.items in
+    let name = c.in-Some.name.now in
+    let others = c.in-Some.others.now in
+    c.cut_each.invariant
+    ∙ ap (λ ns. old ++ ns) (ap names_in c.in-Some.ensures.parts ∙ name_ended name others c.in-Some.ensures.lacks)
+    ∙ sym (append_assoc old (name ∷ []) (names_in others))
+    ∙ ap (λ ns. ns ++ names_in others) (sym c.in_ok-put_name.ensures)
