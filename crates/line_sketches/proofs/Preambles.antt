@@ -105,15 +105,26 @@ not_below a b le = grind (arith, nat_tests)
 both_true : (a b : Bool) → a ≡ true → b ≡ true → (a && b) ≡ true
 both_true a b p q = rw (p, q) refl
 
+-- behind a whole preamble that says so there is a count; an image of version 2 with more than a single long has as many longs as it says
+pub counted_room : (longs version present : ℕ) (empty : Bool) → (leb 8 present && ((leb 1 longs && leb longs 3) && ((leb 1 version && leb version 3) && leb (start_by version longs empty) present))) ≡ true →
+    (eqb version 3 && empty) ≡ false → (eqb version 3 && eqb longs 1) ≡ false → (eqb version 2 && eqb longs 1) ≡ false → 12 ≤ present
+counted_room longs version present empty whole flagged single none = grind (arith, nat_tests)
+
+pub room_of_2 : (longs version present : ℕ) (empty : Bool) → (leb 8 present && ((leb 1 longs && leb longs 3) && ((leb 1 version && leb version 3) && leb (start_by version longs empty) present))) ≡ true →
+    version ≡ 2 → (longs ≡ 1 → ⊥) → (16 ≤ present) × ((longs ≡ 2 → ⊥) → 24 ≤ present)
+room_of_2 longs version present empty whole two more = (grind (arith, nat_tests), λ three. grind (arith, nat_tests))
+
 said_of : (bytes : List ℕ) (longs version : ℕ) (empty : Bool) → Begins bytes longs version 3 → 1 ≤ version → version ≤ 3 → is_empty bytes ≡ empty → start_by version longs empty ≤ length bytes →
     IsSaid bytes (start_by version longs empty) (hashes_by version longs empty (count_at bytes))
 said_of bytes longs version empty b low high flag room =
     let start : preamble_length bytes ≡ start_by version longs empty = λ i. start_by (b.version_is i) (b.longs_are i) (flag i) in
     let count : announced_count bytes ≡ hashes_by version longs empty (count_at bytes) = λ i. hashes_by (b.version_is i) (b.longs_are i) (flag i) (count_at bytes) in
-    let longs_fit : has_longs bytes ≡ true = both_true _ _ (at_most 1 (longs_at bytes) (omega (arith, b.longs_are, b.longs_low))) (at_most (longs_at bytes) 3 (omega (arith, b.longs_are, b.longs_high))) in
-    let version_fits : has_version bytes ≡ true = both_true _ _ (at_most 1 (version_at bytes) (omega (arith, b.version_is, low))) (at_most (version_at bytes) 3 (omega (arith, b.version_is, high))) in
+    let longs_fit : has_longs bytes ≡ true = both_true (leb 1 (longs_at bytes)) (leb (longs_at bytes) 3) (at_most 1 (longs_at bytes) (omega (arith, b.longs_are, b.longs_low))) (at_most (longs_at bytes) 3 (omega (arith, b.longs_are, b.longs_high))) in
+    let version_fits : has_version bytes ≡ true = both_true (leb 1 (version_at bytes)) (leb (version_at bytes) 3) (at_most 1 (version_at bytes) (omega (arith, b.version_is, low))) (at_most (version_at bytes) 3 (omega (arith, b.version_is, high))) in
     let inside : leb (preamble_length bytes) (length bytes) ≡ true = at_most (preamble_length bytes) (length bytes) (omega (arith, start, room)) in
-    let has : has_preamble bytes ≡ true = both_true _ _ (at_most 8 (length bytes) b.whole) (both_true _ _ longs_fit (both_true _ _ version_fits inside)) in record {
+    let room_is = leb (preamble_length bytes) (length bytes) in
+    let has : has_preamble bytes ≡ true = both_true (leb 8 (length bytes)) (has_longs bytes && (has_version bytes && room_is)) (at_most 8 (length bytes) b.whole)
+    (both_true (has_longs bytes) (has_version bytes && room_is) longs_fit (both_true (has_version bytes) room_is version_fits inside)) in record {
       has = has;
       image =
           ap (λ (t : Bool). cond t (Some (preamble_length bytes + 8 * announced_count bytes)) None) has
@@ -152,7 +163,7 @@ module _ (bytes : List ℕ) (h : ℕ) (nonzero : 0 < h) where
     whole = b.whole;
     longs_high = omega (arith, b.longs_are, b.longs_high);
     family = b.family_is;
-    version = both_true _ _ (at_most 1 (version_at bytes) (omega (arith, b.version_is, low))) (at_most (version_at bytes) 3 (omega (arith, b.version_is, high)));
+    version = both_true (leb 1 (version_at bytes)) (leb (version_at bytes) 3) (at_most 1 (version_at bytes) (omega (arith, b.version_is, low))) (at_most (version_at bytes) 3 (omega (arith, b.version_is, high)));
     seed = seed;
   }
 

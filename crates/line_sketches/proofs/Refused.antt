@@ -2,7 +2,7 @@
 use Rattle.std.proofs.Common.{◌≡◌, ℕ, ◌<◌, ◌≤◌, ◌+◌, Bool, true, false, cond, List, [], ◌∷◌, ◌++◌, length, get_or, drop, Option, Some, None, Result, Err, refl, ap, sym, subst, ◌∙◌, arith, inl, inr, add-one, drop-cons}
 use Rattle.std.proofs.lemmas.List.{drop_all}
 use Rattle.std.proofs.lemmas.Bool.Decides.{nat_tests}
-use Rattle.std.specs.Prelude.{◌⊎◌, ◌==◌, ◌||◌, IsTrue, IfSome, MatchOption}
+use Rattle.std.specs.Prelude.{◌⊎◌, ◌==◌, ◌||◌, not, IsTrue, IfSome, MatchOption}
 use Rattle.sketch_base.specs.Seed.{seed_hash}
 use Rattle.sketch_base.specs.declared.error.ErrorKind.{ErrorKind}
 use Rattle.sketch_base.specs.declared.error.ErrorKind.TheVariants.{OutOfMemory, InvalidArgument, Failed}
@@ -63,8 +63,12 @@ pub first_some : (a b : Option ErrorKind) (kind : ErrorKind) → a ≡ Some kind
 first_some a b kind is = ap (λ o. first_refusal o b) is
 
 -- the least size is accepted with each seed that is
+accepted_by : (t : Bool) → cond t (Some InvalidArgument) None ≡ None → cond (not t) None (Some InvalidArgument) ≡ None
+accepted_by true accepted = accepted
+accepted_by false accepted = refl
+
 pub least_size : (seed : ℕ) → seed_refusal seed ≡ None → settings_refusal MIN_LG_K MAX_THETA seed ≡ None
-least_size seed accepted = grind (arith, nat_tests)
+least_size seed accepted = accepted_by (seed_hash seed == 0) accepted
 
 -- ---- a sketch that is read has the reader's seed
 

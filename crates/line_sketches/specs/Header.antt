@@ -38,12 +38,16 @@ preamble_length bytes = if version_at bytes == 1 then 24 else if is_flagged_empt
 abbrev pub has_preamble : List ℕ → Bool
 has_preamble bytes = nat_le 8 (length bytes) && (has_longs bytes && (has_version bytes && nat_le (preamble_length bytes) (length bytes)))
 
+-- whether an image is of this version and has a single preamble long
+abbrev pub is_single : (version : ℕ) → List ℕ → Bool
+is_single version bytes = version_at bytes == version && longs_at bytes == 1
+
 -- the number of hashes behind a whole preamble: a single long means one hash in version 3 and none in version 2
 abbrev pub announced_count : List ℕ → ℕ
 announced_count bytes =
     if is_flagged_empty bytes then 0
-    else if version_at bytes == 3 && longs_at bytes == 1 then 1
-    else if version_at bytes == 2 && longs_at bytes == 1 then 0
+    else if is_single 3 bytes then 1
+    else if is_single 2 bytes then 0
     else count_at bytes
 
 -- the length of the image that the bytes begin, by its preamble

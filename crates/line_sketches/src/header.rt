@@ -1,7 +1,7 @@
 //! What the preamble of an image says: how long the image is, how many hashes it has, and why bytes are not read. The
 //! rules are those of `CompactThetaSketch::deserialize_with_seed`.
-ghost use Rattle.std.specs.Prelude.{◌≡◌, ◌≤◌, true, length};
-ghost use Rattle.line_sketches.specs.Header.{longs_at, version_at, has_longs, has_version, is_flagged_empty, preamble_length, has_preamble, announced_count, image_length, entry_count, is_vacant_image, checks_seed, flaw_by_length, flaw_of_preamble, flaw_of};
+ghost use Rattle.std.specs.Prelude.{◌≡◌, ◌≤◌, ◌*◌, true, length};
+ghost use Rattle.line_sketches.specs.Header.{longs_at, version_at, has_longs, has_version, is_flagged_empty, preamble_length, has_preamble, is_single, announced_count, image_length, entry_count, is_vacant_image, checks_seed, flaw_by_length, flaw_of_preamble, flaw_of};
 
 use crate::hex::are_digits;
 use core_images::{count_at, seed_hash_at, theta_at};
@@ -58,7 +58,8 @@ fn is_flagged_empty(bytes: &[u8]) -> bool
 /// The number of bytes before the hashes.
 fn preamble_length(bytes: &[u8]) -> u64
     requires { 8 ≤ length bytes.now }
-    ensures { result ≡ preamble_length bytes.now }
+    ensures value { result ≡ preamble_length bytes.now }
+    ensures small { result ≤ 8 * 255 }
 {
     if bytes[1] == 1 {
         24
@@ -73,10 +74,18 @@ fn preamble_length(bytes: &[u8]) -> u64
 fn has_preamble(bytes: &[u8]) -> bool
     ensures { result ≡ has_preamble bytes.now }
 {
-    if bytes.len() < 8 || !has_longs(bytes) || !has_version(bytes) {
-        return false;
-    }
-    preamble_length(bytes) <= bytes.len() as u64
+    8 <= bytes.len()
+        && has_longs(bytes)
+        && has_version(bytes)
+        && preamble_length(bytes) <= bytes.len() as u64
+}
+
+/// Whether the image is of this version and has a single preamble long.
+fn is_single(bytes: &[u8], version: u8) -> bool
+    requires { 8 ≤ length bytes.now }
+    ensures { result ≡ is_single version bytes.now }
+{
+    bytes[1] == version && bytes[0] == 1
 }
 
 /// The number of hashes behind a whole preamble.
@@ -87,10 +96,12 @@ fn announced_count(bytes: &[u8]) -> u32
     if is_flagged_empty(bytes) {
         return 0;
     }
-    match (bytes[1], bytes[0]) {
-        (3, 1) => 1,
-        (2, 1) => 0,
-        _ => count_at(bytes),
+    if is_single(bytes, 3) {
+        1
+    } else if is_single(bytes, 2) {
+        0
+    } else {
+        count_at(bytes)
     }
 }
 

@@ -164,8 +164,8 @@ fn take_last<A: Allocator + Clone>(
     Ok(())
 }
 
-/// Inserts all lines that a reader has left, block by block, each by its key, hashed under the sketch's seed if that is
-/// the seed of `hashing`. An interrupted read is repeated.
+/// Inserts all lines that a reader has left, block by block, each by its key. The seed of `hashing` should be the
+/// sketch's, which is not checked. An interrupted read is repeated.
 ///
 /// Refused only with `OutOfMemory`. If the reader fails, its error is returned, which is never an interrupted read.
 /// After an error some first part of the lines is inserted; no clause says so.

@@ -77,6 +77,7 @@ fn add_source<A: Allocator + Clone, B: Allocator, R: Read, W: Watch>(
 }
 
 /// Inserts the lines of all texts, each cut into lines by itself: a last line without an LF isn't joined to the next text.
+/// The seed of `hashing` should be the sketch's, which is not checked.
 ///
 /// Refused only with `OutOfMemory`. If a source fails or can't be opened, its error is returned. After an error some
 /// first part of the lines is inserted; no clause says so.

@@ -23,7 +23,7 @@ pub struct OpenLine {
 }
 
 impl OpenLine {
-    /// A line without bytes yet, which is hashed so.
+    /// A line without bytes yet, to be hashed in this way.
     pub fn new(hashing: Hashing) -> OpenLine
         ensures { IsOpen hashing [] result }
     {
