@@ -68,7 +68,8 @@ is_standard_list list = option_map_or is_standard list false
 
 -- whether lines are read from standard input because there is no file
 abbrev pub is_standard_default : Command → (list : Option (List ℕ)) → (files : List (List ℕ)) → Bool
-is_standard_default command list files = reads_lines command && is_none list && length files == 0
+is_standard_default command None files = reads_lines command && length files == 0
+is_standard_default command (Some list) files = false
 
 -- how often standard input is read
 abbrev pub standard_uses : Command → OptionValues → (files : List (List ℕ)) → ℕ

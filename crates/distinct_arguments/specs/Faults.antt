@@ -4,9 +4,9 @@ use Rattle.std.specs.Option.{option_map}
 use Rattle.distinct_arguments.specs.Arguments.{Action, prints, runs, fails, Awaiting, Meaning, help, sets, awaits, wrong, files_action, run_action, command_action}
 use Rattle.distinct_arguments.specs.Settings.{SeedValue, seed_number, seed_file, OptionValues, Mistake, no_command, unknown_command, unknown_option, behind_file, no_value, unneeded_value, wrong_size, wrong_field, wrong_separator, wrong_seed, wrong_deviations, wrong_count, lone_separator, files_and_list, standard_twice}
 use Rattle.distinct_arguments.specs.declared.arguments.Meaning.{Meaning as MeaningOf}
-use Rattle.distinct_arguments.specs.declared.arguments.Meaning.TheVariants.{Help as MeansHelp, Sets, Awaits}
+use Rattle.distinct_arguments.specs.declared.arguments.Meaning.TheVariants.{Help as MeansHelp, Sets, Awaits, Wrong as MeansWrong}
 use Rattle.distinct_arguments.specs.declared.arguments.Step.{Step}
-use Rattle.distinct_arguments.specs.declared.arguments.Step.TheVariants.{Next, Help, Files, Behind}
+use Rattle.distinct_arguments.specs.declared.arguments.Step.TheVariants.{Next, Help, Files, Behind, Wrong}
 use Rattle.distinct_arguments.specs.declared.commands.Command.{Command}
 use Rattle.distinct_arguments.specs.declared.commands.Request.{Request}
 use Rattle.distinct_arguments.specs.declared.commands.Request.TheVariants.{Print, Run}
@@ -97,28 +97,25 @@ SetsOptions (Err fault) (Err mistake) = Reports fault mistake
 SetsOptions (Ok options) (Err mistake) = ⊥
 SetsOptions (Err fault) (Ok values) = ⊥
 
--- the meaning of a word, which has this option's name, or what is wrong with it
-abbrev pub meaning_value : (name : List ℕ) → MeaningOf → Meaning
-meaning_value name MeansHelp = help
-meaning_value name (Sets options) = sets (options_of options)
-meaning_value name (Awaits option) = awaits (record { option = option; name = name })
-
+-- a word with an option of this name has this meaning, or a fault reports what is wrong with it
 abbrev pub IsWrong : Fault → Meaning → Type 0
 IsWrong fault help = ⊥
 IsWrong fault (sets options) = ⊥
 IsWrong fault (awaits awaiting) = ⊥
 IsWrong fault (wrong mistake) = Reports fault mistake
 
-abbrev pub IsMeaning : (name : List ℕ) → Result MeaningOf Fault → Meaning → Type 0
-IsMeaning name (Ok found) meaning = meaning_value name found ≡ meaning
-IsMeaning name (Err fault) meaning = IsWrong fault meaning
+abbrev pub IsMeaning : (name : List ℕ) → MeaningOf → Meaning → Type 0
+IsMeaning name MeansHelp meaning = help ≡ meaning
+IsMeaning name (Sets options) meaning = sets (options_of options) ≡ meaning
+IsMeaning name (Awaits option) meaning = awaits (record { option = option; name = name }) ≡ meaning
+IsMeaning name (MeansWrong fault) meaning = IsWrong fault meaning
 
 -- The front of words after a command: an option, behind which fewer words than this count have the same action, or all that the words
 -- mean. The last files are those behind `--`.
-abbrev pub IsStep : Command → OptionValues → (count : ℕ) → Action → Result Step Fault → Type 0
-IsStep command options count action (Ok (Next changed behind)) =
+abbrev pub IsStep : Command → OptionValues → (count : ℕ) → Action → Step → Type 0
+IsStep command options count action (Next changed behind) =
     (length behind.now < count) × (command_action command (options_of changed) None (map (λ word. string_bytes word) behind.now) ≡ action)
-IsStep command options count action (Ok Help) = prints (HelpOn command) ≡ action
-IsStep command options count action (Ok (Files files)) = files_action command options (map (λ file. string_bytes file) files.now) ≡ action
-IsStep command options count action (Ok (Behind files)) = run_action command options (map (λ file. string_bytes file) files.now) ≡ action
-IsStep command options count action (Err fault) = ReportsMistake fault action
+IsStep command options count action Help = prints (HelpOn command) ≡ action
+IsStep command options count action (Files files) = files_action command options (map (λ file. string_bytes file) files.now) ≡ action
+IsStep command options count action (Behind files) = run_action command options (map (λ file. string_bytes file) files.now) ≡ action
+IsStep command options count action (Wrong fault) = ReportsMistake fault action

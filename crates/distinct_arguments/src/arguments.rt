@@ -14,13 +14,14 @@ use crate::settings::{with_flag, with_value};
 use crate::words::{command_of, has_option, is_help, is_option, is_version, option_called, split_option};
 use std::alloc::Global;
 
-/// What a word means that looks like an option: a request for help, other values of options, or an option whose value is
-/// the next word.
-#[derive(Clone, Copy, Debug)]
+/// What a word means that looks like an option: a request for help, other values of options, an option whose value is the
+/// next word, or a fault.
+#[derive(Debug, Drop)]
 enum Meaning<'a> {
     Help,
     Sets(Options<'a>),
     Awaits(OptionName),
+    Wrong(Fault),
 }
 
 /// What an option of a command means, with the value behind its `=` or without.
@@ -31,20 +32,20 @@ fn meaning_of_option<'a>(
     option: OptionName,
     name: &str,
     value: Option<&'a str>,
-) -> Result<Meaning<'a>, Fault>
+) -> Meaning<'a>
     ensures { IsMeaning name.now result (option_meaning command (options_of options.entry) (record { name = name.now; value = option_map (λ text. text.now) value.entry }) option) }
 {
     if !has_option(command, option) {
-        return Err(unknown_option(alloc, name));
+        return Meaning::Wrong(unknown_option(alloc, name));
     }
     match value {
         Some(text) => match with_value(alloc, options, option, name, text) {
-            Ok(changed) => Ok(Meaning::Sets(changed)),
-            Err(fault) => Err(fault),
+            Ok(changed) => Meaning::Sets(changed),
+            Err(fault) => Meaning::Wrong(fault),
         },
         None => match with_flag(options, option) {
-            Some(changed) => Ok(Meaning::Sets(changed)),
-            None => Ok(Meaning::Awaits(option)),
+            Some(changed) => Meaning::Sets(changed),
+            None => Meaning::Awaits(option),
         },
     }
 }
@@ -56,28 +57,29 @@ fn meaning_of<'a>(
     options: Options<'a>,
     name: &str,
     value: Option<&'a str>,
-) -> Result<Meaning<'a>, Fault>
+) -> Meaning<'a>
     ensures { IsMeaning name.now result (setting_meaning command (options_of options.entry) (record { name = name.now; value = option_map (λ text. text.now) value.entry })) }
 {
     if is_help(name) {
         return match value {
-            Some(_) => Err(unneeded_value(alloc, name)),
-            None => Ok(Meaning::Help),
+            Some(_) => Meaning::Wrong(unneeded_value(alloc, name)),
+            None => Meaning::Help,
         };
     }
     match option_called(name) {
         Some(option) => meaning_of_option(alloc, command, options, option, name, value),
-        None => Err(unknown_option(alloc, name)),
+        None => Meaning::Wrong(unknown_option(alloc, name)),
     }
 }
 
-/// What the next words are: an option, a request for help, the files, or the files behind `--`.
-#[derive(Clone, Copy, Debug)]
+/// What the next words are: an option, a request for help, the files, the files behind `--`, or a fault.
+#[derive(Debug, Drop)]
 enum Step<'a> {
     Next(Options<'a>, &'a [String]),
     Help,
     Files(&'a [String]),
     Behind(&'a [String]),
+    Wrong(Fault),
 }
 
 /// Reads the value of an option of this name, which is the next word.
@@ -88,16 +90,16 @@ fn read_value<'a>(
     option: OptionName,
     name: &str,
     words: &'a [String],
-) -> Result<Step<'a>, Fault>
+) -> Step<'a>
     ensures { IsStep command (options_of options.entry) (length words.now + 1)
         (command_action command (options_of options.entry) (Some (record { option = option; name = name.now })) (map (λ word. string_bytes word) words.now)) result }
 {
     let Some((value, behind)) = words.split_first() else {
-        return Err(no_value(alloc, name));
+        return Step::Wrong(no_value(alloc, name));
     };
     match with_value(alloc, options, option, name, value.as_str()) {
-        Ok(changed) => Ok(Step::Next(changed, behind)),
-        Err(fault) => Err(fault),
+        Ok(changed) => Step::Next(changed, behind),
+        Err(fault) => Step::Wrong(fault),
     }
 }
 
@@ -107,21 +109,19 @@ fn read_option<'a>(
     options: Options<'a>,
     word: &'a String,
     others: &'a [String],
-) -> Result<Step<'a>, Fault>
+) -> Step<'a>
     requires no_end { bytes_eq (string_bytes word.now) (codes "--") ≡ false }
     requires no_file { is_option (string_bytes word.now) ≡ true }
     ensures { IsStep command (options_of options.entry) (length others.now + 1)
         (command_action command (options_of options.entry) None (string_bytes word.now ∷ map (λ other. string_bytes other) others.now)) result }
 {
     let alloc = *word.allocator();
-    let (name, text) = split_option(word.as_str());
-    match meaning_of(alloc, command, options, name, text) {
-        Ok(Meaning::Help) => Ok(Step::Help),
-        Ok(Meaning::Sets(changed)) => Ok(Step::Next(changed, others)),
-        Ok(Meaning::Awaits(option)) => {
-            read_value(alloc, command, options, option, name, others)
-        }
-        Err(fault) => Err(fault),
+    let setting = split_option(word.as_str());
+    match meaning_of(alloc, command, options, setting.0, setting.1) {
+        Meaning::Help => Step::Help,
+        Meaning::Sets(changed) => Step::Next(changed, others),
+        Meaning::Awaits(option) => read_value(alloc, command, options, option, setting.0, others),
+        Meaning::Wrong(fault) => Step::Wrong(fault),
     }
 }
 
@@ -130,19 +130,19 @@ fn read_step<'a>(
     command: Command,
     options: Options<'a>,
     words: &'a [String],
-) -> Result<Step<'a>, Fault>
+) -> Step<'a>
     ensures { IsStep command (options_of options.entry) (length words.now)
         (command_action command (options_of options.entry) None (map (λ word. string_bytes word) words.now)) result }
 {
     let Some((word, others)) = words.split_first() else {
-        return Ok(Step::Behind(words));
+        return Step::Behind(words);
     };
     let next = word.as_str();
     if next == "--" {
-        return Ok(Step::Behind(others));
+        return Step::Behind(others);
     }
     if !is_option(next) {
-        return Ok(Step::Files(words));
+        return Step::Files(words);
     }
     read_option(command, options, word, others)
 }
@@ -156,11 +156,11 @@ fn read_command<'a>(
     ensures { ParsesAs result (command_action command (options_of options.entry) None (map (λ word. string_bytes word) words.now)) }
 {
     match read_step(command, options, words) {
-        Ok(Step::Next(changed, behind)) => read_command(command, changed, behind),
-        Ok(Step::Help) => Ok(Request::Print(Topic::Help(command))),
-        Ok(Step::Files(files)) => files_request(command, options, files),
-        Ok(Step::Behind(files)) => run_request(command, options, files),
-        Err(fault) => Err(fault),
+        Step::Next(changed, behind) => read_command(command, changed, behind),
+        Step::Help => Ok(Request::Print(Topic::Help(command))),
+        Step::Files(files) => files_request(command, options, files),
+        Step::Behind(files) => run_request(command, options, files),
+        Step::Wrong(fault) => Err(fault),
     }
 }
 

@@ -1,8 +1,8 @@
 //! The files behind options, and whether they fit to the options.
-ghost use Rattle.std.specs.Prelude.{◌≡◌, ◌≤◌, ◌+◌, map, length, nat_lt, string_bytes};
+ghost use Rattle.std.specs.Prelude.{◌≡◌, ◌≤◌, ◌+◌, map, length, nat_lt, string_bytes, if◌then◌else◌};
 ghost use Rattle.std.specs.Option.{option_map};
 ghost use Rattle.std.specs.List.{find};
-ghost use Rattle.distinct_arguments.specs.Arguments.{standard_files, standard_uses, is_standard_seed, is_standard_list, run_action, files_action};
+ghost use Rattle.distinct_arguments.specs.Arguments.{standard_files, standard_uses, is_standard_seed, is_standard_list, is_standard_default, run_action, files_action};
 ghost use Rattle.distinct_arguments.specs.Faults.{options_of, seed_value, ParsesAs};
 ghost use Rattle.distinct_arguments.specs.Words.{is_option, is_standard, reads_lines};
 
@@ -50,6 +50,24 @@ fn reads_lines(command: Command) -> bool
     }
 }
 
+/// Whether a command reads lines from standard input because it has no file.
+fn is_standard_default(command: Command, list: Option<&str>, files: &[String]) -> bool
+    ensures { result ≡ is_standard_default command (option_map (λ name. name.now) list.entry) (map (λ file. string_bytes file) files.now) }
+{
+    match list {
+        Some(_) => false,
+        None => reads_lines(command) && files.is_empty(),
+    }
+}
+
+/// 1 if a test holds, else 0.
+fn number_if(test: bool) -> u8
+    ensures value { result ≡ (if test then 1 else 0) }
+    ensures small { result ≤ 1 }
+{
+    if test { 1 } else { 0 }
+}
+
 /// Whether `uses`, at most 3, and the files that are standard input are together more than one.
 fn is_repeated(uses: u8, files: &[String]) -> bool
     requires { uses ≤ 3 }
@@ -61,21 +79,19 @@ fn is_repeated(uses: u8, files: &[String]) -> bool
         if 1 < count {
             return true;
         }
-        if is_standard(file.as_str()) {
-            count += 1;
-        }
+        count += number_if(is_standard(file.as_str()));
         rest = others;
     }
-    1 < count
+    count > 1
 }
 
 /// Whether standard input would be read more than once.
 fn is_read_twice(command: Command, options: &Options<'_>, files: &[String]) -> bool
     ensures { result ≡ nat_lt 1 (standard_uses command (options_of options.now) (map (λ file. string_bytes file) files.now)) }
 {
-    let seed = u8::from(is_standard_seed(options.seed));
-    let list = u8::from(is_standard_list(options.list));
-    let default = u8::from(reads_lines(command) && options.list.is_none() && files.is_empty());
+    let seed = number_if(is_standard_seed(options.seed));
+    let list = number_if(is_standard_list(options.list));
+    let default = number_if(is_standard_default(command, options.list, files));
     is_repeated(seed + list + default, files)
 }
 
