@@ -38,7 +38,7 @@ class Failure(Exception):
 
 
 class Uncomputed(Exception):
-    """Something that this page knows nothing of."""
+    """What is not known here: a text of help, or what the system says."""
 
 
 # The hash, and sketches as None, if empty, or their hashes and their theta.
@@ -147,24 +147,35 @@ def image_of(sketch, own_hash):
     return head + b"".join(struct.pack("<Q", h) for h in sorted(hashes))
 
 
-def is_empty(image):
-    """Whether the preamble alone makes it the image of an empty sketch."""
+def is_flagged_empty(image):
+    """Whether its first eight bytes alone are the image of the empty sketch."""
     return image[1] == 3 and bool(image[5] & 4) or image[1] == 2 and image[0] == 1
 
 
 def preamble_length(image):
-    return 8 if is_empty(image) else 24 if image[1] == 1 else 8 * image[0]
+    return 8 if is_flagged_empty(image) else 24 if image[1] == 1 else 8 * image[0]
 
 
 def image_length(image):
-    """The length of the image that the bytes begin, or None if too few are there."""
+    """The length of the image that the bytes begin, or None if its preamble isn't known or isn't whole."""
     if len(image) < 8 or not (1 <= image[0] <= 3 and 1 <= image[1] <= 3) or len(image) < preamble_length(image):
         return None
-    if is_empty(image):
+    if is_flagged_empty(image):
         return 8
     if image[1] == 3 and image[0] == 1:
         return 16
     return preamble_length(image) + 8 * struct.unpack_from("<I", image, 8)[0]
+
+
+def is_empty(image):
+    """Whether an image is read as the empty sketch: in versions 1 and 2 also one of no hash and the greatest theta."""
+    if is_flagged_empty(image):
+        return True
+    return image[1] < 3 and image_length(image) == preamble_length(image) and theta_of(image) == MAX_THETA
+
+
+def theta_of(image):
+    return struct.unpack_from("<Q", image, 16)[0] if preamble_length(image) == 24 else MAX_THETA
 
 
 def flaw_of(image, own_hash):
@@ -180,7 +191,7 @@ def flaw_of(image, own_hash):
         return f"is of version {image[1]}; versions 1 to 3 are read"
     if image[1] == 3 and image[5] & 1:
         return "is in big-endian order, which is not read"
-    if image[1] > 1 and not is_emptied(image) and struct.unpack_from("<H", image, 6)[0] != own_hash:
+    if image[1] > 1 and not is_empty(image) and struct.unpack_from("<H", image, 6)[0] != own_hash:
         return "is a sketch under another seed than this command's: pass the --seed it was made with"
     if not 1 <= image[0] <= 3 or length == len(image):
         return "is damaged: its hashes or its theta are not those of a theta sketch"
@@ -189,31 +200,19 @@ def flaw_of(image, own_hash):
     return "is longer than one image; with --hex a file may have many"
 
 
-def is_emptied(image):
-    """Whether an image is read as the empty sketch."""
-    if is_empty(image):
-        return True
-    return image[1] < 3 and image_length(image) == preamble_length(image) and theta_of(image) == MAX_THETA
-
-
-def theta_of(image):
-    return struct.unpack_from("<Q", image, 16)[0] if preamble_length(image) == 24 else MAX_THETA
-
-
 def sketch_of_image(image, own_hash):
     """The sketch that one image is read as."""
     length = image_length(image)
     if length != len(image) or image[2] != 3:
         raise Failure(flaw_of(image, own_hash))
-    if is_emptied(image):
+    if is_empty(image):
         return None
     theta = theta_of(image)
-    hashes = [it[0] for it in struct.iter_unpack("<Q", image[preamble_length(image) if length > 16 else 8 :])]
-    ascends = image[1] < 3 or image[5] & 16
-    is_whole = 1 <= theta <= MAX_THETA and all(0 < h < theta for h in hashes) and len(set(hashes)) == len(hashes)
-    if not is_whole or ascends and hashes != sorted(hashes):
-        raise Failure(flaw_of(image, own_hash))
-    if image[1] > 1 and struct.unpack_from("<H", image, 6)[0] != own_hash:
+    hashes = [it[0] for it in struct.iter_unpack("<Q", image[preamble_length(image) :])]
+    has_theta = 1 <= theta <= MAX_THETA and all(0 < h < theta for h in hashes)
+    has_order = len(set(hashes)) == len(hashes) and (image[1] == 3 and not image[5] & 16 or hashes == sorted(hashes))
+    has_seed = image[1] == 1 or struct.unpack_from("<H", image, 6)[0] == own_hash
+    if not (has_theta and has_order and has_seed):
         raise Failure(flaw_of(image, own_hash))
     return set(hashes), theta
 
