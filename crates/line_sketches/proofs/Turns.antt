@@ -1,5 +1,5 @@
 -- Texts that are read one after another.
-use Rattle.std.proofs.Common.{◌≡◌, ℕ, List, [], ◌∷◌, ◌++◌, Option, Some, None, refl, sym, ap, subst, ◌∙◌, append_assoc, append-nil}
+use Rattle.std.proofs.Common.{◌≡◌, ℕ, ◌+◌, suc, length, List, [], ◌∷◌, ◌++◌, Option, Some, None, refl, sym, ap, subst, ◌∙◌, append_assoc, append-nil}
 use Rattle.std.specs.Prelude.{IfSome}
 use Rattle.lines.specs.Lines.{lines_of, lines_of_all}
 use Rattle.lines.specs.declared.key.Hashing.{Hashing}
@@ -9,6 +9,15 @@ use Rattle.line_sketches.specs.Sources.{IsFirst, GivesNext, LeadsTo, Continues}
 pub if_some : {T : Type 0} (o : Option T) (P Q : T → Type 0) → ((x : T) → P x → Q x) → IfSome o P → IfSome o Q
 if_some None P Q step holds = tt
 if_some (Some x) P Q step holds = step x holds
+
+-- a list with one more element
+length-more : {T : Type 0} (xs : List T) (x : T) → length (xs ++ x ∷ []) ≡ length xs + 1
+length-more [] x = refl
+length-more (y ∷ xs) x = ap suc (length-more xs x)
+
+pub count_more : {T : Type 0} (o : Option T) (n : ℕ) (xs : List T) → n ≡ length xs → IfSome o (λ x. n + 1 ≡ length (xs ++ x ∷ []))
+count_more None n xs counted = tt
+count_more (Some x) n xs counted = ap (λ m. m + 1) counted ∙ sym (length-more xs x)
 
 pub if_any : {T : Type 0} (o : Option T) → IfSome o (λ x. Unit {0})
 if_any None = tt

@@ -65,25 +65,26 @@ fn add_reader<A: Allocator + Clone, B: Allocator + Clone + Drop, R: Read>(
     Ok(())
 }
 
-/// Adds images one after another to a union.
+/// Adds images one after another to a union. Returns their number.
 fn add_images<A: Allocator + Clone, B: Allocator + Clone + Drop, S: Sources>(
     union: &mut ThetaUnion<A>,
     alloc: B,
     seed: u64,
     sources: &mut S,
-) -> Result<(), Unread>
+) -> Result<u64, Unread>
     ensures united { (lg_k : ℕ) (images : List (List ℕ))
         → HasUnited seed lg_k images union.old
         → IfSome (S.texts sources.old) (λ more. OnOk result (HasUnited seed lg_k (images ++ more) union.new)) }
+    ensures counted { IfSome (S.texts sources.old) (λ more. IfOk result (λ count. count ≡ length more)) }
     ensures refused { IsReady seed union.old → IfErr result (IsImagesRefusal seed (S.texts sources.old)) }
     ensures ready { IsReady seed union.old → OnOk result (IsReady seed union.new) }
 {
-    for _ in 0..u64::MAX {
+    for count in 0..u64::MAX {
         match sources.next_source() {
             Ok(Some(mut source)) => {
                 add_reader(union, alloc.clone()?, seed, &mut source)?;
             }
-            Ok(None) => return Ok(()),
+            Ok(None) => return Ok(count),
             Err(error) => return Err(Unread::Failed(error)),
         }
     }
@@ -101,7 +102,15 @@ fn united_image<A: Allocator + Clone + Drop>(union: &ThetaUnion<A>) -> Result<Ve
     image_of(&sketch)
 }
 
-/// The image of the union of images of this seed, each with its own reader.
+/// The image of a union, and how many images were united.
+#[derive(Debug, Drop)]
+pub struct United<A: Allocator = Global> {
+    pub image: Vec<u8, A>,
+    /// From 0 to 2^64 - 2.
+    pub count: u64,
+}
+
+/// The image of the union of images of this seed, each with its own reader, and the number of these images.
 ///
 /// If the images are those of texts that were sketched apart, by one key, with this seed and this `lg_k`, it is the image
 /// of all their lines, byte for byte, in any order of the images. If each text but the last is empty or ends in an LF,
@@ -115,22 +124,24 @@ pub fn unite_images<A: Allocator + Clone + Drop, S: Sources>(
     seed: u64,
     lg_k: u8,
     images: &mut S,
-) -> Result<Vec<u8, A>, Unread>
-    ensures united { IfSome (S.texts images.old) (λ all. IfOk result (λ v. IsUnitedImage seed lg_k all v.items)) }
+) -> Result<United<A>, Unread>
+    ensures united { IfSome (S.texts images.old) (λ all. IfOk result (λ u. IsUnitedImage seed lg_k all u.image.items)) }
+    ensures counted { IfSome (S.texts images.old) (λ all. IfOk result (λ u. u.count ≡ length all)) }
     ensures whole { IfSome (S.texts images.old) (λ all.
         (key : Key) (texts : List (List ℕ))
         → AreWhole texts
         → all ≡ images_of_texts (hashing_of key seed) lg_k texts
-        → IfOk result (λ v. v.items ≡ image_of_text (hashing_of key seed) lg_k (concat texts))) }
-    ensures apart { IfSome (S.texts images.old) (λ all. IfOk result (λ v. UnitesTexts seed lg_k all v.items)) }
+        → IfOk result (λ u. u.image.items ≡ image_of_text (hashing_of key seed) lg_k (concat texts))) }
+    ensures apart { IfSome (S.texts images.old) (λ all. IfOk result (λ u. UnitesTexts seed lg_k all u.image.items)) }
     ensures accepted { OnOk result (settings_refusal lg_k MAX_THETA seed ≡ None) }
     ensures refused { IfErr result (IsUniteRefusal seed (settings_refusal lg_k MAX_THETA seed) (S.texts images.old)) }
 {
     one_reading();
     read_again();
     let mut union = new_union(alloc.clone()?, seed, lg_k)?;
-    add_images(&mut union, alloc, seed, images)?;
-    Ok(united_image(&union)?)
+    let count = add_images(&mut union, alloc, seed, images)?;
+    let image = united_image(&union)?;
+    Ok(United { image, count })
 }
 
 /// The image of the lines of one text.

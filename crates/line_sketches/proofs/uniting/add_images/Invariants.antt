@@ -1,12 +1,13 @@
-use Rattle.std.proofs.Common.{ℕ, List, ◌++◌}
+use Rattle.std.proofs.Common.{◌≡◌, ℕ, List, ◌++◌, length}
 use Rattle.line_sketches.specs.Sources.{Continues}
 use Rattle.line_sketches.specs.Unions.{HasUnited, IsReady}
 use Rattle.line_sketches.proofs.uniting.add_images.Given as goal
 
--- the images so far are united with those before the call, and the union is ready for more
-abbrev pub invariant-loop : goal.invariant-loop
-invariant-loop g l = record {
+-- the images so far are united with those before the call, are as many as the loop has counted, and the union is ready for more
+abbrev pub invariant-loop-count : goal.invariant-loop-count
+invariant-loop-count g l = record {
   united : (lg_k : ℕ) (images : List (List ℕ)) → HasUnited l.seed lg_k images l.fn.union → Continues (g.S.Sources.texts l.fn.sources) (g.S.Sources.texts l.sources) (λ taken. HasUnited l.seed lg_k (images ++ taken) l.union);
   ready : IsReady l.seed l.fn.union → IsReady l.seed l.union;
   parted : Continues (g.S.Sources.texts l.fn.sources) (g.S.Sources.texts l.sources) (λ taken. Unit {0});
+  counted : Continues (g.S.Sources.texts l.fn.sources) (g.S.Sources.texts l.sources) (λ taken. l.count ≡ length taken);
 }
