@@ -169,8 +169,11 @@ fn sketches_sources(heap: &Heap, all: &[Vec<u8>]) -> Result<bool, Unread> {
 }
 
 fn unites(heap: &Heap, images: &[Vec<u8>], seed: u64, wanted: &[u8]) -> Result<bool, Unread> {
-    let image = unite_images(heap, seed, 12, &mut whole_texts(images))?;
-    is_image(heap, image, wanted)
+    let united = unite_images(heap, seed, 12, &mut whole_texts(images))?;
+    if united.count != images.len() as u64 {
+        return Ok(false);
+    }
+    is_image(heap, united.image, wanted)
 }
 
 /// Two images, the seed that they are read under, and the seed of the operator.

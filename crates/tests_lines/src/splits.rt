@@ -68,7 +68,7 @@ fn united(alloc: Global, texts: &[Vec<u8>], reversed: bool) -> io::Result<Vec<u8
     }
     let mut parts = Texts::new(images.as_slice());
     match unite_images(alloc, 9001, 5, &mut parts) {
-        Ok(image) => Ok(image),
+        Ok(united) => Ok(united.image),
         Err(_) => Ok(Vec::new(alloc)),
     }
 }
