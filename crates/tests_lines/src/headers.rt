@@ -42,13 +42,6 @@ fn says_what_preambles_say(rt: HostRuntime) -> Result<(), Fail> {
         // Two hashes: whole, descending though ordered, cut, and cut within the preamble.
         (
             b"02030300001acc93020000000000000007000000000000000900000000000000".as_slice(),
-            None,
-            0,
-            Flaw::Hexadecimal,
-            false,
-        ),
-        (
-            b"02030300001acc93020000000000000007000000000000000900000000000000".as_slice(),
             Some(32),
             2,
             Flaw::Damaged,
