@@ -29,18 +29,18 @@ seed_value (File name) = seed_file name.now
 
 abbrev pub options_of : Options → OptionValues
 options_of o = record {
-    lg_k = o.lg_k;
-    field = o.field;
-    separator = o.separator;
-    seed = seed_value o.seed;
-    hex = o.hex;
-    progress = o.progress;
-    output = option_map (λ name. name.now) o.output;
-    list = option_map (λ name. name.now) o.list;
-    expected = o.expected;
-    bounds = o.bounds;
-    form = o.form;
-  }
+  lg_k = o.lg_k;
+  field = o.field;
+  separator = o.separator;
+  seed = seed_value o.seed;
+  hex = o.hex;
+  progress = o.progress;
+  output = option_map (λ name. name.now) o.output;
+  list = option_map (λ name. name.now) o.list;
+  expected = o.expected;
+  bounds = o.bounds;
+  form = o.form;
+}
 
 -- the mistake that a fault reports
 abbrev pub mistake_of : Fault → Option Mistake

@@ -48,9 +48,9 @@ pub record Setting : Type 0 where
 -- the name and the value are before and behind the first `=` (61)
 abbrev pub split_option : List ℕ → Setting
 split_option word = record {
-    name = before_first (λ byte. byte == 61) word;
-    value = if position_or_len (λ byte. byte == 61) word == length word then None else Some (after_first (λ byte. byte == 61) word)
-  }
+  name = before_first (λ byte. byte == 61) word;
+  value = if position_or_len (λ byte. byte == 61) word == length word then None else Some (after_first (λ byte. byte == 61) word);
+}
 
 -- the option of a name
 abbrev pub option_called : List ℕ → Option OptionName

@@ -11,7 +11,9 @@ use crate::fault::{Fault, no_value, unknown_command, unknown_option, unneeded_va
 use crate::files::{files_request, run_request};
 use crate::options::{OptionName, Options};
 use crate::settings::{with_flag, with_value};
-use crate::words::{command_of, has_option, is_help, is_option, is_version, option_called, split_option};
+use crate::words::{
+    command_of, has_option, is_help, is_option, is_version, option_called, split_option,
+};
 use std::alloc::Global;
 
 /// What a word means that looks like an option: a request for help, other values of options, an option whose value is the
@@ -126,11 +128,7 @@ fn read_option<'a>(
 }
 
 /// What the next words are. `--` ends the options, and `-` is a file.
-fn read_step<'a>(
-    command: Command,
-    options: Options<'a>,
-    words: &'a [String],
-) -> Step<'a>
+fn read_step<'a>(command: Command, options: Options<'a>, words: &'a [String]) -> Step<'a>
     ensures { IsStep command (options_of options.entry) (length words.now)
         (command_action command (options_of options.entry) None (map (λ word. string_bytes word) words.now)) result }
 {
