@@ -1,8 +1,9 @@
 -- How the program reads its arguments.
-use Rattle.std.specs.Prelude.{ℕ, ◌≡◌, ◌<◌, ◌⊎◌, ⊤, IsTrue, Bool, true, false, List, length, map, Option, Some, None, Result, Ok, Err, string_bytes}
+use Rattle.std.specs.Prelude.{ℕ, ◌≡◌, ◌<◌, ◌⊎◌, ⊤, IsTrue, Bool, true, false, List, length, Option, Some, None, Result, Ok, Err, string_bytes}
 use Rattle.std.specs.Option.{option_map}
 use Rattle.distinct_arguments.specs.Arguments.{Action, prints, runs, fails, Awaiting, Meaning, help, sets, awaits, wrong, files_action, run_action, command_action}
 use Rattle.distinct_arguments.specs.Settings.{SeedValue, seed_number, seed_file, OptionValues, Mistake, no_command, unknown_command, unknown_option, behind_file, no_value, unneeded_value, wrong_size, wrong_field, wrong_separator, wrong_seed, wrong_deviations, wrong_count, lone_separator, files_and_list, standard_twice}
+use Rattle.distinct_arguments.specs.Words.{words_of}
 use Rattle.distinct_arguments.specs.declared.arguments.Meaning.{Meaning as MeaningOf}
 use Rattle.distinct_arguments.specs.declared.arguments.Meaning.TheVariants.{Help as MeansHelp, Sets, Awaits, Wrong as MeansWrong}
 use Rattle.distinct_arguments.specs.declared.arguments.Step.{Step}
@@ -29,18 +30,18 @@ seed_value (File name) = seed_file name.now
 
 abbrev pub options_of : Options → OptionValues
 options_of o = record {
-    lg_k = o.lg_k;
-    field = o.field;
-    separator = o.separator;
-    seed = seed_value o.seed;
-    hex = o.hex;
-    progress = o.progress;
-    output = option_map (λ name. name.now) o.output;
-    list = option_map (λ name. name.now) o.list;
-    expected = o.expected;
-    bounds = o.bounds;
-    form = o.form;
-  }
+  lg_k = o.lg_k;
+  field = o.field;
+  separator = o.separator;
+  seed = seed_value o.seed;
+  hex = o.hex;
+  progress = o.progress;
+  output = option_map (λ name. name.now) o.output;
+  list = option_map (λ name. name.now) o.list;
+  expected = o.expected;
+  bounds = o.bounds;
+  form = o.form;
+}
 
 -- the mistake that a fault reports
 abbrev pub mistake_of : Fault → Option Mistake
@@ -83,7 +84,7 @@ ReportsMistake fault (fails mistake) = Reports fault mistake
 -- what the program does by a request
 abbrev pub request_action : Request → Action
 request_action (Print topic) = prints topic
-request_action (Run command options files) = runs command (options_of options) (map (λ file. string_bytes file) files.now)
+request_action (Run command options files) = runs command (options_of options) (words_of files.now)
 
 -- a request is for what the program should do, and a fault reports what is wrong
 abbrev pub ParsesAs : Result Request Fault → Action → Type 0
@@ -114,8 +115,8 @@ IsMeaning name (MeansWrong fault) meaning = IsWrong fault meaning
 -- mean. The last files are those behind `--`.
 abbrev pub IsStep : Command → OptionValues → (count : ℕ) → Action → Step → Type 0
 IsStep command options count action (Next changed behind) =
-    (length behind.now < count) × (command_action command (options_of changed) None (map (λ word. string_bytes word) behind.now) ≡ action)
+    (length behind.now < count) × (command_action command (options_of changed) None (words_of behind.now) ≡ action)
 IsStep command options count action Help = prints (HelpOn command) ≡ action
-IsStep command options count action (Files files) = files_action command options (map (λ file. string_bytes file) files.now) ≡ action
-IsStep command options count action (Behind files) = run_action command options (map (λ file. string_bytes file) files.now) ≡ action
+IsStep command options count action (Files files) = files_action command options (words_of files.now) ≡ action
+IsStep command options count action (Behind files) = run_action command options (words_of files.now) ≡ action
 IsStep command options count action (Wrong fault) = ReportsMistake fault action

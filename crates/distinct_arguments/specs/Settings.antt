@@ -33,18 +33,18 @@ pub record OptionValues : Type 0 where
 -- the defaults
 abbrev pub default_options : OptionValues
 default_options = record {
-    lg_k = 12;
-    field = None;
-    separator = None;
-    seed = seed_number 9001;
-    hex = false;
-    progress = false;
-    output = None;
-    list = None;
-    expected = None;
-    bounds = None;
-    form = Plain;
-  }
+  lg_k = 12;
+  field = None;
+  separator = None;
+  seed = seed_number 9001;
+  hex = false;
+  progress = false;
+  output = None;
+  list = None;
+  expected = None;
+  bounds = None;
+  form = Plain;
+}
 
 -- the key that options choose: the field of their number, the first being 1, with a tab (9) as the default separator, or the whole line
 abbrev pub chosen_key : OptionValues → Key

@@ -1,5 +1,5 @@
 -- Single words of the program's arguments.
-use Rattle.std.specs.Prelude.{ℕ, ◌==◌, ◌&&◌, ◌||◌, not, nat_le, Bool, true, false, List, [], ◌∷◌, length, codes, Option, Some, None, if◌then◌else◌}
+use Rattle.std.specs.Prelude.{ℕ, ◌==◌, ◌&&◌, ◌||◌, not, nat_le, Bool, true, false, List, [], ◌∷◌, length, map, codes, Option, Some, None, String, string_bytes, if◌then◌else◌}
 use Rattle.std.specs.Option.{option_map_or}
 use Rattle.std.specs.List.{before_first, after_first, position_or_len}
 use Rattle.std.specs.Str.{bytes_eq, all_ascii_digits}
@@ -12,6 +12,10 @@ use Rattle.distinct_arguments.specs.declared.commands.Command.TheVariants.{Count
 use Rattle.distinct_arguments.specs.declared.commands.Operator.TheVariants.{Union, Meet, Minus}
 use Rattle.distinct_arguments.specs.declared.options.OptionName.{OptionName}
 use Rattle.distinct_arguments.specs.declared.options.OptionName.TheVariants.{LgK, Field, Separator, Seed, SeedFile, FileList, Expect, Progress, Bounds, Tsv, Json, Hex, Output}
+
+-- the bytes of words
+abbrev pub words_of : {A : Type 0} → List (String A) → List (List ℕ)
+words_of words = map (λ word. string_bytes word) words
 
 -- the command that a word names
 abbrev pub command_of : List ℕ → Option Command
@@ -48,9 +52,9 @@ pub record Setting : Type 0 where
 -- the name and the value are before and behind the first `=` (61)
 abbrev pub split_option : List ℕ → Setting
 split_option word = record {
-    name = before_first (λ byte. byte == 61) word;
-    value = if position_or_len (λ byte. byte == 61) word == length word then None else Some (after_first (λ byte. byte == 61) word)
-  }
+  name = before_first (λ byte. byte == 61) word;
+  value = if position_or_len (λ byte. byte == 61) word == length word then None else Some (after_first (λ byte. byte == 61) word);
+}
 
 -- the option of a name
 abbrev pub option_called : List ℕ → Option OptionName

@@ -1,21 +1,23 @@
 //! The program's arguments.
-ghost use Rattle.std.specs.Prelude.{◌≡◌, ◌+◌, ◌∷◌, true, false, Some, None, codes, length, map, string_bytes};
+ghost use Rattle.std.specs.Prelude.{◌≡◌, ◌+◌, ◌∷◌, true, false, Some, None, codes, length, string_bytes};
 ghost use Rattle.std.specs.Option.{option_map};
 ghost use Rattle.std.specs.Str.{bytes_eq};
-ghost use Rattle.distinct_arguments.specs.Arguments.{action_of, command_action, help_meaning, option_meaning, setting_meaning};
+ghost use Rattle.distinct_arguments.specs.Arguments.{action_of, command_action, option_meaning, setting_meaning};
 ghost use Rattle.distinct_arguments.specs.Faults.{options_of, IsMeaning, IsStep, ParsesAs};
-ghost use Rattle.distinct_arguments.specs.Words.{is_option, split_option};
+ghost use Rattle.distinct_arguments.specs.Words.{Setting, is_option, words_of};
 
 use crate::commands::{Command, Request, Topic};
 use crate::fault::{Fault, no_value, unknown_command, unknown_option, unneeded_value};
 use crate::files::{files_request, run_request};
 use crate::options::{OptionName, Options};
 use crate::settings::{with_flag, with_value};
-use crate::words::{command_of, has_option, is_help, is_option, is_version, option_called, split_option};
+use crate::words::{
+    command_of, has_option, is_help, is_option, is_version, option_called, split_option,
+};
 use std::alloc::Global;
 
-/// What a word means that looks like an option: a request for help, other values of options, an option whose value is the
-/// next word, or a fault.
+/// What a word means that looks like an option: a request for help, other values of options, an option whose value is
+/// the next word, or a fault.
 #[derive(Debug, Drop)]
 enum Meaning<'a> {
     Help,
@@ -33,7 +35,8 @@ fn meaning_of_option<'a>(
     name: &str,
     value: Option<&'a str>,
 ) -> Meaning<'a>
-    ensures { IsMeaning name.now result (option_meaning command (options_of options.entry) (record { name = name.now; value = option_map (λ text. text.now) value.entry }) option) }
+    ensures { let setting : Setting = record { name = name.now; value = option_map (λ text. text.now) value.entry } in
+        IsMeaning name.now result (option_meaning command (options_of options.entry) setting option) }
 {
     if !has_option(command, option) {
         return Meaning::Wrong(unknown_option(alloc, name));
@@ -58,7 +61,8 @@ fn meaning_of<'a>(
     name: &str,
     value: Option<&'a str>,
 ) -> Meaning<'a>
-    ensures { IsMeaning name.now result (setting_meaning command (options_of options.entry) (record { name = name.now; value = option_map (λ text. text.now) value.entry })) }
+    ensures { let setting : Setting = record { name = name.now; value = option_map (λ text. text.now) value.entry } in
+        IsMeaning name.now result (setting_meaning command (options_of options.entry) setting) }
 {
     if is_help(name) {
         return match value {
@@ -92,7 +96,9 @@ fn read_value<'a>(
     words: &'a [String],
 ) -> Step<'a>
     ensures { IsStep command (options_of options.entry) (length words.now + 1)
-        (command_action command (options_of options.entry) (Some (record { option = option; name = name.now })) (map (λ word. string_bytes word) words.now)) result }
+        (command_action command (options_of options.entry) (Some (record { option = option; name = name.now }))
+        (words_of words.now))
+        result }
 {
     let Some((value, behind)) = words.split_first() else {
         return Step::Wrong(no_value(alloc, name));
@@ -113,7 +119,8 @@ fn read_option<'a>(
     requires no_end { bytes_eq (string_bytes word.now) (codes "--") ≡ false }
     requires no_file { is_option (string_bytes word.now) ≡ true }
     ensures { IsStep command (options_of options.entry) (length others.now + 1)
-        (command_action command (options_of options.entry) None (string_bytes word.now ∷ map (λ other. string_bytes other) others.now)) result }
+        (command_action command (options_of options.entry) None (string_bytes word.now ∷ words_of others.now))
+        result }
 {
     let alloc = *word.allocator();
     let setting = split_option(word.as_str());
@@ -126,13 +133,9 @@ fn read_option<'a>(
 }
 
 /// What the next words are. `--` ends the options, and `-` is a file.
-fn read_step<'a>(
-    command: Command,
-    options: Options<'a>,
-    words: &'a [String],
-) -> Step<'a>
+fn read_step<'a>(command: Command, options: Options<'a>, words: &'a [String]) -> Step<'a>
     ensures { IsStep command (options_of options.entry) (length words.now)
-        (command_action command (options_of options.entry) None (map (λ word. string_bytes word) words.now)) result }
+        (command_action command (options_of options.entry) None (words_of words.now)) result }
 {
     let Some((word, others)) = words.split_first() else {
         return Step::Behind(words);
@@ -153,7 +156,7 @@ fn read_command<'a>(
     options: Options<'a>,
     words: &'a [String],
 ) -> Result<Request<'a>, Fault>
-    ensures { ParsesAs result (command_action command (options_of options.entry) None (map (λ word. string_bytes word) words.now)) }
+    ensures { ParsesAs result (command_action command (options_of options.entry) None (words_of words.now)) }
 {
     match read_step(command, options, words) {
         Step::Next(changed, behind) => read_command(command, changed, behind),
@@ -164,11 +167,11 @@ fn read_command<'a>(
     }
 }
 
-/// What the arguments request, without the program's name. If they are wrong, it fails with the first fault of a word from the
-/// left, else with the first of `LoneSeparator`, `FilesAndList` and `StandardTwice` that applies, or with `Memory` if memory
-/// for the text of a fault is refused.
+/// What the arguments request, without the program's name. If they are wrong, it fails with the first fault of a word from
+/// the left, else with the first of `LoneSeparator`, `FilesAndList` and `StandardTwice` that applies, or with `Memory` if
+/// memory for the text of a fault is refused.
 pub fn read_arguments(words: &[String]) -> Result<Request<'_>, Fault>
-    ensures { ParsesAs result (action_of (map (λ word. string_bytes word) words.now)) }
+    ensures { ParsesAs result (action_of (words_of words.now)) }
 {
     let Some((first, rest)) = words.split_first() else {
         return Err(Fault::NoCommand);

@@ -1,10 +1,11 @@
 //! The files behind options, and whether they fit to the options.
-ghost use Rattle.std.specs.Prelude.{◌≡◌, ◌≤◌, ◌+◌, map, length, nat_lt, string_bytes, if◌then◌else◌};
+ghost use Rattle.std.specs.Prelude.{◌≡◌, ◌≤◌, ◌+◌, nat_lt, string_bytes, if◌then◌else◌};
 ghost use Rattle.std.specs.Option.{option_map};
 ghost use Rattle.std.specs.List.{find};
-ghost use Rattle.distinct_arguments.specs.Arguments.{standard_files, standard_uses, is_standard_seed, is_standard_list, is_standard_default, run_action, files_action};
+ghost use Rattle.distinct_arguments.specs.Arguments.{standard_files, standard_uses, is_standard_seed, is_standard_list};
+ghost use Rattle.distinct_arguments.specs.Arguments.{is_standard_default, run_action, files_action};
 ghost use Rattle.distinct_arguments.specs.Faults.{options_of, seed_value, ParsesAs};
-ghost use Rattle.distinct_arguments.specs.Words.{is_option, is_standard, reads_lines};
+ghost use Rattle.distinct_arguments.specs.Words.{is_option, is_standard, reads_lines, words_of};
 
 use crate::commands::{Command, Request};
 use crate::fault::{Fault, behind_file};
@@ -52,7 +53,7 @@ fn reads_lines(command: Command) -> bool
 
 /// Whether a command reads lines from standard input because it has no file.
 fn is_standard_default(command: Command, list: Option<&str>, files: &[String]) -> bool
-    ensures { result ≡ is_standard_default command (option_map (λ name. name.now) list.entry) (map (λ file. string_bytes file) files.now) }
+    ensures { result ≡ is_standard_default command (option_map (λ name. name.now) list.entry) (words_of files.now) }
 {
     match list {
         Some(_) => false,
@@ -71,7 +72,7 @@ fn number_if(test: bool) -> u8
 /// Whether `uses`, at most 3, and the files that are standard input are together more than one.
 fn is_repeated(uses: u8, files: &[String]) -> bool
     requires { uses ≤ 3 }
-    ensures { result ≡ nat_lt 1 (uses + standard_files (map (λ file. string_bytes file) files.now)) }
+    ensures { result ≡ nat_lt 1 (uses + standard_files (words_of files.now)) }
 {
     let mut count = uses;
     let mut rest = files;
@@ -87,7 +88,7 @@ fn is_repeated(uses: u8, files: &[String]) -> bool
 
 /// Whether standard input would be read more than once.
 fn is_read_twice(command: Command, options: &Options<'_>, files: &[String]) -> bool
-    ensures { result ≡ nat_lt 1 (standard_uses command (options_of options.now) (map (λ file. string_bytes file) files.now)) }
+    ensures { result ≡ nat_lt 1 (standard_uses command (options_of options.now) (words_of files.now)) }
 {
     let seed = number_if(is_standard_seed(options.seed));
     let list = number_if(is_standard_list(options.list));
@@ -101,7 +102,7 @@ pub(crate) fn run_request<'a>(
     options: Options<'a>,
     files: &'a [String],
 ) -> Result<Request<'a>, Fault>
-    ensures { ParsesAs result (run_action command (options_of options.entry) (map (λ file. string_bytes file) files.now)) }
+    ensures { ParsesAs result (run_action command (options_of options.entry) (words_of files.now)) }
 {
     if options.separator.is_some() && options.field.is_none() {
         return Err(Fault::LoneSeparator);
@@ -117,7 +118,7 @@ pub(crate) fn run_request<'a>(
 
 /// The first file that looks like an option.
 fn first_option(files: &[String]) -> Option<&String>
-    ensures { option_map (λ file. string_bytes file.now) result ≡ find is_option (map (λ file. string_bytes file) files.now) }
+    ensures { option_map (λ file. string_bytes file.now) result ≡ find is_option (words_of files.now) }
 {
     let mut rest = files;
     'each_file: while let Some((file, others)) = rest.split_first() {
@@ -135,7 +136,7 @@ pub(crate) fn files_request<'a>(
     options: Options<'a>,
     files: &'a [String],
 ) -> Result<Request<'a>, Fault>
-    ensures { ParsesAs result (files_action command (options_of options.entry) (map (λ file. string_bytes file) files.now)) }
+    ensures { ParsesAs result (files_action command (options_of options.entry) (words_of files.now)) }
 {
     match first_option(files) {
         Some(word) => Err(behind_file(*word.allocator(), word.as_str())),

@@ -30,7 +30,7 @@ pub enum Seed<'a> {
     File(&'a str),
 }
 
-/// How counts are printed.
+/// How counts are printed: as plain text, as values separated by tabs, or as JSON objects.
 #[derive(Clone, Copy, Debug, PartialEq, Eq)]
 pub enum Form {
     Plain,
@@ -48,8 +48,9 @@ pub struct Options<'a> {
     /// The byte between fields; a tab if `None`.
     pub separator: Option<u8>,
     pub seed: Seed<'a>,
-    /// Images are in hexadecimal digits.
+    /// Whether images are in hexadecimal digits.
     pub hex: bool,
+    /// Whether the lines so far are reported while they are read.
     pub progress: bool,
     /// The file to which the image is written, or `None` for standard output.
     pub output: Option<&'a str>,

@@ -134,8 +134,14 @@ const ROWS: &[(&str, &str)] = &[
     ("union --lg-k 005 a", "Combine(Union) lg_k=5 | a"),
     ("count --field 1 a", "Count field=1 | a"),
     ("sketch --field=4294967295 a", "Sketch field=4294967295 | a"),
-    ("count --field 2 --separator ; a", "Count field=2 separator=59 | a"),
-    ("count --separator== --field=2 a", "Count field=2 separator=61 | a"),
+    (
+        "count --field 2 --separator ; a",
+        "Count field=2 separator=59 | a",
+    ),
+    (
+        "count --separator== --field=2 a",
+        "Count field=2 separator=61 | a",
+    ),
     ("count --seed 0 a", "Count seed=0 | a"),
     (
         "minus --seed=18446744073709551615 a b",
@@ -146,7 +152,10 @@ const ROWS: &[(&str, &str)] = &[
     ("count --files0-from l", "Count list=l |"),
     ("meet --files0-from=l", "Combine(Meet) list=l |"),
     ("union --expect 1 a", "Combine(Union) expected=1 | a"),
-    ("meet --expect=4294967295 a", "Combine(Meet) expected=4294967295 | a"),
+    (
+        "meet --expect=4294967295 a",
+        "Combine(Meet) expected=4294967295 | a",
+    ),
     ("count --progress a", "Count progress | a"),
     ("show --bounds a", "Show bounds=Two | a"),
     ("count --bounds=1 a", "Count bounds=One | a"),
@@ -264,8 +273,14 @@ const ROWS: &[(&str, &str)] = &[
     ("count --seed-file - --seed 1 -", "Count seed=1 | -"),
     ("count --files0-from -", "Count list=- |"),
     ("show --files0-from - --seed-file -", "StandardTwice"),
-    ("count --files0-from - --seed-file s", "Count seed_file=s list=- |"),
-    ("sketch --files0-from l --seed-file -", "Sketch seed_file=- list=l |"),
+    (
+        "count --files0-from - --seed-file s",
+        "Count seed_file=s list=- |",
+    ),
+    (
+        "sketch --files0-from l --seed-file -",
+        "Sketch seed_file=- list=l |",
+    ),
     ("sketch --output - -", "Sketch output=- | -"),
     // the first of two faults
     ("count --lg-k 3 --field 0", "WrongSize"),
@@ -362,7 +377,10 @@ fn prints_each_fault(rt: HostRuntime) -> Result<(), Fail> {
         assert_eq!(rt; (printed.0, printed.1.as_str()), (2, message), "{text}");
     }
     let memory = format!(in rt.alloc(); "{}", Fault::Memory)?;
-    assert_eq!(rt; (Fault::Memory.status(), memory.as_str()), (1, "out of memory"));
+    assert_eq!(rt;
+        (Fault::Memory.status(), memory.as_str()),
+        (1, "out of memory")
+    );
     Ok(())
 }
 

@@ -20,7 +20,7 @@ returns-in-Ok c =
     let awaiting : Awaiting = record { option = c.args.option; name = c.args.name.now } in (
       omega (arith, c.in-Some.ensures.cases.1),
       accepted_at (with_value options c.args.option c.args.name.now c.as_str.result.now) c.in-Ok.changed (λ next. command_action c.args.command next None rest) c.in-Ok.ensures
-      ∙ value_action c.args.command options awaiting words (string_bytes c.in-Some.value.now) c.as_str.result.now rest (ap (map (λ word. string_bytes word)) c.in-Some.ensures.cases.0) c.as_str.ensures.value,
+          ∙ value_action c.args.command options awaiting words (string_bytes c.in-Some.value.now) c.as_str.result.now rest (ap (map (λ word. string_bytes word)) c.in-Some.ensures.cases.0) c.as_str.ensures.value,
     )
 
 pub returns-in-Err : goal.returns-in-Err
