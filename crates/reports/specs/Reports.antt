@@ -18,12 +18,12 @@ is_exact s = s.empty || s.theta == MAX_THETA
 -- the report of a compact sketch, with bounds of z standard deviations
 unfoldable pub report_of : (z : ℕ) → Compact ℕ → Report
 report_of z s = record {
-    estimate = rounded (compact_fraction s);
-    interval = count_bounds z (length s.entries) s.theta;
-    exact = is_exact s;
-    retained = length s.entries;
-    theta = s.theta;
-  }
+  estimate = rounded (compact_fraction s);
+  interval = count_bounds z (length s.entries) s.theta;
+  exact = is_exact s;
+  retained = length s.entries;
+  theta = s.theta;
+}
 
 -- both ends of an interval are n
 abbrev pub only : (n : ℕ) → Interval
