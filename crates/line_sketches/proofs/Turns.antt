@@ -1,5 +1,5 @@
 -- Texts that are read one after another.
-use Rattle.std.proofs.Common.{◌≡◌, ℕ, ◌+◌, suc, length, List, [], ◌∷◌, ◌++◌, Option, Some, None, refl, sym, ap, subst, ◌∙◌, append_assoc, append-nil}
+use Rattle.std.proofs.Common.{◌≡◌, ℕ, ◌+◌, length, List, [], ◌∷◌, ◌++◌, Option, Some, None, refl, sym, ap, subst, ◌∙◌, append_assoc, append-nil, arith}
 use Rattle.std.specs.Prelude.{IfSome}
 use Rattle.lines.specs.Lines.{lines_of, lines_of_all}
 use Rattle.lines.specs.declared.key.Hashing.{Hashing}
@@ -13,7 +13,7 @@ if_some (Some x) P Q step holds = step x holds
 -- a list with one more element
 length-more : {T : Type 0} (xs : List T) (x : T) → length (xs ++ x ∷ []) ≡ length xs + 1
 length-more [] x = refl
-length-more (y ∷ xs) x = ap suc (length-more xs x)
+length-more (y ∷ xs) x = omega (arith, length-more xs x)
 
 pub count_more : {T : Type 0} (o : Option T) (n : ℕ) (xs : List T) → n ≡ length xs → IfSome o (λ x. n + 1 ≡ length (xs ++ x ∷ []))
 count_more None n xs counted = tt

@@ -1,5 +1,5 @@
 //! Unions of images, and which lines they are the images of.
-ghost use Rattle.std.specs.Prelude.{◌≡◌, ◌++◌, ◌∷◌, ℕ, List, [], map, true, None, IfOk, IfErr, OnOk, IfSome};
+ghost use Rattle.std.specs.Prelude.{◌≡◌, ◌++◌, ◌∷◌, ℕ, List, [], map, true, None, IfOk, IfErr, OnOk, IfSome, length};
 ghost use Rattle.std.specs.List.{concat};
 ghost use Rattle.lines.specs.Keys.{hashing_of};
 ghost use Rattle.lines.specs.Lines.{lines_of_all, AreWhole};
