@@ -1,5 +1,5 @@
 -- The lines that are written of a report. Each ends in LF.
-use Rattle.std.specs.Prelude.{◌++◌, Bool, true, false, List, [], ℕ, Option, None, Some, codes, decimal, if◌then◌else◌}
+use Rattle.std.specs.Prelude.{◌++◌, Bool, List, [], ℕ, Option, None, Some, codes, decimal, if◌then◌else◌}
 use Rattle.reports.specs.declared.report.Report.{Report}
 use Rattle.reports.specs.Names.{escaped_name, json_string}
 
