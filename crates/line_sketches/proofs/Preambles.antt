@@ -135,7 +135,7 @@ said_of bytes longs version empty b low high flag room =
 
 -- ---- facts on bytes that are read
 
-record IsRead (bytes : List ℕ) (h : ℕ) (s : Compact ℕ) : Type 0 where
+pub record IsRead (bytes : List ℕ) (h : ℕ) (s : Compact ℕ) : Type 0 where
   pub begins : BeginsWithImage bytes h s
   pub counted : entry_count bytes ≡ length s.entries
   pub whole : 8 ≤ length bytes
@@ -152,7 +152,7 @@ seed_same : (t : Bool) (a h : ℕ) → a ≡ h → (t && not (eqb a h)) ≡ fals
 seed_same t a h same = ap (λ (b : Bool). t && not b) (eq-eqb a h same) ∙ second_false t
 
 unchecked : (t u : Bool) → t ≡ false → (t && u) ≡ false
-unchecked t u no = ap (λ (b : Bool). b && u) no
+unchecked t u off = ap (λ (b : Bool). b && u) off
 
 module _ (bytes : List ℕ) (h : ℕ) (nonzero : 0 < h) where
   read_so : (s : Compact ℕ) (longs version start count : ℕ) → Begins bytes longs version 3 → 1 ≤ version → version ≤ 3 → IsSaid bytes start count → start + 8 * count ≤ length bytes →
@@ -316,7 +316,7 @@ read_facts bytes h s reads = spelled_read bytes h reads.seeded reads.spelled
 -- ---- flaws
 
 past : (t : Bool) (x y : Flaw) → t ≡ false → MayBeRead y → MayBeRead (cond t x y)
-past t x y no may = subst (λ (b : Bool). MayBeRead (cond b x y)) (sym no) may
+past t x y off may = subst (λ (b : Bool). MayBeRead (cond b x y)) (sym off) may
 
 either_way : (t : Bool) (x y : Flaw) → MayBeRead x → MayBeRead y → MayBeRead (cond t x y)
 either_way true x y a b = a
