@@ -1,5 +1,5 @@
 -- What a command writes, by the texts of its files.
-use Rattle.std.specs.Prelude.{ℕ, ◌≡◌, ◌++◌, Bool, true, false, List, [], ◌∷◌, map, Option, String, Vec, string_bytes, decimal, codes, if◌then◌else◌}
+use Rattle.std.specs.Prelude.{ℕ, ◌≡◌, ◌++◌, Bool, true, false, List, [], ◌∷◌, length, map, Option, IfSome, String, Vec, string_bytes, decimal, codes, if◌then◌else◌}
 use Rattle.std.specs.Io.KnownBytes.{Appends}
 use Rattle.core_compact.specs.CompactState.{Compact, compact_value}
 use Rattle.core_state.specs.Fraction.{compact_fraction}

@@ -3,7 +3,8 @@ ghost use Rattle.std.specs.Prelude.{◌≡◌, ◌≢◌, ℕ, OnOk, IfOk, IfErr
 ghost use Rattle.sketch_base.specs.Seed.{seed_hash};
 ghost use Rattle.theta_sketches.specs.Image.{written};
 ghost use Rattle.distinct_arguments.specs.Faults.{options_of, request_action};
-ghost use Rattle.distinct.specs.Answers.{names_of, sketch_of, count_text, in_form, IsAnswer, Writes, Performs};
+ghost use Rattle.distinct.specs.Answers.{names_of, sketch_of, in_form, IsAnswer, Writes, Performs};
+ghost use Rattle.distinct.specs.Texts.{count_text};
 ghost use Rattle.distinct.specs.Failures.{IsOfReading, IsOfCommand};
 ghost use Rattle.distinct.specs.declared.failure.Failure.TheVariants as failure;
 

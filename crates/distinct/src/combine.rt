@@ -1,5 +1,5 @@
 //! What `union`, `meet` and `minus` write.
-ghost use Rattle.std.specs.Prelude.{◌≡◌, ◌≢◌, ◌≤◌, ◌⊎◌, ℕ, List, [], ◌∷◌, length, None, IfOk, IfErr, IfSome, IfNone};
+ghost use Rattle.std.specs.Prelude.{◌≡◌, ◌≢◌, ◌≤◌, ◌⊎◌, ℕ, List, [], ◌∷◌, length, None, IfOk, IfErr, IfSome, IfNone, OnOk};
 ghost use Rattle.sketch_base.specs.Seed.{seed_hash};
 ghost use Rattle.sketch_base.specs.declared.error.ErrorKind.TheVariants.{OutOfMemory, InvalidData};
 ghost use Rattle.theta_sketches.specs.Image.{written};
@@ -8,7 +8,7 @@ ghost use Rattle.line_sketches.specs.Unions.{IsUnitedImage};
 ghost use Rattle.distinct_arguments.specs.Faults.{options_of};
 ghost use Rattle.distinct.specs.Answers.{intersection_of, difference_of, IsCombinedOf, IsExpected};
 ghost use Rattle.distinct.specs.Images.{remaining_images, ReadsNext};
-ghost use Rattle.distinct.specs.Failures.{IsOfImages, IsOfCombining, IsOfCount, ReportsNoSketch};
+ghost use Rattle.distinct.specs.Failures.{IsOfImages, IsOfCombining, IsOfCount, IsOfUnion, ReportsNoSketch};
 ghost use Rattle.distinct.specs.Seeds.{AreSeeded};
 ghost use Rattle.distinct.specs.declared.failure.Failure.TheVariants as failure;
 
@@ -74,7 +74,7 @@ pub fn combine_inputs<S: Sources + Drop, C: Console>(
 ) -> Result<Vec<u8>, Failure>
     requires seeded { seed_hash seed ≢ 0 }
     ensures combined { IfSome (S.texts inputs.entry.sources) (λ texts.
-        IfOk result (λ v. IsCombinedOf (options_of options.now) seed operator texts v.items)) }
+        IfOk result (λ v. IsCombinedOf operator (options_of options.now) seed texts v.items)) }
     ensures failed { IfErr result (IsOfCombining operator (options_of options.now) count (S.texts inputs.entry.sources)) }
 {
     let mut images = Images::new(alloc, inputs, options.hex, seed);

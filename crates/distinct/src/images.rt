@@ -7,7 +7,7 @@ ghost use Rattle.std.specs.Io.Buffered.{reader_remaining};
 ghost use Rattle.sketch_base.specs.Seed.{seed_hash};
 ghost use Rattle.line_sketches.specs.Header.{image_length, flaw_of};
 ghost use Rattle.line_sketches.specs.Sources.{GivesNext};
-ghost use Rattle.distinct.specs.Images.{remaining_images, GivesOrCloses};
+ghost use Rattle.distinct.specs.Images.{remaining_images, GivesOrCloses, IsSameReader};
 ghost use Rattle.distinct.specs.Failures.{called, next_number, IsOfImages, NotesNext, ReportsUnreadable, ReportsNoSketch};
 
 use crate::failure::Failure;

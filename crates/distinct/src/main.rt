@@ -3,6 +3,9 @@
 //! of its fields.
 #![tactic(auto)]
 
+ghost use Rattle.std.specs.Prelude.{◌≢◌};
+ghost use Rattle.sketch_base.specs.Seed.{seed_hash};
+
 mod answer;
 mod combine;
 mod failure;

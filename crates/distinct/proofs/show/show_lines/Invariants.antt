@@ -5,4 +5,4 @@ use Rattle.distinct.proofs.show.show_lines.Given as goal
 
 -- the lines so far, followed by those of the images that are left, are all lines
 abbrev pub invariant-loop : goal.invariant-loop
-invariant-loop g l = ShowMore (options_of l.fn.options.now) l.fn.seed (remaining_images g.S.Source.Read.remaining g.S.Sources.texts l.fn.images) l.shown.items (remaining_images g.S.Source.Read.remaining g.S.Sources.texts l.images)
+invariant-loop g l = ShowMore (options_of l.options) l.seed (remaining_images g.S.Source.Read.remaining g.S.Sources.texts l.fn.images) l.shown.items (remaining_images g.S.Source.Read.remaining g.S.Sources.texts l.images)
