@@ -1,13 +1,13 @@
 -- Images read one after another.
 use Rattle.std.proofs.Common.{◌≡◌, ℕ, suc, Bool, true, false, List, [], ◌∷◌, ◌++◌, length, map, Option, Some, None, refl, sym, ap, subst, ◌∙◌, append_assoc, append-nil, arith}
-use Rattle.std.specs.Prelude.{◌≢◌, IfSome}
+use Rattle.std.specs.Prelude.{◌≢◌, IfSome, IfOk, Result, Ok, Err}
 use Rattle.std.specs.declared.io.buffered.BufReader.{BufReader}
 use Rattle.sketch_base.specs.Seed.{seed_hash}
 use Rattle.core_compact.specs.CompactState.{Compact}
-use Rattle.theta_sketches.specs.Image.{Reads}
+use Rattle.theta_sketches.specs.Image.{Reads, written}
 use Rattle.line_sketches.specs.Sources.{Continues}
 use Rattle.line_sketches.specs.Shards.{AreRead}
-use Rattle.distinct.specs.Answers.{IsShown, AreShown}
+use Rattle.distinct.specs.Answers.{IsShown, AreShown, IsExpected, IsIntersectionImage, intersection_of}
 use Rattle.distinct.specs.Failures.{called}
 use Rattle.distinct.specs.Images.{images_of, images_left, open_text, ReadsFirst, ReadsNext}
 use Rattle.distinct.specs.Texts.{shown_text}
@@ -144,3 +144,20 @@ module _ (seed : ℕ) where
       IfSome (images_left hex (open_text remaining reader) line texts) (λ all. AreRead seed all sketches) → length sketches ≢ 2 → IfSome texts (λ all. length (images_of hex all) ≢ 2)
   left_not_two remaining hex line texts (Some reader) sketches closed read other = absurd (cc)
   left_not_two remaining hex line texts None sketches closed read other = all_left hex line texts (λ all. length all ≢ 2) (not_two (images_left hex None line texts) sketches read other)
+
+  -- ---- the image of an intersection
+
+  met_of_known : {V E : Type 0} (r : Result V E) (items : V → List ℕ) (expected : Option ℕ) (known : Option (List (List ℕ))) (sketches : List (Compact ℕ)) →
+      IfSome known (λ all. AreRead seed all sketches) → IfOk r (λ v. items v ≡ written (intersection_of seed sketches)) → IsExpected expected (length sketches) →
+      IfSome known (λ all. IfOk r (λ v. IsIntersectionImage seed all (items v) × IsExpected expected (length all)))
+  met_of_known r items expected None sketches read image counted = tt
+  met_of_known (Err e) items expected (Some all) sketches read image counted = tt
+  met_of_known (Ok v) items expected (Some all) sketches read image counted =
+      ((sketches, read, image), subst (λ (n : ℕ). IsExpected expected n) (sym (read_count all sketches read)) counted)
+
+  pub met_image : {R A V E : Type 0} (remaining : R → Option (List ℕ)) (hex : Bool) (line : ℕ) (texts : Option (List (List ℕ))) (reader : Option (BufReader R A)) (sketches : List (Compact ℕ)) (r : Result V E) (items : V → List ℕ) (expected : Option ℕ) → reader ≡ None →
+      IfSome (images_left hex (open_text remaining reader) line texts) (λ all. AreRead seed all sketches) → IfOk r (λ v. items v ≡ written (intersection_of seed sketches)) → IsExpected expected (length sketches) →
+      IfSome texts (λ known. IfOk r (λ v. IsIntersectionImage seed (images_of hex known) (items v) × IsExpected expected (length (images_of hex known))))
+  met_image remaining hex line texts (Some reader) sketches r items expected closed read image counted = absurd (cc)
+  met_image remaining hex line texts None sketches r items expected closed read image counted =
+      all_left hex line texts (λ all. IfOk r (λ v. IsIntersectionImage seed all (items v) × IsExpected expected (length all))) (met_of_known r items expected (images_left hex None line texts) sketches read image counted)

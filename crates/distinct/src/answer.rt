@@ -61,7 +61,7 @@ pub fn perform<S: Sources + Drop, C: Console, O: Write>(
 ) -> Result<(), Failure>
     requires seeded { seed_hash seed ≢ 0 }
     ensures { IfSome (S.texts sources) (λ texts.
-        OnOk result (Performs (request_action request) seed (names_of files.now) texts (O.contents writer.old) (O.contents writer.new))) }
+        OnOk result (Performs (request_action request.entry) seed (names_of files.now) texts (O.contents writer.old) (O.contents writer.new))) }
 {
     match request {
         Request::Print(topic) => put(alloc, writer, STANDARD_OUTPUT, text_of(topic).as_bytes()),

@@ -130,6 +130,7 @@ impl<'a, S: Sources> Images<'a, S> {
     fn note(&mut self, image: &[u8]) -> io::Result<()>
         ensures flaw { self.new.flaw ≡ Some (flaw_of (seed_hash self.old.seed) image.now) }
         ensures same { IsSameReader self.old self.new }
+        ensures left { remaining_images S.Source.remaining S.texts self.new ≡ remaining_images S.Source.remaining S.texts self.old }
     {
         self.flaw = Some(flaw_of(image, hash_of_seed(self.seed)));
         let count = entry_count(image);
@@ -178,6 +179,7 @@ impl<'a, S: Sources> Images<'a, S> {
     {
         'files: for _ in 0..u64::MAX {
             if let Some(image) = self.line_of_open()? {
+                self.note(image.as_slice())?;
                 return Ok(Some(image));
             }
             let Some(input) = self.inputs.next_source()? else {
@@ -215,10 +217,7 @@ impl<'a, S: Sources> Images<'a, S> {
         self.line = self.line.saturating_add(1);
         self.flaw = None;
         match read_hex(self.alloc, line.trim_ascii())? {
-            Some(image) => {
-                self.note(image.as_slice())?;
-                Ok(Some(image))
-            }
+            Some(image) => Ok(Some(image)),
             None => Err(io::Error::from(ErrorKind::InvalidData)),
         }
     }

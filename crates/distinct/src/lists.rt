@@ -54,8 +54,9 @@ pub fn names_in(alloc: Global, list: &[u8]) -> Result<Vec<String>, Unlisted>
         put_name(alloc, &mut names, name)?;
         rest = others;
     }
-    if !rest.is_empty() {
-        put_name(alloc, &mut names, rest)?;
+    if rest.is_empty() {
+        return Ok(names);
     }
+    put_name(alloc, &mut names, rest)?;
     Ok(names)
 }

@@ -13,3 +13,9 @@ cut_each-preserved c =
     ∙ ap (λ ns. old ++ ns) (ap names_in c.in-Some.ensures.parts ∙ name_ended name others c.in-Some.ensures.lacks)
     ∙ sym (append_assoc old (name ∷ []) (names_in others))
     ∙ ap (λ ns. ns ++ names_in others) (sym c.in_ok-put_name.ensures)
+
+pub returns-then-is_empty : goal.returns-then-is_empty
+returns-then-is_empty c = ?
+
+pub returns : goal.returns
+returns c = ?

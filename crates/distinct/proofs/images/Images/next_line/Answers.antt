@@ -1,4 +1,4 @@
-use Rattle.std.proofs.Common.{subst, ◌∙◌}
+use Rattle.std.proofs.Common.{ℕ, List, Option, Some, Vec, Global, sym, subst, ◌∙◌}
 use Rattle.line_sketches.specs.Sources.{GivesNext}
 use Rattle.distinct.specs.Images.{remaining_images, GivesOrCloses}
 use Rattle.distinct.proofs.ImageLines.{known_same, none_of, gives_first, opened, at_last}
@@ -12,7 +12,8 @@ line_of_open-requires g c = record { lines = c.files.invariant.hex }
 
 pub returns-in-Some : goal.returns-in-Some
 returns-in-Some g c = record {
-  next = gives_first (remaining_images g.S.Source.Read.remaining g.S.Sources.texts c.args.self.now) (remaining_images g.S.Source.Read.remaining g.S.Sources.texts c.files.self) (remaining_images g.S.Source.Read.remaining g.S.Sources.texts c.line_of_open.new.self) (λ v. v.items) c.line_of_open.new.self.«open» c.in_ok-image.field-0 c.in-Some.image c.files.invariant.same c.in_ok-image.ensures.next c.in-Some.is;
+  next = subst (λ (n : Option (List (List ℕ))). GivesNext (λ (v : Vec ℕ Global). Some v.items) (remaining_images g.S.Source.Read.remaining g.S.Sources.texts c.args.self.now) n (Some c.in-Some.image)) (sym c.in_ok-note.ensures.left)
+      (gives_first (remaining_images g.S.Source.Read.remaining g.S.Sources.texts c.args.self.now) (remaining_images g.S.Source.Read.remaining g.S.Sources.texts c.files.self) (remaining_images g.S.Source.Read.remaining g.S.Sources.texts c.line_of_open.new.self) (λ v. v.items) c.line_of_open.new.self.«open» c.in_ok-image.field-0 c.in-Some.image c.files.invariant.same c.in_ok-image.ensures.next c.in-Some.is);
 }
 
 pub returns-in_default-2 : goal.returns-in_default-2
