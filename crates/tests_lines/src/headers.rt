@@ -29,16 +29,70 @@ fn said_of(alloc: Global, digits: &[u8]) -> Result<Said, AllocError> {
 fn says_what_preambles_say(rt: HostRuntime) -> Result<(), Fail> {
     for (digits, length, count, flaw, is_read) in [
         // The empty sketch, with the seed hash of none, with more behind it, and of another version.
-        (b"01030300001e0000".as_slice(), Some(8), 0, Flaw::Damaged, true),
-        (b"030303000004ffff".as_slice(), Some(8), 0, Flaw::Damaged, true),
-        (b"01030300001e000000".as_slice(), Some(8), 0, Flaw::Longer, true),
-        (b"01020300000000000000".as_slice(), Some(8), 0, Flaw::Longer, true),
+        (
+            b"01030300001e0000".as_slice(),
+            Some(8),
+            0,
+            Flaw::Damaged,
+            true,
+        ),
+        (
+            b"030303000004ffff".as_slice(),
+            Some(8),
+            0,
+            Flaw::Damaged,
+            true,
+        ),
+        (
+            b"01030300001e000000".as_slice(),
+            Some(8),
+            0,
+            Flaw::Longer,
+            true,
+        ),
+        (
+            b"01020300000000000000".as_slice(),
+            Some(8),
+            0,
+            Flaw::Longer,
+            true,
+        ),
         // One hash: whole, cut within it, cut before it, of another seed, with more behind it.
-        (b"01030300001acc930500000000000000".as_slice(), Some(16), 1, Flaw::Damaged, true),
-        (b"01030300001acc9305000000000000".as_slice(), Some(16), 1, Flaw::Cut, false),
-        (b"01030300001acc93".as_slice(), Some(16), 1, Flaw::Cut, false),
-        (b"01030300001acc940500000000000000".as_slice(), Some(16), 1, Flaw::Seed, false),
-        (b"01030300001acc9305000000000000000a".as_slice(), Some(16), 1, Flaw::Longer, true),
+        (
+            b"01030300001acc930500000000000000".as_slice(),
+            Some(16),
+            1,
+            Flaw::Damaged,
+            true,
+        ),
+        (
+            b"01030300001acc9305000000000000".as_slice(),
+            Some(16),
+            1,
+            Flaw::Cut,
+            false,
+        ),
+        (
+            b"01030300001acc93".as_slice(),
+            Some(16),
+            1,
+            Flaw::Cut,
+            false,
+        ),
+        (
+            b"01030300001acc940500000000000000".as_slice(),
+            Some(16),
+            1,
+            Flaw::Seed,
+            false,
+        ),
+        (
+            b"01030300001acc9305000000000000000a".as_slice(),
+            Some(16),
+            1,
+            Flaw::Longer,
+            true,
+        ),
         // Two hashes: whole, descending though ordered, cut, and cut within the preamble.
         (
             b"02030300001acc93020000000000000007000000000000000900000000000000".as_slice(),
@@ -61,9 +115,21 @@ fn says_what_preambles_say(rt: HostRuntime) -> Result<(), Fail> {
             Flaw::Cut,
             false,
         ),
-        (b"02030300001acc9302000000".as_slice(), None, 0, Flaw::Cut, false),
+        (
+            b"02030300001acc9302000000".as_slice(),
+            None,
+            0,
+            Flaw::Cut,
+            false,
+        ),
         // No hashes, in a sketch that isn't empty.
-        (b"02030300001acc930000000000000000".as_slice(), Some(16), 0, Flaw::Damaged, true),
+        (
+            b"02030300001acc930000000000000000".as_slice(),
+            Some(16),
+            0,
+            Flaw::Damaged,
+            true,
+        ),
         // Below a theta.
         (
             b"03030300001acc93010000000000000064000000000000000700000000000000".as_slice(),
@@ -95,7 +161,13 @@ fn says_what_preambles_say(rt: HostRuntime) -> Result<(), Fail> {
             Flaw::Damaged,
             true,
         ),
-        (b"02020300000000000000000000000000".as_slice(), Some(16), 0, Flaw::Damaged, true),
+        (
+            b"02020300000000000000000000000000".as_slice(),
+            Some(16),
+            0,
+            Flaw::Damaged,
+            true,
+        ),
         (
             b"03020300000000000000000000000000ffffffffffffff7f".as_slice(),
             Some(24),
@@ -110,8 +182,20 @@ fn says_what_preambles_say(rt: HostRuntime) -> Result<(), Fail> {
             Flaw::Seed,
             false,
         ),
-        (b"0202030000000000000000".as_slice(), None, 0, Flaw::Seed, false),
-        (b"020203000000cc93000000".as_slice(), None, 0, Flaw::Cut, false),
+        (
+            b"0202030000000000000000".as_slice(),
+            None,
+            0,
+            Flaw::Seed,
+            false,
+        ),
+        (
+            b"020203000000cc93000000".as_slice(),
+            None,
+            0,
+            Flaw::Cut,
+            false,
+        ),
         // Version 1, which has no seed hash.
         (
             b"03010300000000000200000000000000640000000000000007000000000000000900000000000000".as_slice(),
@@ -127,21 +211,81 @@ fn says_what_preambles_say(rt: HostRuntime) -> Result<(), Fail> {
             Flaw::Damaged,
             true,
         ),
-        (b"03010300000000000200000000000000".as_slice(), None, 0, Flaw::Cut, false),
+        (
+            b"03010300000000000200000000000000".as_slice(),
+            None,
+            0,
+            Flaw::Cut,
+            false,
+        ),
         // Numbers with the highest byte first; not in version 2, which has no flags.
-        (b"01030300001bcc930500000000000000".as_slice(), Some(16), 1, Flaw::BigEndian, true),
-        (b"0102030000010000".as_slice(), Some(8), 0, Flaw::Damaged, true),
+        (
+            b"01030300001bcc930500000000000000".as_slice(),
+            Some(16),
+            1,
+            Flaw::BigEndian,
+            true,
+        ),
+        (
+            b"0102030000010000".as_slice(),
+            Some(8),
+            0,
+            Flaw::Damaged,
+            true,
+        ),
         // Other families, versions and counts of preamble longs.
-        (b"01030901001e0000".as_slice(), Some(8), 0, Flaw::Family(9), false),
-        (b"010403000004000000".as_slice(), None, 0, Flaw::Version(4), false),
-        (b"0000030000000000".as_slice(), None, 0, Flaw::Version(0), false),
-        (b"00030300001acc930500000000000000".as_slice(), None, 0, Flaw::Damaged, false),
-        (b"04030300001e0000".as_slice(), None, 0, Flaw::Damaged, false),
+        (
+            b"01030901001e0000".as_slice(),
+            Some(8),
+            0,
+            Flaw::Family(9),
+            false,
+        ),
+        (
+            b"010403000004000000".as_slice(),
+            None,
+            0,
+            Flaw::Version(4),
+            false,
+        ),
+        (
+            b"0000030000000000".as_slice(),
+            None,
+            0,
+            Flaw::Version(0),
+            false,
+        ),
+        (
+            b"00030300001acc930500000000000000".as_slice(),
+            None,
+            0,
+            Flaw::Damaged,
+            false,
+        ),
+        (
+            b"04030300001e0000".as_slice(),
+            None,
+            0,
+            Flaw::Damaged,
+            false,
+        ),
         // Few bytes, and digits that were not turned into bytes.
         (b"".as_slice(), None, 0, Flaw::Short, false),
         (b"010303000000".as_slice(), None, 0, Flaw::Short, false),
-        (b"01030300001aCC930500000000000000\n".as_slice(), None, 0, Flaw::Hexadecimal, false),
-        (b"01030300001aCC9\n".as_slice(), None, 0, Flaw::Family(48), false),
+        (
+            b"01030300001aCC930500000000000000\n".as_slice(),
+            None,
+            0,
+            Flaw::Hexadecimal,
+            false,
+        ),
+        (
+            b"01030300001aCC9\n".as_slice(),
+            None,
+            0,
+            Flaw::Family(48),
+            false,
+        ),
     ] {
         let said = said_of(rt.alloc(), digits)?;
         assert_eq!(rt; said, (length, count, flaw, is_read), "{digits:?}");
