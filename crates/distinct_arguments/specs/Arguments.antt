@@ -1,5 +1,5 @@
 -- What the program does by its arguments.
-use Rattle.std.specs.Prelude.{ℕ, ◌+◌, ◌==◌, ◌&&◌, not, nat_lt, Bool, true, false, List, [], ◌∷◌, length, codes, Option, Some, None, is_some, is_none, Result, Ok, Err, if◌then◌else◌}
+use Rattle.std.specs.Prelude.{ℕ, ◌≤◌, ⊤, ◌+◌, ◌==◌, ◌&&◌, not, nat_lt, Bool, false, List, [], ◌∷◌, length, codes, Option, Some, None, is_some, is_none, Result, Ok, Err, if◌then◌else◌}
 use Rattle.std.specs.Option.{option_map_or}
 use Rattle.std.specs.List.{find}
 use Rattle.std.specs.Str.{bytes_eq}
@@ -122,3 +122,9 @@ action_of (word ∷ words) =
     if is_help word then prints Program else
     if is_version word then prints Version else
     option_map_or (λ command. command_action command default_options None words) (command_of word) (fails (unknown_command word))
+
+-- an action reads standard input at most once
+abbrev pub ReadsOnce : Action → Type 0
+ReadsOnce (prints topic) = ⊤
+ReadsOnce (runs command options files) = standard_uses command options files ≤ 1
+ReadsOnce (fails mistake) = ⊤

@@ -1,7 +1,7 @@
 -- How the program reads its arguments.
-use Rattle.std.specs.Prelude.{ℕ, ◌≡◌, ◌<◌, ◌⊎◌, ⊤, IsTrue, Bool, true, false, List, length, Option, Some, None, Result, Ok, Err, string_bytes}
+use Rattle.std.specs.Prelude.{ℕ, ◌≡◌, ◌<◌, ◌⊎◌, IsTrue, Bool, true, false, List, length, Option, Some, None, Result, Ok, Err, string_bytes}
 use Rattle.std.specs.Option.{option_map}
-use Rattle.distinct_arguments.specs.Arguments.{Action, prints, runs, fails, Awaiting, Meaning, help, sets, awaits, wrong, files_action, run_action, command_action}
+use Rattle.distinct_arguments.specs.Arguments.{Action, prints, runs, fails, Meaning, help, sets, awaits, wrong, files_action, run_action, command_action}
 use Rattle.distinct_arguments.specs.Settings.{SeedValue, seed_number, seed_file, OptionValues, Mistake, no_command, unknown_command, unknown_option, behind_file, no_value, unneeded_value, wrong_size, wrong_field, wrong_separator, wrong_seed, wrong_deviations, wrong_count, lone_separator, files_and_list, standard_twice}
 use Rattle.distinct_arguments.specs.Words.{words_of}
 use Rattle.distinct_arguments.specs.declared.arguments.Meaning.{Meaning as MeaningOf}

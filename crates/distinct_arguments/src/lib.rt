@@ -8,6 +8,7 @@ mod commands;
 mod fault;
 mod files;
 mod help;
+pub mod laws;
 mod options;
 mod settings;
 #[cfg(test)]

@@ -1,4 +1,4 @@
-use Rattle.std.proofs.Common.{◌≡◌, ℕ, ◌+◌, List, length, map, string_bytes, Some, ap, ◌∙◌, subst, arith}
+use Rattle.std.proofs.Common.{ℕ, ◌+◌, List, length, map, string_bytes, ap, ◌∙◌, subst, arith}
 use Rattle.std.specs.Option.{option_map}
 use Rattle.distinct_arguments.specs.Words.{split_option}
 use Rattle.distinct_arguments.specs.Arguments.{Action, help, sets, awaits}

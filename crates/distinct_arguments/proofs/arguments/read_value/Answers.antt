@@ -1,4 +1,4 @@
-use Rattle.std.proofs.Common.{◌≡◌, List, map, string_bytes, None, ap, ◌∙◌, subst, arith}
+use Rattle.std.proofs.Common.{map, string_bytes, None, ap, ◌∙◌, subst, arith}
 use Rattle.std.proofs.lemmas.List.{length-map}
 use Rattle.distinct_arguments.specs.Settings.{with_value}
 use Rattle.distinct_arguments.specs.Arguments.{Awaiting, command_action}

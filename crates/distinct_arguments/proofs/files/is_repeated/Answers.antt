@@ -1,4 +1,4 @@
-use Rattle.std.proofs.Common.{◌≡◌, ◌+◌, ◌≤◌, map, string_bytes, Bool, cond, ap, ◌∙◌, arith}
+use Rattle.std.proofs.Common.{◌+◌, map, string_bytes, Bool, cond, ap, ◌∙◌, arith}
 use Rattle.distinct_arguments.specs.Arguments.{standard_files}
 use Rattle.distinct_arguments.specs.Words.{is_standard}
 use Rattle.distinct_arguments.proofs.Meanings.{use_counted}

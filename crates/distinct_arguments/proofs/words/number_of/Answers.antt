@@ -1,6 +1,4 @@
-use Rattle.std.proofs.Common.{◌≡◌, false, sym, ◌∙◌, slice_index}
-use Rattle.std.specs.Prelude.{◌==◌}
-use Rattle.std.specs.Str.Parse.{without_leading_plus}
+use Rattle.std.proofs.Common.{sym, ◌∙◌}
 use Rattle.distinct_arguments.proofs.Digits.{without_plus, number_some, number_none}
 use Rattle.distinct_arguments.proofs.words.number_of.Goals as goal
 
