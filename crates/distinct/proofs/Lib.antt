@@ -3,3 +3,4 @@ pub mod OnlyMemory
 pub mod NextImages
 pub mod Answered
 pub mod ListNames
+mod DefaultSeed

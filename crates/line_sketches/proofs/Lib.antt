@@ -7,6 +7,5 @@ pub mod Turns
 pub mod Compacts
 pub mod Digits
 pub mod Meets
-pub mod DefaultSeed
 pub mod Refused
 pub mod Preambles

@@ -27,7 +27,7 @@ returns-in-Meet-clause-combined g c =
     let options = c.args.options.now in
     let sketches = c.in_ok-sketches-in-Meet.sketches.items in
     let seed = c.args.seed in
-    let expected : IsExpected options.expected (length sketches) = subst (IsExpected options.expected) c.len.ensures c.in_ok-check_count-in-Meet.ensures.counted in
+    let expected : IsExpected options.expected (length sketches) = subst (IsExpected options.expected) (c.len.ensures ∙ c.in_ok-sketches-in-Meet.sketches.ok.0) c.in_ok-check_count-in-Meet.ensures.counted in
     let image = subst (λ (ss : List (Compact ℕ)). IfOk c.meet_image.result (λ v. v.items ≡ written (intersection_of seed ss))) c.as_slice.ensures.value c.meet_image.ensures.image in
     let left = met_image seed g.S.Source.Read.remaining images.hex images.line (g.S.Sources.texts images.inputs.sources) images.«open» sketches c.meet_image.result (λ v. v.items) options.expected c.new-images.ensures.closed c.in_ok-sketches-in-Meet.ensures.read image expected in
     subst (λ (o : Operator). IfSome (g.S.Sources.texts c.args.inputs.sources) (λ texts. IfOk c.meet_image.result (λ v. IsCombinedOf o (options_of options) seed texts v.items))) (sym c.in-Meet.is)

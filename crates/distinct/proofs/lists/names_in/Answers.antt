@@ -1,7 +1,8 @@
-use Rattle.std.proofs.Common.{[], ◌∷◌, ◌++◌, sym, ap, ◌∙◌, append_assoc}
+use Rattle.std.proofs.Common.{[], ◌∷◌, ◌++◌, sym, ap, ◌∙◌, append_assoc, arith}
+use Rattle.std.proofs.lemmas.Bool.Decides.{nat_tests}
 use Rattle.distinct.specs.Answers.{names_of}
 use Rattle.distinct.specs.Lists.{names_in}
-use Rattle.distinct.proofs.ListNames.{name_ended}
+use Rattle.distinct.proofs.ListNames.{name_ended, all_named, last_named}
 use Rattle.distinct.proofs.lists.names_in.Goals as goal
 
 pub cut_each-preserved : goal.cut_each-preserved
@@ -15,7 +16,9 @@ cut_each-preserved c =
     ∙ ap (λ ns. ns ++ names_in others) (sym c.in_ok-put_name.ensures)
 
 pub returns-then-is_empty : goal.returns-then-is_empty
-returns-then-is_empty c = ?
+returns-then-is_empty c =
+    all_named (names_of c.cut_each.names.items) c.cut_each.rest.now c.args.list.now c.cut_each.invariant (grind (arith, nat_tests, c.is_empty.ensures, c.if-is_empty.true))
 
 pub returns : goal.returns
-returns c = ?
+returns c =
+    last_named (names_of c.cut_each.names.items) _ c.cut_each.rest.now c.args.list.now c.cut_each.invariant c.in_default.ensures.none (grind (arith, nat_tests, c.is_empty.ensures, c.if-is_empty.false)) c.in_ok-put_name-2.ensures
