@@ -66,7 +66,9 @@ pub fn perform<S: Sources + Drop, C: Console, O: Write>(
     match request {
         Request::Print(topic) => put(alloc, writer, STANDARD_OUTPUT, text_of(topic).as_bytes()),
         Request::Run(command, options, _) => {
-            answer(alloc, command, &options, seed, files, sources, console, writer)
+            answer(
+                alloc, command, &options, seed, files, sources, console, writer,
+            )
         }
     }
 }

@@ -13,8 +13,8 @@ ghost use Rattle.distinct.specs.Failures.{called, next_number, IsOfImages, Notes
 use crate::failure::Failure;
 use crate::inputs::Inputs;
 use crate::remarks::Coarser;
-use sketch_base::{ErrorKind as KindOfError, compute_seed_hash};
 use line_sketches::{Flaw, Sources, entry_count, flaw_of, image_length, read_hex};
+use sketch_base::{ErrorKind as KindOfError, compute_seed_hash};
 use std::alloc::Global;
 use std::io;
 use std::io::{BufRead, BufReader, Cursor, ErrorKind, Read};
@@ -54,12 +54,7 @@ pub struct Images<'a, S: Sources> {
 
 impl<'a, S: Sources> Images<'a, S> {
     /// The images of these files, to be read under this seed.
-    pub fn new(
-        alloc: Global,
-        inputs: Inputs<'a, S>,
-        hex: bool,
-        seed: u64,
-    ) -> Images<'a, S>
+    pub fn new(alloc: Global, inputs: Inputs<'a, S>, hex: bool, seed: u64) -> Images<'a, S>
         ensures inputs { result.inputs ≡ inputs.entry }
         ensures hex { result.hex ≡ hex }
         ensures closed { result.«open» ≡ None }

@@ -33,7 +33,10 @@ impl fmt::Display for Remark<'_> {
                 let retained = coarser.retained;
                 let lg_k = coarser.lg_k;
                 let kept = 1u64 << (lg_k % 64);
-                write!(f, "warning: {name} retains {retained} hashes, and --lg-k {lg_k} keeps {kept}: the union is less exact than its images")
+                write!(
+                    f,
+                    "warning: {name} retains {retained} hashes, and --lg-k {lg_k} keeps {kept}: the union is less exact than its images"
+                )
             }
             Remark::Estimated(report) => {
                 let estimate = report.estimate;

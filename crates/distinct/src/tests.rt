@@ -15,9 +15,11 @@ use crate::answer::{answer, perform};
 use crate::failure::Failure;
 use crate::lists::{Unlisted, names_in};
 use crate::remarks::{Console, Remark};
-use distinct_arguments::{Command, Fault, Operator, Options, Request, Seed, Topic, read_arguments, text_of};
+use distinct_arguments::{
+    Command, Fault, Operator, Options, Request, Seed, Topic, read_arguments, text_of,
+};
 use line_sketches::{Flaw, Texts, Watch, hex_line, read_hex};
-use sketch_base::{ErrorKind as SketchError, compute_seed_hash};
+use sketch_base::{DEFAULT_UPDATE_SEED, ErrorKind as SketchError, compute_seed_hash};
 use std::alloc::{AllocError, Allocator, Global};
 use std::io::{Error, ErrorKind};
 use std::test::Fail;
@@ -415,7 +417,13 @@ fn both_written(
     let writes_lines = command == Command::Count || command == Command::Show;
     let is_image = !options.hex && !writes_lines;
     let files = two_texts(alloc, !options.hex && !reads_lines, texts)?;
-    let written = performed(alloc, words.as_slice(), seed, names.as_slice(), files.as_slice())?;
+    let written = performed(
+        alloc,
+        words.as_slice(),
+        seed,
+        names.as_slice(),
+        files.as_slice(),
+    )?;
     let second = written_by(
         alloc,
         command,
@@ -424,7 +432,10 @@ fn both_written(
         names.as_slice(),
         files.as_slice(),
     )?;
-    Ok((in_digits(alloc, is_image, written)?, in_digits(alloc, is_image, second)?))
+    Ok((
+        in_digits(alloc, is_image, written)?,
+        in_digits(alloc, is_image, second)?,
+    ))
 }
 
 /// Two texts of lines, each cut into lines by itself: three different lines.
@@ -433,6 +444,7 @@ const TEXTS: [&str; 2] = ["ann\nbob", "bob\n\nann"];
 /// The image of their lines, and that under seed 1.
 const THREE: &str =
     "02030300001acc930300000000000000dc8d24339151380f5f1032909707cc27fc08309e1c5ed36b\n";
+
 const THREE_UNDER_1: &str =
     "02030300001a4ac4030000000000000056d802e1dab062185aae7fb7f2550823221ac34464fbcd3b\n";
 
@@ -463,8 +475,16 @@ fn writes_each_answer(rt: HostRuntime) -> Result<(), Fail> {
         (&["count", "a", "b"] as &[&str], TEXTS, "3\n"),
         (&["count", "--bounds", "a", "b"], TEXTS, "3 3 3\n"),
         (&["count", "--lg-k", "4", "a", "b"], LETTERS, "18\n"),
-        (&["count", "--lg-k=4", "--bounds", "a", "b"], LETTERS, "18 16 21\n"),
-        (&["count", "--lg-k=4", "--bounds=3", "a", "b"], LETTERS, "18 16 23\n"),
+        (
+            &["count", "--lg-k=4", "--bounds", "a", "b"],
+            LETTERS,
+            "18 16 21\n",
+        ),
+        (
+            &["count", "--lg-k=4", "--bounds=3", "a", "b"],
+            LETTERS,
+            "18 16 23\n",
+        ),
         (
             &["count", "--tsv", "a", "b"],
             TEXTS,
@@ -477,7 +497,11 @@ fn writes_each_answer(rt: HostRuntime) -> Result<(), Fail> {
         ),
         (&["sketch", "a", "b"], TEXTS, THREE),
         (&["sketch", "--hex", "a", "b"], TEXTS, THREE),
-        (&["sketch", "--hex", "--seed", "1", "a", "b"], TEXTS, THREE_UNDER_1),
+        (
+            &["sketch", "--hex", "--seed", "1", "a", "b"],
+            TEXTS,
+            THREE_UNDER_1,
+        ),
         (
             &["union", "--lg-k", "5", "a", "b"],
             EXACT,
@@ -543,7 +567,7 @@ fn writes_each_answer(rt: HostRuntime) -> Result<(), Fail> {
 #[test]
 fn prints_help(rt: HostRuntime) -> Result<(), Fail> {
     let words = words_of(rt.alloc(), &["count", "--help", "a", "b"])?;
-    let written = match performed(rt.alloc(), words.as_slice(), 1, &[], &[]) {
+    let written = match performed(rt.alloc(), words.as_slice(), DEFAULT_UPDATE_SEED, &[], &[]) {
         Ok(bytes) => bytes,
         Err(_) => Vec::new(rt.alloc()),
     };
