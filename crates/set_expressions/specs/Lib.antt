@@ -1,0 +1,5 @@
+pub mod Expressions
+pub mod Tokens
+pub mod Grammar
+pub mod Reading
+pub mod Running
