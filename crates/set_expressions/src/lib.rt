@@ -16,6 +16,8 @@ mod fault;
 pub mod laws;
 mod operator;
 mod parsing;
+#[cfg(test)]
+mod tests;
 mod tokens;
 
 pub use evaluation::evaluate;
