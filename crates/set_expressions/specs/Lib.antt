@@ -1,5 +1,2 @@
-pub mod Expressions
-pub mod Tokens
-pub mod Grammar
-pub mod Reading
+pub mod Values
 pub mod Running

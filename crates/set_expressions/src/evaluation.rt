@@ -2,20 +2,22 @@
 ghost use Rattle.std.specs.Prelude.{◌≡◌, ℕ, List, [], ◌∷◌, length, true, false, Some, None, IfOk, IfErr, OnOk, OnErr};
 ghost use Rattle.sketch_base.specs.Seed.{seed_hash};
 ghost use Rattle.sketch_base.specs.declared.error.ErrorKind.TheVariants.{OutOfMemory, InvalidArgument};
-ghost use Rattle.set_expressions.specs.declared.operator.Step.TheVariants.{Combine};
+ghost use Rattle.expression_text.specs.declared.operator.Step.TheVariants.{Combine};
 ghost use Rattle.core_compact.specs.CompactState.{IsAnswer, compact_value};
 ghost use Rattle.core_laws.specs.Entries.{hash_key};
 ghost use Rattle.core_laws.specs.Refusal.{Refuses};
 ghost use Rattle.core_operators.specs.Intersection.{seed_refusal};
+ghost use Rattle.core_operators.specs.Union.{empty_union};
 ghost use Rattle.core_laws.specs.Samples.{IsSample, AreSamples};
 ghost use Rattle.core_laws.specs.Settings.{settings_refusal};
 ghost use Rattle.core_laws.specs.declared.TheConstants.{MAX_THETA};
-ghost use Rattle.set_expressions.specs.declared.operator.Operator.TheVariants.{Union, Intersection, Difference};
-ghost use Rattle.set_expressions.specs.Expressions.{Expression, postfix, IsWithin, combined, value_of, set_of};
+ghost use Rattle.expression_text.specs.declared.operator.Operator.TheVariants.{Union, Intersection, Difference};
+ghost use Rattle.expression_text.specs.Expressions.{Expression, postfix, IsWithin};
+ghost use Rattle.set_expressions.specs.Values.{combined, value_of, set_of};
 ghost use Rattle.set_expressions.specs.Running.{values_of, sketch_of_value, after_step, after_steps, values_onto, AreOrdered, is_accepted, are_accepted, evaluation_refusal, IsStepRefused};
 
-use crate::operator::{Operator, Step};
 use core_laws::{MAX_LG_K, MIN_LG_K};
+use expression_text::{Operator, Step};
 use sketch_base::{Error, ErrorKind, compute_seed_hash};
 use std::alloc::{AllocError, Allocator};
 use theta_sketches::{CompactThetaSketch, ThetaANotB, ThetaIntersection, ThetaUnionBuilder};
@@ -62,6 +64,17 @@ fn ordered<A: Allocator + Clone + Drop, B: Allocator>(
     }
 }
 
+/// A new union of 2^`lg_k` nominal entries, of sketches of this seed.
+fn new_union<A: Allocator + Drop>(alloc: A, seed: u64, lg_k: u8) -> Result<ThetaUnion<A>, Error>
+    ensures made { IfOk result (λ u. u ≡ empty_union lg_k MAX_THETA (seed_hash seed) u.policy) }
+    ensures refused { Refuses result (settings_refusal lg_k MAX_THETA seed) true }
+{
+    ThetaUnionBuilder::default()
+        .lg_k(lg_k)
+        .seed(seed)
+        .build(alloc)
+}
+
 /// The union of two sketches of this seed, with 2^`lg_k` nominal entries, ordered.
 fn union_of<A: Allocator + Clone + Drop>(
     alloc: A,
@@ -76,10 +89,7 @@ fn union_of<A: Allocator + Clone + Drop>(
     ensures value { IfOk result (IsAnswer hash_key (combined lg_k Union (compact_value hash_key first.now) (compact_value hash_key second.now)) (seed_hash seed) true) }
     ensures refused { Refuses result None true }
 {
-    let mut union = ThetaUnionBuilder::default()
-        .lg_k(lg_k)
-        .seed(seed)
-        .build(alloc)?;
+    let mut union = new_union(alloc, seed, lg_k)?;
     union.update(first.as_view())?;
     union.update(second.as_view())?;
     union.to_sketch(true)

@@ -3,7 +3,8 @@ ghost use Rattle.std.specs.Prelude.{◌≡◌, ℕ, List, Some};
 ghost use Rattle.core_laws.specs.Entries.{hash_key};
 ghost use Rattle.core_laws.specs.Samples.{IsSample, AreSamples};
 ghost use Rattle.core_laws.specs.Values.{Sketch};
-ghost use Rattle.set_expressions.specs.Expressions.{Expression, value_of, set_of};
+ghost use Rattle.expression_text.specs.Expressions.{Expression};
+ghost use Rattle.set_expressions.specs.Values.{value_of, set_of};
 
 /// If each value retains exactly the hashes of its whole stream's set below its theta, the value of an expression
 /// retains exactly those of the same expression of the sets.

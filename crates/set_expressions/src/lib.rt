@@ -12,15 +12,9 @@
 #![tactic(auto)]
 
 mod evaluation;
-mod fault;
 pub mod laws;
-mod operator;
-mod parsing;
 #[cfg(test)]
 mod tests;
-mod tokens;
 
 pub use evaluation::evaluate;
-pub use fault::{Reason, SyntaxFault};
-pub use operator::{Operator, Step};
-pub use parsing::{MAX_LEVELS, Parsed, parse};
+pub use expression_text::{MAX_LEVELS, Operator, Parsed, Reason, Step, SyntaxFault, parse};

@@ -1,10 +1,10 @@
 -- Which expression tokens spell.
 use Rattle.std.specs.Prelude.{ℕ, ◌≡◌, ◌<◌, ◌≤◌, ◌+◌, max, List, [], ◌∷◌, ◌++◌, length, get_or}
-use Rattle.set_expressions.specs.declared.operator.Operator.{Operator}
-use Rattle.set_expressions.specs.declared.operator.Operator.TheVariants.{Union, Intersection, Difference}
-use Rattle.set_expressions.specs.declared.operator.Step.{Step}
-use Rattle.set_expressions.specs.Expressions.{Expression, Named, Grouped, Combined, postfix, IsWithin}
-use Rattle.set_expressions.specs.Tokens.{Lexeme, name, sign, opening, closing, IsText}
+use Rattle.expression_text.specs.declared.operator.Operator.{Operator}
+use Rattle.expression_text.specs.declared.operator.Operator.TheVariants.{Union, Intersection, Difference}
+use Rattle.expression_text.specs.declared.operator.Step.{Step}
+use Rattle.expression_text.specs.Expressions.{Expression, Named, Grouped, Combined, postfix, IsWithin}
+use Rattle.expression_text.specs.Tokens.{Lexeme, name, sign, opening, closing, IsText}
 
 -- the tokens of an expression over names
 abbrev pub tokens_of : (names : List (List ℕ)) → Expression → List Lexeme

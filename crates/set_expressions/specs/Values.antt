@@ -1,31 +1,12 @@
--- Expressions of sets: their steps, their values, and the sets of whole streams.
-use Rattle.std.specs.Prelude.{ℕ, ◌^◌, ◌≡◌, ◌<◌, List, [], ◌∷◌, ◌++◌, get_or}
+-- The values of expressions, and the sets of whole streams.
+use Rattle.std.specs.Prelude.{ℕ, ◌^◌, List, [], ◌∷◌, get_or}
 use Rattle.core_laws.specs.declared.TheConstants.{MAX_THETA}
 use Rattle.core_laws.specs.Entries.{hash_key, first_hash}
 use Rattle.core_laws.specs.Operators.{joined, common, lacking, unite, meet, minus}
 use Rattle.core_laws.specs.Values.{Sketch, Empty}
-use Rattle.set_expressions.specs.declared.operator.Operator.{Operator}
-use Rattle.set_expressions.specs.declared.operator.Operator.TheVariants.{Union, Intersection, Difference}
-use Rattle.set_expressions.specs.declared.operator.Step.{Step}
-use Rattle.set_expressions.specs.declared.operator.Step.TheVariants.{Operand, Combine}
-
--- an expression: the name of an index, an expression in parentheses, or two expressions combined
-pub data Expression : Type 0 where
-  Named : ℕ → Expression
-  Grouped : Expression → Expression
-  Combined : Operator → Expression → Expression → Expression
-
--- the steps of an expression, in postfix order
-abbrev pub postfix : Expression → List Step
-postfix (Named i) = Operand i ∷ []
-postfix (Grouped e) = postfix e
-postfix (Combined op a b) = postfix a ++ (postfix b ++ Combine op ∷ [])
-
--- each index of an expression is below n
-abbrev pub IsWithin : (n : ℕ) → Expression → Type 0
-IsWithin n (Named i) = i < n
-IsWithin n (Grouped e) = IsWithin n e
-IsWithin n (Combined op a b) = IsWithin n a × IsWithin n b
+use Rattle.expression_text.specs.declared.operator.Operator.{Operator}
+use Rattle.expression_text.specs.declared.operator.Operator.TheVariants.{Union, Intersection, Difference}
+use Rattle.expression_text.specs.Expressions.{Expression, Named, Grouped, Combined}
 
 -- the value of two combined values, in a union with 2^lg_k nominal entries
 abbrev pub combined : (lg_k : ℕ) → Operator → Sketch ℕ → Sketch ℕ → Sketch ℕ

@@ -1,6 +1,6 @@
 //! Why a text is not an expression.
 ghost use Rattle.std.specs.Prelude.{◌≡◌};
-ghost use Rattle.set_expressions.specs.declared.fault.Reason.TheVariants.{Memory};
+ghost use Rattle.expression_text.specs.declared.fault.Reason.TheVariants.{Memory};
 
 use std::alloc::{AllocError, AllocFailed};
 

@@ -1,6 +1,6 @@
 //! The tokens of a text.
-ghost use Rattle.std.specs.Prelude.{◌≡◌, ◌++◌, IfOk, MatchOption, [], length, ◌<◌};
-ghost use Rattle.set_expressions.specs.Tokens.{is_blank, is_word_byte, IsAfterBlanks, IsSplitWord, IsToken, lexeme_of, Lacks};
+ghost use Rattle.std.specs.Prelude.{◌≡◌, ◌++◌, ◌∷◌, IfOk, MatchOption, []};
+ghost use Rattle.expression_text.specs.Tokens.{is_blank, is_word_byte, IsAfterBlanks, IsSplitWord, IsToken, lexeme_of, Lacks};
 
 use crate::fault::Reason;
 use crate::operator::Operator;

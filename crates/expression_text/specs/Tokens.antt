@@ -1,9 +1,9 @@
 -- The tokens of a text.
 use Rattle.std.specs.Prelude.{ℕ, ◌≡◌, ◌≢◌, ◌<◌, ◌==◌, ◌||◌, ◌⊎◌, not, Bool, true, List, [], ◌∷◌, ◌++◌, length, get_or}
-use Rattle.set_expressions.specs.declared.operator.Operator.{Operator}
-use Rattle.set_expressions.specs.declared.operator.Operator.TheVariants.{Union, Intersection, Difference}
-use Rattle.set_expressions.specs.declared.tokens.Token.{Token}
-use Rattle.set_expressions.specs.declared.tokens.Token.TheVariants as token
+use Rattle.expression_text.specs.declared.operator.Operator.{Operator}
+use Rattle.expression_text.specs.declared.operator.Operator.TheVariants.{Union, Intersection, Difference}
+use Rattle.expression_text.specs.declared.tokens.Token.{Token}
+use Rattle.expression_text.specs.declared.tokens.Token.TheVariants as token
 
 -- a token: a name by its bytes, the sign of an operator, or a parenthesis
 pub data Lexeme : Type 0 where

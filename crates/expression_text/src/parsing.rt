@@ -1,9 +1,9 @@
 //! Reads an expression, token by token.
-ghost use Rattle.std.specs.Prelude.{◌≡◌, ◌++◌, ◌∷◌, ◌<◌, ◌≤◌, ℕ, [], List, map, length, slice_index, IfOk, IfErr, IfSome, OnOk, MatchOption};
-ghost use Rattle.set_expressions.specs.Grammar.{strength, IsSpelled};
-ghost use Rattle.set_expressions.specs.Tokens.{Lexeme, name, sign, opening, closing, lexeme_of, IsText, IsToken};
-ghost use Rattle.set_expressions.specs.Reading.{HasName, IsIndexed, HasOperand, IsSettled, LacksSign, IsReading};
-ghost use Rattle.set_expressions.specs.declared.parsing.Pending.TheVariants.{Sign};
+ghost use Rattle.std.specs.Prelude.{◌≡◌, ◌++◌, ◌∷◌, ◌<◌, ◌≤◌, ℕ, [], List, map, length, IfOk, IfErr, IfSome, OnOk, MatchOption};
+ghost use Rattle.expression_text.specs.Grammar.{strength, IsSpelled};
+ghost use Rattle.expression_text.specs.Tokens.{Lexeme, name, sign, opening, closing, lexeme_of, IsText, IsToken};
+ghost use Rattle.expression_text.specs.Reading.{HasName, IsIndexed, HasOperand, IsSettled, LacksSign, IsReading};
+ghost use Rattle.expression_text.specs.declared.parsing.Pending.TheVariants.{Sign};
 
 use crate::fault::{Reason, SyntaxFault};
 use crate::operator::{Operator, Step};
@@ -58,15 +58,17 @@ fn take_sign<A: Allocator>(pending: &mut Vec<Pending, A>, least: u8) -> Option<O
         (pending.new.items ≡ pending.old.items) × LacksSign least pending.old.items) (
         λ op. (pending.old.items ≡ pending.new.items ++ Sign op ∷ []) × (least ≤ strength op)) }
 {
-    let Some(Pending::Sign(operator)) = pending.last() else {
+    let Some((last, _)) = pending.split_last() else {
         return None;
     };
-    let last = *operator;
-    if strength(last) < least {
+    let Pending::Sign(operator) = *last else {
+        return None;
+    };
+    if strength(operator) < least {
         return None;
     }
     let _ = pending.pop();
-    Some(last)
+    Some(operator)
 }
 
 /// Combines the last operand with those of the pending operators that bind at least this tightly.
@@ -180,7 +182,9 @@ impl<A: Allocator + Clone + Drop> Reading<A> {
             return Err(Reason::MissingOperand);
         }
         settle(&mut self.pending, &mut self.steps, 0)?;
-        let _ = self.pending.pop();
+        let Some(_) = self.pending.pop() else {
+            return Err(Reason::UnexpectedClosing);
+        };
         self.levels -= 1;
         Ok(())
     }

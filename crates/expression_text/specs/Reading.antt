@@ -1,12 +1,12 @@
 -- The state between two tokens: what is pending, and the operand after it.
 use Rattle.std.specs.Prelude.{ℕ, ◌≡◌, ◌<◌, ◌≤◌, ◌+◌, Bool, true, false, List, [], ◌∷◌, ◌++◌, length, get_or}
-use Rattle.set_expressions.specs.declared.operator.Operator.{Operator}
-use Rattle.set_expressions.specs.declared.operator.Step.{Step}
-use Rattle.set_expressions.specs.declared.parsing.Pending.{Pending}
-use Rattle.set_expressions.specs.declared.parsing.Pending.TheVariants.{Group, Sign}
-use Rattle.set_expressions.specs.Expressions.{Expression, postfix, IsWithin}
-use Rattle.set_expressions.specs.Grammar.{tokens_of, strength, level, IsBound, depth, most_levels}
-use Rattle.set_expressions.specs.Tokens.{Lexeme, sign, opening}
+use Rattle.expression_text.specs.declared.operator.Operator.{Operator}
+use Rattle.expression_text.specs.declared.operator.Step.{Step}
+use Rattle.expression_text.specs.declared.parsing.Pending.{Pending}
+use Rattle.expression_text.specs.declared.parsing.Pending.TheVariants.{Group, Sign}
+use Rattle.expression_text.specs.Expressions.{Expression, postfix, IsWithin}
+use Rattle.expression_text.specs.Grammar.{tokens_of, strength, level, IsBound, depth, most_levels}
+use Rattle.expression_text.specs.Tokens.{Lexeme, sign, opening, IsAfterBlanks, IsText}
 
 -- names have this name at an index
 pub record HasName (names : List (List ℕ)) (word : List ℕ) (i : ℕ) : Type 0 where
@@ -104,3 +104,11 @@ pub record IsSettled (least : ℕ) (tokens : List Lexeme) (names : List (List �
 abbrev pub IsReading : (tokens : List Lexeme) → (names : List (List ℕ)) → (pending : List Pending) → (steps : List Step) → (levels : ℕ) → (after_operand : Bool) → Type 0
 IsReading tokens names pending steps levels true = HasOperand 3 tokens names pending steps levels
 IsReading tokens names pending steps levels false = WantsOperand tokens names pending steps levels
+
+-- the tokens of a text up to a rest that begins with no blank
+pub record HasRead (text rest : List ℕ) (names : List (List ℕ)) (pending : List Pending) (steps : List Step) (levels : ℕ) (after_operand : Bool) : Type 0 where
+  pub tokens : List Lexeme
+  pub before : List ℕ
+  pub blanks : IsAfterBlanks before rest
+  pub joined : (more : List Lexeme) → IsText more before → IsText (tokens ++ more) text
+  pub reading : IsReading tokens names pending steps levels after_operand

@@ -1,0 +1,81 @@
+-- Steps run on a stack give the value of their expression.
+use Rattle.std.proofs.Common.{◌≡◌, ℕ, zero, suc, ◌<◌, ◌≤◌, ◌+◌, Bool, true, false, List, [], ◌∷◌, ◌++◌, length, map, get_or, drop, Option, Some, None, Result, Ok, Err, refl, ap, sym, subst, ◌∙◌, arith, inl, inr, append_assoc, append-nil, add-one, drop-cons}
+use Rattle.std.specs.Prelude.{◌⊎◌, ◌&&◌, IfOk, is_none, is_some, option_map, slice_get}
+use Rattle.std.specs.List.{AllByRecursion}
+use Rattle.std.proofs.lemmas.List.{drop_all}
+use Rattle.std.proofs.lemmas.Option.{slice_get-get_or}
+use Rattle.sketch_base.specs.declared.error.ErrorKind.{ErrorKind}
+use Rattle.core_compact.specs.CompactState.{Compact, compact_value, IsAnswer}
+use Rattle.core_laws.specs.Entries.{hash_key}
+use Rattle.core_laws.specs.Samples.{IsSample}
+use Rattle.core_laws.specs.Values.{Sketch, Empty, NonEmpty}
+use Rattle.expression_text.specs.declared.operator.Operator.{Operator}
+use Rattle.expression_text.specs.declared.operator.Step.{Step}
+use Rattle.expression_text.specs.declared.operator.Step.TheVariants.{Operand, Combine}
+use Rattle.expression_text.specs.Expressions.{Expression, Named, Grouped, Combined, postfix, IsWithin}
+use Rattle.set_expressions.specs.Values.{combined, value_of}
+use Rattle.set_expressions.specs.Running.{values_of, sketch_of_value, after_step, after_steps, only_value, result_of, values_onto, AreOrdered}
+
+-- the steps of an expression push its value
+steps_run : (lg_k : ℕ) (values : List (Sketch ℕ)) (e : Expression) (rest : List Step) (stack : List (Sketch ℕ)) → IsWithin (length values) e →
+    after_steps lg_k values (postfix e ++ rest) (Some stack) ≡ after_steps lg_k values rest (Some (value_of lg_k values e ∷ stack))
+steps_run lg_k values (Named i) rest stack within = ap (λ o. after_steps lg_k values rest (option_map (λ v. v ∷ stack) o)) (slice_get-get_or values i Empty within)
+steps_run lg_k values (Grouped e) rest stack within = steps_run lg_k values e rest stack within
+steps_run lg_k values (Combined op a b) rest stack within =
+    ap (λ steps. after_steps lg_k values steps (Some stack)) (append_assoc (postfix a) (postfix b ++ Combine op ∷ []) rest)
+    ∙ steps_run lg_k values a ((postfix b ++ Combine op ∷ []) ++ rest) stack within.0
+    ∙ ap (λ steps. after_steps lg_k values steps (Some (value_of lg_k values a ∷ stack))) (append_assoc (postfix b) (Combine op ∷ []) rest)
+    ∙ steps_run lg_k values b (Combine op ∷ rest) (value_of lg_k values a ∷ stack) within.1
+
+pub expression_result : (lg_k : ℕ) (values : List (Sketch ℕ)) (e : Expression) → IsWithin (length values) e → after_steps lg_k values (postfix e) (Some []) ≡ Some (value_of lg_k values e ∷ [])
+expression_result lg_k values e within = ap (λ steps. after_steps lg_k values steps (Some [])) (sym (append-nil (postfix e))) ∙ steps_run lg_k values e [] [] within
+
+-- ---- the stack as a list of sketches, the last one last
+
+pub values_onto-more : (sketches : List (Compact ℕ)) (s : Compact ℕ) (stack : List (Sketch ℕ)) → values_onto (sketches ++ s ∷ []) stack ≡ compact_value hash_key s ∷ values_onto sketches stack
+values_onto-more [] s stack = refl
+values_onto-more (t ∷ sketches) s stack = values_onto-more sketches s (compact_value hash_key t ∷ stack)
+
+pub ordered-more : (h : ℕ) (sketches : List (Compact ℕ)) (s : Compact ℕ) → AreOrdered h sketches → IsAnswer hash_key (compact_value hash_key s) h true s → AreOrdered h (sketches ++ s ∷ [])
+ordered-more h [] s all one = (one, tt)
+ordered-more h (t ∷ sketches) s all one = (all.0, ordered-more h sketches s all.1 one)
+
+pub ordered-less : (h : ℕ) (sketches : List (Compact ℕ)) (s : Compact ℕ) → AreOrdered h (sketches ++ s ∷ []) → AreOrdered h sketches
+ordered-less h [] s all = tt
+ordered-less h (t ∷ sketches) s all = (all.0, ordered-less h sketches s all.1)
+
+pub ordered-last : (h : ℕ) (sketches : List (Compact ℕ)) (s : Compact ℕ) → AreOrdered h (sketches ++ s ∷ []) → IsAnswer hash_key (compact_value hash_key s) h true s
+ordered-last h [] s all = all.0
+ordered-last h (t ∷ sketches) s all = ordered-last h sketches s all.1
+
+-- ---- answers
+
+-- the value of an answer
+pub answer_value : (v : Sketch ℕ) (h : ℕ) (requested : Bool) (s : Compact ℕ) → IsAnswer hash_key v h requested s → compact_value hash_key s ≡ v
+answer_value Empty h requested s answer = ap (compact_value hash_key) answer
+answer_value (NonEmpty v) h requested s answer = rw answer.nonempty (λ i. NonEmpty (record { entries = answer.lists_all.same_map i; theta = answer.same_theta i }))
+
+-- an ordered answer is the ordered sketch of its value
+pub answer_sketch : (v : Sketch ℕ) (h : ℕ) (s : Compact ℕ) → IsAnswer hash_key v h true s → s ≡ sketch_of_value h v
+answer_sketch Empty h s answer = answer
+answer_sketch (NonEmpty v) h s answer = λ i. record { empty = answer.nonempty i; entries = answer.in_order answer.ordered_if i; theta = answer.same_theta i; seed_hash = answer.same_seed i; ordered = answer.ordered_if i }
+
+-- an answer is that of its own value
+pub answer_own : (v : Sketch ℕ) (h : ℕ) (s : Compact ℕ) → IsAnswer hash_key v h true s → IsAnswer hash_key (compact_value hash_key s) h true s
+answer_own v h s answer = subst (λ u. IsAnswer hash_key u h true s) (sym (answer_value v h true s answer)) answer
+
+pub answer_seed : (v : Sketch ℕ) (h : ℕ) (s : Compact ℕ) → IsAnswer hash_key v h true s → s.seed_hash ≡ h
+answer_seed Empty h s answer = ap (λ t. t.seed_hash) answer
+answer_seed (NonEmpty v) h s answer = answer.same_seed
+
+-- ---- steps one after another
+
+split_at : (steps : List Step) (i : ℕ) (d : Step) → i < length steps → drop i steps ≡ get_or steps i d ∷ drop (i + 1) steps
+split_at steps i d lt = rw add-one (drop-cons steps i d lt)
+
+-- one more step
+pub step_further : (lg_k : ℕ) (values : List (Sketch ℕ)) (steps : List Step) (i : ℕ) (d : Step) (old new : List (Sketch ℕ)) → i < length steps →
+    after_steps lg_k values steps (Some []) ≡ after_steps lg_k values (drop i steps) (Some old) → after_step lg_k values (get_or steps i d) old ≡ Some new →
+    after_steps lg_k values steps (Some []) ≡ after_steps lg_k values (drop (i + 1) steps) (Some new)
+step_further lg_k values steps i d old new lt so_far ran =
+    so_far ∙ ap (λ left. after_steps lg_k values left (Some old)) (split_at steps i d lt) ∙ ap (after_steps lg_k values (drop (i + 1) steps)) ran
