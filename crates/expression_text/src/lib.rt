@@ -10,6 +10,8 @@
 mod fault;
 mod operator;
 mod parsing;
+#[cfg(test)]
+mod tests;
 mod tokens;
 
 pub use fault::{Reason, SyntaxFault};

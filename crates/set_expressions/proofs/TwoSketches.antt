@@ -102,10 +102,10 @@ some_answer : (o : Option (Sketch ℕ)) (v : Sketch ℕ) (h : ℕ) (s : Compact 
 some_answer o v h s is answer = let A : Option (Sketch ℕ) → Type 0 = λ p. IsAnswerIfAny hash_key p h true (Some s) in subst A is answer
 
 -- the sketch of an intersection's result
-pub result_answer : (o : Option (Sketch ℕ)) (v : Sketch ℕ) (h own : ℕ) (r : Option (Compact ℕ)) (s : Compact ℕ) → o ≡ Some v → r ≡ Some s → own ≡ h → IsAnswerIfAny hash_key o own true r → IsAnswer hash_key v h true s
-result_answer o v h own r s is has seed answer =
-    let R : Option (Compact ℕ) → Type 0 = λ q. IsAnswerIfAny hash_key o own true q in
-    subst (λ (k : ℕ). IsAnswer hash_key v k true s) seed (some_answer o v own s is (subst R has answer))
+pub result_answer : (o : Option (Sketch ℕ)) (h : ℕ) (r : Option (Compact ℕ)) (s : Compact ℕ) → r ≡ Some s → IsAnswerIfAny hash_key o h true r → (v : Sketch ℕ) → o ≡ Some v → IsAnswer hash_key v h true s
+result_answer o h r s has answer v is =
+    let R : Option (Compact ℕ) → Type 0 = λ q. IsAnswerIfAny hash_key o h true q in
+    some_answer o v h s is (subst R has answer)
 
 -- ---- unions
 
@@ -131,24 +131,31 @@ joined_next old new values (NonEmpty v) so_far join =
 abbrev by : (lg_k start : ℕ) → List (Sketch ℕ) → Sketch ℕ
 by lg_k start values = unite hash_key first_hash (2 ^ lg_k) start values
 
--- the value of a new union after two sketches
-pub two_united : {P : Type 0} (lg_k h : ℕ) (empty one two : Union ℕ P) (s t : Shown) (listing others : List ℕ) (a b : Sketch ℕ) → empty ≡ empty_union lg_k MAX_THETA h empty.policy → one ≡ record empty { empty = one.empty; held = one.held } →
-    (s.empty ≡ true → one ≡ empty) → (s.empty ≡ false → union_value hash_key one ≡ unite hash_key first_hash (2 ^ empty.lg_k) empty.start (union_value hash_key empty ∷ shown_value hash_key s listing ∷ [])) →
-    shown_value hash_key s listing ≡ a → (t.empty ≡ true → two ≡ one) →
-    (t.empty ≡ false → union_value hash_key two ≡ unite hash_key first_hash (2 ^ one.lg_k) one.start (union_value hash_key one ∷ shown_value hash_key t others ∷ [])) → shown_value hash_key t others ≡ b →
-    union_value hash_key two ≡ unite hash_key first_hash (2 ^ lg_k) MAX_THETA (a ∷ b ∷ [])
-two_united lg_k h empty one two s t listing others a b made made_one skip_one unite_one is_a skip_two unite_two is_b =
-    let v = shown_value hash_key s listing in
-    let w = shown_value hash_key t others in
-    let lg : empty.lg_k ≡ lg_k = ap (λ u. u.lg_k) made in
-    let start : empty.start ≡ MAX_THETA = ap (λ u. u.start) made in
-    let lg_one : one.lg_k ≡ lg_k = ap (λ u. u.lg_k) made_one ∙ lg in
-    let start_one : one.start ≡ MAX_THETA = ap (λ u. u.start) made_one ∙ start in
-    let nothing : union_value hash_key empty ≡ by empty.lg_k empty.start [] = ap (union_value hash_key) made in
-    let first : union_value hash_key one ≡ by empty.lg_k empty.start (v ∷ []) = joined_next empty one [] v nothing (joins_shown empty one s listing skip_one unite_one) in
-    let first_one : union_value hash_key one ≡ by one.lg_k one.start (v ∷ []) = first ∙ ap (λ l. by l empty.start (v ∷ [])) (lg ∙ sym lg_one) ∙ ap (λ x. by one.lg_k x (v ∷ [])) (start ∙ sym start_one) in
-    let second : union_value hash_key two ≡ by one.lg_k one.start (v ∷ w ∷ []) = joined_next one two (v ∷ []) w first_one (joins_shown one two t others skip_two unite_two) in
-    second ∙ ap (λ l. by l one.start (v ∷ w ∷ [])) lg_one ∙ ap (λ x. by lg_k x (v ∷ w ∷ [])) start_one ∙ ap (λ u. by lg_k MAX_THETA (u ∷ w ∷ [])) is_a ∙ ap (λ u. by lg_k MAX_THETA (a ∷ u ∷ [])) is_b
+-- the value of a union after one more sketch
+pub one_more : {P : Type 0} (old new : Union ℕ P) (s : Shown) (listing : List ℕ) (w : Sketch ℕ) → (s.empty ≡ true → new ≡ old) →
+    (s.empty ≡ false → union_value hash_key new ≡ unite hash_key first_hash (2 ^ old.lg_k) old.start (union_value hash_key old ∷ shown_value hash_key s listing ∷ [])) → shown_value hash_key s listing ≡ w →
+    (values : List (Sketch ℕ)) → union_value hash_key old ≡ unite hash_key first_hash (2 ^ old.lg_k) old.start values → union_value hash_key new ≡ unite hash_key first_hash (2 ^ old.lg_k) old.start (values ++ w ∷ [])
+one_more old new s listing w skipped united is values so_far =
+    joined_next old new values (shown_value hash_key s listing) so_far (joins_shown old new s listing skipped united) ∙ ap (λ u. by old.lg_k old.start (values ++ u ∷ [])) is
+
+-- a new union has united nothing
+pub nothing_united : {P : Type 0} (lg_k h : ℕ) (u : Union ℕ P) → u ≡ empty_union lg_k MAX_THETA h u.policy → union_value hash_key u ≡ unite hash_key first_hash (2 ^ u.lg_k) u.start []
+nothing_united lg_k h u made = ap (union_value hash_key) made
+
+-- the value of a new union after two sketches, and its seed
+module _ {P : Type 0} (lg_k h : ℕ) (empty one : Union ℕ P) (made : empty ≡ empty_union lg_k MAX_THETA h empty.policy) (made_one : one ≡ record empty { empty = one.empty; held = one.held }) where
+  pub one_sound : one.failed ≡ false
+  one_sound = ap (λ u. u.failed) made_one ∙ ap (λ u. u.failed) made
+
+  pub one_seed : one.seed_hash ≡ h
+  one_seed = ap (λ u. u.seed_hash) made_one ∙ ap (λ u. u.seed_hash) made
+
+  pub one_united : (a : Sketch ℕ) → union_value hash_key one ≡ unite hash_key first_hash (2 ^ empty.lg_k) empty.start (a ∷ []) → union_value hash_key one ≡ unite hash_key first_hash (2 ^ one.lg_k) one.start (a ∷ [])
+  one_united a first = first ∙ ap (λ l. by l empty.start (a ∷ [])) (sym (ap (λ u. u.lg_k) made_one)) ∙ ap (λ x. by one.lg_k x (a ∷ [])) (sym (ap (λ u. u.start) made_one))
+
+  pub two_united : (two : Union ℕ P) (a b : Sketch ℕ) → union_value hash_key two ≡ unite hash_key first_hash (2 ^ one.lg_k) one.start (a ∷ b ∷ []) → union_value hash_key two ≡ unite hash_key first_hash (2 ^ lg_k) MAX_THETA (a ∷ b ∷ [])
+  two_united two a b second =
+      second ∙ ap (λ l. by l one.start (a ∷ b ∷ [])) (ap (λ u. u.lg_k) made_one ∙ ap (λ u. u.lg_k) made) ∙ ap (λ x. by lg_k x (a ∷ b ∷ [])) (ap (λ u. u.start) made_one ∙ ap (λ u. u.start) made)
 
 -- the sketch of a value that is another's
 pub same_answer : (v w : Sketch ℕ) (own h : ℕ) (s : Compact ℕ) → v ≡ w → own ≡ h → IsAnswer hash_key v own true s → IsAnswer hash_key w h true s

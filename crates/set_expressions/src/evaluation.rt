@@ -1,13 +1,15 @@
 //! Evaluates expressions over sketches.
-ghost use Rattle.std.specs.Prelude.{◌≡◌, ℕ, List, [], ◌∷◌, length, true, false, Some, None, IfOk, IfErr, OnOk, OnErr};
+ghost use Rattle.std.specs.Prelude.{◌≡◌, ◌^◌, ◌++◌, ℕ, List, [], ◌∷◌, length, true, false, Some, None, IfOk, IfErr, OnOk, OnErr};
 ghost use Rattle.sketch_base.specs.Seed.{seed_hash};
 ghost use Rattle.sketch_base.specs.declared.error.ErrorKind.TheVariants.{OutOfMemory, InvalidArgument};
 ghost use Rattle.expression_text.specs.declared.operator.Step.TheVariants.{Combine};
 ghost use Rattle.core_compact.specs.CompactState.{IsAnswer, compact_value};
-ghost use Rattle.core_laws.specs.Entries.{hash_key};
+ghost use Rattle.core_laws.specs.Entries.{hash_key, first_hash};
+ghost use Rattle.core_laws.specs.Operators.{meet_next, unite};
+ghost use Rattle.core_laws.specs.Values.{Sketch};
 ghost use Rattle.core_laws.specs.Refusal.{Refuses};
 ghost use Rattle.core_operators.specs.Intersection.{seed_refusal};
-ghost use Rattle.core_operators.specs.Union.{empty_union};
+ghost use Rattle.core_operators.specs.Union.{empty_union, union_value};
 ghost use Rattle.core_laws.specs.Samples.{IsSample, AreSamples};
 ghost use Rattle.core_laws.specs.Settings.{settings_refusal};
 ghost use Rattle.core_laws.specs.declared.TheConstants.{MAX_THETA};
@@ -45,6 +47,36 @@ fn are_accepted<B: Allocator>(hash: u16, sketches: &[CompactThetaSketch<B>]) -> 
     true
 }
 
+/// Intersects with a sketch that is empty or of the intersection's seed.
+fn meet_sketch<A: Allocator + Clone, B: Allocator>(
+    intersection: &mut ThetaIntersection<A>,
+    sketch: &CompactThetaSketch<B>,
+) -> Result<(), Error>
+    requires { is_accepted intersection.old.seed_hash sketch.now ≡ true }
+    ensures met { OnOk result (
+        intersection.new.result
+        ≡ Some (meet_next hash_key first_hash intersection.old.result (compact_value hash_key sketch.now))) }
+    ensures seed { OnOk result (intersection.new.seed_hash ≡ intersection.old.seed_hash) }
+    ensures refused { Refuses result None true }
+{
+    intersection.update(sketch.as_view())
+}
+
+/// The ordered sketch of an intersection that has a value.
+fn met_sketch<A: Allocator + Clone>(
+    intersection: &ThetaIntersection<A>,
+) -> Result<CompactThetaSketch<A>, Error>
+    ensures value { (v : Sketch ℕ)
+        → intersection.now.result ≡ Some v
+        → IfOk result (IsAnswer hash_key v intersection.now.seed_hash true) }
+    ensures refused { Refuses result None true }
+{
+    match intersection.to_sketch(true)? {
+        Some(sketch) => Ok(sketch),
+        None => Err(Error::from(AllocError)),
+    }
+}
+
 /// The ordered sketch with the value of a sketch.
 fn ordered<A: Allocator + Clone + Drop, B: Allocator>(
     alloc: A,
@@ -53,15 +85,12 @@ fn ordered<A: Allocator + Clone + Drop, B: Allocator>(
 ) -> Result<CompactThetaSketch<A>, Error>
     requires seeded { seed_refusal seed ≡ None }
     requires accepted { is_accepted (seed_hash seed) sketch.now ≡ true }
-    ensures same { IfOk result (IsAnswer hash_key (compact_value hash_key sketch.now) (seed_hash seed) true) }
+    ensures value { IfOk result (IsAnswer hash_key (compact_value hash_key sketch.now) (seed_hash seed) true) }
     ensures refused { Refuses result None true }
 {
     let mut intersection = ThetaIntersection::with_seed(alloc, seed)?;
-    intersection.update(sketch.as_view())?;
-    match intersection.to_sketch(true)? {
-        Some(same) => Ok(same),
-        None => Err(Error::from(AllocError)),
-    }
+    meet_sketch(&mut intersection, sketch)?;
+    met_sketch(&intersection)
 }
 
 /// A new union of 2^`lg_k` nominal entries, of sketches of this seed.
@@ -75,6 +104,24 @@ fn new_union<A: Allocator + Drop>(alloc: A, seed: u64, lg_k: u8) -> Result<Theta
         .build(alloc)
 }
 
+/// Merges a sketch of the union's seed into a union.
+fn unite_sketch<A: Allocator + Clone, B: Allocator>(
+    union: &mut ThetaUnion<A>,
+    sketch: &CompactThetaSketch<B>,
+) -> Result<(), Error>
+    requires sound { union.old.failed ≡ false }
+    requires seed { sketch.now.seed_hash ≡ union.old.seed_hash }
+    ensures united { (values : List (Sketch ℕ))
+        → union_value hash_key union.old ≡ unite hash_key first_hash (2 ^ union.old.lg_k) union.old.start values
+        → OnOk result (
+        union_value hash_key union.new
+        ≡ unite hash_key first_hash (2 ^ union.old.lg_k) union.old.start (values ++ compact_value hash_key sketch.now ∷ [])) }
+    ensures made { OnOk result (union.new ≡ record union.old { empty = union.new.empty; held = union.new.held }) }
+    ensures refused { Refuses result None true }
+{
+    union.update(sketch.as_view())
+}
+
 /// The union of two sketches of this seed, with 2^`lg_k` nominal entries, ordered.
 fn union_of<A: Allocator + Clone + Drop>(
     alloc: A,
@@ -86,12 +133,13 @@ fn union_of<A: Allocator + Clone + Drop>(
     requires settings { settings_refusal lg_k MAX_THETA seed ≡ None }
     requires first_seed { first.now.seed_hash ≡ seed_hash seed }
     requires second_seed { second.now.seed_hash ≡ seed_hash seed }
-    ensures value { IfOk result (IsAnswer hash_key (combined lg_k Union (compact_value hash_key first.now) (compact_value hash_key second.now)) (seed_hash seed) true) }
+    ensures value { IfOk result (
+        IsAnswer hash_key (combined lg_k Union (compact_value hash_key first.now) (compact_value hash_key second.now)) (seed_hash seed) true) }
     ensures refused { Refuses result None true }
 {
     let mut union = new_union(alloc, seed, lg_k)?;
-    union.update(first.as_view())?;
-    union.update(second.as_view())?;
+    unite_sketch(&mut union, first)?;
+    unite_sketch(&mut union, second)?;
     union.to_sketch(true)
 }
 
@@ -105,16 +153,14 @@ fn intersection_of<A: Allocator + Clone + Drop>(
     requires seeded { seed_refusal seed ≡ None }
     requires first_seed { first.now.seed_hash ≡ seed_hash seed }
     requires second_seed { second.now.seed_hash ≡ seed_hash seed }
-    ensures value { IfOk result (IsAnswer hash_key (combined 0 Intersection (compact_value hash_key first.now) (compact_value hash_key second.now)) (seed_hash seed) true) }
+    ensures value { IfOk result (
+        IsAnswer hash_key (combined 0 Intersection (compact_value hash_key first.now) (compact_value hash_key second.now)) (seed_hash seed) true) }
     ensures refused { Refuses result None true }
 {
     let mut intersection = ThetaIntersection::with_seed(alloc, seed)?;
-    intersection.update(first.as_view())?;
-    intersection.update(second.as_view())?;
-    match intersection.to_sketch(true)? {
-        Some(both) => Ok(both),
-        None => Err(Error::from(AllocError)),
-    }
+    meet_sketch(&mut intersection, first)?;
+    meet_sketch(&mut intersection, second)?;
+    met_sketch(&intersection)
 }
 
 /// The difference of two sketches of this seed, ordered.
