@@ -127,17 +127,17 @@ module _ (tokens : List Lexeme) (names : List (List ℕ)) (pending : List Pendin
   combined_frames : (least : ℕ) (new : List Pending) (op : Operator) (frames : List Frame) (tree : Expression) → least ≤ strength op → new ++ Sign op ∷ [] ≡ pending_of frames → levels ≡ open_groups frames →
       AreFrames (length names) frames → IsOperand (length names) frames tree → IsAbove (level tree) frames → ((more : List (List ℕ)) → tokens ≡ tokens_before (names ++ more) frames ++ tokens_of (names ++ more) tree) →
       steps ≡ steps_before frames ++ postfix tree → HasOperand least tokens names new (steps ++ Combine op ∷ []) levels
-  combined_frames least new op [] tree le are open sound operand above tokens_are steps_are = absurd (no_push new (Sign op) are)
-  combined_frames least new op (group ∷ frames) tree le are open sound operand above tokens_are steps_are =
+  combined_frames least new op [] tree le are opened sound operand above tokens_are steps_are = absurd (no_push new (Sign op) are)
+  combined_frames least new op (group ∷ frames) tree le are opened sound operand above tokens_are steps_are =
       let both : Sign op ≡ Group = (same_from_push new (pending_of frames) (Sign op) Group are).1 in absurd (cc)
-  combined_frames least new op (left a last ∷ frames) tree le are open sound operand above tokens_are steps_are =
+  combined_frames least new op (left a last ∷ frames) tree le are opened sound operand above tokens_are steps_are =
       let parts = same_from_push new (pending_of frames) (Sign op) (Sign last) are in
       let same : op ≡ last = same_sign op last parts.1 in
       let P : Operator → Type 0 = λ o. HasOperand least tokens names new (steps ++ Combine o ∷ []) levels in
       subst P (sym same) (record {
         frames = frames;
         tree = Combined last a tree;
-        around = record { pending_are = parts.0; levels_are = open; sound = sound.3 };
+        around = record { pending_are = parts.0; levels_are = opened; sound = sound.3 };
         operand = record { bound = (sound.1, above, sound.0.bound, operand.bound); deep = omega (arith, sound.0.deep, operand.deep); within = λ n within. (sound.0.within n within, operand.within n within) };
         above = sound.2;
         tight = subst (λ (o : Operator). least ≤ strength o) same le;
@@ -157,12 +157,12 @@ module _ (tokens : List Lexeme) (names : List (List ℕ)) (pending : List Pendin
   closed_frames : (new : List Pending) (last : Pending) (fewer : ℕ) (frames : List Frame) (tree : Expression) → levels ≡ fewer + 1 → LacksSign 0 pending → pending ≡ new ++ last ∷ [] → pending ≡ pending_of frames → levels ≡ open_groups frames →
       AreFrames (length names) frames → IsOperand (length names) frames tree → ((more : List (List ℕ)) → tokens ≡ tokens_before (names ++ more) frames ++ tokens_of (names ++ more) tree) → steps ≡ steps_before frames ++ postfix tree →
       HasOperand 3 (tokens ++ closing ∷ []) names new steps fewer
-  closed_frames new last fewer [] tree some settled is are open sound operand tokens_are steps_are = absurd (omega (arith, some, open))
-  closed_frames new last fewer (left a op ∷ frames) tree some settled is are open sound operand tokens_are steps_are = absurd (omega (arith, settled (pending_of frames) op are))
-  closed_frames new last fewer (group ∷ frames) tree some settled is are open sound operand tokens_are steps_are = record {
+  closed_frames new last fewer [] tree some settled is are opened sound operand tokens_are steps_are = absurd (omega (arith, some, opened))
+  closed_frames new last fewer (left a op ∷ frames) tree some settled is are opened sound operand tokens_are steps_are = absurd (omega (arith, settled (pending_of frames) op are))
+  closed_frames new last fewer (group ∷ frames) tree some settled is are opened sound operand tokens_are steps_are = record {
     frames = frames;
     tree = Grouped tree;
-    around = record { pending_are = (same_from_push new (pending_of frames) last Group (sym is ∙ are)).0; levels_are = omega (arith, some, open); sound = sound };
+    around = record { pending_are = (same_from_push new (pending_of frames) last Group (sym is ∙ are)).0; levels_are = omega (arith, some, opened); sound = sound };
     operand = record { bound = operand.bound; deep = omega (arith, operand.deep); within = operand.within };
     above = above_atom frames;
     tight = omega arith;
@@ -197,3 +197,48 @@ module _ (tokens : List Lexeme) (names : List (List ℕ)) (pending : List Pendin
   end_read text is settled none =
       let has = settled.has in
       ended_frames text has.frames has.tree is (nil_from_length pending none) settled.settled has.around.pending_are has.operand has.tokens_are has.steps_are
+
+-- ---- the state from one token to the next
+
+module _ (tokens : List Lexeme) (names : List (List ℕ)) (pending : List Pending) (steps : List Step) (levels : ℕ) where
+  wanted : (after : Bool) → after ≡ false → IsReading tokens names pending steps levels after → WantsOperand tokens names pending steps levels
+  wanted true no reading = absurd (cc)
+  wanted false no reading = reading
+
+  had : (after : Bool) → after ≡ true → IsReading tokens names pending steps levels after → HasOperand 3 tokens names pending steps levels
+  had true yes reading = reading
+  had false yes reading = absurd (cc)
+
+  pub name_reading : (after : Bool) (new_names : List (List ℕ)) (word : List ℕ) (i : ℕ) (new_steps : List Step) → after ≡ false → IsIndexed names new_names word i → new_steps ≡ steps ++ Operand i ∷ [] →
+      IsReading tokens names pending steps levels after → IsReading (tokens ++ name word ∷ []) new_names pending new_steps levels true
+  name_reading after new_names word i new_steps no at pushed reading =
+      let P : List Step → Type 0 = λ ss. HasOperand 3 (tokens ++ name word ∷ []) new_names pending ss levels in
+      subst P (sym pushed) (name_read tokens names pending steps levels new_names word i (wanted after no reading) at)
+
+  pub sign_reading : (after : Bool) (op : Operator) (least : ℕ) (settled new : List Pending) (new_steps : List Step) → after ≡ true → least ≡ strength op →
+      (HasOperand least tokens names pending steps levels → IsSettled least tokens names settled new_steps levels) → new ≡ settled ++ Sign op ∷ [] →
+      IsReading tokens names pending steps levels after → IsReading (tokens ++ sign op ∷ []) names new new_steps levels false
+  sign_reading after op least settled new new_steps yes same settles pushed reading =
+      let few : least ≤ 3 = omega (arith, same, strength-few op) in
+      let all : IsSettled least tokens names settled new_steps levels = settles (looser least tokens names pending steps levels few (had after yes reading)) in
+      let S : ℕ → Type 0 = λ n. IsSettled n tokens names settled new_steps levels in
+      let P : List Pending → Type 0 = λ ps. WantsOperand (tokens ++ sign op ∷ []) names ps new_steps levels in
+      subst P (sym pushed) (sign_read tokens names settled new_steps levels op (subst S same all))
+
+  pub opening_reading : (after : Bool) (new : List Pending) → after ≡ false → levels < 64 → new ≡ pending ++ Group ∷ [] → IsReading tokens names pending steps levels after → IsReading (tokens ++ opening ∷ []) names new steps (levels + 1) after
+  opening_reading true new no few pushed reading = absurd (cc)
+  opening_reading false new no few pushed reading =
+      let P : List Pending → Type 0 = λ ps. WantsOperand (tokens ++ opening ∷ []) names ps steps (levels + 1) in
+      subst P (sym pushed) (opening_read tokens names pending steps levels reading few)
+
+  pub closing_reading : (after : Bool) (settled new : List Pending) (last : Pending) (new_steps : List Step) (fewer : ℕ) → after ≡ true → levels ≡ fewer + 1 →
+      (HasOperand 0 tokens names pending steps levels → IsSettled 0 tokens names settled new_steps levels) → settled ≡ new ++ last ∷ [] →
+      IsReading tokens names pending steps levels after → IsReading (tokens ++ closing ∷ []) names new new_steps fewer after
+  closing_reading true settled new last new_steps fewer yes some settles popped reading =
+      closing_read tokens names settled new_steps levels new last fewer (settles (looser 0 tokens names pending steps levels (omega arith) reading)) some popped
+  closing_reading false settled new last new_steps fewer yes some settles popped reading = absurd (cc)
+
+  pub end_reading : (after : Bool) (settled : List Pending) (new_steps : List Step) (text : List ℕ) → after ≡ true → (HasOperand 0 tokens names pending steps levels → IsSettled 0 tokens names settled new_steps levels) →
+      length settled ≡ 0 → IsText tokens text → IsReading tokens names pending steps levels after → IsSpelled text names new_steps
+  end_reading after settled new_steps text yes settles none is reading =
+      end_read tokens names settled new_steps levels text is (settles (looser 0 tokens names pending steps levels (omega arith) (had after yes reading))) none

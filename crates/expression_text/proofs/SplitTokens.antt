@@ -66,10 +66,10 @@ one_byte text rest b t parts spells no_word = record { front = b ∷ []; parts =
 -- ---- token after token
 
 sign_nonempty : (op : Operator) (front : List ℕ) → Spells (sign op) front → front ≢ []
-sign_nonempty Union front (inl is) empty = let both : 43 ∷ [] ≡ [] = sym is ∙ empty in absurd (cc)
-sign_nonempty Union front (inr is) empty = let both : 124 ∷ [] ≡ [] = sym is ∙ empty in absurd (cc)
-sign_nonempty Intersection front is empty = let both : 38 ∷ [] ≡ [] = sym is ∙ empty in absurd (cc)
-sign_nonempty Difference front is empty = let both : 45 ∷ [] ≡ [] = sym is ∙ empty in absurd (cc)
+sign_nonempty Union front (inl is) empty = let both : ◌≡◌ {A = List ℕ} (43 ∷ []) [] = sym is ∙ empty in absurd (cc)
+sign_nonempty Union front (inr is) empty = let both : ◌≡◌ {A = List ℕ} (124 ∷ []) [] = sym is ∙ empty in absurd (cc)
+sign_nonempty Intersection front is empty = let both : ◌≡◌ {A = List ℕ} (38 ∷ []) [] = sym is ∙ empty in absurd (cc)
+sign_nonempty Difference front is empty = let both : ◌≡◌ {A = List ℕ} (45 ∷ []) [] = sym is ∙ empty in absurd (cc)
 
 shorter : (text front rest : List ℕ) → text ≡ front ++ rest → front ≢ [] → length rest < length text
 shorter text [] rest parts some = absurd (some refl)
@@ -78,11 +78,11 @@ shorter text (b ∷ front) rest parts some = rw parts (omega (arith, length-appe
 nonempty : (t : Lexeme) (front : List ℕ) → Spells t front → front ≢ []
 nonempty (name word) front spells empty = elim spells.1 [
   | inl plain ↦ spells.0 (sym plain.same ∙ empty)
-  | inr quoted ↦ let both : 34 ∷ (word ++ 34 ∷ []) ≡ [] = sym quoted.between ∙ empty in absurd (cc)
+  | inr quoted ↦ let both : ◌≡◌ {A = List ℕ} (34 ∷ (word ++ 34 ∷ [])) [] = sym quoted.between ∙ empty in absurd (cc)
 ]
 nonempty (sign op) front spells empty = sign_nonempty op front spells empty
-nonempty opening front spells empty = let both : 40 ∷ [] ≡ [] = sym spells ∙ empty in absurd (cc)
-nonempty closing front spells empty = let both : 41 ∷ [] ≡ [] = sym spells ∙ empty in absurd (cc)
+nonempty opening front spells empty = let both : ◌≡◌ {A = List ℕ} (40 ∷ []) [] = sym spells ∙ empty in absurd (cc)
+nonempty closing front spells empty = let both : ◌≡◌ {A = List ℕ} (41 ∷ []) [] = sym spells ∙ empty in absurd (cc)
 
 pub token_shorter : (t : Lexeme) (text rest : List ℕ) → IsToken t text rest → length rest < length text
 token_shorter t text rest token = shorter text token.front rest token.parts (nonempty t token.front token.spells)

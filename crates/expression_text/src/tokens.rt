@@ -1,6 +1,6 @@
 //! The tokens of a text.
-ghost use Rattle.std.specs.Prelude.{◌≡◌, ◌++◌, ◌∷◌, IfOk, MatchOption, []};
-ghost use Rattle.expression_text.specs.Tokens.{is_blank, is_word_byte, IsAfterBlanks, IsSplitWord, IsToken, lexeme_of, Lacks};
+ghost use Rattle.std.specs.Prelude.{◌≡◌, ◌≢◌, ◌<◌, ◌++◌, ◌∷◌, ℕ, [], length, slice_index, IfOk, IfSome, MatchOption};
+ghost use Rattle.expression_text.specs.Tokens.{is_blank, is_word_byte, IsAfterBlanks, IsSplitWord, IsToken, lexeme_of};
 
 use crate::fault::Reason;
 use crate::operator::Operator;
@@ -66,7 +66,8 @@ fn split_word(text: &[u8]) -> (&[u8], &[u8])
 
 /// The text before the first quote, and the text after that quote; `None` if there is no quote.
 fn split_quoted(text: &[u8]) -> Option<(&[u8], &[u8])>
-    ensures { MatchOption result (Lacks 34 text.now) (λ x. (text.now ≡ x.0.now ++ 34 ∷ x.1.now) × Lacks 34 x.0.now) }
+    ensures before { IfSome result (λ x. (k : ℕ) → k < length x.0.now → slice_index x.0.now k ≢ 34) }
+    ensures parts { IfSome result (λ x. text.now ≡ x.0.now ++ 34 ∷ x.1.now) }
 {
     for (i, byte) in text.iter().enumerate() {
         if *byte == b'"' {

@@ -29,7 +29,8 @@ fn check_settings(lg_k: u8, seed: u64) -> Result<u16, Error>
     ensures hash { IfOk result (λ h. h ≡ seed_hash seed) }
     ensures refused { Refuses result (settings_refusal lg_k MAX_THETA seed) false }
 {
-    if !(MIN_LG_K..=MAX_LG_K).contains(&lg_k) {
+    let fits = MIN_LG_K <= lg_k && lg_k <= MAX_LG_K;
+    if !fits {
         return Err(Error::new(ErrorKind::InvalidArgument));
     }
     compute_seed_hash(seed, ErrorKind::InvalidArgument)

@@ -1,4 +1,4 @@
-use Rattle.std.proofs.Common.{ℕ, List, vec_len}
+use Rattle.std.proofs.Common.{ℕ, List, length}
 use Rattle.expression_text.specs.Reading.{HasOperand}
 use Rattle.expression_text.specs.Tokens.{Lexeme}
 use Rattle.expression_text.proofs.parsing.settle.Given as goal
@@ -9,4 +9,4 @@ invariant-loop-operator g l =
     (tokens : List Lexeme) (names : List (List ℕ)) (levels : ℕ) → HasOperand l.least tokens names l.initial.pending.items l.initial.steps.items levels → HasOperand l.least tokens names l.pending.items l.steps.items levels
 
 abbrev pub decreases-loop-operator : goal.decreases-loop-operator
-decreases-loop-operator g l = vec_len l.pending
+decreases-loop-operator g l = length l.pending.items
