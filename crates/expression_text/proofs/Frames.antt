@@ -2,6 +2,7 @@
 use Rattle.std.proofs.Common.{◌≡◌, ◌≢◌, ℕ, ◌<◌, ◌≤◌, ◌+◌, ◌-◌, max, Bool, true, false, List, [], ◌∷◌, ◌++◌, length, get_or, refl, ap, sym, subst, ◌∙◌, arith, append_assoc, append-nil}
 use Rattle.std.proofs.lemmas.List.{same_from_push, get_or_append_left, nil_from_length}
 use Rattle.std.proofs.Common.{length-append}
+use Rattle.std.proofs.Math.Seq.{get_or-append_seam}
 use Rattle.expression_text.specs.declared.operator.Operator.{Operator}
 use Rattle.expression_text.specs.declared.operator.Operator.TheVariants.{Union, Intersection, Difference}
 use Rattle.expression_text.specs.declared.operator.Step.{Step}
@@ -202,43 +203,58 @@ module _ (tokens : List Lexeme) (names : List (List ℕ)) (pending : List Pendin
 
 module _ (tokens : List Lexeme) (names : List (List ℕ)) (pending : List Pending) (steps : List Step) (levels : ℕ) where
   wanted : (after : Bool) → after ≡ false → IsReading tokens names pending steps levels after → WantsOperand tokens names pending steps levels
-  wanted true no reading = absurd (cc)
-  wanted false no reading = reading
+  wanted true e reading = absurd (cc)
+  wanted false e reading = reading
 
   had : (after : Bool) → after ≡ true → IsReading tokens names pending steps levels after → HasOperand 3 tokens names pending steps levels
-  had true yes reading = reading
-  had false yes reading = absurd (cc)
+  had true e reading = reading
+  had false e reading = absurd (cc)
 
   pub name_reading : (after : Bool) (new_names : List (List ℕ)) (word : List ℕ) (i : ℕ) (new_steps : List Step) → after ≡ false → IsIndexed names new_names word i → new_steps ≡ steps ++ Operand i ∷ [] →
       IsReading tokens names pending steps levels after → IsReading (tokens ++ name word ∷ []) new_names pending new_steps levels true
-  name_reading after new_names word i new_steps no at pushed reading =
+  name_reading after new_names word i new_steps not_after at pushed reading =
       let P : List Step → Type 0 = λ ss. HasOperand 3 (tokens ++ name word ∷ []) new_names pending ss levels in
-      subst P (sym pushed) (name_read tokens names pending steps levels new_names word i (wanted after no reading) at)
+      subst P (sym pushed) (name_read tokens names pending steps levels new_names word i (wanted after not_after reading) at)
 
   pub sign_reading : (after : Bool) (op : Operator) (least : ℕ) (settled new : List Pending) (new_steps : List Step) → after ≡ true → least ≡ strength op →
       (HasOperand least tokens names pending steps levels → IsSettled least tokens names settled new_steps levels) → new ≡ settled ++ Sign op ∷ [] →
       IsReading tokens names pending steps levels after → IsReading (tokens ++ sign op ∷ []) names new new_steps levels false
-  sign_reading after op least settled new new_steps yes same settles pushed reading =
+  sign_reading after op least settled new new_steps is_after same settles pushed reading =
       let few : least ≤ 3 = omega (arith, same, strength-few op) in
-      let all : IsSettled least tokens names settled new_steps levels = settles (looser least tokens names pending steps levels few (had after yes reading)) in
+      let all : IsSettled least tokens names settled new_steps levels = settles (looser least tokens names pending steps levels few (had after is_after reading)) in
       let S : ℕ → Type 0 = λ n. IsSettled n tokens names settled new_steps levels in
       let P : List Pending → Type 0 = λ ps. WantsOperand (tokens ++ sign op ∷ []) names ps new_steps levels in
       subst P (sym pushed) (sign_read tokens names settled new_steps levels op (subst S same all))
 
   pub opening_reading : (after : Bool) (new : List Pending) → after ≡ false → levels < 64 → new ≡ pending ++ Group ∷ [] → IsReading tokens names pending steps levels after → IsReading (tokens ++ opening ∷ []) names new steps (levels + 1) after
-  opening_reading true new no few pushed reading = absurd (cc)
-  opening_reading false new no few pushed reading =
+  opening_reading true new not_after few pushed reading = absurd (cc)
+  opening_reading false new not_after few pushed reading =
       let P : List Pending → Type 0 = λ ps. WantsOperand (tokens ++ opening ∷ []) names ps steps (levels + 1) in
       subst P (sym pushed) (opening_read tokens names pending steps levels reading few)
 
   pub closing_reading : (after : Bool) (settled new : List Pending) (last : Pending) (new_steps : List Step) (fewer : ℕ) → after ≡ true → levels ≡ fewer + 1 →
       (HasOperand 0 tokens names pending steps levels → IsSettled 0 tokens names settled new_steps levels) → settled ≡ new ++ last ∷ [] →
       IsReading tokens names pending steps levels after → IsReading (tokens ++ closing ∷ []) names new new_steps fewer after
-  closing_reading true settled new last new_steps fewer yes some settles popped reading =
+  closing_reading true settled new last new_steps fewer is_after some settles popped reading =
       closing_read tokens names settled new_steps levels new last fewer (settles (looser 0 tokens names pending steps levels (omega arith) reading)) some popped
-  closing_reading false settled new last new_steps fewer yes some settles popped reading = absurd (cc)
+  closing_reading false settled new last new_steps fewer is_after some settles popped reading = absurd (cc)
 
   pub end_reading : (after : Bool) (settled : List Pending) (new_steps : List Step) (text : List ℕ) → after ≡ true → (HasOperand 0 tokens names pending steps levels → IsSettled 0 tokens names settled new_steps levels) →
       length settled ≡ 0 → IsText tokens text → IsReading tokens names pending steps levels after → IsSpelled text names new_steps
-  end_reading after settled new_steps text yes settles none is reading =
-      end_read tokens names settled new_steps levels text is (settles (looser 0 tokens names pending steps levels (omega arith) (had after yes reading))) none
+  end_reading after settled new_steps text is_after settles none is reading =
+      end_read tokens names settled new_steps levels text is (settles (looser 0 tokens names pending steps levels (omega arith) (had after is_after reading))) none
+
+-- ---- names
+
+pub indexed_old : (names : List (List ℕ)) (word : List ℕ) (i : ℕ) → HasName names word i → IsIndexed names names word i
+indexed_old names word i found = record { more = []; appended = sym (append-nil names); found = found }
+
+pub indexed_new : (names new : List (List ℕ)) (word : List ℕ) (i : ℕ) → i ≡ length names → new ≡ names ++ word ∷ [] → IsIndexed names new word i
+indexed_new names new word i last pushed = record {
+  more = word ∷ [];
+  appended = pushed;
+  found = record {
+    inside = rw (last, pushed) (omega (arith, length-append names (word ∷ [])));
+    same = ap (λ ns. get_or ns i []) pushed ∙ ap (λ k. get_or (names ++ word ∷ []) k []) last ∙ get_or-append_seam names word [] [];
+  };
+}

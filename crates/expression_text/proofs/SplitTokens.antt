@@ -1,7 +1,8 @@
 -- Tokens at the front of a text.
-use Rattle.std.proofs.Common.{◌≡◌, ◌≢◌, ℕ, ◌<◌, ◌≤◌, ◌+◌, Bool, true, false, List, [], ◌∷◌, ◌++◌, length, get_or, refl, ap, sym, subst, ◌∙◌, arith, inl, inr, append_assoc, append-nil, length-append}
+use Rattle.std.proofs.Common.{◌≡◌, ◌≢◌, ℕ, eqb, ◌<◌, ◌≤◌, ◌+◌, Bool, true, false, List, [], ◌∷◌, ◌++◌, length, get_or, refl, ap, sym, subst, ◌∙◌, arith, inl, inr, append_assoc, append-nil, length-append}
 use Rattle.std.proofs.lemmas.List.{get_or_append_left}
 use Rattle.std.proofs.Math.Seq.{get_or-append_seam}
+use Rattle.std.specs.Prelude.{◌⊎◌}
 use Rattle.expression_text.specs.Tokens.{Lexeme, name, sign, opening, closing, is_blank, is_word_byte, AreAll, Lacks, BeginsWord, Spells, IsToken, IsAfterBlanks, IsSplitWord, Begins, IsText}
 use Rattle.expression_text.specs.declared.operator.Operator.{Operator}
 use Rattle.expression_text.specs.declared.operator.Operator.TheVariants.{Union, Intersection, Difference}
@@ -105,3 +106,11 @@ module _ (text rest : List ℕ) (names : List (List ℕ)) (pending : List Pendin
   -- the end
   pub all_tokens : rest ≡ [] → IsText has.tokens text
   all_tokens none = subst (λ ts. IsText ts text) (append-nil has.tokens) (has.joined [] (subst (IsAfterBlanks has.before) none has.blanks))
+
+pub not_nil : (xs : List ℕ) → false ≡ eqb (length xs) 0 → xs ≢ []
+not_nil xs some nil = let both : false ≡ true = some ∙ ap (λ (t : List ℕ). eqb (length t) 0) nil in absurd (cc)
+
+-- the union has two signs
+pub either_union : (text rest : List ℕ) (b : ℕ) → text ≡ b ∷ rest → (b ≡ 43) ⊎ (b ≡ 124) → IsToken (sign Union) text rest
+either_union text rest b parts (inl is) = one_byte text rest 43 (sign Union) (parts ∙ ap (λ (x : ℕ). x ∷ rest) is) (inl refl) refl
+either_union text rest b parts (inr is) = one_byte text rest 124 (sign Union) (parts ∙ ap (λ (x : ℕ). x ∷ rest) is) (inr refl) refl

@@ -252,7 +252,7 @@ impl<A: Allocator + Clone + Drop> Reading<A> {
             return Err(Reason::MissingOperand);
         }
         settle(&mut self.pending, &mut self.steps, 0)?;
-        if !self.pending.is_empty() {
+        if !self.pending.as_slice().is_empty() {
             return Err(Reason::MissingClosing);
         }
         let Reading { names, steps, .. } = self;

@@ -60,7 +60,8 @@ fn meet_sketch<A: Allocator + Clone, B: Allocator>(
     ensures seed { OnOk result (intersection.new.seed_hash ≡ intersection.old.seed_hash) }
     ensures refused { Refuses result None true }
 {
-    intersection.update(sketch.as_view())
+    intersection.update(sketch.as_view())?;
+    Ok(())
 }
 
 /// The ordered sketch of an intersection that has a value.
@@ -120,7 +121,8 @@ fn unite_sketch<A: Allocator + Clone, B: Allocator>(
     ensures made { OnOk result (union.new ≡ record union.old { empty = union.new.empty; held = union.new.held }) }
     ensures refused { Refuses result None true }
 {
-    union.update(sketch.as_view())
+    union.update(sketch.as_view())?;
+    Ok(())
 }
 
 /// The union of two sketches of this seed, with 2^`lg_k` nominal entries, ordered.

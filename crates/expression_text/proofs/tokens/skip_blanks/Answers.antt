@@ -7,3 +7,6 @@ returns-then-not-is_blank c =
     let text = c.args.text.now in
     let i = c.loop-i.i in
     blanks_before text (take i text) c.split_at.result.1.now i (sym (take-append-drop i text) ∙ ap (λ r. take i text ++ r) (sym c.split_at.ensures.back)) (length-take-le i text c.loop-i.auto.i-end) c.loop-i.invariant
+
+pub returns : goal.returns
+returns c = let le = c.loop-i-test.false in blanks_alone c.args.text.now c.loop-i.i (omega arith) c.loop-i.invariant
