@@ -1,6 +1,9 @@
 -- What is pending between two tokens, from one token to the next.
 use Rattle.std.proofs.Common.{◌≡◌, ◌≢◌, ℕ, ◌<◌, ◌≤◌, ◌+◌, ◌-◌, max, Bool, true, false, List, [], ◌∷◌, ◌++◌, length, get_or, refl, ap, sym, subst, ◌∙◌, arith, append_assoc, append-nil}
-use Rattle.std.proofs.lemmas.List.{same_from_push, get_or_append_left, nil_from_length}
+use Rattle.std.proofs.lemmas.List.{same_from_push, get_or_append_left, nil_from_length, length-map, get_or-map}
+use Rattle.std.proofs.lemmas.Slice.Eq.{bytes_eq-Decides}
+use Rattle.std.specs.Str.{bytes_eq}
+use Rattle.std.proofs.Common.{map}
 use Rattle.std.proofs.Common.{length-append}
 use Rattle.std.proofs.Math.Seq.{get_or-append_seam}
 use Rattle.expression_text.specs.declared.operator.Operator.{Operator}
@@ -257,4 +260,10 @@ indexed_new names new word i last pushed = record {
     inside = rw (last, pushed) (omega (arith, length-append names (word ∷ [])));
     same = ap (λ ns. get_or ns i []) pushed ∙ ap (λ k. get_or (names ++ word ∷ []) k []) last ∙ get_or-append_seam names word [] [];
   };
+}
+
+pub name_found : {V : Type 0} (items : V → List ℕ) (names : List V) (word found : List ℕ) (i : ℕ) (d : V) → i < length names → d ≡ get_or names i d → found ≡ items d → bytes_eq found word ≡ true → HasName (map items names) word i
+name_found items names word found i d lt is has same = record {
+  inside = omega (arith, lt, length-map names items);
+  same = get_or-map items names i d [] lt ∙ ap items (sym is) ∙ sym has ∙ (bytes_eq-Decides found word).0 same;
 }

@@ -114,3 +114,6 @@ not_nil xs some nil = let both : false ≡ true = some ∙ ap (λ (t : List ℕ)
 pub either_union : (text rest : List ℕ) (b : ℕ) → text ≡ b ∷ rest → (b ≡ 43) ⊎ (b ≡ 124) → IsToken (sign Union) text rest
 either_union text rest b parts (inl is) = one_byte text rest 43 (sign Union) (parts ∙ ap (λ (x : ℕ). x ∷ rest) is) (inl refl) refl
 either_union text rest b parts (inr is) = one_byte text rest 124 (sign Union) (parts ∙ ap (λ (x : ℕ). x ∷ rest) is) (inr refl) refl
+
+pub rest_shorter : (text rest : List ℕ) → IsAfterBlanks text rest → length rest ≤ length text
+rest_shorter text rest after = rw after.parts (omega (arith, length-append after.blanks rest))
