@@ -2,7 +2,7 @@
 use Rattle.std.proofs.Common.{◌≡◌, ◌≢◌, ℕ, eqb, ◌<◌, ◌≤◌, ◌+◌, Bool, true, false, List, [], ◌∷◌, ◌++◌, length, get_or, refl, ap, sym, subst, ◌∙◌, arith, inl, inr, append_assoc, append-nil, length-append}
 use Rattle.std.proofs.lemmas.List.{get_or_append_left}
 use Rattle.std.proofs.Math.Seq.{get_or-append_seam}
-use Rattle.std.specs.Prelude.{◌⊎◌}
+use Rattle.std.specs.Prelude.{◌⊎◌, Option, Some, None, MatchOption, IfSome}
 use Rattle.expression_text.specs.Tokens.{Lexeme, name, sign, opening, closing, is_blank, is_word_byte, AreAll, Lacks, BeginsWord, Spells, IsToken, IsAfterBlanks, IsSplitWord, Begins, IsText}
 use Rattle.expression_text.specs.declared.operator.Operator.{Operator}
 use Rattle.expression_text.specs.declared.operator.Operator.TheVariants.{Union, Intersection, Difference}
@@ -117,3 +117,13 @@ either_union text rest b parts (inr is) = one_byte text rest 124 (sign Union) (p
 
 pub rest_shorter : (text rest : List ℕ) → IsAfterBlanks text rest → length rest ≤ length text
 rest_shorter text rest after = rw after.parts (omega (arith, length-append after.blanks rest))
+
+-- a fact on an option whose case is known
+pub at_some : {X : Type 0} (A : Type 0) (B : X → Type 0) (o : Option X) (x : X) → o ≡ Some x → MatchOption o A B → B x
+at_some A B o x is fact = subst (λ p. MatchOption p A B) is fact
+
+pub at_none : {X : Type 0} (A : Type 0) (B : X → Type 0) (o : Option X) → o ≡ None → MatchOption o A B → A
+at_none A B o is fact = subst (λ p. MatchOption p A B) is fact
+
+pub if_some : {X : Type 0} (B : X → Type 0) (o : Option X) (x : X) → o ≡ Some x → IfSome o B → B x
+if_some B o x is fact = subst (λ p. IfSome p B) is fact
