@@ -2,8 +2,8 @@
 use Rattle.std.proofs.Common.{◌≡◌, ℕ, zero, suc, ◌<◌, ◌≤◌, ◌+◌, Bool, true, false, List, [], ◌∷◌, ◌++◌, length, map, get_or, drop, Option, Some, None, Result, Ok, Err, refl, ap, sym, subst, ◌∙◌, arith, inl, inr, append_assoc, append-nil, add-one, drop-cons}
 use Rattle.std.specs.Prelude.{◌⊎◌, ◌&&◌, IfOk, is_none, is_some, option_map, slice_get}
 use Rattle.std.specs.List.{AllByRecursion}
-use Rattle.std.proofs.lemmas.List.{drop_all}
-use Rattle.std.proofs.lemmas.Option.{slice_get-get_or}
+use Rattle.std.proofs.lemmas.List.{drop_all, at_drop_more, at_drop_all}
+use Rattle.std.proofs.lemmas.Option.{slice_get-get_or, slice_get_past}
 use Rattle.sketch_base.specs.declared.error.ErrorKind.{ErrorKind}
 use Rattle.core_compact.specs.CompactState.{Compact, compact_value, IsAnswer}
 use Rattle.core_laws.specs.Entries.{hash_key}
@@ -14,7 +14,7 @@ use Rattle.expression_text.specs.declared.operator.Step.{Step}
 use Rattle.expression_text.specs.declared.operator.Step.TheVariants.{Operand, Combine}
 use Rattle.expression_text.specs.Expressions.{Expression, Named, Grouped, Combined, postfix, IsWithin}
 use Rattle.set_expressions.specs.Values.{combined, value_of}
-use Rattle.set_expressions.specs.Running.{values_of, sketch_of_value, after_step, after_steps, only_value, result_of, values_onto, AreOrdered}
+use Rattle.set_expressions.specs.Running.{values_of, sketch_of_value, after_step, after_steps, only_value, result_of, values_onto, AreOrdered, is_accepted, are_accepted}
 
 -- the steps of an expression push its value
 steps_run : (lg_k : ℕ) (values : List (Sketch ℕ)) (e : Expression) (rest : List Step) (stack : List (Sketch ℕ)) → IsWithin (length values) e →
@@ -79,3 +79,33 @@ pub step_further : (lg_k : ℕ) (values : List (Sketch ℕ)) (steps : List Step)
     after_steps lg_k values steps (Some []) ≡ after_steps lg_k values (drop (i + 1) steps) (Some new)
 step_further lg_k values steps i d old new lt so_far ran =
     so_far ∙ ap (λ left. after_steps lg_k values left (Some old)) (split_at steps i d lt) ∙ ap (after_steps lg_k values (drop (i + 1) steps)) ran
+
+-- the last two values are combined
+pub combined_last : (lg_k : ℕ) (op : Operator) (items rest front new : List (Compact ℕ)) (first second sketch : Compact ℕ) → items ≡ rest ++ second ∷ [] → rest ≡ front ++ first ∷ [] → new ≡ front ++ sketch ∷ [] →
+    compact_value hash_key sketch ≡ combined lg_k op (compact_value hash_key first) (compact_value hash_key second) → after_step lg_k [] (Combine op) (values_onto items []) ≡ Some (values_onto new [])
+combined_last lg_k op items rest front new first second sketch items_are rest_is new_is value =
+    let b = compact_value hash_key second in
+    let top : values_onto items [] ≡ b ∷ compact_value hash_key first ∷ values_onto front [] =
+    ap (λ xs. values_onto xs []) items_are ∙ values_onto-more rest second [] ∙ ap (λ xs. b ∷ values_onto xs []) rest_is ∙ ap (λ (vs : List (Sketch ℕ)). b ∷ vs) (values_onto-more front first []) in
+    ap (after_step lg_k [] (Combine op)) top ∙ ap (λ (v : Sketch ℕ). Some (v ∷ values_onto front [])) (sym value) ∙ ap (λ (vs : List (Sketch ℕ)). Some vs) (sym (ap (λ xs. values_onto xs []) new_is ∙ values_onto-more front sketch []))
+
+value_at : (sketches : List (Compact ℕ)) (i : ℕ) (s : Compact ℕ) → slice_get sketches i ≡ Some s → slice_get (values_of sketches) i ≡ Some (compact_value hash_key s)
+value_at [] i s found = absurd (let none : ◌≡◌ {A = Option (Compact ℕ)} None (Some s) = sym (slice_get_past [] i (omega arith)) ∙ found in cc)
+value_at (t ∷ sketches) zero s found = ap (option_map (compact_value hash_key)) found
+value_at (t ∷ sketches) (suc i) s found = value_at sketches i s found
+
+-- an operand is pushed
+pub operand_run : (lg_k : ℕ) (sketches : List (Compact ℕ)) (step : Step) (i : ℕ) (s same : Compact ℕ) (items new : List (Compact ℕ)) → step ≡ Operand i → slice_get sketches i ≡ Some s → new ≡ items ++ same ∷ [] → compact_value hash_key same ≡ compact_value hash_key s →
+    after_step lg_k (values_of sketches) step (values_onto items []) ≡ Some (values_onto new [])
+operand_run lg_k sketches step i s same items new is found new_is value =
+    ap (λ x. after_step lg_k (values_of sketches) x (values_onto items [])) is ∙ ap (option_map (λ (v : Sketch ℕ). v ∷ values_onto items [])) (value_at sketches i s found)
+    ∙ ap (λ (v : Sketch ℕ). Some (v ∷ values_onto items [])) (sym value) ∙ ap (λ (vs : List (Sketch ℕ)). Some vs) (sym (ap (λ xs. values_onto xs []) new_is ∙ values_onto-more items same []))
+
+-- ---- sketches that are accepted
+
+pub accepted_next : (h : ℕ) (sketches : List (Compact ℕ)) (i : ℕ) (d : Compact ℕ) (b : Bool) → i < length sketches → d ≡ get_or sketches i d → is_accepted h d ≡ b → are_accepted h (drop i sketches) ≡ (b && are_accepted h (drop (i + 1) sketches))
+accepted_next h sketches i d b lt is one =
+    at_drop_more (are_accepted h) sketches i d lt ∙ ap (λ c. c && are_accepted h (drop (i + 1) sketches)) (ap (is_accepted h) (sym is) ∙ one)
+
+pub accepted_end : (h : ℕ) (sketches : List (Compact ℕ)) (i : ℕ) → length sketches ≤ i → are_accepted h (drop i sketches) ≡ true
+accepted_end h sketches i le = at_drop_all (are_accepted h) sketches i le

@@ -1,6 +1,6 @@
 -- Two sketches combined, and when that is refused.
 use Rattle.std.proofs.Common.{◌≡◌, ℕ, ◌^◌, Bool, true, false, cond, List, [], ◌∷◌, ◌++◌, Option, Some, None, Result, Ok, Err, refl, ap, sym, subst, ◌∙◌, arith, inl, inr}
-use Rattle.std.specs.Prelude.{◌⊎◌, ◌==◌, ◌||◌, not, IsTrue, IfErr, MatchOption}
+use Rattle.std.specs.Prelude.{◌⊎◌, ◌==◌, ◌||◌, not, IsTrue, IfOk, IfErr, MatchOption}
 use Rattle.std.proofs.lemmas.Bool.Decides.{nat_tests}
 use Rattle.sketch_base.specs.Seed.{seed_hash}
 use Rattle.sketch_base.specs.declared.error.ErrorKind.{ErrorKind}
@@ -160,3 +160,7 @@ module _ {P : Type 0} (lg_k h : ℕ) (empty one : Union ℕ P) (made : empty ≡
 -- the sketch of a value that is another's
 pub same_answer : (v w : Sketch ℕ) (own h : ℕ) (s : Compact ℕ) → v ≡ w → own ≡ h → IsAnswer hash_key v own true s → IsAnswer hash_key w h true s
 same_answer v w own h s same seed answer = subst (λ (k : ℕ). IsAnswer hash_key w k true s) seed (subst (λ u. IsAnswer hash_key u own true s) same answer)
+
+pub same_answers : (r : Result (Compact ℕ) ErrorKind) (v w : Sketch ℕ) (own h : ℕ) → v ≡ w → own ≡ h → IfOk r (λ s. IsAnswer hash_key v own true s) → IfOk r (λ s. IsAnswer hash_key w h true s)
+same_answers (Ok s) v w own h same seed answer = same_answer v w own h s same seed answer
+same_answers (Err e) v w own h same seed answer = tt

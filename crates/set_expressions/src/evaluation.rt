@@ -36,12 +36,19 @@ fn check_settings(lg_k: u8, seed: u64) -> Result<u16, Error>
     compute_seed_hash(seed, ErrorKind::InvalidArgument)
 }
 
+/// Whether a sketch is empty or of the seed with this hash.
+fn is_accepted<B: Allocator>(hash: u16, sketch: &CompactThetaSketch<B>) -> bool
+    ensures { result ≡ is_accepted hash sketch.now }
+{
+    sketch.is_empty() || hash == sketch.seed_hash()
+}
+
 /// Whether all sketches are empty or of the seed with this hash.
 fn are_accepted<B: Allocator>(hash: u16, sketches: &[CompactThetaSketch<B>]) -> bool
     ensures { result ≡ are_accepted hash sketches.now }
 {
     for sketch in sketches {
-        if !(sketch.is_empty() || hash == sketch.seed_hash()) {
+        if !is_accepted(hash, sketch) {
             return false;
         }
     }
