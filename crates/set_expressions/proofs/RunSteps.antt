@@ -1,10 +1,15 @@
 -- Steps run on a stack give the value of their expression.
-use Rattle.std.proofs.Common.{◌≡◌, ℕ, zero, suc, ◌<◌, ◌≤◌, ◌+◌, Bool, true, false, List, [], ◌∷◌, ◌++◌, length, map, get_or, drop, Option, Some, None, Result, Ok, Err, refl, ap, sym, subst, ◌∙◌, arith, inl, inr, append_assoc, append-nil, add-one, drop-cons}
+use Rattle.std.proofs.Common.{◌≡◌, ℕ, eqb, cond, zero, suc, ◌<◌, ◌≤◌, ◌+◌, Bool, true, false, List, [], ◌∷◌, ◌++◌, length, map, get_or, drop, Option, Some, None, Result, Ok, Err, refl, ap, sym, subst, ◌∙◌, arith, inl, inr, append_assoc, append-nil, add-one, drop-cons}
 use Rattle.std.specs.Prelude.{◌⊎◌, ◌&&◌, IfOk, is_none, is_some, option_map, slice_get}
 use Rattle.std.specs.List.{AllByRecursion}
-use Rattle.std.proofs.lemmas.List.{drop_all, at_drop_more, at_drop_all}
+use Rattle.std.proofs.lemmas.List.{drop_all, at_drop_more, at_drop_all, length-map}
 use Rattle.std.proofs.lemmas.Option.{slice_get-get_or, slice_get_past}
 use Rattle.sketch_base.specs.declared.error.ErrorKind.{ErrorKind}
+use Rattle.sketch_base.specs.declared.error.ErrorKind.TheVariants.{InvalidArgument}
+use Rattle.sketch_base.specs.Seed.{seed_hash}
+use Rattle.core_laws.specs.Settings.{settings_refusal}
+use Rattle.core_laws.specs.declared.TheConstants.{MAX_THETA}
+use Rattle.std.proofs.lemmas.Bool.Decides.{nat_tests}
 use Rattle.core_compact.specs.CompactState.{Compact, compact_value, IsAnswer}
 use Rattle.core_laws.specs.Entries.{hash_key}
 use Rattle.core_laws.specs.Samples.{IsSample}
@@ -14,7 +19,7 @@ use Rattle.expression_text.specs.declared.operator.Step.{Step}
 use Rattle.expression_text.specs.declared.operator.Step.TheVariants.{Operand, Combine}
 use Rattle.expression_text.specs.Expressions.{Expression, Named, Grouped, Combined, postfix, IsWithin}
 use Rattle.set_expressions.specs.Values.{combined, value_of}
-use Rattle.set_expressions.specs.Running.{values_of, sketch_of_value, after_step, after_steps, only_value, result_of, values_onto, AreOrdered, is_accepted, are_accepted}
+use Rattle.set_expressions.specs.Running.{values_of, sketch_of_value, after_step, after_steps, only_value, result_of, values_onto, AreOrdered, is_accepted, are_accepted, evaluation_refusal}
 
 -- the steps of an expression push its value
 steps_run : (lg_k : ℕ) (values : List (Sketch ℕ)) (e : Expression) (rest : List Step) (stack : List (Sketch ℕ)) → IsWithin (length values) e →
@@ -109,3 +114,65 @@ accepted_next h sketches i d b lt is one =
 
 pub accepted_end : (h : ℕ) (sketches : List (Compact ℕ)) (i : ℕ) → length sketches ≤ i → are_accepted h (drop i sketches) ≡ true
 accepted_end h sketches i le = at_drop_all (are_accepted h) sketches i le
+
+-- ---- the end of all steps
+
+none_stays : (lg_k : ℕ) (values : List (Sketch ℕ)) (steps : List Step) → after_steps lg_k values steps None ≡ None
+none_stays lg_k values [] = refl
+none_stays lg_k values (step ∷ steps) = refl
+
+-- a step that can't run leaves no result
+pub step_missing : (lg_k : ℕ) (values : List (Sketch ℕ)) (steps : List Step) (i : ℕ) (d : Step) (stack : List (Sketch ℕ)) → i < length steps → after_steps lg_k values steps (Some []) ≡ after_steps lg_k values (drop i steps) (Some stack) →
+    after_step lg_k values (get_or steps i d) stack ≡ None → result_of lg_k values steps ≡ None
+step_missing lg_k values steps i d stack lt so_far missing =
+    ap only_value (so_far ∙ ap (λ left. after_steps lg_k values left (Some stack)) (split_at steps i d lt) ∙ ap (after_steps lg_k values (drop (i + 1) steps)) missing ∙ none_stays lg_k values (drop (i + 1) steps))
+
+-- all steps have run
+pub all_run : (lg_k : ℕ) (values : List (Sketch ℕ)) (steps : List Step) (i : ℕ) (items rest : List (Compact ℕ)) (last : Compact ℕ) → length steps ≤ i → after_steps lg_k values steps (Some []) ≡ after_steps lg_k values (drop i steps) (Some (values_onto items [])) →
+    items ≡ rest ++ last ∷ [] → after_steps lg_k values steps (Some []) ≡ Some (compact_value hash_key last ∷ values_onto rest [])
+all_run lg_k values steps i items rest last le so_far is =
+    so_far ∙ ap (λ left. after_steps lg_k values left (Some (values_onto items []))) (drop_all i steps le) ∙ ap (λ xs. Some (values_onto xs [])) is ∙ ap (λ (vs : List (Sketch ℕ)). Some vs) (values_onto-more rest last [])
+
+onto_some : (sketches : List (Compact ℕ)) (v : Sketch ℕ) (stack : List (Sketch ℕ)) → (w : Sketch ℕ) × (ws : List (Sketch ℕ)) × (values_onto sketches (v ∷ stack) ≡ w ∷ ws)
+onto_some [] v stack = (v, stack, refl)
+onto_some (s ∷ sketches) v stack = onto_some sketches (compact_value hash_key s) (v ∷ stack)
+
+pub many_left : (rest : List (Compact ℕ)) (w : Sketch ℕ) → false ≡ eqb (length rest) 0 → only_value (Some (w ∷ values_onto rest [])) ≡ None
+many_left [] w some = absurd (cc)
+many_left (s ∷ rest) w some = let more = onto_some rest (compact_value hash_key s) [] in ap (λ vs. only_value (Some (w ∷ vs))) more.2
+
+pub one_left : (rest : List (Compact ℕ)) (w : Sketch ℕ) → true ≡ eqb (length rest) 0 → only_value (Some (w ∷ values_onto rest [])) ≡ Some w
+one_left [] w none = refl
+one_left (s ∷ rest) w none = absurd (let e : eqb (length (s ∷ rest)) 0 ≡ true = sym none in grind (arith, nat_tests))
+
+first_value : Option (List (Sketch ℕ)) → Sketch ℕ
+first_value None = Empty
+first_value (Some []) = Empty
+first_value (Some (v ∷ stack)) = v
+
+-- the last value is that of the expression
+pub last_value : (lg_k : ℕ) (sketches : List (Compact ℕ)) (steps : List Step) (last : Compact ℕ) (stack : List (Sketch ℕ)) (e : Expression) → after_steps lg_k (values_of sketches) steps (Some []) ≡ Some (compact_value hash_key last ∷ stack) →
+    steps ≡ postfix e → IsWithin (length sketches) e → compact_value hash_key last ≡ value_of lg_k (values_of sketches) e
+unfolding first_value
+last_value lg_k sketches steps last stack e ran is within =
+    let inside : IsWithin (length (values_of sketches)) e = subst (λ (n : ℕ). IsWithin n e) (sym (length-map sketches (λ s. compact_value hash_key s))) within in
+    ap first_value (sym ran ∙ ap (λ xs. after_steps lg_k (values_of sketches) xs (Some [])) is ∙ expression_result lg_k (values_of sketches) e inside)
+
+-- ---- refusals
+
+refused_none : (b : Bool) → cond (b && false) None (Some InvalidArgument) ≡ Some InvalidArgument
+refused_none true = refl
+refused_none false = refl
+
+-- steps without a result are refused
+pub no_result : (seed lg_k : ℕ) (steps : List Step) (sketches : List (Compact ℕ)) → result_of lg_k (values_of sketches) steps ≡ None → evaluation_refusal seed lg_k steps sketches ≡ Some InvalidArgument
+no_result seed lg_k steps sketches none =
+    ap (λ o. cond (is_none (settings_refusal lg_k MAX_THETA seed) && are_accepted (seed_hash seed) sketches && is_some o) None (Some InvalidArgument)) none
+    ∙ refused_none (is_none (settings_refusal lg_k MAX_THETA seed) && are_accepted (seed_hash seed) sketches)
+
+accepted_some : (o : Option ErrorKind) (b : Bool) (r : Option (Sketch ℕ)) (v : Sketch ℕ) → o ≡ None → b ≡ true → r ≡ Some v → cond (is_none o && b && is_some r) None (Some InvalidArgument) ≡ None
+accepted_some o b r v settings accepted has = rw (settings, accepted, has) refl
+
+pub one_result : (seed lg_k : ℕ) (steps : List Step) (sketches : List (Compact ℕ)) (v : Sketch ℕ) → settings_refusal lg_k MAX_THETA seed ≡ None → are_accepted (seed_hash seed) sketches ≡ true → result_of lg_k (values_of sketches) steps ≡ Some v →
+    evaluation_refusal seed lg_k steps sketches ≡ None
+one_result seed lg_k steps sketches v settings accepted has = accepted_some (settings_refusal lg_k MAX_THETA seed) (are_accepted (seed_hash seed) sketches) (result_of lg_k (values_of sketches) steps) v settings accepted has

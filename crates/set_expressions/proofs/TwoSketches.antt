@@ -31,6 +31,9 @@ only_memory refusal takes_memory e none (inr memory) = memory
 pub refuses_memory : {T : Type 0} (r : Result T ErrorKind) (refusal : Option ErrorKind) (e : ErrorKind) → r ≡ Err e → e ≡ OutOfMemory → Refuses r refusal true
 refuses_memory r refusal e is memory = subst (λ s. Refuses s refusal true) (sym is) (inr (memory, refl))
 
+pub refuses_kind : {T : Type 0} (r : Result T ErrorKind) (refusal : Option ErrorKind) (e : ErrorKind) → r ≡ Err e → refusal ≡ Some e → Refuses r refusal true
+refuses_kind r refusal e is kind = subst (λ s. Refuses s refusal true) (sym is) (inl kind)
+
 -- settings in range have a seed that is accepted
 pub seed_accepted : (lg_k seed : ℕ) → settings_refusal lg_k MAX_THETA seed ≡ None → seed_refusal seed ≡ None
 seed_accepted lg_k seed none = let h : ℕ = seed_hash seed in grind (arith, nat_tests)

@@ -304,7 +304,7 @@ pub fn evaluate<A: Allocator + Clone + Drop, B: Allocator>(
     let Some(last) = stack.pop() else {
         return Err(Error::new(ErrorKind::InvalidArgument));
     };
-    if !stack.is_empty() {
+    if !stack.as_slice().is_empty() {
         return Err(Error::new(ErrorKind::InvalidArgument));
     }
     Ok(last)

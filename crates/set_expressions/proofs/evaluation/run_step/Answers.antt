@@ -14,4 +14,8 @@ returns-in_ok-push-in-Operand-clause-ordered g c =
     (ordered-more h c.args.stack.now.items same c.requires.ordered (answer_own (compact_value hash_key c.in-Some.sketch.now) h same c.in_ok-same-in-Operand.ensures.value))
 
 pub returns-in_ok-push-in-Operand-clause-ran : goal.returns-in_ok-push-in-Operand-clause-ran
-returns-in_ok-push-in-Operand-clause-ran g c = ?
+returns-in_ok-push-in-Operand-clause-ran g c =
+    let same = c.in_ok-same-in-Operand.same in
+    let s = c.in-Some.sketch.now in
+    operand_run c.args.lg_k c.args.sketches.now c.args.step c.in-Operand.index s same c.args.stack.now.items c.push.new.self.items c.in-Operand.is (sym c.in-Some.ensures.lookup) c.in_ok-push-in-Operand.ensures.items
+    (answer_value (compact_value hash_key s) (seed_hash c.args.seed) true same c.in_ok-same-in-Operand.ensures.value)
