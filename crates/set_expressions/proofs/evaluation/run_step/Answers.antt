@@ -1,4 +1,5 @@
-use Rattle.std.proofs.Common.{true, sym, subst, ap, ◌∙◌}
+use Rattle.std.proofs.Common.{true, length, refl, sym, subst}
+use Rattle.std.proofs.lemmas.Option.{slice_get_read}
 use Rattle.sketch_base.specs.Seed.{seed_hash}
 use Rattle.core_compact.specs.CompactState.{compact_value}
 use Rattle.core_laws.specs.Entries.{hash_key}
@@ -17,5 +18,6 @@ pub returns-in_ok-push-in-Operand-clause-ran : goal.returns-in_ok-push-in-Operan
 returns-in_ok-push-in-Operand-clause-ran g c =
     let same = c.in_ok-same-in-Operand.same in
     let s = c.in-Some.sketch.now in
-    operand_run c.args.lg_k c.args.sketches.now c.args.step c.in-Operand.index s same c.args.stack.now.items c.push.new.self.items c.in-Operand.is (sym c.in-Some.ensures.lookup) c.in_ok-push-in-Operand.ensures.items
+    let look = c.in-Some.ensures.lookup in
+    operand_run c.args.lg_k c.args.sketches.now c.args.step c.in-Operand.index s same c.args.stack.now.items c.push.new.self.items c.in-Operand.is (slice_get_read c.args.sketches.now (length c.args.sketches.now) c.in-Operand.index s refl look.3.0 look.1) c.in_ok-push-in-Operand.ensures.items
     (answer_value (compact_value hash_key s) (seed_hash c.args.seed) true same c.in_ok-same-in-Operand.ensures.value)
