@@ -22,7 +22,9 @@ use core_laws::{MAX_LG_K, MIN_LG_K};
 use expression_text::{Operator, Step};
 use sketch_base::{Error, ErrorKind, compute_seed_hash};
 use std::alloc::{AllocError, Allocator};
-use theta_sketches::{CompactThetaSketch, ThetaANotB, ThetaIntersection, ThetaUnion, ThetaUnionBuilder};
+use theta_sketches::{
+    CompactThetaSketch, ThetaANotB, ThetaIntersection, ThetaUnion, ThetaUnionBuilder,
+};
 
 /// Refuses an `lg_k` that isn't from 4 to 26, and a seed whose seed hash is 0, with `InvalidArgument`.
 fn check_settings(lg_k: u8, seed: u64) -> Result<u16, Error>

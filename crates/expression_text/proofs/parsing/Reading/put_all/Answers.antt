@@ -19,7 +19,7 @@ each-preserved g c =
           let has = c.each.invariant.read reading in
           let one = at_some _ _ c.in-Ok-Some.field-0 c.in-Ok-Some.behind c.in-Ok-Some.field-0-is (c.in-Ok-Some.ensures.token has.tokens has.reading) in
           token_more c.args.text.now c.each.rest.now (map (λ v. v.items) s.names.items) s.pending.items s.steps.items s.levels s.after_operand has one.0 behind next.result.now
-              (map (λ v. v.items) t.names.items) t.pending.items t.steps.items t.levels t.after_operand one.1 next.ensures one.2;
+          (map (λ v. v.items) t.names.items) t.pending.items t.steps.items t.levels t.after_operand one.1 next.ensures one.2;
       within = omega (arith, rest_shorter behind next.result.now next.ensures, if_some _ c.in-Ok-Some.field-0 c.in-Ok-Some.behind c.in-Ok-Some.field-0-is c.in-Ok-Some.ensures.shorter, c.each.invariant.within);
     }
 
