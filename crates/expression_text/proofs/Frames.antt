@@ -1,5 +1,5 @@
 -- What is pending between two tokens, from one token to the next.
-use Rattle.std.proofs.Common.{◌≡◌, ◌≢◌, ℕ, ◌<◌, ◌≤◌, ◌+◌, ◌-◌, max, Bool, true, false, List, [], ◌∷◌, ◌++◌, length, get_or, refl, ap, sym, subst, ◌∙◌, arith, append_assoc, append-nil}
+use Rattle.std.proofs.Common.{◌≡◌, ℕ, ◌<◌, ◌≤◌, ◌+◌, Bool, true, false, List, [], ◌∷◌, ◌++◌, length, get_or, refl, ap, sym, subst, ◌∙◌, arith, append_assoc, append-nil}
 use Rattle.std.proofs.lemmas.List.{same_from_push, get_or_append_left, nil_from_length, length-map, get_or-map}
 use Rattle.std.proofs.lemmas.Slice.Eq.{bytes_eq-Decides}
 use Rattle.std.specs.Str.{bytes_eq}
@@ -12,10 +12,10 @@ use Rattle.expression_text.specs.declared.operator.Step.{Step}
 use Rattle.expression_text.specs.declared.operator.Step.TheVariants.{Operand, Combine}
 use Rattle.expression_text.specs.declared.parsing.Pending.{Pending}
 use Rattle.expression_text.specs.declared.parsing.Pending.TheVariants.{Group, Sign}
-use Rattle.expression_text.specs.Expressions.{Expression, Named, Grouped, Combined, postfix, IsWithin}
-use Rattle.expression_text.specs.Grammar.{tokens_of, strength, level, IsBound, depth, most_levels, IsSpelled}
+use Rattle.expression_text.specs.Expressions.{Expression, Named, Grouped, Combined, postfix}
+use Rattle.expression_text.specs.Grammar.{tokens_of, strength, level, IsSpelled}
 use Rattle.expression_text.specs.Tokens.{Lexeme, name, sign, opening, closing, IsText}
-use Rattle.expression_text.specs.Reading.{HasName, IsIndexed, Frame, group, left, pending_of, tokens_before, steps_before, open_groups, IsAbove, IsOperand, AreFrames, LacksSign, AreAround, WantsOperand, HasOperand, IsSettled, IsReading}
+use Rattle.expression_text.specs.Reading.{HasName, IsIndexed, Frame, group, left, pending_of, tokens_before, steps_before, open_groups, IsAbove, IsOperand, AreFrames, LacksSign, WantsOperand, HasOperand, IsSettled, IsReading}
 
 -- ---- the last one pending
 

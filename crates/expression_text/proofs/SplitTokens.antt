@@ -1,9 +1,9 @@
 -- Tokens at the front of a text.
-use Rattle.std.proofs.Common.{◌≡◌, ◌≢◌, ℕ, eqb, ◌<◌, ◌≤◌, ◌+◌, Bool, true, false, List, [], ◌∷◌, ◌++◌, length, get_or, refl, ap, sym, subst, ◌∙◌, arith, inl, inr, append_assoc, append-nil, length-append}
+use Rattle.std.proofs.Common.{◌≡◌, ◌≢◌, ℕ, eqb, ◌<◌, ◌≤◌, Bool, true, false, List, [], ◌∷◌, ◌++◌, length, get_or, refl, ap, sym, subst, ◌∙◌, arith, inl, inr, append_assoc, append-nil, length-append}
 use Rattle.std.proofs.lemmas.List.{get_or_append_left}
 use Rattle.std.proofs.Math.Seq.{get_or-append_seam}
 use Rattle.std.specs.Prelude.{◌⊎◌, Option, Some, None, MatchOption, IfSome}
-use Rattle.expression_text.specs.Tokens.{Lexeme, name, sign, opening, closing, is_blank, is_word_byte, AreAll, Lacks, BeginsWord, Spells, IsToken, IsAfterBlanks, IsSplitWord, Begins, IsText}
+use Rattle.expression_text.specs.Tokens.{Lexeme, name, sign, opening, closing, is_blank, is_word_byte, AreAll, Lacks, BeginsWord, Spells, IsToken, IsAfterBlanks, IsSplitWord, IsText}
 use Rattle.expression_text.specs.declared.operator.Operator.{Operator}
 use Rattle.expression_text.specs.declared.operator.Operator.TheVariants.{Union, Intersection, Difference}
 use Rattle.expression_text.specs.declared.operator.Step.{Step}

@@ -1,7 +1,6 @@
 -- Steps run on a stack give the value of their expression.
-use Rattle.std.proofs.Common.{◌≡◌, ℕ, eqb, cond, zero, suc, ◌<◌, ◌≤◌, ◌+◌, Bool, true, false, List, [], ◌∷◌, ◌++◌, length, map, get_or, drop, Option, Some, None, Result, Ok, Err, refl, ap, sym, subst, ◌∙◌, arith, inl, inr, append_assoc, append-nil, add-one, drop-cons}
-use Rattle.std.specs.Prelude.{◌⊎◌, ◌&&◌, IfOk, is_none, is_some, option_map, slice_get}
-use Rattle.std.specs.List.{AllByRecursion}
+use Rattle.std.proofs.Common.{◌≡◌, ℕ, eqb, cond, zero, suc, ◌<◌, ◌≤◌, ◌+◌, Bool, true, false, List, [], ◌∷◌, ◌++◌, length, get_or, drop, Option, Some, None, refl, ap, sym, subst, ◌∙◌, arith, append_assoc, append-nil, add-one, drop-cons}
+use Rattle.std.specs.Prelude.{◌&&◌, is_none, is_some, option_map, slice_get}
 use Rattle.std.proofs.lemmas.List.{drop_all, at_drop_more, at_drop_all, length-map}
 use Rattle.std.proofs.lemmas.Option.{slice_get-get_or, slice_get_past}
 use Rattle.sketch_base.specs.declared.error.ErrorKind.{ErrorKind}
@@ -12,7 +11,6 @@ use Rattle.core_laws.specs.declared.TheConstants.{MAX_THETA}
 use Rattle.std.proofs.lemmas.Bool.Decides.{nat_tests}
 use Rattle.core_compact.specs.CompactState.{Compact, compact_value, IsAnswer}
 use Rattle.core_laws.specs.Entries.{hash_key}
-use Rattle.core_laws.specs.Samples.{IsSample}
 use Rattle.core_laws.specs.Values.{Sketch, Empty, NonEmpty}
 use Rattle.expression_text.specs.declared.operator.Operator.{Operator}
 use Rattle.expression_text.specs.declared.operator.Step.{Step}

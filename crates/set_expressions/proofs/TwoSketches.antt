@@ -1,11 +1,11 @@
 -- Two sketches combined, and when that is refused.
 use Rattle.std.proofs.Common.{◌≡◌, ℕ, ◌^◌, Bool, true, false, cond, List, [], ◌∷◌, ◌++◌, Option, Some, None, Result, Ok, Err, refl, ap, sym, subst, ◌∙◌, arith, inl, inr}
-use Rattle.std.specs.Prelude.{◌⊎◌, ◌==◌, ◌||◌, not, IsTrue, IfOk, IfErr, MatchOption}
+use Rattle.std.specs.Prelude.{◌⊎◌, ◌==◌, ◌||◌, not, IsTrue, IfOk, MatchOption}
 use Rattle.std.proofs.lemmas.Bool.Decides.{nat_tests}
 use Rattle.sketch_base.specs.Seed.{seed_hash}
 use Rattle.sketch_base.specs.declared.error.ErrorKind.{ErrorKind}
 use Rattle.sketch_base.specs.declared.error.ErrorKind.TheVariants.{OutOfMemory, InvalidArgument, Failed}
-use Rattle.core_compact.specs.CompactState.{Compact, compact_value, shown_of, IsAnswer}
+use Rattle.core_compact.specs.CompactState.{Compact, shown_of, IsAnswer}
 use Rattle.core_laws.specs.Maps.{map_of}
 use Rattle.core_laws.specs.Entries.{hash_key, first_hash}
 use Rattle.core_laws.specs.Operators.{unite, unite_nonempty, meet, meet_next}
@@ -18,7 +18,6 @@ use Rattle.core_laws.proofs.operators.Unions.{nonempties-more, union_of_union}
 use Rattle.core_operators.specs.ANotB.{difference_refusal}
 use Rattle.core_operators.specs.Intersection.{Intersection, is_settled, intersect_refusal, seed_refusal, IsAnswerIfAny}
 use Rattle.core_operators.specs.Union.{Union, union_value, empty_union, update_refusal}
-use Rattle.set_expressions.specs.Values.{combined}
 use Rattle.set_expressions.specs.Running.{is_accepted}
 
 -- ---- refusals

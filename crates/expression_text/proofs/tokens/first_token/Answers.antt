@@ -1,6 +1,3 @@
-use Rattle.std.proofs.Common.{◌≡◌, ◌∷◌, refl, ap, ◌∙◌, inl, inr}
-use Rattle.expression_text.specs.Tokens.{sign}
-use Rattle.expression_text.specs.declared.operator.Operator.TheVariants.{Union}
 use Rattle.expression_text.proofs.SplitTokens.{either_union}
 use Rattle.expression_text.proofs.tokens.first_token.Goals as goal
 

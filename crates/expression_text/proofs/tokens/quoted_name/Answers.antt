@@ -1,5 +1,3 @@
-use Rattle.std.proofs.Common.{◌≡◌, List, [], length, ap, ◌∙◌, arith}
-use Rattle.std.proofs.lemmas.Bool.Decides.{nat_tests}
 use Rattle.expression_text.proofs.SplitTokens.{quoted, not_nil}
 use Rattle.expression_text.proofs.tokens.quoted_name.Goals as goal
 

@@ -1,4 +1,4 @@
-use Rattle.std.proofs.Common.{◌≡◌, ◌++◌, take, sym, ap, ◌∙◌, arith, length-take-le, take-append-drop}
+use Rattle.std.proofs.Common.{◌++◌, take, sym, ap, ◌∙◌, arith, length-take-le, take-append-drop}
 use Rattle.expression_text.proofs.SplitTokens.{blanks_before, blanks_alone}
 use Rattle.expression_text.proofs.tokens.skip_blanks.Goals as goal
 

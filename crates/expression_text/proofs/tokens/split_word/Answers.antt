@@ -1,6 +1,6 @@
-use Rattle.std.proofs.Common.{◌≡◌, ◌++◌, take, get_or, false, sym, ap, ◌∙◌, arith, length-take-le, take-append-drop}
+use Rattle.std.proofs.Common.{◌≡◌, get_or, false, sym, ◌∙◌}
 use Rattle.expression_text.specs.Tokens.{is_word_byte}
-use Rattle.expression_text.proofs.SplitTokens.{word_before, word_alone}
+use Rattle.expression_text.proofs.SplitTokens.{word_before}
 use Rattle.expression_text.proofs.tokens.split_word.Goals as goal
 
 pub returns-then-not-is_word_byte : goal.returns-then-not-is_word_byte

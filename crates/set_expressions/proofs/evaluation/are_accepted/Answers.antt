@@ -1,4 +1,4 @@
-use Rattle.std.proofs.Common.{◌≡◌, true, false, sym, ap, ◌∙◌}
+use Rattle.std.proofs.Common.{true, false, sym, ◌∙◌}
 use Rattle.set_expressions.proofs.RunSteps.{accepted_next, accepted_end}
 use Rattle.set_expressions.proofs.evaluation.are_accepted.Goals as goal
 

@@ -1,10 +1,10 @@
-use Rattle.std.proofs.Common.{◌≡◌, [], true, false, eqb, length, Some, None, inl, inr, ap, sym, subst, ◌∙◌}
+use Rattle.std.proofs.Common.{◌≡◌, [], true, false, eqb, length, Some, inl, inr, ap, sym, subst, ◌∙◌}
 use Rattle.std.proofs.lemmas.Result.{err_from_is_err_and}
 use Rattle.sketch_base.specs.Seed.{seed_hash}
 use Rattle.core_compact.specs.CompactState.{compact_value}
 use Rattle.core_laws.specs.Entries.{hash_key}
 use Rattle.core_laws.specs.Samples.{IsSample}
-use Rattle.set_expressions.specs.Values.{set_of, value_of}
+use Rattle.set_expressions.specs.Values.{set_of}
 use Rattle.set_expressions.specs.Running.{values_of, values_onto, sketch_of_value, only_value, are_accepted, evaluation_refusal}
 use Rattle.set_expressions.proofs.RunSteps.{step_missing, all_run, many_left, one_left, last_value, no_result, one_result, answer_sketch, ordered-last}
 use Rattle.set_expressions.specs.Running.{AreOrdered}

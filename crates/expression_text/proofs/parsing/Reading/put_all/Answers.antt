@@ -1,4 +1,4 @@
-use Rattle.std.proofs.Common.{map, ◌≤◌, length, arith}
+use Rattle.std.proofs.Common.{map, arith}
 use Rattle.expression_text.proofs.SplitTokens.{nothing_before, token_more, all_tokens, rest_shorter, at_some, at_none, if_some}
 use Rattle.expression_text.proofs.parsing.Reading.put_all.Goals as goal
 
