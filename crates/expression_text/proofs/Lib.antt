@@ -1,0 +1,2 @@
+pub mod SplitTokens
+pub mod Frames

@@ -1,0 +1,4 @@
+pub mod Expressions
+pub mod Tokens
+pub mod Grammar
+pub mod Reading

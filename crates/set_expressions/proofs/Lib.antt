@@ -1,0 +1,3 @@
+pub mod WholeSets
+pub mod RunSteps
+pub mod TwoSketches

@@ -1,0 +1,168 @@
+-- Two sketches combined, and when that is refused.
+use Rattle.std.proofs.Common.{◌≡◌, ℕ, ◌^◌, Bool, true, false, cond, List, [], ◌∷◌, ◌++◌, Option, Some, None, Result, Ok, Err, refl, ap, sym, subst, ◌∙◌, arith, inl, inr}
+use Rattle.std.specs.Prelude.{◌⊎◌, ◌==◌, ◌||◌, not, IsTrue, IfOk, MatchOption}
+use Rattle.std.proofs.lemmas.Bool.Decides.{nat_tests}
+use Rattle.sketch_base.specs.Seed.{seed_hash}
+use Rattle.sketch_base.specs.declared.error.ErrorKind.{ErrorKind}
+use Rattle.sketch_base.specs.declared.error.ErrorKind.TheVariants.{OutOfMemory, InvalidArgument, Failed}
+use Rattle.core_compact.specs.CompactState.{Compact, shown_of, IsAnswer}
+use Rattle.core_laws.specs.Maps.{map_of}
+use Rattle.core_laws.specs.Entries.{hash_key, first_hash}
+use Rattle.core_laws.specs.Operators.{unite, unite_nonempty, meet, meet_next}
+use Rattle.core_laws.specs.Refusal.{Refuses}
+use Rattle.core_laws.specs.Settings.{settings_refusal}
+use Rattle.core_laws.specs.Shown.{Shown, shown_value}
+use Rattle.core_laws.specs.Values.{Sketch, Empty, NonEmpty}
+use Rattle.core_laws.specs.declared.TheConstants.{MAX_THETA}
+use Rattle.core_laws.proofs.operators.Unions.{nonempties-more, union_of_union}
+use Rattle.core_operators.specs.ANotB.{difference_refusal}
+use Rattle.core_operators.specs.Intersection.{Intersection, is_settled, intersect_refusal, seed_refusal, IsAnswerIfAny}
+use Rattle.core_operators.specs.Union.{Union, union_value, empty_union, update_refusal}
+use Rattle.set_expressions.specs.Running.{is_accepted}
+
+-- ---- refusals
+
+-- if nothing is refused, only memory can be
+pub only_memory : (refusal : Option ErrorKind) (takes_memory : Bool) (e : ErrorKind) → refusal ≡ None → (refusal ≡ Some e) ⊎ ((e ≡ OutOfMemory) × IsTrue takes_memory) → (e ≡ OutOfMemory) × IsTrue takes_memory
+only_memory refusal takes_memory e none (inl is) = let both : None ≡ Some e = sym none ∙ is in absurd (cc)
+only_memory refusal takes_memory e none (inr memory) = memory
+
+pub refuses_memory : {T : Type 0} (r : Result T ErrorKind) (refusal : Option ErrorKind) (e : ErrorKind) → r ≡ Err e → e ≡ OutOfMemory → Refuses r refusal true
+refuses_memory r refusal e is memory = subst (λ s. Refuses s refusal true) (sym is) (inr (memory, refl))
+
+pub refuses_kind : {T : Type 0} (r : Result T ErrorKind) (refusal : Option ErrorKind) (e : ErrorKind) → r ≡ Err e → refusal ≡ Some e → Refuses r refusal true
+refuses_kind r refusal e is kind = subst (λ s. Refuses s refusal true) (sym is) (inl kind)
+
+-- settings in range have a seed that is accepted
+pub seed_accepted : (lg_k seed : ℕ) → settings_refusal lg_k MAX_THETA seed ≡ None → seed_refusal seed ≡ None
+seed_accepted lg_k seed none = let h : ℕ = seed_hash seed in grind (arith, nat_tests)
+
+memory_of_update : (A B : Type 0) (o : Option ErrorKind) (e : ErrorKind) → o ≡ None → MatchOption o (A × B × (e ≡ OutOfMemory)) (λ kind. e ≡ kind) → e ≡ OutOfMemory
+memory_of_update A B None e none refused = refused.2
+memory_of_update A B (Some kind) e none refused = absurd (cc)
+
+accepts_one : (settled empty : Bool) (x y : ℕ) → (empty || x == y) ≡ true → cond (settled || empty) None (cond (x == y) None (Some InvalidArgument)) ≡ None
+accepts_one true empty x y accepted = refl
+accepts_one false true x y accepted = refl
+accepts_one false false x y accepted = rw accepted refl
+
+-- an intersection accepts a sketch that is empty or of its seed
+pub intersection_accepts : {P : Type 0} (i : Intersection ℕ P) (s : Compact ℕ) (shows : Shown) (h : ℕ) → i.seed_hash ≡ h → shows ≡ shown_of hash_key s → is_accepted h s ≡ true → intersect_refusal i shows ≡ None
+intersection_accepts i s shows h seed is accepted = ap (intersect_refusal i) is ∙ ap (λ k. cond (is_settled i.result || s.empty) None (cond (k == s.seed_hash) None (Some InvalidArgument))) seed ∙ accepts_one (is_settled i.result) s.empty h s.seed_hash accepted
+
+pub intersection_memory : {P : Type 0} (i : Intersection ℕ P) (shows : Shown) (e : ErrorKind) → intersect_refusal i shows ≡ None → MatchOption (intersect_refusal i shows) ((shows.empty ≡ false) × (is_settled i.result ≡ false) × (e ≡ OutOfMemory)) (λ kind. e ≡ kind) → e ≡ OutOfMemory
+intersection_memory i shows e none refused = memory_of_update (shows.empty ≡ false) (is_settled i.result ≡ false) (intersect_refusal i shows) e none refused
+
+own_one : (empty : Bool) (h x : ℕ) → x ≡ h → (empty || h == x) ≡ true
+own_one true h x seed = refl
+own_one false h x seed = grind (arith, nat_tests)
+
+-- a sketch of a seed is accepted by it
+pub own_seed : (h : ℕ) (s : Compact ℕ) → s.seed_hash ≡ h → is_accepted h s ≡ true
+own_seed h s seed = own_one s.empty h s.seed_hash seed
+
+union_one : (failed empty : Bool) (x y : ℕ) → failed ≡ false → x ≡ y → cond failed (Some Failed) (cond empty None (cond (x == y) None (Some InvalidArgument))) ≡ None
+union_one failed true x y sound same = rw sound refl
+union_one failed false x y sound same = grind (arith, nat_tests)
+
+-- a union accepts a sketch of its seed
+pub union_accepts : {P : Type 0} (u : Union ℕ P) (s : Compact ℕ) (shows : Shown) (h : ℕ) → u.failed ≡ false → u.seed_hash ≡ h → s.seed_hash ≡ h → shows ≡ shown_of hash_key s → update_refusal u shows ≡ None
+union_accepts u s shows h sound seed own is = ap (update_refusal u) is ∙ union_one u.failed s.empty u.seed_hash s.seed_hash sound (seed ∙ sym own)
+
+memory_of_union : (A B C : Type 0) (o : Option ErrorKind) (e : ErrorKind) → o ≡ None → MatchOption o (A × (e ≡ OutOfMemory) × B) (λ kind. (e ≡ kind) × C) → e ≡ OutOfMemory
+memory_of_union A B C None e none refused = refused.1
+memory_of_union A B C (Some kind) e none refused = absurd (cc)
+
+pub union_memory : {P : Type 0} (old new : Union ℕ P) (shows : Shown) (e : ErrorKind) → update_refusal old shows ≡ None →
+    MatchOption (update_refusal old shows) ((shows.empty ≡ false) × (e ≡ OutOfMemory) × (new ≡ record old { failed = true; held = new.held })) (λ kind. (e ≡ kind) × (new ≡ old)) → e ≡ OutOfMemory
+union_memory old new shows e none refused = memory_of_union (shows.empty ≡ false) (new ≡ record old { failed = true; held = new.held }) (new ≡ old) (update_refusal old shows) e none refused
+
+difference_one : (h x y : ℕ) (first second : Bool) → x ≡ h → y ≡ h → cond first None (cond (not (h == x)) (Some InvalidArgument) (cond second None (cond (not (h == y)) (Some InvalidArgument) None))) ≡ None
+difference_one h x y true second one two = refl
+difference_one h x y false true one two = grind (arith, nat_tests)
+difference_one h x y false false one two = grind (arith, nat_tests)
+
+-- a difference accepts sketches of its seed
+pub difference_accepts : (h : ℕ) (first second : Compact ℕ) (a b : Shown) → first.seed_hash ≡ h → second.seed_hash ≡ h → a ≡ shown_of hash_key first → b ≡ shown_of hash_key second → difference_refusal h a b ≡ None
+difference_accepts h first second a b one two is_a is_b = ap (λ s. difference_refusal h s b) is_a ∙ ap (difference_refusal h (shown_of hash_key first)) is_b ∙ difference_one h first.seed_hash second.seed_hash first.empty second.empty one two
+
+-- ---- intersections
+
+pub one_met : (v : Sketch ℕ) → meet hash_key first_hash (v ∷ []) ≡ v
+one_met Empty = refl
+one_met (NonEmpty v) = refl
+
+-- the result of an intersection with one sketch
+pub met_one : (o now : Option (Sketch ℕ)) (v w : Sketch ℕ) → o ≡ None → now ≡ Some (meet_next hash_key first_hash o v) → v ≡ w → now ≡ Some w
+met_one o now v w none met same = met ∙ ap (λ (p : Option (Sketch ℕ)). Some (meet_next hash_key first_hash p v)) none ∙ ap (λ (u : Sketch ℕ). Some u) (one_met v ∙ same)
+
+-- and with one more
+pub met_two : (o now : Option (Sketch ℕ)) (a v b : Sketch ℕ) → o ≡ Some a → now ≡ Some (meet_next hash_key first_hash o v) → v ≡ b → ◌≡◌ {A = Option (Sketch ℕ)} now (Some (meet hash_key first_hash (a ∷ b ∷ [])))
+met_two o now a v b one met same = met ∙ ap (λ (p : Option (Sketch ℕ)). Some (meet_next hash_key first_hash p v)) one ∙ ap (λ (u : Sketch ℕ). Some (meet hash_key first_hash (a ∷ u ∷ []))) same
+
+some_answer : (o : Option (Sketch ℕ)) (v : Sketch ℕ) (h : ℕ) (s : Compact ℕ) → o ≡ Some v → IsAnswerIfAny hash_key o h true (Some s) → IsAnswer hash_key v h true s
+some_answer o v h s is answer = let A : Option (Sketch ℕ) → Type 0 = λ p. IsAnswerIfAny hash_key p h true (Some s) in subst A is answer
+
+-- the sketch of an intersection's result
+pub result_answer : (o : Option (Sketch ℕ)) (h : ℕ) (r : Option (Compact ℕ)) (s : Compact ℕ) → r ≡ Some s → IsAnswerIfAny hash_key o h true r → (v : Sketch ℕ) → o ≡ Some v → IsAnswer hash_key v h true s
+result_answer o h r s has answer v is =
+    let R : Option (Compact ℕ) → Type 0 = λ q. IsAnswerIfAny hash_key o h true q in
+    some_answer o v h s is (subst R has answer)
+
+-- ---- unions
+
+abbrev Joins : {P : Type 0} → (old new : Union ℕ P) → Sketch ℕ → Type 0
+Joins old new Empty = new ≡ old
+Joins old new (NonEmpty v) = union_value hash_key new ≡ unite hash_key first_hash (2 ^ old.lg_k) old.start (union_value hash_key old ∷ NonEmpty v ∷ [])
+
+joins_shown : {P : Type 0} (old new : Union ℕ P) (s : Shown) (listing : List ℕ) → (s.empty ≡ true → new ≡ old) →
+    (s.empty ≡ false → union_value hash_key new ≡ unite hash_key first_hash (2 ^ old.lg_k) old.start (union_value hash_key old ∷ shown_value hash_key s listing ∷ [])) → Joins old new (shown_value hash_key s listing)
+joins_shown old new s listing skipped united =
+    (elim s.empty as (λ b. s.empty ≡ b → Joins old new (cond b Empty (NonEmpty (record { entries = map_of hash_key listing; theta = s.theta })))) [
+      | true ↦ λ e. skipped e
+      | false ↦ λ e. united e ∙ ap (λ b. unite hash_key first_hash (2 ^ old.lg_k) old.start (union_value hash_key old ∷ cond b Empty (NonEmpty (record { entries = map_of hash_key listing; theta = s.theta })) ∷ [])) e
+    ]) refl
+
+joined_next : {P : Type 0} (old new : Union ℕ P) (values : List (Sketch ℕ)) (v : Sketch ℕ) → union_value hash_key old ≡ unite hash_key first_hash (2 ^ old.lg_k) old.start values → Joins old new v →
+    union_value hash_key new ≡ unite hash_key first_hash (2 ^ old.lg_k) old.start (values ++ v ∷ [])
+joined_next old new values Empty so_far join = ap (union_value hash_key) join ∙ so_far ∙ sym (ap (unite_nonempty hash_key first_hash (2 ^ old.lg_k) old.start) (nonempties-more values))
+joined_next old new values (NonEmpty v) so_far join =
+    join ∙ ap (λ u. unite hash_key first_hash (2 ^ old.lg_k) old.start (u ∷ NonEmpty v ∷ [])) so_far
+    ∙ sym (union_of_union hash_key first_hash (λ x y same. same) (2 ^ old.lg_k) old.start values (NonEmpty v))
+
+abbrev by : (lg_k start : ℕ) → List (Sketch ℕ) → Sketch ℕ
+by lg_k start values = unite hash_key first_hash (2 ^ lg_k) start values
+
+-- the value of a union after one more sketch
+pub one_more : {P : Type 0} (old new : Union ℕ P) (s : Shown) (listing : List ℕ) (w : Sketch ℕ) → (s.empty ≡ true → new ≡ old) →
+    (s.empty ≡ false → union_value hash_key new ≡ unite hash_key first_hash (2 ^ old.lg_k) old.start (union_value hash_key old ∷ shown_value hash_key s listing ∷ [])) → shown_value hash_key s listing ≡ w →
+    (values : List (Sketch ℕ)) → union_value hash_key old ≡ unite hash_key first_hash (2 ^ old.lg_k) old.start values → union_value hash_key new ≡ unite hash_key first_hash (2 ^ old.lg_k) old.start (values ++ w ∷ [])
+one_more old new s listing w skipped united is values so_far =
+    joined_next old new values (shown_value hash_key s listing) so_far (joins_shown old new s listing skipped united) ∙ ap (λ u. by old.lg_k old.start (values ++ u ∷ [])) is
+
+-- a new union has united nothing
+pub nothing_united : {P : Type 0} (lg_k h : ℕ) (u : Union ℕ P) → u ≡ empty_union lg_k MAX_THETA h u.policy → union_value hash_key u ≡ unite hash_key first_hash (2 ^ u.lg_k) u.start []
+nothing_united lg_k h u made = ap (union_value hash_key) made
+
+-- the value of a new union after two sketches, and its seed
+module _ {P : Type 0} (lg_k h : ℕ) (empty one : Union ℕ P) (made : empty ≡ empty_union lg_k MAX_THETA h empty.policy) (made_one : one ≡ record empty { empty = one.empty; held = one.held }) where
+  pub one_sound : one.failed ≡ false
+  one_sound = ap (λ u. u.failed) made_one ∙ ap (λ u. u.failed) made
+
+  pub one_seed : one.seed_hash ≡ h
+  one_seed = ap (λ u. u.seed_hash) made_one ∙ ap (λ u. u.seed_hash) made
+
+  pub one_united : (a : Sketch ℕ) → union_value hash_key one ≡ unite hash_key first_hash (2 ^ empty.lg_k) empty.start (a ∷ []) → union_value hash_key one ≡ unite hash_key first_hash (2 ^ one.lg_k) one.start (a ∷ [])
+  one_united a first = first ∙ ap (λ l. by l empty.start (a ∷ [])) (sym (ap (λ u. u.lg_k) made_one)) ∙ ap (λ x. by one.lg_k x (a ∷ [])) (sym (ap (λ u. u.start) made_one))
+
+  pub two_united : (two : Union ℕ P) (a b : Sketch ℕ) → union_value hash_key two ≡ unite hash_key first_hash (2 ^ one.lg_k) one.start (a ∷ b ∷ []) → union_value hash_key two ≡ unite hash_key first_hash (2 ^ lg_k) MAX_THETA (a ∷ b ∷ [])
+  two_united two a b second =
+      second ∙ ap (λ l. by l one.start (a ∷ b ∷ [])) (ap (λ u. u.lg_k) made_one ∙ ap (λ u. u.lg_k) made) ∙ ap (λ x. by lg_k x (a ∷ b ∷ [])) (ap (λ u. u.start) made_one ∙ ap (λ u. u.start) made)
+
+-- the sketch of a value that is another's
+pub same_answer : (v w : Sketch ℕ) (own h : ℕ) (s : Compact ℕ) → v ≡ w → own ≡ h → IsAnswer hash_key v own true s → IsAnswer hash_key w h true s
+same_answer v w own h s same seed answer = subst (λ (k : ℕ). IsAnswer hash_key w k true s) seed (subst (λ u. IsAnswer hash_key u own true s) same answer)
+
+pub same_answers : (r : Result (Compact ℕ) ErrorKind) (v w : Sketch ℕ) (own h : ℕ) → v ≡ w → own ≡ h → IfOk r (λ s. IsAnswer hash_key v own true s) → IfOk r (λ s. IsAnswer hash_key w h true s)
+same_answers (Ok s) v w own h same seed answer = same_answer v w own h s same seed answer
+same_answers (Err e) v w own h same seed answer = tt

@@ -1,0 +1,14 @@
+use Rattle.std.proofs.Common.{true, false, sym, ◌∙◌}
+use Rattle.set_expressions.proofs.RunSteps.{accepted_next, accepted_end}
+use Rattle.set_expressions.proofs.evaluation.are_accepted.Goals as goal
+
+pub loop-sketch-preserved : goal.loop-sketch-preserved
+loop-sketch-preserved g c =
+    c.loop-sketch.invariant ∙ accepted_next c.args.hash c.args.sketches.now c.loop-sketch.sketch-index c.sketch-item.result true c.loop-sketch-test.true c.sketch-item.is (sym c.is_accepted.ensures ∙ c.if-not-is_accepted.false)
+
+pub returns-then-not-is_accepted : goal.returns-then-not-is_accepted
+returns-then-not-is_accepted g c =
+    sym (c.loop-sketch.invariant ∙ accepted_next c.args.hash c.args.sketches.now c.loop-sketch.sketch-index c.sketch-item.result false c.loop-sketch-test.true c.sketch-item.is (sym c.is_accepted.ensures ∙ c.if-not-is_accepted.true))
+
+pub returns : goal.returns
+returns g c = sym (c.loop-sketch.invariant ∙ accepted_end c.args.hash c.args.sketches.now c.loop-sketch.sketch-index c.loop-sketch-test.false)
