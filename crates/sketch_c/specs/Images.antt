@@ -1,60 +1,28 @@
--- What exports tell of images and of unions of them.
-use Rattle.std.specs.Prelude.{◌≡◌, ◌⊎◌, ◌^◌, ℕ, List, [], ◌∷◌, length, true, false, Option, Some, None}
-use Rattle.std.specs.Borrow.{Bor, MutBor}
+-- Calls on images alone.
+use Rattle.std.specs.Prelude.{◌≡◌, ◌⊎◌, ℕ, List, Some, None}
 use Rattle.sketch_base.specs.Seed.{seed_hash}
-use Rattle.sketch_base.specs.declared.error.ErrorKind.{ErrorKind}
-use Rattle.sketch_base.specs.declared.error.ErrorKind.TheVariants.{OutOfMemory}
-use Rattle.core_compact.specs.CompactState.{Compact, IsAnswer, compact_value}
-use Rattle.core_laws.specs.declared.TheConstants.{MAX_THETA}
+use Rattle.core_compact.specs.CompactState.{Compact, IsAnswer, compact_value, shown_of}
 use Rattle.core_laws.specs.Entries.{hash_key, first_hash}
-use Rattle.core_laws.specs.Operators.{unite, meet_next, minus}
+use Rattle.core_laws.specs.Operators.{meet_next, minus}
 use Rattle.core_laws.specs.Values.{Sketch}
-use Rattle.core_operators.specs.Union.{empty_union, union_value}
-use Rattle.theta_sketches.specs.Image.{Reads, IsReadable, written}
-use Rattle.core_laws.specs.Settings.{settings_refusal}
-use Rattle.sketch_c.specs.Status.{status_of}
-use Rattle.sketch_c.specs.Put.{Holds, Put}
-use Rattle.sketch_c.specs.declared.uniting.Uniting.{Uniting}
+use Rattle.theta_sketches.specs.Image.{Reads, written}
+use Rattle.sketch_c.specs.Intersections.{IsDifferenceOf}
+use Rattle.sketch_c.specs.Thetas.{IsReadRefusal}
+use Rattle.sketch_c.specs.declared.compact.CompactSketch.{CompactSketch}
 
--- the image of an answer that has this value
-abbrev pub IsImageOfValue : Sketch ℕ → (hash : ℕ) → List ℕ → Type 0
-IsImageOfValue value hash image = (s : Compact ℕ) × (image ≡ written s) × IsAnswer hash_key value hash true s
+-- the value that two sketches have in common
+abbrev pub common_value : Sketch ℕ → Sketch ℕ → Sketch ℕ
+common_value a b = meet_next hash_key first_hash (Some (meet_next hash_key first_hash None a)) b
 
--- a new union, or why there is none
-abbrev pub MadeUnion : (lg_k seed status : ℕ) → Option Uniting → Type 0
-MadeUnion lg_k seed status None = (e : ErrorKind) × (status ≡ status_of e) × ((settings_refusal lg_k MAX_THETA seed ≡ Some e) ⊎ (e ≡ OutOfMemory))
-MadeUnion lg_k seed status (Some u) = (status ≡ 0) × (u.seed ≡ seed) × (u.union ≡ empty_union lg_k MAX_THETA (seed_hash seed) u.union.policy)
+-- the intersection of two compact sketches, ordered
+abbrev pub IsIntersectionOf : (seed : ℕ) → (first second : CompactSketch) → CompactSketch → Type 0
+IsIntersectionOf seed first second s = IsAnswer hash_key (common_value (compact_value hash_key first.sketch) (compact_value hash_key second.sketch)) (seed_hash seed) true s.sketch
 
--- the union of what was held and of a sketch
-abbrev pub Unites : (old : Uniting) → Compact ℕ → (new : Uniting) → Type 0
-Unites old s new =
-    (s.empty ≡ true → new.union ≡ old.union)
-    × (s.empty ≡ false → union_value hash_key new.union ≡ unite hash_key first_hash (2 ^ old.union.lg_k) old.union.start (union_value hash_key old.union ∷ compact_value hash_key s ∷ []))
+-- the image of an operation on the sketches that two images begin with
+abbrev pub IsImageOfBoth : (IsResult : CompactSketch → CompactSketch → CompactSketch → Type 0) → (seed : ℕ) → (first second : List ℕ) → (image : List ℕ) → Type 0
+IsImageOfBoth IsResult seed first second image =
+    (a : CompactSketch) × (b : CompactSketch) × (s : CompactSketch) × Reads first (seed_hash seed) a.sketch × Reads second (seed_hash seed) b.sketch × IsResult a b s × (image ≡ written s.sketch)
 
--- an image was taken in: 0 tells that it was read and united, and 2 that the bytes are no image, and nothing changed
-abbrev pub TookImage : Option Uniting → Bor (List ℕ) → (status : ℕ) → Option Uniting → Type 0
-TookImage None image status new = status ≡ 1
-TookImage (Some old) image status None = ⊥
-TookImage (Some old) image status (Some new) =
-    (new.seed ≡ old.seed)
-    × (status ≡ 0 → (s : Compact ℕ) × Reads image.now (seed_hash old.seed) s × Unites old s new)
-    × (status ≡ 2 → (IsReadable image.now (seed_hash old.seed) → ⊥) × (new.union ≡ old.union))
-
-abbrev pub PutUnion : Option Uniting → MutBor (List ℕ) → (after : List ℕ) → (count : ℕ) → Option Uniting → Type 0
-PutUnion None out after count new = (count ≡ 0) × (after ≡ out.now)
-PutUnion (Some old) out after count None = ⊥
-PutUnion (Some old) out after count (Some new) = (new ≡ old) × Put (IsImageOfValue (union_value hash_key old.union) old.union.seed_hash) out.now after count
-
--- what two values have in common
-abbrev pub met : Sketch ℕ → Sketch ℕ → Sketch ℕ
-met a b = meet_next hash_key first_hash (Some (meet_next hash_key first_hash None a)) b
-
--- two images were read and combined, and what came of it was put out
-abbrev pub Combined : (Compact ℕ → Compact ℕ → List ℕ → Type 0) → (hash : ℕ) → (first second before after : List ℕ) → (count : ℕ) → Type 0
-Combined IsResult hash first second before after count = (a : Compact ℕ) × (b : Compact ℕ) × (image : List ℕ) × Reads first hash a × Reads second hash b × IsResult a b image × (count ≡ length image) × Holds image before after
-
-abbrev pub IsMeeting : (hash : ℕ) → Compact ℕ → Compact ℕ → List ℕ → Type 0
-IsMeeting hash a b = IsImageOfValue (met (compact_value hash_key a) (compact_value hash_key b)) hash
-
-abbrev pub IsDifference : Compact ℕ → Compact ℕ → List ℕ → Type 0
-IsDifference a b = IsImageOfValue (minus hash_key hash_key (compact_value hash_key a) (compact_value hash_key b)) a.seed_hash
+-- the refusal of an operation on two images: one of them is read as no sketch of this seed, with 2, or memory, with 3
+abbrev pub IsRefusalOfEither : (seed : ℕ) → (first second : List ℕ) → (status : ℕ) → Type 0
+IsRefusalOfEither seed first second status = IsReadRefusal first seed status ⊎ IsReadRefusal second seed status

@@ -1,207 +1,294 @@
-//! Tuple sketches of sums of 64 bits, behind handles.
-ghost use Rattle.std.specs.Prelude.{◌≡◌, true, ℕ, List, Option, Some, None, IfOk};
-ghost use Rattle.std.specs.Borrow.{full_share, sem};
-ghost use Rattle.std.specs.Ptr.{Ptr, lies_at, room_at};
-ghost use denote.RawPtr.{RawPtr};
+//! Tuple sketches whose summaries are sums of 64 bits.
+ghost use Rattle.std.specs.Prelude.{◌≡◌, true, None, Option, IfOk, is_some, option_map};
+ghost use Rattle.std.specs.Coded.{coded_option};
 ghost use Rattle.core_laws.specs.Refusal.{Refuses};
-ghost use Rattle.core_laws.specs.declared.TheConstants.{MAX_THETA};
 ghost use Rattle.core_laws.specs.Settings.{settings_refusal};
-ghost use Rattle.sketch_c.specs.Handle.{handle_owns};
-ghost use Rattle.sketch_c.specs.Sums.{MadeSums, AddedAtHash, AddedAtBytes, CountedSums, SumsTheta, IsImageOfSums, PutSums};
-ghost use Rattle.sketch_c.specs.contracts.sums.Sums.{the_row};
-ghost use Rattle.sketch_c.specs.declared.sums.Sums.{Sums};
+ghost use Rattle.core_laws.specs.declared.TheConstants.{MAX_THETA};
+ghost use Rattle.sketch_c.specs.Buffer.{WritesOf};
+ghost use Rattle.sketch_c.specs.Calls.{OnObject, Fills};
+ghost use Rattle.sketch_c.specs.Handle.{handle_owns, absent_of};
+ghost use Rattle.sketch_c.specs.Sums.{IsNewSums, AddsValue, AddsAtBytes, TrimsSums, ResetsSums, sums_state, IsImageOfSums};
+ghost use Rattle.sketch_c.specs.Thetas.{IsSettingsRefusal, IsMemoryRefusal, ReadsState};
+ghost use Rattle.sketch_c.specs.contracts.sums.SeededSums.{the_row};
+ghost use Rattle.sketch_c.specs.declared.sums.SeededSums.{SeededSums};
 
-use crate::handle::Handle;
+use crate::buffer::put;
 use crate::hashes::hash_of_bytes;
-use crate::images::put;
-use crate::loose::Loose;
-use crate::slot::Slot;
-use crate::status::status_of;
+use crate::opaque::Opaque;
+use crate::owned::Owned;
+use crate::state::State;
+use crate::status::{INVALID_ARGUMENT, OK, OUT_OF_MEMORY, status_of};
 use sketch_base::Error;
 use std::alloc::Global;
+use std::marker::Model;
 use tuple_sketches::{DefaultUpdatePolicy, TupleSketch, TupleSketchBuilder};
 
-/// A sketch of sums and the seed that it hashes under.
+/// A sketch of sums, and the seed of its hashes.
 #[derive(Drop)]
-struct Sums {
+pub struct SeededSums {
     sketch: TupleSketch<DefaultUpdatePolicy<u64>>,
     seed: u64,
 }
 
-fn built(alloc: Global, lg_k: u8, seed: u64) -> Result<Box<Sums>, Error>
-    ensures made { IfOk result (λ t. MadeSums lg_k seed 0 (Some t.value)) }
+/// A handle of C: a tuple sketch of sums, or none.
+#[repr(C)]
+pub struct SumsHandle {
+    at: *mut Opaque,
+    ghost value: { Option SeededSums } by { coded_option the_row.coded },
+}
+
+impl Model for SumsHandle {
+    ghost also_owns = { λ h. handle_owns the_row h.at h.value };
+}
+
+impl SumsHandle {
+    /// The handle of a pointer.
+    #[inline(always)]
+    fn of(owned: Owned<SeededSums>) -> SumsHandle
+        ensures { result.value ≡ owned.value }
+    {
+        let Owned { at, absent: _ } = owned;
+        SumsHandle {
+            at: at as *mut Opaque,
+        }
+    }
+
+    /// The pointer of the handle, tested for null.
+    #[inline(always)]
+    fn into_owned(self) -> Owned<SeededSums>
+        ensures { (result.absent ≡ absent_of self.value) × (result.value ≡ self.value) }
+    {
+        let SumsHandle { at } = self;
+        if at.is_null() {
+            return Owned {
+                at: at as *mut SeededSums,
+                absent: 1,
+            };
+        }
+        Owned {
+            at: at as *mut SeededSums,
+            absent: 0,
+        }
+    }
+}
+
+/// The sketch of a handle, taken out of it.
+#[inline(always)]
+pub(crate) fn take(alloc: Global, handle: &mut SumsHandle) -> Option<Box<SeededSums>>
+    ensures taken { handle.old.value ≡ option_map (λ b. b.value) result }
+    ensures none_left { handle.new.value ≡ None }
+{
+    let handle = std::mem::replace(handle, SumsHandle::of(Owned::none()));
+    handle.into_owned().into_box(alloc)
+}
+
+/// Puts a sketch into a handle that has none.
+#[inline(always)]
+pub(crate) fn fill(handle: &mut SumsHandle, value: Option<Box<SeededSums>>)
+    requires none_yet { handle.old.value ≡ None }
+    ensures filled { handle.new.value ≡ option_map (λ b. b.value) value }
+{
+    let handle = std::mem::replace(handle, SumsHandle::of(Owned::of_box(value)));
+    handle.into_owned().discard();
+}
+
+/// Whether a handle has a sketch.
+pub(crate) fn is_filled(alloc: Global, handle: &mut SumsHandle) -> bool
+    ensures filled { result ≡ is_some handle.old.value }
+    ensures unchanged { handle.new.value ≡ handle.old.value }
+{
+    let value = take(alloc, handle);
+    let filled = value.is_some();
+    fill(handle, value);
+    filled
+}
+
+fn built(alloc: Global, lg_k: u8, seed: u64) -> Result<Box<SeededSums>, Error>
+    ensures made { IfOk result (λ t. IsNewSums lg_k seed t.value) }
     ensures refused { Refuses result (settings_refusal lg_k MAX_THETA seed) true }
 {
     let sketch = TupleSketchBuilder::new(DefaultUpdatePolicy::<u64>::default())
         .lg_k(lg_k)
         .seed(seed)
         .build(alloc)?;
-    Ok(Box::new(alloc, Sums { sketch, seed })?)
-}
-
-fn made(alloc: Global, lg_k: u8, seed: u64) -> Slot<Sums>
-    ensures { MadeSums lg_k seed result.status result.value }
-{
-    match built(alloc, lg_k, seed) {
-        Ok(sums) => Slot::of(Loose::of(sums)),
-        Err(error) => Slot::none(status_of(error.kind())),
-    }
-}
-
-fn dispose(sums: Loose<Sums, Global>) {
-    let _ = sums.into_box();
+    Ok(Box::new(alloc, SeededSums { sketch, seed })?)
 }
 
 #[inline(always)]
-fn add_at_hash(sums: &mut Sums, hash: u64, value: u64) -> u32
-    ensures { AddedAtHash (Some sums.old) hash value result (Some sums.new) }
+fn add_at_hash(sums: &mut SeededSums, hash: u64, value: u64) -> u32
+    ensures { AddsValue hash value sums.old result sums.new }
 {
     match sums.sketch.update_hash(hash, value) {
-        Ok(()) => 0,
+        Ok(()) => OK,
         Err(error) => status_of(error.kind()),
     }
 }
 
 #[inline(always)]
-fn add_at_bytes(sums: &mut Sums, bytes: &[u8], value: u64) -> u32
-    ensures { AddedAtBytes (Some sums.old) bytes.entry value result (Some sums.new) }
+fn add_at_bytes(sums: &mut SeededSums, bytes: &[u8], value: u64) -> u32
+    ensures { AddsAtBytes bytes.now value sums.old result sums.new }
 {
     let hash = hash_of_bytes(sums.seed, bytes);
     add_at_hash(sums, hash, value)
 }
 
-fn count(sums: &mut Sums) -> u64
-    ensures { CountedSums (Some sums.old) result (Some sums.new) }
+fn trim(sums: &mut SeededSums) -> u32
+    ensures { TrimsSums sums.old result sums.new }
 {
-    sums.sketch.num_retained() as u64
+    match sums.sketch.trim() {
+        Ok(()) => OK,
+        Err(_) => OUT_OF_MEMORY,
+    }
 }
 
-fn theta_of(sums: &mut Sums) -> u64
-    ensures { SumsTheta (Some sums.old) result (Some sums.new) }
+fn reset(sums: &mut SeededSums) -> u32
+    ensures { ResetsSums sums.old result sums.new }
 {
-    sums.sketch.theta64()
+    sums.sketch.reset();
+    OK
+}
+
+fn state(sums: &SeededSums) -> State
+    ensures { result ≡ sums_state sums.now }
+{
+    State {
+        retained: sums.sketch.num_retained() as u64,
+        theta: sums.sketch.theta64(),
+        empty: if sums.sketch.is_empty() { 1 } else { 0 },
+    }
 }
 
 /// The image of the sketch's ordered compact form.
-fn image_of(sums: &Sums) -> Result<Vec<u8>, Error>
-    ensures { IfOk result (λ v. IsImageOfSums sums.now v.items) }
+fn image(sums: &SeededSums) -> Result<Vec<u8>, Error>
+    ensures image { IfOk result (λ v. IsImageOfSums sums.now v.items) }
+    ensures refused { Refuses result None true }
 {
     sums.sketch.compact(true)?.serialize()
 }
 
-fn no_image(out: &mut [u8]) -> u64
-    ensures { PutSums None out.entry out.new result None }
+/// Makes a tuple sketch of sums with 2^`lg_k` nominal entries, `lg_k` from 4 to 26, and puts it into a handle.
+///
+/// Refused with `INVALID_ARGUMENT` if the handle has a sketch already, `lg_k` is out of range or the hash of the seed is
+/// 0, and with `OUT_OF_MEMORY`; then the handle is as before.
+#[unsafe(no_mangle)]
+pub extern "C" fn kc_sums_new(alloc: Global, sums: &mut SumsHandle, lg_k: u8, seed: u64) -> u32
+    ensures { Fills (IsNewSums lg_k seed) (IsSettingsRefusal lg_k seed) sums.old.value result sums.new.value }
 {
-    0
-}
-
-fn put_image(sums: &mut Sums, out: &mut [u8]) -> u64
-    ensures { PutSums (Some sums.old) out.entry out.new result (Some sums.new) }
-{
-    match image_of(sums) {
-        Ok(image) => put(image.as_slice(), out),
-        Err(_) => 0,
+    if is_filled(alloc, sums) {
+        return INVALID_ARGUMENT;
+    }
+    match built(alloc, lg_k, seed) {
+        Ok(made) => {
+            fill(sums, Some(made));
+            OK
+        }
+        Err(error) => status_of(error.kind()),
     }
 }
 
-/// Makes a tuple sketch of sums, as `kc_theta_new` makes a theta sketch.
+/// Frees the sketch of a handle, which has none afterwards. A handle without one stays as it is.
 #[unsafe(no_mangle)]
-pub unsafe extern "C" fn kc_sums_new(
-    alloc: Global,
-    lg_k: u8,
-    seed: u64,
-    out: *mut *mut Handle,
-) -> u32
-    requires* { sem 𝓛 (room_at RawPtr out) }
-    ensures* { ∃ₛ (λ (made : Ptr × Option Sums). sem 𝓛 (lies_at RawPtr full_share out made.0) ∗ sem 𝓛 (handle_owns the_row made.0 made.1) ∗ ⌜ MadeSums lg_k seed result made.1 ⌝) }
+pub extern "C" fn kc_sums_free(alloc: Global, sums: &mut SumsHandle)
+    ensures { sums.new.value ≡ None }
 {
-    let Slot { at, status } = made(alloc, lg_k, seed);
-    *out = at as *mut Handle;
+    let _ = take(alloc, sums);
+}
+
+/// Adds a value to the sum of a hash, which is 0 at first. A hash that is 0 or at least theta is not retained, but the
+/// sketch becomes nonempty.
+///
+/// Refused with `INVALID_ARGUMENT` if the handle has no sketch, with `POLICY` if the sum would be 2^64 or more, and with
+/// `OUT_OF_MEMORY`, only for a new hash below theta; then nothing has changed.
+#[unsafe(no_mangle)]
+pub extern "C" fn kc_sums_add_hash(alloc: Global, sums: &mut SumsHandle, hash: u64, value: u64) -> u32
+    ensures { OnObject (AddsValue hash value) sums.old.value result sums.new.value }
+{
+    let Some(mut object) = take(alloc, sums) else {
+        return INVALID_ARGUMENT;
+    };
+    let status = add_at_hash(&mut object, hash, value);
+    fill(sums, Some(object));
     status
 }
 
-/// Frees a sketch. Nothing is done for null.
+/// Adds a value to the sum of bytes, by their hash. Refused as `kc_sums_add_hash` is.
 #[unsafe(no_mangle)]
-pub unsafe extern "C" fn kc_sums_free(alloc: Global, handle: *mut Handle)
-    ghost old: { Option Sums }
-    requires* { sem 𝓛 (handle_owns the_row handle old) }
+pub extern "C" fn kc_sums_add_bytes(
+    alloc: Global,
+    sums: &mut SumsHandle,
+    bytes: &[u8],
+    value: u64,
+) -> u32
+    ensures { OnObject (AddsAtBytes bytes.now value) sums.old.value result sums.new.value }
 {
-    if handle.is_null() {
-        return;
-    }
-    dispose(Loose {
-        at: handle as *mut Sums,
-        alloc,
-    });
+    let Some(mut object) = take(alloc, sums) else {
+        return INVALID_ARGUMENT;
+    };
+    let status = add_at_bytes(&mut object, bytes, value);
+    fill(sums, Some(object));
+    status
 }
 
-/// Adds a value to the sum at a hash. Refused with 1 for null, with 4 where the sum would pass 64 bits, and with 3 where memory is;
-/// then nothing has changed.
+/// Cuts a sketch to its nominal entries, as `kc_theta_trim` does.
 #[unsafe(no_mangle)]
-pub unsafe extern "C" fn kc_sums_add_at_hash(handle: *mut Handle, hash: u64, value: u64) -> u32
-    ghost old: { Option Sums }
-    requires* { sem 𝓛 (handle_owns the_row handle old) }
-    ensures* { ∃ₛ (λ (new : Option Sums). sem 𝓛 (handle_owns the_row handle new) ∗ ⌜ AddedAtHash old hash value result new ⌝) }
+pub extern "C" fn kc_sums_trim(alloc: Global, sums: &mut SumsHandle) -> u32
+    ensures { OnObject TrimsSums sums.old.value result sums.new.value }
 {
-    if handle.is_null() {
-        return 1;
-    }
-    let sums = handle as *mut Sums;
-    add_at_hash(&mut *sums, hash, value)
+    let Some(mut object) = take(alloc, sums) else {
+        return INVALID_ARGUMENT;
+    };
+    let status = trim(&mut object);
+    fill(sums, Some(object));
+    status
 }
 
-/// Adds a value to the sum at the hash of bytes. Refused as `kc_sums_add_at_hash` is.
+/// Makes a sketch empty again, as when it was new. Refused with `INVALID_ARGUMENT` if the handle has no sketch.
 #[unsafe(no_mangle)]
-pub unsafe extern "C" fn kc_sums_add_at_bytes(handle: *mut Handle, bytes: &[u8], value: u64) -> u32
-    ghost old: { Option Sums }
-    requires* { sem 𝓛 (handle_owns the_row handle old) }
-    ensures* { ∃ₛ (λ (new : Option Sums). sem 𝓛 (handle_owns the_row handle new) ∗ ⌜ AddedAtBytes old bytes.entry value result new ⌝) }
+pub extern "C" fn kc_sums_reset(alloc: Global, sums: &mut SumsHandle) -> u32
+    ensures { OnObject ResetsSums sums.old.value result sums.new.value }
 {
-    if handle.is_null() {
-        return 1;
-    }
-    let sums = handle as *mut Sums;
-    add_at_bytes(&mut *sums, bytes, value)
+    let Some(mut object) = take(alloc, sums) else {
+        return INVALID_ARGUMENT;
+    };
+    let status = reset(&mut object);
+    fill(sums, Some(object));
+    status
 }
 
-/// How many sums the sketch retains; 0 for null.
+/// Writes the state of a sketch: how many sums it retains, its theta, and whether it is empty. The sketch doesn't change.
+/// Refused with `INVALID_ARGUMENT` if the handle has no sketch; then nothing is written.
 #[unsafe(no_mangle)]
-pub unsafe extern "C" fn kc_sums_retained(handle: *mut Handle) -> u64
-    ghost old: { Option Sums }
-    requires* { sem 𝓛 (handle_owns the_row handle old) }
-    ensures* { ∃ₛ (λ (new : Option Sums). sem 𝓛 (handle_owns the_row handle new) ∗ ⌜ CountedSums old result new ⌝) }
+pub extern "C" fn kc_sums_state(alloc: Global, sums: &mut SumsHandle, out: &mut State) -> u32
+    ensures state { ReadsState (option_map sums_state sums.old.value) out.old result out.new }
+    ensures unchanged { sums.new.value ≡ sums.old.value }
 {
-    if handle.is_null() {
-        return 0;
-    }
-    let sums = handle as *mut Sums;
-    count(&mut *sums)
+    let Some(object) = take(alloc, sums) else {
+        return INVALID_ARGUMENT;
+    };
+    *out = state(&object);
+    fill(sums, Some(object));
+    OK
 }
 
-/// The theta of the sketch, from 1 to 2^63 - 1; 0 for null.
+/// Writes the image of a sketch, ordered, to the front of a buffer, and its length, as `kc_theta_image` does. Behind each
+/// hash it has the eight bytes of its sum, the lowest first.
 #[unsafe(no_mangle)]
-pub unsafe extern "C" fn kc_sums_theta(handle: *mut Handle) -> u64
-    ghost old: { Option Sums }
-    requires* { sem 𝓛 (handle_owns the_row handle old) }
-    ensures* { ∃ₛ (λ (new : Option Sums). sem 𝓛 (handle_owns the_row handle new) ∗ ⌜ SumsTheta old result new ⌝) }
+pub extern "C" fn kc_sums_image(
+    alloc: Global,
+    sums: &mut SumsHandle,
+    out: &mut [u8],
+    length: &mut u64,
+) -> u32
+    ensures image { WritesOf IsImageOfSums (λ _. IsMemoryRefusal) sums.old.value out.old length.old result out.new length.new }
+    ensures unchanged { sums.new.value ≡ sums.old.value }
 {
-    if handle.is_null() {
-        return 0;
-    }
-    let sums = handle as *mut Sums;
-    theta_of(&mut *sums)
-}
-
-/// Puts the image of the sketch, ordered, at the front of a buffer, as `kc_theta_image` does.
-#[unsafe(no_mangle)]
-pub unsafe extern "C" fn kc_sums_image(handle: *mut Handle, out: &mut [u8]) -> u64
-    ghost old: { Option Sums }
-    requires* { sem 𝓛 (handle_owns the_row handle old) }
-    ensures* { ∃ₛ (λ (new : Option Sums). sem 𝓛 (handle_owns the_row handle new) ∗ ⌜ PutSums old out.entry out.new result new ⌝) }
-{
-    if handle.is_null() {
-        return no_image(out);
-    }
-    let sums = handle as *mut Sums;
-    put_image(&mut *sums, out)
+    let Some(object) = take(alloc, sums) else {
+        return INVALID_ARGUMENT;
+    };
+    let status = match image(&object) {
+        Ok(image) => put(image.as_slice(), out, length),
+        Err(_) => OUT_OF_MEMORY,
+    };
+    fill(sums, Some(object));
+    status
 }
