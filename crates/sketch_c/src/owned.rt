@@ -1,5 +1,5 @@
 //! A box or none, as a pointer that may be null.
-ghost use Rattle.std.specs.Prelude.{◌≡◌, Option, Some, None, IsSome, option_map};
+ghost use Rattle.std.specs.Prelude.{◌≡◌, ◌≢◌, Option, Some, None, option_map};
 ghost use Rattle.std.specs.Coded.{coded_option};
 ghost use Rattle.sketch_c.specs.Handle.{handle_owns, absent_of};
 
@@ -43,7 +43,7 @@ impl<T> Owned<T> {
     /// The box behind the pointer, which isn't null.
     #[inline(always)]
     pub(crate) fn into_loose(self, alloc: Global) -> Loose<T, Global>
-        requires { IsSome self.value }
+        requires { absent_of self.value ≡ 0 }
         ensures { self.value ≡ Some result.value }
     {
         let Owned { at, absent: _ } = self;
@@ -53,7 +53,8 @@ impl<T> Owned<T> {
     /// Ends a null pointer, which owns nothing.
     #[inline(always)]
     pub(crate) fn discard(self)
-        requires { self.value ≡ None }
+        requires { absent_of self.value ≢ 0 }
+        ensures { self.value ≡ None }
     {
         let Owned { at: _, absent: _ } = self;
     }
