@@ -17,7 +17,7 @@ pub struct Wide {
     pub high: u64,
 }
 
-fn wide(number: u128) -> Wide
+fn split(number: u128) -> Wide
     ensures { result ≡ wide number }
 {
     Wide {
@@ -35,10 +35,10 @@ fn is_state(retained: u64, theta: u64) -> bool
 
 /// Writes the numerator of the estimate of a sketch that retains this many entries; its denominator is theta.
 #[unsafe(no_mangle)]
-pub extern "C" fn kc_estimate_numerator(retained: u64, out: &mut Wide)
+pub extern "C" fn kcp_estimate_numerator(retained: u64, out: &mut Wide)
     ensures { out.new ≡ wide (numerator retained) }
 {
-    *out = wide(retained as u128 * MAX_THETA as u128);
+    *out = split(retained as u128 * MAX_THETA as u128);
 }
 
 /// Writes the estimate of a sketch of this state with so many decimals, rounded down: its whole part, and its decimals as
@@ -47,7 +47,7 @@ pub extern "C" fn kc_estimate_numerator(retained: u64, out: &mut Wide)
 /// Refused with `INVALID_ARGUMENT` if no sketch has such a state or there are more than 19 decimals; then nothing is
 /// written.
 #[unsafe(no_mangle)]
-pub extern "C" fn kc_estimate_decimal(
+pub extern "C" fn kcp_estimate_decimal(
     retained: u64,
     theta: u64,
     places: u32,
@@ -63,7 +63,7 @@ pub extern "C" fn kc_estimate_decimal(
         (retained as u128 * MAX_THETA as u128, theta as u128),
         places,
     );
-    *whole = wide(estimate.whole());
+    *whole = split(estimate.whole());
     *decimals = estimate.decimals() as u64;
     OK
 }
@@ -86,7 +86,7 @@ fn deviations_of(number: u32) -> Option<Deviations>
 ///
 /// Refused with `INVALID_ARGUMENT` if no sketch has such a state or `deviations` isn't 1, 2 or 3; then nothing is written.
 #[unsafe(no_mangle)]
-pub extern "C" fn kc_count_bounds(
+pub extern "C" fn kcp_count_bounds(
     retained: u64,
     theta: u64,
     deviations: u32,
@@ -102,7 +102,7 @@ pub extern "C" fn kc_count_bounds(
         return INVALID_ARGUMENT;
     };
     let bounds = count_bounds(retained as usize, theta, deviations);
-    *lower = wide(bounds.lower);
-    *upper = wide(bounds.upper);
+    *lower = split(bounds.lower);
+    *upper = split(bounds.upper);
     OK
 }

@@ -170,7 +170,7 @@ pub(crate) fn state(sketch: &CompactSketch) -> State
 /// Refused with `INVALID_ARGUMENT` if the handle has a sketch already, with `INVALID_DATA` if the bytes begin with no
 /// sketch of this seed, and with `OUT_OF_MEMORY`; then the handle is as before.
 #[unsafe(no_mangle)]
-pub extern "C" fn kc_compact_read(
+pub extern "C" fn kcp_compact_read(
     alloc: Global,
     sketch: &mut CompactHandle,
     image: &[u8],
@@ -192,7 +192,7 @@ pub extern "C" fn kc_compact_read(
 
 /// Frees the sketch of a handle, which has none afterwards. A handle without one stays as it is.
 #[unsafe(no_mangle)]
-pub extern "C" fn kc_compact_free(alloc: Global, sketch: &mut CompactHandle)
+pub extern "C" fn kcp_compact_free(alloc: Global, sketch: &mut CompactHandle)
     ensures { sketch.new.value ≡ None }
 {
     let _ = take(alloc, sketch);
@@ -203,7 +203,7 @@ pub extern "C" fn kc_compact_free(alloc: Global, sketch: &mut CompactHandle)
 /// Refused with `INVALID_ARGUMENT` if the first handle has no sketch or the second one has a sketch, and with
 /// `OUT_OF_MEMORY`; then nothing has changed.
 #[unsafe(no_mangle)]
-pub extern "C" fn kc_compact_clone(
+pub extern "C" fn kcp_compact_clone(
     alloc: Global,
     sketch: &mut CompactHandle,
     out: &mut CompactHandle,
@@ -222,7 +222,7 @@ pub extern "C" fn kc_compact_clone(
 /// Writes the state of a sketch: how many hashes it retains, its theta, and whether it is empty. The sketch doesn't change.
 /// Refused with `INVALID_ARGUMENT` if the handle has no sketch; then nothing is written.
 #[unsafe(no_mangle)]
-pub extern "C" fn kc_compact_state(
+pub extern "C" fn kcp_compact_state(
     alloc: Global,
     sketch: &mut CompactHandle,
     out: &mut State,
@@ -243,7 +243,7 @@ pub extern "C" fn kc_compact_state(
 /// If the buffer is too small, the status is `TOO_SMALL`, the length is written, and the buffer is as before. Refused with
 /// `INVALID_ARGUMENT` if the handle has no sketch, and with `OUT_OF_MEMORY`; then nothing is written.
 #[unsafe(no_mangle)]
-pub extern "C" fn kc_compact_image(
+pub extern "C" fn kcp_compact_image(
     alloc: Global,
     sketch: &mut CompactHandle,
     out: &mut [u8],

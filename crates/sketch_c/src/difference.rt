@@ -71,7 +71,7 @@ fn fill_difference(
 /// `INVALID_ARGUMENT` if one of the first two handles has no sketch or the third one has a sketch, if the hash of the seed
 /// is 0 or a sketch is of another seed, and with `OUT_OF_MEMORY`; then nothing has changed.
 #[unsafe(no_mangle)]
-pub extern "C" fn kc_difference(
+pub extern "C" fn kcp_difference(
     alloc: Global,
     first: &mut CompactHandle,
     second: &mut CompactHandle,

@@ -27,9 +27,9 @@ pub(crate) fn hash_of_number(seed: u64, number: u64) -> u64
     hasher.finish() >> 1
 }
 
-/// The hash of bytes under a seed, of 63 bits, as `kc_theta_update_hash` takes it.
+/// The hash of bytes under a seed, of 63 bits, as `kcp_theta_update_hash` takes it.
 #[unsafe(no_mangle)]
-pub extern "C" fn kc_hash_bytes(seed: u64, bytes: &[u8]) -> u64
+pub extern "C" fn kcp_hash_bytes(seed: u64, bytes: &[u8]) -> u64
     ensures { result ≡ hash_of seed bytes.now }
 {
     hash_of_bytes(seed, bytes)
@@ -37,7 +37,7 @@ pub extern "C" fn kc_hash_bytes(seed: u64, bytes: &[u8]) -> u64
 
 /// The hash of a number's eight bytes under a seed, of 63 bits, the lowest byte first.
 #[unsafe(no_mangle)]
-pub extern "C" fn kc_hash_u64(seed: u64, number: u64) -> u64
+pub extern "C" fn kcp_hash_u64(seed: u64, number: u64) -> u64
     ensures { result ≡ hash_of seed (to_le_bytes w64 number) }
 {
     hash_of_number(seed, number)

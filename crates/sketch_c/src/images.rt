@@ -19,7 +19,7 @@ use theta_sketches::ThetaIntersection;
 /// Refused with `INVALID_DATA` if the bytes begin with no sketch of this seed, and with `OUT_OF_MEMORY`; then nothing is
 /// written.
 #[unsafe(no_mangle)]
-pub extern "C" fn kc_image_state(alloc: Global, image: &[u8], seed: u64, out: &mut State) -> u32
+pub extern "C" fn kcp_image_state(alloc: Global, image: &[u8], seed: u64, out: &mut State) -> u32
     ensures { ReadsImageState image.now seed out.old result out.new }
 {
     match read(alloc, image, seed) {
@@ -65,7 +65,7 @@ fn put_image(sketch: &CompactSketch, out: &mut [u8], length: &mut u64) -> u32
 /// If the buffer is too small, the status is `TOO_SMALL`, the length is written, and the buffer is as before. Refused with
 /// `INVALID_DATA` if an image begins with no sketch of this seed, and with `OUT_OF_MEMORY`; then nothing is written.
 #[unsafe(no_mangle)]
-pub extern "C" fn kc_images_intersect(
+pub extern "C" fn kcp_images_intersect(
     alloc: Global,
     first: &[u8],
     second: &[u8],
@@ -90,9 +90,9 @@ pub extern "C" fn kc_images_intersect(
 }
 
 /// Writes the image of the difference of the sketches that two images begin with, the hashes of the first that the second
-/// lacks, as `kc_images_intersect` does.
+/// lacks, as `kcp_images_intersect` does.
 #[unsafe(no_mangle)]
-pub extern "C" fn kc_images_difference(
+pub extern "C" fn kcp_images_difference(
     alloc: Global,
     first: &[u8],
     second: &[u8],

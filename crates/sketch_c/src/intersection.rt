@@ -169,7 +169,7 @@ fn fill_result(alloc: Global, object: &SeededIntersection, out: &mut CompactHand
 /// Refused with `INVALID_ARGUMENT` if the handle has an intersection already or the hash of the seed is 0, and with
 /// `OUT_OF_MEMORY`; then the handle is as before.
 #[unsafe(no_mangle)]
-pub extern "C" fn kc_intersection_new(
+pub extern "C" fn kcp_intersection_new(
     alloc: Global,
     intersection: &mut IntersectionHandle,
     seed: u64,
@@ -190,7 +190,7 @@ pub extern "C" fn kc_intersection_new(
 
 /// Frees the intersection of a handle, which has none afterwards. A handle without one stays as it is.
 #[unsafe(no_mangle)]
-pub extern "C" fn kc_intersection_free(alloc: Global, intersection: &mut IntersectionHandle)
+pub extern "C" fn kcp_intersection_free(alloc: Global, intersection: &mut IntersectionHandle)
     ensures { intersection.new.value ≡ None }
 {
     let _ = take(alloc, intersection);
@@ -202,7 +202,7 @@ pub extern "C" fn kc_intersection_free(alloc: Global, intersection: &mut Interse
 /// Refused with `INVALID_ARGUMENT` if a handle has no object or the sketch is of another seed, and with `OUT_OF_MEMORY`;
 /// then nothing has changed. The seed of an empty sketch is not checked.
 #[unsafe(no_mangle)]
-pub extern "C" fn kc_intersection_add(
+pub extern "C" fn kcp_intersection_add(
     alloc: Global,
     intersection: &mut IntersectionHandle,
     sketch: &mut ThetaHandle,
@@ -225,9 +225,9 @@ pub extern "C" fn kc_intersection_add(
     status
 }
 
-/// Intersects with a compact sketch, as `kc_intersection_add` does.
+/// Intersects with a compact sketch, as `kcp_intersection_add` does.
 #[unsafe(no_mangle)]
-pub extern "C" fn kc_intersection_add_compact(
+pub extern "C" fn kcp_intersection_add_compact(
     alloc: Global,
     intersection: &mut IntersectionHandle,
     sketch: &mut CompactHandle,
@@ -252,10 +252,10 @@ pub extern "C" fn kc_intersection_add_compact(
 
 /// Intersects with the sketch that the bytes begin with, read under the intersection's seed.
 ///
-/// Refused with `INVALID_DATA` if the bytes begin with no sketch of this seed, and otherwise as `kc_intersection_add` is;
+/// Refused with `INVALID_DATA` if the bytes begin with no sketch of this seed, and otherwise as `kcp_intersection_add` is;
 /// then nothing has changed.
 #[unsafe(no_mangle)]
-pub extern "C" fn kc_intersection_add_image(
+pub extern "C" fn kcp_intersection_add_image(
     alloc: Global,
     intersection: &mut IntersectionHandle,
     image: &[u8],
@@ -275,7 +275,7 @@ pub extern "C" fn kc_intersection_add_image(
 /// Refused with `INVALID_ARGUMENT` if the first handle has no intersection, the intersection has no value as no sketch was
 /// passed to it, or the second handle has a sketch, and with `OUT_OF_MEMORY`; then nothing has changed.
 #[unsafe(no_mangle)]
-pub extern "C" fn kc_intersection_result(
+pub extern "C" fn kcp_intersection_result(
     alloc: Global,
     intersection: &mut IntersectionHandle,
     out: &mut CompactHandle,

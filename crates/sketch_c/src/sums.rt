@@ -171,7 +171,7 @@ fn image(sums: &SeededSums) -> Result<Vec<u8>, Error>
 /// Refused with `INVALID_ARGUMENT` if the handle has a sketch already, `lg_k` is out of range or the hash of the seed is
 /// 0, and with `OUT_OF_MEMORY`; then the handle is as before.
 #[unsafe(no_mangle)]
-pub extern "C" fn kc_sums_new(alloc: Global, sums: &mut SumsHandle, lg_k: u8, seed: u64) -> u32
+pub extern "C" fn kcp_sums_new(alloc: Global, sums: &mut SumsHandle, lg_k: u8, seed: u64) -> u32
     ensures { Fills (IsNewSums lg_k seed) (IsSettingsRefusal lg_k seed) sums.old.value result sums.new.value }
 {
     if is_filled(alloc, sums) {
@@ -188,7 +188,7 @@ pub extern "C" fn kc_sums_new(alloc: Global, sums: &mut SumsHandle, lg_k: u8, se
 
 /// Frees the sketch of a handle, which has none afterwards. A handle without one stays as it is.
 #[unsafe(no_mangle)]
-pub extern "C" fn kc_sums_free(alloc: Global, sums: &mut SumsHandle)
+pub extern "C" fn kcp_sums_free(alloc: Global, sums: &mut SumsHandle)
     ensures { sums.new.value ≡ None }
 {
     let _ = take(alloc, sums);
@@ -200,7 +200,7 @@ pub extern "C" fn kc_sums_free(alloc: Global, sums: &mut SumsHandle)
 /// Refused with `INVALID_ARGUMENT` if the handle has no sketch, with `POLICY` if the sum would be 2^64 or more, and with
 /// `OUT_OF_MEMORY`, only for a new hash below theta; then nothing has changed.
 #[unsafe(no_mangle)]
-pub extern "C" fn kc_sums_add_hash(alloc: Global, sums: &mut SumsHandle, hash: u64, value: u64) -> u32
+pub extern "C" fn kcp_sums_add_hash(alloc: Global, sums: &mut SumsHandle, hash: u64, value: u64) -> u32
     ensures { OnObject (AddsValue hash value) sums.old.value result sums.new.value }
 {
     let Some(mut object) = take(alloc, sums) else {
@@ -211,9 +211,9 @@ pub extern "C" fn kc_sums_add_hash(alloc: Global, sums: &mut SumsHandle, hash: u
     status
 }
 
-/// Adds a value to the sum of bytes, by their hash. Refused as `kc_sums_add_hash` is.
+/// Adds a value to the sum of bytes, by their hash. Refused as `kcp_sums_add_hash` is.
 #[unsafe(no_mangle)]
-pub extern "C" fn kc_sums_add_bytes(
+pub extern "C" fn kcp_sums_add_bytes(
     alloc: Global,
     sums: &mut SumsHandle,
     bytes: &[u8],
@@ -229,9 +229,9 @@ pub extern "C" fn kc_sums_add_bytes(
     status
 }
 
-/// Cuts a sketch to its nominal entries, as `kc_theta_trim` does.
+/// Cuts a sketch to its nominal entries, as `kcp_theta_trim` does.
 #[unsafe(no_mangle)]
-pub extern "C" fn kc_sums_trim(alloc: Global, sums: &mut SumsHandle) -> u32
+pub extern "C" fn kcp_sums_trim(alloc: Global, sums: &mut SumsHandle) -> u32
     ensures { OnObject TrimsSums sums.old.value result sums.new.value }
 {
     let Some(mut object) = take(alloc, sums) else {
@@ -244,7 +244,7 @@ pub extern "C" fn kc_sums_trim(alloc: Global, sums: &mut SumsHandle) -> u32
 
 /// Makes a sketch empty again, as when it was new. Refused with `INVALID_ARGUMENT` if the handle has no sketch.
 #[unsafe(no_mangle)]
-pub extern "C" fn kc_sums_reset(alloc: Global, sums: &mut SumsHandle) -> u32
+pub extern "C" fn kcp_sums_reset(alloc: Global, sums: &mut SumsHandle) -> u32
     ensures { OnObject ResetsSums sums.old.value result sums.new.value }
 {
     let Some(mut object) = take(alloc, sums) else {
@@ -258,7 +258,7 @@ pub extern "C" fn kc_sums_reset(alloc: Global, sums: &mut SumsHandle) -> u32
 /// Writes the state of a sketch: how many sums it retains, its theta, and whether it is empty. The sketch doesn't change.
 /// Refused with `INVALID_ARGUMENT` if the handle has no sketch; then nothing is written.
 #[unsafe(no_mangle)]
-pub extern "C" fn kc_sums_state(alloc: Global, sums: &mut SumsHandle, out: &mut State) -> u32
+pub extern "C" fn kcp_sums_state(alloc: Global, sums: &mut SumsHandle, out: &mut State) -> u32
     ensures state { ReadsState (option_map sums_state sums.old.value) out.old result out.new }
     ensures unchanged { sums.new.value ≡ sums.old.value }
 {
@@ -270,10 +270,10 @@ pub extern "C" fn kc_sums_state(alloc: Global, sums: &mut SumsHandle, out: &mut 
     OK
 }
 
-/// Writes the image of a sketch, ordered, to the front of a buffer, and its length, as `kc_theta_image` does. Behind each
+/// Writes the image of a sketch, ordered, to the front of a buffer, and its length, as `kcp_theta_image` does. Behind each
 /// hash it has the eight bytes of its sum, the lowest first.
 #[unsafe(no_mangle)]
-pub extern "C" fn kc_sums_image(
+pub extern "C" fn kcp_sums_image(
     alloc: Global,
     sums: &mut SumsHandle,
     out: &mut [u8],

@@ -213,7 +213,7 @@ fn fill_compact(alloc: Global, theta: &SeededSketch, out: &mut CompactHandle) ->
 /// Refused with `INVALID_ARGUMENT` if the handle has a sketch already, `lg_k` is out of range or the hash of the seed is
 /// 0, and with `OUT_OF_MEMORY`; then the handle is as before.
 #[unsafe(no_mangle)]
-pub extern "C" fn kc_theta_new(alloc: Global, sketch: &mut ThetaHandle, lg_k: u8, seed: u64) -> u32
+pub extern "C" fn kcp_theta_new(alloc: Global, sketch: &mut ThetaHandle, lg_k: u8, seed: u64) -> u32
     ensures { Fills (IsNewSketch lg_k seed) (IsSettingsRefusal lg_k seed) sketch.old.value result sketch.new.value }
 {
     if is_filled(alloc, sketch) {
@@ -230,7 +230,7 @@ pub extern "C" fn kc_theta_new(alloc: Global, sketch: &mut ThetaHandle, lg_k: u8
 
 /// Frees the sketch of a handle, which has none afterwards. A handle without one stays as it is.
 #[unsafe(no_mangle)]
-pub extern "C" fn kc_theta_free(alloc: Global, sketch: &mut ThetaHandle)
+pub extern "C" fn kcp_theta_free(alloc: Global, sketch: &mut ThetaHandle)
     ensures { sketch.new.value ≡ None }
 {
     let _ = take(alloc, sketch);
@@ -242,7 +242,7 @@ pub extern "C" fn kc_theta_free(alloc: Global, sketch: &mut ThetaHandle)
 /// Refused with `INVALID_ARGUMENT` if the handle has no sketch, and with `OUT_OF_MEMORY`, only for a new hash below theta;
 /// then nothing has changed.
 #[unsafe(no_mangle)]
-pub extern "C" fn kc_theta_update_hash(alloc: Global, sketch: &mut ThetaHandle, hash: u64) -> u32
+pub extern "C" fn kcp_theta_update_hash(alloc: Global, sketch: &mut ThetaHandle, hash: u64) -> u32
     ensures { OnObject (UpdatesHash hash) sketch.old.value result sketch.new.value }
 {
     let Some(mut theta) = take(alloc, sketch) else {
@@ -253,9 +253,9 @@ pub extern "C" fn kc_theta_update_hash(alloc: Global, sketch: &mut ThetaHandle, 
     status
 }
 
-/// Updates a sketch with a number, by the hash of its eight bytes, the lowest first. Refused as `kc_theta_update_hash` is.
+/// Updates a sketch with a number, by the hash of its eight bytes, the lowest first. Refused as `kcp_theta_update_hash` is.
 #[unsafe(no_mangle)]
-pub extern "C" fn kc_theta_update_u64(alloc: Global, sketch: &mut ThetaHandle, number: u64) -> u32
+pub extern "C" fn kcp_theta_update_u64(alloc: Global, sketch: &mut ThetaHandle, number: u64) -> u32
     ensures { OnObject (UpdatesNumber number) sketch.old.value result sketch.new.value }
 {
     let Some(mut theta) = take(alloc, sketch) else {
@@ -266,9 +266,9 @@ pub extern "C" fn kc_theta_update_u64(alloc: Global, sketch: &mut ThetaHandle, n
     status
 }
 
-/// Updates a sketch with bytes, by their hash. Refused as `kc_theta_update_hash` is.
+/// Updates a sketch with bytes, by their hash. Refused as `kcp_theta_update_hash` is.
 #[unsafe(no_mangle)]
-pub extern "C" fn kc_theta_update_bytes(alloc: Global, sketch: &mut ThetaHandle, bytes: &[u8]) -> u32
+pub extern "C" fn kcp_theta_update_bytes(alloc: Global, sketch: &mut ThetaHandle, bytes: &[u8]) -> u32
     ensures { OnObject (UpdatesBytes bytes.now) sketch.old.value result sketch.new.value }
 {
     let Some(mut theta) = take(alloc, sketch) else {
@@ -279,12 +279,12 @@ pub extern "C" fn kc_theta_update_bytes(alloc: Global, sketch: &mut ThetaHandle,
     status
 }
 
-/// Updates a sketch with hashes in their order, each as `kc_theta_update_hash` does. Without hashes nothing changes.
+/// Updates a sketch with hashes in their order, each as `kcp_theta_update_hash` does. Without hashes nothing changes.
 ///
 /// Refused with `INVALID_ARGUMENT` if the handle has no sketch. Refused with `OUT_OF_MEMORY` at a new hash below theta;
 /// then exactly the hashes before it have been inserted, and the same call may be repeated.
 #[unsafe(no_mangle)]
-pub extern "C" fn kc_theta_update_hashes(alloc: Global, sketch: &mut ThetaHandle, hashes: &[u64]) -> u32
+pub extern "C" fn kcp_theta_update_hashes(alloc: Global, sketch: &mut ThetaHandle, hashes: &[u64]) -> u32
     ensures { OnObject (UpdatesHashes hashes.now) sketch.old.value result sketch.new.value }
 {
     let Some(mut theta) = take(alloc, sketch) else {
@@ -301,7 +301,7 @@ pub extern "C" fn kc_theta_update_hashes(alloc: Global, sketch: &mut ThetaHandle
 /// Refused with `INVALID_ARGUMENT` if the handle has no sketch, and with `OUT_OF_MEMORY`, only if it retains more; then
 /// nothing has changed.
 #[unsafe(no_mangle)]
-pub extern "C" fn kc_theta_trim(alloc: Global, sketch: &mut ThetaHandle) -> u32
+pub extern "C" fn kcp_theta_trim(alloc: Global, sketch: &mut ThetaHandle) -> u32
     ensures { OnObject Trims sketch.old.value result sketch.new.value }
 {
     let Some(mut theta) = take(alloc, sketch) else {
@@ -314,7 +314,7 @@ pub extern "C" fn kc_theta_trim(alloc: Global, sketch: &mut ThetaHandle) -> u32
 
 /// Makes a sketch empty again, as when it was new. Refused with `INVALID_ARGUMENT` if the handle has no sketch.
 #[unsafe(no_mangle)]
-pub extern "C" fn kc_theta_reset(alloc: Global, sketch: &mut ThetaHandle) -> u32
+pub extern "C" fn kcp_theta_reset(alloc: Global, sketch: &mut ThetaHandle) -> u32
     ensures { OnObject Resets sketch.old.value result sketch.new.value }
 {
     let Some(mut theta) = take(alloc, sketch) else {
@@ -328,7 +328,7 @@ pub extern "C" fn kc_theta_reset(alloc: Global, sketch: &mut ThetaHandle) -> u32
 /// Writes the state of a sketch: how many hashes it retains, its theta, and whether it is empty. The sketch doesn't change.
 /// Refused with `INVALID_ARGUMENT` if the handle has no sketch; then nothing is written.
 #[unsafe(no_mangle)]
-pub extern "C" fn kc_theta_state(alloc: Global, sketch: &mut ThetaHandle, out: &mut State) -> u32
+pub extern "C" fn kcp_theta_state(alloc: Global, sketch: &mut ThetaHandle, out: &mut State) -> u32
     ensures state { ReadsState (option_map theta_state sketch.old.value) out.old result out.new }
     ensures unchanged { sketch.new.value ≡ sketch.old.value }
 {
@@ -345,7 +345,7 @@ pub extern "C" fn kc_theta_state(alloc: Global, sketch: &mut ThetaHandle, out: &
 /// If the buffer is too small, the status is `TOO_SMALL`, the length is written, and the buffer is as before. Refused with
 /// `INVALID_ARGUMENT` if the handle has no sketch, and with `OUT_OF_MEMORY`; then nothing is written.
 #[unsafe(no_mangle)]
-pub extern "C" fn kc_theta_image(
+pub extern "C" fn kcp_theta_image(
     alloc: Global,
     sketch: &mut ThetaHandle,
     out: &mut [u8],
@@ -370,7 +370,7 @@ pub extern "C" fn kc_theta_image(
 /// Refused with `INVALID_ARGUMENT` if the first handle has no sketch or the second one has a sketch, and with
 /// `OUT_OF_MEMORY`; then nothing has changed.
 #[unsafe(no_mangle)]
-pub extern "C" fn kc_theta_compact(
+pub extern "C" fn kcp_theta_compact(
     alloc: Global,
     sketch: &mut ThetaHandle,
     out: &mut CompactHandle,

@@ -179,7 +179,7 @@ fn reset(union: &mut SeededUnion) -> u32
 /// Refused with `INVALID_ARGUMENT` if the handle has a union already, `lg_k` is out of range or the hash of the seed is 0,
 /// and with `OUT_OF_MEMORY`; then the handle is as before.
 #[unsafe(no_mangle)]
-pub extern "C" fn kc_union_new(alloc: Global, union: &mut UnionHandle, lg_k: u8, seed: u64) -> u32
+pub extern "C" fn kcp_union_new(alloc: Global, union: &mut UnionHandle, lg_k: u8, seed: u64) -> u32
     ensures { Fills (IsNewUnion lg_k seed) (IsSettingsRefusal lg_k seed) union.old.value result union.new.value }
 {
     if is_filled(alloc, union) {
@@ -196,7 +196,7 @@ pub extern "C" fn kc_union_new(alloc: Global, union: &mut UnionHandle, lg_k: u8,
 
 /// Frees the union of a handle, which has none afterwards. A handle without one stays as it is.
 #[unsafe(no_mangle)]
-pub extern "C" fn kc_union_free(alloc: Global, union: &mut UnionHandle)
+pub extern "C" fn kcp_union_free(alloc: Global, union: &mut UnionHandle)
     ensures { union.new.value ≡ None }
 {
     let _ = take(alloc, union);
@@ -209,7 +209,7 @@ pub extern "C" fn kc_union_free(alloc: Global, union: &mut UnionHandle)
 /// union has failed, whatever the sketch; then nothing has changed. Refused with `OUT_OF_MEMORY`; then the union has
 /// failed until it is reset.
 #[unsafe(no_mangle)]
-pub extern "C" fn kc_union_add(
+pub extern "C" fn kcp_union_add(
     alloc: Global,
     union: &mut UnionHandle,
     sketch: &mut ThetaHandle,
@@ -232,9 +232,9 @@ pub extern "C" fn kc_union_add(
     status
 }
 
-/// Merges a compact sketch into a union, as `kc_union_add` does.
+/// Merges a compact sketch into a union, as `kcp_union_add` does.
 #[unsafe(no_mangle)]
-pub extern "C" fn kc_union_add_compact(
+pub extern "C" fn kcp_union_add_compact(
     alloc: Global,
     union: &mut UnionHandle,
     sketch: &mut CompactHandle,
@@ -259,10 +259,10 @@ pub extern "C" fn kc_union_add_compact(
 
 /// Merges the sketch that the bytes begin with into a union, read under the union's seed.
 ///
-/// Refused with `INVALID_DATA` if the bytes begin with no sketch of this seed, and otherwise as `kc_union_add` is. If memory
+/// Refused with `INVALID_DATA` if the bytes begin with no sketch of this seed, and otherwise as `kcp_union_add` is. If memory
 /// is refused while the image is read, nothing has changed.
 #[unsafe(no_mangle)]
-pub extern "C" fn kc_union_add_image(alloc: Global, union: &mut UnionHandle, image: &[u8]) -> u32
+pub extern "C" fn kcp_union_add_image(alloc: Global, union: &mut UnionHandle, image: &[u8]) -> u32
     ensures { OnObject (AddsImage image.now) union.old.value result union.new.value }
 {
     let Some(mut object) = take(alloc, union) else {
@@ -278,7 +278,7 @@ pub extern "C" fn kc_union_add_image(alloc: Global, union: &mut UnionHandle, ima
 /// Refused with `INVALID_ARGUMENT` if the first handle has no union or the second one has a sketch, with `FAILED` if the
 /// union has failed, and with `OUT_OF_MEMORY`; then nothing has changed.
 #[unsafe(no_mangle)]
-pub extern "C" fn kc_union_result(
+pub extern "C" fn kcp_union_result(
     alloc: Global,
     union: &mut UnionHandle,
     out: &mut CompactHandle,
@@ -297,7 +297,7 @@ pub extern "C" fn kc_union_result(
 /// Makes a union empty again, as when it was new, and ends a failure. Refused with `INVALID_ARGUMENT` if the handle has no
 /// union.
 #[unsafe(no_mangle)]
-pub extern "C" fn kc_union_reset(alloc: Global, union: &mut UnionHandle) -> u32
+pub extern "C" fn kcp_union_reset(alloc: Global, union: &mut UnionHandle) -> u32
     ensures { OnObject ResetsUnion union.old.value result union.new.value }
 {
     let Some(mut object) = take(alloc, union) else {

@@ -1,0 +1,6 @@
+//! Tests.
+
+#[test]
+fn nothing(rt: HostRuntime) {
+    assert_eq!(rt; 1, 1);
+}
