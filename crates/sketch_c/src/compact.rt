@@ -51,7 +51,7 @@ impl CompactHandle {
     /// The pointer of the handle, tested for null.
     #[inline(always)]
     fn into_owned(self) -> Owned<CompactSketch>
-        ensures { (result.absent ≡ absent_of self.value) × (result.value ≡ self.value) }
+        ensures { (result.absent ≡ absent_of result.value) × (result.value ≡ self.value) }
     {
         let CompactHandle { at } = self;
         if at.is_null() {

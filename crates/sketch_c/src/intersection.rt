@@ -53,7 +53,7 @@ impl IntersectionHandle {
     /// The pointer of the handle, tested for null.
     #[inline(always)]
     fn into_owned(self) -> Owned<SeededIntersection>
-        ensures { (result.absent ≡ absent_of self.value) × (result.value ≡ self.value) }
+        ensures { (result.absent ≡ absent_of result.value) × (result.value ≡ self.value) }
     {
         let IntersectionHandle { at } = self;
         if at.is_null() {

@@ -56,7 +56,7 @@ impl ThetaHandle {
     /// The pointer of the handle, tested for null.
     #[inline(always)]
     fn into_owned(self) -> Owned<SeededSketch>
-        ensures { (result.absent ≡ absent_of self.value) × (result.value ≡ self.value) }
+        ensures { (result.absent ≡ absent_of result.value) × (result.value ≡ self.value) }
     {
         let ThetaHandle { at } = self;
         if at.is_null() {

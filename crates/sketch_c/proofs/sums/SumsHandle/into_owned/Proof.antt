@@ -16,7 +16,6 @@ use denote.Signature.{types_at, plain}
 use denote.Steps.{nothing}
 use denote.Triple.Walked.{Stays, stay_dropped, walk_of, says, Goes-dropped, ends_at}
 use Rattle.std.proofs.raw_atomic.Walks.{proved_at}
-use Rattle.sketch_c.specs.Handle.{absent_of}
 use Rattle.sketch_c.proofs.Values.{owned_val, owned_in, owned_good, owned_cases, ptr_good, handle_val, handle_good}
 use Rattle.sketch_c.specs.contracts.sums.SeededSums.{the_row as R}
 use Rattle.sketch_c.specs.contracts.sums.SumsHandle as handle
@@ -45,7 +44,7 @@ into_owned_spec 𝓤 𝓛 𝓜 𝓡 wired =
     (λ _. sets ! (of_opd ! (get ! refl)) refl (ptr_good null_ptr) $
     sets ! (agg ! (and_then ! (get ! refl) (and_then ! (lit ! tt) (no_more !)))) refl (owned_good null_ptr 1 (lit< tt)) $
     returns_within ! Post refl (look_at ! 0 refl) $ free_all ! refl $
-    suffices ! _ (ends_at 𝓛 En hs c z (owned_val null_ptr 1) (record { at = null_ptr; absent = 1; value = None }) (tt, tt) (tt, tt)) $ says ! (ap absent_of (sym isnone), sym isnone) $
+    suffices ! _ (ends_at 𝓛 En hs c z (owned_val null_ptr 1) (record { at = null_ptr; absent = 1; value = None }) (tt, tt) (tt, tt)) $ says ! (refl, sym isnone) $
     feq_i ! Ptr null_ptr null_ptr refl $ owned_in R ! null_ptr 1 None (lit< tt) $ nothing ! $ nothing ! $ join ! $ nothing ! $ group ! 3 $ done !)
     (λ wrong. absurd wrong)))
     (λ b o y e is t. let w : Val = handle_val (block_ptr b o) in
@@ -57,5 +56,5 @@ into_owned_spec 𝓤 𝓛 𝓜 𝓡 wired =
     sets ! (of_opd ! (get ! refl)) refl (tt, tt) $
     sets ! (agg ! (and_then ! (get ! refl) (and_then ! (lit ! tt) (no_more !)))) refl (owned_good (block_ptr b o) 0 (lit< tt)) $
     returns ! (look_at ! 0 refl) $ free_all ! refl $
-    suffices ! _ (ends_at 𝓛 En hs c z (owned_val (block_ptr b o) 0) (record { at = block_ptr b o; absent = 0; value = Some y }) (tt, tt) (tt, tt)) $ says ! (ap absent_of (sym is), sym is) $
+    suffices ! _ (ends_at 𝓛 En hs c z (owned_val (block_ptr b o) 0) (record { at = block_ptr b o; absent = 0; value = Some y }) (tt, tt) (tt, tt)) $ says ! (refl, sym is) $
     owned_in R ! (block_ptr b o) 0 (Some y) (lit< tt) $ nothing ! $ nothing ! $ join ! $ nothing ! $ group ! 3 $ done !)))))))
