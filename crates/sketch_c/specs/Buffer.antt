@@ -3,10 +3,11 @@ use Rattle.std.specs.Prelude.{◌≡◌, ◌⊎◌, ◌≤◌, ◌<◌, ◌++◌
 
 -- bytes are written to the front of a buffer that has room for them, with status 0; a buffer that is too small is left as it
 -- was, with status 6; their number is written in both cases
-pub record IsPut (bytes before : List ℕ) (status : ℕ) (after : List ℕ) (count : ℕ) : Type 0 where
-  pub counted : count ≡ length bytes
-  pub fits : length bytes ≤ length before → (status ≡ 0) × (after ≡ bytes ++ drop (length bytes) before)
-  pub too_small : length before < length bytes → (status ≡ 6) × (after ≡ before)
+abbrev pub IsPut : (bytes before : List ℕ) → (status : ℕ) → (after : List ℕ) → (count : ℕ) → Type 0
+IsPut bytes before status after count =
+    (count ≡ length bytes)
+    × (length bytes ≤ length before → (status ≡ 0) × (after ≡ bytes ++ drop (length bytes) before))
+    × (length before < length bytes → (status ≡ 6) × (after ≡ before))
 
 -- an image is put into a buffer; or the call is refused, and the buffer and the count are as before
 abbrev pub Writes : (IsImage : List ℕ → Type 0) → (IsRefused : ℕ → Type 0) → (before : List ℕ) → (count_before status : ℕ) → (after : List ℕ) → (count : ℕ) → Type 0

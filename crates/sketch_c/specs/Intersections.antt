@@ -27,10 +27,11 @@ abbrev pub IsSeedRefusal : (seed : ℕ) → (status : ℕ) → Type 0
 IsSeedRefusal seed status = IsRefusal (seed_refusal seed) true status
 
 -- a sketch that shows this was intersected, with status 0
-pub record Meets (shown : Shown) (listing : List ℕ) (old new : SeededIntersection) : Type 0 where
-  pub accepted : intersect_refusal old.intersection shown ≡ None
-  pub met : new.intersection.result ≡ Some (meet_next hash_key first_hash old.intersection.result (shown_value hash_key shown listing))
-  pub made_with : new.intersection ≡ record old.intersection { result = new.intersection.result }
+abbrev pub Meets : Shown → (listing : List ℕ) → (old new : SeededIntersection) → Type 0
+Meets shown listing old new =
+    (intersect_refusal old.intersection shown ≡ None)
+    × (new.intersection.result ≡ Some (meet_next hash_key first_hash old.intersection.result (shown_value hash_key shown listing)))
+    × (new.intersection ≡ record old.intersection { result = new.intersection.result })
 
 -- a sketch was intersected; or it was refused, with 1 for another seed and with 3 for memory, and nothing has changed
 abbrev pub MeetsShown : Shown → (listing : List ℕ) → (old : SeededIntersection) → (status : ℕ) → (new : SeededIntersection) → Type 0

@@ -100,9 +100,9 @@ IsCompactForm t s = IsAnswer hash_key (sketch_value t.sketch) t.sketch.map.seed_
 abbrev pub IsReadFrom : (bytes : List ℕ) → (seed : ℕ) → CompactSketch → Type 0
 IsReadFrom bytes seed s = Reads bytes (seed_hash seed) s.sketch
 
--- the refusal of reading: bytes that are read as no sketch, with 2; or memory, with 3
+-- the refusal of reading: memory, with 3; or bytes that are read as no sketch, with 2
 abbrev pub IsReadRefusal : (bytes : List ℕ) → (seed : ℕ) → (status : ℕ) → Type 0
-IsReadRefusal bytes seed status = ((status ≡ 2) × (IsReadable bytes (seed_hash seed) → ⊥)) ⊎ (status ≡ 3)
+IsReadRefusal bytes seed status = (status ≡ 3) ⊎ ((status ≡ 2) × (IsReadable bytes (seed_hash seed) → ⊥))
 
 -- the refusal of a call that is refused memory alone
 abbrev pub IsMemoryRefusal : (status : ℕ) → Type 0

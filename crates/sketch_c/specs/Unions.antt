@@ -21,12 +21,13 @@ IsNewUnion lg_k seed u = (u.seed ≡ seed) × (u.union ≡ empty_union lg_k MAX_
 
 -- a sketch that shows this was merged, with status 0: the union's value is united with the sketch's, and only an Empty sketch
 -- changes nothing
-pub record Merges (shown : Shown) (listing : List ℕ) (old new : SeededUnion) : Type 0 where
-  pub accepted : update_refusal old.union shown ≡ None
-  pub skipped : shown.empty ≡ true → new.union ≡ old.union
-  pub united : UnitesHashes old.union new.union shown listing
-  pub joined : JoinsHashes old.union new.union shown listing
-  pub made_with : new.union ≡ record old.union { empty = new.union.empty; held = new.union.held }
+abbrev pub Merges : Shown → (listing : List ℕ) → (old new : SeededUnion) → Type 0
+Merges shown listing old new =
+    (update_refusal old.union shown ≡ None)
+    × (shown.empty ≡ true → new.union ≡ old.union)
+    × UnitesHashes old.union new.union shown listing
+    × JoinsHashes old.union new.union shown listing
+    × (new.union ≡ record old.union { empty = new.union.empty; held = new.union.held })
 
 -- a sketch was merged; or the union refused it, with 1 for another seed and with 5 if it has failed, and is unchanged; or
 -- memory was refused, with 3, and the union has failed

@@ -4,7 +4,7 @@ ghost use Rattle.std.specs.Coded.{coded_option};
 ghost use Rattle.core_laws.specs.Refusal.{Refuses};
 ghost use Rattle.sketch_c.specs.Buffer.{WritesOf};
 ghost use Rattle.sketch_c.specs.Calls.{Fills, FillsFrom};
-ghost use Rattle.sketch_c.specs.Handle.{handle_owns, absent_of};
+ghost use Rattle.sketch_c.specs.Handle.{handle_owns};
 ghost use Rattle.sketch_c.specs.Thetas.{compact_state, ReadsState, IsCompactImage, IsCopy, IsMemoryRefusal, IsReadFrom, IsReadRefusal};
 ghost use Rattle.sketch_c.specs.contracts.compact.CompactSketch.{the_row};
 ghost use Rattle.sketch_c.specs.declared.compact.CompactSketch.{CompactSketch};
@@ -42,27 +42,20 @@ impl CompactHandle {
     fn of(owned: Owned<CompactSketch>) -> CompactHandle
         ensures { result.value ≡ owned.value }
     {
-        let Owned { at, absent: _ } = owned;
+        let Owned { at } = owned;
         CompactHandle {
             at: at as *mut Opaque,
         }
     }
 
-    /// The pointer of the handle, tested for null.
+    /// The pointer of the handle.
     #[inline(always)]
     fn into_owned(self) -> Owned<CompactSketch>
-        ensures { (result.absent ≡ absent_of result.value) × (result.value ≡ self.value) }
+        ensures { result.value ≡ self.value }
     {
         let CompactHandle { at } = self;
-        if at.is_null() {
-            return Owned {
-                at: at as *mut CompactSketch,
-                absent: 1,
-            };
-        }
         Owned {
             at: at as *mut CompactSketch,
-            absent: 0,
         }
     }
 }
@@ -77,14 +70,13 @@ pub(crate) fn take(alloc: Global, handle: &mut CompactHandle) -> Option<Box<Comp
     handle.into_owned().into_box(alloc)
 }
 
-/// Puts a sketch into a handle that has none.
+/// Puts a sketch into a handle. One that it has is freed.
 #[inline(always)]
-pub(crate) fn fill(handle: &mut CompactHandle, value: Option<Box<CompactSketch>>)
-    requires none_yet { handle.old.value ≡ None }
-    ensures filled { handle.new.value ≡ option_map (λ b. b.value) value }
+pub(crate) fn fill(alloc: Global, handle: &mut CompactHandle, value: Option<Box<CompactSketch>>)
+    ensures { handle.new.value ≡ option_map (λ b. b.value) value }
 {
     let handle = std::mem::replace(handle, CompactHandle::of(Owned::of_box(value)));
-    handle.into_owned().discard();
+    let _ = handle.into_owned().into_box(alloc);
 }
 
 /// Whether a handle has a sketch.
@@ -94,7 +86,7 @@ pub(crate) fn is_filled(alloc: Global, handle: &mut CompactHandle) -> bool
 {
     let value = take(alloc, handle);
     let filled = value.is_some();
-    fill(handle, value);
+    fill(alloc, handle, value);
     filled
 }
 
@@ -146,7 +138,7 @@ fn fill_copy(alloc: Global, sketch: &CompactSketch, out: &mut CompactHandle) -> 
     }
     match copied(alloc, sketch) {
         Ok(made) => {
-            fill(out, Some(made));
+            fill(alloc, out, Some(made));
             OK
         }
         Err(_) => OUT_OF_MEMORY,
@@ -183,7 +175,7 @@ pub extern "C" fn kcp_compact_read(
     }
     match read_boxed(alloc, image, seed) {
         Ok(made) => {
-            fill(sketch, Some(made));
+            fill(alloc, sketch, Some(made));
             OK
         }
         Err(status) => status,
@@ -215,7 +207,7 @@ pub extern "C" fn kcp_compact_clone(
         return INVALID_ARGUMENT;
     };
     let status = fill_copy(alloc, &compact, out);
-    fill(sketch, Some(compact));
+    fill(alloc, sketch, Some(compact));
     status
 }
 
@@ -234,7 +226,7 @@ pub extern "C" fn kcp_compact_state(
         return INVALID_ARGUMENT;
     };
     *out = state(&compact);
-    fill(sketch, Some(compact));
+    fill(alloc, sketch, Some(compact));
     OK
 }
 
@@ -259,6 +251,6 @@ pub extern "C" fn kcp_compact_image(
         Ok(image) => put(image.as_slice(), out, length),
         Err(_) => OUT_OF_MEMORY,
     };
-    fill(sketch, Some(compact));
+    fill(alloc, sketch, Some(compact));
     status
 }

@@ -57,7 +57,7 @@ fn fill_difference(
     }
     match made(alloc, seed, first, second) {
         Ok(made) => {
-            fill(out, Some(made));
+            fill(alloc, out, Some(made));
             OK
         }
         Err(status) => status,
@@ -88,11 +88,11 @@ pub extern "C" fn kcp_difference(
     let status = match take(alloc, second) {
         Some(b) => {
             let status = fill_difference(alloc, seed, &a, &b, out);
-            fill(second, Some(b));
+            fill(alloc, second, Some(b));
             status
         }
         None => INVALID_ARGUMENT,
     };
-    fill(first, Some(a));
+    fill(alloc, first, Some(a));
     status
 }

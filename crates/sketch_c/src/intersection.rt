@@ -5,7 +5,7 @@ ghost use Rattle.core_laws.specs.Refusal.{Refuses};
 ghost use Rattle.core_operators.specs.Intersection.{seed_refusal};
 ghost use Rattle.theta_sketches.specs.View.{view_shows, view_lends};
 ghost use Rattle.sketch_c.specs.Calls.{OnObject, OnObjectWith, Fills, FillsFrom};
-ghost use Rattle.sketch_c.specs.Handle.{handle_owns, absent_of};
+ghost use Rattle.sketch_c.specs.Handle.{handle_owns};
 ghost use Rattle.sketch_c.specs.Intersections.{IsNewIntersection, IsSeedRefusal, MeetsShown, MeetsSketch, MeetsCompact, MeetsImage, IsIntersectionResult, IsNoResult};
 ghost use Rattle.sketch_c.specs.contracts.intersection.SeededIntersection.{the_row};
 ghost use Rattle.sketch_c.specs.declared.intersection.SeededIntersection.{SeededIntersection};
@@ -44,27 +44,20 @@ impl IntersectionHandle {
     fn of(owned: Owned<SeededIntersection>) -> IntersectionHandle
         ensures { result.value ≡ owned.value }
     {
-        let Owned { at, absent: _ } = owned;
+        let Owned { at } = owned;
         IntersectionHandle {
             at: at as *mut Opaque,
         }
     }
 
-    /// The pointer of the handle, tested for null.
+    /// The pointer of the handle.
     #[inline(always)]
     fn into_owned(self) -> Owned<SeededIntersection>
-        ensures { (result.absent ≡ absent_of result.value) × (result.value ≡ self.value) }
+        ensures { result.value ≡ self.value }
     {
         let IntersectionHandle { at } = self;
-        if at.is_null() {
-            return Owned {
-                at: at as *mut SeededIntersection,
-                absent: 1,
-            };
-        }
         Owned {
             at: at as *mut SeededIntersection,
-            absent: 0,
         }
     }
 }
@@ -79,14 +72,13 @@ pub(crate) fn take(alloc: Global, handle: &mut IntersectionHandle) -> Option<Box
     handle.into_owned().into_box(alloc)
 }
 
-/// Puts an intersection into a handle that has none.
+/// Puts an intersection into a handle. One that it has is freed.
 #[inline(always)]
-pub(crate) fn fill(handle: &mut IntersectionHandle, value: Option<Box<SeededIntersection>>)
-    requires none_yet { handle.old.value ≡ None }
-    ensures filled { handle.new.value ≡ option_map (λ b. b.value) value }
+pub(crate) fn fill(alloc: Global, handle: &mut IntersectionHandle, value: Option<Box<SeededIntersection>>)
+    ensures { handle.new.value ≡ option_map (λ b. b.value) value }
 {
     let handle = std::mem::replace(handle, IntersectionHandle::of(Owned::of_box(value)));
-    handle.into_owned().discard();
+    let _ = handle.into_owned().into_box(alloc);
 }
 
 /// Whether a handle has an intersection.
@@ -96,7 +88,7 @@ pub(crate) fn is_filled(alloc: Global, handle: &mut IntersectionHandle) -> bool
 {
     let value = take(alloc, handle);
     let filled = value.is_some();
-    fill(handle, value);
+    fill(alloc, handle, value);
     filled
 }
 
@@ -157,7 +149,7 @@ fn fill_result(alloc: Global, object: &SeededIntersection, out: &mut CompactHand
     }
     match result(alloc, object) {
         Ok(made) => {
-            compact::fill(out, Some(made));
+            compact::fill(alloc, out, Some(made));
             OK
         }
         Err(status) => status,
@@ -181,7 +173,7 @@ pub extern "C" fn kcp_intersection_new(
     }
     match built(alloc, seed) {
         Ok(made) => {
-            fill(intersection, Some(made));
+            fill(alloc, intersection, Some(made));
             OK
         }
         Err(error) => status_of(error.kind()),
@@ -216,12 +208,12 @@ pub extern "C" fn kcp_intersection_add(
     let status = match take(alloc, intersection) {
         Some(mut object) => {
             let status = add_sketch(&mut object, &theta);
-            fill(intersection, Some(object));
+            fill(alloc, intersection, Some(object));
             status
         }
         None => INVALID_ARGUMENT,
     };
-    theta::fill(sketch, Some(theta));
+    theta::fill(alloc, sketch, Some(theta));
     status
 }
 
@@ -241,12 +233,12 @@ pub extern "C" fn kcp_intersection_add_compact(
     let status = match take(alloc, intersection) {
         Some(mut object) => {
             let status = add_compact(&mut object, &compact);
-            fill(intersection, Some(object));
+            fill(alloc, intersection, Some(object));
             status
         }
         None => INVALID_ARGUMENT,
     };
-    compact::fill(sketch, Some(compact));
+    compact::fill(alloc, sketch, Some(compact));
     status
 }
 
@@ -266,7 +258,7 @@ pub extern "C" fn kcp_intersection_add_image(
         return INVALID_ARGUMENT;
     };
     let status = add_image(alloc, &mut object, image);
-    fill(intersection, Some(object));
+    fill(alloc, intersection, Some(object));
     status
 }
 
@@ -287,6 +279,6 @@ pub extern "C" fn kcp_intersection_result(
         return INVALID_ARGUMENT;
     };
     let status = fill_result(alloc, &object, out);
-    fill(intersection, Some(object));
+    fill(alloc, intersection, Some(object));
     status
 }

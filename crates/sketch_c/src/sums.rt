@@ -6,7 +6,7 @@ ghost use Rattle.core_laws.specs.Settings.{settings_refusal};
 ghost use Rattle.core_laws.specs.declared.TheConstants.{MAX_THETA};
 ghost use Rattle.sketch_c.specs.Buffer.{WritesOf};
 ghost use Rattle.sketch_c.specs.Calls.{OnObject, Fills};
-ghost use Rattle.sketch_c.specs.Handle.{handle_owns, absent_of};
+ghost use Rattle.sketch_c.specs.Handle.{handle_owns};
 ghost use Rattle.sketch_c.specs.Sums.{IsNewSums, AddsValue, AddsAtBytes, TrimsSums, ResetsSums, sums_state, IsImageOfSums};
 ghost use Rattle.sketch_c.specs.Thetas.{IsSettingsRefusal, IsMemoryRefusal, ReadsState};
 ghost use Rattle.sketch_c.specs.contracts.sums.SeededSums.{the_row};
@@ -47,27 +47,20 @@ impl SumsHandle {
     fn of(owned: Owned<SeededSums>) -> SumsHandle
         ensures { result.value ≡ owned.value }
     {
-        let Owned { at, absent: _ } = owned;
+        let Owned { at } = owned;
         SumsHandle {
             at: at as *mut Opaque,
         }
     }
 
-    /// The pointer of the handle, tested for null.
+    /// The pointer of the handle.
     #[inline(always)]
     fn into_owned(self) -> Owned<SeededSums>
-        ensures { (result.absent ≡ absent_of result.value) × (result.value ≡ self.value) }
+        ensures { result.value ≡ self.value }
     {
         let SumsHandle { at } = self;
-        if at.is_null() {
-            return Owned {
-                at: at as *mut SeededSums,
-                absent: 1,
-            };
-        }
         Owned {
             at: at as *mut SeededSums,
-            absent: 0,
         }
     }
 }
@@ -82,14 +75,13 @@ pub(crate) fn take(alloc: Global, handle: &mut SumsHandle) -> Option<Box<SeededS
     handle.into_owned().into_box(alloc)
 }
 
-/// Puts a sketch into a handle that has none.
+/// Puts a sketch into a handle. One that it has is freed.
 #[inline(always)]
-pub(crate) fn fill(handle: &mut SumsHandle, value: Option<Box<SeededSums>>)
-    requires none_yet { handle.old.value ≡ None }
-    ensures filled { handle.new.value ≡ option_map (λ b. b.value) value }
+pub(crate) fn fill(alloc: Global, handle: &mut SumsHandle, value: Option<Box<SeededSums>>)
+    ensures { handle.new.value ≡ option_map (λ b. b.value) value }
 {
     let handle = std::mem::replace(handle, SumsHandle::of(Owned::of_box(value)));
-    handle.into_owned().discard();
+    let _ = handle.into_owned().into_box(alloc);
 }
 
 /// Whether a handle has a sketch.
@@ -99,7 +91,7 @@ pub(crate) fn is_filled(alloc: Global, handle: &mut SumsHandle) -> bool
 {
     let value = take(alloc, handle);
     let filled = value.is_some();
-    fill(handle, value);
+    fill(alloc, handle, value);
     filled
 }
 
@@ -179,7 +171,7 @@ pub extern "C" fn kcp_sums_new(alloc: Global, sums: &mut SumsHandle, lg_k: u8, s
     }
     match built(alloc, lg_k, seed) {
         Ok(made) => {
-            fill(sums, Some(made));
+            fill(alloc, sums, Some(made));
             OK
         }
         Err(error) => status_of(error.kind()),
@@ -207,7 +199,7 @@ pub extern "C" fn kcp_sums_add_hash(alloc: Global, sums: &mut SumsHandle, hash: 
         return INVALID_ARGUMENT;
     };
     let status = add_at_hash(&mut object, hash, value);
-    fill(sums, Some(object));
+    fill(alloc, sums, Some(object));
     status
 }
 
@@ -225,7 +217,7 @@ pub extern "C" fn kcp_sums_add_bytes(
         return INVALID_ARGUMENT;
     };
     let status = add_at_bytes(&mut object, bytes, value);
-    fill(sums, Some(object));
+    fill(alloc, sums, Some(object));
     status
 }
 
@@ -238,7 +230,7 @@ pub extern "C" fn kcp_sums_trim(alloc: Global, sums: &mut SumsHandle) -> u32
         return INVALID_ARGUMENT;
     };
     let status = trim(&mut object);
-    fill(sums, Some(object));
+    fill(alloc, sums, Some(object));
     status
 }
 
@@ -251,7 +243,7 @@ pub extern "C" fn kcp_sums_reset(alloc: Global, sums: &mut SumsHandle) -> u32
         return INVALID_ARGUMENT;
     };
     let status = reset(&mut object);
-    fill(sums, Some(object));
+    fill(alloc, sums, Some(object));
     status
 }
 
@@ -266,7 +258,7 @@ pub extern "C" fn kcp_sums_state(alloc: Global, sums: &mut SumsHandle, out: &mut
         return INVALID_ARGUMENT;
     };
     *out = state(&object);
-    fill(sums, Some(object));
+    fill(alloc, sums, Some(object));
     OK
 }
 
@@ -289,6 +281,6 @@ pub extern "C" fn kcp_sums_image(
         Ok(image) => put(image.as_slice(), out, length),
         Err(_) => OUT_OF_MEMORY,
     };
-    fill(sums, Some(object));
+    fill(alloc, sums, Some(object));
     status
 }

@@ -6,7 +6,7 @@ ghost use Rattle.core_laws.specs.Settings.{settings_refusal};
 ghost use Rattle.core_laws.specs.declared.TheConstants.{MAX_THETA};
 ghost use Rattle.sketch_c.specs.Buffer.{WritesOf};
 ghost use Rattle.sketch_c.specs.Calls.{OnObject, Fills, FillsFrom};
-ghost use Rattle.sketch_c.specs.Handle.{handle_owns, absent_of};
+ghost use Rattle.sketch_c.specs.Handle.{handle_owns};
 ghost use Rattle.sketch_c.specs.Thetas.{IsNewSketch, IsSettingsRefusal, UpdatesHash, UpdatesNumber, UpdatesBytes, UpdatesHashes, Trims, Resets, theta_state, ReadsState, IsImageOf, IsCompactForm, IsMemoryRefusal};
 ghost use Rattle.sketch_c.specs.contracts.theta.SeededSketch.{the_row};
 ghost use Rattle.sketch_c.specs.declared.theta.SeededSketch.{SeededSketch};
@@ -47,27 +47,20 @@ impl ThetaHandle {
     fn of(owned: Owned<SeededSketch>) -> ThetaHandle
         ensures { result.value ≡ owned.value }
     {
-        let Owned { at, absent: _ } = owned;
+        let Owned { at } = owned;
         ThetaHandle {
             at: at as *mut Opaque,
         }
     }
 
-    /// The pointer of the handle, tested for null.
+    /// The pointer of the handle.
     #[inline(always)]
     fn into_owned(self) -> Owned<SeededSketch>
-        ensures { (result.absent ≡ absent_of result.value) × (result.value ≡ self.value) }
+        ensures { result.value ≡ self.value }
     {
         let ThetaHandle { at } = self;
-        if at.is_null() {
-            return Owned {
-                at: at as *mut SeededSketch,
-                absent: 1,
-            };
-        }
         Owned {
             at: at as *mut SeededSketch,
-            absent: 0,
         }
     }
 }
@@ -82,14 +75,13 @@ pub(crate) fn take(alloc: Global, handle: &mut ThetaHandle) -> Option<Box<Seeded
     handle.into_owned().into_box(alloc)
 }
 
-/// Puts a sketch into a handle that has none.
+/// Puts a sketch into a handle. One that it has is freed.
 #[inline(always)]
-pub(crate) fn fill(handle: &mut ThetaHandle, value: Option<Box<SeededSketch>>)
-    requires none_yet { handle.old.value ≡ None }
-    ensures filled { handle.new.value ≡ option_map (λ b. b.value) value }
+pub(crate) fn fill(alloc: Global, handle: &mut ThetaHandle, value: Option<Box<SeededSketch>>)
+    ensures { handle.new.value ≡ option_map (λ b. b.value) value }
 {
     let handle = std::mem::replace(handle, ThetaHandle::of(Owned::of_box(value)));
-    handle.into_owned().discard();
+    let _ = handle.into_owned().into_box(alloc);
 }
 
 /// Whether a handle has a sketch.
@@ -99,7 +91,7 @@ pub(crate) fn is_filled(alloc: Global, handle: &mut ThetaHandle) -> bool
 {
     let value = take(alloc, handle);
     let filled = value.is_some();
-    fill(handle, value);
+    fill(alloc, handle, value);
     filled
 }
 
@@ -201,7 +193,7 @@ fn fill_compact(alloc: Global, theta: &SeededSketch, out: &mut CompactHandle) ->
     }
     match compact_form(alloc, theta) {
         Ok(made) => {
-            compact::fill(out, Some(made));
+            compact::fill(alloc, out, Some(made));
             OK
         }
         Err(_) => OUT_OF_MEMORY,
@@ -221,7 +213,7 @@ pub extern "C" fn kcp_theta_new(alloc: Global, sketch: &mut ThetaHandle, lg_k: u
     }
     match built(alloc, lg_k, seed) {
         Ok(theta) => {
-            fill(sketch, Some(theta));
+            fill(alloc, sketch, Some(theta));
             OK
         }
         Err(error) => status_of(error.kind()),
@@ -249,7 +241,7 @@ pub extern "C" fn kcp_theta_update_hash(alloc: Global, sketch: &mut ThetaHandle,
         return INVALID_ARGUMENT;
     };
     let status = update_hash(&mut theta, hash);
-    fill(sketch, Some(theta));
+    fill(alloc, sketch, Some(theta));
     status
 }
 
@@ -262,7 +254,7 @@ pub extern "C" fn kcp_theta_update_u64(alloc: Global, sketch: &mut ThetaHandle, 
         return INVALID_ARGUMENT;
     };
     let status = update_number(&mut theta, number);
-    fill(sketch, Some(theta));
+    fill(alloc, sketch, Some(theta));
     status
 }
 
@@ -275,7 +267,7 @@ pub extern "C" fn kcp_theta_update_bytes(alloc: Global, sketch: &mut ThetaHandle
         return INVALID_ARGUMENT;
     };
     let status = update_bytes(&mut theta, bytes);
-    fill(sketch, Some(theta));
+    fill(alloc, sketch, Some(theta));
     status
 }
 
@@ -291,7 +283,7 @@ pub extern "C" fn kcp_theta_update_hashes(alloc: Global, sketch: &mut ThetaHandl
         return INVALID_ARGUMENT;
     };
     let status = update_hashes(&mut theta, hashes);
-    fill(sketch, Some(theta));
+    fill(alloc, sketch, Some(theta));
     status
 }
 
@@ -308,7 +300,7 @@ pub extern "C" fn kcp_theta_trim(alloc: Global, sketch: &mut ThetaHandle) -> u32
         return INVALID_ARGUMENT;
     };
     let status = trim(&mut theta);
-    fill(sketch, Some(theta));
+    fill(alloc, sketch, Some(theta));
     status
 }
 
@@ -321,7 +313,7 @@ pub extern "C" fn kcp_theta_reset(alloc: Global, sketch: &mut ThetaHandle) -> u3
         return INVALID_ARGUMENT;
     };
     let status = reset(&mut theta);
-    fill(sketch, Some(theta));
+    fill(alloc, sketch, Some(theta));
     status
 }
 
@@ -336,7 +328,7 @@ pub extern "C" fn kcp_theta_state(alloc: Global, sketch: &mut ThetaHandle, out: 
         return INVALID_ARGUMENT;
     };
     *out = state(&theta);
-    fill(sketch, Some(theta));
+    fill(alloc, sketch, Some(theta));
     OK
 }
 
@@ -361,7 +353,7 @@ pub extern "C" fn kcp_theta_image(
         Ok(image) => put(image.as_slice(), out, length),
         Err(_) => OUT_OF_MEMORY,
     };
-    fill(sketch, Some(theta));
+    fill(alloc, sketch, Some(theta));
     status
 }
 
@@ -382,6 +374,6 @@ pub extern "C" fn kcp_theta_compact(
         return INVALID_ARGUMENT;
     };
     let status = fill_compact(alloc, &theta, out);
-    fill(sketch, Some(theta));
+    fill(alloc, sketch, Some(theta));
     status
 }

@@ -7,7 +7,7 @@ ghost use Rattle.core_laws.specs.declared.TheConstants.{MAX_THETA};
 ghost use Rattle.core_operators.specs.Union.{failure};
 ghost use Rattle.theta_sketches.specs.View.{view_shows, view_lends};
 ghost use Rattle.sketch_c.specs.Calls.{OnObject, OnObjectWith, Fills, FillsFrom};
-ghost use Rattle.sketch_c.specs.Handle.{handle_owns, absent_of};
+ghost use Rattle.sketch_c.specs.Handle.{handle_owns};
 ghost use Rattle.sketch_c.specs.Thetas.{IsSettingsRefusal};
 ghost use Rattle.sketch_c.specs.Unions.{IsNewUnion, AddsShown, AddsSketch, AddsCompact, AddsImage, IsUnionResult, IsResultRefusal, ResetsUnion};
 ghost use Rattle.sketch_c.specs.contracts.union.SeededUnion.{the_row};
@@ -47,27 +47,20 @@ impl UnionHandle {
     fn of(owned: Owned<SeededUnion>) -> UnionHandle
         ensures { result.value ≡ owned.value }
     {
-        let Owned { at, absent: _ } = owned;
+        let Owned { at } = owned;
         UnionHandle {
             at: at as *mut Opaque,
         }
     }
 
-    /// The pointer of the handle, tested for null.
+    /// The pointer of the handle.
     #[inline(always)]
     fn into_owned(self) -> Owned<SeededUnion>
-        ensures { (result.absent ≡ absent_of result.value) × (result.value ≡ self.value) }
+        ensures { result.value ≡ self.value }
     {
         let UnionHandle { at } = self;
-        if at.is_null() {
-            return Owned {
-                at: at as *mut SeededUnion,
-                absent: 1,
-            };
-        }
         Owned {
             at: at as *mut SeededUnion,
-            absent: 0,
         }
     }
 }
@@ -82,14 +75,13 @@ pub(crate) fn take(alloc: Global, handle: &mut UnionHandle) -> Option<Box<Seeded
     handle.into_owned().into_box(alloc)
 }
 
-/// Puts a union into a handle that has none.
+/// Puts a union into a handle. One that it has is freed.
 #[inline(always)]
-pub(crate) fn fill(handle: &mut UnionHandle, value: Option<Box<SeededUnion>>)
-    requires none_yet { handle.old.value ≡ None }
-    ensures filled { handle.new.value ≡ option_map (λ b. b.value) value }
+pub(crate) fn fill(alloc: Global, handle: &mut UnionHandle, value: Option<Box<SeededUnion>>)
+    ensures { handle.new.value ≡ option_map (λ b. b.value) value }
 {
     let handle = std::mem::replace(handle, UnionHandle::of(Owned::of_box(value)));
-    handle.into_owned().discard();
+    let _ = handle.into_owned().into_box(alloc);
 }
 
 /// Whether a handle has a union.
@@ -99,7 +91,7 @@ pub(crate) fn is_filled(alloc: Global, handle: &mut UnionHandle) -> bool
 {
     let value = take(alloc, handle);
     let filled = value.is_some();
-    fill(handle, value);
+    fill(alloc, handle, value);
     filled
 }
 
@@ -160,7 +152,7 @@ fn fill_result(alloc: Global, union: &SeededUnion, out: &mut CompactHandle) -> u
     }
     match result(alloc, union) {
         Ok(made) => {
-            compact::fill(out, Some(made));
+            compact::fill(alloc, out, Some(made));
             OK
         }
         Err(error) => status_of(error.kind()),
@@ -187,7 +179,7 @@ pub extern "C" fn kcp_union_new(alloc: Global, union: &mut UnionHandle, lg_k: u8
     }
     match built(alloc, lg_k, seed) {
         Ok(made) => {
-            fill(union, Some(made));
+            fill(alloc, union, Some(made));
             OK
         }
         Err(error) => status_of(error.kind()),
@@ -223,12 +215,12 @@ pub extern "C" fn kcp_union_add(
     let status = match take(alloc, union) {
         Some(mut object) => {
             let status = add_sketch(&mut object, &theta);
-            fill(union, Some(object));
+            fill(alloc, union, Some(object));
             status
         }
         None => INVALID_ARGUMENT,
     };
-    theta::fill(sketch, Some(theta));
+    theta::fill(alloc, sketch, Some(theta));
     status
 }
 
@@ -248,12 +240,12 @@ pub extern "C" fn kcp_union_add_compact(
     let status = match take(alloc, union) {
         Some(mut object) => {
             let status = add_compact(&mut object, &compact);
-            fill(union, Some(object));
+            fill(alloc, union, Some(object));
             status
         }
         None => INVALID_ARGUMENT,
     };
-    compact::fill(sketch, Some(compact));
+    compact::fill(alloc, sketch, Some(compact));
     status
 }
 
@@ -269,7 +261,7 @@ pub extern "C" fn kcp_union_add_image(alloc: Global, union: &mut UnionHandle, im
         return INVALID_ARGUMENT;
     };
     let status = add_image(alloc, &mut object, image);
-    fill(union, Some(object));
+    fill(alloc, union, Some(object));
     status
 }
 
@@ -290,7 +282,7 @@ pub extern "C" fn kcp_union_result(
         return INVALID_ARGUMENT;
     };
     let status = fill_result(alloc, &object, out);
-    fill(union, Some(object));
+    fill(alloc, union, Some(object));
     status
 }
 
@@ -304,6 +296,6 @@ pub extern "C" fn kcp_union_reset(alloc: Global, union: &mut UnionHandle) -> u32
         return INVALID_ARGUMENT;
     };
     let status = reset(&mut object);
-    fill(union, Some(object));
+    fill(alloc, union, Some(object));
     status
 }

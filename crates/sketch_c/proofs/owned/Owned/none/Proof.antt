@@ -1,5 +1,5 @@
 -- `none` makes a pointer that owns nothing.
-use Rattle.std.proofs.Common.{[], ◌∷◌, refl, lit<, w32, None}
+use Rattle.std.proofs.Common.{[], ◌∷◌, refl, None}
 use mir.Syntax.{a_type}
 use mir.MapTy.{inst_fn}
 use base.Fml.{ftrue, flft}
@@ -14,7 +14,7 @@ use denote.Param.{param, layouts}
 use denote.Steps.{nothing}
 use denote.Triple.Walked.{Stays, walk_of, says, ends_at}
 use Rattle.std.proofs.raw_atomic.Walks.{proved}
-use Rattle.sketch_c.proofs.Values.{owned_val, owned_in}
+use Rattle.sketch_c.proofs.Values.{one_val, one_good, owned_in}
 use Rattle.sketch_c.specs.contracts.owned.Owned.none.{ended, clauses}
 use Rattle.sketch_c.specs.contracts.owned.Owned.none.Key.{name as #self}
 use Rattle.sketch_c.proofs.owned.Owned.none.Statement.{statement}
@@ -31,7 +31,7 @@ none_spec 𝓤 𝓛 𝓜 𝓡 wired T L =
     qed 𝓛 (((‵ (flft κs.0 qs.0) ⊛ ‵ ftrue) ⊛ ‵ ftrue) ∷ raw ((c κs a).requires g) ∷ []) ∵ split ! $ keep ! (0 ∷ []) $
     enter ! _ _ _ _ _ $ alloc_all ! (λ l. pass_all ! refl tt $
     -- [the token; the locals]
-    sets ! (agg ! (and_then ! (lit ! tt) (and_then ! (lit ! tt) (no_more !)))) refl (tt, (record { fits = lit< tt }, (record { fits = lit< tt }, tt))) $
+    sets ! (agg ! (and_then ! (lit ! tt) (no_more !))) refl (one_good null_ptr) $
     returns ! (look_at ! 0 refl) $ free_all ! refl $
-    suffices ! _ (ends_at 𝓛 En hs c y (owned_val null_ptr 1) (record { at = null_ptr; absent = 1; value = None }) tt tt) $ says ! (refl, refl) $
-    feq_i ! Ptr null_ptr null_ptr refl $ owned_in R ! null_ptr 1 None (lit< tt) $ nothing ! $ move ! (2 ∷ 0 ∷ 1 ∷ []) $ group ! 3 $ done !))
+    suffices ! _ (ends_at 𝓛 En hs c y (one_val null_ptr) (record { at = null_ptr; value = None }) tt tt) $ says ! refl $
+    feq_i ! Ptr null_ptr null_ptr refl $ owned_in R ! null_ptr None $ nothing ! $ move ! (2 ∷ 0 ∷ 1 ∷ []) $ group ! 3 $ done !))

@@ -1,5 +1,5 @@
 -- `of` takes the pointer over.
-use Rattle.std.proofs.Common.{List, [], ◌∷◌, ◌++◌, refl, sym, subst, lit<, Some}
+use Rattle.std.proofs.Common.{List, [], ◌∷◌, ◌++◌, refl, sym, subst, Some}
 use mir.Syntax.{a_type}
 use mir.Val.{Val, vptr}
 use mir.MapTy.{inst_fn}
@@ -7,7 +7,7 @@ use base.Logic.{SProp, ent, id⊢}
 use base.Fml.{ftrue, flft}
 use prog.Wp.{WpFn}
 use types.Kit.{‵, raw, ◌⊛◌, ◌$◌, ◌∵◌, !, qed, move, keep, split, join, fsplit, suffices, group, done}
-use types.Run.{stop, fld, lit, of_opd, no_more, and_then, returns, enter}
+use types.Run.{stop, fld, of_opd, no_more, and_then, returns, enter}
 use types.ByLocal.{alloc_all, pass_all, free_all, look_at, get, get_in, sets}
 use types.Part.{agg, sub, whole}
 use contract.Running.{tables}
@@ -22,7 +22,7 @@ use Rattle.std.proofs.raw_atomic.Walks.{proved_at}
 use Rattle.std.specs.contracts.alloc.Global as heap
 use Rattle.std.proofs.alloc.Global.TheLaws as heap_laws
 use Rattle.std.specs.contracts.impls.GlobalAllocator.TheImpl.{ghosts}
-use Rattle.sketch_c.proofs.Values.{both, Loose, loose_good, loose_out, owned_val, owned_in}
+use Rattle.sketch_c.proofs.Values.{both, Loose, loose_good, loose_out, one_val, one_good, owned_in}
 use Rattle.sketch_c.specs.contracts.owned.Owned.of.{ended, clauses}
 use Rattle.sketch_c.specs.contracts.owned.Owned.of.Key.{name as #self}
 use Rattle.sketch_c.proofs.owned.Owned.of.Statement.{statement}
@@ -43,7 +43,7 @@ of_spec 𝓤 𝓛 𝓜 𝓡 wired T L =
     suffices ! (Run (w ∷ [])) (subst (λ (us : List Val). ent 𝓤 (Run (w ∷ [])) (Run us)) (sym (λ i. ws i ++ [])) (id⊢ 𝓤 (Run (w ∷ [])))) $
     enter ! 𝓣.C 𝓣.Λ fn (w ∷ []) Post $ alloc_all ! (λ l. pass_all ! refl (typed, tt) $
     sets ! (of_opd ! (get_in ! (fld ! refl (stop !)) (sub ! 0 refl (whole !)))) refl (tt, tt) $
-    sets ! (agg ! (and_then ! (get ! refl) (and_then ! (lit ! tt) (no_more !)))) refl (tt, (tt, (record { fits = lit< tt }, tt))) $
+    sets ! (agg ! (and_then ! (get ! refl) (no_more !))) refl (one_good (block_ptr b o)) $
     returns ! (look_at ! 0 refl) $ free_all ! refl $
-    suffices ! _ (ends_at 𝓛 En hs c z (owned_val (block_ptr b o) 0) (record { at = block_ptr b o; absent = 0; value = Some v.value }) (tt, tt) (tt, tt)) $ says ! (refl, refl) $
-    owned_in R ! (block_ptr b o) 0 (Some v.value) (lit< tt) $ nothing ! $ nothing ! $ join ! $ move ! (2 ∷ 0 ∷ 1 ∷ []) $ group ! 3 $ done !)))
+    suffices ! _ (ends_at 𝓛 En hs c z (one_val (block_ptr b o)) (record { at = block_ptr b o; value = Some v.value }) (tt, tt) (tt, tt)) $ says ! refl $
+    owned_in R ! (block_ptr b o) (Some v.value) $ nothing ! $ nothing ! $ join ! $ move ! (2 ∷ 0 ∷ 1 ∷ []) $ group ! 3 $ done !)))
