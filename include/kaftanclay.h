@@ -81,6 +81,10 @@ kc_status kc_theta_update_hashes(kc_theta *sketch, const uint64_t *hashes, size_
 kc_status kc_theta_update_u64(kc_theta *sketch, uint64_t number);
 /* Updates a sketch with bytes, by their hash: the hash of the other implementations. No bytes are a value too. */
 kc_status kc_theta_update_bytes(kc_theta *sketch, const void *bytes, size_t count);
+/* Updates a sketch with byte strings in their order, each by its hash. They lie one after another in `bytes`, the first from the
+ * front on, and ends[i] is where string i ends. Refused with KC_INVALID_ARGUMENT if an end is below the one before it or past the
+ * bytes. If memory is refused, the strings before one have been inserted, perhaps none, and the same call may be repeated. */
+kc_status kc_theta_update_strings(kc_theta *sketch, const void *bytes, size_t count, const uint64_t *ends, size_t strings);
 /* If the sketch retains more than its k = 2^lg_k nominal entries, lowers theta to the (k+1)th smallest hash and keeps the k
  * hashes below it. Refused with KC_OUT_OF_MEMORY, only if it retains more. */
 kc_status kc_theta_trim(kc_theta *sketch);

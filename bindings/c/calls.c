@@ -35,10 +35,16 @@ kc_status kc_theta_trim(kc_theta *h) { REFUSE_UNLESS(h); return kcp_theta_trim(h
 kc_status kc_theta_reset(kc_theta *h) { REFUSE_UNLESS(h); return kcp_theta_reset(h); }
 kc_status kc_theta_compact(kc_theta *h, kc_compact *out) { REFUSE_UNLESS(h && out); return kcp_theta_compact(h, out); }
 
+static const uint64_t no_numbers[1];
+
 kc_status kc_theta_update_hashes(kc_theta *h, const uint64_t *hashes, size_t count) {
-    static const uint64_t none[1];
     REFUSE_UNLESS(h && IS_BUFFER(hashes, count));
-    return kcp_theta_update_hashes(h, hashes != NULL ? hashes : none, count);
+    return kcp_theta_update_hashes(h, hashes != NULL ? hashes : no_numbers, count);
+}
+
+kc_status kc_theta_update_strings(kc_theta *h, const void *bytes, size_t count, const uint64_t *ends, size_t strings) {
+    REFUSE_UNLESS(h && IS_BUFFER(bytes, count) && IS_BUFFER(ends, strings));
+    return kcp_theta_update_strings(h, INPUT(bytes), count, ends != NULL ? ends : no_numbers, strings);
 }
 
 kc_status kc_theta_update_bytes(kc_theta *h, const void *bytes, size_t count) {

@@ -10,6 +10,7 @@ kc_status kcp_theta_update_hash(kc_theta *, uint64_t);
 kc_status kcp_theta_update_hashes(kc_theta *, const uint64_t *, size_t);
 kc_status kcp_theta_update_u64(kc_theta *, uint64_t);
 kc_status kcp_theta_update_bytes(kc_theta *, const uint8_t *, size_t);
+kc_status kcp_theta_update_strings(kc_theta *, const uint8_t *, size_t, const uint64_t *, size_t);
 kc_status kcp_theta_trim(kc_theta *);
 kc_status kcp_theta_reset(kc_theta *);
 kc_status kcp_theta_state(kc_theta *, kc_state *);

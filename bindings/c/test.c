@@ -51,8 +51,15 @@ static void sketches(void) {
     uint64_t hash = 0;
     WANT(kc_hash_bytes(SEED, "ann", 3, &hash) == KC_OK && kc_theta_update_hashes(&s, &hash, 1) == KC_OK);
     WANT(kc_theta_update_hashes(&s, NULL, 0) == KC_OK && kc_theta_state(&s, &st) == KC_OK && st.retained == 2);
+    /* "ann", "", "bob" */
+    const uint64_t ends[] = {3, 3, 6}, past[] = {3, 7}, turned[] = {3, 2};
+    WANT(kc_theta_update_strings(&s, "annbob", 6, past, 2) == KC_INVALID_ARGUMENT && kc_theta_update_strings(&s, "annbob", 6, turned, 2) == KC_INVALID_ARGUMENT);
+    WANT(kc_theta_update_strings(&s, "annbob", 6, ends, 3) == KC_OK && kc_theta_state(&s, &st) == KC_OK && st.retained == 3);
+    WANT(kc_theta_update_bytes(&s, "bob", 3) == KC_OK && kc_theta_state(&s, &st) == KC_OK && st.retained == 3);
+    WANT(kc_theta_update_strings(&s, NULL, 0, NULL, 0) == KC_OK && kc_theta_update_strings(&s, NULL, 6, ends, 3) == KC_INVALID_ARGUMENT);
+    WANT(kc_theta_update_strings(&other, "", 0, NULL, 0) == KC_INVALID_ARGUMENT && kc_theta_update_strings(&s, "annbob", 6, NULL, 3) == KC_INVALID_ARGUMENT);
     numbers(&s, 0, 100000);
-    WANT(kc_theta_state(&s, &st) == KC_OK && st.theta < KC_MAX_THETA && is_near(kc_estimate(&st), 100002));
+    WANT(kc_theta_state(&s, &st) == KC_OK && st.theta < KC_MAX_THETA && is_near(kc_estimate(&st), 100003));
     WANT(kc_theta_trim(&s) == KC_OK && kc_theta_state(&s, &st) == KC_OK && st.retained == 4096);
     /* a handle without an object, and null pointers */
     WANT(kc_theta_update_hash(&other, 5) == KC_INVALID_ARGUMENT && kc_theta_update_u64(&other, 5) == KC_INVALID_ARGUMENT);

@@ -1,5 +1,5 @@
 -- Estimates from the numbers of a state, as C reads them.
-use Rattle.std.specs.Prelude.{◌≡◌, ◌⊎◌, ◌+◌, ◌*◌, ◌/◌, ◌%◌, ◌^◌, ◌<◌, ◌≤◌, ◌&&◌, ℕ, Bool, nat_lt, nat_le, if◌then◌else◌, Option, Some, None}
+use Rattle.std.specs.Prelude.{◌≡◌, ◌⊎◌, ◌+◌, ◌*◌, ◌/◌, ◌%◌, ◌^◌, ◌<◌, ◌≤◌, ◌&&◌, ℕ, Bool, true, false, is_some, nat_lt, nat_le, if◌then◌else◌, Option, Some, None}
 use Rattle.core_laws.specs.declared.TheConstants.{MAX_THETA}
 use Rattle.core_state.specs.Fraction.{decimal_of}
 use Rattle.core_state.specs.declared.fraction.TheConstants.{MAX_PLACES}
@@ -22,9 +22,9 @@ numerator retained = retained * MAX_THETA
 -- nothing is written
 abbrev pub WritesDecimal : (retained theta places : ℕ) → (whole_before : Wide) → (decimals_before status : ℕ) → (whole : Wide) → (decimals : ℕ) → Type 0
 WritesDecimal retained theta places whole_before decimals_before status whole decimals =
-    if is_state retained theta && nat_le places MAX_PLACES
-    then ((status ≡ 0) × (whole ≡ wide (decimal_of (numerator retained, theta) places).whole) × (decimals ≡ (decimal_of (numerator retained, theta) places).decimals))
-    else ((status ≡ 1) × (whole ≡ whole_before) × (decimals ≡ decimals_before))
+    ((is_state retained theta && nat_le places MAX_PLACES) ≡ true
+    → (status ≡ 0) × (whole ≡ wide (decimal_of (numerator retained, theta) places).whole) × (decimals ≡ (decimal_of (numerator retained, theta) places).decimals))
+    × ((is_state retained theta && nat_le places MAX_PLACES) ≡ false → (status ≡ 1) × (whole ≡ whole_before) × (decimals ≡ decimals_before))
 
 -- a number of standard deviations that has bounds
 abbrev pub valid_deviations : ℕ → Option ℕ
@@ -33,6 +33,6 @@ valid_deviations n = if nat_le 1 n && nat_le n 3 then Some n else None
 -- the bounds of the count were written, with status 0; or a number is out of range, with 1, and nothing is written
 abbrev pub WritesBounds : (retained theta deviations : ℕ) → (lower_before upper_before : Wide) → (status : ℕ) → (lower upper : Wide) → Type 0
 WritesBounds retained theta deviations lower_before upper_before status lower upper =
-    if is_state retained theta && nat_le 1 deviations && nat_le deviations 3
-    then ((status ≡ 0) × (lower ≡ wide (count_bounds deviations retained theta).lower) × (upper ≡ wide (count_bounds deviations retained theta).upper))
-    else ((status ≡ 1) × (lower ≡ lower_before) × (upper ≡ upper_before))
+    ((is_state retained theta && is_some (valid_deviations deviations)) ≡ true
+    → (status ≡ 0) × (lower ≡ wide (count_bounds deviations retained theta).lower) × (upper ≡ wide (count_bounds deviations retained theta).upper))
+    × ((is_state retained theta && is_some (valid_deviations deviations)) ≡ false → (status ≡ 1) × (lower ≡ lower_before) × (upper ≡ upper_before))

@@ -1,5 +1,5 @@
 -- Calls on images alone.
-use Rattle.std.specs.Prelude.{◌≡◌, ◌⊎◌, ℕ, List, Some, None}
+use Rattle.std.specs.Prelude.{◌≡◌, ◌⊎◌, ℕ, List, true, Some, None}
 use Rattle.sketch_base.specs.Seed.{seed_hash}
 use Rattle.core_compact.specs.CompactState.{Compact, IsAnswer, compact_value, shown_of}
 use Rattle.core_laws.specs.Entries.{hash_key, first_hash}

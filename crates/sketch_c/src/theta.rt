@@ -27,7 +27,7 @@ use theta_sketches::{ThetaSketch, ThetaSketchBuilder};
 #[derive(Drop)]
 pub struct SeededSketch {
     pub(crate) sketch: ThetaSketch,
-    seed: u64,
+    pub(crate) seed: u64,
 }
 
 /// A handle of C: a theta sketch that takes updates, or none.
@@ -133,7 +133,7 @@ fn update_bytes(theta: &mut SeededSketch, bytes: &[u8]) -> u32
 }
 
 #[inline(always)]
-fn update_hashes(theta: &mut SeededSketch, hashes: &[u64]) -> u32
+pub(crate) fn update_hashes(theta: &mut SeededSketch, hashes: &[u64]) -> u32
     ensures { UpdatesHashes hashes.now theta.old result theta.new }
 {
     match theta.sketch.update_hashes(hashes) {
