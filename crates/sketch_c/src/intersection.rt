@@ -64,7 +64,10 @@ impl IntersectionHandle {
 
 /// The intersection of a handle, taken out of it.
 #[inline(always)]
-pub(crate) fn take(alloc: Global, handle: &mut IntersectionHandle) -> Option<Box<SeededIntersection>>
+pub(crate) fn take(
+    alloc: Global,
+    handle: &mut IntersectionHandle,
+) -> Option<Box<SeededIntersection>>
     ensures taken { handle.old.value ≡ option_map (λ b. b.value) result }
     ensures none_left { handle.new.value ≡ None }
 {
@@ -74,7 +77,11 @@ pub(crate) fn take(alloc: Global, handle: &mut IntersectionHandle) -> Option<Box
 
 /// Puts an intersection into a handle. One that it has is freed.
 #[inline(always)]
-pub(crate) fn fill(alloc: Global, handle: &mut IntersectionHandle, value: Option<Box<SeededIntersection>>)
+pub(crate) fn fill(
+    alloc: Global,
+    handle: &mut IntersectionHandle,
+    value: Option<Box<SeededIntersection>>,
+)
     ensures { handle.new.value ≡ option_map (λ b. b.value) value }
 {
     let handle = std::mem::replace(handle, IntersectionHandle::of(Owned::of_box(value)));

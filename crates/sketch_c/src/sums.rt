@@ -192,7 +192,12 @@ pub extern "C" fn kcp_sums_free(alloc: Global, sums: &mut SumsHandle)
 /// Refused with `INVALID_ARGUMENT` if the handle has no sketch, with `POLICY` if the sum would be 2^64 or more, and with
 /// `OUT_OF_MEMORY`, only for a new hash below theta; then nothing has changed.
 #[unsafe(no_mangle)]
-pub extern "C" fn kcp_sums_add_hash(alloc: Global, sums: &mut SumsHandle, hash: u64, value: u64) -> u32
+pub extern "C" fn kcp_sums_add_hash(
+    alloc: Global,
+    sums: &mut SumsHandle,
+    hash: u64,
+    value: u64,
+) -> u32
     ensures { OnObject (AddsValue hash value) sums.old.value result sums.new.value }
 {
     let Some(mut object) = take(alloc, sums) else {

@@ -260,7 +260,11 @@ pub extern "C" fn kcp_theta_update_u64(alloc: Global, sketch: &mut ThetaHandle, 
 
 /// Updates a sketch with bytes, by their hash. Refused as `kcp_theta_update_hash` is.
 #[unsafe(no_mangle)]
-pub extern "C" fn kcp_theta_update_bytes(alloc: Global, sketch: &mut ThetaHandle, bytes: &[u8]) -> u32
+pub extern "C" fn kcp_theta_update_bytes(
+    alloc: Global,
+    sketch: &mut ThetaHandle,
+    bytes: &[u8],
+) -> u32
     ensures { OnObject (UpdatesBytes bytes.now) sketch.old.value result sketch.new.value }
 {
     let Some(mut theta) = take(alloc, sketch) else {
@@ -276,7 +280,11 @@ pub extern "C" fn kcp_theta_update_bytes(alloc: Global, sketch: &mut ThetaHandle
 /// Refused with `INVALID_ARGUMENT` if the handle has no sketch. Refused with `OUT_OF_MEMORY` at a new hash below theta;
 /// then exactly the hashes before it have been inserted, and the same call may be repeated.
 #[unsafe(no_mangle)]
-pub extern "C" fn kcp_theta_update_hashes(alloc: Global, sketch: &mut ThetaHandle, hashes: &[u64]) -> u32
+pub extern "C" fn kcp_theta_update_hashes(
+    alloc: Global,
+    sketch: &mut ThetaHandle,
+    hashes: &[u64],
+) -> u32
     ensures { OnObject (UpdatesHashes hashes.now) sketch.old.value result sketch.new.value }
 {
     let Some(mut theta) = take(alloc, sketch) else {
