@@ -1,5 +1,5 @@
 -- Estimates from the numbers of a state, as C reads them.
-use Rattle.std.specs.Prelude.{◌≡◌, ◌⊎◌, ◌+◌, ◌*◌, ◌/◌, ◌%◌, ◌^◌, ◌<◌, ◌≤◌, ◌&&◌, ℕ, Bool, true, false, is_some, nat_lt, nat_le, if◌then◌else◌, Option, Some, None}
+use Rattle.std.specs.Prelude.{◌≡◌, ◌*◌, ◌/◌, ◌%◌, ◌^◌, ◌&&◌, ℕ, Bool, true, false, is_some, nat_lt, nat_le, if◌then◌else◌, Option, Some, None}
 use Rattle.core_laws.specs.declared.TheConstants.{MAX_THETA}
 use Rattle.core_state.specs.Fraction.{decimal_of}
 use Rattle.core_state.specs.declared.fraction.TheConstants.{MAX_PLACES}

@@ -1,12 +1,11 @@
 -- Calls on images alone.
 use Rattle.std.specs.Prelude.{◌≡◌, ◌⊎◌, ℕ, List, true, Some, None}
 use Rattle.sketch_base.specs.Seed.{seed_hash}
-use Rattle.core_compact.specs.CompactState.{Compact, IsAnswer, compact_value, shown_of}
+use Rattle.core_compact.specs.CompactState.{IsAnswer, compact_value}
 use Rattle.core_laws.specs.Entries.{hash_key, first_hash}
-use Rattle.core_laws.specs.Operators.{meet_next, minus}
+use Rattle.core_laws.specs.Operators.{meet_next}
 use Rattle.core_laws.specs.Values.{Sketch}
 use Rattle.theta_sketches.specs.Image.{Reads, written}
-use Rattle.sketch_c.specs.Intersections.{IsDifferenceOf}
 use Rattle.sketch_c.specs.Thetas.{IsReadRefusal}
 use Rattle.sketch_c.specs.declared.compact.CompactSketch.{CompactSketch}
 

@@ -2,11 +2,10 @@
 use Rattle.std.specs.Prelude.{◌≡◌, ◌⊎◌, ℕ, List, true, false, Option, None, Some}
 use Rattle.sketch_base.specs.Seed.{seed_hash}
 use Rattle.sketch_base.specs.declared.error.ErrorKind.{ErrorKind}
-use Rattle.core_compact.specs.CompactState.{Compact, IsAnswer, shown_of}
+use Rattle.core_compact.specs.CompactState.{Compact, shown_of}
 use Rattle.core_laws.specs.Entries.{hash_key, first_hash}
 use Rattle.core_laws.specs.Operators.{meet_next}
 use Rattle.core_laws.specs.Shown.{Shown, shown_value}
-use Rattle.core_laws.specs.Values.{Sketch}
 use Rattle.core_operators.specs.ANotB.{IsHashDifference, difference_refusal}
 use Rattle.core_operators.specs.Intersection.{new_intersection, seed_refusal, intersect_refusal, IsAnswerIfAny, IsHashIntersectError}
 use Rattle.core_state.specs.Updatable.{sketch_shows}

@@ -1,7 +1,7 @@
 -- Byte strings that lie one after another, by where each ends.
 use Rattle.std.specs.Prelude.{◌≡◌, ◌⊎◌, ◌&&◌, ℕ, Bool, true, false, List, [], ◌∷◌, length, slice_range, nat_le}
 use Rattle.sketch_base.specs.Seed.{hash_of}
-use Rattle.sketch_c.specs.Thetas.{UpdatesHashes, IsSameSketch}
+use Rattle.sketch_c.specs.Thetas.{UpdatesHashes}
 use Rattle.sketch_c.specs.declared.theta.SeededSketch.{SeededSketch}
 
 -- whether strings may end there, the first of which begins at `start`: the ends ascend, and none is past the bytes

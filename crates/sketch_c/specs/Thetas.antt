@@ -23,10 +23,6 @@ IsNewSketch lg_k seed t = (t.seed ≡ seed) × (t.sketch.empty ≡ true) × (t.s
 abbrev pub IsSettingsRefusal : (lg_k seed status : ℕ) → Type 0
 IsSettingsRefusal lg_k seed status = IsRefusal (settings_refusal lg_k MAX_THETA seed) true status
 
--- nothing that a clause may compare has changed; the order in which a sketch lists its hashes is unspecified
-abbrev pub IsSameSketch : (old new : SeededSketch) → Type 0
-IsSameSketch old new = (new.seed ≡ old.seed) × (new.sketch.empty ≡ old.sketch.empty) × (new.sketch.map ≡ old.sketch.map)
-
 -- a hash was inserted, with status 0; or memory was refused, which an insertion requests only for a new hash below theta,
 -- with status 3, and nothing has changed
 abbrev pub UpdatesHash : (hash : ℕ) → (old : SeededSketch) → (status : ℕ) → (new : SeededSketch) → Type 0

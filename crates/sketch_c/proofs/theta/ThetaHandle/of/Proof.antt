@@ -1,5 +1,5 @@
 -- `of` takes the pointer over.
-use Rattle.std.proofs.Common.{◌≡◌, List, [], ◌∷◌, ◌++◌, refl, sym, subst}
+use Rattle.std.proofs.Common.{List, [], ◌∷◌, ◌++◌, refl, sym, subst}
 use mir.Val.{Val}
 use base.Logic.{SProp, ent, id⊢}
 use base.Fml.{ftrue}
@@ -11,7 +11,7 @@ use types.Part.{agg, sub, whole}
 use contract.Running.{tables}
 use denote.Builtin.{RawPtr}
 use denote.Exit.{yes}
-use denote.RattleType.{RattleType, Valss, owns}
+use denote.RattleType.{Valss, owns}
 use denote.RawPtr.{ptr_val}
 use denote.Signature.{types_at, plain}
 use denote.Steps.{nothing}
