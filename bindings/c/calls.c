@@ -3,6 +3,8 @@
 #include "proved.h"
 #include <string.h>
 
+_Static_assert(sizeof(kc_theta) == sizeof(void *) && sizeof(kc_state) == 24 && sizeof(kc_wide) == 16 && sizeof(size_t) == 8, "the layout of the proved library");
+
 #define REFUSE_UNLESS(condition) \
     do { if (!(condition)) return KC_INVALID_ARGUMENT; } while (0)
 
