@@ -2,6 +2,7 @@
 ghost use Rattle.std.specs.Prelude.{◌≡◌, true, None, Some, Option, IfOk, IfErr, is_some, option_map};
 ghost use Rattle.std.specs.Coded.{coded_option};
 ghost use Rattle.core_laws.specs.Refusal.{Refuses};
+ghost use Rattle.sketch_c.specs.Bounds.{is_state};
 ghost use Rattle.sketch_c.specs.Buffer.{WritesOf};
 ghost use Rattle.sketch_c.specs.Calls.{Fills, FillsFrom};
 ghost use Rattle.sketch_c.specs.Handle.{handle_owns};
@@ -147,7 +148,8 @@ fn fill_copy(alloc: Global, sketch: &CompactSketch, out: &mut CompactHandle) -> 
 
 /// The state of a sketch.
 pub(crate) fn state(sketch: &CompactSketch) -> State
-    ensures { result ≡ compact_state sketch.now }
+    ensures state { result ≡ compact_state sketch.now }
+    ensures usable { is_state result.retained result.theta ≡ true }
 {
     State {
         retained: sketch.sketch.num_retained() as u64,
@@ -220,6 +222,7 @@ pub extern "C" fn kcp_compact_state(
     out: &mut State,
 ) -> u32
     ensures state { ReadsState (option_map compact_state sketch.old.value) out.old result out.new }
+    ensures usable { result ≡ 0 → is_state out.new.retained out.new.theta ≡ true }
     ensures unchanged { sketch.new.value ≡ sketch.old.value }
 {
     let Some(compact) = take(alloc, sketch) else {

@@ -1,5 +1,6 @@
 //! Operations on images alone.
-ghost use Rattle.std.specs.Prelude.{◌≡◌, IfOk, IfErr};
+ghost use Rattle.std.specs.Prelude.{◌≡◌, true, IfOk, IfErr};
+ghost use Rattle.sketch_c.specs.Bounds.{is_state};
 ghost use Rattle.sketch_c.specs.Buffer.{Writes};
 ghost use Rattle.sketch_c.specs.Images.{IsIntersectionOf, IsImageOfBoth, IsRefusalOfEither};
 ghost use Rattle.sketch_c.specs.Intersections.{IsDifferenceOf};
@@ -20,7 +21,8 @@ use theta_sketches::ThetaIntersection;
 /// written.
 #[unsafe(no_mangle)]
 pub extern "C" fn kcp_image_state(alloc: Global, image: &[u8], seed: u64, out: &mut State) -> u32
-    ensures { ReadsImageState image.now seed out.old result out.new }
+    ensures state { ReadsImageState image.now seed out.old result out.new }
+    ensures usable { result ≡ 0 → is_state out.new.retained out.new.theta ≡ true }
 {
     match read(alloc, image, seed) {
         Ok(sketch) => {

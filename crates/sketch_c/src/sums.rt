@@ -4,6 +4,7 @@ ghost use Rattle.std.specs.Coded.{coded_option};
 ghost use Rattle.core_laws.specs.Refusal.{Refuses};
 ghost use Rattle.core_laws.specs.Settings.{settings_refusal};
 ghost use Rattle.core_laws.specs.declared.TheConstants.{MAX_THETA};
+ghost use Rattle.sketch_c.specs.Bounds.{is_state};
 ghost use Rattle.sketch_c.specs.Buffer.{WritesOf};
 ghost use Rattle.sketch_c.specs.Calls.{OnObject, Fills};
 ghost use Rattle.sketch_c.specs.Handle.{handle_owns};
@@ -141,7 +142,8 @@ fn reset(sums: &mut SeededSums) -> u32
 }
 
 fn state(sums: &SeededSums) -> State
-    ensures { result ≡ sums_state sums.now }
+    ensures state { result ≡ sums_state sums.now }
+    ensures usable { is_state result.retained result.theta ≡ true }
 {
     State {
         retained: sums.sketch.num_retained() as u64,
@@ -257,6 +259,7 @@ pub extern "C" fn kcp_sums_reset(alloc: Global, sums: &mut SumsHandle) -> u32
 #[unsafe(no_mangle)]
 pub extern "C" fn kcp_sums_state(alloc: Global, sums: &mut SumsHandle, out: &mut State) -> u32
     ensures state { ReadsState (option_map sums_state sums.old.value) out.old result out.new }
+    ensures usable { result ≡ 0 → is_state out.new.retained out.new.theta ≡ true }
     ensures unchanged { sums.new.value ≡ sums.old.value }
 {
     let Some(object) = take(alloc, sums) else {

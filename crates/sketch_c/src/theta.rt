@@ -4,6 +4,7 @@ ghost use Rattle.std.specs.Coded.{coded_option};
 ghost use Rattle.core_laws.specs.Refusal.{Refuses};
 ghost use Rattle.core_laws.specs.Settings.{settings_refusal};
 ghost use Rattle.core_laws.specs.declared.TheConstants.{MAX_THETA};
+ghost use Rattle.sketch_c.specs.Bounds.{is_state};
 ghost use Rattle.sketch_c.specs.Buffer.{WritesOf};
 ghost use Rattle.sketch_c.specs.Calls.{OnObject, Fills, FillsFrom};
 ghost use Rattle.sketch_c.specs.Handle.{handle_owns};
@@ -159,7 +160,8 @@ fn reset(theta: &mut SeededSketch) -> u32
 }
 
 fn state(theta: &SeededSketch) -> State
-    ensures { result ≡ theta_state theta.now }
+    ensures state { result ≡ theta_state theta.now }
+    ensures usable { is_state result.retained result.theta ≡ true }
 {
     State {
         retained: theta.sketch.num_retained() as u64,
@@ -330,6 +332,7 @@ pub extern "C" fn kcp_theta_reset(alloc: Global, sketch: &mut ThetaHandle) -> u3
 #[unsafe(no_mangle)]
 pub extern "C" fn kcp_theta_state(alloc: Global, sketch: &mut ThetaHandle, out: &mut State) -> u32
     ensures state { ReadsState (option_map theta_state sketch.old.value) out.old result out.new }
+    ensures usable { result ≡ 0 → is_state out.new.retained out.new.theta ≡ true }
     ensures unchanged { sketch.new.value ≡ sketch.old.value }
 {
     let Some(theta) = take(alloc, sketch) else {
