@@ -125,6 +125,8 @@ kc_status kc_union_add_image(kc_union *u, const void *image, size_t count);
 /* Makes the union's value as an ordered compact sketch. Refused with KC_FAILED if the union has failed, and with
  * KC_OUT_OF_MEMORY. */
 kc_status kc_union_result(kc_union *u, kc_compact *out);
+/* Writes the image of that sketch, refused as kc_union_result is. */
+kc_status kc_union_image(kc_union *u, void *out, size_t room, uint64_t *length);
 /* Makes the union empty again, as when it was new, and ends a failure. */
 kc_status kc_union_reset(kc_union *u);
 

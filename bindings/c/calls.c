@@ -70,6 +70,11 @@ kc_status kc_union_add_compact(kc_union *u, kc_compact *h) { REFUSE_UNLESS(u && 
 kc_status kc_union_result(kc_union *u, kc_compact *out) { REFUSE_UNLESS(u && out); return kcp_union_result(u, out); }
 kc_status kc_union_reset(kc_union *u) { REFUSE_UNLESS(u); return kcp_union_reset(u); }
 
+kc_status kc_union_image(kc_union *u, void *out, size_t room, uint64_t *length) {
+    REFUSE_UNLESS(u && IS_BUFFER(out, room) && length);
+    return kcp_union_image(u, OUTPUT(out), room, length);
+}
+
 kc_status kc_union_add_image(kc_union *u, const void *image, size_t count) {
     REFUSE_UNLESS(u && IS_BUFFER(image, count));
     return kcp_union_add_image(u, INPUT(image), count);

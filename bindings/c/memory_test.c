@@ -53,7 +53,7 @@ static void run(long request, uint64_t updates, uint64_t image_length) {
     if (u.object != NULL && d.object != NULL) {
         status = kc_union_add_compact(&u, &d);
         WANT(IS(status));
-        if (status != KC_OK) WANT(kc_union_add_compact(&u, &d) == KC_FAILED && kc_union_result(&u, &r) == KC_FAILED && kc_union_reset(&u) == KC_OK);
+        if (status != KC_OK) WANT(kc_union_add_compact(&u, &d) == KC_FAILED && kc_union_result(&u, &r) == KC_FAILED && kc_union_image(&u, out, sizeof out, &length) == KC_FAILED && kc_union_reset(&u) == KC_OK);
         status = kc_union_add_image(&u, image, image_length);
         WANT(IS(status) || status == KC_FAILED);
         status = kc_union_result(&u, &r);

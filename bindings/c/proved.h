@@ -29,6 +29,7 @@ kc_status kcp_union_add(kc_union *, kc_theta *);
 kc_status kcp_union_add_compact(kc_union *, kc_compact *);
 kc_status kcp_union_add_image(kc_union *, const uint8_t *, size_t);
 kc_status kcp_union_result(kc_union *, kc_compact *);
+kc_status kcp_union_image(kc_union *, uint8_t *, size_t, uint64_t *);
 kc_status kcp_union_reset(kc_union *);
 
 kc_status kcp_intersection_new(kc_intersection *, uint64_t seed);

@@ -123,10 +123,14 @@ static void operators(void) {
     WANT(kc_union_add_image(&u, NULL, 9) == KC_INVALID_ARGUMENT && kc_union_add(NULL, &a) == KC_INVALID_ARGUMENT);
     WANT(kc_union_result(&u, &r) == KC_OK && kc_union_result(&u, &r) == KC_INVALID_ARGUMENT);
     st = state_of(&r);
-    WANT(is_near(kc_estimate(&st), 150000) && kc_compact_free(&r) == KC_OK);
+    uint64_t united = 5;
+    WANT(is_near(kc_estimate(&st), 150000) && kc_union_image(&u, NULL, 0, &united) == KC_TOO_SMALL && kc_compact_image(&r, b_image + united, united, &length) == KC_OK);
+    WANT(kc_union_image(&u, out, united, &united) == KC_OK && length == united && memcmp(out, b_image + united, united) == 0);
+    WANT(kc_compact_free(&r) == KC_OK && kc_compact_image(&cb, b_image, sizeof b_image, &b_length) == KC_OK);
     WANT(kc_union_reset(&u) == KC_OK && kc_union_result(&u, &r) == KC_OK && state_of(&r).empty == 1 && kc_compact_free(&r) == KC_OK);
     WANT(kc_union_free(&u) == KC_OK && kc_union_add(&u, &a) == KC_INVALID_ARGUMENT && kc_union_add_image(&u, a_image, a_length) == KC_INVALID_ARGUMENT);
     WANT(kc_union_reset(&u) == KC_INVALID_ARGUMENT && kc_union_result(&u, &r) == KC_INVALID_ARGUMENT && r.object == NULL);
+    WANT(kc_union_image(&u, out, sizeof out, &united) == KC_INVALID_ARGUMENT && kc_union_image(NULL, out, 1, &united) == KC_INVALID_ARGUMENT);
 
     WANT(kc_intersection_new(&i, SEED) == KC_OK && kc_intersection_new(&i, SEED) == KC_INVALID_ARGUMENT);
     WANT(kc_intersection_result(&i, &r) == KC_INVALID_ARGUMENT && r.object == NULL);

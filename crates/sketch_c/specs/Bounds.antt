@@ -1,7 +1,6 @@
 -- Estimates from the numbers of a state, as C reads them.
 use Rattle.std.specs.Prelude.{◌≡◌, ◌*◌, ◌/◌, ◌%◌, ◌^◌, ◌&&◌, ℕ, Bool, true, false, is_some, nat_lt, nat_le, if◌then◌else◌, Option, Some, None}
 use Rattle.core_laws.specs.declared.TheConstants.{MAX_THETA}
-use Rattle.core_state.specs.Fraction.{decimal_of}
 use Rattle.core_state.specs.declared.fraction.TheConstants.{MAX_PLACES}
 use Rattle.estimates.specs.Bounds.{count_bounds}
 use Rattle.sketch_c.specs.declared.bounds.Wide.{Wide}
@@ -18,12 +17,19 @@ is_state retained theta = nat_lt retained (2 ^ 32) && nat_lt 0 theta && nat_le t
 abbrev pub numerator : (retained : ℕ) → ℕ
 numerator retained = retained * MAX_THETA
 
+-- the estimate rounded down to a number of decimals: its whole part, and its decimals as one number
+abbrev pub whole_part : (retained theta : ℕ) → ℕ
+whole_part retained theta = numerator retained / theta
+
+abbrev pub decimals_of : (retained theta places : ℕ) → ℕ
+decimals_of retained theta places = numerator retained % theta * 10 ^ places / theta
+
 -- the whole part and the decimals of the estimate were written, with status 0; or a number is out of range, with 1, and
 -- nothing is written
 abbrev pub WritesDecimal : (retained theta places : ℕ) → (whole_before : Wide) → (decimals_before status : ℕ) → (whole : Wide) → (decimals : ℕ) → Type 0
 WritesDecimal retained theta places whole_before decimals_before status whole decimals =
     ((is_state retained theta && nat_le places MAX_PLACES) ≡ true
-    → (status ≡ 0) × (whole ≡ wide (decimal_of (numerator retained, theta) places).whole) × (decimals ≡ (decimal_of (numerator retained, theta) places).decimals))
+    → (status ≡ 0) × (whole ≡ wide (whole_part retained theta)) × (decimals ≡ decimals_of retained theta places))
     × ((is_state retained theta && nat_le places MAX_PLACES) ≡ false → (status ≡ 1) × (whole ≡ whole_before) × (decimals ≡ decimals_before))
 
 -- a number of standard deviations that has bounds

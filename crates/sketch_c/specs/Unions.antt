@@ -8,7 +8,7 @@ use Rattle.core_laws.specs.Shown.{Shown}
 use Rattle.core_laws.specs.declared.TheConstants.{MAX_THETA}
 use Rattle.core_operators.specs.Union.{empty_union, union_value, update_refusal, failure, JoinsHashes, UnitesHashes, IsHashUpdateError}
 use Rattle.core_state.specs.Updatable.{sketch_shows}
-use Rattle.theta_sketches.specs.Image.{Reads}
+use Rattle.theta_sketches.specs.Image.{Reads, written}
 use Rattle.sketch_c.specs.Status.{status_of, IsRefusal}
 use Rattle.sketch_c.specs.Thetas.{IsReadRefusal}
 use Rattle.sketch_c.specs.declared.compact.CompactSketch.{CompactSketch}
@@ -53,6 +53,10 @@ AddsImage image old status new =
 -- the union's value as an ordered compact sketch
 abbrev pub IsUnionResult : SeededUnion → CompactSketch → Type 0
 IsUnionResult u s = IsAnswer hash_key (union_value hash_key u.union) u.union.seed_hash true s.sketch
+
+-- the image of the union's value, ordered
+abbrev pub IsUnionImage : SeededUnion → List ℕ → Type 0
+IsUnionImage u image = (s : Compact ℕ) × (image ≡ written s) × IsAnswer hash_key (union_value hash_key u.union) u.union.seed_hash true s
 
 -- the refusal of the result: 5 if the union has failed, and otherwise 3
 abbrev pub IsResultRefusal : SeededUnion → (status : ℕ) → Type 0

@@ -6,13 +6,15 @@ ghost use Rattle.core_laws.specs.Settings.{settings_refusal};
 ghost use Rattle.core_laws.specs.declared.TheConstants.{MAX_THETA};
 ghost use Rattle.core_operators.specs.Union.{failure};
 ghost use Rattle.theta_sketches.specs.View.{view_shows, view_lends};
+ghost use Rattle.sketch_c.specs.Buffer.{Writes, WritesOf};
 ghost use Rattle.sketch_c.specs.Calls.{OnObject, OnObjectWith, Fills, FillsFrom};
 ghost use Rattle.sketch_c.specs.Handle.{handle_owns};
 ghost use Rattle.sketch_c.specs.Thetas.{IsSettingsRefusal};
-ghost use Rattle.sketch_c.specs.Unions.{IsNewUnion, AddsShown, AddsSketch, AddsCompact, AddsImage, IsUnionResult, IsResultRefusal, ResetsUnion};
+ghost use Rattle.sketch_c.specs.Unions.{IsNewUnion, AddsShown, AddsSketch, AddsCompact, AddsImage, IsUnionResult, IsUnionImage, IsResultRefusal, ResetsUnion};
 ghost use Rattle.sketch_c.specs.contracts.union.SeededUnion.{the_row};
 ghost use Rattle.sketch_c.specs.declared.union.SeededUnion.{SeededUnion};
 
+use crate::buffer::put;
 use crate::compact::{self, CompactHandle, CompactSketch, read};
 use crate::opaque::Opaque;
 use crate::owned::Owned;
@@ -159,6 +161,23 @@ fn fill_result(alloc: Global, union: &SeededUnion, out: &mut CompactHandle) -> u
     }
 }
 
+/// The image of the union's value, ordered.
+fn image(union: &SeededUnion) -> Result<Vec<u8>, Error>
+    ensures image { IfOk result (λ v. IsUnionImage union.now v.items) }
+    ensures refused { Refuses result (failure union.now.union.failed) (not union.now.union.failed) }
+{
+    union.union.to_sketch(true)?.serialize()
+}
+
+fn put_image(union: &SeededUnion, out: &mut [u8], length: &mut u64) -> u32
+    ensures { Writes (IsUnionImage union.now) (IsResultRefusal union.now) out.old length.old result out.new length.new }
+{
+    match image(union) {
+        Ok(image) => put(image.as_slice(), out, length),
+        Err(error) => status_of(error.kind()),
+    }
+}
+
 fn reset(union: &mut SeededUnion) -> u32
     ensures { ResetsUnion union.old result union.new }
 {
@@ -282,6 +301,29 @@ pub extern "C" fn kcp_union_result(
         return INVALID_ARGUMENT;
     };
     let status = fill_result(alloc, &object, out);
+    fill(alloc, union, Some(object));
+    status
+}
+
+/// Writes the image of the union's value, ordered, to the front of a buffer, and its length. The union doesn't change.
+///
+/// If the buffer is too small, the status is `TOO_SMALL`, the length is written, and the buffer is as before. Refused with
+/// `INVALID_ARGUMENT` if the handle has no union, with `FAILED` if the union has failed, and with `OUT_OF_MEMORY`; then
+/// nothing is written.
+#[unsafe(no_mangle)]
+pub extern "C" fn kcp_union_image(
+    alloc: Global,
+    union: &mut UnionHandle,
+    out: &mut [u8],
+    length: &mut u64,
+) -> u32
+    ensures image { WritesOf IsUnionImage IsResultRefusal union.old.value out.old length.old result out.new length.new }
+    ensures unchanged { union.new.value ≡ union.old.value }
+{
+    let Some(object) = take(alloc, union) else {
+        return INVALID_ARGUMENT;
+    };
+    let status = put_image(&object, out, length);
     fill(alloc, union, Some(object));
     status
 }
