@@ -1,0 +1,24 @@
+-- The shapes of calls on handles: by the object before, the status and the object after.
+use Rattle.std.specs.Prelude.{◌≡◌, ℕ, Option, Some, None}
+
+-- a call on an object: a handle without one is refused with 1 and keeps none
+abbrev pub OnObject : {T : Type 0} → (Does : T → ℕ → T → Type 0) → Option T → (status : ℕ) → Option T → Type 0
+OnObject Does None status new = (status ≡ 1) × (new ≡ None)
+OnObject Does (Some old) status None = ⊥
+OnObject Does (Some old) status (Some new) = Does old status new
+
+-- a call that fills a handle: one with an object is refused with 1 and keeps it
+abbrev pub Fills : {T : Type 0} → (IsMade : T → Type 0) → (IsRefused : ℕ → Type 0) → Option T → (status : ℕ) → Option T → Type 0
+Fills IsMade IsRefused (Some old) status new = (status ≡ 1) × (new ≡ Some old)
+Fills IsMade IsRefused None status None = IsRefused status
+Fills IsMade IsRefused None status (Some new) = (status ≡ 0) × IsMade new
+
+-- a call that fills a handle from an object: without one it is refused with 1, and the handle is as before
+abbrev pub FillsFrom : {S T : Type 0} → (IsMade : S → T → Type 0) → (IsRefused : S → ℕ → Type 0) → Option S → Option T → (status : ℕ) → Option T → Type 0
+FillsFrom IsMade IsRefused None old status new = (status ≡ 1) × (new ≡ old)
+FillsFrom IsMade IsRefused (Some source) old status new = Fills (IsMade source) (IsRefused source) old status new
+
+-- a call on an object that reads another: without that one it is refused with 1 and nothing changes
+abbrev pub OnObjectWith : {S T : Type 0} → (Does : S → T → ℕ → T → Type 0) → Option S → Option T → (status : ℕ) → Option T → Type 0
+OnObjectWith Does None old status new = (status ≡ 1) × (new ≡ old)
+OnObjectWith Does (Some source) old status new = OnObject (Does source) old status new

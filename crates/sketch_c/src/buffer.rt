@@ -1,0 +1,18 @@
+//! Buffers of the caller.
+ghost use Rattle.sketch_c.specs.Buffer.{IsPut};
+
+use crate::status::{OK, TOO_SMALL};
+
+/// Copies bytes to the front of a buffer if it has room for them, and writes how many they are. The status is `OK`, or
+/// `TOO_SMALL` if they don't fit.
+pub(crate) fn put(bytes: &[u8], out: &mut [u8], length: &mut u64) -> u32
+    ensures { IsPut bytes.now out.old result out.new length.new }
+{
+    let count = bytes.len();
+    *length = count as u64;
+    if out.len() < count {
+        return TOO_SMALL;
+    }
+    out[..count].copy_from_slice(bytes);
+    OK
+}

@@ -1,0 +1,98 @@
+//! Differences of theta sketches.
+ghost use Rattle.std.specs.Prelude.{◌≡◌, IfOk, IfErr};
+ghost use Rattle.sketch_c.specs.Calls.{Fills, FillsFrom};
+ghost use Rattle.sketch_c.specs.Intersections.{IsDifferenceOf, IsDifferenceRefusal, FillsDifference};
+
+use crate::compact::{CompactHandle, CompactSketch, boxed, fill, is_filled, take};
+use crate::status::{INVALID_ARGUMENT, OK, status_of};
+use std::alloc::Global;
+use theta_sketches::ThetaANotB;
+
+/// The hashes of the first sketch that the second lacks.
+pub(crate) fn difference(
+    alloc: Global,
+    seed: u64,
+    first: &CompactSketch,
+    second: &CompactSketch,
+) -> Result<CompactSketch, u32>
+    ensures made { IfOk result (λ s. IsDifferenceOf first.now second.now s) }
+    ensures refused { IfErr result (λ status. IsDifferenceRefusal seed first.now second.now status) }
+{
+    let difference = match ThetaANotB::with_seed(seed) {
+        Ok(difference) => difference,
+        Err(error) => return Err(status_of(error.kind())),
+    };
+    match difference.compute(alloc, first.sketch.as_view(), second.sketch.as_view(), true) {
+        Ok(sketch) => Ok(CompactSketch { sketch }),
+        Err(error) => Err(status_of(error.kind())),
+    }
+}
+
+fn made(
+    alloc: Global,
+    seed: u64,
+    first: &CompactSketch,
+    second: &CompactSketch,
+) -> Result<Box<CompactSketch>, u32>
+    ensures made { IfOk result (λ s. IsDifferenceOf first.now second.now s.value) }
+    ensures refused { IfErr result (λ status. IsDifferenceRefusal seed first.now second.now status) }
+{
+    match difference(alloc, seed, first, second) {
+        Ok(sketch) => boxed(alloc, sketch),
+        Err(status) => Err(status),
+    }
+}
+
+fn fill_difference(
+    alloc: Global,
+    seed: u64,
+    first: &CompactSketch,
+    second: &CompactSketch,
+    out: &mut CompactHandle,
+) -> u32
+    ensures { Fills (IsDifferenceOf first.now second.now) (IsDifferenceRefusal seed first.now second.now) out.old.value result out.new.value }
+{
+    if is_filled(alloc, out) {
+        return INVALID_ARGUMENT;
+    }
+    match made(alloc, seed, first, second) {
+        Ok(made) => {
+            fill(alloc, out, Some(made));
+            OK
+        }
+        Err(status) => status,
+    }
+}
+
+/// Puts the hashes of the first sketch that the second lacks into a handle, below the lesser theta, as an ordered compact
+/// sketch. The sketches don't change.
+///
+/// If the first sketch is empty, no seed is checked, and that of an empty second sketch isn't either. Refused with
+/// `INVALID_ARGUMENT` if one of the first two handles has no sketch or the third one has a sketch, if the hash of the seed
+/// is 0 or a sketch is of another seed, and with `OUT_OF_MEMORY`; then nothing has changed.
+#[unsafe(no_mangle)]
+pub extern "C" fn kcp_difference(
+    alloc: Global,
+    first: &mut CompactHandle,
+    second: &mut CompactHandle,
+    seed: u64,
+    out: &mut CompactHandle,
+) -> u32
+    ensures made { FillsDifference seed first.old.value second.old.value out.old.value result out.new.value }
+    ensures same_first { first.new.value ≡ first.old.value }
+    ensures same_second { second.new.value ≡ second.old.value }
+{
+    let Some(a) = take(alloc, first) else {
+        return INVALID_ARGUMENT;
+    };
+    let status = match take(alloc, second) {
+        Some(b) => {
+            let status = fill_difference(alloc, seed, &a, &b, out);
+            fill(alloc, second, Some(b));
+            status
+        }
+        None => INVALID_ARGUMENT,
+    };
+    fill(alloc, first, Some(a));
+    status
+}

@@ -1,0 +1,204 @@
+/* Theta sketches, and tuple sketches of sums of 64 bits, for C.
+ *
+ * A theta sketch estimates how many distinct values a stream has. It retains the hashes of the values that are below its
+ * theta; if they become too many, it lowers theta and drops the greatest hashes. The estimate is
+ * retained * KC_MAX_THETA / theta.
+ *
+ * Handles. An object is kept in a handle, a variable of one of the five types below. Begin each with {0}, which has no
+ * object. A call that makes an object puts it into such a handle, and is refused with KC_INVALID_ARGUMENT if the handle has
+ * one already. The free calls take the object out again, so freeing twice does nothing. Don't copy a handle: two copies
+ * would own one object.
+ *
+ * Statuses. Each call returns KC_OK or says why it was refused. A call that is refused changes nothing, neither an object
+ * nor an output, except where its comment says otherwise. KC_INVALID_ARGUMENT is also the status of a null pointer, and of
+ * a handle without an object. A buffer of input may be null if its count is 0. No call stops the process.
+ *
+ * Buffers of output. A call that writes bytes writes their number to *length. If the buffer has no room for them, the
+ * status is KC_TOO_SMALL, the buffer is as before, and *length is the room that is needed. So call with a room of 0 first
+ * (the buffer may then be null), allocate, and call again.
+ *
+ * Seeds. Sketches are merged only if their seeds have one seed hash. KC_DEFAULT_SEED is the seed that all implementations
+ * of the DataSketches format use if no other is passed. The seed of an empty sketch is never checked.
+ *
+ * Threads. A handle is used by one call at a time. No two arguments of a call may overlap, except two buffers of input.
+ */
+#ifndef KAFTANCLAY_H
+#define KAFTANCLAY_H
+#include <stddef.h>
+#include <stdint.h>
+#ifdef __cplusplus
+extern "C" {
+#endif
+
+#define KC_DEFAULT_SEED UINT64_C(9001)
+#define KC_MAX_THETA UINT64_C(9223372036854775807)
+
+typedef uint32_t kc_status;
+enum {
+    KC_OK = 0,               /* the call did what it promises */
+    KC_INVALID_ARGUMENT = 1, /* a null pointer, a handle without an object or one that has one already, a number out of range,
+                              * a sketch of another seed */
+    KC_INVALID_DATA = 2,     /* the bytes begin with no sketch of this seed */
+    KC_OUT_OF_MEMORY = 3,    /* the memory that the call requested was refused */
+    KC_POLICY = 4,           /* a sum would be 2^64 or more */
+    KC_FAILED = 5,           /* memory was refused in an earlier merge; the union refuses until it is reset */
+    KC_TOO_SMALL = 6         /* the buffer is too small; *length is the room that is needed */
+};
+
+typedef struct { void *object; } kc_theta;        /* a theta sketch that takes updates */
+typedef struct { void *object; } kc_compact;      /* a compact theta sketch, which never changes */
+typedef struct { void *object; } kc_union;        /* a union of theta sketches */
+typedef struct { void *object; } kc_intersection; /* an intersection of theta sketches */
+typedef struct { void *object; } kc_sums;         /* a tuple sketch whose summaries are sums of 64 bits */
+
+/* What a sketch estimates by. */
+typedef struct {
+    uint64_t retained; /* how many hashes it retains, fewer than 2^32 */
+    uint64_t theta;    /* from 1 to KC_MAX_THETA, which is that of an empty sketch */
+    uint64_t empty;    /* 1 if no update was accepted, or an operator returned the empty sketch; else 0 */
+} kc_state;
+
+/* A number of 128 bits: low + 2^64 * high. */
+typedef struct {
+    uint64_t low;
+    uint64_t high;
+} kc_wide;
+
+/* ---- Theta sketches that take updates ---- */
+
+/* Makes an empty sketch of 2^lg_k nominal entries. Refused with KC_INVALID_ARGUMENT if lg_k isn't from 4 to 26 or the hash of
+ * the seed is 0, and with KC_OUT_OF_MEMORY. */
+kc_status kc_theta_new(kc_theta *sketch, uint8_t lg_k, uint64_t seed);
+/* Frees the object of a handle, if it has one. */
+kc_status kc_theta_free(kc_theta *sketch);
+/* Updates a sketch with a hash of 63 bits. A hash that is 0 or at least theta is not retained, but the sketch is nonempty
+ * afterwards. Refused with KC_OUT_OF_MEMORY, only for a new hash below theta. */
+kc_status kc_theta_update_hash(kc_theta *sketch, uint64_t hash);
+/* Updates a sketch with many hashes in their order; a few hundred at a time are fast. Without hashes nothing changes. If memory
+ * is refused, exactly the hashes before the refused one have been inserted, and the same call may be repeated. */
+kc_status kc_theta_update_hashes(kc_theta *sketch, const uint64_t *hashes, size_t count);
+/* Updates a sketch with a number, by the hash of its eight bytes, the lowest first: the hash of the other implementations. */
+kc_status kc_theta_update_u64(kc_theta *sketch, uint64_t number);
+/* Updates a sketch with bytes, by their hash: the hash of the other implementations. No bytes are a value too. */
+kc_status kc_theta_update_bytes(kc_theta *sketch, const void *bytes, size_t count);
+/* Updates a sketch with byte strings in their order, each by its hash. They lie one after another in `bytes`, the first from the
+ * front on, and ends[i] is where string i ends. Refused with KC_INVALID_ARGUMENT if an end is below the one before it or past the
+ * bytes. If memory is refused, the strings before one have been inserted, perhaps none, and the same call may be repeated. */
+kc_status kc_theta_update_strings(kc_theta *sketch, const void *bytes, size_t count, const uint64_t *ends, size_t strings);
+/* If the sketch retains more than its k = 2^lg_k nominal entries, lowers theta to the (k+1)th smallest hash and keeps the k
+ * hashes below it. Refused with KC_OUT_OF_MEMORY, only if it retains more. */
+kc_status kc_theta_trim(kc_theta *sketch);
+/* Makes a sketch empty again, as when it was new. */
+kc_status kc_theta_reset(kc_theta *sketch);
+/* Writes the sketch's state. */
+kc_status kc_theta_state(kc_theta *sketch, kc_state *out);
+/* Writes the image of the sketch's ordered compact form, in the DataSketches format. */
+kc_status kc_theta_image(kc_theta *sketch, void *out, size_t room, uint64_t *length);
+/* Makes the sketch's ordered compact form, of the same value, untrimmed. */
+kc_status kc_theta_compact(kc_theta *sketch, kc_compact *out);
+
+/* ---- Compact theta sketches ---- */
+
+/* Reads the sketch that the bytes begin with, under this seed; bytes after it are ignored. Serial versions 1, 2 and 3 are read.
+ * Refused with KC_INVALID_DATA if the bytes begin with no sketch of this seed, and with KC_OUT_OF_MEMORY. */
+kc_status kc_compact_read(kc_compact *sketch, const void *image, size_t count, uint64_t seed);
+kc_status kc_compact_free(kc_compact *sketch);
+/* Copies a sketch into another handle. */
+kc_status kc_compact_clone(kc_compact *sketch, kc_compact *out);
+kc_status kc_compact_state(kc_compact *sketch, kc_state *out);
+/* Writes the sketch's image, in the DataSketches format. */
+kc_status kc_compact_image(kc_compact *sketch, void *out, size_t room, uint64_t *length);
+
+/* ---- Unions ---- */
+
+/* Makes a union of 2^lg_k nominal entries, refused as kc_theta_new is. Its value has the hashes of all its sketches below their
+ * least theta; if these are more than k = 2^lg_k, the k least, and its theta is the (k+1)th. */
+kc_status kc_union_new(kc_union *u, uint8_t lg_k, uint64_t seed);
+kc_status kc_union_free(kc_union *u);
+/* Merge a sketch into the union. The sketch doesn't change; an empty sketch changes nothing. Refused with KC_INVALID_ARGUMENT
+ * for a sketch of another seed, with KC_INVALID_DATA for bytes that begin with no sketch of the union's seed, and with
+ * KC_FAILED if the union has failed, whatever the sketch. If a merge is refused memory, the union has failed until it is reset;
+ * if reading an image is, nothing has changed. Both have the status KC_OUT_OF_MEMORY. */
+kc_status kc_union_add(kc_union *u, kc_theta *sketch);
+kc_status kc_union_add_compact(kc_union *u, kc_compact *sketch);
+kc_status kc_union_add_image(kc_union *u, const void *image, size_t count);
+/* Makes the union's value as an ordered compact sketch. Refused with KC_FAILED if the union has failed, and with
+ * KC_OUT_OF_MEMORY. */
+kc_status kc_union_result(kc_union *u, kc_compact *out);
+/* Writes the image of that sketch, refused as kc_union_result is. */
+kc_status kc_union_image(kc_union *u, void *out, size_t room, uint64_t *length);
+/* Makes the union empty again, as when it was new, and ends a failure. */
+kc_status kc_union_reset(kc_union *u);
+
+/* ---- Intersections and differences ---- */
+
+/* Makes an intersection, which has no value before its first sketch. Refused with KC_INVALID_ARGUMENT if the hash of the seed is
+ * 0, and with KC_OUT_OF_MEMORY. */
+kc_status kc_intersection_new(kc_intersection *i, uint64_t seed);
+kc_status kc_intersection_free(kc_intersection *i);
+/* Intersect with a sketch, which doesn't change: the value keeps the hashes that all sketches share below their least theta. It
+ * is empty for good once a sketch is, or once sketches that have hashes share none while theta is KC_MAX_THETA; it then accepts
+ * every sketch. Refused with KC_INVALID_ARGUMENT for a sketch of another seed, with KC_INVALID_DATA for bytes that begin with no
+ * sketch of the intersection's seed, and with KC_OUT_OF_MEMORY; nothing has changed then. */
+kc_status kc_intersection_add(kc_intersection *i, kc_theta *sketch);
+kc_status kc_intersection_add_compact(kc_intersection *i, kc_compact *sketch);
+kc_status kc_intersection_add_image(kc_intersection *i, const void *image, size_t count);
+/* Makes the intersection's value as an ordered compact sketch. Refused with KC_INVALID_ARGUMENT before the first sketch, and
+ * with KC_OUT_OF_MEMORY. */
+kc_status kc_intersection_result(kc_intersection *i, kc_compact *out);
+/* Makes the difference of two sketches, as an ordered compact sketch: the hashes of the first that the second lacks, below the
+ * lesser theta. The three handles are three variables. Refused with KC_INVALID_ARGUMENT if the hash of the seed is 0 or a sketch
+ * is of another seed, and with KC_OUT_OF_MEMORY. */
+kc_status kc_difference(kc_compact *first, kc_compact *second, uint64_t seed, kc_compact *out);
+
+/* ---- Images alone ---- */
+
+/* These read the sketch that the bytes begin with under this seed, and are refused with KC_INVALID_DATA if they begin with none,
+ * and with KC_OUT_OF_MEMORY. */
+kc_status kc_image_state(const void *image, size_t count, uint64_t seed, kc_state *out);
+kc_status kc_images_intersect(const void *first, size_t first_count, const void *second, size_t second_count, uint64_t seed,
+                              void *out, size_t room, uint64_t *length);
+kc_status kc_images_difference(const void *first, size_t first_count, const void *second, size_t second_count, uint64_t seed,
+                               void *out, size_t room, uint64_t *length);
+
+/* ---- Tuple sketches of sums ---- */
+
+/* Makes an empty sketch, as kc_theta_new does. */
+kc_status kc_sums_new(kc_sums *sketch, uint8_t lg_k, uint64_t seed);
+kc_status kc_sums_free(kc_sums *sketch);
+/* Add a value to the sum of a key's hash, which is 0 at first. Refused with KC_POLICY if the sum would be 2^64 or more, and with
+ * KC_OUT_OF_MEMORY, only for a new hash below theta. */
+kc_status kc_sums_add_hash(kc_sums *sketch, uint64_t hash, uint64_t value);
+kc_status kc_sums_add_bytes(kc_sums *sketch, const void *bytes, size_t count, uint64_t value);
+kc_status kc_sums_trim(kc_sums *sketch);
+kc_status kc_sums_reset(kc_sums *sketch);
+kc_status kc_sums_state(kc_sums *sketch, kc_state *out);
+/* Writes the image of the sketch's ordered compact form: behind each hash the eight bytes of its sum, the lowest first. */
+kc_status kc_sums_image(kc_sums *sketch, void *out, size_t room, uint64_t *length);
+
+/* ---- Hashes and estimates ---- */
+
+/* Write the hash that the update calls insert, of 63 bits: the first half of MurmurHash3 x64 128 without its lowest bit. */
+kc_status kc_hash_bytes(uint64_t seed, const void *bytes, size_t count, uint64_t *hash);
+kc_status kc_hash_u64(uint64_t seed, uint64_t number, uint64_t *hash);
+/* The estimate of a state is the fraction retained * KC_MAX_THETA / theta. Writes its numerator; its denominator is theta. */
+kc_status kc_estimate_numerator(uint64_t retained, kc_wide *out);
+/* Writes the estimate of a state rounded down to `places` decimals, from 0 to 19: its whole part, and the decimals as one number
+ * below 10^places. Refused with KC_INVALID_ARGUMENT if no sketch has such a state or there are more decimals. */
+kc_status kc_estimate_decimal(uint64_t retained, uint64_t theta, uint32_t places, kc_wide *whole, uint64_t *decimals);
+/* Writes bounds of the number of distinct values by 1, 2 or 3 standard deviations: the ends of the Wilson score interval, rounded
+ * outwards. If hashes are random, the number is within them in about 68, 95 or 99.7 of 100 sketches; that isn't proved. Refused
+ * with KC_INVALID_ARGUMENT if no sketch has such a state or `deviations` isn't 1, 2 or 3. */
+kc_status kc_count_bounds(uint64_t retained, uint64_t theta, uint32_t deviations, kc_wide *lower, kc_wide *upper);
+/* Writes the estimate of a state as text, with its decimals, without a final 0 byte, as the calls above write bytes. */
+kc_status kc_estimate_text(const kc_state *state, uint32_t places, char *out, size_t room, uint64_t *length);
+
+/* The estimate of a state in floating point. */
+static inline double kc_estimate(const kc_state *state) {
+    return (double)state->retained * ((double)KC_MAX_THETA / (double)state->theta);
+}
+
+#ifdef __cplusplus
+}
+#endif
+#endif
