@@ -1,9 +1,9 @@
 -- Lines of texts sketched one after another, and the result of an expression.
-use Rattle.std.proofs.Common.{◌≡◌, ℕ, Bool, true, false, List, [], ◌∷◌, ◌++◌, length, map, Option, Some, None, refl, sym, ap, subst, ◌∙◌, append_assoc, append-nil}
-use Rattle.std.specs.Prelude.{IfSome, IfOk, Result, Ok, Err}
+use Rattle.std.proofs.Common.{◌≡◌, ℕ, Bool, true, false, List, [], ◌∷◌, ◌++◌, length, map, Option, Some, None, refl, sym, ap, subst, ◌∙◌, append_assoc, append-nil, ◌≤◌, ◌<◌, arith}
+use Rattle.std.specs.Prelude.{IfSome, IfOk, Result, Ok, Err, get_or}
 use Rattle.sketch_base.specs.Seed.{seed_hash}
 use Rattle.core_compact.specs.CompactState.{Compact}
-use Rattle.line_sketches.specs.Sources.{Continues}
+use Rattle.line_sketches.specs.Sources.{GivesNext, Continues}
 use Rattle.line_sketches.specs.Shards.{sketches_of_texts}
 use Rattle.expression_text.specs.declared.operator.Step.{Step}
 use Rattle.expression_text.specs.Grammar.{IsSpelled}
@@ -16,6 +16,12 @@ use Rattle.distinct.specs.Evaluations.{sketch_of_text, SketchesFirst, SketchesNe
 mapped-more : {X Y : Type 0} (f : X → Y) (xs : List X) (x : X) → map f (xs ++ x ∷ []) ≡ map f xs ++ f x ∷ []
 mapped-more f [] x = refl
 mapped-more f (y ∷ ys) x = ap (λ zs. f y ∷ zs) (mapped-more f ys x)
+
+-- a list of one
+pub only_one : {T : Type 0} (xs : List T) (x : T) → 1 ≤ length xs → length xs < 2 → x ≡ get_or xs 0 x → xs ≡ x ∷ []
+only_one [] x some few is = absurd (omega arith)
+only_one (y ∷ []) x some few is = ap (λ z. z ∷ []) (sym is)
+only_one (y ∷ z ∷ ys) x some few is = absurd (omega arith)
 
 module _ (options : OptionValues) (seed : ℕ) where
   sketched-more : (texts : List (List ℕ)) (sketches : List (Compact ℕ)) (text : List ℕ) (s : Compact ℕ) → AreSketched options seed texts sketches → s ≡ sketch_of_text options seed text → AreSketched options seed (texts ++ text ∷ []) (sketches ++ s ∷ [])
@@ -43,6 +49,16 @@ module _ (options : OptionValues) (seed : ℕ) where
   all_sketched (Some all) (Some left) new o sketches so_far next is =
       let none : left ≡ [] = subst (SketchesNext options seed (Some left) new) is next in
       subst (λ ts. AreSketched options seed ts sketches) (sym (so_far.1 ∙ ap (λ ts. so_far.0 ++ ts) none ∙ append-nil so_far.0)) so_far.2
+
+  pub next_sketched : {R : Type 0} (remaining : R → Option (List ℕ)) (old new : Option (List (List ℕ))) (source : R) (s : Compact ℕ) → GivesNext remaining old new (Some source) → IfSome (remaining source) (λ text. s ≡ sketch_of_text options seed text) → SketchesNext options seed old new (Some s)
+  next_sketched remaining None new source s gives is = tt
+  next_sketched remaining (Some texts) new source s gives is = record {
+    text = gives.text;
+    texts_after = gives.texts_left;
+    parted = gives.parted;
+    sketched = subst (λ o. IfSome o (λ text. s ≡ sketch_of_text options seed text)) gives.has is;
+    leaves = gives.leaves;
+  }
 
   -- the result of the only expression
   pub evaluated : {V E : Type 0} (r : Result V E) (items : V → List ℕ) (known : Option (List (List ℕ))) (expressions : List (List ℕ)) (text : List ℕ) (names : List (List ℕ)) (steps : List Step) (sketches : List (Compact ℕ)) (s : Compact ℕ) →

@@ -1,12 +1,15 @@
 //! What `eval` prints or writes: the result of a set expression over the sketches of files.
 ghost use Rattle.std.specs.Prelude.{◌≡◌, ◌≢◌, ℕ, List, length, IfOk, IfErr, IfSome};
 ghost use Rattle.sketch_base.specs.Seed.{seed_hash};
+ghost use Rattle.core_laws.specs.Settings.{settings_refusal};
+ghost use Rattle.core_laws.specs.declared.TheConstants.{MAX_THETA};
+ghost use Rattle.line_sketches.specs.Refusals.{RefusesRead};
 ghost use Rattle.expression_text.specs.Grammar.{IsSpelled};
 ghost use Rattle.set_expressions.specs.Values.{value_of};
 ghost use Rattle.set_expressions.specs.Running.{values_of, sketch_of_value};
 ghost use Rattle.distinct_arguments.specs.Faults.{options_of};
 ghost use Rattle.distinct.specs.Answers.{names_of};
-ghost use Rattle.distinct.specs.Evaluations.{SketchesNext, AreSketched, AreOperands, IsEvaluatedOf, evaluated_text};
+ghost use Rattle.distinct.specs.Evaluations.{sketch_of_text, SketchesNext, AreSketched, AreOperands, IsEvaluatedOf, evaluated_text};
 ghost use Rattle.distinct.specs.Failures.{IsOfReading, IsOfImages, IsOfExpression, IsOfEvaluation};
 ghost use Rattle.distinct.specs.declared.failure.Failure.TheVariants as failure;
 
@@ -24,6 +27,7 @@ use line_sketches::{BLOCK, Sources, Unread, sketch_lines};
 use lines::Hashing;
 use set_expressions::evaluate;
 use std::alloc::Global;
+use std::io::Read;
 use theta_sketches::CompactThetaSketch;
 
 /// An expression that was read.
@@ -77,6 +81,27 @@ pub fn expression_in(alloc: Global, text: &str) -> Result<Expression, Failure>
     }
 }
 
+/// The sketch of the lines of a source. Refused only with `OutOfMemory`; if the source can't be read, its error is returned.
+fn sketch_source<R: Read, C: Console>(
+    alloc: Global,
+    options: &Options<'_>,
+    seed: u64,
+    source: &mut R,
+    console: &mut C,
+) -> Result<CompactThetaSketch, Unread>
+    ensures sketch { IfSome (R.remaining source.old) (λ text.
+        IfOk result (λ s. s ≡ sketch_of_text (options_of options.now) seed text)) }
+    ensures refused { RefusesRead result (settings_refusal options.now.lg_k MAX_THETA seed) }
+{
+    let mut block = vec![in alloc; 0u8; BLOCK]?;
+    let hashing = Hashing {
+        key: options.key(),
+        seed,
+    };
+    let lg_k = options.lg_k;
+    sketch_lines(alloc, hashing, lg_k, source, &mut block, console)
+}
+
 /// The sketch of the lines of the next source, or `None` at the end. It fails if memory is refused or the source can't be
 /// read.
 fn next_lines<S: Sources, C: Console>(
@@ -95,19 +120,7 @@ fn next_lines<S: Sources, C: Console>(
         Ok(None) => return Ok(None),
         Err(error) => return Err(inputs.unreadable(alloc, error)),
     };
-    let mut block = vec![in alloc; 0u8; BLOCK]?;
-    let hashing = Hashing {
-        key: options.key(),
-        seed,
-    };
-    match sketch_lines(
-        alloc,
-        hashing,
-        options.lg_k,
-        &mut source,
-        &mut block,
-        console,
-    ) {
+    match sketch_source(alloc, options, seed, &mut source, console) {
         Ok(sketch) => Ok(Some(sketch)),
         Err(Unread::Failed(error)) => Err(inputs.unreadable(alloc, error)),
         Err(Unread::Refused(error)) => Err(out_of_memory(error)),
@@ -171,13 +184,8 @@ fn result_of(
         → IfOk result (λ s. s ≡ sketch_of_value (seed_hash seed) (value_of options.now.lg_k (values_of sketches.now) spelled.tree)) }
     ensures memory { IfErr result (λ f. f ≡ failure.Memory) }
 {
-    match evaluate(
-        alloc,
-        seed,
-        options.lg_k,
-        expression.steps.as_slice(),
-        sketches,
-    ) {
+    let steps = expression.steps.as_slice();
+    match evaluate(alloc, seed, options.lg_k, steps, sketches) {
         Ok(sketch) => Ok(sketch),
         Err(_) => Err(Failure::Memory),
     }

@@ -117,7 +117,7 @@ impl<'a, S: Sources> Inputs<'a, S> {
 
     /// The same sources under other names.
     pub fn renamed<'b>(self, names: &'b [String]) -> Inputs<'b, S>
-        ensures { result.sources ≡ self.sources }
+        ensures { result.sources ≡ self.entry.sources }
     {
         let Inputs { sources, .. } = self;
         Inputs::new(sources, names)

@@ -13,4 +13,4 @@ sketch_each-preserved g c =
     let now = g.S.Sources.texts c.sketch_each.inputs.sources in
     let new = g.S.Sources.texts c.next_lines.new.inputs.sources in
     subst (λ (items : List (Compact ℕ)). Continues old new (λ taken. AreSketched options c.args.seed taken items)) (sym c.in_ok-push-in-Some.ensures.items)
-    (sketches_more options c.args.seed old now new _ c.in-Some.sketch c.sketch_each.sketches.items c.sketch_each.invariant c.in_ok-next_lines.ensures.sketches c.in-Some.is)
+    (sketches_more options c.args.seed old now new _ c.in-Some.sketch c.sketch_each.sketches.items c.sketch_each.invariant c.in_ok-sketch.ensures.sketches c.in-Some.is)

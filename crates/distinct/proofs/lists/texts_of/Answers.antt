@@ -6,7 +6,7 @@ use Rattle.distinct.proofs.lists.texts_of.Goals as goal
 pub put_each-preserved : goal.put_each-preserved
 put_each-preserved c =
     let old = names_of c.put_each.texts.items in
-    let name = c.in-Some.name.items in
+    let name = c.in-Some.name.now.items in
     let others = texts_of c.in-Some.others.now in
     c.put_each.invariant
     ∙ ap (λ ns. old ++ ns) (ap texts_of c.in-Some.ensures.cases.0)
