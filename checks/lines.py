@@ -25,6 +25,7 @@ OPTIONS = {
     "meet": "--seed --seed-file --files0-from --expect --hex --output",
     "minus": "--seed --seed-file --hex --output",
     "show": "--seed --seed-file --files0-from --hex --bounds --tsv --json",
+    "eval": "--lg-k --seed --seed-file --keys --field --separator --bounds --tsv --json --output",
 }
 RANGES = {"--lg-k": (4, 26), "--field": (1, 2**32 - 1), "--seed": (0, M64), "--expect": (1, 2**32 - 1)}
 
@@ -254,7 +255,7 @@ def json_string(name):
 def printed(rows, options, command):
     """The answer of `count` or `show` on reports, each with its name or None."""
     if options["form"] == "--tsv":
-        names = ["name"] * (command == "show") + list(report_of(None, 2))
+        names = ["name"] * (command != "count") + list(report_of(None, 2))
         table = [[escaped(name or "")] * (name is not None) + [json.dumps(it) for it in row.values()] for name, row in rows]
         return "".join("\t".join(it) + "\n" for it in [names, *table])
     if options["form"] == "--json":
@@ -286,13 +287,13 @@ def set_option(command, options, words):
     option, has_value, value = words.pop(0).partition("=")
     if option not in OPTIONS[command].split():
         raise Fault(f"no option {option}")
-    if option in ("--hex", "--progress", "--tsv", "--json", "--bounds"):
+    if option in ("--hex", "--progress", "--keys", "--tsv", "--json", "--bounds"):
         if has_value and (option != "--bounds" or value not in "1 2 3".split()):
             raise Fault(f"a value of {option}")
         if option == "--bounds":
             options[option] = int(value or 2)
         else:
-            options[option if option in ("--hex", "--progress") else "form"] = option
+            options[option if option in ("--hex", "--progress", "--keys") else "form"] = option
         return
     if not has_value and not words:
         raise Fault(f"no value of {option}")
@@ -303,6 +304,70 @@ def set_option(command, options, words):
         options["seed"] = option, value if option == "--seed-file" else number_of(option, value)
     else:
         options[option] = number_of(option, value) if option in RANGES else value
+
+
+def tokens_of(text):
+    """The tokens of an expression: each is a kind and, of a name, the name."""
+    tokens, place = [], 0
+    while text[place:].strip(" \t\n"):
+        it = re.compile(r'[ \t\n]*(?:"([^"]+)"|([()&+|])|([^ \t\n()&+|"]+))').match(text, place)
+        if not it:
+            raise Fault("a quote")
+        kind = "name" if it[1] or it[3] not in (None, "-") else it[2] or "-"
+        tokens.append((kind, it[1] or it[3]))
+        place = it.end()
+    return tokens
+
+
+def operand(tokens, levels):
+    """The steps of the name or of the group that tokens begin with."""
+    kind, name = tokens.pop(0) if tokens else ("end", None)
+    if kind == "name":
+        return [("name", name)]
+    if kind != "(" or levels == 64:
+        raise Fault("no operand")
+    steps = steps_in(tokens, levels + 1, ["+", "|", "-"])
+    if not tokens or tokens.pop(0)[0] != ")":
+        raise Fault("an open parenthesis")
+    return steps
+
+
+def steps_in(tokens, levels, signs):
+    """The steps of operands between these signs; & binds tighter than the others."""
+    def part():
+        return operand(tokens, levels) if signs == ["&"] else steps_in(tokens, levels, ["&"])
+
+    steps = part()
+    while tokens and tokens[0][0] in signs:
+        sign = tokens.pop(0)[0]
+        steps += part() + [(sign, None)]
+    return steps
+
+
+def steps_of(text):
+    """The steps of an expression in postfix order: names, and the signs of operators."""
+    tokens = tokens_of(text)
+    steps = steps_in(tokens, 0, ["+", "|", "-"])
+    if tokens:
+        raise Fault("something behind the expression")
+    return steps
+
+
+def names_of(steps):
+    """The names of an expression, each once."""
+    return list(dict.fromkeys(name for kind, name in steps if kind == "name"))
+
+
+def evaluated(steps, sketches, k):
+    """The sketch of an expression over the sketches of its names."""
+    stack = []
+    for kind, name in steps:
+        if kind == "name":
+            stack.append(sketches[name])
+            continue
+        second, first = stack.pop(), stack.pop()
+        stack.append(meet([first, second]) if kind == "&" else minus(first, second) if kind == "-" else unite(k, [first, second]))
+    return stack.pop()
 
 
 def read_arguments(words):
@@ -323,15 +388,20 @@ def read_arguments(words):
             set_option(command, options, words)
     if not ended and any(it.startswith("-") and it != "-" for it in words):
         raise Fault("an option behind a file")
+    if command == "eval" and len(words) != 1:
+        raise Fault("not one expression")
+    if command == "eval" and "--field" in options and "--keys" not in options:
+        raise Fault("--field without --keys")
     if "--separator" in options and "--field" not in options:
         raise Fault("--separator without --field")
     if "--files0-from" in options and words:
         raise Fault("a list and files")
     if command in ("count", "sketch") and not words and "--files0-from" not in options:
         words = ["-"]
-    if [options["seed"][1], options.get("--files0-from"), *words].count("-") > 1:
+    read = set(names_of(steps_of(words[0]))) if command == "eval" else words
+    if [options["seed"][1], options.get("--files0-from"), *read].count("-") > 1:
         raise Fault("standard input twice")
-    for option in ("--field", "--bounds", "--hex", "--output", "--expect"):
+    for option in ("--field", "--bounds", "--hex", "--keys", "--output", "--expect"):
         options.setdefault(option)
     options["--separator"] = options.get("--separator", "\t").encode()
     return command, options, words
@@ -410,7 +480,7 @@ def run(words, files, messages):
     hex_lines = options["--hex"]
     if command == "minus" and not hex_lines and len(names) != 2:
         raise Fault("not two files")
-    if command not in ("count", "sketch") and not names and "--files0-from" not in options:
+    if command not in ("count", "sketch", "eval") and not names and "--files0-from" not in options:
         raise Fault("no image")
     seed = seed_of(files, options)
     if "--files0-from" in options:
@@ -418,14 +488,22 @@ def run(words, files, messages):
     if command in ("count", "sketch"):
         sketch = sketch_of([text_of(files, name) for name in names], options, seed)
         rows = [(None, sketch)]
+    elif command == "eval":
+        steps = steps_of(names[0])
+        if options["--keys"]:
+            sketches = {it: sketch_of([text_of(files, it)], options, seed) for it in names_of(steps)}
+        else:
+            sketches = dict(zip(names_of(steps), (it for _, it in sketches_in(files, names_of(steps), False, seed_hash(seed)))))
+        sketch = evaluated(steps, sketches, 2 ** options["--lg-k"])
+        rows = [(names[0], sketch)]
     else:
         rows = list(sketches_in(files, names, hex_lines, seed_hash(seed)))
         if not rows:
             raise Fault("no image")
-    if command in ("count", "show"):
+    if command in ("count", "show") or command == "eval" and options["--output"] is None:
         z = options["--bounds"] or 2
         return printed([(name, report_of(it, z)) for name, it in rows], options, command).encode()
-    if command != "sketch":
+    if command not in ("sketch", "eval"):
         sketch = combined(command, rows, options, messages)
     image = image_of(sketch, seed_hash(seed))
     answer = image.hex().encode() + b"\n" if hex_lines else image

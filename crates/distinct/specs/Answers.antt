@@ -15,10 +15,11 @@ use Rattle.line_sketches.specs.Unions.{IsUnitedImage}
 use Rattle.distinct_arguments.specs.Settings.{OptionValues}
 use Rattle.distinct_arguments.specs.Arguments.{Action, prints, runs, fails}
 use Rattle.distinct.specs.Failures.{called, chosen_hashing}
+use Rattle.distinct.specs.Evaluations.{IsEvaluatedOf}
 use Rattle.distinct.specs.Images.{images_of}
 use Rattle.distinct.specs.Texts.{count_text, shown_text, head_of}
 use Rattle.distinct_arguments.specs.declared.commands.Command.{Command}
-use Rattle.distinct_arguments.specs.declared.commands.Command.TheVariants.{Count, Sketch, Combine, Show}
+use Rattle.distinct_arguments.specs.declared.commands.Command.TheVariants.{Count, Sketch, Combine, Show, Eval}
 use Rattle.distinct_arguments.specs.declared.commands.Operator.{Operator}
 use Rattle.distinct_arguments.specs.declared.commands.Operator.TheVariants.{Union, Meet, Minus}
 
@@ -93,13 +94,14 @@ abbrev pub IsShownOf : OptionValues → (seed : ℕ) → (names texts : List (Li
 IsShownOf options seed names texts out =
     (lines : List ℕ) × AreLinesOf options.hex options seed names texts lines × (out ≡ head_of options.form ++ lines)
 
--- what a command writes for files of these names and texts
+-- what a command writes for files of these names and texts; the only name of `eval` is its expression
 abbrev pub IsAnswer : Command → OptionValues → (seed : ℕ) → (names texts : List (List ℕ)) → List ℕ → Type 0
 IsAnswer Count options seed names texts out = out ≡ count_text options (sketch_of options seed texts)
 IsAnswer Sketch options seed names texts out = out ≡ in_form options.hex (written (sketch_of options seed texts))
 IsAnswer (Combine operator) options seed names texts out =
     (image : List ℕ) × IsCombinedOf operator options seed texts image × (out ≡ in_form options.hex image)
 IsAnswer Show options seed names texts out = IsShownOf options seed names texts out
+IsAnswer Eval options seed names texts out = IsEvaluatedOf options seed names texts out
 
 -- the command's answer was written, and nothing else
 abbrev pub Writes : Command → OptionValues → (seed : ℕ) → (names texts : List (List ℕ)) → (old new : Option (List ℕ)) → Type 0

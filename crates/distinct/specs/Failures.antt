@@ -3,17 +3,18 @@ use Rattle.std.specs.Prelude.{ℕ, ◌≡◌, ◌≢◌, ◌⊎◌, ◌==◌, �
 use Rattle.std.specs.Str.{bytes_eq}
 use Rattle.lines.specs.declared.key.Hashing.{Hashing}
 use Rattle.distinct_arguments.specs.Faults.{status_of as fault_status}
+use Rattle.distinct_arguments.specs.declared.fault.Fault.TheVariants.{NotOneExpression}
 use Rattle.distinct_arguments.specs.Settings.{chosen_key}
 use Rattle.std.specs.declared.io.Error.{Error}
 use Rattle.distinct_arguments.specs.Settings.{OptionValues}
 use Rattle.distinct.specs.Images.{images_of}
 use Rattle.distinct.specs.declared.images.Images.{Images}
 use Rattle.distinct_arguments.specs.declared.commands.Command.{Command}
-use Rattle.distinct_arguments.specs.declared.commands.Command.TheVariants.{Count, Sketch, Combine}
+use Rattle.distinct_arguments.specs.declared.commands.Command.TheVariants.{Count, Sketch, Combine, Eval}
 use Rattle.distinct_arguments.specs.declared.commands.Operator.{Operator}
 use Rattle.distinct_arguments.specs.declared.commands.Operator.TheVariants.{Minus}
 use Rattle.distinct.specs.declared.failure.Failure.{Failure}
-use Rattle.distinct.specs.declared.failure.Failure.TheVariants.{NotText, Arguments, NoFiles, NotTwo, Terminal, WrongCount, Memory, Unreadable, NoSketch, NoHex, NoLine, NotWritten}
+use Rattle.distinct.specs.declared.failure.Failure.TheVariants.{NotText, Arguments, NoFiles, NotTwo, NoExpression, NoName, Terminal, WrongCount, Memory, Unreadable, NoSketch, NoHex, NoLine, NotWritten}
 
 -- the exit status: 2 if the arguments are wrong, else 1
 abbrev pub status_of : Failure → ℕ
@@ -21,6 +22,7 @@ status_of (NotText number text) = 2
 status_of (Arguments fault) = fault_status fault
 status_of NoFiles = 2
 status_of NotTwo = 2
+status_of (NoExpression text fault) = 2
 status_of Terminal = 2
 status_of _ = 1
 
@@ -98,11 +100,29 @@ abbrev pub IsOfCombining : Operator → OptionValues → (count : ℕ) → (text
 IsOfCombining operator options count texts NotTwo = (operator ≡ Minus) × AreNotTwo options.hex count texts
 IsOfCombining operator options count texts failure = IsOfUnion options.expected failure
 
--- a command fails: what it reads or writes is at fault, it has no image, there are not as many as are expected, or `minus` doesn't have two
+-- a text is not read as an expression: memory was refused, it spells none, or it has a name that can't be one
+abbrev pub IsOfExpression : Failure → Type 0
+IsOfExpression Memory = ⊤
+IsOfExpression (NoExpression text fault) = ⊤
+IsOfExpression (NoName text number) = ⊤
+IsOfExpression _ = ⊥
+
+-- an evaluation fails: there is not one expression, it is not read, there are not as many sketches as names, or a file is at fault
+abbrev pub IsOfEvaluation : (count : ℕ) → Failure → Type 0
+IsOfEvaluation count (Arguments NotOneExpression) = count ≢ 1
+IsOfEvaluation count (NoExpression text fault) = ⊤
+IsOfEvaluation count (NoName text number) = ⊤
+IsOfEvaluation count (WrongCount counted number) = number ≢ counted
+IsOfEvaluation count failure = IsOfImages failure
+
+-- a command fails: what it reads or writes is at fault, it has no image, there are not as many as are expected, `minus` doesn't have two, or
+-- `eval` doesn't have one expression
 abbrev pub IsOfCommand : Command → OptionValues → (count : ℕ) → (texts : Option (List (List ℕ))) → Failure → Type 0
-IsOfCommand command options count texts NoFiles = (count ≡ 0) × (command ≡ Count → ⊥) × (command ≡ Sketch → ⊥)
+IsOfCommand command options count texts NoFiles = (count ≡ 0) × (command ≡ Count → ⊥) × (command ≡ Sketch → ⊥) × (command ≡ Eval → ⊥)
 IsOfCommand command options count texts NotTwo = (command ≡ Combine Minus) × AreNotTwo options.hex count texts
-IsOfCommand command options count texts (WrongCount counted number) = (options.expected ≡ Some number) × (number ≢ counted)
+IsOfCommand command options count texts (WrongCount counted number) = ((command ≡ Eval → ⊥) → options.expected ≡ Some number) × (number ≢ counted)
+IsOfCommand command options count texts (NoExpression text fault) = command ≡ Eval
+IsOfCommand command options count texts (Arguments NotOneExpression) = (command ≡ Eval) × (count ≢ 1)
 IsOfCommand command options count texts failure = status_of failure ≡ 1
 
 -- how lines are hashed: by the field of the number that options choose, the first being 1, or the whole line

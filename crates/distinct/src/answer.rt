@@ -9,6 +9,7 @@ ghost use Rattle.distinct.specs.Failures.{IsOfReading, IsOfCommand};
 ghost use Rattle.distinct.specs.declared.failure.Failure.TheVariants as failure;
 
 use crate::combine::combine_inputs;
+use crate::eval::eval_inputs;
 use crate::failure::{Failure, out_of_memory};
 use crate::inputs::Inputs;
 use crate::output::put;
@@ -25,7 +26,7 @@ use theta_sketches::CompactThetaSketch;
 const STANDARD_OUTPUT: &str = "standard output";
 
 /// Runs a command under a seed on the files that sources give, under these names, and writes its whole answer and nothing
-/// else. It fails with `NoFiles` only if it needs images and no file is named. It fails with `NotTwo` only for `minus` and,
+/// else. For `eval` the only name is the expression. It fails with `NoFiles` only if it needs images and no file is named. It fails with `NotTwo` only for `minus` and,
 /// if contracts know the files' bytes, only if two files aren't named (without `--hex`) or their images aren't two. It fails
 /// with `WrongCount` only if `--expect` names another number than it reports to have found. Any other failure has status 1:
 /// memory, a file, its contents or the writer is at fault.
@@ -113,6 +114,7 @@ fn answer_of<S: Sources + Drop, C: Console>(
             }
             show_inputs(alloc, options, seed, files, inputs)
         }
+        Command::Eval => eval_inputs(alloc, options, seed, files, inputs, console),
     }
 }
 

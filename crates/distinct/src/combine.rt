@@ -205,7 +205,7 @@ fn minus_image<C: Console>(
 
 /// The sketches of all images, each of this seed. It fails if memory is refused, a file can't be read, or the bytes
 /// aren't an image.
-fn all_sketches<S: Sources>(
+pub fn all_sketches<S: Sources>(
     alloc: Global,
     seed: u64,
     images: &mut Images<'_, S>,

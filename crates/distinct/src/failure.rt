@@ -6,6 +6,7 @@ ghost use Rattle.distinct.specs.Failures.{status_of};
 ghost use Rattle.distinct.specs.declared.failure.Failure.TheVariants as failure;
 
 use distinct_arguments::{Escaped, Fault};
+use expression_text::{MAX_LEVELS, Reason, SyntaxFault};
 use line_sketches::Flaw;
 use sketch_base::Error;
 use std::alloc::{AllocError, AllocFailed};
@@ -22,6 +23,8 @@ pub enum Failure {
     NoFiles,
     /// `minus` needs two images.
     NotTwo,
+    /// This text is not an expression, for this reason.
+    NoExpression(String, SyntaxFault),
     /// An image would be written to a terminal.
     Terminal,
     /// The images found are not as many as the second number, which was expected.
@@ -54,6 +57,7 @@ impl Failure {
             Failure::Arguments(fault) => fault.status(),
             Failure::NoFiles => 2,
             Failure::NotTwo => 2,
+            Failure::NoExpression(_, _) => 2,
             Failure::Terminal => 2,
             _ => 1,
         }
@@ -71,9 +75,9 @@ pub fn out_of_memory(error: Error) -> Failure
 
 /// Why a file, or a line of it, is not an image, as messages say it.
 #[derive(Drop)]
-struct Reason<'a>(&'a Flaw);
+struct Defect<'a>(&'a Flaw);
 
-impl fmt::Display for Reason<'_> {
+impl fmt::Display for Defect<'_> {
     fn fmt<W: fmt::Write>(&self, f: &mut fmt::Formatter<W>) -> fmt::Result {
         match self.0 {
             Flaw::Hexadecimal => write!(f, "is hexadecimal text: pass --hex"),
@@ -104,6 +108,32 @@ impl fmt::Display for Reason<'_> {
     }
 }
 
+/// Why a text is not an expression, as messages say it.
+#[derive(Drop)]
+struct Misspelling(SyntaxFault);
+
+impl fmt::Display for Misspelling {
+    fn fmt<W: fmt::Write>(&self, f: &mut fmt::Formatter<W>) -> fmt::Result {
+        let offset = self.0.offset;
+        match self.0.reason {
+            Reason::MissingOperand => write!(f, "misses a name at byte {offset}"),
+            Reason::MissingOperator => write!(f, "misses an operator at byte {offset}"),
+            Reason::MissingClosing => write!(f, "misses a closing parenthesis at byte {offset}"),
+            Reason::UnexpectedClosing => write!(
+                f,
+                "has a closing parenthesis at byte {offset} without an opening one"
+            ),
+            Reason::OpenQuote => write!(f, "has a quote at byte {offset} that is not closed"),
+            Reason::TooDeep => write!(
+                f,
+                "has more than {MAX_LEVELS} levels of parentheses at byte {offset}"
+            ),
+            Reason::EmptyName => write!(f, "has an empty name at byte {offset}"),
+            Reason::Memory => write!(f, "was not read: out of memory"),
+        }
+    }
+}
+
 impl fmt::Display for Failure {
     fn fmt<W: fmt::Write>(&self, f: &mut fmt::Formatter<W>) -> fmt::Result {
         match self {
@@ -114,6 +144,12 @@ impl fmt::Display for Failure {
             Failure::Arguments(fault) => write!(f, "{fault}"),
             Failure::NoFiles => write!(f, "no image given (try --help)"),
             Failure::NotTwo => write!(f, "minus takes two images (try --help)"),
+            Failure::NoExpression(text, fault) => write!(
+                f,
+                "eval: '{}' {}",
+                Escaped(text),
+                Misspelling(*fault)
+            ),
             Failure::Terminal => write!(
                 f,
                 "standard output is a terminal, and an image is not text: pass --output FILE, or --hex"
@@ -134,12 +170,12 @@ impl fmt::Display for Failure {
             ),
             Failure::Memory => write!(f, "out of memory"),
             Failure::Unreadable(name, error) => write!(f, "{}: {error}", Escaped(name)),
-            Failure::NoSketch(name, 0, flaw) => write!(f, "{}: {}", Escaped(name), Reason(flaw)),
+            Failure::NoSketch(name, 0, flaw) => write!(f, "{}: {}", Escaped(name), Defect(flaw)),
             Failure::NoSketch(name, line, flaw) => write!(
                 f,
                 "{}: line {line} {}",
                 Escaped(name),
-                Reason(flaw)
+                Defect(flaw)
             ),
             Failure::NoHex(name, line) => write!(
                 f,

@@ -115,6 +115,14 @@ impl<'a, S: Sources> Inputs<'a, S> {
         }
     }
 
+    /// The same sources under other names.
+    pub fn renamed<'b>(self, names: &'b [String]) -> Inputs<'b, S>
+        ensures { result.sources ≡ self.entry.sources }
+    {
+        let Inputs { sources, .. } = self;
+        Inputs::new(sources, names)
+    }
+
     /// The name, in messages, of the source that was opened last.
     pub fn name(&self) -> &'a str
         ensures { result.now ≡ called self.now.current.now }

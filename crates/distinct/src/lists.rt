@@ -1,6 +1,6 @@
 //! Lists of names of files.
 ghost use Rattle.std.specs.Prelude.{◌≡◌, ◌++◌, ◌∷◌, [], IfOk, OnOk};
-ghost use Rattle.distinct.specs.Answers.{names_of};
+ghost use Rattle.distinct.specs.Answers.{names_of, texts_of};
 ghost use Rattle.distinct.specs.Lists.{names_in};
 
 use lines::cut_at;
@@ -59,4 +59,17 @@ pub fn names_in(alloc: Global, list: &[u8]) -> Result<Vec<String>, Unlisted>
     }
     put_name(alloc, &mut names, rest)?;
     Ok(names)
+}
+
+/// Names as texts. It fails with the number of a name, from 1, that is empty or not UTF-8 text, or if memory is refused.
+pub fn texts_of(alloc: Global, names: &[Vec<u8>]) -> Result<Vec<String>, Unlisted>
+    ensures { IfOk result (λ v. names_of v.items ≡ texts_of names.now) }
+{
+    let mut texts = Vec::new(alloc);
+    let mut left = names;
+    'put_each: while let Some((name, others)) = left.split_first() {
+        put_name(alloc, &mut texts, name.as_slice())?;
+        left = others;
+    }
+    Ok(texts)
 }

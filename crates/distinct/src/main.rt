@@ -8,6 +8,7 @@ ghost use Rattle.sketch_base.specs.Seed.{seed_hash};
 
 mod answer;
 mod combine;
+mod eval;
 mod failure;
 mod images;
 mod inputs;
@@ -21,11 +22,12 @@ mod show;
 mod tests;
 
 use crate::answer::perform;
+use crate::eval::expression_in;
 use crate::failure::Failure;
 use crate::inputs::{Files, files_in_list};
 use crate::progress::Progress;
 use crate::seeds::seed_of;
-use distinct_arguments::{Command, Options, Request, read_arguments};
+use distinct_arguments::{Command, Fault, Options, Request, Seed, read_arguments};
 use sketch_base::DEFAULT_UPDATE_SEED;
 use std::env;
 use std::env::Env;
@@ -71,19 +73,48 @@ fn run(rt: &HostRuntime) -> Result<(), Failure> {
     let words: Vec<String> = args.skip(1).collect(rt.alloc())?;
     let request = read_arguments(words.as_slice())?;
     match request {
-        Request::Print(_) => run_request(rt, request, DEFAULT_UPDATE_SEED, &[]),
+        Request::Print(_) => run_request(rt, request, DEFAULT_UPDATE_SEED, &[], &[]),
+        Request::Run(Command::Eval, options, files) => run_eval(rt, request, &options, files),
         Request::Run(command, options, files) => {
             check_terminal(rt, command, &options)?;
             let seed = seed_of(rt, &options)?;
             match options.list {
                 Some(list) => {
                     let names = files_in_list(rt, list)?;
-                    run_request(rt, request, seed, names.as_slice())
+                    run_request(rt, request, seed, names.as_slice(), names.as_slice())
                 }
-                None => run_request(rt, request, seed, files),
+                None => run_request(rt, request, seed, files, files),
             }
         }
     }
+}
+
+/// Evaluates an expression over the files that it names. It is read before any file is opened.
+fn run_eval(
+    rt: &HostRuntime,
+    request: Request<'_>,
+    options: &Options<'_>,
+    files: &[String],
+) -> Result<(), Failure> {
+    let [text] = files else {
+        return Err(Failure::Arguments(Fault::NotOneExpression));
+    };
+    let expression = expression_in(rt.alloc(), text.as_str())?;
+    if options.seed == Seed::File("-") && has_standard(expression.names.as_slice()) {
+        return Err(Failure::Arguments(Fault::StandardTwice));
+    }
+    let seed = seed_of(rt, options)?;
+    run_request(rt, request, seed, files, expression.names.as_slice())
+}
+
+/// Whether a name means standard input.
+fn has_standard(names: &[String]) -> bool {
+    for name in names {
+        if name.as_str() == "-" {
+            return true;
+        }
+    }
+    false
 }
 
 /// Fails if the bytes of an image would go to a terminal.
@@ -100,13 +131,14 @@ fn check_terminal(
     }
 }
 
-/// Does what a request says, under this seed, on these files. The answer goes to standard output, or to the file that
+/// Does what a request says, under this seed, on files of these names, of which it opens `opened`. The answer goes to standard output, or to the file that
 /// `--output` names, which is created once the whole answer is made.
 fn run_request(
     rt: &HostRuntime,
     request: Request<'_>,
     seed: u64,
     files: &[String],
+    opened: &[String],
 ) -> Result<(), Failure>
     requires seeded { seed_hash seed ≢ 0 }
 {
@@ -119,7 +151,7 @@ fn run_request(
             (from_standard, options.progress, options.output)
         }
     };
-    let sources = Files::named(rt, files, from_standard);
+    let sources = Files::named(rt, opened, from_standard);
     let mut console = Progress::new(rt, progress);
     match output {
         None => perform(

@@ -46,7 +46,7 @@ pub fn count_text(
 }
 
 /// What `show` prints before all sketches.
-fn head_of(alloc: Global, form: Form) -> Result<String, AllocError>
+pub fn head_of(alloc: Global, form: Form) -> Result<String, AllocError>
     ensures { IfOk result (λ text. string_bytes text ≡ head_of form) }
 {
     if form == Form::Tsv {
@@ -57,7 +57,7 @@ fn head_of(alloc: Global, form: Form) -> Result<String, AllocError>
 }
 
 /// What `show` prints of a sketch.
-fn shown_text(
+pub fn shown_text(
     alloc: Global,
     options: &Options<'_>,
     name: &str,

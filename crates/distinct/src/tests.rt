@@ -8,6 +8,7 @@ ghost use Rattle.distinct_arguments.specs.Arguments.{action_of};
 ghost use Rattle.distinct_arguments.specs.Faults.{options_of};
 ghost use Rattle.distinct.specs.Answers.{names_of, texts_of, sketch_of, in_form};
 ghost use Rattle.distinct.specs.Answers.{IsIntersectionImage, IsDifferenceImage, IsShownOf, IsAnswer, Performs};
+ghost use Rattle.distinct.specs.Evaluations.{IsEvaluatedOf};
 ghost use Rattle.distinct.specs.Images.{images_of};
 ghost use Rattle.distinct.specs.Texts.{count_text};
 
@@ -18,6 +19,7 @@ use crate::remarks::{Console, Remark};
 use distinct_arguments::{
     Command, Fault, Operator, Options, Request, Seed, Topic, read_arguments, text_of,
 };
+use expression_text::{Reason, SyntaxFault};
 use line_sketches::{Flaw, Texts, Watch, hex_line, read_hex};
 use sketch_base::{DEFAULT_UPDATE_SEED, ErrorKind as SketchError, compute_seed_hash};
 use std::alloc::{AllocError, Allocator, Global};
@@ -37,6 +39,7 @@ enum Kind {
     ArgumentsMemory,
     NoFiles,
     NotTwo,
+    NoExpression(Reason),
     Terminal,
     WrongCount,
     NoSeed,
@@ -59,6 +62,10 @@ fn failure_of(alloc: Global, kind: Kind) -> Result<Failure, AllocError> {
         Kind::ArgumentsMemory => Failure::Arguments(Fault::Memory),
         Kind::NoFiles => Failure::NoFiles,
         Kind::NotTwo => Failure::NotTwo,
+        Kind::NoExpression(reason) => Failure::NoExpression(
+            name,
+            SyntaxFault { offset: 4, reason },
+        ),
         Kind::Terminal => Failure::Terminal,
         Kind::WrongCount => Failure::WrongCount(2, 3),
         Kind::NoSeed => Failure::NoSeed(name),
@@ -93,6 +100,41 @@ fn prints_each_failure(rt: HostRuntime) -> Result<(), Fail> {
         (Kind::ArgumentsMemory, 1, "out of memory"),
         (Kind::NoFiles, 2, "no image given (try --help)"),
         (Kind::NotTwo, 2, "minus takes two images (try --help)"),
+        (
+            Kind::NoExpression(Reason::MissingOperand),
+            2,
+            "eval: 'it' misses a name at byte 4",
+        ),
+        (
+            Kind::NoExpression(Reason::MissingOperator),
+            2,
+            "eval: 'it' misses an operator at byte 4",
+        ),
+        (
+            Kind::NoExpression(Reason::MissingClosing),
+            2,
+            "eval: 'it' misses a closing parenthesis at byte 4",
+        ),
+        (
+            Kind::NoExpression(Reason::UnexpectedClosing),
+            2,
+            "eval: 'it' has a closing parenthesis at byte 4 without an opening one",
+        ),
+        (
+            Kind::NoExpression(Reason::OpenQuote),
+            2,
+            "eval: 'it' has a quote at byte 4 that is not closed",
+        ),
+        (
+            Kind::NoExpression(Reason::TooDeep),
+            2,
+            "eval: 'it' has more than 64 levels of parentheses at byte 4",
+        ),
+        (
+            Kind::NoExpression(Reason::EmptyName),
+            2,
+            "eval: 'it' has an empty name at byte 4",
+        ),
         (
             Kind::Terminal,
             2,
@@ -308,6 +350,20 @@ fn show_of(
     answered(alloc, Command::Show, options, seed, names, texts)
 }
 
+/// What `eval` writes of files.
+fn eval_of(
+    alloc: Global,
+    options: &Options<'_>,
+    seed: u64,
+    names: &[String],
+    texts: &[Vec<u8>],
+) -> Result<Vec<u8>, Failure>
+    requires seeded { seed_hash seed ≢ 0 }
+    ensures evaluated { IfOk result (λ v. IsEvaluatedOf (options_of options.now) seed (names_of names.now) (texts_of texts.now) v.items) }
+{
+    answered(alloc, Command::Eval, options, seed, names, texts)
+}
+
 /// What a command writes, by its helper.
 fn written_by(
     alloc: Global,
@@ -326,6 +382,7 @@ fn written_by(
         Command::Combine(Operator::Meet) => meet_of(alloc, options, seed, names, texts),
         Command::Combine(Operator::Minus) => minus_of(alloc, options, seed, names, texts),
         Command::Show => show_of(alloc, options, seed, names, texts),
+        Command::Eval => eval_of(alloc, options, seed, names, texts),
     }
 }
 
@@ -405,33 +462,19 @@ fn both_written(
     texts: [&str; 2],
 ) -> Result<(Vec<u8>, Vec<u8>), Failure> {
     let words = words_of(alloc, arguments)?;
-    let names = words_of(alloc, &["a", "b"])?;
-    let Request::Run(command, options, _) = read_arguments(words.as_slice())? else {
+    let Request::Run(command, options, names) = read_arguments(words.as_slice())? else {
         return Err(Failure::NoFiles);
     };
     let seed = number_of(options.seed);
     if compute_seed_hash(seed, SketchError::InvalidArgument).is_err() {
         return Err(Failure::NoFiles);
     }
-    let reads_lines = command == Command::Count || command == Command::Sketch;
-    let writes_lines = command == Command::Count || command == Command::Show;
-    let is_image = !options.hex && !writes_lines;
+    let reads_lines = command == Command::Count || command == Command::Sketch || options.keys;
+    let prints = command == Command::Count || command == Command::Show || command == Command::Eval;
+    let is_image = !options.hex && (!prints || options.output.is_some());
     let files = two_texts(alloc, !options.hex && !reads_lines, texts)?;
-    let written = performed(
-        alloc,
-        words.as_slice(),
-        seed,
-        names.as_slice(),
-        files.as_slice(),
-    )?;
-    let second = written_by(
-        alloc,
-        command,
-        &options,
-        seed,
-        names.as_slice(),
-        files.as_slice(),
-    )?;
+    let written = performed(alloc, words.as_slice(), seed, names, files.as_slice())?;
+    let second = written_by(alloc, command, &options, seed, names, files.as_slice())?;
     Ok((
         in_digits(alloc, is_image, written)?,
         in_digits(alloc, is_image, second)?,
@@ -551,6 +594,31 @@ fn writes_each_answer(rt: HostRuntime) -> Result<(), Fail> {
             &["show", "--json", "--hex", "a", "b"],
             EXACT,
             "{\"name\":\"a\",\"estimate\":5,\"lower\":5,\"upper\":5,\"exact\":true,\"retained\":5,\"theta\":9223372036854775807}\n{\"name\":\"b\",\"estimate\":3,\"lower\":3,\"upper\":3,\"exact\":true,\"retained\":3,\"theta\":9223372036854775807}\n",
+        ),
+        (
+            &["eval", "a + b"],
+            EXACT,
+            "a + b: 6 exact, retained 6, theta 9223372036854775807\n",
+        ),
+        (
+            &["eval", "--json", "a - (a & b)"],
+            EXACT,
+            "{\"name\":\"a - (a & b)\",\"estimate\":3,\"lower\":3,\"upper\":3,\"exact\":true,\"retained\":3,\"theta\":9223372036854775807}\n",
+        ),
+        (
+            &["eval", "--keys", "--tsv", "a & b"],
+            TEXTS,
+            "name\testimate\tlower\tupper\texact\tretained\ttheta\na & b\t2\t2\t2\ttrue\t2\t9223372036854775807\n",
+        ),
+        (
+            &["eval", "--keys", "--lg-k=4", "a + b"],
+            LETTERS,
+            "a + b: 18 estimated, from 16 to 21, retained 16, theta 8286655706689789920\n",
+        ),
+        (
+            &["eval", "--output", "o", "a + b"],
+            EXACT,
+            "02030300001acc930600000000000000dc8d24339151380f5f1032909707cc27da4533470651e63c088534befe436f3f39151d0e0dd45d67fc08309e1c5ed36b\n",
         ),
     ] {
         let (first, second) = match both_written(rt.alloc(), arguments, texts) {

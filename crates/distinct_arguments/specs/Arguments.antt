@@ -1,10 +1,10 @@
 -- What the program does by its arguments.
-use Rattle.std.specs.Prelude.{ℕ, ◌≤◌, ⊤, ◌+◌, ◌==◌, ◌&&◌, not, nat_lt, Bool, false, List, [], ◌∷◌, length, codes, Option, Some, None, is_some, is_none, Result, Ok, Err, if◌then◌else◌}
+use Rattle.std.specs.Prelude.{ℕ, ◌≤◌, ⊤, ◌+◌, ◌==◌, ◌&&◌, ◌||◌, not, nat_lt, Bool, false, List, [], ◌∷◌, length, codes, Option, Some, None, is_some, is_none, Result, Ok, Err, if◌then◌else◌}
 use Rattle.std.specs.Option.{option_map_or}
 use Rattle.std.specs.List.{find}
 use Rattle.std.specs.Str.{bytes_eq}
-use Rattle.distinct_arguments.specs.Words.{command_of, option_called, has_option, reads_lines, is_help, is_version, is_option, is_standard, Setting, split_option}
-use Rattle.distinct_arguments.specs.Settings.{SeedValue, seed_number, seed_file, OptionValues, default_options, Mistake, no_command, unknown_command, unknown_option, behind_file, no_value, unneeded_value, lone_separator, files_and_list, standard_twice, with_flag, with_value}
+use Rattle.distinct_arguments.specs.Words.{command_of, option_called, has_option, reads_lines, reads_expression, is_help, is_version, is_option, is_standard, Setting, split_option}
+use Rattle.distinct_arguments.specs.Settings.{SeedValue, seed_number, seed_file, OptionValues, default_options, Mistake, no_command, unknown_command, unknown_option, behind_file, no_value, unneeded_value, not_one_expression, lone_field, lone_separator, files_and_list, standard_twice, with_flag, with_value}
 use Rattle.distinct_arguments.specs.declared.commands.Command.{Command}
 use Rattle.distinct_arguments.specs.declared.commands.Topic.{Topic}
 use Rattle.distinct_arguments.specs.declared.commands.Topic.TheVariants.{Program, Version, Help}
@@ -79,9 +79,19 @@ standard_uses command options files =
     + (if is_standard_default command options.list files then 1 else 0)
     + standard_files files
 
+-- a command that reads an expression has it as its only file word
+abbrev pub has_one_expression : Command → (files : List (List ℕ)) → Bool
+has_one_expression command files = not (reads_expression command) || length files == 1
+
+-- a command reads an expression, and chooses a field of lines that it doesn't read
+abbrev pub has_lone_field : Command → OptionValues → Bool
+has_lone_field command options = reads_expression command && is_some options.field && not options.keys
+
 -- what a command does with its options and files, unless they don't fit together
 abbrev pub run_action : Command → OptionValues → (files : List (List ℕ)) → Action
 run_action command options files =
+    if not (has_one_expression command files) then fails not_one_expression else
+    if has_lone_field command options then fails lone_field else
     if is_some options.separator && is_none options.field then fails lone_separator else
     if is_some options.list && not (length files == 0) then fails files_and_list else
     if nat_lt 1 (standard_uses command options files) then fails standard_twice else

@@ -9,7 +9,7 @@ use Rattle.distinct_arguments.specs.Words.{number_of, byte_of, seed_of, deviatio
 use Rattle.distinct_arguments.specs.declared.options.Form.{Form}
 use Rattle.distinct_arguments.specs.declared.options.Form.TheVariants.{Plain, Tsv as TsvForm, Json as JsonForm}
 use Rattle.distinct_arguments.specs.declared.options.OptionName.{OptionName}
-use Rattle.distinct_arguments.specs.declared.options.OptionName.TheVariants.{LgK, Field, Separator, Seed, SeedFile, FileList, Expect, Progress, Bounds, Tsv, Json, Hex, Output}
+use Rattle.distinct_arguments.specs.declared.options.OptionName.TheVariants.{LgK, Field, Separator, Seed, SeedFile, FileList, Expect, Progress, Bounds, Tsv, Json, Hex, Output, Keys}
 
 -- the seed of hashes: a number, or the name of the file that has it
 pub data SeedValue : Type 0 where
@@ -23,6 +23,7 @@ pub record OptionValues : Type 0 where
   pub separator : Option ℕ
   pub seed : SeedValue
   pub hex : Bool
+  pub keys : Bool
   pub progress : Bool
   pub output : Option (List ℕ)
   pub list : Option (List ℕ)
@@ -38,6 +39,7 @@ default_options = record {
   separator = None;
   seed = seed_number 9001;
   hex = false;
+  keys = false;
   progress = false;
   output = None;
   list = None;
@@ -64,6 +66,8 @@ pub data Mistake : Type 0 where
   wrong_seed : Mistake
   wrong_deviations : Mistake
   wrong_count : Mistake
+  not_one_expression : Mistake
+  lone_field : Mistake
   lone_separator : Mistake
   files_and_list : Mistake
   standard_twice : Mistake
@@ -72,6 +76,7 @@ pub data Mistake : Type 0 where
 abbrev pub with_flag : OptionValues → OptionName → Option OptionValues
 with_flag options Progress = Some (record options { progress = true })
 with_flag options Hex = Some (record options { hex = true })
+with_flag options Keys = Some (record options { keys = true })
 with_flag options Tsv = Some (record options { form = TsvForm })
 with_flag options Json = Some (record options { form = JsonForm })
 with_flag options Bounds = Some (record options { bounds = Some Two })

@@ -8,10 +8,10 @@ use Rattle.sketch_base.specs.Seed.{seed_hash}
 use Rattle.estimates.specs.declared.bounds.Deviations.{Deviations}
 use Rattle.estimates.specs.declared.bounds.Deviations.TheVariants.{One, Two, Three}
 use Rattle.distinct_arguments.specs.declared.commands.Command.{Command}
-use Rattle.distinct_arguments.specs.declared.commands.Command.TheVariants.{Count, Sketch, Combine, Show}
+use Rattle.distinct_arguments.specs.declared.commands.Command.TheVariants.{Count, Sketch, Combine, Show, Eval}
 use Rattle.distinct_arguments.specs.declared.commands.Operator.TheVariants.{Union, Meet, Minus}
 use Rattle.distinct_arguments.specs.declared.options.OptionName.{OptionName}
-use Rattle.distinct_arguments.specs.declared.options.OptionName.TheVariants.{LgK, Field, Separator, Seed, SeedFile, FileList, Expect, Progress, Bounds, Tsv, Json, Hex, Output}
+use Rattle.distinct_arguments.specs.declared.options.OptionName.TheVariants.{LgK, Field, Separator, Seed, SeedFile, FileList, Expect, Progress, Bounds, Tsv, Json, Hex, Output, Keys}
 
 -- the bytes of words
 abbrev pub words_of : {A : Type 0} → List (String A) → List (List ℕ)
@@ -25,7 +25,8 @@ command_of word =
     if bytes_eq word (codes "union") then Some (Combine Union) else
     if bytes_eq word (codes "meet") then Some (Combine Meet) else
     if bytes_eq word (codes "minus") then Some (Combine Minus) else
-    if bytes_eq word (codes "show") then Some Show else None
+    if bytes_eq word (codes "show") then Some Show else
+    if bytes_eq word (codes "eval") then Some Eval else None
 
 -- requests for help and for the version
 abbrev pub is_help : List ℕ → Bool
@@ -71,22 +72,32 @@ option_called name =
     if bytes_eq name (codes "--tsv") then Some Tsv else
     if bytes_eq name (codes "--json") then Some Json else
     if bytes_eq name (codes "--hex") then Some Hex else
-    if bytes_eq name (codes "--output") then Some Output else None
+    if bytes_eq name (codes "--output") then Some Output else
+    if bytes_eq name (codes "--keys") then Some Keys else None
 
--- the commands that read lines, and those that print counts
+-- the commands that read lines from any files or standard input, those that read an expression, and those that print counts
 abbrev pub reads_lines : Command → Bool
 reads_lines Count = true
 reads_lines Sketch = true
 reads_lines (Combine operator) = false
 reads_lines Show = false
+reads_lines Eval = false
+
+abbrev pub reads_expression : Command → Bool
+reads_expression Eval = true
+reads_expression _ = false
 
 abbrev pub prints_counts : Command → Bool
 prints_counts Count = true
 prints_counts Sketch = false
 prints_counts (Combine operator) = false
 prints_counts Show = true
+prints_counts Eval = true
 
--- the commands that have `--lg-k`, and those that have `--expect`
+-- the commands that have `--field`, those that have `--lg-k`, and those that have `--expect`
+abbrev pub has_field : Command → Bool
+has_field command = reads_lines command || reads_expression command
+
 abbrev pub has_size : Command → Bool
 has_size (Combine Meet) = false
 has_size (Combine Minus) = false
@@ -98,21 +109,29 @@ has_expected (Combine Union) = true
 has_expected (Combine Meet) = true
 has_expected _ = false
 
--- every command but `minus` reads the names of its files from a file, if it is to
+-- every command but `minus` and `eval` reads the names of its files from a file, if it is to
 abbrev pub has_list : Command → Bool
 has_list (Combine Minus) = false
+has_list Eval = false
 has_list _ = true
 
--- every command but `count` reads or writes images
-abbrev pub has_images : Command → Bool
-has_images Count = false
-has_images _ = true
+-- every command but `count` and `eval` reads or writes images in hexadecimal, if it is to
+abbrev pub has_digits : Command → Bool
+has_digits Count = false
+has_digits Eval = false
+has_digits _ = true
+
+-- every command but `count` and `show` writes an image to a file, if it is to
+abbrev pub has_output : Command → Bool
+has_output Count = false
+has_output Show = false
+has_output _ = true
 
 -- the commands that have an option
 abbrev pub has_option : Command → OptionName → Bool
 has_option command LgK = has_size command
-has_option command Field = reads_lines command
-has_option command Separator = reads_lines command
+has_option command Field = has_field command
+has_option command Separator = has_field command
 has_option command Progress = reads_lines command
 has_option command Seed = true
 has_option command SeedFile = true
@@ -121,8 +140,9 @@ has_option command Expect = has_expected command
 has_option command Bounds = prints_counts command
 has_option command Tsv = prints_counts command
 has_option command Json = prints_counts command
-has_option command Hex = has_images command
-has_option command Output = not (prints_counts command)
+has_option command Hex = has_digits command
+has_option command Output = has_output command
+has_option command Keys = reads_expression command
 
 -- the number that a word spells in decimal digits, if it is from the least to the greatest
 abbrev pub number_of : (least greatest : ℕ) → List ℕ → Option ℕ

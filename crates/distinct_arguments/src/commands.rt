@@ -17,6 +17,8 @@ pub enum Command {
     Sketch,
     Combine(Operator),
     Show,
+    /// Evaluates an expression over the sketches of files.
+    Eval,
 }
 
 /// What the program prints without reading a file.

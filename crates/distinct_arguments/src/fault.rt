@@ -33,6 +33,10 @@ pub enum Fault {
     WrongDeviations,
     /// The value of `--expect` is not a number from 1 to 2^32 - 1.
     WrongCount,
+    /// `eval` doesn't have exactly one argument behind its options.
+    NotOneExpression,
+    /// `eval` has `--field` without `--keys`.
+    LoneField,
     /// There is `--separator` without `--field`.
     LoneSeparator,
     /// There are `--files0-from` and a file.
@@ -127,11 +131,11 @@ impl fmt::Display for Fault {
         match self {
             Fault::NoCommand => write!(
                 f,
-                "no command: count, sketch, union, meet, minus or show (try --help)"
+                "no command: count, sketch, union, meet, minus, show or eval (try --help)"
             ),
             Fault::UnknownCommand(word) => write!(
                 f,
-                "{}: not one of count, sketch, union, meet, minus and show (try --help)",
+                "{}: not one of count, sketch, union, meet, minus, show and eval (try --help)",
                 Escaped(word)
             ),
             Fault::UnknownOption(name) => {
@@ -154,6 +158,11 @@ impl fmt::Display for Fault {
             ),
             Fault::WrongDeviations => write!(f, "--bounds takes 1, 2 or 3, as in --bounds=2"),
             Fault::WrongCount => write!(f, "--expect takes a number from 1 to 4294967295"),
+            Fault::NotOneExpression => write!(
+                f,
+                "eval takes one expression in quotes, such as 'mon + tue - wed'"
+            ),
+            Fault::LoneField => write!(f, "--field needs --keys"),
             Fault::LoneSeparator => write!(f, "--separator needs --field"),
             Fault::FilesAndList => write!(f, "files are named by arguments and by --files0-from"),
             Fault::StandardTwice => write!(f, "standard input would be read twice"),

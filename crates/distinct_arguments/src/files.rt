@@ -3,9 +3,9 @@ ghost use Rattle.std.specs.Prelude.{◌≡◌, ◌≤◌, ◌+◌, nat_lt, strin
 ghost use Rattle.std.specs.Option.{option_map};
 ghost use Rattle.std.specs.List.{find};
 ghost use Rattle.distinct_arguments.specs.Arguments.{standard_files, standard_uses, is_standard_seed, is_standard_list};
-ghost use Rattle.distinct_arguments.specs.Arguments.{is_standard_default, run_action, files_action};
+ghost use Rattle.distinct_arguments.specs.Arguments.{is_standard_default, has_one_expression, run_action, files_action};
 ghost use Rattle.distinct_arguments.specs.Faults.{options_of, seed_value, ParsesAs};
-ghost use Rattle.distinct_arguments.specs.Words.{is_option, is_standard, reads_lines, words_of};
+ghost use Rattle.distinct_arguments.specs.Words.{is_option, is_standard, reads_lines, reads_expression, words_of};
 
 use crate::commands::{Command, Request};
 use crate::fault::{Fault, behind_file};
@@ -48,7 +48,22 @@ fn reads_lines(command: Command) -> bool
         Command::Sketch => true,
         Command::Combine(_) => false,
         Command::Show => false,
+        Command::Eval => false,
     }
+}
+
+/// Whether a command reads an expression.
+fn reads_expression(command: Command) -> bool
+    ensures { result ≡ reads_expression command }
+{
+    command == Command::Eval
+}
+
+/// Whether there is exactly one file word, if a command reads an expression.
+fn has_one_expression(command: Command, files: &[String]) -> bool
+    ensures { result ≡ has_one_expression command (words_of files.now) }
+{
+    !reads_expression(command) || files.len() == 1
 }
 
 /// Whether a command reads lines from standard input because it has no file.
@@ -104,6 +119,12 @@ pub(crate) fn run_request<'a>(
 ) -> Result<Request<'a>, Fault>
     ensures { ParsesAs result (run_action command (options_of options.entry) (words_of files.now)) }
 {
+    if !has_one_expression(command, files) {
+        return Err(Fault::NotOneExpression);
+    }
+    if reads_expression(command) && options.field.is_some() && !options.keys {
+        return Err(Fault::LoneField);
+    }
     if options.separator.is_some() && options.field.is_none() {
         return Err(Fault::LoneSeparator);
     }

@@ -13,6 +13,7 @@ distinct: how many distinct lines there are, about, in little memory
   distinct meet IMAGE..            .. that all of these saw
   distinct minus IMAGE IMAGE       .. that the first saw and the second did not
   distinct show IMAGE..            prints one line per image
+  distinct eval EXPRESSION         prints one line on a set expression, such as 'mon + tue - wed'
   distinct COMMAND --help          prints the options of a command; -h does so too
   distinct --help                  prints this text; -h does so too
   distinct --version               prints the version; -V does so too
@@ -116,6 +117,28 @@ exactly or estimated, how many hashes it retains, and its theta
   --json              print a JSON object per image, one a line
 ";
 
+const EVAL: &str = "\
+distinct eval [OPTION..] EXPRESSION: prints one line on a set expression over images: how many
+distinct lines it has, exactly or estimated, how many hashes it retains, and its theta
+
+  EXPRESSION is one argument, in quotes, such as 'mon.theta + tue.theta - wed.theta'. Its names are
+  those of files. + and | are the union, & is the intersection, and a word that is - alone is the
+  difference. & binds tighter than the others, which bind alike, from the left; parentheses group.
+  Put a name between two \" if it has a blank, a tab, an LF or one of ( ) & + |, or is - alone.
+
+  --lg-k N            keep 2^N hashes of a union, N from 4 to 26; default 12
+  --seed N            the seed of the hashes, from 0 to 2^64 - 1; default 9001
+  --seed-file FILE    the seed is the number in FILE, and not in the process list
+  --keys              the files have lines, not images; each is sketched with 2^N hashes
+  --field N           with --keys: a line's key is its field N, from 1, as cut has it
+  --separator C       the byte between fields, with --field; default a tab
+  --bounds[=N]        print bounds of the count too, N standard deviations from it; N is 1, 2 or 3,
+                      default 2
+  --tsv               print values separated by tabs, under a line of their names
+  --json              print a JSON object
+  --output FILE       write the image of the result to FILE, all or nothing, and print nothing
+";
+
 /// The text on a topic.
 pub fn text_of(topic: Topic) -> &'static str {
     match topic {
@@ -127,5 +150,6 @@ pub fn text_of(topic: Topic) -> &'static str {
         Topic::Help(Command::Combine(Operator::Meet)) => MEET,
         Topic::Help(Command::Combine(Operator::Minus)) => MINUS,
         Topic::Help(Command::Show) => SHOW,
+        Topic::Help(Command::Eval) => EVAL,
     }
 }

@@ -20,6 +20,7 @@ pub enum OptionName {
     Json,
     Hex,
     Output,
+    Keys,
 }
 
 /// The seed of hashes: a number, or the name of the file that has it.
@@ -50,6 +51,8 @@ pub struct Options<'a> {
     pub seed: Seed<'a>,
     /// Whether images are in hexadecimal digits.
     pub hex: bool,
+    /// Whether the files of an expression have lines, and not images.
+    pub keys: bool,
     /// Whether the lines so far are reported while they are read.
     pub progress: bool,
     /// The file to which the image is written, or `None` for standard output.

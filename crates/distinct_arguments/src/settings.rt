@@ -27,6 +27,7 @@ impl<'a> Options<'a> {
             separator: None,
             seed: Seed::Number(DEFAULT_UPDATE_SEED),
             hex: false,
+            keys: false,
             progress: false,
             output: None,
             list: None,
@@ -57,6 +58,7 @@ pub(crate) fn with_flag<'a>(options: Options<'a>, option: OptionName) -> Option<
         OptionName::Tsv => changed.form = Form::Tsv,
         OptionName::Json => changed.form = Form::Json,
         OptionName::Hex => changed.hex = true,
+        OptionName::Keys => changed.keys = true,
         OptionName::Bounds => changed.bounds = Some(Deviations::Two),
         _ => return None,
     }

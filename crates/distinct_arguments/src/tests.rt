@@ -58,6 +58,9 @@ fn push_flags(text: &mut String, options: &Options<'_>) -> Result<(), AllocError
     if options.hex {
         text.push_str(" hex")?;
     }
+    if options.keys {
+        text.push_str(" keys")?;
+    }
     if options.progress {
         text.push_str(" progress")?;
     }
@@ -118,9 +121,11 @@ union => Combine(Union) |
 meet a => Combine(Meet) | a
 minus a b => Combine(Minus) | a b
 show a => Show | a
+eval a => Eval | a
 # help
 count --help => Help(Count)
 union -h a => Help(Combine(Union))
+eval -h a b => Help(Eval)
 sketch --lg-k 5 --help --frob => Help(Sketch)
 sketch --frob --help => UnknownOption(\"--frob\")
 count --help=x => UnneededValue(\"--help\")
@@ -158,6 +163,9 @@ sketch --output o a => Sketch output=o | a
 union --output=o a => Combine(Union) output=o | a
 meet --output= a => Combine(Meet) output= | a
 sketch --output=a=b c => Sketch output=a=b | c
+eval --keys --field 2 --separator ; a => Eval field=2 separator=59 keys | a
+eval --lg-k=5 --seed 1 --bounds --tsv a => Eval lg_k=5 seed=1 bounds=Two Tsv | a
+eval --seed-file s --json --output o a+b => Eval seed_file=s output=o Json | a+b
 # the last of an option counts
 count --lg-k 5 --lg-k=6 a => Count lg_k=6 | a
 count --lg-k=6 --lg-k 12 a => Count | a
@@ -212,6 +220,7 @@ sketch --hex= a => UnneededValue(\"--hex\")
 count --progress=1 => UnneededValue(\"--progress\")
 count --tsv=1 => UnneededValue(\"--tsv\")
 show --json=a=b => UnneededValue(\"--json\")
+eval --keys=a a => UnneededValue(\"--keys\")
 # options of other commands, or of none
 count --hex a => UnknownOption(\"--hex\")
 count --hex=yes a => UnknownOption(\"--hex\")
@@ -228,6 +237,12 @@ minus --expect 2 a b => UnknownOption(\"--expect\")
 show --progress a => UnknownOption(\"--progress\")
 show --output o a => UnknownOption(\"--output\")
 show --separator => UnknownOption(\"--separator\")
+count --keys a => UnknownOption(\"--keys\")
+show --keys => UnknownOption(\"--keys\")
+eval --hex a => UnknownOption(\"--hex\")
+eval --files0-from l => UnknownOption(\"--files0-from\")
+eval --expect 1 a => UnknownOption(\"--expect\")
+eval --progress a => UnknownOption(\"--progress\")
 count --frob=1 a => UnknownOption(\"--frob\")
 count --=1 a => UnknownOption(\"--\")
 count -x a => UnknownOption(\"-x\")
@@ -265,6 +280,15 @@ show --files0-from - --seed-file - => StandardTwice
 count --files0-from - --seed-file s => Count seed_file=s list=- |
 sketch --files0-from l --seed-file - => Sketch seed_file=- list=l |
 sketch --output - - => Sketch output=- | -
+eval => NotOneExpression
+eval -- => NotOneExpression
+eval a + b => NotOneExpression
+eval a -b => BehindFile(\"-b\")
+eval -- -a => Eval | -a
+eval --field 1 a => LoneField
+eval --field 1 --keys a => Eval field=1 keys | a
+eval --separator ; --keys a => LoneSeparator
+eval --seed-file - a => Eval seed_file=- | a
 # the first of two faults
 count --lg-k 3 --field 0 => WrongSize
 count --field 0 --lg-k 3 => WrongField
@@ -283,6 +307,10 @@ count --separator ; --files0-from l a => LoneSeparator
 count --separator ; - - => LoneSeparator
 count --files0-from - - => FilesAndList
 union --expect 0 --files0-from l a => WrongCount
+eval --field 1 => NotOneExpression
+eval --field 1 --separator ; a => LoneField
+eval --separator ; a b => NotOneExpression
+eval --seed-file - - - => NotOneExpression
 ";
 
 #[test]
@@ -295,7 +323,7 @@ fn reads_each_row(rt: HostRuntime) -> Result<(), Fail> {
             count = count.saturating_add(1);
         }
     }
-    assert_eq!(rt; count, 170);
+    assert_eq!(rt; count, 195);
     Ok(())
 }
 
@@ -312,17 +340,17 @@ fn message_of(alloc: Global, text: &str) -> Result<(u8, String), AllocError> {
 const MESSAGES: &[(&str, &str)] = &[
     (
         "",
-        "no command: count, sketch, union, meet, minus or show (try --help)",
+        "no command: count, sketch, union, meet, minus, show or eval (try --help)",
     ),
     (
         "it",
-        "it: not one of count, sketch, union, meet, minus and show (try --help)",
+        "it: not one of count, sketch, union, meet, minus, show and eval (try --help)",
     ),
     // controls that a terminal obeys: an escape sequence, a bell, a carriage return, a delete, and two of one character
     // that begin an escape sequence
     (
         "a\u{1b}[31mb\u{7}\r\u{7f}\u{9b}2J\u{90}\u{e9}",
-        "a\\u{1b}[31mb\\u{7}\\r\\u{7f}\\u{9b}2J\\u{90}\u{e9}: not one of count, sketch, union, meet, minus and show (try --help)",
+        "a\\u{1b}[31mb\\u{7}\\r\\u{7f}\\u{9b}2J\\u{90}\u{e9}: not one of count, sketch, union, meet, minus, show and eval (try --help)",
     ),
     ("count -a\nb=c", "-a\\nb: no such option (try --help)"),
     (
@@ -359,6 +387,11 @@ const MESSAGES: &[(&str, &str)] = &[
         "files are named by arguments and by --files0-from",
     ),
     ("count - -", "standard input would be read twice"),
+    (
+        "eval a + b",
+        "eval takes one expression in quotes, such as 'mon + tue - wed'",
+    ),
+    ("eval --field 1 a", "--field needs --keys"),
 ];
 
 #[test]
@@ -398,6 +431,7 @@ fn helps_with_each_option(rt: HostRuntime) {
             "distinct minus [OPTION..] IMAGE IMAGE: ",
         ),
         (Command::Show, "distinct show [OPTION..] IMAGE..: "),
+        (Command::Eval, "distinct eval [OPTION..] EXPRESSION: "),
     ] {
         let text = text_of(Topic::Help(command));
         assert!(rt; text.starts_with(begin), "{command:?}");
@@ -415,6 +449,7 @@ fn helps_with_each_option(rt: HostRuntime) {
             "--json",
             "--hex",
             "--output",
+            "--keys",
         ] {
             let has = match option_called(name) {
                 Some(option) => has_option(command, option),
@@ -438,6 +473,7 @@ fn helps_in_short_lines(rt: HostRuntime) {
         Topic::Help(Command::Combine(Operator::Meet)),
         Topic::Help(Command::Combine(Operator::Minus)),
         Topic::Help(Command::Show),
+        Topic::Help(Command::Eval),
     ] {
         for line in text_of(topic).lines() {
             assert!(rt; line.len() <= 100, "{line}");

@@ -20,6 +20,7 @@ pub(crate) fn command_of(word: &str) -> Option<Command>
         "meet" => Some(Command::Combine(Operator::Meet)),
         "minus" => Some(Command::Combine(Operator::Minus)),
         "show" => Some(Command::Show),
+        "eval" => Some(Command::Eval),
         _ => None,
     }
 }
@@ -77,6 +78,7 @@ pub fn option_called(name: &str) -> Option<OptionName>
         "--json" => Some(OptionName::Json),
         "--hex" => Some(OptionName::Hex),
         "--output" => Some(OptionName::Output),
+        "--keys" => Some(OptionName::Keys),
         _ => None,
     }
 }
@@ -86,24 +88,28 @@ pub fn has_option(command: Command, option: OptionName) -> bool
     ensures { result ≡ has_option command option }
 {
     let reads_lines = command == Command::Count || command == Command::Sketch;
-    let prints_counts = command == Command::Count || command == Command::Show;
+    let shows_counts = command == Command::Count || command == Command::Show;
+    let is_eval = command == Command::Eval;
     match option {
         OptionName::Seed => true,
         OptionName::SeedFile => true,
-        OptionName::LgK => reads_lines || command == Command::Combine(Operator::Union),
-        OptionName::Field => reads_lines,
-        OptionName::Separator => reads_lines,
+        OptionName::LgK => {
+            reads_lines || is_eval || command == Command::Combine(Operator::Union)
+        }
+        OptionName::Field => reads_lines || is_eval,
+        OptionName::Separator => reads_lines || is_eval,
         OptionName::Progress => reads_lines,
-        OptionName::FileList => command != Command::Combine(Operator::Minus),
+        OptionName::Keys => is_eval,
+        OptionName::FileList => !is_eval && command != Command::Combine(Operator::Minus),
         OptionName::Expect => {
             command == Command::Combine(Operator::Union)
                 || command == Command::Combine(Operator::Meet)
         }
-        OptionName::Bounds => prints_counts,
-        OptionName::Tsv => prints_counts,
-        OptionName::Json => prints_counts,
-        OptionName::Hex => command != Command::Count,
-        OptionName::Output => !prints_counts,
+        OptionName::Bounds => shows_counts || is_eval,
+        OptionName::Tsv => shows_counts || is_eval,
+        OptionName::Json => shows_counts || is_eval,
+        OptionName::Hex => !is_eval && command != Command::Count,
+        OptionName::Output => !shows_counts,
     }
 }
 

@@ -1,0 +1,16 @@
+use Rattle.std.proofs.Common.{◌≡◌, ℕ, List, sym, subst}
+use Rattle.core_compact.specs.CompactState.{Compact}
+use Rattle.line_sketches.specs.Sources.{Continues}
+use Rattle.distinct_arguments.specs.Faults.{options_of}
+use Rattle.distinct.specs.Evaluations.{AreSketched}
+use Rattle.distinct.proofs.Evaluated.{sketches_more}
+use Rattle.distinct.proofs.eval.all_lines.Goals as goal
+
+pub sketch_each-preserved : goal.sketch_each-preserved
+sketch_each-preserved g c =
+    let options = options_of c.args.options.now in
+    let old = g.S.Sources.texts c.args.inputs.now.sources in
+    let now = g.S.Sources.texts c.sketch_each.inputs.sources in
+    let new = g.S.Sources.texts c.next_lines.new.inputs.sources in
+    subst (λ (items : List (Compact ℕ)). Continues old new (λ taken. AreSketched options c.args.seed taken items)) (sym c.in_ok-push-in-Some.ensures.items)
+    (sketches_more options c.args.seed old now new _ c.in-Some.sketch c.sketch_each.sketches.items c.sketch_each.invariant c.in_ok-sketch.ensures.sketches c.in-Some.is)
