@@ -123,7 +123,8 @@ impl<A: Allocator + Clone + Drop> Reading<A> {
         ensures { (tokens : List Lexeme)
             → IsReading tokens (map (λ v. v.items) self.old.names.items) self.old.pending.items self.old.steps.items self.old.levels self.old.after_operand
             → OnOk result (
-            IsReading (tokens ++ name word.now ∷ []) (map (λ v. v.items) self.new.names.items) self.new.pending.items self.new.steps.items self.new.levels self.new.after_operand) }
+            IsReading (tokens ++ name word.now ∷ []) (map (λ v. v.items) self.new.names.items)
+            self.new.pending.items self.new.steps.items self.new.levels self.new.after_operand) }
     {
         if self.after_operand {
             return Err(Reason::MissingOperator);
@@ -139,7 +140,8 @@ impl<A: Allocator + Clone + Drop> Reading<A> {
         ensures { (tokens : List Lexeme)
             → IsReading tokens (map (λ v. v.items) self.old.names.items) self.old.pending.items self.old.steps.items self.old.levels self.old.after_operand
             → OnOk result (
-            IsReading (tokens ++ sign operator ∷ []) (map (λ v. v.items) self.new.names.items) self.new.pending.items self.new.steps.items self.new.levels self.new.after_operand) }
+            IsReading (tokens ++ sign operator ∷ []) (map (λ v. v.items) self.new.names.items)
+            self.new.pending.items self.new.steps.items self.new.levels self.new.after_operand) }
     {
         if !self.after_operand {
             return Err(Reason::MissingOperand);
@@ -155,7 +157,8 @@ impl<A: Allocator + Clone + Drop> Reading<A> {
         ensures { (tokens : List Lexeme)
             → IsReading tokens (map (λ v. v.items) self.old.names.items) self.old.pending.items self.old.steps.items self.old.levels self.old.after_operand
             → OnOk result (
-            IsReading (tokens ++ opening ∷ []) (map (λ v. v.items) self.new.names.items) self.new.pending.items self.new.steps.items self.new.levels self.new.after_operand) }
+            IsReading (tokens ++ opening ∷ []) (map (λ v. v.items) self.new.names.items)
+            self.new.pending.items self.new.steps.items self.new.levels self.new.after_operand) }
     {
         if self.after_operand {
             return Err(Reason::MissingOperator);
@@ -173,7 +176,8 @@ impl<A: Allocator + Clone + Drop> Reading<A> {
         ensures { (tokens : List Lexeme)
             → IsReading tokens (map (λ v. v.items) self.old.names.items) self.old.pending.items self.old.steps.items self.old.levels self.old.after_operand
             → OnOk result (
-            IsReading (tokens ++ closing ∷ []) (map (λ v. v.items) self.new.names.items) self.new.pending.items self.new.steps.items self.new.levels self.new.after_operand) }
+            IsReading (tokens ++ closing ∷ []) (map (λ v. v.items) self.new.names.items)
+            self.new.pending.items self.new.steps.items self.new.levels self.new.after_operand) }
     {
         if self.levels == 0 {
             return Err(Reason::UnexpectedClosing);
@@ -194,7 +198,8 @@ impl<A: Allocator + Clone + Drop> Reading<A> {
         ensures { (tokens : List Lexeme)
             → IsReading tokens (map (λ v. v.items) self.old.names.items) self.old.pending.items self.old.steps.items self.old.levels self.old.after_operand
             → OnOk result (
-            IsReading (tokens ++ lexeme_of token.entry ∷ []) (map (λ v. v.items) self.new.names.items) self.new.pending.items self.new.steps.items self.new.levels self.new.after_operand) }
+            IsReading (tokens ++ lexeme_of token.entry ∷ []) (map (λ v. v.items) self.new.names.items)
+            self.new.pending.items self.new.steps.items self.new.levels self.new.after_operand) }
     {
         match token {
             Token::Name(word) => self.put_name(alloc, word),
