@@ -26,10 +26,11 @@ use theta_sketches::CompactThetaSketch;
 const STANDARD_OUTPUT: &str = "standard output";
 
 /// Runs a command under a seed on the files that sources give, under these names, and writes its whole answer and nothing
-/// else. For `eval` the only name is the expression. It fails with `NoFiles` only if it needs images and no file is named. It fails with `NotTwo` only for `minus` and,
-/// if contracts know the files' bytes, only if two files aren't named (without `--hex`) or their images aren't two. It fails
-/// with `WrongCount` only if `--expect` names another number than it reports to have found. Any other failure has status 1:
-/// memory, a file, its contents or the writer is at fault.
+/// else. For `eval` the only name is the expression. It fails with `NoFiles` only if it needs images and no file is named;
+/// with `NotTwo` only for `minus` and, if contracts know the files' bytes, only if two files aren't named (without `--hex`)
+/// or their images aren't two; with `WrongCount` only for `eval`, or if `--expect` names another number than it reports to
+/// have found; and with `NoExpression` or `NotOneExpression` only for `eval`. Any other failure has status 1: memory, a
+/// file, its contents or the writer is at fault.
 pub fn answer<S: Sources + Drop, C: Console, O: Write>(
     alloc: Global,
     command: Command,

@@ -185,7 +185,8 @@ fn difference_of<A: Allocator + Clone + Drop>(
     requires seeded { seed_refusal seed ≡ None }
     requires first_seed { first.now.seed_hash ≡ seed_hash seed }
     requires second_seed { second.now.seed_hash ≡ seed_hash seed }
-    ensures value { IfOk result (IsAnswer hash_key (combined 0 Difference (compact_value hash_key first.now) (compact_value hash_key second.now)) (seed_hash seed) true) }
+    ensures value { IfOk result (IsAnswer hash_key
+        (combined 0 Difference (compact_value hash_key first.now) (compact_value hash_key second.now)) (seed_hash seed) true) }
     ensures refused { Refuses result None true }
 {
     let difference = ThetaANotB::with_seed(seed)?;
@@ -204,7 +205,8 @@ fn combined<A: Allocator + Clone + Drop>(
     requires settings { settings_refusal lg_k MAX_THETA seed ≡ None }
     requires first_seed { first.now.seed_hash ≡ seed_hash seed }
     requires second_seed { second.now.seed_hash ≡ seed_hash seed }
-    ensures value { IfOk result (IsAnswer hash_key (combined lg_k operator (compact_value hash_key first.now) (compact_value hash_key second.now)) (seed_hash seed) true) }
+    ensures value { IfOk result (IsAnswer hash_key
+        (combined lg_k operator (compact_value hash_key first.now) (compact_value hash_key second.now)) (seed_hash seed) true) }
     ensures refused { Refuses result None true }
 {
     match operator {
