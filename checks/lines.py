@@ -6,6 +6,7 @@ such as examples/lines: what is written, to standard output and to files, and th
 the message, if a file's contents are at fault. It doesn't know the messages of wrong arguments and of the system, nor the
 texts of --help and --version. It shares no code with the program.
 """
+import collections
 import json
 import math
 import os
@@ -19,15 +20,21 @@ M64 = 2**64 - 1
 
 LINES = "--lg-k --field --separator --seed --seed-file --files0-from --progress "
 OPTIONS = {
-    "count": LINES + "--bounds --tsv --json",
-    "sketch": LINES + "--hex --output",
+    "count": LINES + "--by --bounds --tsv --json",
+    "sketch": LINES + "--by --hex --output",
     "union": "--lg-k --seed --seed-file --files0-from --expect --hex --output",
     "meet": "--seed --seed-file --files0-from --expect --hex --output",
     "minus": "--seed --seed-file --hex --output",
     "show": "--seed --seed-file --files0-from --hex --bounds --tsv --json",
-    "eval": "--lg-k --seed --seed-file --keys --field --separator --bounds --tsv --json --output",
+    "eval": "--lg-k --seed --seed-file --keys --field --separator --bounds --tsv --json --hex --output",
+    "visits": "--lg-k --field --separator --seed --seed-file --files0-from --bounds --tsv --json",
 }
-RANGES = {"--lg-k": (4, 26), "--field": (1, 2**32 - 1), "--seed": (0, M64), "--expect": (1, 2**32 - 1)}
+FAMILIES = (
+    "Alpha sketches,update sketches,theta sketches,unions,intersections,differences,HLL sketches,quantiles sketches,"
+    "tuple sketches,frequency sketches,reservoirs,unions of reservoirs,VarOpt sketches,unions of VarOpt sketches,KLL sketches,"
+    "CPC sketches,REQ sketches,count-min sketches,EBPPS sketches,t-digests,Bloom filters"
+).split(",")
+RANGES = {"--lg-k": (4, 26), "--field": (1, 2**32 - 1), "--by": (1, 2**32 - 1), "--seed": (0, M64), "--expect": (1, 2**32 - 1)}
 
 
 class Fault(Exception):
@@ -101,9 +108,26 @@ def cut(k, hashes, theta):
     return (set(kept), theta) if len(kept) <= k else (set(kept[:k]), kept[k])
 
 
+def groups_of(texts, options):
+    """The lines of each group as one text, by the group's name, in ascending order."""
+    groups = {}
+    for line in (line for text in texts for line in lines_of(text)):
+        groups.setdefault(key_of(line, options["--by"], options["--separator"]), []).append(line + b"\n")
+    return {name: b"".join(groups[name]) for name in sorted(groups)}
+
+
 def sketch_of(texts, options, seed):
     keys = {key_of(line, options["--field"], options["--separator"]) for text in texts for line in lines_of(text)}
     return cut(2 ** options["--lg-k"], {murmur(key, seed) >> 1 for key in keys}, MAX_THETA) if keys else None
+
+
+def visits_of(texts, options, seed):
+    """The sketch of the lines of texts, and how often each of its hashes comes."""
+    sketch = sketch_of(texts, options, seed)
+    lines = [line for text in texts for line in lines_of(text)]
+    hashes = [murmur(key_of(line, options["--field"], options["--separator"]), seed) >> 1 for line in lines]
+    counts = collections.Counter(hashes)
+    return sketch, [counts[it] for it in (sketch[0] if sketch else [])]
 
 
 def unite(k, parts):
@@ -187,7 +211,8 @@ def flaw_of(image, own_hash):
     if len(image) < 8:
         return "is not the image of a theta sketch"
     if image[2] != 3:
-        return f"is another kind of sketch (family {image[2]}); theta sketches are of family 3"
+        named = f", the family of {FAMILIES[image[2] - 1]}" if 1 <= image[2] <= len(FAMILIES) else ""
+        return f"is not the image of a theta sketch (byte 3 is {image[2]}{named}, not 3)"
     if not 1 <= image[1] <= 3:
         return f"is of version {image[1]}; versions 1 to 3 are read"
     if image[1] == 3 and image[5] & 1:
@@ -241,6 +266,29 @@ def report_of(sketch, z):
     return dict(estimate=estimate, lower=lower, upper=upper, exact=theta == MAX_THETA, retained=len(hashes), theta=theta)
 
 
+def ranges_of(sketch, counts, z):
+    """The ends of each range of counts, and the report of the hashes in it: 1, 2, 3 to 4, and so on up to the greatest."""
+    rows, least, greatest = [], 1, 1
+    while least <= max(counts, default=0):
+        retained = sum(least <= it <= greatest for it in counts)
+        row = report_of((set(range(retained)), sketch[1]), z)
+        rows.append(({"from": least, "to": greatest}, row))
+        least, greatest = greatest + 1, 2 * greatest
+    return rows
+
+
+def printed_ranges(rows, options):
+    """The answer of `visits` on ranges and their reports."""
+    if options["form"] == "--tsv":
+        table = [["from", "to", *report_of(None, 2)]] + [[json.dumps(it) for it in (ends | row).values()] for ends, row in rows]
+        return "".join("\t".join(it) + "\n" for it in table)
+    if options["form"] == "--json":
+        return "".join(json.dumps(ends | row, separators=(",", ":")) + "\n" for ends, row in rows)
+    shown = ["estimate", "lower", "upper"] if options["--bounds"] else ["estimate"]
+    names = [" to ".join(str(it) for it in sorted(set(ends.values()))) for ends, _ in rows]
+    return "".join(f"{name}: {' '.join(str(row[it]) for it in shown)}\n" for name, (_, row) in zip(names, rows))
+
+
 def escaped(name):
     """A name whose control characters are escaped."""
     short = {"\t": r"\t", "\r": r"\r", "\n": r"\n"}
@@ -250,6 +298,13 @@ def escaped(name):
 def json_string(name):
     name = re.sub(r'["\\]', lambda it: "\\" + it[0], name)
     return '"' + re.sub(r"[\0-\x1f]", lambda it: r"\u%04x" % ord(it[0]), name) + '"'
+
+
+def printed_groups(rows, options):
+    """The answer of `count` on groups, each a name in bytes and a report."""
+    if options["form"]:
+        return printed([(name.decode(errors="replace"), row) for name, row in rows], options, "show").encode()
+    return b"".join(name + b"\t" + printed([(None, row)], options, "count").encode() for name, row in rows)
 
 
 def printed(rows, options, command):
@@ -392,16 +447,18 @@ def read_arguments(words):
         raise Fault("not one expression")
     if command == "eval" and "--field" in options and "--keys" not in options:
         raise Fault("--field without --keys")
-    if "--separator" in options and "--field" not in options:
-        raise Fault("--separator without --field")
+    if "--separator" in options and "--field" not in options and "--by" not in options:
+        raise Fault("--separator without --field and without --by")
+    if command == "sketch" and "--by" in options and "--hex" not in options:
+        raise Fault("--by without --hex")
     if "--files0-from" in options and words:
         raise Fault("a list and files")
-    if command in ("count", "sketch") and not words and "--files0-from" not in options:
+    if command in ("count", "sketch", "visits") and not words and "--files0-from" not in options:
         words = ["-"]
     read = set(names_of(steps_of(words[0]))) if command == "eval" else words
     if [options["seed"][1], options.get("--files0-from"), *read].count("-") > 1:
         raise Fault("standard input twice")
-    for option in ("--field", "--bounds", "--hex", "--keys", "--output", "--expect"):
+    for option in ("--field", "--by", "--bounds", "--hex", "--keys", "--output", "--expect"):
         options.setdefault(option)
     options["--separator"] = options.get("--separator", "\t").encode()
     return command, options, words
@@ -437,13 +494,21 @@ def images_in(files, names, hex_lines):
             yield f"{shown}: line {number} ", called(name), bytes.fromhex(digits.decode())
 
 
-def sketches_in(files, names, hex_lines, own_hash):
+def advice(command, image):
+    """What a message adds for a file that may be one of lines: short, or its third byte is no family, or a tab, an LF, a CR or of gzip."""
+    if len(image) >= 8 and image[2] not in (8, 9, 10, 13) and 1 <= image[2] <= len(FAMILIES):
+        return ""
+    return "; pass --keys if its files have lines" if command == "eval" else "; count or sketch reads lines"
+
+
+def sketches_in(command, files, names, hex_lines, own_hash):
     """The name and the sketch of each image."""
     for place, name, image in images_in(files, names, hex_lines):
         try:
             yield name, sketch_of_image(image, own_hash)
         except Failure as flaw:
-            raise Failure(f"{place}{flaw}") from None
+            added = "" if hex_lines or "hexadecimal" in str(flaw) else advice(command, image)
+            raise Failure(f"{place}{flaw}{added}") from None
 
 
 def seed_of(files, options):
@@ -480,11 +545,28 @@ def run(words, files, messages):
     hex_lines = options["--hex"]
     if command == "minus" and not hex_lines and len(names) != 2:
         raise Fault("not two files")
-    if command not in ("count", "sketch", "eval") and not names and "--files0-from" not in options:
+    if command not in ("count", "sketch", "eval", "visits") and not names and "--files0-from" not in options:
         raise Fault("no image")
     seed = seed_of(files, options)
     if "--files0-from" in options:
-        names = [it.decode() for it in text_of(files, options["--files0-from"]).split(b"\0") if it]
+        listed = text_of(files, options["--files0-from"])
+        if b"\n" in listed and b"\0" not in listed:
+            raise Failure(f"{escaped(called(options['--files0-from']))}: has no NUL byte; each name ends in one (find -print0)")
+        names = [it.decode() for it in listed.split(b"\0") if it]
+    if command == "visits":
+        sketch, counts = visits_of([text_of(files, name) for name in names], options, seed)
+        return printed_ranges(ranges_of(sketch, counts, options["--bounds"] or 2), options).encode()
+    z = options["--bounds"] or 2
+    if options["--by"]:
+        groups = groups_of([text_of(files, name) for name in names], options)
+        rows = [(name, sketch_of([text], options, seed)) for name, text in groups.items()]
+        if command == "count":
+            return printed_groups([(name, report_of(it, z)) for name, it in rows], options)
+        answer = b"".join(name + b"\t" + image_of(it, seed_hash(seed)).hex().encode() + b"\n" for name, it in rows)
+        if options["--output"] is None:
+            return answer
+        files[options["--output"]] = answer
+        return b""
     if command in ("count", "sketch"):
         sketch = sketch_of([text_of(files, name) for name in names], options, seed)
         rows = [(None, sketch)]
@@ -493,15 +575,17 @@ def run(words, files, messages):
         if options["--keys"]:
             sketches = {it: sketch_of([text_of(files, it)], options, seed) for it in names_of(steps)}
         else:
-            sketches = dict(zip(names_of(steps), (it for _, it in sketches_in(files, names_of(steps), False, seed_hash(seed)))))
+            found = [it for _, it in sketches_in(command, files, names_of(steps), hex_lines, seed_hash(seed))]
+            if len(found) != len(names_of(steps)):
+                raise Failure(f"{len(found)} images found, {len(names_of(steps))} expected: with eval --hex each file has one line")
+            sketches = dict(zip(names_of(steps), found))
         sketch = evaluated(steps, sketches, 2 ** options["--lg-k"])
         rows = [(names[0], sketch)]
     else:
-        rows = list(sketches_in(files, names, hex_lines, seed_hash(seed)))
+        rows = list(sketches_in(command, files, names, hex_lines, seed_hash(seed)))
         if not rows:
             raise Fault("no image")
     if command in ("count", "show") or command == "eval" and options["--output"] is None:
-        z = options["--bounds"] or 2
         return printed([(name, report_of(it, z)) for name, it in rows], options, command).encode()
     if command not in ("sketch", "eval"):
         sketch = combined(command, rows, options, messages)
@@ -607,4 +691,5 @@ def main():
         print(f"distinct: {it}", file=sys.stderr)
 
 
-main()
+if __name__ == "__main__":
+    main()

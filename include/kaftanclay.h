@@ -4,7 +4,7 @@
  * theta; if they become too many, it lowers theta and drops the greatest hashes. The estimate is
  * retained * KC_MAX_THETA / theta.
  *
- * Handles. An object is kept in a handle, a variable of one of the five types below. Begin each with {0}, which has no
+ * Handles. An object is kept in a handle, a variable of one of the seven types below. Begin each with {0}, which has no
  * object. A call that makes an object puts it into such a handle, and is refused with KC_INVALID_ARGUMENT if the handle has
  * one already. The free calls take the object out again, so freeing twice does nothing. Don't copy a handle: two copies
  * would own one object.
@@ -41,7 +41,7 @@ enum {
     KC_INVALID_DATA = 2,     /* the bytes begin with no sketch of this seed */
     KC_OUT_OF_MEMORY = 3,    /* the memory that the call requested was refused */
     KC_POLICY = 4,           /* a sum would be 2^64 or more */
-    KC_FAILED = 5,           /* memory was refused in an earlier merge; the union refuses until it is reset */
+    KC_FAILED = 5,           /* memory or a sum was refused in an earlier merge; the union refuses until it is reset */
     KC_TOO_SMALL = 6         /* the buffer is too small; *length is the room that is needed */
 };
 
@@ -50,6 +50,8 @@ typedef struct { void *object; } kc_compact;      /* a compact theta sketch, whi
 typedef struct { void *object; } kc_union;        /* a union of theta sketches */
 typedef struct { void *object; } kc_intersection; /* an intersection of theta sketches */
 typedef struct { void *object; } kc_sums;         /* a tuple sketch whose summaries are sums of 64 bits */
+typedef struct { void *object; } kc_compact_sums; /* a compact tuple sketch of sums, which never changes */
+typedef struct { void *object; } kc_sums_union;   /* a union of tuple sketches of sums */
 
 /* What a sketch estimates by. */
 typedef struct {
@@ -69,6 +71,10 @@ typedef struct {
 /* Makes an empty sketch of 2^lg_k nominal entries. Refused with KC_INVALID_ARGUMENT if lg_k isn't from 4 to 26 or the hash of
  * the seed is 0, and with KC_OUT_OF_MEMORY. */
 kc_status kc_theta_new(kc_theta *sketch, uint8_t lg_k, uint64_t seed);
+/* Makes a sketch whose slots grow by a resize factor, 1, 2, 4 or 8 (kc_theta_new takes 8), and that begins at a theta from 1 to
+ * KC_MAX_THETA, also after a reset. With the factor 1 it has all of its slots from the start. No value depends on the factor.
+ * Refused as kc_theta_new is, and with KC_INVALID_ARGUMENT if the factor or the theta is out of range. */
+kc_status kc_theta_new_with(kc_theta *sketch, uint8_t lg_k, uint64_t seed, uint32_t resize_factor, uint64_t starting_theta);
 /* Frees the object of a handle, if it has one. */
 kc_status kc_theta_free(kc_theta *sketch);
 /* Updates a sketch with a hash of 63 bits. A hash that is 0 or at least theta is not retained, but the sketch is nonempty
@@ -96,6 +102,8 @@ kc_status kc_theta_state(kc_theta *sketch, kc_state *out);
 kc_status kc_theta_image(kc_theta *sketch, void *out, size_t room, uint64_t *length);
 /* Makes the sketch's ordered compact form, of the same value, untrimmed. */
 kc_status kc_theta_compact(kc_theta *sketch, kc_compact *out);
+/* Copies a sketch, with its theta and settings, into another handle. */
+kc_status kc_theta_clone(kc_theta *sketch, kc_theta *out);
 
 /* ---- Compact theta sketches ---- */
 
@@ -163,18 +171,52 @@ kc_status kc_images_difference(const void *first, size_t first_count, const void
 
 /* ---- Tuple sketches of sums ---- */
 
-/* Makes an empty sketch, as kc_theta_new does. */
+/* Make an empty sketch, as kc_theta_new and kc_theta_new_with do. */
 kc_status kc_sums_new(kc_sums *sketch, uint8_t lg_k, uint64_t seed);
+kc_status kc_sums_new_with(kc_sums *sketch, uint8_t lg_k, uint64_t seed, uint32_t resize_factor, uint64_t starting_theta);
 kc_status kc_sums_free(kc_sums *sketch);
 /* Add a value to the sum of a key's hash, which is 0 at first. Refused with KC_POLICY if the sum would be 2^64 or more, and with
  * KC_OUT_OF_MEMORY, only for a new hash below theta. */
 kc_status kc_sums_add_hash(kc_sums *sketch, uint64_t hash, uint64_t value);
+kc_status kc_sums_add_u64(kc_sums *sketch, uint64_t number, uint64_t value);
 kc_status kc_sums_add_bytes(kc_sums *sketch, const void *bytes, size_t count, uint64_t value);
 kc_status kc_sums_trim(kc_sums *sketch);
 kc_status kc_sums_reset(kc_sums *sketch);
 kc_status kc_sums_state(kc_sums *sketch, kc_state *out);
 /* Writes the image of the sketch's ordered compact form: behind each hash the eight bytes of its sum, the lowest first. */
 kc_status kc_sums_image(kc_sums *sketch, void *out, size_t room, uint64_t *length);
+/* Makes the sketch's ordered compact form, of the same value, untrimmed. */
+kc_status kc_sums_compact(kc_sums *sketch, kc_compact_sums *out);
+/* Writes the total of a sketch, the sum of its sums, below 2^96. The estimate of the total of all values that were added is
+ * this total * KC_MAX_THETA / theta (kc_total, kc_total_decimal, kc_total_text). */
+kc_status kc_sums_total(kc_sums *sketch, kc_wide *out);
+
+/* Reads the sketch that the bytes begin with, under this seed, as kc_compact_read does. */
+kc_status kc_compact_sums_read(kc_compact_sums *sketch, const void *image, size_t count, uint64_t seed);
+kc_status kc_compact_sums_free(kc_compact_sums *sketch);
+kc_status kc_compact_sums_state(kc_compact_sums *sketch, kc_state *out);
+kc_status kc_compact_sums_image(kc_compact_sums *sketch, void *out, size_t room, uint64_t *length);
+/* Writes the hashes of the sketch and their sums, in the order of the image, to two arrays of `room` numbers each, and their
+ * number to *count. If room is less, the status is KC_TOO_SMALL, the arrays are as before, and *count is the room that is
+ * needed. */
+kc_status kc_compact_sums_entries(kc_compact_sums *sketch, uint64_t *hashes, uint64_t *sums, size_t room, uint64_t *count);
+kc_status kc_compact_sums_total(kc_compact_sums *sketch, kc_wide *out);
+
+/* Makes a union of 2^lg_k nominal entries, refused as kc_theta_new is. Its value is that of a union of theta sketches, and beside
+ * each hash the sum of the sums of all sketches. */
+kc_status kc_sums_union_new(kc_sums_union *u, uint8_t lg_k, uint64_t seed);
+kc_status kc_sums_union_free(kc_sums_union *u);
+/* Merge a sketch into the union, as kc_union_add and so on do. Refused as these are; and with KC_POLICY if the sums of one hash are
+ * 2^64 or more together, after which the union has failed until it is reset. */
+kc_status kc_sums_union_add(kc_sums_union *u, kc_sums *sketch);
+kc_status kc_sums_union_add_compact(kc_sums_union *u, kc_compact_sums *sketch);
+kc_status kc_sums_union_add_image(kc_sums_union *u, const void *image, size_t count);
+/* Make the union's value as an ordered compact sketch, or write its image. Refused with KC_FAILED if the union has failed, and
+ * with KC_OUT_OF_MEMORY. */
+kc_status kc_sums_union_result(kc_sums_union *u, kc_compact_sums *out);
+kc_status kc_sums_union_image(kc_sums_union *u, void *out, size_t room, uint64_t *length);
+/* Makes the union empty again, as when it was new, and ends a failure. */
+kc_status kc_sums_union_reset(kc_sums_union *u);
 
 /* ---- Hashes and estimates ---- */
 
@@ -190,12 +232,23 @@ kc_status kc_estimate_decimal(uint64_t retained, uint64_t theta, uint32_t places
  * outwards. If hashes are random, the number is within them in about 68, 95 or 99.7 of 100 sketches; that isn't proved. Refused
  * with KC_INVALID_ARGUMENT if no sketch has such a state or `deviations` isn't 1, 2 or 3. */
 kc_status kc_count_bounds(uint64_t retained, uint64_t theta, uint32_t deviations, kc_wide *lower, kc_wide *upper);
-/* Writes the estimate of a state as text, with its decimals, without a final 0 byte, as the calls above write bytes. */
+/* Writes the estimate of the total of all values, total * KC_MAX_THETA / theta, rounded down to `places` decimals, as
+ * kc_estimate_decimal writes an estimate; theta is that of the sketch's state. Refused with KC_INVALID_ARGUMENT if no sketch has
+ * such a total and theta (the total isn't below 2^64 * theta) or there are more decimals. */
+kc_status kc_total_decimal(const kc_wide *total, uint64_t theta, uint32_t places, kc_wide *whole, uint64_t *decimals);
+/* Write the estimate of a state, and that of a total, as text, with its decimals, without a final 0 byte, as the calls above write
+ * bytes. */
 kc_status kc_estimate_text(const kc_state *state, uint32_t places, char *out, size_t room, uint64_t *length);
+kc_status kc_total_text(const kc_wide *total, uint64_t theta, uint32_t places, char *out, size_t room, uint64_t *length);
 
 /* The estimate of a state in floating point. */
 static inline double kc_estimate(const kc_state *state) {
     return (double)state->retained * ((double)KC_MAX_THETA / (double)state->theta);
+}
+
+/* The estimate of the total of all values in floating point. */
+static inline double kc_total(const kc_wide *total, uint64_t theta) {
+    return ((double)total->low + 18446744073709551616.0 * (double)total->high) * ((double)KC_MAX_THETA / (double)theta);
 }
 
 #ifdef __cplusplus

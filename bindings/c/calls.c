@@ -1,5 +1,5 @@
 /* The calls of kaftanclay.h. Each tests its pointers for null, and then calls the proved export of its name with the prefix kcp_.
- * Nothing else is done here, but the text of an estimate. */
+ * Nothing else is done here, but the texts of estimates. */
 #include "proved.h"
 #include <string.h>
 
@@ -26,9 +26,12 @@ CALLS_OF_KIND(compact)
 CALLS_OF_KIND(union)
 CALLS_OF_KIND(intersection)
 CALLS_OF_KIND(sums)
+CALLS_OF_KIND(compact_sums)
+CALLS_OF_KIND(sums_union)
 STATE_AND_IMAGE_OF_KIND(theta)
 STATE_AND_IMAGE_OF_KIND(compact)
 STATE_AND_IMAGE_OF_KIND(sums)
+STATE_AND_IMAGE_OF_KIND(compact_sums)
 
 kc_status kc_theta_new(kc_theta *h, uint8_t lg_k, uint64_t seed) { REFUSE_UNLESS(h); return kcp_theta_new(h, lg_k, seed); }
 kc_status kc_theta_update_hash(kc_theta *h, uint64_t hash) { REFUSE_UNLESS(h); return kcp_theta_update_hash(h, hash); }
@@ -117,6 +120,23 @@ CALL_ON_IMAGES(images_intersect)
 CALL_ON_IMAGES(images_difference)
 
 kc_status kc_sums_new(kc_sums *h, uint8_t lg_k, uint64_t seed) { REFUSE_UNLESS(h); return kcp_sums_new(h, lg_k, seed); }
+kc_status kc_theta_new_with(kc_theta *h, uint8_t lg_k, uint64_t seed, uint32_t resize_factor, uint64_t starting_theta) {
+    REFUSE_UNLESS(h);
+    return kcp_theta_new_with(h, lg_k, seed, resize_factor, starting_theta);
+}
+
+kc_status kc_theta_clone(kc_theta *h, kc_theta *out) {
+    REFUSE_UNLESS(h && out && h != out);
+    return kcp_theta_clone(h, out);
+}
+
+kc_status kc_sums_new_with(kc_sums *h, uint8_t lg_k, uint64_t seed, uint32_t resize_factor, uint64_t starting_theta) {
+    REFUSE_UNLESS(h);
+    return kcp_sums_new_with(h, lg_k, seed, resize_factor, starting_theta);
+}
+
+kc_status kc_sums_compact(kc_sums *h, kc_compact_sums *out) { REFUSE_UNLESS(h && out); return kcp_sums_compact(h, out); }
+kc_status kc_sums_total(kc_sums *h, kc_wide *out) { REFUSE_UNLESS(h && out); return kcp_sums_total(h, out); }
 kc_status kc_sums_trim(kc_sums *h) { REFUSE_UNLESS(h); return kcp_sums_trim(h); }
 kc_status kc_sums_reset(kc_sums *h) { REFUSE_UNLESS(h); return kcp_sums_reset(h); }
 
@@ -125,9 +145,54 @@ kc_status kc_sums_add_hash(kc_sums *h, uint64_t hash, uint64_t value) {
     return kcp_sums_add_hash(h, hash, value);
 }
 
+kc_status kc_sums_add_u64(kc_sums *h, uint64_t number, uint64_t value) {
+    REFUSE_UNLESS(h);
+    return kcp_sums_add_u64(h, number, value);
+}
+
 kc_status kc_sums_add_bytes(kc_sums *h, const void *bytes, size_t count, uint64_t value) {
     REFUSE_UNLESS(h && IS_BUFFER(bytes, count));
     return kcp_sums_add_bytes(h, INPUT(bytes), count, value);
+}
+
+kc_status kc_compact_sums_read(kc_compact_sums *h, const void *image, size_t count, uint64_t seed) {
+    REFUSE_UNLESS(h && IS_BUFFER(image, count));
+    return kcp_compact_sums_read(h, INPUT(image), count, seed);
+}
+
+kc_status kc_compact_sums_total(kc_compact_sums *h, kc_wide *out) {
+    REFUSE_UNLESS(h && out);
+    return kcp_compact_sums_total(h, out);
+}
+
+kc_status kc_compact_sums_entries(kc_compact_sums *h, uint64_t *hashes, uint64_t *sums, size_t room, uint64_t *count) {
+    static uint64_t no_hashes[1], no_sums[1];
+    REFUSE_UNLESS(h && IS_BUFFER(hashes, room) && IS_BUFFER(sums, room) && count && (room == 0 || hashes != sums));
+    return kcp_compact_sums_entries(h, hashes != NULL ? hashes : no_hashes, room, sums != NULL ? sums : no_sums, room, count);
+}
+
+kc_status kc_sums_union_new(kc_sums_union *u, uint8_t lg_k, uint64_t seed) { REFUSE_UNLESS(u); return kcp_sums_union_new(u, lg_k, seed); }
+kc_status kc_sums_union_add(kc_sums_union *u, kc_sums *h) { REFUSE_UNLESS(u && h); return kcp_sums_union_add(u, h); }
+kc_status kc_sums_union_reset(kc_sums_union *u) { REFUSE_UNLESS(u); return kcp_sums_union_reset(u); }
+
+kc_status kc_sums_union_add_compact(kc_sums_union *u, kc_compact_sums *h) {
+    REFUSE_UNLESS(u && h);
+    return kcp_sums_union_add_compact(u, h);
+}
+
+kc_status kc_sums_union_add_image(kc_sums_union *u, const void *image, size_t count) {
+    REFUSE_UNLESS(u && IS_BUFFER(image, count));
+    return kcp_sums_union_add_image(u, INPUT(image), count);
+}
+
+kc_status kc_sums_union_result(kc_sums_union *u, kc_compact_sums *out) {
+    REFUSE_UNLESS(u && out);
+    return kcp_sums_union_result(u, out);
+}
+
+kc_status kc_sums_union_image(kc_sums_union *u, void *out, size_t room, uint64_t *length) {
+    REFUSE_UNLESS(u && IS_BUFFER(out, room) && length);
+    return kcp_sums_union_image(u, OUTPUT(out), room, length);
 }
 
 kc_status kc_hash_bytes(uint64_t seed, const void *bytes, size_t count, uint64_t *hash) {
@@ -153,6 +218,11 @@ kc_status kc_estimate_decimal(uint64_t retained, uint64_t theta, uint32_t places
     return kcp_estimate_decimal(retained, theta, places, whole, decimals);
 }
 
+kc_status kc_total_decimal(const kc_wide *total, uint64_t theta, uint32_t places, kc_wide *whole, uint64_t *decimals) {
+    REFUSE_UNLESS(total && whole && decimals && total != whole);
+    return kcp_total_decimal(total->low, total->high, theta, places, whole, decimals);
+}
+
 kc_status kc_count_bounds(uint64_t retained, uint64_t theta, uint32_t deviations, kc_wide *lower, kc_wide *upper) {
     REFUSE_UNLESS(lower && upper && lower != upper);
     return kcp_count_bounds(retained, theta, deviations, lower, upper);
@@ -167,14 +237,10 @@ static char last_digit(kc_wide *n) {
     return (char)('0' + lowest % 10);
 }
 
-kc_status kc_estimate_text(const kc_state *state, uint32_t places, char *out, size_t room, uint64_t *length) {
+/* Writes a decimal number as text. */
+static kc_status put_decimal(kc_wide whole, uint64_t decimals, uint32_t places, char *out, size_t room, uint64_t *length) {
     char text[64]; /* 39 digits of the whole part, the point, 19 decimals */
     size_t at = sizeof text;
-    kc_wide whole;
-    uint64_t decimals;
-    REFUSE_UNLESS(state && IS_BUFFER(out, room) && length);
-    kc_status status = kcp_estimate_decimal(state->retained, state->theta, places, &whole, &decimals);
-    if (status != KC_OK) return status;
     for (uint32_t i = 0; i < places; i++, decimals /= 10) text[--at] = (char)('0' + decimals % 10);
     if (places > 0) text[--at] = '.';
     do text[--at] = last_digit(&whole); while (whole.low != 0 || whole.high != 0);
@@ -182,4 +248,20 @@ kc_status kc_estimate_text(const kc_state *state, uint32_t places, char *out, si
     if (room < *length) return KC_TOO_SMALL;
     memcpy(out, text + at, sizeof text - at);
     return KC_OK;
+}
+
+kc_status kc_estimate_text(const kc_state *state, uint32_t places, char *out, size_t room, uint64_t *length) {
+    kc_wide whole;
+    uint64_t decimals;
+    REFUSE_UNLESS(state && IS_BUFFER(out, room) && length);
+    kc_status status = kcp_estimate_decimal(state->retained, state->theta, places, &whole, &decimals);
+    return status == KC_OK ? put_decimal(whole, decimals, places, out, room, length) : status;
+}
+
+kc_status kc_total_text(const kc_wide *total, uint64_t theta, uint32_t places, char *out, size_t room, uint64_t *length) {
+    kc_wide whole;
+    uint64_t decimals;
+    REFUSE_UNLESS(total && IS_BUFFER(out, room) && length);
+    kc_status status = kcp_total_decimal(total->low, total->high, theta, places, &whole, &decimals);
+    return status == KC_OK ? put_decimal(whole, decimals, places, out, room, length) : status;
 }

@@ -4,8 +4,8 @@
 #include <stdlib.h>
 #include <string.h>
 
-static int faults;
-#define WANT(c) do { if (!(c)) { printf("test.c:%d: %s\n", __LINE__, #c); faults++; } } while (0)
+static int faults, checks;
+#define WANT(c) do { checks++; if (!(c)) { printf("test.c:%d: %s\n", __LINE__, #c); faults++; } } while (0)
 #define SEED KC_DEFAULT_SEED
 
 static unsigned char a_image[1 << 17], b_image[1 << 17], out[1 << 17];
@@ -73,6 +73,31 @@ static void sketches(void) {
     WANT(kc_theta_state(&s, NULL) == KC_INVALID_ARGUMENT && kc_theta_compact(&s, NULL) == KC_INVALID_ARGUMENT);
     WANT(other.object == NULL);
     WANT(kc_theta_free(&s) == KC_OK && s.object == NULL && kc_theta_free(&s) == KC_OK);
+}
+
+/* A sketch with a resize factor and a starting theta, and a copy. */
+static void settings(void) {
+    const uint64_t half = KC_MAX_THETA / 2;
+    kc_theta s = {0}, copy = {0};
+    kc_state st, same;
+    uint64_t length = 0;
+    WANT(kc_theta_new_with(&s, 12, SEED, 3, half) == KC_INVALID_ARGUMENT && kc_theta_new_with(&s, 12, SEED, 0, half) == KC_INVALID_ARGUMENT);
+    WANT(kc_theta_new_with(&s, 12, SEED, 2, 0) == KC_INVALID_ARGUMENT && kc_theta_new_with(&s, 12, SEED, 2, KC_MAX_THETA + 1) == KC_INVALID_ARGUMENT);
+    WANT(kc_theta_new_with(&s, 3, SEED, 2, half) == KC_INVALID_ARGUMENT && kc_theta_new_with(NULL, 12, SEED, 2, half) == KC_INVALID_ARGUMENT);
+    WANT(s.object == NULL && kc_theta_new_with(&s, 12, SEED, 2, half) == KC_OK && kc_theta_new_with(&s, 12, SEED, 2, half) == KC_INVALID_ARGUMENT);
+    numbers(&s, 0, 2000);
+    WANT(kc_theta_state(&s, &st) == KC_OK && st.theta == half && kc_estimate(&st) > 1700 && kc_estimate(&st) < 2300);
+    numbers(&s, 2000, 98000);
+    WANT(kc_theta_clone(&s, &copy) == KC_OK && kc_theta_clone(&s, &copy) == KC_INVALID_ARGUMENT && kc_theta_clone(&s, &s) == KC_INVALID_ARGUMENT);
+    WANT(kc_theta_state(&s, &st) == KC_OK && kc_theta_state(&copy, &same) == KC_OK && memcmp(&st, &same, sizeof st) == 0 && st.theta < half);
+    /* the copy goes its own way: both get the same values in another order, and are the same again */
+    numbers(&copy, 150000, 50000), numbers(&copy, 100000, 50000), numbers(&s, 100000, 100000);
+    WANT(kc_theta_trim(&s) == KC_OK && kc_theta_trim(&copy) == KC_OK && kc_theta_image(&s, a_image, sizeof a_image, &a_length) == KC_OK);
+    WANT(kc_theta_image(&copy, out, sizeof out, &length) == KC_OK && length == a_length && memcmp(a_image, out, length) == 0);
+    WANT(kc_theta_reset(&copy) == KC_OK && kc_theta_update_u64(&copy, 1) == KC_OK && kc_theta_state(&copy, &same) == KC_OK && same.theta == half);
+    WANT(kc_theta_state(&s, &st) == KC_OK && st.retained == 4096);
+    WANT(kc_theta_free(&copy) == KC_OK && kc_theta_clone(&copy, &s) == KC_INVALID_ARGUMENT && kc_theta_clone(&s, NULL) == KC_INVALID_ARGUMENT);
+    WANT(kc_theta_free(&s) == KC_OK && kc_theta_clone(&s, &copy) == KC_INVALID_ARGUMENT && copy.object == NULL);
 }
 
 static void compacts(void) {
@@ -186,6 +211,114 @@ static void sums(void) {
     WANT(kc_sums_image(&s, out, sizeof out, &length) == KC_INVALID_ARGUMENT);
 }
 
+/* The value n added for each number n from `first` on, `count` of them. */
+static void values(kc_sums *sketch, uint64_t first, uint64_t count) {
+    for (uint64_t n = first; n < first + count; n++) WANT(kc_sums_add_u64(sketch, n, n) == KC_OK);
+}
+
+static uint64_t hashes[8192], counted[8192];
+
+static void compact_sums(void) {
+    kc_sums s = {0}, none = {0};
+    kc_compact_sums c = {0}, d = {0};
+    kc_state st, same;
+    kc_wide total = {7, 7};
+    uint64_t length = 0, count = 9;
+    WANT(kc_sums_new_with(&s, 12, SEED, 5, KC_MAX_THETA) == KC_INVALID_ARGUMENT && kc_sums_new_with(&s, 12, SEED, 1, KC_MAX_THETA) == KC_OK);
+    values(&s, 0, 1000);
+    WANT(kc_sums_total(&s, &total) == KC_OK && total.low == 999 * 1000 / 2 && total.high == 0);
+    WANT(kc_sums_compact(&s, &c) == KC_OK && kc_sums_compact(&s, &c) == KC_INVALID_ARGUMENT);
+    WANT(kc_sums_state(&s, &st) == KC_OK && kc_compact_sums_state(&c, &same) == KC_OK && memcmp(&st, &same, sizeof st) == 0);
+    WANT(kc_sums_image(&s, a_image, sizeof a_image, &a_length) == KC_OK && kc_compact_sums_image(&c, NULL, 0, &length) == KC_TOO_SMALL && length == a_length);
+    WANT(kc_compact_sums_image(&c, out, sizeof out, &length) == KC_OK && length == a_length && memcmp(a_image, out, length) == 0);
+    hashes[0] = counted[0] = 7;
+    WANT(kc_compact_sums_entries(&c, NULL, NULL, 0, &count) == KC_TOO_SMALL && count == 1000);
+    WANT(kc_compact_sums_entries(&c, hashes, counted, 999, &count) == KC_TOO_SMALL && count == 1000 && hashes[0] == 7 && counted[0] == 7);
+    WANT(kc_compact_sums_entries(&c, hashes, counted, 8192, &count) == KC_OK && count == 1000);
+    uint64_t sum = 0;
+    for (uint64_t n = 0; n < count; n++) {
+        WANT(n == 0 || hashes[n - 1] < hashes[n]);
+        WANT(memcmp(a_image + 16 + 16 * n, &hashes[n], 8) == 0 && memcmp(a_image + 24 + 16 * n, &counted[n], 8) == 0);
+        sum += counted[n];
+    }
+    WANT(sum == 999 * 1000 / 2 && kc_compact_sums_total(&c, &total) == KC_OK && total.low == sum && total.high == 0);
+    WANT(kc_compact_sums_entries(&c, hashes, hashes, 8192, &count) == KC_INVALID_ARGUMENT && kc_compact_sums_entries(&c, NULL, counted, 8192, &count) == KC_INVALID_ARGUMENT);
+    WANT(kc_compact_sums_read(&d, a_image, a_length - 1, SEED) == KC_INVALID_DATA && kc_compact_sums_read(&d, a_image, a_length, SEED + 1) == KC_INVALID_DATA);
+    WANT(kc_compact_sums_read(&d, NULL, 5, SEED) == KC_INVALID_ARGUMENT && kc_compact_sums_read(&d, NULL, 0, SEED) == KC_INVALID_DATA && d.object == NULL);
+    WANT(kc_compact_sums_read(&d, a_image, a_length, SEED) == KC_OK && kc_compact_sums_read(&d, a_image, a_length, SEED) == KC_INVALID_ARGUMENT);
+    WANT(kc_compact_sums_image(&d, out, sizeof out, &length) == KC_OK && length == a_length && memcmp(a_image, out, length) == 0);
+    WANT(kc_compact_sums_free(&d) == KC_OK && d.object == NULL && kc_compact_sums_state(&d, &st) == KC_INVALID_ARGUMENT);
+    count = 9, total.low = 7;
+    WANT(kc_compact_sums_entries(&d, hashes, counted, 8192, &count) == KC_INVALID_ARGUMENT && count == 9);
+    WANT(kc_compact_sums_total(&d, &total) == KC_INVALID_ARGUMENT && kc_sums_total(&none, &total) == KC_INVALID_ARGUMENT && total.low == 7);
+    WANT(kc_sums_compact(&none, &d) == KC_INVALID_ARGUMENT && kc_sums_add_u64(&none, 1, 1) == KC_INVALID_ARGUMENT && kc_compact_sums_image(&d, out, 1, &length) == KC_INVALID_ARGUMENT);
+    /* sums of 2^64 - 1 add up past 64 bits */
+    WANT(kc_sums_reset(&s) == KC_OK && kc_sums_add_u64(&s, 1, UINT64_MAX) == KC_OK && kc_sums_add_u64(&s, 2, UINT64_MAX) == KC_OK);
+    WANT(kc_sums_total(&s, &total) == KC_OK && total.low == UINT64_MAX - 1 && total.high == 1);
+    WANT(kc_compact_sums_free(&c) == KC_OK && kc_sums_free(&s) == KC_OK);
+}
+
+static void sums_unions(void) {
+    kc_sums a = {0}, b = {0}, other = {0}, none = {0};
+    kc_compact_sums cb = {0}, r = {0}, no_compact = {0};
+    kc_sums_union u = {0};
+    kc_state st;
+    kc_wide total = {0, 0};
+    uint64_t length = 0, united = 5;
+    char text[64];
+    WANT(kc_sums_new(&a, 12, SEED) == KC_OK && kc_sums_new(&b, 12, SEED) == KC_OK && kc_sums_new(&other, 12, SEED + 1) == KC_OK);
+    values(&a, 0, 2000), values(&b, 1000, 2000), values(&other, 1, 1);
+    WANT(kc_sums_compact(&b, &cb) == KC_OK && kc_sums_image(&a, a_image, sizeof a_image, &a_length) == KC_OK);
+    WANT(kc_sums_union_new(&u, 27, SEED) == KC_INVALID_ARGUMENT && kc_sums_union_new(NULL, 12, SEED) == KC_INVALID_ARGUMENT && u.object == NULL);
+    WANT(kc_sums_union_new(&u, 12, SEED) == KC_OK && kc_sums_union_new(&u, 12, SEED) == KC_INVALID_ARGUMENT);
+    WANT(kc_sums_union_result(&u, &r) == KC_OK && kc_compact_sums_state(&r, &st) == KC_OK && st.empty == 1 && kc_compact_sums_free(&r) == KC_OK);
+    WANT(kc_sums_union_add(&u, &a) == KC_OK && kc_sums_union_add_compact(&u, &cb) == KC_OK && kc_sums_union_add_image(&u, a_image, a_length) == KC_OK);
+    WANT(kc_sums_union_add(&u, &other) == KC_INVALID_ARGUMENT && kc_sums_union_add_image(&u, a_image, 9) == KC_INVALID_DATA);
+    WANT(kc_sums_union_add(&u, &none) == KC_INVALID_ARGUMENT && kc_sums_union_add_compact(&u, &no_compact) == KC_INVALID_ARGUMENT && kc_sums_union_add_image(&u, NULL, 9) == KC_INVALID_ARGUMENT);
+    WANT(kc_sums_union_result(&u, &r) == KC_OK && kc_sums_union_result(&u, &r) == KC_INVALID_ARGUMENT);
+    /* 3000 numbers: those of a twice, and those of b once */
+    WANT(kc_compact_sums_state(&r, &st) == KC_OK && st.retained == 3000 && st.theta == KC_MAX_THETA && kc_compact_sums_total(&r, &total) == KC_OK);
+    WANT(total.high == 0 && total.low == 2 * (1999 * 2000 / 2) + (2999 * 3000 / 2 - 999 * 1000 / 2));
+    WANT(kc_total_text(&total, st.theta, 1, text, sizeof text, &length) == KC_OK && length == 9 && memcmp(text, "7997000.0", 9) == 0);
+    WANT(kc_sums_union_image(&u, NULL, 0, &united) == KC_TOO_SMALL && kc_compact_sums_image(&r, b_image, sizeof b_image, &length) == KC_OK && united == length);
+    WANT(kc_sums_union_image(&u, out, united, &united) == KC_OK && memcmp(out, b_image, united) == 0 && kc_compact_sums_free(&r) == KC_OK);
+    /* a sum of 2^64: the union has failed, whatever comes then, until it is reset */
+    WANT(kc_sums_add_u64(&a, 1500, UINT64_MAX - 1500) == KC_OK && kc_sums_union_add(&u, &a) == KC_POLICY && kc_sums_union_add_compact(&u, &cb) == KC_FAILED);
+    WANT(kc_sums_union_result(&u, &r) == KC_FAILED && kc_sums_union_image(&u, out, sizeof out, &united) == KC_FAILED && r.object == NULL);
+    WANT(kc_sums_union_reset(&u) == KC_OK && kc_sums_union_add(&u, &a) == KC_OK && kc_sums_union_result(&u, &r) == KC_OK);
+    WANT(kc_compact_sums_total(&r, &total) == KC_OK && total.high == 1 && kc_compact_sums_free(&r) == KC_OK);
+    WANT(kc_sums_union_free(&u) == KC_OK && kc_sums_union_add(&u, &a) == KC_INVALID_ARGUMENT && kc_sums_union_add_image(&u, a_image, a_length) == KC_INVALID_ARGUMENT);
+    WANT(kc_sums_union_reset(&u) == KC_INVALID_ARGUMENT && kc_sums_union_result(&u, &r) == KC_INVALID_ARGUMENT && kc_sums_union_image(&u, out, sizeof out, &united) == KC_INVALID_ARGUMENT);
+    kc_sums_free(&a), kc_sums_free(&b), kc_sums_free(&other), kc_compact_sums_free(&cb);
+}
+
+/* A total, a theta, the number of decimals, and the estimate of the total, computed in Python. */
+static const struct { kc_wide total; uint64_t theta; uint32_t places; const char *text; } totals[] = {
+    {{0, 0}, KC_MAX_THETA, 2, "0.00"},
+    {{12345, 0}, KC_MAX_THETA, 0, "12345"},
+    {{12345, 0}, 377528331862415411, 5, "301599.95471"},
+    {{UINT64_MAX, 1}, 3, 19, "113427455640312821139085915749164777472.3333333333333333333"},
+    {{UINT64_MAX, 376}, 377, 3, "170141183460469231713216094464357963194.740"},
+    {{7, 12}, 9223372036854775806, 19, "221360928884514619423.0000000000000000059"},
+};
+
+static void total_texts(void) {
+    kc_wide whole = {7, 7};
+    const kc_wide one = {1, 0}, large = {0, 5};
+    uint64_t decimals = 7, length = 0;
+    char text[64];
+    for (size_t n = 0; n < sizeof totals / sizeof *totals; n++) {
+        WANT(kc_total_text(&totals[n].total, totals[n].theta, totals[n].places, text, sizeof text, &length) == KC_OK);
+        WANT(length == strlen(totals[n].text) && memcmp(text, totals[n].text, length) == 0);
+    }
+    text[0] = 'x';
+    WANT(kc_total_text(&one, KC_MAX_THETA, 2, text, 3, &length) == KC_TOO_SMALL && length == 4 && text[0] == 'x');
+    WANT(kc_total_decimal(&one, 0, 3, &whole, &decimals) == KC_INVALID_ARGUMENT && kc_total_decimal(&one, KC_MAX_THETA + 1, 3, &whole, &decimals) == KC_INVALID_ARGUMENT);
+    WANT(kc_total_decimal(&large, 5, 3, &whole, &decimals) == KC_INVALID_ARGUMENT && kc_total_decimal(&large, 6, 20, &whole, &decimals) == KC_INVALID_ARGUMENT);
+    WANT(whole.low == 7 && decimals == 7 && kc_total_decimal(NULL, 6, 3, &whole, &decimals) == KC_INVALID_ARGUMENT && kc_total_decimal(&whole, 6, 3, &whole, &decimals) == KC_INVALID_ARGUMENT);
+    WANT(kc_total_text(NULL, 6, 3, text, sizeof text, &length) == KC_INVALID_ARGUMENT && kc_total(&large, KC_MAX_THETA) > 9.2e19);
+}
+
 /* A state, the number of decimals, and the estimate as text, computed in Python. */
 static const struct { kc_state state; uint32_t places; const char *text; } texts[] = {
     {{0, KC_MAX_THETA, 1}, 0, "0"},
@@ -225,10 +358,14 @@ static void estimates(void) {
 
 int main(void) {
     sketches();
+    settings();
     compacts();
     operators();
     sums();
+    compact_sums();
+    sums_unions();
     estimates();
-    printf("test: %d faults\n", faults);
+    total_texts();
+    printf("test: %d checks, %d faults\n", checks, faults);
     return faults != 0;
 }

@@ -48,3 +48,8 @@ IsAnswer key (NonEmpty v) seed_hash requested s = IsCompactOf key v seed_hash re
 -- the value of a compact state
 abbrev pub compact_value : {X : Type 0} → (X → ℕ) → Compact X → Sketch X
 compact_value key s = if s.empty then Empty else NonEmpty (record { entries = map_of key s.entries; theta = s.theta })
+
+-- the ordered sketch of a value
+abbrev pub ordered_sketch : {X : Type 0} → Sketch X → (seed_hash : ℕ) → Compact X
+ordered_sketch Empty seed_hash = empty_compact seed_hash
+ordered_sketch (NonEmpty v) seed_hash = record { empty = false; entries = v.entries; theta = v.theta; seed_hash = seed_hash; ordered = true }

@@ -129,13 +129,13 @@ module _ {X : Type 0} (key : X → ℕ) where
 
 module _ {X : Type 0} (key : X → ℕ) (p : Preamble) (h : ℕ) (xs : List X) where
   pub lawful_from : 0 < p.theta → p.theta ≤ MAX_THETA → length xs < 2 ^ 32 → AreHashes p.theta p.ordered (map key xs) → IsShown (shown_of key (state_after_preamble p h xs))
-  lawful_from low high few good = record {
+  lawful_from low high limited good = record {
     theta_low = low;
     theta_high = high;
     distinct = good.distinct;
     nonzero = good.nonzero;
     below_theta = good.below_theta;
-    few = rw (length-map xs key) few;
+    limited = rw (length-map xs key) limited;
     ascending = good.ascending;
     none = λ e. absurd (cc);
     greatest = λ e. absurd (cc);

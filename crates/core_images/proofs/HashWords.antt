@@ -73,8 +73,8 @@ spelled (suc k) bytes le =
 
 -- the numbers of the first words are the hashes that the bytes spell
 pub words_held : (count m : ℕ) (bytes : List ℕ) → count ≤ m → m * 8 ≤ length bytes → Holds SpellsHash bytes count (map (from_le_bytes w64) (take count (first_chunks 8 m bytes)))
-words_held count m bytes few room =
-    let same = fewer_chunks 8 count m bytes few in
+words_held count m bytes limited room =
+    let same = fewer_chunks 8 count m bytes limited in
     rw same (record {
       text = flat_map (λ w. w) (first_chunks 8 count bytes);
       after = drop (count * 8) bytes;

@@ -2,6 +2,6 @@ pub mod AscendingTests
 pub mod SpelledEntries
 pub mod ReadEntries
 pub mod ReadSummaries
-pub mod Layouts
+pub mod ImageLayouts
 pub mod ReadAgain
 mod HashWords

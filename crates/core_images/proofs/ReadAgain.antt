@@ -60,8 +60,8 @@ module _ {X : Type 0} (key : X → ℕ) (Spells : List ℕ → X → Type 0) (te
     spelled : SpellsEach Spells (flat_map text s.entries) s.entries
     spelled = each_written s.theta w.shown.theta_high s.entries v (each-from_map key (λ h. h < s.theta) s.entries w.shown.below_theta)
 
-    few : length s.entries < 2 ^ 32
-    few = let f = w.shown.few in let l = length-map s.entries key in omega arith
+    limited : length s.entries < 2 ^ 32
+    limited = let f = w.shown.limited in let l = length-map s.entries key in omega arith
 
     lawful : (start : ℕ) → IsShown (shown_of key (state_after_preamble (record { start = start; count = length s.entries; theta = s.theta; ordered = s.ordered }) s.seed_hash s.entries))
     lawful start = let P : Compact X → Type 0 = λ t. IsShown (shown_of key t) in subst P (sym (is_listing key s start e)) w.shown
@@ -74,13 +74,13 @@ module _ {X : Type 0} (key : X → ℕ) (Spells : List ℕ → X → Type 0) (te
     reads_three =
         let whole : 24 ≤ length three = omega arith in
         let begins : Begins three 3 3 family = record { whole = omega arith; longs_are = refl; longs_low = omega arith; longs_high = omega arith; version_is = refl; family_is = refl } in
-        let count : count_at three ≡ length s.entries = number-four (length s.entries) few in
+        let count : count_at three ≡ length s.entries = number-four (length s.entries) limited in
         let theta : theta_at three ≡ s.theta = let high = w.shown.theta_high in number-eight s.theta (omega arith) in
         let order : is_ordered three ≡ s.ordered = flag_ordered s.ordered in
         let same : announced 3 (count_at three) (theta_at three) (is_ordered three) ≡ announced 3 (length s.entries) s.theta s.ordered = λ i. announced 3 (count i) (theta i) (order i) in
         let lists : HasEntries key Spells three (announced 3 (length s.entries) s.theta s.ordered) s.seed_hash s.entries = record {
           whole = whole;
-          held = record { text = flat_map text s.entries; after = rest; there = refl; spelled = spelled; counted = refl };
+          content = record { text = flat_map text s.entries; after = rest; there = refl; spelled = spelled; counted = refl };
           lawful = lawful 24;
         } in
         let P : Preamble → Type 0 = λ p. HasEntries key Spells three p s.seed_hash s.entries → ReadsFlagged key Spells three 3 s.seed_hash (state_after_preamble p s.seed_hash s.entries) in
@@ -96,12 +96,12 @@ module _ {X : Type 0} (key : X → ℕ) (Spells : List ℕ → X → Type 0) (te
     reads_two top =
         let whole : 16 ≤ length two = omega arith in
         let begins : Begins two 2 3 family = record { whole = omega arith; longs_are = refl; longs_low = omega arith; longs_high = omega arith; version_is = refl; family_is = refl } in
-        let count : count_at two ≡ length s.entries = number-four (length s.entries) few in
+        let count : count_at two ≡ length s.entries = number-four (length s.entries) limited in
         let order : is_ordered two ≡ s.ordered = flag_ordered s.ordered in
         let same : announced 2 (count_at two) MAX_THETA (is_ordered two) ≡ announced 2 (length s.entries) s.theta s.ordered = λ i. announced 2 (count i) (sym top i) (order i) in
         let lists : HasEntries key Spells two (announced 2 (length s.entries) s.theta s.ordered) s.seed_hash s.entries = record {
           whole = whole;
-          held = record { text = flat_map text s.entries; after = rest; there = refl; spelled = spelled; counted = refl };
+          content = record { text = flat_map text s.entries; after = rest; there = refl; spelled = spelled; counted = refl };
           lawful = lawful 16;
         } in
         let P : Preamble → Type 0 = λ p. HasEntries key Spells two p s.seed_hash s.entries → ReadsFlagged key Spells two 2 s.seed_hash (state_after_preamble p s.seed_hash s.entries) in
@@ -121,7 +121,7 @@ module _ {X : Type 0} (key : X → ℕ) (Spells : List ℕ → X → Type 0) (te
         let same : announced 1 1 MAX_THETA (is_ordered alone) ≡ announced 1 (length s.entries) s.theta s.ordered = λ i. announced 1 (sym one_entry i) (sym top i) (order i) in
         let lists : HasEntries key Spells alone (announced 1 (length s.entries) s.theta s.ordered) s.seed_hash s.entries = record {
           whole = whole;
-          held = record { text = flat_map text s.entries; after = rest; there = refl; spelled = spelled; counted = refl };
+          content = record { text = flat_map text s.entries; after = rest; there = refl; spelled = spelled; counted = refl };
           lawful = lawful 8;
         } in
         let P : Preamble → Type 0 = λ p. HasEntries key Spells alone p s.seed_hash s.entries → ReadsFlagged key Spells alone 1 s.seed_hash (state_after_preamble p s.seed_hash s.entries) in

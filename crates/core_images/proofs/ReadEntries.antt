@@ -30,7 +30,7 @@ module _ {X : Type 0} (Spells : List ℕ → X → Type 0) (has_hash : (a : List
 
   -- bytes with room for fewer than `count` entries don't spell `count` entries
   pub too_many : (bytes : List ℕ) (count : ℕ) → length bytes / 8 < count → (xs : List X) × Holds Spells bytes count xs → ⊥
-  too_many bytes count few found =
+  too_many bytes count limited found =
       let long = each_long found.0 found.1.text found.1.spelled in
       let joined = ap length found.1.there ∙ length-append found.1.text found.1.after in
       let counted = found.1.counted in
@@ -53,14 +53,14 @@ module _ {X : Type 0} (Spells : List ℕ → X → Type 0) (one : (a b u v : Lis
       (text ++ first, e ∙ ap (λ l. text ++ l) r ∙ sym (append_assoc text first left), each_more Spells one xs x text first s f, length-append xs (x ∷ []) ∙ ap (λ k. k + 1) count)
 
   module _ (key : X → ℕ) (bytes : List ℕ) (h : ℕ) (p : Preamble) where
-    pub held_of : (s : Compact X) × LeavesOpen key Spells bytes h (Some (Filled p)) s → (xs : List X) × Holds Spells (drop p.start bytes) p.count xs
-    held_of found = (found.1.0, found.1.2.held)
+    pub content_of : (s : Compact X) × LeavesOpen key Spells bytes h (Some (Filled p)) s → (xs : List X) × Holds Spells (drop p.start bytes) p.count xs
+    content_of found = (found.1.0, found.1.2.content)
 
     pub good_of : (xs : List X) → Holds Spells (drop p.start bytes) p.count xs → (s : Compact X) × LeavesOpen key Spells bytes h (Some (Filled p)) s → AreHashes p.theta p.ordered (map key xs)
-    good_of xs held found =
-        let same = holds_one Spells one (drop p.start bytes) p.count found.1.0 xs found.1.2.held held in
+    good_of xs content found =
+        let same = holds_one Spells one (drop p.start bytes) p.count found.1.0 xs found.1.2.content content in
         let P : List X → Type 0 = λ ys. IsShown (shown_of key (state_after_preamble p h ys)) in
         hashes_from key p h xs (subst P same found.1.2.lawful)
 
     pub listing_found : (xs : List X) → IsWholeLayout bytes (Some (Filled p)) → length xs < 2 ^ 32 → Holds Spells (drop p.start bytes) p.count xs → AreHashes p.theta p.ordered (map key xs) → LeavesOpen key Spells bytes h (Some (Filled p)) (state_after_preamble p h xs)
-    listing_found xs whole few held good = (xs, refl, record { whole = whole.0; held = held; lawful = lawful_from key p h xs whole.1 whole.2 few good })
+    listing_found xs whole limited content good = (xs, refl, record { whole = whole.0; content = content; lawful = lawful_from key p h xs whole.1 whole.2 limited good })

@@ -39,7 +39,7 @@ module _ {X : Type 0} (Spells : List ℕ → X → Type 0) (one : (a b u v : Lis
   holds_one bytes n xs ys f g = each_one xs ys f.text g.text f.after g.after f.spelled g.spelled (sym f.there ∙ g.there) (f.counted ∙ sym g.counted)
 
   pub lists_one : (key : X → ℕ) (bytes : List ℕ) (p : Preamble) (h : ℕ) (xs ys : List X) → HasEntries key Spells bytes p h xs → HasEntries key Spells bytes p h ys → xs ≡ ys
-  lists_one key bytes p h xs ys f g = holds_one _ _ xs ys f.held g.held
+  lists_one key bytes p h xs ys f g = holds_one _ _ xs ys f.content g.content
 
   -- one more entry after those that were read
   pub each_more : (xs : List X) (x : X) (a b : List ℕ) → SpellsEach Spells a xs → Spells b x → SpellsEach Spells (a ++ b) (xs ++ x ∷ [])

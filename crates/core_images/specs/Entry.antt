@@ -29,5 +29,5 @@ state_after_preamble p seed_hash xs = record { empty = false; entries = xs; thet
 -- after this preamble the bytes have the spellings of these entries, and a sketch may show these entries
 pub record HasEntries {X : Type 0} (key : X → ℕ) (Spells : List ℕ → X → Type 0) (bytes : List ℕ) (p : Preamble) (h : ℕ) (xs : List X) : Type 0 where
   pub whole : p.start ≤ length bytes
-  pub held : Holds Spells (drop p.start bytes) p.count xs
+  pub content : Holds Spells (drop p.start bytes) p.count xs
   pub lawful : IsShown (shown_of key (state_after_preamble p h xs))

@@ -43,7 +43,7 @@ abbrev pub key_of_rank : {X : Type 0} → (X → ℕ) → ℕ → List X → ℕ
 key_of_rank key k xs t = option_map_or key (find (λ x. rank key xs (key x) == k) xs) t
 
 -- the entries of a map in some order, each once
-pub record IsListing {X : Type 0} (key : X → ℕ) (entries lends : List X) : Type 0 where
-  pub each_once : IsPermutation entries lends
-  pub apart : IsApart key lends
-  pub same_map : map_of key lends ≡ entries
+pub record IsListing {X : Type 0} (key : X → ℕ) (entries sequence : List X) : Type 0 where
+  pub each_once : IsPermutation entries sequence
+  pub apart : IsApart key sequence
+  pub same_map : map_of key sequence ≡ entries

@@ -20,7 +20,7 @@ pub record IsShown (s : Shown) : Type 0 where
   pub distinct : AllPairs (λ x y. x ≢ y) s.hashes
   pub nonzero : AllByRecursion (λ h. 0 < h) s.hashes
   pub below_theta : AllByRecursion (λ h. h < s.theta) s.hashes
-  pub few : length s.hashes < 2 ^ 32
+  pub limited : length s.hashes < 2 ^ 32
   pub ascending : s.ordered ≡ true → IsAscending (λ h. h) s.hashes
   pub none : s.empty ≡ true → s.hashes ≡ []
   pub greatest : s.empty ≡ true → s.theta ≡ MAX_THETA

@@ -158,8 +158,8 @@ pub fn refused_step_marks<X>()
 
 /// If a merge is refused, the join of the two maps has a mark, and so has their common part.
 pub fn refused_merge_marks<X>()
-    ensures joined { (key : X → ℕ) (merges : X → X → X) (refuses : X → X → Bool) → KeepsKey key merges → (whole come : List (Fold X)) (q : ℕ) (x y : X) → entry_at (fold_key key) whole q ≡ Some (Value x) → entry_at (fold_key key) come q ≡ Some (Value y) → refuses x y ≡ true → IsApart (fold_key key) come → has_mark (joined (fold_key key) (fold_merges key merges refuses) whole come) ≡ true }
-    ensures met { (key : X → ℕ) (merges : X → X → X) (refuses : X → X → Bool) → KeepsKey key merges → (whole come : List (Fold X)) (q : ℕ) (x y : X) → entry_at (fold_key key) whole q ≡ Some (Value x) → entry_at (fold_key key) come q ≡ Some (Value y) → refuses x y ≡ true → has_mark (common (fold_key key) (fold_merges key merges refuses) whole come) ≡ true }
+    ensures joined { (key : X → ℕ) (merges : X → X → X) (refuses : X → X → Bool) → KeepsKey key merges → (whole arriving : List (Fold X)) (q : ℕ) (x y : X) → entry_at (fold_key key) whole q ≡ Some (Value x) → entry_at (fold_key key) arriving q ≡ Some (Value y) → refuses x y ≡ true → IsApart (fold_key key) arriving → has_mark (joined (fold_key key) (fold_merges key merges refuses) whole arriving) ≡ true }
+    ensures met { (key : X → ℕ) (merges : X → X → X) (refuses : X → X → Bool) → KeepsKey key merges → (whole arriving : List (Fold X)) (q : ℕ) (x y : X) → entry_at (fold_key key) whole q ≡ Some (Value x) → entry_at (fold_key key) arriving q ≡ Some (Value y) → refuses x y ≡ true → has_mark (common (fold_key key) (fold_merges key merges refuses) whole arriving) ≡ true }
 {}
 
 /// If its policy allows a merge, it has the same effect as the merge of folds.

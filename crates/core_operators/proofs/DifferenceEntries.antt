@@ -54,7 +54,7 @@ module _ {X : Type 0} (key : X → ℕ) (theta seed_hash : ℕ) where
     distinct = shown.distinct;
     nonzero = shown.nonzero;
     below_theta = shown.below_theta;
-    few = shown.few;
+    limited = shown.limited;
     ascending = λ e. ascending-map key xs (known xs ascending shown e);
     none = λ e. absurd (cc);
     greatest = λ e. absurd (cc);
@@ -73,7 +73,7 @@ module _ {X : Type 0} (key : X → ℕ) (theta seed_hash : ℕ) where
         theta_low = shown.theta_low;
         theta_high = shown.theta_high;
       })
-      (rw (count_sorted xs (apart_shown xs ordered shown), ← length-map xs key) shown.few)
+      (rw (count_sorted xs (apart_shown xs ordered shown), ← length-map xs key) shown.limited)
 
   pub compact_known : (xs : List X) (ascending : Bool) → IsShown (shown_of key (listed xs ascending)) → IsCompactOf key (record { entries = map_of key xs; theta = theta }) seed_hash ascending (listed xs (is_answer_ordered ascending (length xs) theta))
   compact_known xs ascending shown =
@@ -162,8 +162,8 @@ module _ {X : Type 0} (key : X → ℕ) where
     distinct = distinct-apart key (kept_of listing hs theta) (apart-filter key _ _ (apart-filter key _ listing (apart-distinct key listing (rw hashes shown.distinct))));
     nonzero = each-hash key (λ h. 0 < h) (kept_of listing hs theta) (each-filter _ _ _ (each-filter _ _ listing (each-from_map key (λ h. 0 < h) listing (rw hashes shown.nonzero))));
     below_theta = each-hash key (λ h. h < theta) (kept_of listing hs theta) (each-filter _ _ _ (each-passes (λ x. key x < theta) (λ x. ltb (key x) theta) (λ x e. grind (arith, nat_tests)) listing));
-    few =
-        let bound : length (map key listing) < 2 ^ 32 = rw hashes shown.few in
+    limited =
+        let bound : length (map key listing) < 2 ^ 32 = rw hashes shown.limited in
         let there : length listing < 2 ^ 32 = rw (length-map listing key) at bound in
         let once = fewer (λ x. ltb (key x) theta) listing in
         let twice = fewer (λ x. is_none (entry_at hash_key hs (key x))) (below key listing theta) in
@@ -198,7 +198,7 @@ pub below_apart : (hs : List ℕ) (theta : ℕ) → AllPairs (λ x y. x ≢ y) h
 below_apart hs theta distinct = apart-filter hash_key _ hs (apart_hashes hs distinct)
 
 pub below_few : (hs : List ℕ) (theta n : ℕ) → length hs < n → length (below hash_key hs theta) < n
-below_few hs theta n few = omega (arith, fewer (λ h. ltb h theta) hs, few)
+below_few hs theta n limited = omega (arith, fewer (λ h. ltb h theta) hs, limited)
 
 pub below_more : (done : List ℕ) (h : ℕ) (left : List ℕ) (theta : ℕ) → h < theta → (done ++ h ∷ []) ++ below hash_key left theta ≡ done ++ below hash_key (h ∷ left) theta
 below_more done h left theta lt =

@@ -25,30 +25,30 @@ module _ {X : Type 0} (key : X → ℕ) where
 
   module _ {P : Type 0} (u : Union X P) (lg_k : ℕ) where
     abbrev fewer : Retained X
-    fewer = cut key (2 ^ lg_k) u.held.entries u.held.theta
+    fewer = cut key (2 ^ lg_k) u.content.entries u.content.theta
 
     abbrev pub smaller : Union X P
-    smaller = record u { held = fewer; lg_k = lg_k }
+    smaller = record u { content = fewer; lg_k = lg_k }
 
     -- cutting a value to its own nominal entries doesn't change it
-    pub value_same : lg_k ≡ u.lg_k → IsAscending key u.held.entries → union_value key u ≡ cut_value key (2 ^ lg_k) (union_value key u)
+    pub value_same : lg_k ≡ u.lg_k → IsAscending key u.content.entries → union_value key u ≡ cut_value key (2 ^ lg_k) (union_value key u)
     value_same same up =
         let k : ℕ = 2 ^ u.lg_k in
-        let once : cut key k (cut key k u.held.entries u.held.theta).entries (cut key k u.held.entries u.held.theta).theta ≡ cut key k u.held.entries u.held.theta = cut_of_cut key k k u.held.entries u.held.theta (omega arith) up in
+        let once : cut key k (cut key k u.content.entries u.content.theta).entries (cut key k u.content.entries u.content.theta).theta ≡ cut key k u.content.entries u.content.theta = cut_of_cut key k k u.content.entries u.content.theta (omega arith) up in
         subst (λ (l : ℕ). union_value key u ≡ cut_value key (2 ^ l) (union_value key u)) (sym same)
-        (elim u.empty as (λ b. cond b Empty (NonEmpty (cut key k u.held.entries u.held.theta)) ≡ cut_value key k (cond b Empty (NonEmpty (cut key k u.held.entries u.held.theta)))) [ true ↦ refl | false ↦ ap NonEmpty (sym once) ])
+        (elim u.empty as (λ b. cond b Empty (NonEmpty (cut key k u.content.entries u.content.theta)) ≡ cut_value key k (cond b Empty (NonEmpty (cut key k u.content.entries u.content.theta)))) [ true ↦ refl | false ↦ ap NonEmpty (sym once) ])
 
     -- cut to fewer, it is the value of the smaller union, for all retained entries and thetas
-    pub value_fewer : lg_k ≤ u.lg_k → IsAscending key u.held.entries → union_value key smaller ≡ cut_value key (2 ^ lg_k) (union_value key u)
+    pub value_fewer : lg_k ≤ u.lg_k → IsAscending key u.content.entries → union_value key smaller ≡ cut_value key (2 ^ lg_k) (union_value key u)
     value_fewer le up =
         let power : 2 ^ lg_k ≤ 2 ^ u.lg_k = pow_mono {i = lg_k} {j = u.lg_k} le in
-        let once : cut key (2 ^ lg_k) (cut key (2 ^ u.lg_k) u.held.entries u.held.theta).entries (cut key (2 ^ u.lg_k) u.held.entries u.held.theta).theta ≡ fewer = cut_of_cut key (2 ^ lg_k) (2 ^ u.lg_k) u.held.entries u.held.theta power up in
-        let twice : cut key (2 ^ lg_k) fewer.entries fewer.theta ≡ fewer = cut_of_cut key (2 ^ lg_k) (2 ^ lg_k) u.held.entries u.held.theta (omega arith) up in
-        elim u.empty as (λ b. cond b Empty (NonEmpty (cut key (2 ^ lg_k) fewer.entries fewer.theta)) ≡ cut_value key (2 ^ lg_k) (cond b Empty (NonEmpty (cut key (2 ^ u.lg_k) u.held.entries u.held.theta)))) [ true ↦ refl | false ↦ ap NonEmpty (twice ∙ sym once) ]
+        let once : cut key (2 ^ lg_k) (cut key (2 ^ u.lg_k) u.content.entries u.content.theta).entries (cut key (2 ^ u.lg_k) u.content.entries u.content.theta).theta ≡ fewer = cut_of_cut key (2 ^ lg_k) (2 ^ u.lg_k) u.content.entries u.content.theta power up in
+        let twice : cut key (2 ^ lg_k) fewer.entries fewer.theta ≡ fewer = cut_of_cut key (2 ^ lg_k) (2 ^ lg_k) u.content.entries u.content.theta (omega arith) up in
+        elim u.empty as (λ b. cond b Empty (NonEmpty (cut key (2 ^ lg_k) fewer.entries fewer.theta)) ≡ cut_value key (2 ^ lg_k) (cond b Empty (NonEmpty (cut key (2 ^ u.lg_k) u.content.entries u.content.theta)))) [ true ↦ refl | false ↦ ap NonEmpty (twice ∙ sym once) ]
 
-    pub sound_smaller : MIN_LG_K ≤ lg_k → lg_k ≤ u.lg_k → IsUnion u → IsRetained key u.held → IsUnionBelow fewer.theta smaller
-    sound_smaller low le sound held =
-        let theta = cut_theta key (2 ^ lg_k) u.held.entries u.held.theta held in
+    pub sound_smaller : MIN_LG_K ≤ lg_k → lg_k ≤ u.lg_k → IsUnion u → IsRetained key u.content → IsUnionBelow fewer.theta smaller
+    sound_smaller low le sound content =
+        let theta = cut_theta key (2 ^ lg_k) u.content.entries u.content.theta content in
         record {
           union = record {
             lg_k_low = low;
@@ -61,15 +61,15 @@ module _ {X : Type 0} (key : X → ℕ) where
         }
 
     -- its settings, and its entries: the same or the cut
-    pub lowered_made : lowered key lg_k u ≡ record u { held = (lowered key lg_k u).held; lg_k = lg_k }
+    pub lowered_made : lowered key lg_k u ≡ record u { content = (lowered key lg_k u).content; lg_k = lg_k }
     lowered_made =
-        (elim (eqb lg_k u.lg_k) as (λ b. eqb lg_k u.lg_k ≡ b → cond b u smaller ≡ record u { held = (cond b u smaller).held; lg_k = lg_k }) [
+        (elim (eqb lg_k u.lg_k) as (λ b. eqb lg_k u.lg_k ≡ b → cond b u smaller ≡ record u { content = (cond b u smaller).content; lg_k = lg_k }) [
           | true ↦ λ e. let same : lg_k ≡ u.lg_k = grind (arith, nat_tests) in ap (λ (l : ℕ). record u { lg_k = l }) (sym same)
           | false ↦ λ e. refl
         ]) refl
 
-    pub lowered_held : (H : Retained X → Type 0) → H u.held → H fewer → H (lowered key lg_k u).held
-    lowered_held H same cuts = elim (eqb lg_k u.lg_k) as (λ b. H (cond b u smaller).held) [ true ↦ same | false ↦ cuts ]
+    pub lowered_held : (H : Retained X → Type 0) → H u.content → H fewer → H (lowered key lg_k u).content
+    lowered_held H same cuts = elim (eqb lg_k u.lg_k) as (λ b. H (cond b u smaller).content) [ true ↦ same | false ↦ cuts ]
 
     pub lowered_is : (lg_k ≡ u.lg_k → ⊥) → smaller ≡ lowered key lg_k u
     lowered_is differs = let e : eqb lg_k u.lg_k ≡ false = grind (arith, nat_tests) in sym (ap (λ b. cond b u smaller) e)
@@ -77,14 +77,14 @@ module _ {X : Type 0} (key : X → ℕ) where
   module _ {P : Type 0} (empty failed : Bool) (policy : P) where
     -- a union over the entries of a table below a theta
     abbrev pub over : MapTable X → ℕ → Union X P
-    over t theta = record { empty = empty; failed = failed; held = retained key t.kept.entries theta; lg_k = t.lg_nom; start = t.start; seed_hash = t.seed_hash; policy = policy }
+    over t theta = record { empty = empty; failed = failed; content = retained key t.kept.entries theta; lg_k = t.lg_nom; start = t.start; seed_hash = t.seed_hash; policy = policy }
 
     module _ (t s : MapTable X) (theta own lg_k : ℕ) (up : IsAscending key t.kept.entries) (made : s ≡ record t { kept = cut key (2 ^ lg_k) t.kept.entries theta; lg_nom = lg_k }) (own_is : own ≡ s.kept.theta) where
       pub over_smaller : over s own ≡ smaller (over t theta) lg_k
       over_smaller =
           ap (over s) own_is
           ∙ ap (λ (m : MapTable X). over m m.kept.theta) made
-          ∙ ap (λ (v : Retained X). record (over t theta) { held = v; lg_k = lg_k }) (held_lowered (2 ^ lg_k) t.kept.entries theta up)
+          ∙ ap (λ (v : Retained X). record (over t theta) { content = v; lg_k = lg_k }) (held_lowered (2 ^ lg_k) t.kept.entries theta up)
 
       pub over_theta : s.kept.theta ≡ (cut key (2 ^ lg_k) (below key t.kept.entries theta) theta).theta
       over_theta = ap (λ (m : MapTable X). m.kept.theta) made ∙ ap (λ v. v.theta) (sym (cut_below key (2 ^ lg_k) t.kept.entries theta up))

@@ -9,7 +9,7 @@ use Rattle.core_operators.specs.declared.intersection.Outcome.{Outcome}
 use Rattle.core_operators.specs.declared.intersection.Outcome.TheVariants.{Unbegun, Nothing, Held}
 use Rattle.core_laws.specs.Cuts.{Retained, IsRetained, none_below}
 use Rattle.core_laws.specs.Maps.{below, above, map_of}
-use Rattle.core_operators.specs.Intersection.{outcome_value, held_of, is_settled_outcome, is_begun, is_nothing_left}
+use Rattle.core_operators.specs.Intersection.{outcome_value, content_of, is_settled_outcome, is_begun, is_nothing_left}
 use Rattle.core_laws.specs.Operators.{meet_next, shared, is_disjoint}
 use Rattle.core_laws.specs.Values.{Empty, NonEmpty}
 use Rattle.core_laws.specs.Folds.{Fold, Value, fold_key, fold_merges, unmarked, unmarked_value}
@@ -27,7 +27,7 @@ module _ {X : Type 0} where
   held_value Held v a b = refl
 
   -- the laws of retained entries hold for an intersection's value if they hold for its table
-  pub held_retained : (key : X → ℕ) (o : Outcome) (v : Retained X) → IsRetained key v → IsRetained key (held_of (outcome_value o v))
+  pub held_retained : (key : X → ℕ) (o : Outcome) (v : Retained X) → IsRetained key v → IsRetained key (content_of (outcome_value o v))
   held_retained key Unbegun v kept = none_retained key
   held_retained key Nothing v kept = none_retained key
   held_retained key Held v kept = kept

@@ -46,16 +46,16 @@ module _ {X : Type 0} (key : X → ℕ) where
   only_one x q y = elim (eqb (key x) q) as (λ b. cond b (Some x) None ≡ Some y → x ≡ y) [ true ↦ λ e. (cc) | false ↦ λ e. absurd (cc) ]
 
   -- a refused entry is one of the listing
-  pub reading-refused : (refuses : X → X → Bool) (held listing left : List X) (x : X) (ordered : Bool) → IsReading listing (x ∷ left) ordered → IsMergeRefused key refuses held (x ∷ []) → IsMergeRefused key refuses held listing
-  reading-refused refuses held listing left x ordered so_far refused =
-      let here : key refused.new_entry ≡ refused.at = found_key key (x ∷ []) refused.at refused.new_entry refused.comes in
+  pub reading-refused : (refuses : X → X → Bool) (content listing left : List X) (x : X) (ordered : Bool) → IsReading listing (x ∷ left) ordered → IsMergeRefused key refuses content (x ∷ []) → IsMergeRefused key refuses content listing
+  reading-refused refuses content listing left x ordered so_far refused =
+      let present : key refused.new_entry ≡ refused.at = found_key key (x ∷ []) refused.at refused.new_entry refused.comes in
       let only : x ≡ refused.new_entry = only_one x refused.at refused.new_entry refused.comes in
       record {
         at = refused.at;
         held_entry = refused.held_entry;
         new_entry = refused.new_entry;
         is_held = refused.is_held;
-        comes = so_far.among refused.at refused.new_entry (entry_at_head key x left refused.at (ap key only ∙ here) ∙ ap Some only);
+        comes = so_far.among refused.at refused.new_entry (entry_at_head key x left refused.at (ap key only ∙ present) ∙ ap Some only);
         refused = refused.refused;
       }
 
@@ -120,18 +120,18 @@ module _ {X : Type 0} (key : X → ℕ) (merges : X → X → X) (keeps : KeepsK
 
 module _ {X : Type 0} (key : X → ℕ) (merges : X → X → X) (keeps : KeepsKey key merges) where
   -- a listing shares the same entries with a map as the map of the listing
-  pub common-map_of : (held listing : List X) (t : ℕ) → IsAscending key held → map_of key (common key (turned_round merges) listing (below key held t)) ≡ below key (common key merges held (map_of key listing)) t
-  common-map_of held listing t up =
-      same_map key _ _ (ascending-map_of key (common key (turned_round merges) listing (below key held t))) (ascending-filter key _ _ (ascending-common key merges keeps held (map_of key listing) up))
-      (λ q. entry_at-map_of key (common key (turned_round merges) listing (below key held t)) q
-      ∙ entry_at-common key (turned_round merges) (turned_keeps key merges keeps) listing (below key held t) q
-      ∙ both_turned key merges keeps (entry_at key listing q) (entry_at key (below key held t) q)
-      ∙ ap (λ o. both merges o (entry_at key listing q)) (entry_at-below key held t q)
-      ∙ (elim (ltb q t) as (λ b. both merges (cond b (entry_at key held q) None) (entry_at key listing q) ≡ cond b (entry_at key (common key merges held (map_of key listing)) q) None) [
-        | true ↦ ap (λ o. both merges (entry_at key held q) o) (sym (entry_at-map_of key listing q)) ∙ sym (entry_at-common key merges keeps held (map_of key listing) q)
+  pub common-map_of : (content listing : List X) (t : ℕ) → IsAscending key content → map_of key (common key (turned_round merges) listing (below key content t)) ≡ below key (common key merges content (map_of key listing)) t
+  common-map_of content listing t up =
+      same_map key _ _ (ascending-map_of key (common key (turned_round merges) listing (below key content t))) (ascending-filter key _ _ (ascending-common key merges keeps content (map_of key listing) up))
+      (λ q. entry_at-map_of key (common key (turned_round merges) listing (below key content t)) q
+      ∙ entry_at-common key (turned_round merges) (turned_keeps key merges keeps) listing (below key content t) q
+      ∙ both_turned key merges keeps (entry_at key listing q) (entry_at key (below key content t) q)
+      ∙ ap (λ o. both merges o (entry_at key listing q)) (entry_at-below key content t q)
+      ∙ (elim (ltb q t) as (λ b. both merges (cond b (entry_at key content q) None) (entry_at key listing q) ≡ cond b (entry_at key (common key merges content (map_of key listing)) q) None) [
+        | true ↦ ap (λ o. both merges (entry_at key content q) o) (sym (entry_at-map_of key listing q)) ∙ sym (entry_at-common key merges keeps content (map_of key listing) q)
         | false ↦ refl
       ])
-      ∙ sym (entry_at-below key (common key merges held (map_of key listing)) t q))
+      ∙ sym (entry_at-below key (common key merges content (map_of key listing)) t q))
 
 module _ {X : Type 0} (key : X → ℕ) where
   pub marked-map_of : (xs : List X) → map Value (map_of key xs) ≡ map_of (fold_key key) (map Value xs)
@@ -157,35 +157,35 @@ module _ {X : Type 0} (key : X → ℕ) where
 
 module _ {X : Type 0} (key : X → ℕ) (merges : X → X → X) (refuses : X → X → Bool) where
   -- the folds that a listing and a map share below a theta
-  abbrev pub read_from : (listing held : List X) (t : ℕ) → List (Fold X)
-  read_from listing held t = common (fold_key key) (turned_round (fold_merges key merges refuses)) (map Value listing) (map Value (below key held t))
+  abbrev pub read_from : (listing content : List X) (t : ℕ) → List (Fold X)
+  read_from listing content t = common (fold_key key) (turned_round (fold_merges key merges refuses)) (map Value listing) (map Value (below key content t))
 
   -- the fold that one entry shares, or none
-  abbrev pub read_one : (held : List X) (t : ℕ) → X → Option (Fold X)
-  read_one held t x = option_map (λ w. fold_merges key merges refuses (Value w) (Value x)) (entry_at key (below key held t) (key x))
+  abbrev pub read_one : (content : List X) (t : ℕ) → X → Option (Fold X)
+  read_one content t x = option_map (λ w. fold_merges key merges refuses (Value w) (Value x)) (entry_at key (below key content t) (key x))
 
-  one_low : (held : List X) (t : ℕ) (x : X) → key x < t → entry_at key (below key held t) (key x) ≡ entry_at key held (key x)
-  one_low held t x lt = let e : ltb (key x) t ≡ true = grind (arith, nat_tests) in entry_at-below key held t (key x) ∙ ap (λ b. cond b (entry_at key held (key x)) None) e
+  one_low : (content : List X) (t : ℕ) (x : X) → key x < t → entry_at key (below key content t) (key x) ≡ entry_at key content (key x)
+  one_low content t x lt = let e : ltb (key x) t ≡ true = grind (arith, nat_tests) in entry_at-below key content t (key x) ∙ ap (λ b. cond b (entry_at key content (key x)) None) e
 
   -- the fold of one entry: past the theta, if its key isn't in the map, if the policy combines, and if it refuses
-  pub one_past : (held : List X) (t : ℕ) (x : X) → t ≤ key x → None ≡ read_one held t x
-  one_past held t x le =
+  pub one_past : (content : List X) (t : ℕ) (x : X) → t ≤ key x → None ≡ read_one content t x
+  one_past content t x le =
       let e : ltb (key x) t ≡ false = grind (arith, nat_tests) in
-      sym (ap (option_map (λ w. fold_merges key merges refuses (Value w) (Value x))) (entry_at-below key held t (key x) ∙ ap (λ b. cond b (entry_at key held (key x)) None) e))
+      sym (ap (option_map (λ w. fold_merges key merges refuses (Value w) (Value x))) (entry_at-below key content t (key x) ∙ ap (λ b. cond b (entry_at key content (key x)) None) e))
 
-  pub one_absent : (held : List X) (t : ℕ) (x : X) → key x < t → entry_at key held (key x) ≡ None → None ≡ read_one held t x
-  one_absent held t x lt none = sym (ap (option_map (λ w. fold_merges key merges refuses (Value w) (Value x))) (one_low held t x lt ∙ none))
+  pub one_absent : (content : List X) (t : ℕ) (x : X) → key x < t → entry_at key content (key x) ≡ None → None ≡ read_one content t x
+  one_absent content t x lt none = sym (ap (option_map (λ w. fold_merges key merges refuses (Value w) (Value x))) (one_low content t x lt ∙ none))
 
-  pub one_combined : (held : List X) (t : ℕ) (x w : X) → key x < t → entry_at key held (key x) ≡ Some w → refuses w x ≡ false → Some (Value (merges w x)) ≡ read_one held t x
-  one_combined held t x w lt found free =
-      ap (λ b. Some (cond b (Refused (key w)) (Value (merges w x)))) (sym free) ∙ sym (ap (option_map (λ w. fold_merges key merges refuses (Value w) (Value x))) (one_low held t x lt ∙ found))
+  pub one_combined : (content : List X) (t : ℕ) (x w : X) → key x < t → entry_at key content (key x) ≡ Some w → refuses w x ≡ false → Some (Value (merges w x)) ≡ read_one content t x
+  one_combined content t x w lt found free =
+      ap (λ b. Some (cond b (Refused (key w)) (Value (merges w x)))) (sym free) ∙ sym (ap (option_map (λ w. fold_merges key merges refuses (Value w) (Value x))) (one_low content t x lt ∙ found))
 
-  pub one_refused : (held : List X) (t : ℕ) (x w : X) → key x < t → entry_at key held (key x) ≡ Some w → refuses w x ≡ true → IsMergeRefused key refuses (below key held t) (x ∷ [])
-  one_refused held t x w lt found refused = record { at = key x; held_entry = w; new_entry = x; is_held = one_low held t x lt ∙ found; comes = entry_at_head key x [] (key x) refl; refused = refused }
+  pub one_refused : (content : List X) (t : ℕ) (x w : X) → key x < t → entry_at key content (key x) ≡ Some w → refuses w x ≡ true → IsMergeRefused key refuses (below key content t) (x ∷ [])
+  one_refused content t x w lt found refused = record { at = key x; held_entry = w; new_entry = x; is_held = one_low content t x lt ∙ found; comes = entry_at_head key x [] (key x) refl; refused = refused }
 
 module _ {X : Type 0} (key : X → ℕ) (merges : X → X → X) (refuses : X → X → Bool) (keeps : KeepsKey key merges) where
-  read_is : (listing held : List X) (t : ℕ) → read_from key merges refuses listing held t ≡ common (fold_key key) (turned_round (fold_merges key merges refuses)) (map Value listing) (below (fold_key key) (map Value held) t)
-  read_is listing held t = ap (λ ys. common (fold_key key) (turned_round (fold_merges key merges refuses)) (map Value listing) ys) (sym (below-map Value key (fold_key key) (λ y. refl) held t))
+  read_is : (listing content : List X) (t : ℕ) → read_from key merges refuses listing content t ≡ common (fold_key key) (turned_round (fold_merges key merges refuses)) (map Value listing) (below (fold_key key) (map Value content) t)
+  read_is listing content t = ap (λ ys. common (fold_key key) (turned_round (fold_merges key merges refuses)) (map Value listing) ys) (sym (below-map Value key (fold_key key) (λ y. refl) content t))
 
   keeps_turned : (y x : Fold X) → fold_key key y ≡ fold_key key x → fold_key key (turned_round (fold_merges key merges refuses) y x) ≡ fold_key key x
   keeps_turned = turned_keeps (fold_key key) (fold_merges key merges refuses) (fold_keeps key merges refuses keeps)
@@ -195,62 +195,62 @@ module _ {X : Type 0} (key : X → ℕ) (merges : X → X → X) (refuses : X �
     pub apart : IsApart key items
     pub nonzero : AllByRecursion (λ x. 0 < key x) items
     pub below_theta : AllByRecursion (λ x. key x < t) items
-    pub few : length items ≤ n
+    pub limited : length items ≤ n
 
-  pub items_read : (listing held items : List X) (t : ℕ) → map Value items ≡ read_from key merges refuses listing held t → IsApart key listing → AllByRecursion (λ x. 0 < key x) listing → IsRead items t (length listing)
-  items_read listing held items t all apart nonzero =
+  pub items_read : (listing content items : List X) (t : ℕ) → map Value items ≡ read_from key merges refuses listing content t → IsApart key listing → AllByRecursion (λ x. 0 < key x) listing → IsRead items t (length listing)
+  items_read listing content items t all apart nonzero =
       let fk = fold_key key in
       let m = turned_round (fold_merges key merges refuses) in
-      let is = all ∙ read_is listing held t in
-      let ys = below fk (map Value held) t in
+      let is = all ∙ read_is listing content t in
+      let ys = below fk (map Value content) t in
       let marked : X → Fold X = λ x. Value x in
       let short : length (common fk m (map Value listing) ys) ≤ length (map Value listing) = length-common fk m keeps_turned (map Value listing) ys in
       record {
         apart = apart-unmarked key items (rw is (apart-common fk m keeps_turned (map Value listing) ys (apart-marked key listing apart)));
         nonzero = each-unmarked key (λ h. 0 < h) items (rw is (each-common fk m keeps_turned (λ h. 0 < h) (map Value listing) ys (each-marked key (λ h. 0 < h) listing nonzero)));
-        below_theta = each-unmarked key (λ h. h < t) items (rw is (common_low fk m keeps_turned (map Value listing) (map Value held) t));
-        few = omega (arith, short, ap length is, length-map items marked, length-map listing marked);
+        below_theta = each-unmarked key (λ h. h < t) items (rw is (common_low fk m keeps_turned (map Value listing) (map Value content) t));
+        limited = omega (arith, short, ap length is, length-map items marked, length-map listing marked);
       }
 
   -- the rest of an ascending listing, past a theta, is not read
-  pub read_past : (listing left held : List X) (x : X) (t : ℕ) → IsReading key listing (x ∷ left) true → t ≤ key x → read_from key merges refuses (x ∷ left) held t ≡ []
-  read_past listing left held x t so_far le =
+  pub read_past : (listing left content : List X) (x : X) (t : ℕ) → IsReading key listing (x ∷ left) true → t ≤ key x → read_from key merges refuses (x ∷ left) content t ≡ []
+  read_past listing left content x t so_far le =
       let all : AllByRecursion (λ y. t ≤ key y) (x ∷ left) = (le, each-weaker _ _ (λ y lt. omega (arith, le, lt)) left (ascending-head key x left (so_far.in_order refl))) in
-      read_is (x ∷ left) held t ∙ common_past (fold_key key) (turned_round (fold_merges key merges refuses)) keeps_turned (map Value (x ∷ left)) (map Value held) t (each-marked key (λ h. t ≤ h) (x ∷ left) all)
+      read_is (x ∷ left) content t ∙ common_past (fold_key key) (turned_round (fold_merges key merges refuses)) keeps_turned (map Value (x ∷ left)) (map Value content) t (each-marked key (λ h. t ≤ h) (x ∷ left) all)
 
   looked : (x : X) (o : Option X) → option_map (λ u. turned_round (fold_merges key merges refuses) (Value x) u) (option_map Value o) ≡ option_map (λ w. fold_merges key merges refuses (Value w) (Value x)) o
   looked x None = refl
   looked x (Some w) = refl
 
-  one_read : (held : List X) (x : X) (t : ℕ) (o : Option (Fold X)) → o ≡ read_one key merges refuses held t x →
-      option_map (λ u. turned_round (fold_merges key merges refuses) (Value x) u) (entry_at (fold_key key) (map Value (below key held t)) (key x)) ≡ o
-  one_read held x t o is =
-      ap (option_map (λ u. turned_round (fold_merges key merges refuses) (Value x) u)) (entry_at-map Value key (fold_key key) (λ y. refl) (below key held t) (key x)) ∙ looked x (entry_at key (below key held t) (key x)) ∙ sym is
+  one_read : (content : List X) (x : X) (t : ℕ) (o : Option (Fold X)) → o ≡ read_one key merges refuses content t x →
+      option_map (λ u. turned_round (fold_merges key merges refuses) (Value x) u) (entry_at (fold_key key) (map Value (below key content t)) (key x)) ≡ o
+  one_read content x t o is =
+      ap (option_map (λ u. turned_round (fold_merges key merges refuses) (Value x) u)) (entry_at-map Value key (fold_key key) (λ y. refl) (below key content t) (key x)) ∙ looked x (entry_at key (below key content t) (key x)) ∙ sym is
 
-  pub read_some : (left held : List X) (x z : X) (t : ℕ) → Some (Value z) ≡ read_one key merges refuses held t x → read_from key merges refuses (x ∷ left) held t ≡ Value z ∷ read_from key merges refuses left held t
-  read_some left held x z t is = rw (one_read held x t (Some (Value z)) is) refl
+  pub read_some : (left content : List X) (x z : X) (t : ℕ) → Some (Value z) ≡ read_one key merges refuses content t x → read_from key merges refuses (x ∷ left) content t ≡ Value z ∷ read_from key merges refuses left content t
+  read_some left content x z t is = rw (one_read content x t (Some (Value z)) is) refl
 
-  pub read_none : (left held : List X) (x : X) (t : ℕ) → None ≡ read_one key merges refuses held t x → read_from key merges refuses (x ∷ left) held t ≡ read_from key merges refuses left held t
-  read_none left held x t is = rw (one_read held x t None is) refl
+  pub read_none : (left content : List X) (x : X) (t : ℕ) → None ≡ read_one key merges refuses content t x → read_from key merges refuses (x ∷ left) content t ≡ read_from key merges refuses left content t
+  read_none left content x t is = rw (one_read content x t None is) refl
 
   -- the map of the entries read is the shared map
-  pub read_shares : (held : Retained X) (listing items : List X) (theta : ℕ) → IsAscending key held.entries → map Value items ≡ read_from key merges refuses listing held.entries (min held.theta theta) →
-      unmarked (record { entries = map_of key items; theta = min held.theta theta }) ≡ shared (fold_key key) (fold_merges key merges refuses) (unmarked held) (unmarked (record { entries = map_of key listing; theta = theta }))
-  read_shares held listing items theta up all =
-      let t = min held.theta theta in
+  pub read_shares : (content : Retained X) (listing items : List X) (theta : ℕ) → IsAscending key content.entries → map Value items ≡ read_from key merges refuses listing content.entries (min content.theta theta) →
+      unmarked (record { entries = map_of key items; theta = min content.theta theta }) ≡ shared (fold_key key) (fold_merges key merges refuses) (unmarked content) (unmarked (record { entries = map_of key listing; theta = theta }))
+  read_shares content listing items theta up all =
+      let t = min content.theta theta in
       let fk = fold_key key in
       let fm = fold_merges key merges refuses in
-      let entries : map Value (map_of key items) ≡ below fk (common fk fm (map Value held.entries) (map Value (map_of key listing))) t =
-      marked-map_of key items ∙ ap (map_of fk) (all ∙ read_is listing held.entries t)
-      ∙ common-map_of fk fm (fold_keeps key merges refuses keeps) (map Value held.entries) (map Value listing) t (ascending-marked key held.entries up)
-      ∙ ap (λ ys. below fk (common fk fm (map Value held.entries) ys) t) (sym (marked-map_of key listing)) in
+      let entries : map Value (map_of key items) ≡ below fk (common fk fm (map Value content.entries) (map Value (map_of key listing))) t =
+      marked-map_of key items ∙ ap (map_of fk) (all ∙ read_is listing content.entries t)
+      ∙ common-map_of fk fm (fold_keeps key merges refuses keeps) (map Value content.entries) (map Value listing) t (ascending-marked key content.entries up)
+      ∙ ap (λ ys. below fk (common fk fm (map Value content.entries) ys) t) (sym (marked-map_of key listing)) in
       ap (λ ys. record { entries = ys; theta = t }) entries
 
   -- one more entry is read
-  pub more_read : (items left held : List X) (x : X) (t : ℕ) (o : Option X) (all : List (Fold X)) → option_map Value o ≡ read_one key merges refuses held t x → map Value items ++ read_from key merges refuses (x ∷ left) held t ≡ all →
-      map Value (option_map_or (λ z. items ++ z ∷ []) o items) ++ read_from key merges refuses left held t ≡ all
-  more_read items left held x t None all is so_far = ap (λ ys. map Value items ++ ys) (sym (read_none left held x t is)) ∙ so_far
-  more_read items left held x t (Some z) all is so_far =
-      ap (λ ys. ys ++ read_from key merges refuses left held t) (map-append Value items (z ∷ []))
-      ∙ append_assoc (map Value items) (Value z ∷ []) (read_from key merges refuses left held t)
-      ∙ ap (λ ys. map Value items ++ ys) (sym (read_some left held x z t is)) ∙ so_far
+  pub more_read : (items left content : List X) (x : X) (t : ℕ) (o : Option X) (all : List (Fold X)) → option_map Value o ≡ read_one key merges refuses content t x → map Value items ++ read_from key merges refuses (x ∷ left) content t ≡ all →
+      map Value (option_map_or (λ z. items ++ z ∷ []) o items) ++ read_from key merges refuses left content t ≡ all
+  more_read items left content x t None all is so_far = ap (λ ys. map Value items ++ ys) (sym (read_none left content x t is)) ∙ so_far
+  more_read items left content x t (Some z) all is so_far =
+      ap (λ ys. ys ++ read_from key merges refuses left content t) (map-append Value items (z ∷ []))
+      ∙ append_assoc (map Value items) (Value z ∷ []) (read_from key merges refuses left content t)
+      ∙ ap (λ ys. map Value items ++ ys) (sym (read_some left content x z t is)) ∙ so_far

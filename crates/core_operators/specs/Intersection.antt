@@ -47,7 +47,7 @@ is_begun Held = true
 
 -- the invariant of an intersection: it has fewer than 2^32 entries
 pub record IsIntersection {X P : Type 0} (i : Intersection X P) : Type 0 where
-  pub few : option_map_or count_of i.result 0 < 2 ^ 32
+  pub limited : option_map_or count_of i.result 0 < 2 ^ 32
 
 -- whether the value is Empty for good
 abbrev pub is_settled : {X : Type 0} → Option (Sketch X) → Bool
@@ -56,10 +56,10 @@ is_settled (Some Empty) = true
 is_settled (Some (NonEmpty v)) = false
 
 -- the retained entries and theta of a value: no entries and the greatest theta if there is none or it is Empty
-abbrev pub held_of : {X : Type 0} → Option (Sketch X) → Retained X
-held_of None = none_below MAX_THETA
-held_of (Some Empty) = none_below MAX_THETA
-held_of (Some (NonEmpty v)) = v
+abbrev pub content_of : {X : Type 0} → Option (Sketch X) → Retained X
+content_of None = none_below MAX_THETA
+content_of (Some Empty) = none_below MAX_THETA
+content_of (Some (NonEmpty v)) = v
 
 -- the error of creating an intersection or a difference, for a seed whose hash is 0
 abbrev pub seed_refusal : (seed : ℕ) → Option ErrorKind
@@ -80,7 +80,7 @@ IsMet key merges refuses old new s listing =
 pub record IsCutShort {X : Type 0} (key : X → ℕ) (refuses : X → X → Bool) (old : Option (Sketch X)) (s : Shown) (entries : List X) (kind : ErrorKind) : Type 0 where
   pub nonempty : s.empty ≡ false
   pub unsettled : is_settled old ≡ false
-  pub why : (kind ≡ OutOfMemory) ⊎ ((kind ≡ Policy) × IsMergeRefused key refuses (below key (held_of old).entries (min (held_of old).theta s.theta)) entries)
+  pub why : (kind ≡ OutOfMemory) ⊎ ((kind ≡ Policy) × IsMergeRefused key refuses (below key (content_of old).entries (min (content_of old).theta s.theta)) entries)
 
 -- an error of an update, which leaves the intersection unchanged: that of `intersect_refusal`, or that of an update that
 -- broke off
@@ -88,28 +88,28 @@ abbrev pub IsIntersectError : {X P : Type 0} → (key : X → ℕ) → (refuses 
 IsIntersectError key refuses old new s listing e = (new ≡ old) × MatchOption (intersect_refusal old s) (IsCutShort key refuses old.result s listing e) (λ kind. e ≡ kind)
 
 -- a new table retains what an old one and an input of this theta share, in folds
-abbrev pub IsSharedMap : {X : Type 0} → (key : X → ℕ) → (merges : X → X → X) → (refuses : X → X → Bool) → (held : MapTable X) → (theta : ℕ) → (listing : List X) → (new : MapTable X) → Type 0
-IsSharedMap key merges refuses held theta listing new =
-    unmarked new.kept ≡ shared (fold_key key) (fold_merges key merges refuses) (unmarked held.kept) (unmarked (record { entries = map_of key listing; theta = theta }))
+abbrev pub IsSharedMap : {X : Type 0} → (key : X → ℕ) → (merges : X → X → X) → (refuses : X → X → Bool) → (content : MapTable X) → (theta : ℕ) → (listing : List X) → (new : MapTable X) → Type 0
+IsSharedMap key merges refuses content theta listing new =
+    unmarked new.kept ≡ shared (fold_key key) (fold_merges key merges refuses) (unmarked content.kept) (unmarked (record { entries = map_of key listing; theta = theta }))
 
 -- a value is that of a table met with an input that isn't Empty, in folds
-abbrev pub IsMetMap : {X : Type 0} → (key : X → ℕ) → (merges : X → X → X) → (refuses : X → X → Bool) → (held : MapTable X) → (theta : ℕ) → (listing : List X) → Option (Sketch X) → Type 0
-IsMetMap key merges refuses held theta listing value =
-    option_map unmarked_value value ≡ Some (meet_next (fold_key key) (fold_merges key merges refuses) (Some (NonEmpty (unmarked held.kept))) (NonEmpty (unmarked (record { entries = map_of key listing; theta = theta }))))
+abbrev pub IsMetMap : {X : Type 0} → (key : X → ℕ) → (merges : X → X → X) → (refuses : X → X → Bool) → (content : MapTable X) → (theta : ℕ) → (listing : List X) → Option (Sketch X) → Type 0
+IsMetMap key merges refuses content theta listing value =
+    option_map unmarked_value value ≡ Some (meet_next (fold_key key) (fold_merges key merges refuses) (Some (NonEmpty (unmarked content.kept))) (NonEmpty (unmarked (record { entries = map_of key listing; theta = theta }))))
 
 -- the entries of an input whose keys a table has below theta, in the input's order, each merged into the table's entry
-abbrev pub AreSharedFolds : {X : Type 0} → (key : X → ℕ) → (merges : X → X → X) → (refuses : X → X → Bool) → (held : MapTable X) → (theta : ℕ) → (listing : List X) → List X → Type 0
-AreSharedFolds key merges refuses held theta listing entries =
-    map Value entries ≡ common (fold_key key) (λ y x. fold_merges key merges refuses x y) (map Value listing) (map Value (below key held.kept.entries theta))
+abbrev pub AreSharedFolds : {X : Type 0} → (key : X → ℕ) → (merges : X → X → X) → (refuses : X → X → Bool) → (content : MapTable X) → (theta : ℕ) → (listing : List X) → List X → Type 0
+AreSharedFolds key merges refuses content theta listing entries =
+    map Value entries ≡ common (fold_key key) (λ y x. fold_merges key merges refuses x y) (map Value listing) (map Value (below key content.kept.entries theta))
 
 -- the table's entry below theta of an incoming entry's key, merged with the incoming one; none if there is none
-abbrev pub IsSharedFold : {X : Type 0} → (key : X → ℕ) → (merges : X → X → X) → (refuses : X → X → Bool) → (held : MapTable X) → (theta : ℕ) → (incoming : X) → Option X → Type 0
-IsSharedFold key merges refuses held theta incoming entry =
-    option_map Value entry ≡ option_map (λ x. fold_merges key merges refuses (Value x) (Value incoming)) (entry_at key (below key held.kept.entries theta) (key incoming))
+abbrev pub IsSharedFold : {X : Type 0} → (key : X → ℕ) → (merges : X → X → X) → (refuses : X → X → Bool) → (content : MapTable X) → (theta : ℕ) → (incoming : X) → Option X → Type 0
+IsSharedFold key merges refuses content theta incoming entry =
+    option_map Value entry ≡ option_map (λ x. fold_merges key merges refuses (Value x) (Value incoming)) (entry_at key (below key content.kept.entries theta) (key incoming))
 
 -- whether two maps share no keys, though both have some and theta is the greatest
-abbrev pub is_nothing_left : (theta held come shared : ℕ) → Bool
-is_nothing_left theta held come shared = theta == MAX_THETA && (not (held == 0) && (not (come == 0) && shared == 0))
+abbrev pub is_nothing_left : (theta content arriving shared : ℕ) → Bool
+is_nothing_left theta content arriving shared = theta == MAX_THETA && (not (content == 0) && (not (arriving == 0) && shared == 0))
 
 -- the result has this value, or there is neither a result nor a value
 abbrev pub IsAnswerIfAny : {X : Type 0} → (X → ℕ) → Option (Sketch X) → (hash : ℕ) → (requested : Bool) → Option (Compact X) → Type 0

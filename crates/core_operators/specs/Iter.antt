@@ -5,12 +5,12 @@ use Rattle.core_operators.specs.declared.iter.Source.{Source}
 use Rattle.core_operators.specs.declared.iter.Source.TheVariants.{Table, Slice}
 
 -- what an iterator has left, and whether it knows how many items these are
-pub record Lending (X : Type 0) : Type 0 where
+pub record Remaining (X : Type 0) : Type 0 where
   pub rest : List X
   pub counted : Bool
 
 -- the entries left of a table or of a slice
-abbrev pub left_in : {X S : Type 0} → Source X S → Lending X
+abbrev pub left_in : {X S : Type 0} → Source X S → Remaining X
 left_in (Table entries) = record { rest = entries; counted = false }
 left_in (Slice entries) = record { rest = entries.now; counted = true }
 

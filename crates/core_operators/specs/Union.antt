@@ -22,7 +22,7 @@ use Rattle.core_table.specs.HashTable.{MapTable}
 pub record Union (X P : Type 0) : Type 0 where
   pub empty : Bool
   pub failed : Bool
-  pub held : Retained X
+  pub content : Retained X
   pub lg_k : ℕ
   pub start : ℕ
   pub seed_hash : ℕ
@@ -30,25 +30,25 @@ pub record Union (X P : Type 0) : Type 0 where
 
 -- an empty union
 abbrev pub empty_union : {X P : Type 0} → (lg_k start hash : ℕ) → P → Union X P
-empty_union lg_k start hash policy = record { empty = true; failed = false; held = none_below start; lg_k = lg_k; start = start; seed_hash = hash; policy = policy }
+empty_union lg_k start hash policy = record { empty = true; failed = false; content = none_below start; lg_k = lg_k; start = start; seed_hash = hash; policy = policy }
 
 -- the value of a union: its retained entries, cut to its nominal entries
 abbrev pub union_value : {X P : Type 0} → (X → ℕ) → Union X P → Sketch X
-union_value key u = if u.empty then Empty else NonEmpty (cut key (2 ^ u.lg_k) u.held.entries u.held.theta)
+union_value key u = if u.empty then Empty else NonEmpty (cut key (2 ^ u.lg_k) u.content.entries u.content.theta)
 
 -- the invariant of a union: its nominal entries are in range. If it hasn't failed, its theta is at most its start, and
 -- if it is also empty, it has no entries and its theta is its start
 pub record IsUnion {X P : Type 0} (u : Union X P) : Type 0 where
   pub lg_k_low : MIN_LG_K ≤ u.lg_k
   pub lg_k_high : u.lg_k ≤ MAX_LG_K
-  pub theta_high : u.failed ≡ false → u.held.theta ≤ u.start
-  pub none_held : u.failed ≡ false → u.empty ≡ true → u.held ≡ none_below u.start
+  pub theta_high : u.failed ≡ false → u.content.theta ≤ u.start
+  pub none_held : u.failed ≡ false → u.empty ≡ true → u.content ≡ none_below u.start
 
 -- a union whose theta is at least 1 and at most its table's
 pub record IsUnionBelow {X P : Type 0} (table_theta : ℕ) (u : Union X P) : Type 0 where
   pub union : IsUnion u
-  pub theta_low : 0 < u.held.theta
-  pub theta_within : u.held.theta ≤ table_theta
+  pub theta_low : 0 < u.content.theta
+  pub theta_within : u.content.theta ≤ table_theta
 
 -- the error of an update before anything is merged: a failed union refuses every input, an empty input is not checked,
 -- another seed is refused
@@ -70,12 +70,12 @@ lower_allocates u lg_k = not u.failed && (nat_le MIN_LG_K lg_k && nat_lt lg_k u.
 
 -- a union lowered to 2^`lg_k` nominal entries: its retained entries are cut to those. With its own `lg_k` it is unchanged
 abbrev pub lowered : {X P : Type 0} → (X → ℕ) → (lg_k : ℕ) → Union X P → Union X P
-lowered key lg_k u = if lg_k == u.lg_k then u else record u { held = cut key (2 ^ lg_k) u.held.entries u.held.theta; lg_k = lg_k }
+lowered key lg_k u = if lg_k == u.lg_k then u else record u { content = cut key (2 ^ lg_k) u.content.entries u.content.theta; lg_k = lg_k }
 
 -- a nonempty input was merged: the union retains all of the joined map below some lawful theta, and no mark of a refusal
 pub record IsJoined {X P : Type 0} (key : X → ℕ) (merges : X → X → X) (refuses : X → X → Bool) (old new : Union X P) (theta : ℕ) (entries : List X) : Type 0 where
-  pub whole : (let m = min old.held.theta theta in IsWithin (fold_key key) (2 ^ old.lg_k) m (unmarked new.held) (joined (fold_key key) (fold_merges key merges refuses) (map Value (below key old.held.entries m)) (map Value (below key entries m))))
-  pub made_with : new ≡ record old { empty = false; held = new.held }
+  pub whole : (let m = min old.content.theta theta in IsWithin (fold_key key) (2 ^ old.lg_k) m (unmarked new.content) (joined (fold_key key) (fold_merges key merges refuses) (map Value (below key old.content.entries m)) (map Value (below key entries m))))
+  pub made_with : new ≡ record old { empty = false; content = new.content }
 
 -- the new table has the map of the old one, in folds, after the entries below theta were merged into it one after another
 abbrev pub HasMerged : {X : Type 0} → (key : X → ℕ) → (merges : X → X → X) → (refuses : X → X → Bool) → (entries : List X) → (theta : ℕ) → (old new : MapTable X) → Type 0
@@ -92,23 +92,23 @@ UnitesShown key merges refuses old new s listing =
     s.empty ≡ false → unmarked_value (union_value key new) ≡ unite (fold_key key) (fold_merges key merges refuses) (2 ^ old.lg_k) old.start (unmarked_value (union_value key old) ∷ unmarked_value (shown_value key s listing) ∷ [])
 
 -- a policy refuses the retained and the incoming entry of some key
-pub record IsMergeRefused {X : Type 0} (key : X → ℕ) (refuses : X → X → Bool) (held come : List X) : Type 0 where
+pub record IsMergeRefused {X : Type 0} (key : X → ℕ) (refuses : X → X → Bool) (content arriving : List X) : Type 0 where
   pub at : ℕ
   pub held_entry : X
   pub new_entry : X
-  pub is_held : entry_at key held at ≡ Some held_entry
-  pub comes : entry_at key come at ≡ Some new_entry
+  pub is_held : entry_at key content at ≡ Some held_entry
+  pub comes : entry_at key arriving at ≡ Some new_entry
   pub refused : refuses held_entry new_entry ≡ true
 
 -- an error of merges: memory ran out, or the policy refuses a held entry below a theta with an input's entry at its key
-abbrev pub IsMergeRefusal : {X : Type 0} → (key : X → ℕ) → (refuses : X → X → Bool) → (held : List X) → (theta : ℕ) → (entries : List X) → ErrorKind → Type 0
-IsMergeRefusal key refuses held theta entries kind = (kind ≡ OutOfMemory) ⊎ ((kind ≡ Policy) × IsMergeRefused key refuses (below key held theta) entries)
+abbrev pub IsMergeRefusal : {X : Type 0} → (key : X → ℕ) → (refuses : X → X → Bool) → (content : List X) → (theta : ℕ) → (entries : List X) → ErrorKind → Type 0
+IsMergeRefusal key refuses content theta entries kind = (kind ≡ OutOfMemory) ⊎ ((kind ≡ Policy) × IsMergeRefused key refuses (below key content theta) entries)
 
 -- a merge broke off: memory ran out, or the policy refused the entries of a key below the least theta; the union has failed
 pub record IsBroken {X P : Type 0} (key : X → ℕ) (refuses : X → X → Bool) (old new : Union X P) (s : Shown) (entries : List X) (kind : ErrorKind) : Type 0 where
   pub nonempty : s.empty ≡ false
-  pub why : (kind ≡ OutOfMemory) ⊎ ((kind ≡ Policy) × IsMergeRefused key refuses (below key old.held.entries (min old.held.theta s.theta)) entries)
-  pub made_with : new ≡ record old { failed = true; held = new.held }
+  pub why : (kind ≡ OutOfMemory) ⊎ ((kind ≡ Policy) × IsMergeRefused key refuses (below key old.content.entries (min old.content.theta s.theta)) entries)
+  pub made_with : new ≡ record old { failed = true; content = new.content }
 
 -- an error of an update: that of `update_refusal`, with the union unchanged, or that of a merge that broke off
 abbrev pub IsUpdateError : {X P : Type 0} → (key : X → ℕ) → (refuses : X → X → Bool) → (old new : Union X P) → Shown → List X → ErrorKind → Type 0
@@ -135,4 +135,4 @@ UnitesHashes old new s listing =
 -- an input that isn't Empty, and the union has failed
 abbrev pub IsHashUpdateError : {P : Type 0} → (old new : Union ℕ P) → Shown → ErrorKind → Type 0
 IsHashUpdateError old new s e =
-    MatchOption (update_refusal old s) ((s.empty ≡ false) × (e ≡ OutOfMemory) × (new ≡ record old { failed = true; held = new.held })) (λ kind. (e ≡ kind) × (new ≡ old))
+    MatchOption (update_refusal old s) ((s.empty ≡ false) × (e ≡ OutOfMemory) × (new ≡ record old { failed = true; content = new.content })) (λ kind. (e ≡ kind) × (new ≡ old))

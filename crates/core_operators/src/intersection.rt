@@ -2,7 +2,7 @@
 ghost use Rattle.std.specs.Prelude.{◌≡◌, ◌==◌, ◌<◌, ◌^◌, ◌⊎◌, Some, None, true, false, is_some, if◌then◌else◌, length, min, IfOk, IfErr, OnOk};
 ghost use Rattle.std.specs.Option.{option_map_or};
 ghost use Rattle.sketch_base.specs.Seed.{seed_hash};
-ghost use Rattle.core_operators.specs.Intersection.{Intersection, IsIntersection, IsMet, IsAnswerIfAny, new_intersection, outcome_value, held_of, seed_refusal, intersect_refusal, is_settled_outcome, is_begun, is_nothing_left, IsIntersectError, IsMetMap};
+ghost use Rattle.core_operators.specs.Intersection.{Intersection, IsIntersection, IsMet, IsAnswerIfAny, new_intersection, outcome_value, content_of, seed_refusal, intersect_refusal, is_settled_outcome, is_begun, is_nothing_left, IsIntersectError, IsMetMap};
 ghost use Rattle.core_operators.specs.declared.intersection.Outcome.TheVariants.{Nothing, Held};
 ghost use Rattle.core_laws.specs.Refusal.{Refuses};
 ghost use Rattle.core_laws.specs.Values.{NonEmpty, count_of};
@@ -109,7 +109,7 @@ impl<
         ensures accepted { OnOk result (intersect_refusal self.old (S.shown sketch) ≡ None) }
         ensures refused { IfErr result (IsIntersectError E.key (P.refuses self.old.policy) self.old self.new (S.shown sketch) (S.listing sketch)) }
         ensures sound { IsIntersection self.old }
-        ensures held { IsRetained E.key (held_of self.old.result) }
+        ensures content { IsRetained E.key (content_of self.old.result) }
     {
         // Called for its contract: the table's entries keep the laws of a sketch value.
         let _ = self.table.retention_theta();
@@ -186,11 +186,11 @@ where
     requires in_order { ordered ≡ (S.shown sketch).ordered }
     requires of_theta { theta ≡ (S.shown sketch).theta }
     requires counted { count ≡ length (S.shown sketch).hashes }
-    requires few { length table.old.map.kept.entries < 2 ^ 32 }
+    requires limited { length table.old.map.kept.entries < 2 ^ 32 }
     ensures met { IfOk result (λ o.
         IsMetMap S.Entry.key (P.merges policy.now) (P.refuses policy.now) table.old.map theta (S.listing sketch)
         (outcome_value o table.new.map.kept)) }
-    ensures few { IfOk result (λ o. option_map_or count_of (outcome_value o table.new.map.kept) 0 < 2 ^ 32) }
+    ensures limited { IfOk result (λ o. option_map_or count_of (outcome_value o table.new.map.kept) 0 < 2 ^ 32) }
     ensures same_seed { IfOk result (λ _. table.new.map.seed_hash ≡ table.old.map.seed_hash) }
     ensures refused { let kept = table.old.map.kept in
         IfErr result (λ e.
@@ -198,14 +198,14 @@ where
         × IsMergeRefusal S.Entry.key (P.refuses policy.now) kept.entries (min kept.theta theta) (S.listing sketch)
         e) }
 {
-    let held = table.num_retained();
-    if held == 0 {
+    let content = table.num_retained();
+    if content == 0 {
         let lesser = table.retention_theta().min(theta);
         table.set_retention_theta(lesser);
         return Ok(Outcome::Held);
     }
     let next = shared_table(table, sketch, policy, ordered, theta)?;
-    let outcome = outcome_of(next.retention_theta(), held, count, next.num_retained());
+    let outcome = outcome_of(next.retention_theta(), content, count, next.num_retained());
     *table = next;
     Ok(outcome)
 }
@@ -230,12 +230,12 @@ fn has_begun(outcome: Outcome) -> bool
     }
 }
 
-/// The outcome if the table had `held` hashes, the sketch `come`, and both share `shared` below `theta`: Empty if both
+/// The outcome if the table had `content` hashes, the sketch `arriving`, and both share `shared` below `theta`: Empty if both
 /// had some, share none, and theta is the greatest.
-fn outcome_of(theta: u64, held: usize, come: usize, shared: usize) -> Outcome
-    ensures { result ≡ if is_nothing_left theta held come shared then Nothing else Held }
+fn outcome_of(theta: u64, content: usize, arriving: usize, shared: usize) -> Outcome
+    ensures { result ≡ if is_nothing_left theta content arriving shared then Nothing else Held }
 {
-    if theta == MAX_THETA && held != 0 && come != 0 && shared == 0 {
+    if theta == MAX_THETA && content != 0 && arriving != 0 && shared == 0 {
         Outcome::Nothing
     } else {
         Outcome::Held

@@ -23,9 +23,9 @@ pub struct EntryIter<'a, E: SlotEntry> {
 }
 
 impl<'a, E: SlotEntry> Model for EntryIter<'a, E> {
-    ghost use Rattle.core_operators.specs.Iter.{Lending};
+    ghost use Rattle.core_operators.specs.Iter.{Remaining};
 
-    ghost Value = { Lending E };
+    ghost Value = { Remaining E };
 
     ghost use Rattle.core_operators.specs.Iter.{left_in};
 
@@ -46,8 +46,8 @@ impl<'a, E: SlotEntry> EntryIter<'a, E> {
 impl<'a, E: SlotEntry> EntryIter<'a, E> {
     /// The entries of a table, each once, in an unspecified order.
     pub fn of_table<A: Allocator>(table: &'a SketchHashTable<E, A>) -> Self
-        ensures listed { result ≡ record { rest = table.entry.now.lends; counted = false } }
-        ensures each_once { IsListing E.key table.entry.now.map.kept.entries table.entry.now.lends }
+        ensures listed { result ≡ record { rest = table.entry.now.sequence; counted = false } }
+        ensures each_once { IsListing E.key table.entry.now.map.kept.entries table.entry.now.sequence }
     {
         EntryIter {
             source: Source::Table(table.iter_entries()),
@@ -138,9 +138,9 @@ pub struct HashIter<'a, E: SlotEntry> {
 
 impl<'a, E: SlotEntry> Model for HashIter<'a, E> {
     ghost use Rattle.std.specs.Prelude.{ℕ, map};
-    ghost use Rattle.core_operators.specs.Iter.{Lending};
+    ghost use Rattle.core_operators.specs.Iter.{Remaining};
 
-    ghost Value = { Lending ℕ };
+    ghost Value = { Remaining ℕ };
 
     ghost view = { λ s. record { rest = map E.key s.entries.rest; counted = s.entries.counted } };
 }

@@ -51,7 +51,7 @@ fn sift<'a, 'b, E: SketchEntry, F: SketchEntry>(
     ensures whole { result.count < 64
         → lacking E.key F.key (below E.key result.entries.now theta) result.others.now
         ≡ below E.key result.entries.now theta }
-    ensures few { result.count ≤ 64 }
+    ensures limited { result.count ≤ 64 }
     ensures room { length kept.new ≡ 64 }
     ensures fewer { result.count + length result.entries.now ≤ length entries.entry.now }
 {

@@ -39,12 +39,12 @@ pub(crate) fn table_of<E: SlotEntry + Drop, A: Allocator + Clone>(
     requires apart { IsApart E.key entries.items }
     requires nonzero { AllByRecursion (λ x. 0 < E.key x) entries.items }
     requires below_theta { AllByRecursion (λ x. E.key x < theta) entries.items }
-    requires few { length entries.items < 2 ^ 32 }
+    requires limited { length entries.items < 2 ^ 32 }
     requires theta_low { 0 < theta }
     requires theta_high { theta ≤ MAX_THETA }
     requires of_seed { IsSeedHash seed seed_hash }
     ensures kept { IfOk result (λ t. t.map.kept ≡ record { entries = map_of E.key entries.items; theta = theta }) }
-    ensures few { IfOk result (λ t. length t.map.kept.entries < 2 ^ 32) }
+    ensures limited { IfOk result (λ t. length t.map.kept.entries < 2 ^ 32) }
     ensures same_seed { IfOk result (λ t. t.map.seed_hash ≡ seed_hash) }
     ensures refused { Refuses result None true }
 {
@@ -92,7 +92,7 @@ where
     requires of_theta { theta ≡ (S.shown sketch).theta }
     requires sound { IsShown (S.shown sketch) }
     ensures kept { IfOk result (λ t. t.map.kept ≡ record { entries = map_of S.Entry.key (S.listing sketch); theta = theta }) }
-    ensures few { IfOk result (λ t. length t.map.kept.entries < 2 ^ 32) }
+    ensures limited { IfOk result (λ t. length t.map.kept.entries < 2 ^ 32) }
     ensures same_seed { IfOk result (λ t. t.map.seed_hash ≡ like.now.map.seed_hash) }
     ensures refused { Refuses result None true }
 {
@@ -105,20 +105,20 @@ where
 /// Combines the table's entry of the incoming entry's hash with the incoming entry by the policy; `None` if the table
 /// has none or the hash is not below theta.
 fn shared_entry<E: SlotEntry + Clone, P: IntersectionMergePolicy<E>, A: Allocator>(
-    held: &SketchHashTable<E, A>,
+    content: &SketchHashTable<E, A>,
     incoming: &E,
     policy: &P,
     theta: u64,
 ) -> Result<Option<E>, Error>
     requires clones_equal { ClonesEqual E.is_clone }
-    ensures combined { IfOk result (λ o. IsSharedFold E.key (P.merges policy.now) (P.refuses policy.now) held.now.map theta incoming.now o) }
-    ensures refused { IfErr result (IsMergeRefusal E.key (P.refuses policy.now) held.now.map.kept.entries theta (incoming.now ∷ [])) }
+    ensures combined { IfOk result (λ o. IsSharedFold E.key (P.merges policy.now) (P.refuses policy.now) content.now.map theta incoming.now o) }
+    ensures refused { IfErr result (IsMergeRefusal E.key (P.refuses policy.now) content.now.map.kept.entries theta (incoming.now ∷ [])) }
 {
     let hash = incoming.hash();
     if hash >= theta {
         return Ok(None);
     }
-    match held.entry(hash) {
+    match content.entry(hash) {
         None => Ok(None),
         Some(existing) => {
             let mut merged = existing.clone()?;
@@ -147,7 +147,7 @@ fn push_found<E: Drop, A: Allocator>(
 /// The entries that a table and a sketch share below theta, combined by the policy, in the sketch's order. If the
 /// sketch's hashes ascend, it stops at the first that is not below theta.
 fn shared_entries<S: EntrySketch, P: IntersectionMergePolicy<S::Entry>, A: Allocator + Clone>(
-    held: &SketchHashTable<S::Entry, A>,
+    content: &SketchHashTable<S::Entry, A>,
     sketch: S,
     policy: &P,
     ordered: bool,
@@ -158,20 +158,20 @@ where
     requires clones_equal { ClonesEqual S.Entry.is_clone }
     requires in_order { ordered ≡ (S.shown sketch).ordered }
     ensures all { IfOk result (λ v.
-        AreSharedFolds S.Entry.key (P.merges policy.now) (P.refuses policy.now) held.now.map theta
+        AreSharedFolds S.Entry.key (P.merges policy.now) (P.refuses policy.now) content.now.map theta
         (S.listing sketch) v.items) }
     ensures listed { map S.Entry.key (S.listing sketch) ≡ (S.shown sketch).hashes }
-    ensures refused { IfErr result (IsMergeRefusal S.Entry.key (P.refuses policy.now) held.now.map.kept.entries theta (S.listing sketch)) }
+    ensures refused { IfErr result (IsMergeRefusal S.Entry.key (P.refuses policy.now) content.now.map.kept.entries theta (S.listing sketch)) }
 {
     let items = sketch.entries();
-    let alloc = held.allocator().clone()?;
+    let alloc = content.allocator().clone()?;
     let mut entries = Vec::new(alloc);
     'share_each: for entry in items {
         let hash = entry.hash();
         if is_past(ordered, hash, theta) {
             break;
         }
-        let found = shared_entry(held, entry, policy, theta)?;
+        let found = shared_entry(content, entry, policy, theta)?;
         push_found(&mut entries, found)?;
     }
     Ok(entries)
@@ -184,7 +184,7 @@ pub(crate) fn shared_table<
     P: IntersectionMergePolicy<S::Entry>,
     A: Allocator + Clone,
 >(
-    held: &SketchHashTable<S::Entry, A>,
+    content: &SketchHashTable<S::Entry, A>,
     sketch: S,
     policy: &P,
     ordered: bool,
@@ -197,17 +197,17 @@ where
     requires of_theta { theta ≡ (S.shown sketch).theta }
     requires sound { IsShown (S.shown sketch) }
     ensures kept { IfOk result (λ t.
-        IsSharedMap S.Entry.key (P.merges policy.now) (P.refuses policy.now) held.now.map theta (S.listing sketch)
+        IsSharedMap S.Entry.key (P.merges policy.now) (P.refuses policy.now) content.now.map theta (S.listing sketch)
         t.map) }
-    ensures few { IfOk result (λ t. length t.map.kept.entries < 2 ^ 32) }
-    ensures same_seed { IfOk result (λ t. t.map.seed_hash ≡ held.now.map.seed_hash) }
+    ensures limited { IfOk result (λ t. length t.map.kept.entries < 2 ^ 32) }
+    ensures same_seed { IfOk result (λ t. t.map.seed_hash ≡ content.now.map.seed_hash) }
     ensures listed { IfOk result (λ t. map S.Entry.key (S.listing sketch) ≡ (S.shown sketch).hashes) }
-    ensures refused { let kept = held.now.map.kept in
+    ensures refused { let kept = content.now.map.kept in
         IfErr result (
         IsMergeRefusal S.Entry.key (P.refuses policy.now) kept.entries (min kept.theta theta) (S.listing sketch)) }
 {
-    let lesser = held.retention_theta().min(theta);
-    let entries = shared_entries(held, sketch, policy, ordered, lesser)?;
-    let table = table_of(entries, lesser, held.seed(), held.seed_hash())?;
+    let lesser = content.retention_theta().min(theta);
+    let entries = shared_entries(content, sketch, policy, ordered, lesser)?;
+    let table = table_of(entries, lesser, content.seed(), content.seed_hash())?;
     Ok(table)
 }

@@ -42,9 +42,9 @@ impl<E: SlotEntry, P, A: Allocator> Model for UnionState<E, P, A> {
 
     ghost Value = { Union E P };
 
-    ghost view = { λ u. record { empty = u.empty; failed = u.failed; held = retained E.key u.table.map.kept.entries u.theta; lg_k = u.table.map.lg_nom; start = u.table.map.start; seed_hash = u.table.map.seed_hash; policy = u.policy } };
+    ghost view = { λ u. record { empty = u.empty; failed = u.failed; content = retained E.key u.table.map.kept.entries u.theta; lg_k = u.table.map.lg_nom; start = u.table.map.start; seed_hash = u.table.map.seed_hash; policy = u.policy } };
 
-    ghost invariant = { λ u. IsUnionBelow u.table.map.kept.theta (record { empty = u.empty; failed = u.failed; held = retained E.key u.table.map.kept.entries u.theta; lg_k = u.table.map.lg_nom; start = u.table.map.start; seed_hash = u.table.map.seed_hash; policy = u.policy }) };
+    ghost invariant = { λ u. IsUnionBelow u.table.map.kept.theta (record { empty = u.empty; failed = u.failed; content = retained E.key u.table.map.kept.entries u.theta; lg_k = u.table.map.lg_nom; start = u.table.map.start; seed_hash = u.table.map.seed_hash; policy = u.policy }) };
 }
 
 impl<E: SlotEntry + Drop, P: Drop, A: Allocator + Drop> UnionState<E, P, A> {
@@ -105,7 +105,7 @@ impl<E: SlotEntry + Clone, P: UnionMergePolicy<E> + Drop, A: Allocator + Clone> 
         ensures accepted { OnOk result (update_refusal self.old (S.shown sketch) ≡ None) }
         ensures refused { IfErr result (IsUpdateError E.key (P.refuses self.old.policy) self.old self.new (S.shown sketch) (S.listing sketch)) }
         ensures sound { IsUnion self.old }
-        ensures held { IsRetained E.key self.old.held }
+        ensures content { IsRetained E.key self.old.content }
     {
         // Called for its contract: the table's entries keep the laws of a sketch value.
         let _ = self.table.retention_theta();
@@ -149,7 +149,7 @@ impl<E: SlotEntry + Clone, P: UnionMergePolicy<E> + Drop, A: Allocator + Clone> 
         ensures err { OnErr result (self.new ≡ self.old) }
         ensures refused { Refuses result (lower_refusal self.old lg_k) (lower_allocates self.old lg_k) }
         ensures sound { IsUnion self.old }
-        ensures held { IsRetained E.key self.old.held }
+        ensures content { IsRetained E.key self.old.content }
     {
         // Called for its clause: the table's entries ascend.
         let _ = self.table.retention_theta();

@@ -74,10 +74,10 @@ module _ {S U : Type 0} (creates : Option S) (updates : S → U → Option S) wh
       ∙ hit w fresh h (key_of-fold h (first_summary creates updates u))
   at-key h u (x ∷ us) w e =
       let step : Step (Fold (TupleEntry S)) = folded tuple_key h (update_step creates updates h u) in
-      let held : Option S = after_values updates creates (x ∷ us) in
-      let then : Option S = option_and_then (λ s. updates s u) held in
+      let content : Option S = after_values updates creates (x ∷ us) in
+      let then : Option S = option_and_then (λ s. updates s u) content in
       ap (λ o. entry_at (fold_key tuple_key) (option_map_or (λ y. with_entry (fold_key tuple_key) w (step.writes y)) o (option_map_or (λ y. with_entry (fold_key tuple_key) w y) step.makes w)) h) e
-      ∙ ap (λ f. entry_at (fold_key tuple_key) (with_entry (fold_key tuple_key) w f) h) (written h u held)
+      ∙ ap (λ f. entry_at (fold_key tuple_key) (with_entry (fold_key tuple_key) w f) h) (written h u content)
       ∙ hit w (fold_of h then) h (key_of-fold h then)
       ∙ ap (λ o. Some (fold_of h o)) (sym (after-append creates (x ∷ us) u))
 

@@ -1,5 +1,5 @@
 pub mod Strides
-pub mod Layouts
+pub mod SlotLayouts
 pub mod Moves
 pub mod Held
 pub mod Ranks

@@ -8,18 +8,18 @@ use Rattle.std.proofs.lemmas.List.Elements.{filter-append}
 use Rattle.core_laws.specs.Maps.{entry_at}
 use Rattle.core_laws.specs.Insertion.{is_screened, IsRedundant, Drops}
 use Rattle.core_laws.proofs.insertions.DroppedHashes.{left_out_again, left_out-filter}
-use Rattle.core_slots.specs.Layout.{filled}
+use Rattle.core_slots.specs.SlotLayout.{filled}
 use Rattle.core_slots.specs.Lookup.{IsBlanked}
 
 -- of the first i hashes those that pass were moved to the front, `count` in all; the others are unchanged
 pub record IsPacking (screens : ℕ → Bool) (old new : List ℕ) (i count : ℕ) : Type 0 where
   pub size : length new ≡ length old
-  pub few : count ≤ i
+  pub limited : count ≤ i
   pub packed : take count new ≡ filter (λ h. not (screens h)) (take i old)
   pub others : (q : ℕ) → i ≤ q → get_or new q 0 ≡ get_or old q 0
 
 pub packing_begins : (screens : ℕ → Bool) (old : List ℕ) → IsPacking screens old old 0 0
-packing_begins screens old = record { size = refl; few = omega arith; packed = refl; others = λ q le. refl }
+packing_begins screens old = record { size = refl; limited = omega arith; packed = refl; others = λ q le. refl }
 
 -- one more hash is moved
 module _ (screens : ℕ → Bool) (old new : List ℕ) (i count h : ℕ) (lt : i < length new) (is : h ≡ get_or new i 0) (was : IsPacking screens old new i count) where
@@ -32,7 +32,7 @@ module _ (screens : ℕ → Bool) (old new : List ℕ) (i count h : ℕ) (lt : i
 
   others_more : (q : ℕ) → i + 1 ≤ q → get_or (set new count h) q 0 ≡ get_or old q 0
   others_more q le =
-      let past : q ≢ count = λ same. absurd (omega (arith, same, le, was.few)) in
+      let past : q ≢ count = λ same. absurd (omega (arith, same, le, was.limited)) in
       get_or-set_other new count q h 0 past ∙ was.others q (omega arith)
 
   pub packed_more : (more : ℕ) → more ≡ count + cond (screens h) 0 1 → IsPacking screens old (set new count h) (i + 1) more
@@ -43,7 +43,7 @@ module _ (screens : ℕ → Bool) (old new : List ℕ) (i count h : ℕ) (lt : i
             let none : filter (λ x. not (screens x)) (h ∷ []) ≡ [] = rw out refl in
             record {
               size = length-set new count h ∙ was.size;
-              few = omega (arith, was.few);
+              limited = omega (arith, was.limited);
               packed = ap (λ (m : ℕ). take m (set new count h)) (sym same) ∙ take-set new count h ∙ was.packed ∙ sym (append-nil _) ∙ ap (λ xs. filter (λ x. not (screens x)) (take i old) ++ xs) (sym none) ∙ sym one_more;
               others = others_more;
             }
@@ -52,8 +52,8 @@ module _ (screens : ℕ → Bool) (old new : List ℕ) (i count h : ℕ) (lt : i
             let one : filter (λ x. not (screens x)) (h ∷ []) ≡ h ∷ [] = rw stays refl in
             record {
               size = length-set new count h ∙ was.size;
-              few = omega (arith, was.few);
-              packed = ap (λ (m : ℕ). take m (set new count h)) (sym same) ∙ take_more_set new count h (omega (arith, was.few, lt)) ∙ ap (λ xs. xs ++ h ∷ []) was.packed ∙ ap (λ xs. filter (λ x. not (screens x)) (take i old) ++ xs) (sym one) ∙ sym one_more;
+              limited = omega (arith, was.limited);
+              packed = ap (λ (m : ℕ). take m (set new count h)) (sym same) ∙ take_more_set new count h (omega (arith, was.limited, lt)) ∙ ap (λ xs. xs ++ h ∷ []) was.packed ∙ ap (λ xs. filter (λ x. not (screens x)) (take i old) ++ xs) (sym one) ∙ sym one_more;
               others = others_more;
             }
       ]) refl e
@@ -62,30 +62,30 @@ pub packed_whole : (screens : ℕ → Bool) (old new : List ℕ) (i count : ℕ)
 packed_whole screens old new i count le was = was.packed ∙ ap (filter (λ h. not (screens h))) (take_all i old le)
 
 -- the entry in a slot is one of the entries
-module _ {S X : Type 0} (key : X → ℕ) (held : S → Option X) where
-  held_in : (slots : List S) (at : ℕ) (s : S) (x : X) → at < length slots → s ≡ get_or slots at s → held s ≡ Some x → IsSome (entry_at key (filled (map held slots)) (key x))
+module _ {S X : Type 0} (key : X → ℕ) (content : S → Option X) where
+  held_in : (slots : List S) (at : ℕ) (s : S) (x : X) → at < length slots → s ≡ get_or slots at s → content s ≡ Some x → IsSome (entry_at key (filled (map content slots)) (key x))
   held_in [] at s x lt is holds = absurd (omega (arith, lt))
   held_in (t ∷ slots) zero s x lt is holds =
-      let same : held t ≡ Some x = ap held (sym is) ∙ holds in
+      let same : content t ≡ Some x = ap content (sym is) ∙ holds in
       let e : eqb (key x) (key x) ≡ true = grind (arith, nat_tests) in
       rw (same, e) refl
   held_in (t ∷ slots) (suc at) s x lt is holds =
       let rest = held_in slots at s x (omega (arith, lt)) is holds in
-      elim (held t) as (λ o. IsSome (entry_at key (filled (o ∷ map held slots)) (key x))) [
+      elim (content t) as (λ o. IsSome (entry_at key (filled (o ∷ map content slots)) (key x))) [
         | None ↦ rest
-        | Some y ↦ elim (eqb (key y) (key x)) as (λ b. IsSome (cond b (Some y) (entry_at key (filled (map held slots)) (key x)))) [ true ↦ refl | false ↦ rest ]
+        | Some y ↦ elim (eqb (key y) (key x)) as (λ b. IsSome (cond b (Some y) (entry_at key (filled (map content slots)) (key x)))) [ true ↦ refl | false ↦ rest ]
       ]
 
-  blanked_by : (slots : List S) (at hash : ℕ) (s : S) → at < length slots → s ≡ get_or slots at s → (o : Option X) → held s ≡ o → hash ≡ unwrap_or (option_map key o) 0 → IsBlanked key (filled (map held slots)) hash 0
+  blanked_by : (slots : List S) (at hash : ℕ) (s : S) → at < length slots → s ≡ get_or slots at s → (o : Option X) → content s ≡ o → hash ≡ unwrap_or (option_map key o) 0 → IsBlanked key (filled (map content slots)) hash 0
   blanked_by slots at hash s lt is None holds same = inl (sym same)
-  blanked_by slots at hash s lt is (Some x) holds same = inr (refl, subst (λ (q : ℕ). IsSome (entry_at key (filled (map held slots)) q)) (sym same) (held_in slots at s x lt is holds))
+  blanked_by slots at hash s lt is (Some x) holds same = inr (refl, subst (λ (q : ℕ). IsSome (entry_at key (filled (map content slots)) q)) (sym same) (held_in slots at s x lt is holds))
 
-  pub blanked : (slots : List S) (at hash found g : ℕ) (s : S) → at < length slots → s ≡ get_or slots at s → found ≡ unwrap_or (option_map key (held s)) 0 → g ≡ cond (eqb hash found) 0 hash → IsBlanked key (filled (map held slots)) hash g
+  pub blanked : (slots : List S) (at hash found g : ℕ) (s : S) → at < length slots → s ≡ get_or slots at s → found ≡ unwrap_or (option_map key (content s)) 0 → g ≡ cond (eqb hash found) 0 hash → IsBlanked key (filled (map content slots)) hash g
   blanked slots at hash found g s lt is holds made =
-      (elim (eqb hash found) as (λ b. eqb hash found ≡ b → g ≡ cond b 0 hash → IsBlanked key (filled (map held slots)) hash g) [
+      (elim (eqb hash found) as (λ b. eqb hash found ≡ b → g ≡ cond b 0 hash → IsBlanked key (filled (map content slots)) hash g) [
         | true ↦ λ e m.
             let same : hash ≡ found = grind (arith, nat_tests) in
-            subst (λ (q : ℕ). IsBlanked key (filled (map held slots)) hash q) (sym m) (blanked_by slots at hash s lt is (held s) refl (same ∙ holds))
+            subst (λ (q : ℕ). IsBlanked key (filled (map content slots)) hash q) (sym m) (blanked_by slots at hash s lt is (content s) refl (same ∙ holds))
         | false ↦ λ e m. inl m
       ]) refl made
 
@@ -121,7 +121,7 @@ module _ {X : Type 0} (key : X → ℕ) (xs : List X) (theta : ℕ) where
   -- the remaining hashes so far
   pub record IsLeft (whole hashes : List ℕ) (left : ℕ) : Type 0 where
     pub size : length hashes ≡ length whole
-    pub few : left ≤ length hashes
+    pub limited : left ≤ length hashes
     pub unscreened : AllByRecursion (λ h. is_screened h theta ≡ false) (take left hashes)
     pub others_out : Drops (IsRedundant key (record { entries = xs; theta = theta })) whole (take left hashes)
 
@@ -130,8 +130,8 @@ module _ {X : Type 0} (key : X → ℕ) (xs : List X) (theta : ℕ) where
       length blanks ≡ length (take left hashes) → ((p : ℕ) → p < length (take left hashes) → IsBlanked key xs (get_or (take left hashes) p 0) (get_or blanks p 0)) →
       length packs ≡ length (take left (blanks ++ drop left hashes)) → more ≤ length (take left (blanks ++ drop left hashes)) → take more packs ≡ filter (λ h. not (is_screened h theta)) (take left (blanks ++ drop left hashes)) →
       IsLeft whole (packs ++ drop left (blanks ++ drop left hashes)) more
-  left_more whole hashes blanks packs left more was size each packs_size few packed =
-      let front : length (take left hashes) ≡ left = length-take-le left hashes was.few in
+  left_more whole hashes blanks packs left more was size each packs_size limited packed =
+      let front : length (take left hashes) ≡ left = length-take-le left hashes was.limited in
       let same : take left (blanks ++ drop left hashes) ≡ blanks = take_at blanks (drop left hashes) left (size ∙ front) in
       let short : length (take left (blanks ++ drop left hashes)) ≡ left = ap length same ∙ size ∙ front in
       let long : length (blanks ++ drop left hashes) ≡ length hashes =
@@ -140,10 +140,10 @@ module _ {X : Type 0} (key : X → ℕ) (xs : List X) (theta : ℕ) where
       length-append packs (drop left (blanks ++ drop left hashes)) ∙ ap (λ (n : ℕ). n + length (drop left (blanks ++ drop left hashes))) packs_size
       ∙ sym (length-append (take left (blanks ++ drop left hashes)) (drop left (blanks ++ drop left hashes))) ∙ ap length (take-append-drop left (blanks ++ drop left hashes)) ∙ long in
       let now : take more (packs ++ drop left (blanks ++ drop left hashes)) ≡ filter (λ h. not (is_screened h theta)) blanks =
-      take-append-le more packs (drop left (blanks ++ drop left hashes)) (omega (arith, few, packs_size)) ∙ packed ∙ ap (filter (λ h. not (is_screened h theta))) same in
+      take-append-le more packs (drop left (blanks ++ drop left hashes)) (omega (arith, limited, packs_size)) ∙ packed ∙ ap (filter (λ h. not (is_screened h theta))) same in
       record {
         size = whole_size ∙ was.size;
-        few = omega (arith, few, short, was.few, whole_size);
+        limited = omega (arith, limited, short, was.limited, whole_size);
         unscreened = subst (AllByRecursion (λ h. is_screened h theta ≡ false)) (sym now) (packed_pass theta blanks);
         others_out = left_out_again _ whole (take left hashes) (take more (packs ++ drop left (blanks ++ drop left hashes))) was.others_out
             (subst (λ zs. Drops (IsRedundant key (record { entries = xs; theta = theta })) (take left hashes) zs) (sym now) (left_out-blanked (take left hashes) blanks size each));

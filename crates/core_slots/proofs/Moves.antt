@@ -5,13 +5,13 @@ use Rattle.std.specs.Option.{option_map_or}
 use Rattle.std.proofs.lemmas.List.Sums.{sum_by-append}
 use Rattle.std.proofs.lemmas.Bool.Decides.{nat_tests}
 use Rattle.core_laws.specs.Maps.{entry_at, below, with_entry, map_of}
-use Rattle.core_slots.specs.Layout.{filled, slot, is_other, IsOnPath, IsLaidOut}
+use Rattle.core_slots.specs.SlotLayout.{filled, slot, is_other, IsOnPath, IsLaidOut}
 use Rattle.core_slots.specs.Moving.{IsMoving}
 use Rattle.core_laws.proofs.maps.Ascending.{ascending-filter, each-with_entry}
 use Rattle.core_laws.proofs.maps.LookUps.{entry_at-append, entry_at-below, same_map}
 use Rattle.core_laws.proofs.cuts.Cuts.{length-below}
 use Rattle.core_laws.proofs.maps.MapsOfLists.{entry_at-map_of, ascending-map_of}
-use Rattle.core_slots.proofs.Layouts.{rank-map_of, length-map_of, filled-append, laid_out_empty, put_joins}
+use Rattle.core_slots.proofs.SlotLayouts.{rank-map_of, length-map_of, filled-append, laid_out_empty, put_joins}
 
 pub count-append : {X : Type 0} (p : X → Bool) (xs ys : List X) → count_by p (xs ++ ys) ≡ count_by p xs + count_by p ys
 count-append p xs ys = sum_by-append (λ x. cond (p x) 1 0) xs ys
@@ -33,7 +33,7 @@ module _ {X : Type 0} (key : X → ℕ) (lg theta : ℕ) where
     none_above = λ q high. rw none refl;
     counted = omega arith;
     room = rw none (omega arith);
-    few = rw none (omega arith);
+    limited = rw none (omega arith);
     looked_few = omega arith;
   }
 
@@ -47,7 +47,7 @@ module _ {X : Type 0} (key : X → ℕ) (lg theta : ℕ) where
         none_above = is.none_above;
         counted = ap (λ xs. put + count_by (λ x. ltb (key x) theta) xs) (sym same) ∙ is.counted;
         room = rw same at is.room;
-        few = is.few;
+        limited = is.limited;
         looked_few = is.looked_few;
       }
 
@@ -83,7 +83,7 @@ module _ {X : Type 0} (key : X → ℕ) (lg theta : ℕ) where
               let there = ap (count_by (λ y. ltb (key y) theta)) one in
               omega (arith, counts, none, all, there);
           room = omega (arith, is.room, longer);
-          few = is.few;
+          limited = is.limited;
           looked_few = is.looked_few;
         }
 
@@ -104,8 +104,8 @@ module _ {X : Type 0} (key : X → ℕ) (lg theta : ℕ) where
               let there = ap (count_by (λ y. ltb (key y) theta)) one in
               omega (arith, counts, one_more, all, there);
           room = omega (arith, is.room, longer, more);
-          few = omega (arith, is.few, more);
-          looked_few = looked_more put looked looked' (length (filled slots)) is.looked_few looks is.few;
+          limited = omega (arith, is.limited, more);
+          looked_few = looked_more put looked looked' (length (filled slots)) is.looked_few looks is.limited;
         }
 
   -- the remaining slots may be in another order
@@ -117,7 +117,7 @@ module _ {X : Type 0} (key : X → ℕ) (lg theta : ℕ) where
     none_above = is.none_above;
     counted = let all = is.counted in omega (arith, counts, all);
     room = omega (arith, long, is.room);
-    few = is.few;
+    limited = is.limited;
     looked_few = is.looked_few;
   }
 

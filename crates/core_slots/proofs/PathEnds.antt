@@ -1,9 +1,9 @@
 -- Where the path of a hash ends.
 use Rattle.std.proofs.Common.{◌≡◌, ℕ, zero, suc, ◌+◌, ◌^◌, ◌<◌, true, false, List, length, Option, Some, None, inl, inr, ◌⊎◌, refl, sym, ◌∙◌, subst, arith}
 use Rattle.core_laws.specs.Maps.{entry_at, map_of}
-use Rattle.core_slots.specs.Layout.{filled, slot, is_other, HasOthers, IsOnPath, IsLaidOut}
+use Rattle.core_slots.specs.SlotLayout.{filled, slot, is_other, HasOthers, IsOnPath, IsLaidOut}
 use Rattle.core_slots.specs.Probe.{probe}
-use Rattle.core_slots.proofs.Layouts.{few_others, others_none, others_more, ended, search_finds}
+use Rattle.core_slots.proofs.SlotLayouts.{few_others, others_none, others_more, ended, search_finds}
 
 some_none : {X : Type 0} {x : X} → Some x ≡ None → ⊥
 some_none e = cc
@@ -35,7 +35,7 @@ module _ {X : Type 0} (key : X → ℕ) where
       elim (first_end key lg h slots (2 ^ lg)) [
         | inl others ↦ absurd (omega (arith, few_others key lg h (2 ^ lg) slots (omega arith) others, room))
         | inr found ↦
-            let on : IsOnPath key lg slots h (probe h lg found.step) = record { step = found.step; in_range = found.soon; here = refl; others = found.others } in (
+            let on : IsOnPath key lg slots h (probe h lg found.step) = record { step = found.step; in_range = found.soon; present = refl; others = found.others } in (
               probe h lg found.step,
               (
                 on,

@@ -10,14 +10,14 @@ use Rattle.std.specs.List.{AllByRecursion}
 use Rattle.std.specs.Prelude.{◌*◌, ◌/◌}
 use Rattle.core_laws.specs.Maps.{IsAscending, IsApart, below, rank, entry_at, map_of, with_entry}
 use Rattle.core_laws.specs.Cuts.{retained, cut}
-use Rattle.core_slots.specs.Layout.{filled, slot, is_other, IsOnPath, IsLaidOut}
+use Rattle.core_slots.specs.SlotLayout.{filled, slot, is_other, IsOnPath, IsLaidOut}
 use Rattle.core_laws.specs.Insertion.{rebuilt}
 use Rattle.core_laws.specs.Entries.{hash_key}
 use Rattle.core_slots.specs.Rank.{HasRank}
 use Rattle.core_laws.proofs.maps.Ascending.{each-get_or, each-with_entry}
 use Rattle.core_laws.proofs.cuts.Cuts.{parts_rank, rank_at, rank_all, below_rank, cut_few, cut_more}
 use Rattle.core_laws.proofs.maps.MapsOfLists.{entry_at-map_of, ascending-map_of}
-use Rattle.core_slots.proofs.Layouts.{found_none, only_there, other_not, search_finds, smaller-with_entry, length-with_entry}
+use Rattle.core_slots.proofs.SlotLayouts.{found_none, only_there, other_not, search_finds, smaller-with_entry, length-with_entry}
 use Rattle.core_laws.proofs.insertions.Cases.{rebuilt_full}
 
 -- ---- of a list and its parts
@@ -140,8 +140,8 @@ module _ {X : Type 0} (key : X → ℕ) where
   below-map_of (x ∷ xs) h each =
       let rest = below-map_of xs h each.1 in
       let mapped : List X = below key (map_of key xs) h in
-      let here : List X = below key xs h in
-      smaller-with_entry key (map_of key xs) x h (entry_at-map_of key xs (key x) ∙ each.0) ∙ elim (ltb (key x) h) as (λ t. length (cond t (x ∷ mapped) mapped) ≡ length (cond t (x ∷ here) here)) [ true ↦ ap suc rest | false ↦ rest ]
+      let present : List X = below key xs h in
+      smaller-with_entry key (map_of key xs) x h (entry_at-map_of key xs (key x) ∙ each.0) ∙ elim (ltb (key x) h) as (λ t. length (cond t (x ∷ mapped) mapped) ≡ length (cond t (x ∷ present) present)) [ true ↦ ap suc rest | false ↦ rest ]
 
   pub length-apart : (xs : List X) → IsApart key xs → length (map_of key xs) ≡ length xs
   length-apart [] each = refl
@@ -172,7 +172,7 @@ module _ {X : Type 0} (key : X → ℕ) where
   apart-slots [] each = tt
   apart-slots (None ∷ slots) each = apart-slots slots (λ i j y z yi zj same. let a : suc i ≡ suc j = each (suc i) (suc j) y z yi zj same in omega (arith, a))
   apart-slots (Some x ∷ slots) each = (
-    found_none key slots (key x) (λ q y held same. absurd (let a : suc q ≡ 0 = each (suc q) 0 y x held refl same in omega (arith, a))),
+    found_none key slots (key x) (λ q y content same. absurd (let a : suc q ≡ 0 = each (suc q) 0 y x content refl same in omega (arith, a))),
     apart-slots slots (λ i j y z yi zj same. let a : suc i ≡ suc j = each (suc i) (suc j) y z yi zj same in omega (arith, a)),
   )
 
@@ -233,20 +233,20 @@ module _ {X : Type 0} (key : X → ℕ) where
             let is_cut : cut key k m t ≡ retained key m h = cut_more key k m t at.1 up more ∙ ap (λ ys. record { entries = ys; theta = key (get_or m k at.1) }) front ∙ ap (λ (n : ℕ). record { entries = below key m h; theta = n }) top in
             rw least is_cut
         | inr ge ↦
-            let few : rank key m t ≤ k =
+            let limited : rank key m t ≤ k =
             elim (cases_lt k (rank key m t)) [
               | inl lt ↦ absurd (omega (arith, ge, top, parts.smaller k at.1 lt))
               | inr le ↦ le
             ] in
             let least : min h t ≡ t = omega (arith, ge) in
-            rw least (cut_few key k m t up few)
+            rw least (cut_few key k m t up limited)
       ]
 
   -- and a cut of at most k has all entries below the theta
   pub cut_of_few : (k t : ℕ) (xs : List X) → IsApart key xs → length xs ≤ k → cut key k (map_of key xs) t ≡ retained key (map_of key xs) t
-  cut_of_few k t xs each few =
+  cut_of_few k t xs each limited =
       let up = ascending-map_of key xs in
-      cut_few key k (map_of key xs) t up (omega (arith, few, length-apart xs each, (parts_rank key (map_of key xs) t up).within))
+      cut_few key k (map_of key xs) t up (omega (arith, limited, length-apart xs each, (parts_rank key (map_of key xs) t up).within))
 
   -- a hash of theirs is not 0
   pub ranked_low : (k h : ℕ) (xs : List X) → HasRank (map key xs) k h → AllByRecursion (λ x. 0 < key x) (map_of key xs) → 0 < h

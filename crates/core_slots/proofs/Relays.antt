@@ -6,11 +6,11 @@ use Rattle.std.proofs.lemmas.Bool.Decides.{nat_tests}
 use Rattle.std.proofs.lemmas.List.{get_or-set_same, get_or-set_other, length-set, length-replicate}
 use Rattle.core_laws.specs.Maps.{IsApart, entry_at, below, map_of}
 use Rattle.core_laws.proofs.maps.LookUps.{entry_at-append}
-use Rattle.core_slots.specs.Layout.{filled, slot, is_other, HasOthers, IsOnPath, IsLaidOut}
+use Rattle.core_slots.specs.SlotLayout.{filled, slot, is_other, HasOthers, IsOnPath, IsLaidOut}
 use Rattle.core_slots.specs.Moving.{IsMoving}
 use Rattle.core_slots.specs.Probe.{probe}
 use Rattle.core_slots.specs.Relaying.{placed_in, waiting_in, marked, times_in, HasMarks, IsFirstUnmarked, IsRelaying, IsPassed}
-use Rattle.core_slots.proofs.Layouts.{few, probe_low, filled-append, filled_new, laid_out_new, put_found}
+use Rattle.core_slots.proofs.SlotLayouts.{limited, probe_low, filled-append, filled_new, laid_out_new, put_found}
 use Rattle.core_slots.proofs.Moves.{count-append, count-cons, starts, reordered, passes_free, passes_high, puts_low, ends}
 use Rattle.core_slots.proofs.Ranks.{apart-laid_out}
 use Rattle.core_slots.proofs.Strides.{probe_once}
@@ -159,7 +159,7 @@ as_many (false ∷ marks) = let rest = as_many marks in let e : length (filled (
 pub few_marks : (lg : ℕ) (marks : List Bool) (h n : ℕ) → n ≤ 2 ^ lg → HasMarks lg marks h n → n ≤ marked marks
 unfolding HasMarks
 few_marks lg marks h n most before =
-    omega (arith, as_many marks, few n (as_slots marks) (probe h lg) (λ i lt. (0, taken marks (probe h lg i) (before i lt))) (λ i j li lj same. probe_once h lg i j (omega (arith, li, most)) (omega (arith, lj, most)) same))
+    omega (arith, as_many marks, limited n (as_slots marks) (probe h lg) (λ i lt. (0, taken marks (probe h lg i) (before i lt))) (λ i j li lj same. probe_once h lg i j (omega (arith, li, most)) (omega (arith, lj, most)) same))
 
 -- ---- an entry that is taken out of its slot
 both_sides : (a b c d e f : ℕ) → a ≡ d + b → c ≡ d + e → b + f ≡ e → a + f ≡ c
@@ -236,13 +236,13 @@ module _ {X : Type 0} (key : X → ℕ) where
   found_lifted slots at q once = ap (λ xs. entry_at key xs q) (filled-append (set slots at None) (slot slots at ∷ [])) ∙ found_took slots at q once
 
   pub counted_there : (slots : List (Option X)) (p q : ℕ) (x : X) → slot slots p ≡ Some x → key x ≡ q → 1 ≤ times_in key q slots
-  counted_there [] p q x held same = absurd (cc)
-  counted_there (None ∷ slots) zero q x held same = absurd (cc)
-  counted_there (Some y ∷ slots) zero q x held same =
+  counted_there [] p q x content same = absurd (cc)
+  counted_there (None ∷ slots) zero q x content same = absurd (cc)
+  counted_there (Some y ∷ slots) zero q x content same =
       let is : eqb (key y) q ≡ true = let e : y ≡ x = cc in let k = ap key e in grind (arith, nat_tests) in
       omega (arith, count-cons (λ z. eqb (key z) q) y (filled slots), one_here y q is)
-  counted_there (None ∷ slots) (suc p) q x held same = counted_there slots p q x held same
-  counted_there (Some y ∷ slots) (suc p) q x held same = omega (arith, count-cons (λ z. eqb (key z) q) y (filled slots), counted_there slots p q x held same)
+  counted_there (None ∷ slots) (suc p) q x content same = counted_there slots p q x content same
+  counted_there (Some y ∷ slots) (suc p) q x content same = omega (arith, count-cons (λ z. eqb (key z) q) y (filled slots), counted_there slots p q x content same)
 
   pub count_put : (p : X → Bool) (slots : List (Option X)) (at : ℕ) (x : X) → at < length slots → slot slots at ≡ None → count_by p (filled (set slots at (Some x))) ≡ count_by p (x ∷ []) + count_by p (filled slots)
   count_put p [] at x lt free = absurd (omega (arith, lt))
@@ -388,11 +388,11 @@ module _ {X : Type 0} (key : X → ℕ) (lg theta : ℕ) (whole : List (Option X
     on_path at x first is = record {
       step = first.step;
       in_range = first.in_range;
-      here = first.here;
+      present = first.present;
       others = λ i lt.
           let p : ℕ = probe (key x) lg i in
           let marked_there = first.before i lt in
-          let held = is.full p marked_there in
+          let content = is.full p marked_there in
           let same : slot (placed_in marks slots) p ≡ slot slots p = placed_there marks slots p marked_there in
           (elim (slot slots p) as (λ o. slot slots p ≡ o → IsSome o → is_other key (key x) (slot (placed_in marks slots) p) ≡ true) [
             | None ↦ λ e some. absurd (cc)
@@ -404,14 +404,14 @@ module _ {X : Type 0} (key : X → ℕ) (lg theta : ℕ) (whole : List (Option X
                 omega (arith, mine, count_last key (λ z. eqb (key z) (key x)) (waiting_in marks slots) x, counted_there key (placed_in marks slots) p (key x) y there alike, is.once (key x))) in
                 let e2 : not (eqb (key y) (key x)) ≡ true = grind (arith, nat_tests) in
                 ap (is_other key (key x)) there ∙ e2
-          ]) refl held;
+          ]) refl content;
     }
 
     -- a carried entry is placed, and the entry that waited there is carried on
     pub relay_places : (at : ℕ) (x : X) (looked' : ℕ) → key x < theta → IsFirstUnmarked lg marks (key x) at → looked' ≤ looked + marked marks + 1 → IsRelaying key lg theta whole (Some x) marks slots put looked
         → IsRelaying key lg theta whole (slot slots at) (set marks at true) (set slots at (Some x)) (put + 1) looked'
     relay_places at x looked' low first looks is =
-        let lt : at < 2 ^ lg = omega (arith, probe_low (key x) lg first.step, first.here) in
+        let lt : at < 2 ^ lg = omega (arith, probe_low (key x) lg first.step, first.present) in
         let in_d : at < length (placed_in marks slots) = omega (arith, lt, length-placed marks slots (is.marks_size ∙ sym is.size), is.size) in
         let there = waiting_there marks slots at (omega (arith, lt, is.marks_size)) first.unmarked in
         let free : slot (placed_in marks slots) at ≡ None = not_placed marks slots at first.unmarked in
@@ -434,8 +434,8 @@ module _ {X : Type 0} (key : X → ℕ) (lg theta : ℕ) (whole : List (Option X
           once = λ q.
               let before = count_last key (λ y. eqb (key y) q) (waiting_in marks slots) x in
               let after = count_lifted (λ y. eqb (key y) q) (waiting_in marks slots) at in
-              let here = count_put key (λ y. eqb (key y) q) (placed_in marks slots) at x in_d free in
-              rw (waiting_put marks slots at (Some x), placed_put marks slots at (Some x), ← there) (omega (arith, before, after, here, is.once q));
+              let present = count_put key (λ y. eqb (key y) q) (placed_in marks slots) at x in_d free in
+              rw (waiting_put marks slots at (Some x), placed_put marks slots at (Some x), ← there) (omega (arith, before, after, present, is.once q));
           moving =
               rw (waiting_put marks slots at (Some x), placed_put marks slots at (Some x)) (takes_out (waiting_in marks slots) (set (placed_in marks slots) at (Some x)) (slot slots at) (put + 1) looked' at there one moved);
         }

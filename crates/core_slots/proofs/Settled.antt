@@ -7,11 +7,11 @@ use Rattle.std.proofs.lemmas.List.{take-set-le, take_more_set, take_all, take_at
 use Rattle.core_laws.specs.Maps.{entry_at, map_of}
 use Rattle.core_laws.proofs.maps.LookUps.{entry_at-append, same_map}
 use Rattle.core_laws.proofs.maps.MapsOfLists.{entry_at-map_of, ascending-map_of}
-use Rattle.core_slots.specs.Layout.{filled, slot, is_other, HasOthers, IsOnPath, IsLaidOut}
+use Rattle.core_slots.specs.SlotLayout.{filled, slot, is_other, HasOthers, IsOnPath, IsLaidOut}
 use Rattle.core_slots.specs.Probe.{probe}
 use Rattle.core_slots.specs.Rounds.{entry_count, IsInRound}
 use Rattle.core_slots.proofs.Held.{take_whole}
-use Rattle.core_slots.proofs.Layouts.{few_others, filled-append, filled_new, laid_out_new, others_none, others_more, probe_low, put_found}
+use Rattle.core_slots.proofs.SlotLayouts.{few_others, filled-append, filled_new, laid_out_new, others_none, others_more, probe_low, put_found}
 use Rattle.core_slots.proofs.Moves.{count-append, count-cons}
 use Rattle.core_slots.proofs.Relays.{count_put, counted_none, counted_there, one_here}
 
@@ -35,48 +35,48 @@ module _ {S : Type 0} where
   drop_take-set (x ∷ left) (suc n) (suc count) zero s lt = refl
   drop_take-set (x ∷ left) (suc n) (suc count) (suc i) s lt = drop_take-set left n count i s (omega (arith, lt))
 
-module _ {S X : Type 0} (held : S → Option X) where
+module _ {S X : Type 0} (content : S → Option X) where
   -- the entries in the first places, and those from a place on
   pub in_front : ℕ → List S → List X
-  in_front n left = filled (map held (take n left))
+  in_front n left = filled (map content (take n left))
 
   pub in_wait : (at count : ℕ) → List S → List X
-  in_wait at count left = filled (map held (drop at (take count left)))
+  in_wait at count left = filled (map content (drop at (take count left)))
 
-  pub waits_next : (left : List S) (at count : ℕ) (d : S) → at < count → count ≤ length left → in_wait at count left ≡ filled (held (get_or left at d) ∷ []) ++ in_wait (at + 1) count left
+  pub waits_next : (left : List S) (at count : ℕ) (d : S) → at < count → count ≤ length left → in_wait at count left ≡ filled (content (get_or left at d) ∷ []) ++ in_wait (at + 1) count left
   unfolding in_wait
   waits_next left at count d lt within =
       let long : at < length (take count left) = omega (arith, length-take count left, lt, within) in
-      ap (λ xs. filled (map held xs)) (drop_more (take count left) at d long)
-      ∙ ap (λ (s : S). filled (held s ∷ map held (drop (at + 1) (take count left)))) (get_or-take count left at d lt)
-      ∙ filled-append (held (get_or left at d) ∷ []) (map held (drop (at + 1) (take count left)))
+      ap (λ xs. filled (map content xs)) (drop_more (take count left) at d long)
+      ∙ ap (λ (s : S). filled (content s ∷ map content (drop (at + 1) (take count left)))) (get_or-take count left at d lt)
+      ∙ filled-append (content (get_or left at d) ∷ []) (map content (drop (at + 1) (take count left)))
 
   -- a place that was reached may be written, and so may the one to which a staying entry is moved
   pub front_before : (left : List S) (kept at : ℕ) (s : S) → kept ≤ at → in_front kept (set left at s) ≡ in_front kept left
   unfolding in_front
-  front_before left kept at s le = ap (λ xs. filled (map held xs)) (take-set-le kept left at s le)
+  front_before left kept at s le = ap (λ xs. filled (map content xs)) (take-set-le kept left at s le)
 
   pub wait_behind : (left : List S) (at count i : ℕ) (s : S) → i ≤ at → in_wait (at + 1) count (set left i s) ≡ in_wait (at + 1) count left
   unfolding in_wait
-  wait_behind left at count i s le = ap (λ xs. filled (map held xs)) (drop_take-set left (at + 1) count i s (omega (arith, le)))
+  wait_behind left at count i s le = ap (λ xs. filled (map content xs)) (drop_take-set left (at + 1) count i s (omega (arith, le)))
 
-  pub front_more : (left : List S) (kept : ℕ) (s : S) → kept < length left → in_front (kept + 1) (set left kept s) ≡ in_front kept left ++ filled (held s ∷ [])
+  pub front_more : (left : List S) (kept : ℕ) (s : S) → kept < length left → in_front (kept + 1) (set left kept s) ≡ in_front kept left ++ filled (content s ∷ [])
   unfolding in_front
   front_more left kept s lt =
-      ap (λ xs. filled (map held xs)) (take_more_set left kept s lt) ∙ ap filled (map-append held (take kept left) (s ∷ [])) ∙ filled-append (map held (take kept left)) (held s ∷ [])
+      ap (λ xs. filled (map content xs)) (take_more_set left kept s lt) ∙ ap filled (map-append content (take kept left) (s ∷ [])) ∙ filled-append (map content (take kept left)) (content s ∷ [])
 
   pub front_none : (left : List S) → in_front 0 left ≡ []
   unfolding in_front
   front_none [] = refl
   front_none (s ∷ left) = refl
 
-  pub front_whole : (left : List S) (n : ℕ) → length left ≤ n → in_front n left ≡ filled (map held left)
+  pub front_whole : (left : List S) (n : ℕ) → length left ≤ n → in_front n left ≡ filled (map content left)
   unfolding in_front
-  front_whole left n le = ap (λ xs. filled (map held xs)) (take_whole held left n le)
+  front_whole left n le = ap (λ xs. filled (map content xs)) (take_whole content left n le)
 
   pub front_is : (left : List S) (count : ℕ) → in_wait 0 count left ≡ in_front count left
   unfolding in_front in_wait
-  front_is left count = ap (λ xs. filled (map held xs)) (drop_none (take count left))
+  front_is left count = ap (λ xs. filled (map content xs)) (drop_none (take count left))
     where
       drop_none : (xs : List S) → drop 0 xs ≡ xs
       drop_none [] = refl
@@ -84,11 +84,11 @@ module _ {S X : Type 0} (held : S → Option X) where
 
   pub none_behind : (left : List S) (at count : ℕ) → count ≤ at → in_wait at count left ≡ []
   unfolding in_wait
-  none_behind left at count le = ap (λ xs. filled (map held xs)) (drop_all at (take count left) (omega (arith, length-take count left, le)))
+  none_behind left at count le = ap (λ xs. filled (map content xs)) (drop_all at (take count left) (omega (arith, length-take count left, le)))
 
 -- ---- numbers
 turned : (p l r b : ℕ) → 2 * l + b * (b + 1) ≤ p * (p + 1) → r ≤ p → 2 * (l + r + 1) + b * (b + 1) ≤ (p + 1) * ((p + 1) + 1)
-turned p l r b few some = omega (arith, few, some)
+turned p l r b limited some = omega (arith, limited, some)
 
 module _ {X : Type 0} (key : X → ℕ) where
   -- if each hash occurs once, moving an entry behind others finds no other entry for any hash
@@ -169,7 +169,7 @@ module _ {X : Type 0} (key : X → ℕ) (lg : ℕ) where
       round_puts low free =
           let inside : p < length slots = omega (arith, probe_low (key x) lg round, on_way, is.laid_out.size) in
           let mine = is.waits.0 in
-          let on : IsOnPath key lg slots (key x) p = record { step = round; in_range = low; here = sym on_way; others = mine } in
+          let on : IsOnPath key lg slots (key x) p = record { step = round; in_range = low; present = sym on_way; others = mine } in
           let found = put_found key lg slots p x is.laid_out inside on (ap (is_other key (key x)) free) in
           let passed = few_others key lg (key x) round slots (omega (arith, low)) mine in
           record {
@@ -266,9 +266,9 @@ pub looks_kept : (a r k n m l : ℕ) → n ≡ 1 + m → l ≤ a + r * (k + n) +
 looks_kept a r k n m l one most = let product : r * (k + n) ≡ r * (k + (1 + m)) = ap (λ (t : ℕ). r * (k + t)) one in omega (arith, product, most)
 
 pub looks_end : (l l0 looked r n put after begun : ℕ) → l ≤ l0 + looked + r * (0 + n) + 0 → n ≡ 0 → 2 * looked + begun * (begun + 1) ≤ put * (put + 1) → after ≡ put → 2 * l + begun * (begun + 1) ≤ 2 * l0 + after * (after + 1)
-looks_end l l0 looked r n put after begun most none few is =
+looks_end l l0 looked r n put after begun most none limited is =
     let product : r * (0 + n) ≡ r * (0 + 0) = ap (λ (t : ℕ). r * (0 + t)) none in
-    rw is (omega (arith, product, most, few))
+    rw is (omega (arith, product, most, limited))
 
 pub looks_part : (l m l0 after before put : ℕ) → before ≡ put → 2 * l + before * (before + 1) ≤ 2 * m + after * (after + 1) → 2 * m ≤ 2 * l0 + put * (put + 1) → 2 * l ≤ 2 * l0 + after * (after + 1)
 looks_part l m l0 after before put is more most = let same : before * (before + 1) ≡ put * (put + 1) = ap (λ (n : ℕ). n * (n + 1)) is in omega (arith, same, more, most)

@@ -31,25 +31,25 @@ cancel_odd (suc k) r d q same =
     ]
 
 more : (n m u v a x : ℕ) → (u + v) * n + m ≡ a + x → u * n + m ≡ a → x ≡ v * n
-more n m u v a x above here = omega (arith, above, here)
+more n m u v a x above present = omega (arith, above, present)
 
 less : (n m u v a x : ℕ) → 0 < n → u * n + m ≡ a + x → (u + 1 + v) * n + m ≡ a → u ≡ u + 1
-less n m u v a x some above here = omega (arith, some, above, here)
+less n m u v a x some above present = omega (arith, some, above, present)
 
 -- a difference that keeps the remainder is a multiple
 pub same_remainder : (n a x : ℕ) → 0 < n → a % n ≡ (a + x) % n → (q : ℕ) × (x ≡ q * n)
 same_remainder n a x some same =
     let u : ℕ = a / n in
     let w : ℕ = (a + x) / n in
-    let here : u * n + a % n ≡ a = div-add-mod' a n in
+    let present : u * n + a % n ≡ a = div-add-mod' a n in
     let there : w * n + a % n ≡ a + x = subst (λ (m : ℕ). w * n + m ≡ a + x) (sym same) (div-add-mod' (a + x) n) in
     elim (cases_lt w u) [
       | inl lt ↦
           let up : u ≡ w + 1 + (u - w - 1) = omega (arith, lt) in
-          absurd (omega (arith, less n (a % n) w (u - w - 1) a x some there (subst (λ (m : ℕ). m * n + a % n ≡ a) up here)))
+          absurd (omega (arith, less n (a % n) w (u - w - 1) a x some there (subst (λ (m : ℕ). m * n + a % n ≡ a) up present)))
       | inr le ↦
           let up : w ≡ u + (w - u) = omega (arith, le) in
-          (w - u, more n (a % n) u (w - u) a x (subst (λ (m : ℕ). m * n + a % n ≡ a + x) up there) here)
+          (w - u, more n (a % n) u (w - u) a x (subst (λ (m : ℕ). m * n + a % n ≡ a + x) up there) present)
     ]
 
 none_below : (d e n : ℕ) → d < n → d ≡ e * n → d ≡ 0

@@ -7,7 +7,7 @@ use Rattle.std.proofs.lemmas.Bool.{cases_lt}
 use Rattle.std.proofs.lemmas.Bool.Decides.{nat_tests}
 use Rattle.core_laws.specs.Entries.{hash_key}
 use Rattle.core_laws.specs.Maps.{IsApart, rank, entry_at}
-use Rattle.core_slots.specs.Layout.{filled, greatest, hash_or_greatest}
+use Rattle.core_slots.specs.SlotLayout.{filled, greatest_word, hash_or_greatest}
 use Rattle.core_slots.specs.Rank.{HasRank, within}
 use Rattle.core_slots.proofs.Held.{two_parts}
 use Rattle.core_slots.proofs.Moves.{count-append, count-cons}
@@ -31,8 +31,8 @@ rank_few (x ∷ xs) h = let rest = rank_few xs h in let more = count-cons (λ y.
 ]
 
 -- the hashes in the first n slots, and those in the others
-pub hashes_parts : {S X : Type 0} (key : X → ℕ) (held : S → Option X) (slots : List S) (n : ℕ) → map key (filled (map held slots)) ≡ map key (filled (map held (take n slots))) ++ map key (filled (map held (drop n slots)))
-hashes_parts key held slots n = ap (map key) (two_parts held slots n) ∙ map-append key (filled (map held (take n slots))) (filled (map held (drop n slots)))
+pub hashes_parts : {S X : Type 0} (key : X → ℕ) (content : S → Option X) (slots : List S) (n : ℕ) → map key (filled (map content slots)) ≡ map key (filled (map content (take n slots))) ++ map key (filled (map content (drop n slots)))
+hashes_parts key content slots n = ap (map key) (two_parts content slots n) ∙ map-append key (filled (map content (take n slots))) (filled (map content (drop n slots)))
 
 module _ (low high : ℕ) where
   pub within-append : (xs ys : List ℕ) → within low high (xs ++ ys) ≡ within low high xs ++ within low high ys
@@ -130,13 +130,13 @@ module _ (low high : ℕ) where
 
 -- a free slot counts as the greatest number, which is in no window
 module _ {X : Type 0} (key : X → ℕ) (low high : ℕ) where
-  pub within_slot : (o : Option X) (h : ℕ) → h ≡ hash_or_greatest key o → high < greatest → within low high (h ∷ []) ≡ within low high (map key (filled (o ∷ [])))
+  pub within_slot : (o : Option X) (h : ℕ) → h ≡ hash_or_greatest key o → high < greatest_word → within low high (h ∷ []) ≡ within low high (map key (filled (o ∷ [])))
   within_slot None h is far =
       let beyond : ltb high h ≡ true = grind (arith, nat_tests) in
       elim (ltb h low) as (λ b. cond (not b && not (ltb high h)) (h ∷ []) [] ≡ []) [ true ↦ refl | false ↦ rw beyond refl ]
   within_slot (Some x) h is far = rw is refl
 
-  pub rank_slot : (o : Option X) (h : ℕ) → h ≡ hash_or_greatest key o → low ≤ high → high < greatest → rank hash_key (h ∷ []) low ≡ rank hash_key (map key (filled (o ∷ []))) low
+  pub rank_slot : (o : Option X) (h : ℕ) → h ≡ hash_or_greatest key o → low ≤ high → high < greatest_word → rank hash_key (h ∷ []) low ≡ rank hash_key (map key (filled (o ∷ []))) low
   rank_slot None h is ordered far = let up : ltb h low ≡ false = grind (arith, nat_tests) in rw up refl
   rank_slot (Some x) h is ordered far = rw is refl
 
@@ -144,15 +144,15 @@ module _ {X : Type 0} (key : X → ℕ) (low high : ℕ) where
 pub kept_next : (low high : ℕ) (found : List ℕ) (count h : ℕ) → count < length found → take (count + length (within low high (h ∷ []))) (set found count h) ≡ take count found ++ within low high (h ∷ [])
 kept_next low high found count h lt =
     let none : take (count + 0) (set found count h) ≡ take count found ++ [] =
-    let here : count ≡ count + 0 = omega arith in
-    subst (λ (n : ℕ). take n (set found count h) ≡ take count found ++ []) here (take-set found count h ∙ sym (append-nil (take count found))) in
+    let present : count ≡ count + 0 = omega arith in
+    subst (λ (n : ℕ). take n (set found count h) ≡ take count found ++ []) present (take-set found count h ∙ sym (append-nil (take count found))) in
     let one : take (count + 1) (set found count h) ≡ take count found ++ h ∷ [] =
     let next : suc count ≡ count + 1 = omega arith in
     subst (λ (n : ℕ). take n (set found count h) ≡ take count found ++ h ∷ []) next (take-suc-set found count h lt) in
     elim (not (ltb h low) && not (ltb high h)) as (λ b. take (count + length (cond b (h ∷ []) [])) (set found count h) ≡ take count found ++ cond b (h ∷ []) []) [ true ↦ one | false ↦ none ]
 
 -- the elements written into a part of a list, behind those in front of it
-module _ {S : Type 0} (xs found post end : List S) (count kept n : ℕ) (inside : count ≤ length xs) (few : kept ≤ length found) (room : count + kept ≤ n) where
+module _ {S : Type 0} (xs found post end : List S) (count kept n : ℕ) (inside : count ≤ length xs) (limited : kept ≤ length found) (room : count + kept ≤ n) where
   abbrev pub written : List S
   written = take n ((take count xs ++ (found ++ post)) ++ end)
 
@@ -162,12 +162,12 @@ module _ {S : Type 0} (xs found post end : List S) (count kept n : ℕ) (inside 
       take-take (count + kept) n ((take count xs ++ (found ++ post)) ++ end) room
       ∙ ap (take (count + kept)) (append_assoc (take count xs) (found ++ post) end ∙ ap (λ zs. take count xs ++ zs) (append_assoc found post end))
       ∙ subst (λ (m : ℕ). take (m + kept) (take count xs ++ (found ++ (post ++ end))) ≡ take count xs ++ take kept (found ++ (post ++ end))) long (take-append-add (take count xs) (found ++ (post ++ end)) kept)
-      ∙ ap (λ zs. take count xs ++ zs) (take-append-le kept found (post ++ end) few)
+      ∙ ap (λ zs. take count xs ++ zs) (take-append-le kept found (post ++ end) limited)
 
   pub part_long : count + kept ≤ length written
   part_long =
       let a = ap length part_kept ∙ length-append (take count xs) (take kept found) in
-      omega (arith, a, length-take-le count xs inside, length-take-le kept found few, length-take (count + kept) written)
+      omega (arith, a, length-take-le count xs inside, length-take-le kept found limited, length-take (count + kept) written)
 
 -- the hash of the entry in a slot
 pub key_held : {X : Type 0} (key : X → ℕ) (o : Option X) → filled (option_map key o ∷ []) ≡ map key (filled (o ∷ []))

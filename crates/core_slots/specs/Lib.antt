@@ -1,7 +1,7 @@
 pub mod Entry
 pub mod BorrowedSummary
 pub mod Probe
-pub mod Layout
+pub mod SlotLayout
 pub mod Moving
 pub mod Relaying
 pub mod Rounds

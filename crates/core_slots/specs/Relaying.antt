@@ -1,7 +1,7 @@
 -- Slots that are laid out anew in place. A mark for each records whether its entry has been placed.
 use Rattle.std.specs.Prelude.{ℕ, ◌≡◌, ◌<◌, ◌≤◌, ◌+◌, ◌^◌, ◌==◌, if◌then◌else◌, Bool, true, false, Option, None, IsSome, List, [], ◌∷◌, ◌++◌, length, get_or}
 use Rattle.std.specs.List.{count_by}
-use Rattle.core_slots.specs.Layout.{filled, slot}
+use Rattle.core_slots.specs.SlotLayout.{filled, slot}
 use Rattle.core_slots.specs.Moving.{IsMoving}
 use Rattle.core_slots.specs.Probe.{probe}
 
@@ -34,7 +34,7 @@ HasMarks lg marks h n = (i : ℕ) → i < n → get_or marks (probe h lg i) fals
 pub record IsFirstUnmarked (lg : ℕ) (marks : List Bool) (h p : ℕ) : Type 0 where
   pub step : ℕ
   pub in_range : step < 2 ^ lg
-  pub here : probe h lg step ≡ p
+  pub present : probe h lg step ≡ p
   pub before : HasMarks lg marks h step
   pub unmarked : get_or marks p false ≡ false
 

@@ -2,15 +2,15 @@
 use Rattle.std.specs.Prelude.{ℕ, ◌≡◌, ◌≤◌, ◌+◌, ◌*◌, ◌==◌, Option, List, ◌++◌, length}
 use Rattle.std.specs.List.{AllByRecursion, count_by}
 use Rattle.core_laws.specs.Maps.{entry_at}
-use Rattle.core_slots.specs.Layout.{filled, entries_in, HasOthers, IsLaidOut}
+use Rattle.core_slots.specs.SlotLayout.{filled, entries_in, HasOthers, IsLaidOut}
 
 -- how many entries have the hash q
 abbrev pub entry_count : {X : Type 0} → (X → ℕ) → ℕ → List X → ℕ
 entry_count key q xs = count_by (λ x. key x == q) xs
 
 -- how many entries in slots in memory have the hash q
-abbrev pub entry_count_in : {S X : Type 0} → (key : X → ℕ) → (held : S → Option X) → ℕ → List S → ℕ
-entry_count_in key held q slots = entry_count key q (entries_in held slots)
+abbrev pub entry_count_in : {S X : Type 0} → (key : X → ℕ) → (content : S → Option X) → ℕ → List S → ℕ
+entry_count_in key content q slots = entry_count key q (entries_in content slots)
 
 -- twice the sum of the numbers up to n
 abbrev pub twice_sum_to : ℕ → ℕ

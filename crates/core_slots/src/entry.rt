@@ -68,7 +68,7 @@ impl PathEntry for ThetaEntry {
     /// Its hash, and 0 in a free slot.
     type Slot = ThetaEntry;
 
-    ghost held = { hash_entry };
+    ghost content = { hash_entry };
 
     #[inline(always)]
     fn free_slot() -> ThetaEntry {
@@ -189,7 +189,7 @@ impl<S> SketchEntry for TupleEntry<S> {
 impl<S: Drop> PathEntry for TupleEntry<S> {
     type Slot = Option<TupleEntry<S>>;
 
-    ghost held = { λ slot. slot };
+    ghost content = { λ slot. slot };
 
     #[inline(always)]
     fn free_slot() -> Option<TupleEntry<S>> {

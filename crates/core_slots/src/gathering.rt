@@ -3,7 +3,7 @@
 ghost use Rattle.std.specs.Prelude.{◌≡◌, ◌+◌, ◌-◌, ◌<◌, ◌≤◌, ◌^◌, ◌*◌, [], None, nat_lt, OnOk, OnErr, length, map, take};
 ghost use Rattle.std.specs.List.{count_by};
 ghost use Rattle.core_laws.specs.Maps.{below, with_entry};
-ghost use Rattle.core_slots.specs.Layout.{filled, slot, IsOnPath, IsLaidOut, entries_in, slot_map};
+ghost use Rattle.core_slots.specs.SlotLayout.{filled, slot, IsOnPath, IsLaidOut, entries_in, slot_map};
 
 use crate::count::Count;
 use crate::rounds::settle_all;
@@ -15,12 +15,12 @@ use std::mem;
 /// Moves the entries below theta to the front of `others`, which has at least one slot more than these entries, and
 /// leaves `slots` free. Returns how many it moved.
 fn gather_below<E: SlotEntry>(slots: &mut [E::Slot], theta: u64, others: &mut [E::Slot]) -> usize
-    requires room { length (below E.key (entries_in E.held slots.old) theta) < length others.old }
+    requires room { length (below E.key (entries_in E.content slots.old) theta) < length others.old }
     ensures size { length slots.new ≡ length slots.old }
-    ensures free { entries_in E.held slots.new ≡ [] }
-    ensures number { result ≡ length (below E.key (entries_in E.held slots.old) theta) }
+    ensures free { entries_in E.content slots.new ≡ [] }
+    ensures number { result ≡ length (below E.key (entries_in E.content slots.old) theta) }
     ensures size_others { length others.new ≡ length others.old }
-    ensures taken { filled (map E.held (take result others.new)) ≡ below E.key (entries_in E.held slots.old) theta }
+    ensures taken { filled (map E.content (take result others.new)) ≡ below E.key (entries_in E.content slots.old) theta }
 {
     let mut count = 0;
     'take_each: for at in 0..slots.len() {
@@ -56,11 +56,11 @@ fn gather<E: SlotEntry, A: Allocator>(
 where
     A: Drop,
     requires small { lg < 40 }
-    requires laid_out { IsLaidOut E.key lg (map E.held slots.old) }
-    requires room { length (below E.key (entries_in E.held slots.old) theta) < length others.items }
-    ensures laid_out { IsLaidOut E.key lg (map E.held slots.new) }
-    ensures map { slot_map E.key E.held slots.new ≡ below E.key (slot_map E.key E.held slots.old) theta }
-    ensures placed { placed.new ≡ placed.old + count_by (λ x. nat_lt (E.key x) theta) (entries_in E.held slots.old) }
+    requires laid_out { IsLaidOut E.key lg (map E.content slots.old) }
+    requires room { length (below E.key (entries_in E.content slots.old) theta) < length others.items }
+    ensures laid_out { IsLaidOut E.key lg (map E.content slots.new) }
+    ensures map { slot_map E.key E.content slots.new ≡ below E.key (slot_map E.key E.content slots.old) theta }
+    ensures placed { placed.new ≡ placed.old + count_by (λ x. nat_lt (E.key x) theta) (entries_in E.content slots.old) }
     ensures looked { looks.old + (placed.new - placed.old) ≤ looks.new }
     ensures looks { 2 * looks.new ≤ 2 * looks.old + (placed.new - placed.old) * (placed.new - placed.old + 1) }
 {
@@ -89,18 +89,18 @@ pub(crate) fn put_gathered<E: SlotEntry + Drop, A: Allocator + Clone>(
     looks: &mut Count,
 ) -> Result<(), AllocError>
     requires small { lg < 40 }
-    requires laid_out { IsLaidOut E.key lg (map E.held slots.old.items) }
+    requires laid_out { IsLaidOut E.key lg (map E.content slots.old.items) }
     requires inside { at < length slots.old.items }
-    requires free { slot (map E.held slots.old.items) at ≡ None }
-    requires on_path { IsOnPath E.key lg (map E.held slots.old.items) (E.key entry) at }
+    requires free { slot (map E.content slots.old.items) at ≡ None }
+    requires on_path { IsOnPath E.key lg (map E.content slots.old.items) (E.key entry) at }
     requires nonzero { 0 < E.key entry }
-    requires kept { length (below E.key (with_entry E.key (slot_map E.key E.held slots.old.items) entry) theta) ≤ kept }
-    requires few { kept < 2 ^ 40 }
-    ensures laid_out { OnOk result (IsLaidOut E.key lg (map E.held slots.new.items)) }
+    requires kept { length (below E.key (with_entry E.key (slot_map E.key E.content slots.old.items) entry) theta) ≤ kept }
+    requires limited { kept < 2 ^ 40 }
+    ensures laid_out { OnOk result (IsLaidOut E.key lg (map E.content slots.new.items)) }
     ensures map { OnOk result (
-        slot_map E.key E.held slots.new.items
-        ≡ below E.key (with_entry E.key (slot_map E.key E.held slots.old.items) entry) theta) }
-    ensures placed { OnOk result (placed.new ≡ placed.old + length (entries_in E.held slots.new.items)) }
+        slot_map E.key E.content slots.new.items
+        ≡ below E.key (with_entry E.key (slot_map E.key E.content slots.old.items) entry) theta) }
+    ensures placed { OnOk result (placed.new ≡ placed.old + length (entries_in E.content slots.new.items)) }
     ensures err { OnErr result (slots.new.items ≡ slots.old.items) }
     ensures placed_err { OnErr result (placed.new ≡ placed.old) }
     ensures looked { looks.old + (placed.new - placed.old) ≤ looks.new }

@@ -1,7 +1,7 @@
 //! Laws of slots: each is the contract of a function that does nothing, so that a caller can use it.
 ghost use Rattle.std.specs.Prelude.{◌≡◌, ℕ, ◌<◌, ◌^◌, false, None, Option, List, length};
 ghost use Rattle.core_laws.specs.Maps.{entry_at, map_of};
-ghost use Rattle.core_slots.specs.Layout.{filled, slot, is_other, IsOnPath, IsLaidOut};
+ghost use Rattle.core_slots.specs.SlotLayout.{filled, slot, is_other, IsOnPath, IsLaidOut};
 ghost use Rattle.core_slots.specs.Probe.{probe};
 
 /// A path meets each slot once.

@@ -6,7 +6,7 @@ ghost use Rattle.std.specs.Prelude.{◌≡◌, ◌==◌, ◌<◌, ◌≤◌, ◌
 ghost use Rattle.std.specs.List.{AllByRecursion};
 ghost use Rattle.core_laws.specs.Insertion.{IsRedundant, Drops, is_screened};
 ghost use Rattle.core_slots.specs.Lookup.{IsBlanked};
-ghost use Rattle.core_slots.specs.Layout.{entries_in};
+ghost use Rattle.core_slots.specs.SlotLayout.{entries_in};
 
 use crate::slot_entry::SlotEntry;
 use crate::slots::{hash_or_zero, slot_after};
@@ -26,10 +26,10 @@ fn unless_same(hash: u64, other: u64) -> u64
 #[inline(always)]
 fn blanked_at<E: SlotEntry>(slots: &[E::Slot], at: usize, hash: u64) -> u64
     requires inside { at < length slots.now }
-    ensures { IsBlanked E.key (entries_in E.held slots.now) hash result }
+    ensures { IsBlanked E.key (entries_in E.content slots.now) hash result }
 {
-    let held = hash_or_zero::<E>(&slots[at]);
-    unless_same(hash, held)
+    let content = hash_or_zero::<E>(&slots[at]);
+    unless_same(hash, content)
 }
 
 /// Writes 0 over each hash that is in the slot `step` strides along its path.
@@ -38,7 +38,7 @@ fn blank_retained<E: SlotEntry>(slots: &[E::Slot], lg: u8, step: usize, hashes: 
     requires near { step < 2 ^ 40 }
     requires size { length slots.now ≡ 2 ^ lg }
     ensures blanked { EachIndex hashes.old (λ p.
-        IsBlanked E.key (entries_in E.held slots.now) (slice_index hashes.old p) (slice_index hashes.new p)) }
+        IsBlanked E.key (entries_in E.content slots.now) (slice_index hashes.old p) (slice_index hashes.new p)) }
 {
     'blank_each: for hash in hashes.iter_mut() {
         let at = slot_after(*hash, lg, step);
@@ -60,7 +60,7 @@ fn number_unscreened(hash: u64, theta: u64) -> usize
 fn pack_unscreened(hashes: &mut [u64], theta: u64) -> usize
     requires positive { 0 < theta }
     ensures packed { take result hashes.new ≡ filter (λ h. not (is_screened h theta)) hashes.old }
-    ensures few { result ≤ length hashes.old }
+    ensures limited { result ≤ length hashes.old }
 {
     let mut count = 0usize;
     'pack_each: for i in 0..hashes.len() {
@@ -84,10 +84,10 @@ pub fn drop_retained<E: SlotEntry>(
     requires small { lg < 40 }
     requires size { length slots.now ≡ 2 ^ lg }
     requires positive { 0 < theta }
-    ensures left { Drops (IsRedundant E.key (record { entries = entries_in E.held slots.now; theta = theta })) hashes.old
+    ensures left { Drops (IsRedundant E.key (record { entries = entries_in E.content slots.now; theta = theta })) hashes.old
         (take result hashes.new) }
     ensures unscreened { AllByRecursion (λ h. is_screened h theta ≡ false) (take result hashes.new) }
-    ensures few { result ≤ length hashes.old }
+    ensures limited { result ≤ length hashes.old }
 {
     let mut left = pack_unscreened(hashes, theta);
     'round: for step in 0..ROUNDS {

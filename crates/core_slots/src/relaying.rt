@@ -6,7 +6,7 @@
 ghost use Rattle.std.specs.Prelude.{◌≡◌, ℕ, ◌+◌, ◌-◌, ◌<◌, ◌≤◌, ◌^◌, ◌*◌, false, nat_lt, Some, None, IfOk, OnOk, OnErr, length, get_or, map, option_map, replicate};
 ghost use Rattle.std.specs.List.{count_by};
 ghost use Rattle.core_laws.specs.Maps.{below, with_entry};
-ghost use Rattle.core_slots.specs.Layout.{slot, IsOnPath, IsLaidOut, entries_in, slot_map};
+ghost use Rattle.core_slots.specs.SlotLayout.{slot, IsOnPath, IsLaidOut, entries_in, slot_map};
 ghost use Rattle.core_slots.specs.Relaying.{marked, IsFirstUnmarked};
 
 use crate::count::Count;
@@ -53,8 +53,8 @@ fn first_unmarked(marks: &[bool], lg: u8, hash: u64, looks: &mut Count) -> usize
 /// The hash of the entry in a slot, if it is below theta.
 #[inline(always)]
 fn hash_below<E: SlotEntry>(slot: &E::Slot, theta: u64) -> Option<u64>
-    ensures below { (h : ℕ) → result ≡ Some h → (option_map E.key (E.held slot.now) ≡ Some h) × (h < theta) }
-    ensures none { result ≡ None → (x : E) → E.held slot.now ≡ Some x → theta ≤ E.key x }
+    ensures below { (h : ℕ) → result ≡ Some h → (option_map E.key (E.content slot.now) ≡ Some h) × (h < theta) }
+    ensures none { result ≡ None → (x : E) → E.content slot.now ≡ Some x → theta ≤ E.key x }
 {
     if !E::is_below(slot, theta) {
         return None;
@@ -83,11 +83,11 @@ fn relay<E: SlotEntry>(
     looks: &mut Count,
 )
     requires small { lg < 40 }
-    requires laid_out { IsLaidOut E.key lg (map E.held slots.old) }
+    requires laid_out { IsLaidOut E.key lg (map E.content slots.old) }
     requires unmarked { marks.old ≡ replicate (2 ^ lg) false }
-    ensures laid_out { IsLaidOut E.key lg (map E.held slots.new) }
-    ensures map { slot_map E.key E.held slots.new ≡ below E.key (slot_map E.key E.held slots.old) theta }
-    ensures placed { placed.new ≡ placed.old + count_by (λ x. nat_lt (E.key x) theta) (entries_in E.held slots.old) }
+    ensures laid_out { IsLaidOut E.key lg (map E.content slots.new) }
+    ensures map { slot_map E.key E.content slots.new ≡ below E.key (slot_map E.key E.content slots.old) theta }
+    ensures placed { placed.new ≡ placed.old + count_by (λ x. nat_lt (E.key x) theta) (entries_in E.content slots.old) }
     ensures looked { looks.old + (placed.new - placed.old) ≤ looks.new }
     ensures looks { 2 * looks.new ≤ 2 * looks.old + (placed.new - placed.old) * (placed.new - placed.old + 1) }
 {
@@ -116,10 +116,10 @@ pub fn keep_below<E: SlotEntry + Drop, A: Allocator + Clone>(
     looks: &mut Count,
 ) -> Result<(), AllocError>
     requires small { lg < 40 }
-    requires laid_out { IsLaidOut E.key lg (map E.held slots.old.items) }
-    ensures laid_out { OnOk result (IsLaidOut E.key lg (map E.held slots.new.items)) }
-    ensures map { OnOk result (slot_map E.key E.held slots.new.items ≡ below E.key (slot_map E.key E.held slots.old.items) theta) }
-    ensures placed { OnOk result (placed.new ≡ placed.old + length (entries_in E.held slots.new.items)) }
+    requires laid_out { IsLaidOut E.key lg (map E.content slots.old.items) }
+    ensures laid_out { OnOk result (IsLaidOut E.key lg (map E.content slots.new.items)) }
+    ensures map { OnOk result (slot_map E.key E.content slots.new.items ≡ below E.key (slot_map E.key E.content slots.old.items) theta) }
+    ensures placed { OnOk result (placed.new ≡ placed.old + length (entries_in E.content slots.new.items)) }
     ensures err { OnErr result (slots.new.items ≡ slots.old.items) }
     ensures placed_err { OnErr result (placed.new ≡ placed.old) }
     ensures looked { looks.old + (placed.new - placed.old) ≤ looks.new }
@@ -151,18 +151,18 @@ pub fn put_kept<E: SlotEntry + Drop, A: Allocator + Clone>(
     looks: &mut Count,
 ) -> Result<(), AllocError>
     requires small { lg < 40 }
-    requires laid_out { IsLaidOut E.key lg (map E.held slots.old.items) }
+    requires laid_out { IsLaidOut E.key lg (map E.content slots.old.items) }
     requires inside { at < length slots.old.items }
-    requires free { slot (map E.held slots.old.items) at ≡ None }
-    requires on_path { IsOnPath E.key lg (map E.held slots.old.items) (E.key entry) at }
+    requires free { slot (map E.content slots.old.items) at ≡ None }
+    requires on_path { IsOnPath E.key lg (map E.content slots.old.items) (E.key entry) at }
     requires nonzero { 0 < E.key entry }
-    requires kept { length (below E.key (with_entry E.key (slot_map E.key E.held slots.old.items) entry) theta) ≤ kept }
-    requires few { kept < 2 ^ 40 }
-    ensures laid_out { OnOk result (IsLaidOut E.key lg (map E.held slots.new.items)) }
+    requires kept { length (below E.key (with_entry E.key (slot_map E.key E.content slots.old.items) entry) theta) ≤ kept }
+    requires limited { kept < 2 ^ 40 }
+    ensures laid_out { OnOk result (IsLaidOut E.key lg (map E.content slots.new.items)) }
     ensures map { OnOk result (
-        slot_map E.key E.held slots.new.items
-        ≡ below E.key (with_entry E.key (slot_map E.key E.held slots.old.items) entry) theta) }
-    ensures placed { OnOk result (placed.new ≡ placed.old + length (entries_in E.held slots.new.items)) }
+        slot_map E.key E.content slots.new.items
+        ≡ below E.key (with_entry E.key (slot_map E.key E.content slots.old.items) entry) theta) }
+    ensures placed { OnOk result (placed.new ≡ placed.old + length (entries_in E.content slots.new.items)) }
     ensures err { OnErr result (slots.new.items ≡ slots.old.items) }
     ensures placed_err { OnErr result (placed.new ≡ placed.old) }
     ensures looked { looks.old + (placed.new - placed.old) ≤ looks.new }

@@ -4,7 +4,7 @@
 //! by one, each search would end with a mispredicted branch.
 ghost use Rattle.std.specs.Prelude.{◌≡◌, ℕ, ◌+◌, ◌-◌, ◌<◌, ◌≤◌, ◌^◌, ◌*◌, [], ◌++◌, None, is_none, if◌then◌else◌, length, map, set};
 ghost use Rattle.core_laws.specs.Maps.{IsApart, entry_at};
-ghost use Rattle.core_slots.specs.Layout.{slot, IsLaidOut, entries_in, slot_map};
+ghost use Rattle.core_slots.specs.SlotLayout.{slot, IsLaidOut, entries_in, slot_map};
 ghost use Rattle.core_slots.specs.Probe.{probe};
 ghost use Rattle.core_slots.specs.Rounds.{entry_count, entry_count_in, twice_sum_to};
 
@@ -37,14 +37,14 @@ fn put_if_free<E: PathEntry>(
     looks: &mut Count,
 ) -> (bool, E::Slot)
     requires { at < length slots.old }
-    ensures free { result.0 ≡ is_none (slot (map E.held slots.old) at) }
-    ensures written { map E.held slots.new ≡ if result.0 then set (map E.held slots.old) at (E.held entry) else map E.held slots.old }
-    ensures waits { E.held result.1 ≡ if result.0 then None else E.held entry }
+    ensures free { result.0 ≡ is_none (slot (map E.content slots.old) at) }
+    ensures written { map E.content slots.new ≡ if result.0 then set (map E.content slots.old) at (E.content entry) else map E.content slots.old }
+    ensures waits { E.content result.1 ≡ if result.0 then None else E.content entry }
     ensures looks { looks.new ≡ looks.old + 1 }
 {
     let is_free = E::look(&slots[at], looks).is_none();
-    let held = mem::replace(&mut slots[at], E::free_slot());
-    let (written, waits) = exchanged_if(is_free, held, entry);
+    let content = mem::replace(&mut slots[at], E::free_slot());
+    let (written, waits) = exchanged_if(is_free, content, entry);
     slots[at] = written;
     (is_free, waits)
 }
@@ -54,7 +54,7 @@ fn put_if_free<E: PathEntry>(
 #[inline(always)]
 fn slot_in_round(hash: u64, lg: u8, round: usize) -> usize
     requires small { lg < 40 }
-    requires few { round < 2 ^ 40 }
+    requires limited { round < 2 ^ 40 }
     ensures value { result ≡ probe hash lg round }
     ensures below { result < 2 ^ lg }
 {
@@ -75,20 +75,20 @@ fn settle<E: SlotEntry>(
     looks: &mut Count,
 )
     requires small { lg < 40 }
-    requires laid_out { IsLaidOut E.key lg (map E.held slots.old) }
-    requires once { (q : ℕ) → entry_count E.key q (entries_in E.held left.old) + entry_count E.key q (entries_in E.held slots.old) ≤ 1 }
-    requires room { length (entries_in E.held left.old) + length (entries_in E.held slots.old) ≤ 2 ^ lg }
+    requires laid_out { IsLaidOut E.key lg (map E.content slots.old) }
+    requires once { (q : ℕ) → entry_count E.key q (entries_in E.content left.old) + entry_count E.key q (entries_in E.content slots.old) ≤ 1 }
+    requires room { length (entries_in E.content left.old) + length (entries_in E.content slots.old) ≤ 2 ^ lg }
     ensures size { length left.new ≡ length left.old }
-    ensures laid_out { IsLaidOut E.key lg (map E.held slots.new) }
+    ensures laid_out { IsLaidOut E.key lg (map E.content slots.new) }
     ensures found { (q : ℕ)
-        → entry_at E.key (entries_in E.held slots.new) q
-        ≡ entry_at E.key (entries_in E.held left.old ++ entries_in E.held slots.old) q }
-    ensures all { (q : ℕ) → entry_count_in E.key E.held q slots.new ≡ entry_count_in E.key E.held q left.old + entry_count_in E.key E.held q slots.old }
-    ensures count { length (entries_in E.held slots.new) ≡ length (entries_in E.held left.old) + length (entries_in E.held slots.old) }
-    ensures placed { placed.new ≡ placed.old + length (entries_in E.held left.old) }
+        → entry_at E.key (entries_in E.content slots.new) q
+        ≡ entry_at E.key (entries_in E.content left.old ++ entries_in E.content slots.old) q }
+    ensures all { (q : ℕ) → entry_count_in E.key E.content q slots.new ≡ entry_count_in E.key E.content q left.old + entry_count_in E.key E.content q slots.old }
+    ensures count { length (entries_in E.content slots.new) ≡ length (entries_in E.content left.old) + length (entries_in E.content slots.old) }
+    ensures placed { placed.new ≡ placed.old + length (entries_in E.content left.old) }
     ensures looked { looks.old + (placed.new - placed.old) ≤ looks.new }
-    ensures looks { 2 * looks.new + twice_sum_to (length (entries_in E.held slots.old))
-        ≤ 2 * looks.old + twice_sum_to (length (entries_in E.held slots.new)) }
+    ensures looks { 2 * looks.new + twice_sum_to (length (entries_in E.content slots.old))
+        ≤ 2 * looks.old + twice_sum_to (length (entries_in E.content slots.new)) }
 {
     let mut count = left.len();
     let mut round = 0;
@@ -130,12 +130,12 @@ pub(crate) fn settle_all<E: SlotEntry, A: Allocator>(
 )
     requires small { lg < 40 }
     requires size { length slots.old ≡ 2 ^ lg }
-    requires free { entries_in E.held slots.old ≡ [] }
-    requires apart { IsApart E.key (entries_in E.held left.old.items) }
-    requires room { length (entries_in E.held left.old.items) ≤ 2 ^ lg }
-    ensures laid_out { IsLaidOut E.key lg (map E.held slots.new) }
-    ensures map { slot_map E.key E.held slots.new ≡ slot_map E.key E.held left.old.items }
-    ensures placed { placed.new ≡ placed.old + length (entries_in E.held left.old.items) }
+    requires free { entries_in E.content slots.old ≡ [] }
+    requires apart { IsApart E.key (entries_in E.content left.old.items) }
+    requires room { length (entries_in E.content left.old.items) ≤ 2 ^ lg }
+    ensures laid_out { IsLaidOut E.key lg (map E.content slots.new) }
+    ensures map { slot_map E.key E.content slots.new ≡ slot_map E.key E.content left.old.items }
+    ensures placed { placed.new ≡ placed.old + length (entries_in E.content left.old.items) }
     ensures looked { looks.old + (placed.new - placed.old) ≤ looks.new }
     ensures looks { 2 * looks.new ≤ 2 * looks.old + (placed.new - placed.old) * (placed.new - placed.old + 1) }
 {

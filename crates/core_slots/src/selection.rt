@@ -10,7 +10,7 @@
 ghost use Rattle.std.specs.Prelude.{◌≡◌, ◌+◌, ◌-◌, ◌<◌, ◌≤◌, ◌^◌, [], ◌∷◌, ◌++◌, length, map, take, IfOk, OnOk};
 ghost use Rattle.core_laws.specs.Entries.{hash_key};
 ghost use Rattle.core_laws.specs.Maps.{IsApart, rank};
-ghost use Rattle.core_slots.specs.Layout.{filled, greatest, entries_in};
+ghost use Rattle.core_slots.specs.SlotLayout.{filled, greatest_word, entries_in};
 ghost use Rattle.core_slots.specs.Rank.{HasRank, within};
 
 use crate::slot_entry::SlotEntry;
@@ -50,7 +50,7 @@ struct Span {
 /// there.
 fn expected_bounds(span: Span, rank: usize) -> (u64, u64)
     ensures ordered { result.0 ≤ result.1 }
-    ensures far { result.1 < greatest }
+    ensures far { result.1 < greatest_word }
 {
     let width = span.high.saturating_sub(span.low);
     let number = span.rank_to.saturating_sub(span.rank_from) as u64;
@@ -161,12 +161,12 @@ fn gather_few<E: SlotEntry>(
     high: u64,
 ) -> (usize, usize)
     requires ordered { low ≤ high }
-    requires far { high < greatest }
+    requires far { high < greatest_word }
     requires room { length slots.now ≤ length found.old }
     ensures size { length found.new ≡ length found.old }
-    ensures few { result.0 ≤ length slots.now }
-    ensures gathered { take result.0 found.new ≡ within low high (map E.key (entries_in E.held slots.now)) }
-    ensures below { result.1 ≡ rank hash_key (map E.key (entries_in E.held slots.now)) low }
+    ensures limited { result.0 ≤ length slots.now }
+    ensures gathered { take result.0 found.new ≡ within low high (map E.key (entries_in E.content slots.now)) }
+    ensures below { result.1 ≡ rank hash_key (map E.key (entries_in E.content slots.now)) low }
 {
     let mut count = 0;
     let mut less = 0;
@@ -201,11 +201,11 @@ fn gather_window<E: SlotEntry, A: Allocator>(
     high: u64,
 ) -> Result<usize, AllocError>
     requires ordered { low ≤ high }
-    requires far { high < greatest }
+    requires far { high < greatest_word }
     requires none { hashes.old.items ≡ [] }
-    requires fits { length (filled (also ∷ []) ++ map E.key (entries_in E.held slots.now)) < 2 ^ 64 }
-    ensures gathered { OnOk result (hashes.new.items ≡ within low high (filled (also ∷ []) ++ map E.key (entries_in E.held slots.now))) }
-    ensures below { IfOk result (λ n. n ≡ rank hash_key (filled (also ∷ []) ++ map E.key (entries_in E.held slots.now)) low) }
+    requires fits { length (filled (also ∷ []) ++ map E.key (entries_in E.content slots.now)) < 2 ^ 64 }
+    ensures gathered { OnOk result (hashes.new.items ≡ within low high (filled (also ∷ []) ++ map E.key (entries_in E.content slots.now))) }
+    ensures below { IfOk result (λ n. n ≡ rank hash_key (filled (also ∷ []) ++ map E.key (entries_in E.content slots.now)) low) }
 {
     if let Some(hash) = also {
         if let Some(first) = kept_within(hash, low, high) {
@@ -238,7 +238,7 @@ fn gather_all<E: SlotEntry, A: Allocator>(
     slots: &[E::Slot],
 ) -> Result<(), AllocError>
     requires { hashes.old.items ≡ [] }
-    ensures { OnOk result (hashes.new.items ≡ filled (also ∷ []) ++ map E.key (entries_in E.held slots.now)) }
+    ensures { OnOk result (hashes.new.items ≡ filled (also ∷ []) ++ map E.key (entries_in E.content slots.now)) }
 {
     if let Some(first) = also {
         hashes.push(first)?;
@@ -275,10 +275,10 @@ pub fn hash_of_rank<E: SlotEntry, A: Allocator + Drop>(
     rank: usize,
     theta: u64,
 ) -> Result<u64, AllocError>
-    requires apart { IsApart hash_key (filled (also ∷ []) ++ map E.key (entries_in E.held slots.now)) }
-    requires counted { count ≡ length (filled (also ∷ []) ++ map E.key (entries_in E.held slots.now)) }
+    requires apart { IsApart hash_key (filled (also ∷ []) ++ map E.key (entries_in E.content slots.now)) }
+    requires counted { count ≡ length (filled (also ∷ []) ++ map E.key (entries_in E.content slots.now)) }
     requires inside { rank < count }
-    ensures ranked { IfOk result (HasRank (filled (also ∷ []) ++ map E.key (entries_in E.held slots.now)) rank) }
+    ensures ranked { IfOk result (HasRank (filled (also ∷ []) ++ map E.key (entries_in E.content slots.now)) rank) }
 {
     let mut span = Span {
         low: 0,

@@ -1,7 +1,7 @@
 //! The entries that slots hold.
 ghost use Rattle.std.specs.Prelude.{◌≡◌, ◌+◌, ◌<◌, ◌≤◌, [], length, map, Option, Some, None, IfOk};
 ghost use Rattle.std.specs.Option.{option_copied};
-ghost use Rattle.core_slots.specs.Layout.{filled, holds_below, hash_or_greatest};
+ghost use Rattle.core_slots.specs.SlotLayout.{filled, holds_below, hash_or_greatest};
 
 use crate::count::Count;
 use core_laws::SketchEntry;
@@ -16,11 +16,11 @@ pub trait PathEntry: SketchEntry {
     type Slot: Drop;
 
     /// The entry that a slot holds, if any.
-    ghost held: { Self.Slot → Option Self };
+    ghost content: { Self.Slot → Option Self };
 
     /// A free slot.
     fn free_slot() -> Self::Slot
-        ensures { held result ≡ None };
+        ensures { content result ≡ None };
 
     /// `count` free slots, in one request for memory. It fails only if memory runs out.
     fn free_slots<A: Allocator + Drop>(
@@ -28,16 +28,16 @@ pub trait PathEntry: SketchEntry {
         count: usize,
     ) -> Result<Vec<Self::Slot, A>, AllocError>
         ensures size { IfOk result (λ slots. length slots.items ≡ count) }
-        ensures free { IfOk result (λ slots. filled (map held slots.items) ≡ []) };
+        ensures free { IfOk result (λ slots. filled (map content slots.items) ≡ []) };
 
     /// The slot of this entry, whose hash is not 0.
     fn into_slot(self) -> Self::Slot
         requires { 0 < Self.key self }
-        ensures { held result ≡ Some self };
+        ensures { content result ≡ Some self };
 
     /// The entry that a slot holds, if any. It is one look, and is counted.
     fn look<'a>(slot: &'a Self::Slot, looks: &mut Count) -> Option<&'a Self>
-        ensures held { option_copied result ≡ held slot.now }
+        ensures content { option_copied result ≡ content slot.now }
         ensures counted { looks.new ≡ looks.old + 1 };
 }
 
@@ -46,22 +46,22 @@ pub trait PathEntry: SketchEntry {
 pub trait SlotEntry: PathEntry {
     /// The entry that a slot held, if any.
     fn from_slot(slot: Self::Slot) -> Option<Self>
-        ensures { result ≡ Self.held slot };
+        ensures { result ≡ Self.content slot };
 
     /// The contents of a slot, taken out of it. Its contents are unspecified afterwards, since it is about to be
     /// written or dropped: a slot of one word is read, and not written.
     fn take_out(slot: &mut Self::Slot) -> Self::Slot
-        ensures { Self.held result ≡ Self.held slot.old };
+        ensures { Self.content result ≡ Self.content slot.old };
 
     /// Whether a slot holds an entry whose hash is less than `bound`. For a slot of one word this is one comparison.
     fn is_below(slot: &Self::Slot, bound: u64) -> bool
-        ensures { result ≡ holds_below Self.key bound (Self.held slot.now) };
+        ensures { result ≡ holds_below Self.key bound (Self.content slot.now) };
 
     /// The hash of the entry that a slot holds, and the greatest number of 64 bits for a free slot. It takes no branch.
     fn hash_or_greatest(slot: &Self::Slot) -> u64
-        ensures { result ≡ hash_or_greatest Self.key (Self.held slot.now) };
+        ensures { result ≡ hash_or_greatest Self.key (Self.content slot.now) };
 
     /// The entry that a slot holds, if any.
     fn in_slot(slot: &Self::Slot) -> Option<&Self>
-        ensures { option_copied result ≡ Self.held slot.now };
+        ensures { option_copied result ≡ Self.content slot.now };
 }

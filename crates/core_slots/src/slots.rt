@@ -4,7 +4,7 @@ ghost use Rattle.std.specs.List.{count_by};
 ghost use Rattle.std.specs.Option.{option_copied};
 ghost use Rattle.core_laws.specs.Entries.{hash_key};
 ghost use Rattle.core_laws.specs.Maps.{rank, entry_at, below, with_entry};
-ghost use Rattle.core_slots.specs.Layout.{filled, slot, is_other, IsOnPath, IsLaidOut, entries_in, slot_map};
+ghost use Rattle.core_slots.specs.SlotLayout.{filled, slot, is_other, IsOnPath, IsLaidOut, entries_in, slot_map};
 ghost use Rattle.core_slots.specs.Probe.{probe, stride};
 
 use crate::count::Count;
@@ -28,7 +28,7 @@ fn look_at<'a, E: PathEntry + 'a>(
     looks: &mut Count,
 ) -> Option<&'a E>
     requires { at < length slots.now }
-    ensures holds { option_copied result ≡ slot (map E.held slots.now) at }
+    ensures holds { option_copied result ≡ slot (map E.content slots.now) at }
     ensures looks { looks.new ≡ looks.old + 1 }
 {
     E::look(&slots[at], looks)
@@ -76,13 +76,13 @@ pub(crate) fn stride_of(hash: u64, lg: u8) -> usize
 pub fn seek<E: PathEntry>(slots: &[E::Slot], lg: u8, hash: u64, looks: &mut Count) -> Place
     requires small { lg < 40 }
     requires size { length slots.now ≡ 2 ^ lg }
-    requires room { length (entries_in E.held slots.now) < 2 ^ lg }
+    requires room { length (entries_in E.content slots.now) < 2 ^ lg }
     ensures inside { result.at < length slots.now }
-    ensures on_path { IsOnPath E.key lg (map E.held slots.now) hash result.at }
-    ensures ends { is_other E.key hash (slot (map E.held slots.now) result.at) ≡ false }
-    ensures is_free { result.is_free ≡ is_none (slot (map E.held slots.now) result.at) }
+    ensures on_path { IsOnPath E.key lg (map E.content slots.now) hash result.at }
+    ensures ends { is_other E.key hash (slot (map E.content slots.now) result.at) ≡ false }
+    ensures is_free { result.is_free ≡ is_none (slot (map E.content slots.now) result.at) }
     ensures looked { looks.old < looks.new }
-    ensures looks { looks.new ≤ looks.old + length (entries_in E.held slots.now) + 1 }
+    ensures looks { looks.new ≤ looks.old + length (entries_in E.content slots.now) + 1 }
 {
     let size = slots.len();
     let stride = stride_of(hash, lg);
@@ -104,7 +104,7 @@ pub fn seek<E: PathEntry>(slots: &[E::Slot], lg: u8, hash: u64, looks: &mut Coun
 #[inline(always)]
 pub(crate) fn slot_after(hash: u64, lg: u8, steps: usize) -> usize
     requires small { lg < 40 }
-    requires few { steps < 2 ^ 40 }
+    requires limited { steps < 2 ^ 40 }
     ensures value { result ≡ probe hash lg steps }
     ensures below { result < 2 ^ lg }
 {
@@ -115,7 +115,7 @@ pub(crate) fn slot_after(hash: u64, lg: u8, steps: usize) -> usize
 /// The hash of the entry in a slot, if any.
 #[inline(always)]
 pub(crate) fn hash_in<E: SlotEntry>(slot: &E::Slot) -> Option<u64>
-    ensures { result ≡ option_map E.key (E.held slot.now) }
+    ensures { result ≡ option_map E.key (E.content slot.now) }
 {
     let entry = E::in_slot(slot)?;
     Some(entry.hash())
@@ -124,7 +124,7 @@ pub(crate) fn hash_in<E: SlotEntry>(slot: &E::Slot) -> Option<u64>
 /// The hash of the entry in a slot, and 0 for a free slot.
 #[inline(always)]
 pub(crate) fn hash_or_zero<E: SlotEntry>(slot: &E::Slot) -> u64
-    ensures { result ≡ unwrap_or (option_map E.key (E.held slot.now)) 0 }
+    ensures { result ≡ unwrap_or (option_map E.key (E.content slot.now)) 0 }
 {
     hash_in::<E>(slot).unwrap_or(0)
 }
@@ -132,8 +132,8 @@ pub(crate) fn hash_or_zero<E: SlotEntry>(slot: &E::Slot) -> u64
 /// 1 for a slot that holds a hash less than `bound`, otherwise 0.
 #[inline(always)]
 pub(crate) fn number_below<E: SlotEntry>(slot: &E::Slot, bound: u64) -> usize
-    ensures number { result ≡ rank hash_key (map E.key (filled (E.held slot.now ∷ []))) bound }
-    ensures below { result ≡ length (below E.key (filled (E.held slot.now ∷ [])) bound) }
+    ensures number { result ≡ rank hash_key (map E.key (filled (E.content slot.now ∷ []))) bound }
+    ensures below { result ≡ length (below E.key (filled (E.content slot.now ∷ [])) bound) }
     ensures small { result ≤ 1 }
 {
     E::is_below(slot, bound) as usize
@@ -149,14 +149,14 @@ fn put_slot<E: PathEntry>(
     looks: &mut Count,
 )
     requires small { lg < 40 }
-    requires holds { option_map E.key (E.held filled_slot) ≡ Some hash }
-    requires laid_out { IsLaidOut E.key lg (map E.held slots.old) }
-    requires room { length (entries_in E.held slots.old) < 2 ^ lg }
-    ensures laid_out { IsLaidOut E.key lg (map E.held slots.new) }
-    ensures found { (q : ℕ) → entry_at E.key (entries_in E.held slots.new) q ≡ entry_at E.key (filled (E.held filled_slot ∷ map E.held slots.old)) q }
-    ensures count { length (entries_in E.held slots.new) ≤ length (entries_in E.held slots.old) + 1 }
+    requires holds { option_map E.key (E.content filled_slot) ≡ Some hash }
+    requires laid_out { IsLaidOut E.key lg (map E.content slots.old) }
+    requires room { length (entries_in E.content slots.old) < 2 ^ lg }
+    ensures laid_out { IsLaidOut E.key lg (map E.content slots.new) }
+    ensures found { (q : ℕ) → entry_at E.key (entries_in E.content slots.new) q ≡ entry_at E.key (filled (E.content filled_slot ∷ map E.content slots.old)) q }
+    ensures count { length (entries_in E.content slots.new) ≤ length (entries_in E.content slots.old) + 1 }
     ensures looked { looks.old < looks.new }
-    ensures looks { looks.new ≤ looks.old + length (entries_in E.held slots.old) + 1 }
+    ensures looks { looks.new ≤ looks.old + length (entries_in E.content slots.old) + 1 }
 {
     let place = seek::<E>(slots, lg, hash, looks);
     slots[place.at] = filled_slot;
@@ -173,11 +173,11 @@ pub(crate) fn spread<E: SlotEntry, A: Allocator>(
 )
     requires small { lg < 40 }
     requires size { length slots.old ≡ 2 ^ lg }
-    requires free { entries_in E.held slots.old ≡ [] }
-    requires room { length (entries_in E.held from.old.items) ≤ 2 ^ lg }
-    ensures laid_out { IsLaidOut E.key lg (map E.held slots.new) }
-    ensures map { slot_map E.key E.held slots.new ≡ below E.key (slot_map E.key E.held from.old.items) theta }
-    ensures placed { placed.new ≡ placed.old + count_by (λ x. nat_lt (E.key x) theta) (entries_in E.held from.old.items) }
+    requires free { entries_in E.content slots.old ≡ [] }
+    requires room { length (entries_in E.content from.old.items) ≤ 2 ^ lg }
+    ensures laid_out { IsLaidOut E.key lg (map E.content slots.new) }
+    ensures map { slot_map E.key E.content slots.new ≡ below E.key (slot_map E.key E.content from.old.items) theta }
+    ensures placed { placed.new ≡ placed.old + count_by (λ x. nat_lt (E.key x) theta) (entries_in E.content from.old.items) }
     ensures looked { looks.old + (placed.new - placed.old) ≤ looks.new }
     ensures looks { 2 * looks.new ≤ 2 * looks.old + (placed.new - placed.old) * (placed.new - placed.old + 1) }
 {
@@ -198,7 +198,7 @@ pub fn free_slots<E: PathEntry, A: Allocator + Drop>(
 ) -> Result<Vec<E::Slot, A>, AllocError>
     requires { lg < 40 }
     ensures size { IfOk result (λ slots. length slots.items ≡ 2 ^ lg) }
-    ensures free { IfOk result (λ slots. entries_in E.held slots.items ≡ []) }
+    ensures free { IfOk result (λ slots. entries_in E.content slots.items ≡ []) }
 {
     let slots = E::free_slots(alloc, power_of_two(lg))?;
     Ok(slots)
@@ -228,17 +228,17 @@ pub fn put_spread<E: SlotEntry + Drop, A: Allocator + Clone>(
     looks: &mut Count,
 ) -> Result<(), AllocError>
     requires small { new_lg < 40 }
-    requires laid_out { IsLaidOut E.key lg (map E.held slots.old.items) }
+    requires laid_out { IsLaidOut E.key lg (map E.content slots.old.items) }
     requires inside { at < length slots.old.items }
-    requires free { slot (map E.held slots.old.items) at ≡ None }
-    requires on_path { IsOnPath E.key lg (map E.held slots.old.items) (E.key entry) at }
-    requires room { length (entries_in E.held slots.old.items) + 1 ≤ 2 ^ new_lg }
+    requires free { slot (map E.content slots.old.items) at ≡ None }
+    requires on_path { IsOnPath E.key lg (map E.content slots.old.items) (E.key entry) at }
+    requires room { length (entries_in E.content slots.old.items) + 1 ≤ 2 ^ new_lg }
     requires nonzero { 0 < E.key entry }
-    ensures laid_out { OnOk result (IsLaidOut E.key new_lg (map E.held slots.new.items)) }
+    ensures laid_out { OnOk result (IsLaidOut E.key new_lg (map E.content slots.new.items)) }
     ensures map { OnOk result (
-        slot_map E.key E.held slots.new.items
-        ≡ below E.key (with_entry E.key (slot_map E.key E.held slots.old.items) entry) theta) }
-    ensures placed { OnOk result (placed.new ≡ placed.old + length (entries_in E.held slots.new.items)) }
+        slot_map E.key E.content slots.new.items
+        ≡ below E.key (with_entry E.key (slot_map E.key E.content slots.old.items) entry) theta) }
+    ensures placed { OnOk result (placed.new ≡ placed.old + length (entries_in E.content slots.new.items)) }
     ensures err { OnErr result (slots.new.items ≡ slots.old.items) }
     ensures placed_err { OnErr result (placed.new ≡ placed.old) }
     ensures looked { looks.old + (placed.new - placed.old) ≤ looks.new }

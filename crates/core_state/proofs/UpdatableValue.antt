@@ -11,22 +11,22 @@ use Rattle.core_state.specs.Updatable.{Updatable, IsUpdatable, sketch_shows, ske
 use Rattle.core_laws.specs.Shown.{IsShown, shown_value}
 use Rattle.core_laws.proofs.maps.Ascending.{ascending-nil}
 use Rattle.core_laws.proofs.cuts.Cuts.{cut_few}
-use Rattle.core_compact.proofs.LawsOfShown.{IsShown-none, shown-lent}
+use Rattle.core_compact.proofs.LawsOfShown.{IsShown-none, shown-iterated}
 use Rattle.core_laws.proofs.maps.MapsOfLists.{nothing}
 
 module _ {X : Type 0} (key : X → ℕ) where
   -- what a sketch shows meets the laws
-  pub shown-sketch : (s : Updatable X) → IsUpdatable s → IsTable key s.map → IsListing key s.map.kept.entries s.lends → IsShown (sketch_shows key s)
-  shown-sketch s sound table lent =
-      (elim s.empty as (λ b. s.empty ≡ b → IsShown (record { empty = b; theta = theta_of (cond b Empty (NonEmpty s.map.kept)); seed_hash = s.map.seed_hash; ordered = false; hashes = map key s.lends })) [
+  pub shown-sketch : (s : Updatable X) → IsUpdatable s → IsTable key s.map → IsListing key s.map.kept.entries s.sequence → IsShown (sketch_shows key s)
+  shown-sketch s sound table iterated =
+      (elim s.empty as (λ b. s.empty ≡ b → IsShown (record { empty = b; theta = theta_of (cond b Empty (NonEmpty s.map.kept)); seed_hash = s.map.seed_hash; ordered = false; hashes = map key s.sequence })) [
         | true ↦ λ e.
             let entries : s.map.kept.entries ≡ [] = ap (λ v. v.entries) (sound.none_yet e) in
-            let lends : s.lends ≡ [] = nothing key s.lends (length_permutation s.map.kept.entries s.lends lent.each_once ∙ ap length entries) in
-            rw lends (IsShown-none MAX_THETA s.map.seed_hash true false (omega arith) (omega arith) (λ _. refl))
+            let sequence : s.sequence ≡ [] = nothing key s.sequence (length_permutation s.map.kept.entries s.sequence iterated.each_once ∙ ap length entries) in
+            rw sequence (IsShown-none MAX_THETA s.map.seed_hash true false (omega arith) (omega arith) (λ _. refl))
         | false ↦ λ e.
             let low : 2 ^ 4 ≤ 2 ^ s.map.lg_nom = pow_mono {i = 4} {j = s.map.lg_nom} sound.lg_k_low in
             let high : 2 ^ s.map.lg_nom ≤ 2 ^ 26 = pow_mono {i = s.map.lg_nom} {j = 26} sound.lg_k_high in
-            shown-lent key s.map.kept s.lends s.map.seed_hash table.kept lent (omega (arith, table.few (omega (arith, low)), high))
+            shown-iterated key s.map.kept s.sequence s.map.seed_hash table.kept iterated (omega (arith, table.limited (omega (arith, low)), high))
       ]) refl
 
   -- a sketch has as many entries as its table
@@ -35,8 +35,8 @@ module _ {X : Type 0} (key : X → ℕ) where
       (elim s.empty as (λ b. s.empty ≡ b → length s.map.kept.entries ≡ count_of (cond b Empty (NonEmpty s.map.kept))) [ true ↦ λ e. ap (λ v. length v.entries) (sound.none_yet e) | false ↦ λ e. refl ]) refl
 
   -- a trim keeps the invariant
-  pub updatable-trimmed : (s : Updatable X) (m : MapTable X) (lends : List X) → IsUpdatable s → m ≡ record s.map { kept = cut key (2 ^ s.map.lg_nom) s.map.kept.entries s.map.kept.theta } → IsUpdatable (record { empty = s.empty; map = m; lends = lends })
-  updatable-trimmed s m lends sound after = record {
+  pub updatable-trimmed : (s : Updatable X) (m : MapTable X) (sequence : List X) → IsUpdatable s → m ≡ record s.map { kept = cut key (2 ^ s.map.lg_nom) s.map.kept.entries s.map.kept.theta } → IsUpdatable (record { empty = s.empty; map = m; sequence = sequence })
+  updatable-trimmed s m sequence sound after = record {
     lg_k_low = rw (ap (λ t. t.lg_nom) after) sound.lg_k_low;
     lg_k_high = rw (ap (λ t. t.lg_nom) after) sound.lg_k_high;
     none_yet = λ e.
@@ -47,17 +47,17 @@ module _ {X : Type 0} (key : X → ℕ) where
   }
 
   -- and so does a call that doesn't change the map
-  pub updatable-same : (s : Updatable X) (m : MapTable X) (lends : List X) → IsUpdatable s → m ≡ s.map → IsUpdatable (record { empty = s.empty; map = m; lends = lends })
-  updatable-same s m lends sound same = record {
+  pub updatable-same : (s : Updatable X) (m : MapTable X) (sequence : List X) → IsUpdatable s → m ≡ s.map → IsUpdatable (record { empty = s.empty; map = m; sequence = sequence })
+  updatable-same s m sequence sound same = record {
     lg_k_low = rw same sound.lg_k_low;
     lg_k_high = rw same sound.lg_k_high;
     none_yet = λ e. ap (λ t. t.kept) same ∙ sound.none_yet e ∙ sym (ap (λ t. none_below t.start) same);
   }
 
   -- the value that a sketch shows is its value
-  pub shown-sketch_value : (s : Updatable X) → IsListing key s.map.kept.entries s.lends → shown_value key (sketch_shows key s) s.lends ≡ sketch_value s
-  shown-sketch_value s lent =
-      elim s.empty as (λ b. cond b Empty (NonEmpty (record { entries = map_of key s.lends; theta = theta_of (cond b Empty (NonEmpty s.map.kept)) })) ≡ cond b Empty (NonEmpty s.map.kept)) [
+  pub shown-sketch_value : (s : Updatable X) → IsListing key s.map.kept.entries s.sequence → shown_value key (sketch_shows key s) s.sequence ≡ sketch_value s
+  shown-sketch_value s iterated =
+      elim s.empty as (λ b. cond b Empty (NonEmpty (record { entries = map_of key s.sequence; theta = theta_of (cond b Empty (NonEmpty s.map.kept)) })) ≡ cond b Empty (NonEmpty s.map.kept)) [
         | true ↦ refl
-        | false ↦ ap (λ xs. NonEmpty (record { entries = xs; theta = s.map.kept.theta })) lent.same_map
+        | false ↦ ap (λ xs. NonEmpty (record { entries = xs; theta = s.map.kept.theta })) iterated.same_map
       ]

@@ -12,7 +12,7 @@ use Rattle.core_laws.specs.Shown.{Shown}
 pub record Updatable (X : Type 0) : Type 0 where
   pub empty : Bool
   pub map : MapTable X
-  pub lends : List X
+  pub sequence : List X
 
 -- the invariant of a sketch: its nominal entries are in range, and if it is empty, it has no entries and its starting theta
 pub record IsUpdatable {X : Type 0} (s : Updatable X) : Type 0 where
@@ -26,7 +26,7 @@ sketch_value s = if s.empty then Empty else NonEmpty s.map.kept
 
 -- what a sketch shows; it is never ordered
 abbrev pub sketch_shows : {X : Type 0} → (X → ℕ) → Updatable X → Shown
-sketch_shows key s = record { empty = s.empty; theta = theta_of (sketch_value s); seed_hash = s.map.seed_hash; ordered = false; hashes = map key s.lends }
+sketch_shows key s = record { empty = s.empty; theta = theta_of (sketch_value s); seed_hash = s.map.seed_hash; ordered = false; hashes = map key s.sequence }
 
 -- memory was refused at a hash that makes an entry, and updates with hashes stopped there: the sketch has accepted exactly
 -- the hashes before it

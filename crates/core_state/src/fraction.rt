@@ -90,7 +90,7 @@ impl fmt::Display for Decimal {
 pub fn estimate_decimal(fraction: (u128, u128), places: u32) -> Decimal
     requires low { 0 < fraction.1 }
     requires high { fraction.1 ≤ MAX_THETA }
-    requires few { places ≤ MAX_PLACES }
+    requires limited { places ≤ MAX_PLACES }
     ensures { result ≡ decimal_of fraction places }
 {
     let (count, theta) = fraction;
@@ -108,7 +108,7 @@ pub fn compact_decimal<E: SketchEntry, A: Allocator>(
     state: &CompactSketchState<E, A>,
     places: u32,
 ) -> Decimal
-    requires few { places ≤ MAX_PLACES }
+    requires limited { places ≤ MAX_PLACES }
     ensures { result ≡ decimal_of (compact_fraction state.now) places }
 {
     let _ = state.retained_entries();

@@ -16,9 +16,9 @@ pub struct ThetaSketchIter<'a> {
 
 impl<'a> Model for ThetaSketchIter<'a> {
     ghost use Rattle.std.specs.Prelude.{ℕ};
-    ghost use Rattle.core_operators.specs.Iter.{Lending};
+    ghost use Rattle.core_operators.specs.Iter.{Remaining};
 
-    ghost Value = { Lending ℕ };
+    ghost Value = { Remaining ℕ };
 
     ghost view = { λ s. s.entries };
 }

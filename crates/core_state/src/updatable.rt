@@ -40,9 +40,9 @@ impl<E: SlotEntry, A: Allocator> Model for UpdatableState<E, A> {
 
     ghost Value = { Updatable E };
 
-    ghost view = { λ s. record { empty = s.empty; map = s.table.map; lends = s.table.lends } };
+    ghost view = { λ s. record { empty = s.empty; map = s.table.map; sequence = s.table.sequence } };
 
-    ghost invariant = { λ s. IsUpdatable (record { empty = s.empty; map = s.table.map; lends = s.table.lends }) };
+    ghost invariant = { λ s. IsUpdatable (record { empty = s.empty; map = s.table.map; sequence = s.table.sequence }) };
 }
 
 impl<E: SlotEntry, A: Allocator> UpdatableState<E, A> {
@@ -93,7 +93,7 @@ impl<E: SlotEntry, A: Allocator> UpdatableState<E, A> {
     /// How many entries it retains, fewer than 2^32.
     pub fn num_retained(&self) -> usize
         ensures count { result ≡ count_of (sketch_value self.now) }
-        ensures listed { result ≡ length self.now.lends }
+        ensures listed { result ≡ length self.now.sequence }
         ensures sound { IsShown (sketch_shows E.key self.now) }
     {
         let _ = self.table.iter_entries();
@@ -114,7 +114,7 @@ impl<E: SlotEntry, A: Allocator> UpdatableState<E, A> {
 
     /// The estimate as a decimal number with `places` decimals, from 0 to 19, rounded down; 0 if it is empty.
     pub fn estimate_decimal(&self, places: u32) -> Decimal
-        requires few { places ≤ MAX_PLACES }
+        requires limited { places ≤ MAX_PLACES }
         ensures { result ≡ decimal_of (fraction_of (sketch_value self.now)) places }
     {
         let _ = self.num_retained();
@@ -144,8 +144,8 @@ impl<E: SlotEntry, A: Allocator> UpdatableState<E, A> {
 
     /// Its entries, each once, in an unspecified order.
     pub fn entries(&self) -> EntryIter<'_, E>
-        ensures listed { result ≡ record { rest = self.now.lends; counted = false } }
-        ensures each_once { IsListing E.key self.now.map.kept.entries self.now.lends }
+        ensures listed { result ≡ record { rest = self.now.sequence; counted = false } }
+        ensures each_once { IsListing E.key self.now.map.kept.entries self.now.sequence }
     {
         EntryIter::of_table(&self.table)
     }
@@ -203,6 +203,19 @@ impl<E: SlotEntry + Drop, A: Allocator + Clone> UpdatableState<E, A> {
 }
 
 impl<E: SlotEntry + Clone, A: Allocator + Clone> UpdatableState<E, A> {
+    /// A copy of the state: with the same entries, theta and settings, but perhaps in another order. Refused with
+    /// `OutOfMemory` alone.
+    pub fn clone(&self) -> Result<Self, Error>
+        requires clones_equal { ClonesEqual E.is_clone }
+        ensures empty { IfOk result (λ s. s.empty ≡ self.now.empty) }
+        ensures copied { IfOk result (λ s. s.map ≡ self.now.map) }
+        ensures refused { Refuses result None true }
+    {
+        let empty = self.empty;
+        let table = self.table.clone()?;
+        Ok(UpdatableState { table, empty })
+    }
+
     /// Its compact form, with the same value, untrimmed. The result is ordered if `ordered` is true, if it is empty, or
     /// if it has one entry at the greatest theta. Refused with `OutOfMemory` alone.
     pub fn compact(&self, ordered: bool) -> Result<CompactSketchState<E, A>, Error>

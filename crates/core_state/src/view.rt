@@ -5,7 +5,7 @@ ghost use Rattle.core_slots.specs.Entry.{tuple_key};
 ghost use Rattle.core_laws.specs.Entries.{hash_key};
 ghost use Rattle.core_state.specs.Updatable.{sketch_shows, sketch_value};
 ghost use Rattle.core_laws.specs.Shown.{IsShown, shown_value};
-ghost use Rattle.core_state.specs.View.{shows, lends, lending};
+ghost use Rattle.core_state.specs.View.{shows, sequence, lending};
 ghost use Rattle.core_operators.specs.View.{metadata_of};
 
 use crate::iter::ThetaSketchIter;
@@ -53,8 +53,8 @@ impl<'a, E: SlotEntry, A: Allocator> SketchView<'a, E, A> {
     /// A view of a mutable sketch.
     pub fn of_state(state: &'a UpdatableState<E, A>) -> Self
         ensures shows { shows E.key result ≡ sketch_shows E.key state.entry.now }
-        ensures lends { lends result ≡ state.entry.now.lends }
-        ensures value { shown_value E.key (shows E.key result) (lends result) ≡ sketch_value state.entry.now }
+        ensures sequence { sequence result ≡ state.entry.now.sequence }
+        ensures value { shown_value E.key (shows E.key result) (sequence result) ≡ sketch_value state.entry.now }
     {
         let _ = state.entries();
         SketchView {
@@ -65,7 +65,7 @@ impl<'a, E: SlotEntry, A: Allocator> SketchView<'a, E, A> {
     /// A view of a compact sketch.
     pub fn of_compact(state: &'a CompactSketchState<E, A>) -> Self
         ensures shows { shows E.key result ≡ shown_of E.key state.entry.now }
-        ensures lends { lends result ≡ state.entry.now.entries }
+        ensures sequence { sequence result ≡ state.entry.now.entries }
     {
         SketchView {
             sketch: Viewed::Compact(state),
@@ -221,7 +221,7 @@ where
 {
     type Entry = E;
 
-    ghost listing = { lends };
+    ghost listing = { sequence };
 
     fn entries(&self) -> EntryIter<'_, E> {
         let _ = self.num_retained();

@@ -43,7 +43,7 @@ module _ (lg nom count : ℕ) (done : Counts) (is : IsCounted lg nom count done)
   -- one more entry, over more slots
   pub counted_grown : (new_lg : ℕ) → lg ≤ nom → 5 ≤ lg → lg + 1 ≤ new_lg → count ≤ 2 ^ lg / 2 → 2 ^ lg / 2 < count + 1 →
       IsCounted new_lg nom (count + 1) (record done { inserted = done.inserted + 1; fresh = done.fresh + 1; placed = done.placed + (count + 1) })
-  counted_grown new_lg growing low wider few full =
+  counted_grown new_lg growing low wider limited full =
       let double = two-pow-succ lg in
       let wide : 2 ^ suc lg ≤ 2 ^ new_lg = pow_mono {i = suc lg} {j = new_lg} (omega (arith, wider)) in
       let room = twice_above lg in
@@ -51,7 +51,7 @@ module _ (lg nom count : ℕ) (done : Counts) (is : IsCounted lg nom count done)
         fresh = omega (arith, is.fresh);
         rare = omega (arith, is.rare);
         few_placed = λ e. elim (is.few_placed e) [
-          | inl first ↦ inl (omega (arith, first.0), (omega (arith, first.1.0), (omega (arith, first.1.1.0, double, wide, few, wider), omega (arith, first.1.0, first.1.1.0, full, room))))
+          | inl first ↦ inl (omega (arith, first.0), (omega (arith, first.1.0), (omega (arith, first.1.1.0, double, wide, limited, wider), omega (arith, first.1.0, first.1.1.0, full, room))))
           | inr later ↦ absurd (omega (arith, later.0, growing))
         ];
       }
@@ -99,10 +99,10 @@ module _ (lg nom count : ℕ) (done : Counts) (is : IsCounted lg nom count done)
   pub placed_few : done.trims ≡ 0 → done.placed ≤ 3 * done.inserted
   placed_few e = elim (is.few_placed e) [ inl first ↦ first.1.1.1 | inr later ↦ omega (arith, later.1) ]
 
-told_apart : (fits grows : Bool) (nominal count : ℕ) (done : Counts) (looks later : ℕ) → record (ticked_if fits grows nominal count (record done { looks = looks })) { looks = later } ≡ record (ticked_if fits grows nominal count done) { looks = later }
-told_apart true grows nominal count done looks later = refl
-told_apart false true nominal count done looks later = refl
-told_apart false false nominal count done looks later = refl
+reported_apart : (fits grows : Bool) (nominal count : ℕ) (done : Counts) (looks later : ℕ) → record (ticked_if fits grows nominal count (record done { looks = looks })) { looks = later } ≡ record (ticked_if fits grows nominal count done) { looks = later }
+reported_apart true grows nominal count done looks later = refl
+reported_apart false true nominal count done looks later = refl
+reported_apart false false nominal count done looks later = refl
 
 -- the results of an insertion that creates an entry, case by case
 pub record IsTicked (lg nom grow count new_lg new_count : ℕ) (done new : Counts) : Type 0 where
@@ -112,7 +112,7 @@ pub record IsTicked (lg nom grow count new_lg new_count : ℕ) (done new : Count
 
 module _ (lg nom grow count : ℕ) (done : Counts) where
   pub few_ticked : count + 1 ≤ threshold lg nom → IsTicked lg nom grow count lg (count + 1) done (record done { inserted = done.inserted + 1; fresh = done.fresh + 1 })
-  few_ticked few = let e : leb (count + 1) (threshold lg nom) ≡ true = grind (arith, nat_tests) in record { size = rw e refl; retained = rw e refl; counts = rw e refl }
+  few_ticked limited = let e : leb (count + 1) (threshold lg nom) ≡ true = grind (arith, nat_tests) in record { size = rw e refl; retained = rw e refl; counts = rw e refl }
 
   pub grown_ticked : threshold lg nom < count + 1 → lg ≤ nom → IsTicked lg nom grow count (min (lg + grow) (nom + 1)) (count + 1) done (record done { inserted = done.inserted + 1; fresh = done.fresh + 1; placed = done.placed + (count + 1) })
   grown_ticked full growing =
@@ -130,13 +130,13 @@ module _ (lg nom grow count : ℕ) (done : Counts) where
   pub counted_ticked : HasSize lg nom grow count → (nom < 3 → count + 1 < 2 ^ lg) → IsCounted lg nom count done → IsCounted (size_after lg nom grow count) nom (count_after lg nom count) (ticked lg nom count done)
   counted_ticked sized room is =
       elim (cases_lt (threshold lg nom) (count + 1)) [
-        | inr few ↦ let t = few_ticked few in rw (t.size, t.retained, t.counts) (counted_more lg nom count done is)
+        | inr limited ↦ let t = few_ticked limited in rw (t.size, t.retained, t.counts) (counted_more lg nom count done is)
         | inl more ↦ elim (cases_lt nom lg) [
           | inr growing ↦
               let t = grown_ticked more growing in
               let g = sized.grows growing in
               let half = threshold_growing lg nom growing in
-              rw (t.size, t.retained, t.counts) (counted_grown lg nom count done is (min (lg + grow) (nom + 1)) growing g.0 (omega (arith, g.1, growing)) (omega (arith, half, sized.few)) (omega (arith, half, more)))
+              rw (t.size, t.retained, t.counts) (counted_grown lg nom count done is (min (lg + grow) (nom + 1)) growing g.0 (omega (arith, g.1, growing)) (omega (arith, half, sized.limited)) (omega (arith, half, more)))
           | inl whole ↦
               let t = rebuilt_ticked more whole in
               let f = full lg nom grow count sized whole more room in
@@ -148,7 +148,7 @@ module _ (lg nom grow count : ℕ) (done : Counts) where
   pub ticked_seldom : HasSize lg nom grow count → (nom < 3 → count + 1 < 2 ^ lg) → IsCounted lg nom count done → ((ticked lg nom count done).rebuilds ≡ done.rebuilds) ⊎ (7 * 2 ^ nom < 8 * (done.fresh + 1))
   ticked_seldom sized room is =
       elim (cases_lt (threshold lg nom) (count + 1)) [
-        | inr few ↦ let t = few_ticked few in inl (rw t.counts refl)
+        | inr limited ↦ let t = few_ticked limited in inl (rw t.counts refl)
         | inl more ↦ elim (cases_lt nom lg) [
           | inr growing ↦ let t = grown_ticked more growing in inl (rw t.counts refl)
           | inl whole ↦ let f = full lg nom grow count sized whole more room in let e = eights nom (large_enough nom f.large) in inr (omega (arith, f.many, e.1, is.fresh))
@@ -157,4 +157,4 @@ module _ (lg nom grow count : ℕ) (done : Counts) where
 
   -- the looks are counted apart from the rest
   pub ticked_looks : (looks later : ℕ) → record (ticked lg nom count (record done { looks = looks })) { looks = later } ≡ record (ticked lg nom count done) { looks = later }
-  ticked_looks looks later = told_apart (leb (count + 1) (threshold lg nom)) (leb lg nom) (2 ^ nom) count done looks later
+  ticked_looks looks later = reported_apart (leb (count + 1) (threshold lg nom)) (leb lg nom) (2 ^ nom) count done looks later

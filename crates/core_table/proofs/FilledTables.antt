@@ -1,9 +1,10 @@
 -- A table that is filled with entries of distinct keys.
-use Rattle.std.proofs.Common.{◌≡◌, ℕ, ◌+◌, ◌*◌, ◌/◌, ◌<◌, ◌≤◌, ◌≢◌, true, false, cond, ltb, eqb, List, [], ◌∷◌, length, Some, None, refl, sym, ap, ◌∙◌, subst, arith}
+use Rattle.std.proofs.Common.{◌≡◌, ℕ, ◌+◌, ◌*◌, ◌/◌, ◌<◌, ◌≤◌, ◌≢◌, Bool, true, false, cond, ltb, eqb, List, [], ◌∷◌, length, Some, None, refl, sym, ap, ◌∙◌, subst, arith}
 use Rattle.std.specs.List.{AllByRecursion}
 use Rattle.std.specs.Option.{option_map_or}
 use Rattle.std.proofs.lemmas.Bool.Decides.{nat_tests}
 use Rattle.std.proofs.lemmas.List.{length-append}
+use Rattle.core_laws.specs.declared.TheConstants.{MIN_LG_K}
 use Rattle.core_laws.specs.Cuts.{Retained}
 use Rattle.core_table.specs.HashTable.{MapTable}
 use Rattle.core_laws.specs.Maps.{IsApart, below, above, entry_at, with_entry, map_of}
@@ -44,7 +45,7 @@ module _ {X : Type 0} (key : X → ℕ) where
     pub same_theta : now.theta ≡ theta
 
   pub filling-start : (n theta : ℕ) (items : List X) → IsApart key items → AllByRecursion (λ x. 0 < key x) items → AllByRecursion (λ x. key x < theta) items → length items ≤ n → IsFilling n theta items (record { entries = []; theta = theta })
-  filling-start n theta items apart nonzero below_theta few = record { apart = apart; nonzero = nonzero; below_theta = below_theta; absent = λ q x found. refl; count = omega (arith, few); same_theta = refl }
+  filling-start n theta items apart nonzero below_theta limited = record { apart = apart; nonzero = nonzero; below_theta = below_theta; absent = λ q x found. refl; count = omega (arith, limited); same_theta = refl }
 
   module _ (n theta : ℕ) (x : X) (left : List X) (now : Retained X) (so_far : IsFilling n theta (x ∷ left) now) where
     new_key : entry_at key now.entries (key x) ≡ None
@@ -75,6 +76,11 @@ module _ {X : Type 0} (key : X → ℕ) where
   -- inserting all entries makes their map
   pub joined-all : (items : List X) → IsApart key items → joined key last [] items ≡ map_of key items
   joined-all items apart = joined-map_of key last (λ x y same. refl) [] items (ascending-nil key) apart ∙ joined-nil key last (λ x y same. refl) (map_of key items) (ascending-map_of key items)
+
+-- a table of a sketch has slots
+pub has_slots : (b : Bool) (lg : ℕ) → (b ≡ false → lg ≡ 0) → MIN_LG_K ≤ lg → b ≡ true
+has_slots true lg without low = refl
+has_slots false lg without low = absurd (omega (arith, without refl, low))
 
 pub none_left : {X : Type 0} (xs : List X) → length xs ≡ 0 → xs ≡ []
 none_left [] e = refl

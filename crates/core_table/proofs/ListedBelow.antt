@@ -2,25 +2,26 @@
 use Rattle.std.proofs.Common.{◌≡◌, ℕ, ◌<◌, ◌≤◌, ◌^◌, ◌++◌, ◌||◌, arith, MatchOption, Bool, true, false, ltb, List, [], ◌∷◌, length, Option, Some, None, refl, sym, ap, ◌∙◌}
 use Rattle.std.specs.List.{AllByRecursion}
 use Rattle.std.proofs.lemmas.Bool.Decides.{nat_tests}
-use Rattle.core_slots.specs.Layout.{filled}
+use Rattle.core_slots.specs.SlotLayout.{filled}
 use Rattle.core_slots.proofs.Gathers.{apart-below, map_of-below}
 use Rattle.core_table.specs.Gathering.{from_below}
 use Rattle.std.proofs.lemmas.List.Sorted.{length_permutation}
 use Rattle.core_compact.specs.CompactState.{Compact, IsCompactOf, shown_of, is_answer_ordered}
-use Rattle.core_laws.specs.Maps.{IsApart, below, map_of}
+use Rattle.core_laws.specs.Maps.{IsApart, below, map_of, rank}
 use Rattle.core_laws.specs.Cuts.{Retained, retained, cut}
 use Rattle.core_laws.specs.Shown.{IsShown}
 use Rattle.core_laws.specs.Maps.{IsListing}
 use Rattle.core_laws.specs.Cuts.{IsRetained}
+use Rattle.core_laws.proofs.cuts.Cuts.{below_all, cut_few, rank_all}
 use Rattle.core_laws.proofs.maps.Ascending.{ascending-filter}
-use Rattle.core_laws.proofs.maps.MapsOfLists.{ascending-map_of, lent-ascending, each-from_map}
+use Rattle.core_laws.proofs.maps.MapsOfLists.{ascending-map_of, iterated-ascending, each-from_map}
 use Rattle.core_laws.proofs.insertions.Cases.{IsRetained-below, length-cut}
 use Rattle.core_table.proofs.OtherOrders.{map_of-moved}
-use Rattle.core_compact.proofs.LawsOfShown.{IsShown-retained, shown-lent}
+use Rattle.core_compact.proofs.LawsOfShown.{IsShown-retained, shown-iterated}
 
 module _ {X : Type 0} (key : X → ℕ) where
-  pub lent-below : (xs : List X) (t : ℕ) → IsApart key xs → IsListing key (below key (map_of key xs) t) (below key xs t)
-  lent-below xs t each =
+  pub iterated-below : (xs : List X) (t : ℕ) → IsApart key xs → IsListing key (below key (map_of key xs) t) (below key xs t)
+  iterated-below xs t each =
       let kept = apart-below key xs t each in
       record { each_once = rw (← map_of-below key xs t) (map_of-moved key (below key xs t) kept); apart = kept; same_map = map_of-below key xs t }
 
@@ -29,14 +30,14 @@ module _ {X : Type 0} (key : X → ℕ) where
     listed ys ordered = record { empty = false; entries = ys; theta = t; seed_hash = seed_hash; ordered = ordered }
 
     pub count : length (below key (map_of key xs) t) ≡ length (below key xs t)
-    count = sym (length_permutation (below key (map_of key xs) t) (below key xs t) (lent-below xs t each).each_once)
+    count = sym (length_permutation (below key (map_of key xs) t) (below key xs t) (iterated-below xs t each).each_once)
 
-    module _ (sound : IsRetained key (retained key (map_of key xs) t)) (few : length (below key (map_of key xs) t) < 2 ^ 32) where
+    module _ (sound : IsRetained key (retained key (map_of key xs) t)) (limited : length (below key (map_of key xs) t) < 2 ^ 32) where
       pub shown_listed : IsShown (shown_of key (listed (below key xs t) false))
-      shown_listed = shown-lent key (retained key (map_of key xs) t) (below key xs t) seed_hash sound (lent-below xs t each) few
+      shown_listed = shown-iterated key (retained key (map_of key xs) t) (below key xs t) seed_hash sound (iterated-below xs t each) limited
 
       pub shown_sorted : IsShown (shown_of key (listed (map_of key (below key xs t)) true))
-      shown_sorted = rw (map_of-below key xs t) (IsShown-retained key (retained key (map_of key xs) t) seed_hash true sound few)
+      shown_sorted = rw (map_of-below key xs t) (IsShown-retained key (retained key (map_of key xs) t) seed_hash true sound limited)
 
     pub answer_listed : (asked : Bool) → is_answer_ordered asked (length (below key xs t)) t ≡ false → IsCompactOf key (retained key (map_of key xs) t) seed_hash asked (listed (below key xs t) false)
     answer_listed asked open_order = record {
@@ -44,7 +45,7 @@ module _ {X : Type 0} (key : X → ℕ) where
       same_theta = refl;
       same_seed = refl;
       ordered_if = sym open_order ∙ ap (λ (n : ℕ). is_answer_ordered asked n t) (sym count);
-      lists_all = lent-below xs t each;
+      lists_all = iterated-below xs t each;
       in_order = λ e. absurd (cc);
     }
 
@@ -56,7 +57,7 @@ module _ {X : Type 0} (key : X → ℕ) where
           same_theta = refl;
           same_seed = refl;
           ordered_if = sym ascends ∙ ap (λ (n : ℕ). is_answer_ordered asked n t) (sym count);
-          lists_all = rw is (lent-ascending key (below key (map_of key xs) t) (ascending-filter key (λ x. ltb (key x) t) (map_of key xs) (ascending-map_of key xs)));
+          lists_all = rw is (iterated-ascending key (below key (map_of key xs) t) (ascending-filter key (λ x. ltb (key x) t) (map_of key xs) (ascending-map_of key xs)));
           in_order = λ _. is;
         }
 
@@ -65,7 +66,7 @@ pub record MakeCut {X : Type 0} (key : X → ℕ) (k theta : ℕ) (xs : List X) 
   pub apart : IsApart key xs
   pub nonzero : AllByRecursion (λ x. 0 < key x) xs
   pub below_theta : AllByRecursion (λ x. key x < theta) xs
-  pub few : length xs ≤ k
+  pub limited : length xs ≤ k
   pub made_is : record { entries = map_of key xs; theta = theta } ≡ made
 
 module _ {X : Type 0} (key : X → ℕ) (xs : List X) (each : IsApart key xs) where
@@ -74,14 +75,30 @@ module _ {X : Type 0} (key : X → ℕ) (xs : List X) (each : IsApart key xs) wh
       → MakeCut key k lesser (below key xs lesser) (cut key k (map_of key xs) theta)
   makes_cut k own theta lesser kept low high small is_cut =
       let within = length-cut key k (map_of key xs) theta kept.ascending in
-      let few : length (below key (map_of key xs) lesser) ≤ k = omega (arith, within, ap (λ v. length v.entries) is_cut) in
-      let shown = shown_listed key xs lesser 0 each (IsRetained-below key (map_of key xs) own lesser kept low high) (omega (arith, few, small)) in
+      let limited : length (below key (map_of key xs) lesser) ≤ k = omega (arith, within, ap (λ v. length v.entries) is_cut) in
+      let shown = shown_listed key xs lesser 0 each (IsRetained-below key (map_of key xs) own lesser kept low high) (omega (arith, limited, small)) in
       record {
         apart = apart-below key xs lesser each;
         nonzero = each-from_map key (λ h. 0 < h) _ shown.nonzero;
         below_theta = each-from_map key (λ (h : ℕ). h < lesser) _ shown.below_theta;
-        few = omega (arith, few, count key xs lesser 0 each);
+        limited = omega (arith, limited, count key xs lesser 0 each);
         made_is = ap (λ ys. record { entries = ys; theta = lesser }) (map_of-below key xs lesser) ∙ sym is_cut;
+      }
+
+  -- all entries of a table, in any order
+  pub makes_all : (k own : ℕ) → IsRetained key (record { entries = map_of key xs; theta = own }) → length (map_of key xs) ≤ k → k < 2 ^ 32
+      → MakeCut key k own (below key xs own) (record { entries = map_of key xs; theta = own })
+  makes_all k own kept few small =
+      let all : below key (map_of key xs) own ≡ map_of key xs = below_all key (map_of key xs) own kept.below_theta in
+      let ranked : rank key (map_of key xs) own ≤ k = omega (arith, few, rank_all key (map_of key xs) own kept.below_theta) in
+      let is_cut : cut key k (map_of key xs) own ≡ retained key (map_of key xs) own = cut_few key k (map_of key xs) own kept.ascending ranked in
+      let made = makes_cut k own own own kept kept.theta_low (omega arith) small is_cut in
+      record {
+        apart = made.apart;
+        nonzero = made.nonzero;
+        below_theta = made.below_theta;
+        limited = made.limited;
+        made_is = made.made_is ∙ is_cut ∙ ap (λ ys. record { entries = ys; theta = own }) all;
       }
 
 module _ {X : Type 0} (key : X → ℕ) (theta : ℕ) where
@@ -93,14 +110,14 @@ module _ {X : Type 0} (key : X → ℕ) (theta : ℕ) where
   none_below_more [] ys front behind = behind
   none_below_more (x ∷ xs) ys front behind = (front.0, none_below_more xs ys front.1 behind)
 
-  none_below_slot : (held : Option X) (b : Bool) → MatchOption held (b ≡ false) (λ x. b ≡ ltb (key x) theta) → b ≡ false → NoneBelow (filled (held ∷ []))
+  none_below_slot : (content : Option X) (b : Bool) → MatchOption content (b ≡ false) (λ x. b ≡ ltb (key x) theta) → b ≡ false → NoneBelow (filled (content ∷ []))
   none_below_slot None b is none = tt
   none_below_slot (Some x) b is none = let far : ltb (key x) theta ≡ false = sym is ∙ none in (grind (arith, nat_tests), tt)
 
   -- one more slot
-  pub none_below-next : (any b : Bool) (xs : List X) (held : Option X) → (any ≡ false → NoneBelow xs) → MatchOption held (b ≡ false) (λ x. b ≡ ltb (key x) theta) → (any || b) ≡ false → NoneBelow (xs ++ filled (held ∷ []))
-  none_below-next true b xs held so_far is none = absurd (cc)
-  none_below-next false b xs held so_far is none = none_below_more xs (filled (held ∷ [])) (so_far refl) (none_below_slot held b is none)
+  pub none_below-next : (any b : Bool) (xs : List X) (content : Option X) → (any ≡ false → NoneBelow xs) → MatchOption content (b ≡ false) (λ x. b ≡ ltb (key x) theta) → (any || b) ≡ false → NoneBelow (xs ++ filled (content ∷ []))
+  none_below-next true b xs content so_far is none = absurd (cc)
+  none_below-next false b xs content so_far is none = none_below_more xs (filled (content ∷ [])) (so_far refl) (none_below_slot content b is none)
 
   -- entries that are not below theta are passed over
   pub from_below-behind : (xs ys : List X) → NoneBelow xs → from_below key theta (xs ++ ys) ≡ from_below key theta ys

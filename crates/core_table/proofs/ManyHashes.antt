@@ -76,8 +76,8 @@ redundant_in_map xs theta =
 -- in a block, whose front they were copied into
 pub left_in_block : (xs : List ℕ) (theta : ℕ) (hashes copied now rest : List ℕ) (left : ℕ) → copied ≡ hashes → left ≤ length copied → length now ≡ length copied →
     Drops (IsRedundant hash_key (record { entries = xs; theta = theta })) copied (take left now) → Drops (IsRedundant hash_key (record { entries = map_of hash_key xs; theta = theta })) hashes (take left (now ++ rest))
-left_in_block xs theta hashes copied now rest left same few size leaves =
-    let front : take left (now ++ rest) ≡ take left now = take-append-le left now rest (omega (arith, few, size)) in
+left_in_block xs theta hashes copied now rest left same limited size leaves =
+    let front : take left (now ++ rest) ≡ take left now = take-append-le left now rest (omega (arith, limited, size)) in
     redundant_in_map xs theta hashes (take left (now ++ rest))
     (subst (λ zs. Drops (IsRedundant hash_key (record { entries = xs; theta = theta })) zs (take left (now ++ rest))) same
     (subst (λ zs. Drops (IsRedundant hash_key (record { entries = xs; theta = theta })) copied zs) (sym front) leaves))

@@ -5,7 +5,7 @@ use Rattle.std.specs.Option.{option_copied}
 use Rattle.std.specs.Simd.Lanes.{mask_l}
 use Rattle.std.proofs.lemmas.List.{length-map, length-drop, length-take-le, drop-map, take-map}
 use Rattle.std.proofs.lemmas.Simd.{mask_l-lt, trailing_mask_l}
-use Rattle.core_slots.specs.Layout.{filled}
+use Rattle.core_slots.specs.SlotLayout.{filled}
 use Rattle.core_slots.proofs.Held.{slot-map, take_whole}
 use Rattle.core_laws.specs.Maps.{below}
 use Rattle.core_table.specs.Marks.{AreMarked, only_below, under}
@@ -43,7 +43,7 @@ module _ {X : Type 0} where
     pub near : n < ahead
     pub inside : n < length slots
     pub entry : X
-    pub here : get_or slots n None ≡ Some entry
+    pub present : get_or slots n None ≡ Some entry
     pub parts : filled slots ≡ entry ∷ filled (drop (suc n) slots)
     pub behind : marks_in (take ahead slots) / 2 ^ n / 2 ≡ marks_in (take (ahead - suc n) (drop (suc n) slots))
 
@@ -55,7 +55,7 @@ module _ {X : Type 0} where
     near = omega arith;
     inside = omega arith;
     entry = x;
-    here = refl;
+    present = refl;
     parts = refl;
     behind = odd_halved (marks_in (take ahead slots)) ∙ ap (λ k. marks_in (take k slots)) (omega arith);
   }
@@ -67,7 +67,7 @@ module _ {X : Type 0} where
         near = omega (arith, later.near);
         inside = omega (arith, later.inside);
         entry = later.entry;
-        here = later.here;
+        present = later.present;
         parts = later.parts;
         behind = ap (λ k. k / 2 ^ suc n / 2) doubled ∙ halved (marks_in (take ahead slots)) n ∙ later.behind ∙ ap (λ k. marks_in (take k (drop (suc n) slots))) (omega arith);
       } in
@@ -78,62 +78,62 @@ module _ {X : Type 0} where
   marks_with slots k lt = ap marks_in (drop-cons slots k None lt)
 
 -- the marks of slots as they are in memory, made from the last on
-module _ {S X : Type 0} (held : S → Option X) where
+module _ {S X : Type 0} (content : S → Option X) where
   -- the marks of the last i slots
   abbrev pub AreMarksBehind : List S → (i marks : ℕ) → Type 0
-  AreMarksBehind slots i marks = marks ≡ marks_in (drop (length slots - i) (map held slots))
+  AreMarksBehind slots i marks = marks ≡ marks_in (drop (length slots - i) (map content slots))
 
   pub marks_fit : (slots : List S) (i marks : ℕ) → i < length slots → length slots ≤ 64 → AreMarksBehind slots i marks → 2 * marks + 1 < 2 ^ 64
-  marks_fit slots i marks lt few told =
-      let behind = drop (length slots - i) (map held slots) in
-      let count : length (map is_some behind) ≡ i = length-map behind is_some ∙ length-drop (length slots - i) (map held slots) ∙ ap (λ n. n - (length slots - i)) (length-map slots held) ∙ omega arith in
-      let small : marks < 2 ^ i = rw (told) (subst (λ n. marks_in behind < 2 ^ n) count (mask_l-lt (map is_some behind))) in
-      let le : suc i ≤ 64 = omega (arith, lt, few) in
+  marks_fit slots i marks lt limited reported =
+      let behind = drop (length slots - i) (map content slots) in
+      let count : length (map is_some behind) ≡ i = length-map behind is_some ∙ length-drop (length slots - i) (map content slots) ∙ ap (λ n. n - (length slots - i)) (length-map slots content) ∙ omega arith in
+      let small : marks < 2 ^ i = rw (reported) (subst (λ n. marks_in behind < 2 ^ n) count (mask_l-lt (map is_some behind))) in
+      let le : suc i ≤ 64 = omega (arith, lt, limited) in
       omega (arith, small, two-pow-succ i, pow_mono {i = suc i} {j = 64} le)
 
-  pub mark_more : (slots : List S) (i marks mark : ℕ) (s : S) → i < length slots → s ≡ get_or slots (length slots - 1 - i) s → mark ≡ (if is_some (held s) then 1 else 0) → AreMarksBehind slots i marks
+  pub mark_more : (slots : List S) (i marks mark : ℕ) (s : S) → i < length slots → s ≡ get_or slots (length slots - 1 - i) s → mark ≡ (if is_some (content s) then 1 else 0) → AreMarksBehind slots i marks
       → AreMarksBehind slots (i + 1) (2 * marks + mark)
-  mark_more slots i marks mark s lt is told so_far =
+  mark_more slots i marks mark s lt is reported so_far =
       let k = length slots - (i + 1) in
       let inside : k < length slots = omega (arith, lt) in
       let same_place : k ≡ length slots - 1 - i = omega (arith, lt) in
       let back : suc k ≡ length slots - i = omega (arith, lt) in
-      let here : get_or (map held slots) k None ≡ held s = slot-map held slots k s inside ∙ ap (λ n. held (get_or slots n s)) same_place ∙ ap held (sym is) in
-      let behind : drop (suc k) (map held slots) ≡ drop (length slots - i) (map held slots) = ap (λ n. drop n (map held slots)) back in
-      let whole = marks_with (map held slots) k (omega (arith, lt, length-map slots held)) in
-      let first : mark ≡ (if is_some (get_or (map held slots) k None) then 1 else 0) = rw here told in
-      let others : marks ≡ marks_in (drop (suc k) (map held slots)) = so_far ∙ ap marks_in (sym behind) in
+      let present : get_or (map content slots) k None ≡ content s = slot-map content slots k s inside ∙ ap (λ n. content (get_or slots n s)) same_place ∙ ap content (sym is) in
+      let behind : drop (suc k) (map content slots) ≡ drop (length slots - i) (map content slots) = ap (λ n. drop n (map content slots)) back in
+      let whole = marks_with (map content slots) k (omega (arith, lt, length-map slots content)) in
+      let first : mark ≡ (if is_some (get_or (map content slots) k None) then 1 else 0) = rw present reported in
+      let others : marks ≡ marks_in (drop (suc k) (map content slots)) = so_far ∙ ap marks_in (sym behind) in
       omega (arith, whole, first, others)
 
   -- slots behind the k-th, as a slice has them
-  behind_slice : (slots : List S) (k : ℕ) → map held (take (length slots - k) (drop k slots)) ≡ drop k (map held slots)
-  behind_slice slots k = ap (map held) (take_whole held (drop k slots) (length slots - k) (omega (arith, length-drop k slots))) ∙ sym (drop-map held k slots)
+  behind_slice : (slots : List S) (k : ℕ) → map content (take (length slots - k) (drop k slots)) ≡ drop k (map content slots)
+  behind_slice slots k = ap (map content) (take_whole content (drop k slots) (length slots - k) (omega (arith, length-drop k slots))) ∙ sym (drop-map content k slots)
 
   -- the marks of the first slots, as a slice has them
-  pub marked_front : (slots : List S) (ahead marks : ℕ) → ahead ≤ 64 → ahead ≤ length slots → marks ≡ marks_in (map held (take ahead slots)) → AreMarked (map held slots) ahead marks
-  marked_front slots ahead marks few within told = record {
-    few = few;
-    within = omega (arith, within, length-map slots held);
-    told = told ∙ ap marks_in (sym (take-map held ahead slots));
+  pub marked_front : (slots : List S) (ahead marks : ℕ) → ahead ≤ 64 → ahead ≤ length slots → marks ≡ marks_in (map content (take ahead slots)) → AreMarked (map content slots) ahead marks
+  marked_front slots ahead marks limited within reported = record {
+    limited = limited;
+    within = omega (arith, within, length-map slots content);
+    reported = reported ∙ ap marks_in (sym (take-map content ahead slots));
   }
 
   -- slots without a mark are passed over
-  pub passed_over : (slots : List S) (ahead marks : ℕ) → AreMarked (map held slots) ahead marks → marks ≡ 0 → filled (map held (take (length slots - ahead) (drop ahead slots))) ≡ filled (map held slots)
-  passed_over slots ahead marks are none = rw (behind_slice slots ahead) (sym (unmarked (map held slots) ahead (sym are.told ∙ none)))
+  pub passed_over : (slots : List S) (ahead marks : ℕ) → AreMarked (map content slots) ahead marks → marks ≡ 0 → filled (map content (take (length slots - ahead) (drop ahead slots))) ≡ filled (map content slots)
+  passed_over slots ahead marks are none = rw (behind_slice slots ahead) (sym (unmarked (map content slots) ahead (sym are.reported ∙ none)))
 
   -- slots, some of them marked: the first marked one, and the slots after it
-  module _ (slots : List S) (ahead marks : ℕ) (are : AreMarked (map held slots) ahead marks) (some : 0 < marks) where
+  module _ (slots : List S) (ahead marks : ℕ) (are : AreMarked (map content slots) ahead marks) (some : 0 < marks) where
     abbrev n : ℕ
     n = count_trailing_zeros 64 marks
 
-    fits : length (take ahead (map held slots)) ≤ 64
-    fits = omega (arith, length-take-le ahead (map held slots), are.few)
+    fits : length (take ahead (map content slots)) ≤ 64
+    fits = omega (arith, length-take-le ahead (map content slots), are.limited)
 
-    place : n ≡ free_before (take ahead (map held slots))
-    place = ap (count_trailing_zeros 64) are.told ∙ trailing_mask_l is_some 64 (take ahead (map held slots)) fits (rw (← are.told) some)
+    place : n ≡ free_before (take ahead (map content slots))
+    place = ap (count_trailing_zeros 64) are.reported ∙ trailing_mask_l is_some 64 (take ahead (map content slots)) fits (rw (← are.reported) some)
 
-    pub first : IsFirstMarked (map held slots) ahead n
-    first = rw place (first_marked (map held slots) ahead (rw (← are.told) some))
+    pub first : IsFirstMarked (map content slots) ahead n
+    first = rw place (first_marked (map content slots) ahead (rw (← are.reported) some))
 
     next : suc n ≡ n + 1
     next = omega arith
@@ -142,19 +142,19 @@ module _ {S X : Type 0} (held : S → Option X) where
     near = first.near
 
     pub inside : n < length slots
-    inside = omega (arith, first.inside, length-map slots held)
+    inside = omega (arith, first.inside, length-map slots content)
 
-    pub held_first : (d : S) → held (get_or slots n d) ≡ Some first.entry
-    held_first d = sym (slot-map held slots n d inside) ∙ first.here
+    pub held_first : (d : S) → content (get_or slots n d) ≡ Some first.entry
+    held_first d = sym (slot-map content slots n d inside) ∙ first.present
 
-    pub parts : (d : S) → filled (map held slots) ≡ filled (held (get_or slots n d) ∷ map held (take (length slots - (n + 1)) (drop (n + 1) slots)))
-    parts d = rw (held_first d, behind_slice slots (n + 1)) (first.parts ∙ ap (λ k. first.entry ∷ filled (drop k (map held slots))) next)
+    pub parts : (d : S) → filled (map content slots) ≡ filled (content (get_or slots n d) ∷ map content (take (length slots - (n + 1)) (drop (n + 1) slots)))
+    parts d = rw (held_first d, behind_slice slots (n + 1)) (first.parts ∙ ap (λ k. first.entry ∷ filled (drop k (map content slots))) next)
 
-    pub behind : AreMarked (map held (take (length slots - (n + 1)) (drop (n + 1) slots))) (ahead - (n + 1)) (marks / 2 ^ n / 2)
+    pub behind : AreMarked (map content (take (length slots - (n + 1)) (drop (n + 1) slots))) (ahead - (n + 1)) (marks / 2 ^ n / 2)
     behind = rw (behind_slice slots (n + 1)) (record {
-      few = omega (arith, are.few);
-      within = omega (arith, are.within, length-drop (n + 1) (map held slots));
-      told = ap (λ k. k / 2 ^ n / 2) are.told ∙ first.behind ∙ ap (λ k. marks_in (take (ahead - k) (drop k (map held slots)))) next;
+      limited = omega (arith, are.limited);
+      within = omega (arith, are.within, length-drop (n + 1) (map content slots));
+      reported = ap (λ k. k / 2 ^ n / 2) are.reported ∙ first.behind ∙ ap (λ k. marks_in (take (ahead - k) (drop k (map content slots)))) next;
     })
 
 -- a slot's mark is 0 or 1
@@ -167,28 +167,28 @@ pub never_none : {X : Type 0} {o : Option (Bor X)} {x : X} → o ≡ None → op
 never_none none some = absurd (cc)
 
 -- the entries in slots under a bound
-module _ {S X : Type 0} (key : X → ℕ) (held : S → Option X) where
+module _ {S X : Type 0} (key : X → ℕ) (content : S → Option X) where
   only_held : (theta : ℕ) (o : Option X) (x : X) → only_below key theta o ≡ Some x → o ≡ Some x
   only_held theta None x is = absurd (cc)
   only_held theta (Some y) x is = (elim (ltb (key y) theta) as (λ t. (if t then Some y else None) ≡ Some x → Some y ≡ Some x) [ true ↦ λ e. e | false ↦ λ e. absurd (cc) ]) is
 
-  under_held : (bound : Option ℕ) (s : S) (x : X) → under key bound held s ≡ Some x → held s ≡ Some x
+  under_held : (bound : Option ℕ) (s : S) (x : X) → under key bound content s ≡ Some x → content s ≡ Some x
   under_held None s x is = is
-  under_held (Some theta) s x is = only_held theta (held s) x is
+  under_held (Some theta) s x is = only_held theta (content s) x is
 
   -- the entry of the first marked slot is under the bound
-  pub first_held : (bound : Option ℕ) (slots : List S) (ahead marks : ℕ) (are : AreMarked (map (under key bound held) slots) ahead marks) (some : 0 < marks) (d : S)
-      → held (get_or slots (count_trailing_zeros 64 marks) d) ≡ Some (first (under key bound held) slots ahead marks are some).entry
-  first_held bound slots ahead marks are some d = under_held bound (get_or slots (count_trailing_zeros 64 marks) d) (first (under key bound held) slots ahead marks are some).entry (held_first (under key bound held) slots ahead marks are some d)
+  pub first_held : (bound : Option ℕ) (slots : List S) (ahead marks : ℕ) (are : AreMarked (map (under key bound content) slots) ahead marks) (some : 0 < marks) (d : S)
+      → content (get_or slots (count_trailing_zeros 64 marks) d) ≡ Some (first (under key bound content) slots ahead marks are some).entry
+  first_held bound slots ahead marks are some d = under_held bound (get_or slots (count_trailing_zeros 64 marks) d) (first (under key bound content) slots ahead marks are some).entry (held_first (under key bound content) slots ahead marks are some d)
 
   -- the entries under a theta are the entries below it
-  pub filled-under : (theta : ℕ) (slots : List S) → filled (map (under key (Some theta) held) slots) ≡ below key (filled (map held slots)) theta
+  pub filled-under : (theta : ℕ) (slots : List S) → filled (map (under key (Some theta) content) slots) ≡ below key (filled (map content slots)) theta
   filled-under theta [] = refl
   filled-under theta (s ∷ slots) =
       let rest = filled-under theta slots in
-      let others = map (under key (Some theta) held) slots in
-      elim (held s) as (λ o. filled (only_below key theta o ∷ others) ≡ below key (filled (o ∷ map held slots)) theta) [
+      let others = map (under key (Some theta) content) slots in
+      elim (content s) as (λ o. filled (only_below key theta o ∷ others) ≡ below key (filled (o ∷ map content slots)) theta) [
         | None ↦ rest
         | Some x ↦
-            elim (ltb (key x) theta) as (λ t. filled ((if t then Some x else None) ∷ others) ≡ cond t (x ∷ below key (filled (map held slots)) theta) (below key (filled (map held slots)) theta)) [ true ↦ ap (λ xs. x ∷ xs) rest | false ↦ rest ]
+            elim (ltb (key x) theta) as (λ t. filled ((if t then Some x else None) ∷ others) ≡ cond t (x ∷ below key (filled (map content slots)) theta) (below key (filled (map content slots)) theta)) [ true ↦ ap (λ xs. x ∷ xs) rest | false ↦ rest ]
       ]

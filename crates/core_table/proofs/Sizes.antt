@@ -55,12 +55,12 @@ module _ (n : ℕ) (low : 0 < n) where
   lg_size_low = elim (ltb (2 ^ (whole_log n + 1) * 15 / 16) n) as (λ b. 1 ≤ cond b (whole_log n + 2) (whole_log n + 1)) [ true ↦ omega arith | false ↦ omega arith ]
 
   pub lg_size_high : n < 2 ^ 32 → lg_size_for n ≤ 33
-  lg_size_high few =
-      let near = around n low (omega (arith, few)) in
+  lg_size_high limited =
+      let near = around n low (omega (arith, limited)) in
       let l = whole_log n in
       let high : l ≤ 31 =
       elim (cases_lt 31 l) [
-        | inl lt ↦ absurd (let a : 2 ^ 32 ≤ 2 ^ l = pow_mono {i = 32} {j = l} (omega (arith, lt)) in omega (arith, a, near.low, few))
+        | inl lt ↦ absurd (let a : 2 ^ 32 ≤ 2 ^ l = pow_mono {i = 32} {j = l} (omega (arith, lt)) in omega (arith, a, near.low, limited))
         | inr le ↦ le
       ] in
       elim (ltb (2 ^ (l + 1) * 15 / 16) n) as (λ b. cond b (l + 2) (l + 1) ≤ 33) [ true ↦ omega (arith, high) | false ↦ omega (arith, high) ]
@@ -70,12 +70,12 @@ pub record IsSizedFor (n lg_cur lg_nom : ℕ) : Type 0 where
   pub cur : lg_cur ≡ cond (eqb n 0) 0 (lg_size_for n)
   pub nom : lg_nom ≡ lg_cur - 1
 
-module _ (n lg_cur lg_nom : ℕ) (sized : IsSizedFor n lg_cur lg_nom) (few : n < 2 ^ 32) where
+module _ (n lg_cur lg_nom : ℕ) (sized : IsSizedFor n lg_cur lg_nom) (limited : n < 2 ^ 32) where
   cur_is : 0 < n → lg_cur ≡ lg_size_for n
   cur_is low = let some : eqb n 0 ≡ false = grind (arith, nat_tests) in sized.cur ∙ ap (λ b. cond b 0 (lg_size_for n)) some
 
   pub sized_free : 0 < n → n ≤ 15 * 2 ^ lg_nom / 8
-  sized_free low = held_free n low lg_nom (omega (arith, few)) (omega (arith, sized.nom, cur_is low, lg_size_low n low))
+  sized_free low = held_free n low lg_nom (omega (arith, limited)) (omega (arith, sized.nom, cur_is low, lg_size_low n low))
 
   pub sized_slots : 0 < n → not (eqb lg_cur 0) ≡ true
   sized_slots low = let some : eqb lg_cur 0 ≡ false = grind (arith, nat_tests, cur_is low, lg_size_low n low) in ap not some
@@ -83,7 +83,7 @@ module _ (n lg_cur lg_nom : ℕ) (sized : IsSizedFor n lg_cur lg_nom) (few : n <
   pub sized_high : lg_cur ≤ 33
   sized_high =
       elim (cases_lt 0 n) [
-        | inl low ↦ omega (arith, cur_is low, lg_size_high n low few)
+        | inl low ↦ omega (arith, cur_is low, lg_size_high n low limited)
         | inr none ↦ let e : eqb n 0 ≡ true = grind (arith, nat_tests) in let zero : lg_cur ≡ 0 = sized.cur ∙ ap (λ b. cond b 0 (lg_size_for n)) e in omega (arith, zero)
       ]
 
@@ -98,7 +98,7 @@ module _ {X : Type 0} (key : X → ℕ) where
 
   -- a table with the slots for n entries has room for each of them
   pub fitting_room : (h n m : ℕ) (t : MapTable X) → n ≤ 15 * 2 ^ m / 8 → t.lg_nom ≡ m → t.has_slots ≡ true → length t.kept.entries + 1 ≤ n → IsTrue (may_insert key h t)
-  fitting_room h n m t free lg slots few =
-      let lt : length t.kept.entries + 1 < 2 ^ (t.lg_nom + 1) = rw (lg, double m) (omega (arith, free, few)) in
+  fitting_room h n m t free lg slots limited =
+      let lt : length t.kept.entries + 1 < 2 ^ (t.lg_nom + 1) = rw (lg, double m) (omega (arith, free, limited)) in
       let fits : ltb (length t.kept.entries + 1) (2 ^ (t.lg_nom + 1)) ≡ true = grind (arith, nat_tests) in
       with_room h t (or_right (leb 3 t.lg_nom) _ (rw (slots, fits) refl))

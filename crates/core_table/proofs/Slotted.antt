@@ -7,7 +7,7 @@ use Rattle.std.proofs.Math.Pow.{pow_mono}
 use Rattle.std.proofs.lemmas.Nat.{pow_pos}
 use Rattle.core_laws.specs.Maps.{IsApart, entry_at, with_entry, map_of}
 use Rattle.core_laws.specs.Cuts.{cut}
-use Rattle.core_slots.specs.Layout.{filled, slot, is_other, IsOnPath, IsLaidOut}
+use Rattle.core_slots.specs.SlotLayout.{filled, slot, is_other, IsOnPath, IsLaidOut}
 use Rattle.core_laws.specs.declared.TheConstants.{MAX_THETA, MIN_LG_K, MIN_LG_SLOTS}
 use Rattle.core_laws.specs.Maps.{IsListing}
 use Rattle.core_table.specs.HashTable.{IsMadeWith, IsSized, IsSeedHash, MapTable, IsSlotted, HasSize, may_insert, slots_of_operator, sub_multiple}
@@ -15,7 +15,7 @@ use Rattle.core_laws.specs.Cuts.{IsRetained}
 use Rattle.core_laws.specs.Insertion.{is_screened}
 use Rattle.core_laws.proofs.maps.Ascending.{ascending-nil}
 use Rattle.core_laws.proofs.cuts.Cuts.{cut_few, rank_all, below_all}
-use Rattle.core_slots.proofs.Layouts.{laid_out_empty, length-map_of, put_joins, laid_out_put}
+use Rattle.core_slots.proofs.SlotLayouts.{laid_out_empty, length-map_of, put_joins, laid_out_put}
 use Rattle.core_table.proofs.OtherOrders.{map_of-moved}
 use Rattle.core_slots.proofs.Ranks.{apart-laid_out}
 use Rattle.core_table.proofs.Tables.{threshold_most, least_slots}
@@ -84,13 +84,13 @@ module _ {X : Type 0} (key : X → ℕ) where
   slotted_next t lg grow count new_lg new_count theta slots after is has kept laid counted sized = record {
     table = record {
       kept = kept;
-      few = λ large.
+      limited = λ large.
           let low : 3 ≤ t.lg_nom =
           elim (cases_lt t.lg_nom 3) [
             | inl lt ↦ let most : 2 ^ t.lg_nom ≤ 2 ^ 2 = pow_mono {i = t.lg_nom} {j = 2} (omega (arith, lt)) in absurd (omega (arith, most, large))
             | inr ge ↦ ge
           ] in
-          omega (arith, length-map_of key new_lg after laid, counted, sized.few, threshold_most new_lg t.lg_nom grow new_count sized low);
+          omega (arith, length-map_of key new_lg after laid, counted, sized.limited, threshold_most new_lg t.lg_nom grow new_count sized low);
       made = is.table.made;
       without_slots = is.table.without_slots;
     };
@@ -101,11 +101,11 @@ module _ {X : Type 0} (key : X → ℕ) where
   }
 
   pub filled_over : (slots : List (Option X)) (p : ℕ) (x y : X) → slot slots p ≡ Some y → length (filled (set slots p (Some x))) ≡ length (filled slots)
-  filled_over [] p x y held = absurd (cc)
-  filled_over (None ∷ slots) zero x y held = absurd (cc)
-  filled_over (Some z ∷ slots) zero x y held = refl
-  filled_over (None ∷ slots) (suc p) x y held = filled_over slots p x y held
-  filled_over (Some z ∷ slots) (suc p) x y held = ap suc (filled_over slots p x y held)
+  filled_over [] p x y content = absurd (cc)
+  filled_over (None ∷ slots) zero x y content = absurd (cc)
+  filled_over (Some z ∷ slots) zero x y content = refl
+  filled_over (None ∷ slots) (suc p) x y content = filled_over slots p x y content
+  filled_over (Some z ∷ slots) (suc p) x y content = ap suc (filled_over slots p x y content)
 
   -- a step writes the entry of a hash
   module _ (lg h p : ℕ) (x y : X) (slots : List (Option X)) (is : IsLaidOut key lg slots) (inside : p < length slots) (on : IsOnPath key lg slots h p) (ends : is_other key h (slot slots p) ≡ false) (same : key y ≡ h) where
@@ -122,7 +122,7 @@ module _ {X : Type 0} (key : X → ℕ) where
     written_laid_out = laid_out_put key lg slots p y is inside on_y ends_y
 
   pub key_found : (lg h p : ℕ) (x : X) (slots : List (Option X)) → slot slots p ≡ Some x → is_other key h (slot slots p) ≡ false → key x ≡ h
-  key_found lg h p x slots here ends = let other : is_other key h (Some x) ≡ false = ap (is_other key h) (sym here) ∙ ends in grind (arith, nat_tests)
+  key_found lg h p x slots present ends = let other : is_other key h (Some x) ≡ false = ap (is_other key h) (sym present) ∙ ends in grind (arith, nat_tests)
 
   -- the count is that of the map
   pub slotted_count : (t : MapTable X) (lg grow count : ℕ) (slots : List (Option X)) → IsSlotted key t lg grow count slots → count ≡ length (map_of key (filled slots))
@@ -139,7 +139,7 @@ module _ {X : Type 0} (key : X → ℕ) where
   slotted_new lg_nom start seed hash theta lg grow slots none size sized low high made = record {
     table = rw none (record {
       kept = record { ascending = ascending-nil _; nonzero = tt; below_theta = tt; theta_low = low; theta_high = high };
-      few = λ _. omega arith;
+      limited = λ _. omega arith;
       made = made;
       without_slots = λ e. absurd (cc);
     });
@@ -155,11 +155,11 @@ module _ {X : Type 0} (key : X → ℕ) where
 
   -- a cut of few entries keeps all of them
   pub few_stay : (k t : ℕ) (m : List X) → IsRetained key (record { entries = m; theta = t }) → length m ≤ k → cut key k m t ≡ record { entries = m; theta = t }
-  few_stay k t m is few = cut_few key k m t is.ascending (omega (arith, rank_all key m t is.below_theta, few)) ∙ ap (λ ys. record { entries = ys; theta = t }) (below_all key m t is.below_theta)
+  few_stay k t m is limited = cut_few key k m t is.ascending (omega (arith, rank_all key m t is.below_theta, limited)) ∙ ap (λ ys. record { entries = ys; theta = t }) (below_all key m t is.below_theta)
 
   -- a table lists the entries in its slots
-  pub slotted_lends : (t : MapTable X) (lg grow count : ℕ) (slots : List (Option X)) → IsSlotted key t lg grow count slots → IsListing key (map_of key (filled slots)) (filled slots)
-  slotted_lends t lg grow count slots is =
+  pub slotted_sequence : (t : MapTable X) (lg grow count : ℕ) (slots : List (Option X)) → IsSlotted key t lg grow count slots → IsListing key (map_of key (filled slots)) (filled slots)
+  slotted_sequence t lg grow count slots is =
       let each : IsApart key (filled slots) =
       (elim t.has_slots as (λ b. t.has_slots ≡ b → IsApart key (filled slots)) [
         | true ↦ λ e. apart-laid_out key lg slots (is.laid_out e)
@@ -196,13 +196,13 @@ module _ {X : Type 0} (key : X → ℕ) where
   slotted_cleared t lg grow count slots after is none same =
       let kept : IsRetained key (record { entries = map_of key (filled after); theta = t.kept.theta }) = rw none (record { ascending = ascending-nil _; nonzero = tt; below_theta = tt; theta_low = is.table.kept.theta_low; theta_high = is.table.kept.theta_high }) in
       record {
-        table = record { kept = kept; few = λ _. rw none (omega arith); made = is.table.made; without_slots = is.table.without_slots };
+        table = record { kept = kept; limited = λ _. rw none (omega arith); made = is.table.made; without_slots = is.table.without_slots };
         laid_out = λ has. laid_out_empty key lg after (same ∙ (is.laid_out has).size) none;
         without = λ lacks. empty_list after (same ∙ ap length (is.without lacks));
         counted = rw none refl;
         sized = λ has.
             let sized = is.sized has in
-            record { few = omega arith; room = pow_pos lg; within = sized.within; nom_high = sized.nom_high; grow_high = sized.grow_high; grows = sized.grows; starts = sized.starts };
+            record { limited = omega arith; room = pow_pos lg; within = sized.within; nom_high = sized.nom_high; grow_high = sized.grow_high; grows = sized.grows; starts = sized.starts };
       }
 
   -- the table of an operator, with nothing in it
@@ -217,7 +217,7 @@ module _ {X : Type 0} (key : X → ℕ) where
       record {
         table = rw none (record {
           kept = record { ascending = ascending-nil _; nonzero = tt; below_theta = tt; theta_low = low; theta_high = most };
-          few = λ _. omega arith;
+          limited = λ _. omega arith;
           made = record { lg_nom_high = nom_high; start_low = omega arith; start_high = omega arith; of_seed = of_seed.0; hash_low = of_seed.1 };
           without_slots = λ e. elim sizes [ inl full ↦ absurd (let has : eqb lg 0 ≡ false = grind (arith, nat_tests) in cc) | inr lacks ↦ lacks.1 ];
         });
@@ -232,7 +232,7 @@ module _ {X : Type 0} (key : X → ℕ) where
               | inr lacks ↦ absurd (grind (arith, nat_tests, has, lacks.0))
             ] in
             record {
-              few = omega arith;
+              limited = omega arith;
               room = pow_pos lg;
               within = omega (arith, at);
               nom_high = nom_high;

@@ -9,8 +9,8 @@ use Rattle.core_laws.specs.declared.TheConstants.{MIN_LG_K, MIN_LG_SLOTS}
 use Rattle.core_table.specs.HashTable.{threshold, IsSized, HasSize, sub_multiple}
 use Rattle.core_laws.specs.Insertion.{rebuilt}
 use Rattle.core_laws.specs.Maps.{with_entry, map_of}
-use Rattle.core_slots.specs.Layout.{filled, slot, is_other, IsOnPath, IsLaidOut}
-use Rattle.core_slots.proofs.Layouts.{put_joins, length-map_of, laid_out_new, filled_new}
+use Rattle.core_slots.specs.SlotLayout.{filled, slot, is_other, IsOnPath, IsLaidOut}
+use Rattle.core_slots.proofs.SlotLayouts.{put_joins, length-map_of, laid_out_new, filled_new}
 use Rattle.core_laws.proofs.insertions.Cases.{rebuilt_small, rebuilt_free}
 
 pub threshold_growing : (lg nom : ℕ) → lg ≤ nom → threshold lg nom ≡ 2 ^ lg / 2
@@ -44,7 +44,7 @@ twice lg nom is = let e : lg ≡ suc nom = omega (arith, is) in ap (λ (n : ℕ)
 -- one entry more below the threshold
 pub one_more : (lg nom grow count : ℕ) → HasSize lg nom grow count → count + 1 ≤ threshold lg nom → (nom < 3 → count + 1 < 2 ^ lg) → HasSize lg nom grow (count + 1)
 one_more lg nom grow count is fits small = record {
-  few = fits;
+  limited = fits;
   room =
       elim (cases_lt nom 3) [
         | inl lt ↦ small lt
@@ -82,7 +82,7 @@ threshold_is lg nom at large = let e = eights nom large in let full : nom < lg =
 pub record IsGrown (lg new_lg nom grow count : ℕ) : Type 0 where
   pub size : HasSize new_lg nom grow (count + 1)
   pub fits : count + 1 ≤ 2 ^ new_lg
-  pub few : count + 1 ≤ 15 * 2 ^ nom / 8
+  pub limited : count + 1 ≤ 15 * 2 ^ nom / 8
 
 pub grown : (lg new_lg nom grow count : ℕ) → HasSize lg nom grow count → lg ≤ nom → new_lg ≡ min (lg + grow) (nom + 1) → IsGrown lg new_lg nom grow count
 grown lg new_lg nom grow count is growing new =
@@ -97,19 +97,19 @@ grown lg new_lg nom grow count is growing new =
     let half = threshold_growing lg nom growing in
     record {
       size = record {
-        few = elim (cases_lt nom new_lg) [
-          | inl full ↦ omega (arith, is.few, half, threshold_full new_lg nom full, wide, double, pos)
-          | inr still ↦ omega (arith, is.few, half, threshold_growing new_lg nom still, wide, double, pos)
+        limited = elim (cases_lt nom new_lg) [
+          | inl full ↦ omega (arith, is.limited, half, threshold_full new_lg nom full, wide, double, pos)
+          | inr still ↦ omega (arith, is.limited, half, threshold_growing new_lg nom still, wide, double, pos)
         ];
-        room = omega (arith, is.few, half, wide, double, pos);
+        room = omega (arith, is.limited, half, wide, double, pos);
         within = within;
         nom_high = is.nom_high;
         grow_high = is.grow_high;
         grows = λ still. (omega (arith, g.0, more), g.1);
         starts = λ of_sketch. omega (arith, is.starts of_sketch, more);
       };
-      fits = omega (arith, is.few, half, wide, double, pos);
-      few = omega (arith, is.few, half, low, pos);
+      fits = omega (arith, is.limited, half, wide, double, pos);
+      limited = omega (arith, is.limited, half, low, pos);
     }
 
 -- when a table at full size is rebuilt
@@ -137,7 +137,7 @@ full lg nom grow count is past over small =
       many = omega (arith, over, most);
       rank = omega (arith, over, most, pos);
       size = record {
-        few = omega (arith, most, pos);
+        limited = omega (arith, most, pos);
         room = omega (arith, two, pos);
         within = is.within;
         nom_high = is.nom_high;
@@ -159,7 +159,7 @@ module _ {X : Type 0} (key : X → ℕ) (lg p : ℕ) (x : X) (slots : List (Opti
   -- no rebuild if the entries are few, or the nominal entries are
   pub not_rebuilt : (nom theta : ℕ) → (nom < 3) ⊎ (length (filled slots) + 1 ≤ 15 * 2 ^ nom / 8) → rebuilt key (2 ^ nom) (with_entry key (map_of key (filled slots)) x) theta ≡ record { entries = with_entry key (map_of key (filled slots)) x; theta = theta }
   not_rebuilt nom theta (inl lt) = rebuilt_small key (2 ^ nom) (with_entry key (map_of key (filled slots)) x) theta (let most : 2 ^ nom ≤ 2 ^ 2 = pow_mono {i = nom} {j = 2} (omega (arith, lt)) in omega (arith, most))
-  not_rebuilt nom theta (inr few) = rebuilt_free key (2 ^ nom) (with_entry key (map_of key (filled slots)) x) theta (omega (arith, few, joined_count))
+  not_rebuilt nom theta (inr limited) = rebuilt_free key (2 ^ nom) (with_entry key (map_of key (filled slots)) x) theta (omega (arith, limited, joined_count))
 
 -- the size that a table begins with that may have more slots than the least
 starts_large : (nom grow : ℕ) → 5 ≤ nom → nom ≤ 32 → grow ≤ 3 → HasSize (sub_multiple (nom + 1) 5 grow) nom grow 0
@@ -168,7 +168,7 @@ starts_large nom grow low high small =
     rw past
     ((elim (eqb grow 0) as (λ b. eqb grow 0 ≡ b → HasSize (cond b (nom + 1) ((nom + 1 - 5) % grow + 5)) nom grow 0) [
       | true ↦ λ e. record {
-        few = omega arith;
+        limited = omega arith;
         room = pow_pos (nom + 1);
         within = omega arith;
         nom_high = omega (arith, high);
@@ -181,7 +181,7 @@ starts_large nom grow low high small =
           let rest : (nom + 1 - 5) % grow < grow = mod_below (nom + 1 - 5) grow some in
           let most : (nom + 1 - 5) % grow ≤ nom + 1 - 5 = mod-le (nom + 1 - 5) grow in
           record {
-            few = omega arith;
+            limited = omega arith;
             room = pow_pos ((nom + 1 - 5) % grow + 5);
             within = omega (arith, most, low);
             nom_high = omega (arith, high);
@@ -199,7 +199,7 @@ starts nom grow low high small =
           -- the least slots are all that it ever has
           let at : leb (nom + 1) 5 ≡ true = grind (arith, nat_tests) in
           rw at (record {
-            few = omega arith;
+            limited = omega arith;
             room = pow_pos 5;
             within = omega (arith, low);
             nom_high = omega (arith, high);
@@ -220,4 +220,4 @@ least_slots nom low =
 
 -- a table that is cut to its nominal entries
 pub cut_size : (lg nom grow count : ℕ) → HasSize lg nom grow count → 2 ^ nom ≤ count → HasSize lg nom grow (2 ^ nom)
-cut_size lg nom grow count is more = record { few = omega (arith, is.few, more); room = omega (arith, is.room, more); within = is.within; nom_high = is.nom_high; grow_high = is.grow_high; grows = is.grows; starts = is.starts }
+cut_size lg nom grow count is more = record { limited = omega (arith, is.limited, more); room = omega (arith, is.room, more); within = is.within; nom_high = is.nom_high; grow_high = is.grow_high; grows = is.grows; starts = is.starts }

@@ -5,8 +5,8 @@ use Rattle.core_laws.specs.Step.{Step}
 use Rattle.core_laws.specs.Maps.{entry_at, with_entry, map_of}
 use Rattle.core_laws.specs.Insertion.{is_screened, after_absent}
 use Rattle.core_laws.proofs.insertions.Cases.{IsCase, existing_case, absent_case, is_screened_false}
-use Rattle.core_slots.specs.Layout.{filled, slot, is_other, IsOnPath, IsLaidOut}
-use Rattle.core_slots.proofs.Layouts.{search_finds}
+use Rattle.core_slots.specs.SlotLayout.{filled, slot, is_other, IsOnPath, IsLaidOut}
+use Rattle.core_slots.proofs.SlotLayouts.{search_finds}
 use Rattle.core_table.specs.HashTable.{MapTable, IsSlotted, may_insert}
 use Rattle.core_table.proofs.Slotted.{taken_is, free_is, must_have, must_fit}
 
@@ -16,7 +16,7 @@ pub record IsAtEntry {X : Type 0} (key : X → ℕ) (t : MapTable X) (lg hash at
   pub laid : IsLaidOut key lg slots
   pub passes : is_screened hash t.kept.theta ≡ false
   pub entry : X
-  pub held : slot slots at ≡ Some entry
+  pub content : slot slots at ≡ Some entry
   pub case : IsCase key (2 ^ t.lg_nom) hash step t.kept false (record { entries = with_entry key t.kept.entries (step.writes entry); theta = t.kept.theta }) (step.refuses_existing entry) step.allocates
 
 -- the search ended at a free slot
@@ -48,7 +48,7 @@ module _ {X : Type 0} (key : X → ℕ) (t : MapTable X) (lg grow count hash at 
         laid = is.laid_out with_slots;
         passes = screens;
         entry = one.0;
-        held = one.1;
+        content = one.1;
         case = existing_case key (2 ^ t.lg_nom) hash step t.kept one.0 screens (there ∙ one.1);
       }
 

@@ -14,7 +14,7 @@ use Rattle.core_laws.specs.Step.{Step}
 use Rattle.core_slots.specs.Entry.{tuple_key, entry_step}
 use Rattle.core_slots.specs.declared.entry.TupleEntry.{TupleEntry}
 use Rattle.core_table.specs.declared.insertion.Counts.{Counts}
-use Rattle.core_slots.specs.Layout.{filled, IsLaidOut}
+use Rattle.core_slots.specs.SlotLayout.{filled, IsLaidOut}
 
 -- what a table retains, and what it was made with: its nominal logarithm, whether it has slots at all, its starting theta,
 -- its seed and that seed's hash
@@ -36,7 +36,7 @@ pub record Layout (X : Type 0) : Type 0 where
 -- and the counts of its work
 pub record Table (X : Type 0) : Type 0 where
   pub map : MapTable X
-  pub lends : List X
+  pub sequence : List X
   pub layout : Layout X
   pub counts : Counts
 
@@ -117,7 +117,7 @@ StopsAtMemory hashes old new = StopsAt hashes (λ front hash. (new ≡ after_has
 -- the laws of every table
 pub record IsTable {X : Type 0} (key : X → ℕ) (t : MapTable X) : Type 0 where
   pub kept : IsRetained key t.kept
-  pub few : 8 ≤ 2 ^ t.lg_nom → length t.kept.entries ≤ 15 * 2 ^ t.lg_nom / 8
+  pub limited : 8 ≤ 2 ^ t.lg_nom → length t.kept.entries ≤ 15 * 2 ^ t.lg_nom / 8
   pub made : IsMadeWith t.lg_nom t.start t.seed t.seed_hash
   pub without_slots : t.has_slots ≡ false → t.lg_nom ≡ 0
 
@@ -157,7 +157,7 @@ nothing_done = record { inserted = 0; placed = 0; rebuilds = 0; fresh = 0; looks
 
 -- 2^lg_cur slots may have count entries, if their logarithm grows by `grow`
 pub record HasSize (lg_cur lg_nom grow count : ℕ) : Type 0 where
-  pub few : count ≤ threshold lg_cur lg_nom
+  pub limited : count ≤ threshold lg_cur lg_nom
   pub room : count < 2 ^ lg_cur
   pub within : lg_cur ≤ lg_nom + 1
   pub nom_high : lg_nom ≤ 32

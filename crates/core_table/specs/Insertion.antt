@@ -4,7 +4,7 @@ use Rattle.std.specs.List.{AllByRecursion}
 use Rattle.core_laws.specs.Cuts.{Retained, cut}
 use Rattle.core_laws.specs.Insertion.{rebuilt}
 use Rattle.core_laws.specs.Maps.{map_of, with_entry}
-use Rattle.core_slots.specs.Layout.{filled, slot, slot_map, IsOnPath, IsLaidOut}
+use Rattle.core_slots.specs.SlotLayout.{filled, slot, slot_map, IsOnPath, IsLaidOut}
 use Rattle.core_table.specs.HashTable.{threshold, HasSize}
 use Rattle.core_table.specs.declared.insertion.Sizes.{Sizes}
 
@@ -22,8 +22,8 @@ pub record HasPlaceFor {X : Type 0} (key : X → ℕ) (slots : List (Option X)) 
   pub low : key entry < sizes.theta
 
 -- the map of the entries that slots in memory hold, and a theta
-abbrev pub kept_in : {S X : Type 0} → (key : X → ℕ) → (held : S → Option X) → List S → (theta : ℕ) → Retained X
-kept_in key held slots theta = record { entries = slot_map key held slots; theta = theta }
+abbrev pub kept_in : {S X : Type 0} → (key : X → ℕ) → (content : S → Option X) → List S → (theta : ℕ) → Retained X
+kept_in key content slots theta = record { entries = slot_map key content slots; theta = theta }
 
 -- what is retained after a new entry is put into slots of these sizes that hold the entries `xs`
 abbrev pub after_put : {X : Type 0} → (key : X → ℕ) → Sizes → List X → X → Retained X

@@ -7,7 +7,7 @@ ghost use Rattle.core_laws.specs.Cuts.{cut, retained};
 ghost use Rattle.core_laws.specs.Entries.{ClonesEqual};
 ghost use Rattle.core_laws.specs.Refusal.{Refuses};
 ghost use Rattle.core_laws.specs.Cuts.{IsRetained};
-ghost use Rattle.core_slots.specs.Layout.{entries_in, slot_map};
+ghost use Rattle.core_slots.specs.SlotLayout.{entries_in, slot_map};
 
 use crate::iter::{Marked, first_in};
 use core_compact::{CompactSketchState, is_answer_ordered};
@@ -25,7 +25,7 @@ pub(crate) fn entries_below<'a, E: SlotEntry + Clone + 'a, A: Allocator>(
     room: usize,
 ) -> Result<Vec<E, A>, AllocError>
     requires clones_equal { ClonesEqual E.is_clone }
-    ensures listed { IfOk result (λ v. v.items ≡ below E.key (entries_in E.held slots.now) theta) }
+    ensures listed { IfOk result (λ v. v.items ≡ below E.key (entries_in E.content slots.now) theta) }
 {
     let mut left = Marked {
         slots,
@@ -60,10 +60,10 @@ pub(crate) fn state_below<E: SlotEntry + Clone, A: Allocator>(
     ordered: bool,
 ) -> Result<CompactSketchState<E, A>, Error>
     requires clones_equal { ClonesEqual E.is_clone }
-    requires apart { IsApart E.key (entries_in E.held slots.now) }
-    requires sound { IsRetained E.key (retained E.key (slot_map E.key E.held slots.now) theta) }
-    requires few { length (below E.key (slot_map E.key E.held slots.now) theta) < 2 ^ 32 }
-    ensures ok { IfOk result (IsCompactOf E.key (retained E.key (slot_map E.key E.held slots.now) theta) seed_hash ordered) }
+    requires apart { IsApart E.key (entries_in E.content slots.now) }
+    requires sound { IsRetained E.key (retained E.key (slot_map E.key E.content slots.now) theta) }
+    requires limited { length (below E.key (slot_map E.key E.content slots.now) theta) < 2 ^ 32 }
+    ensures ok { IfOk result (IsCompactOf E.key (retained E.key (slot_map E.key E.content slots.now) theta) seed_hash ordered) }
     ensures refused { Refuses result None true }
 {
     let entries = entries_below::<E, A>(alloc, slots, theta, room)?;
@@ -84,11 +84,11 @@ pub(crate) fn cut_theta<E: SlotEntry, A: Allocator + Drop>(
     own_theta: u64,
     theta: u64,
 ) -> Result<u64, AllocError>
-    requires apart { IsApart E.key (entries_in E.held slots.now) }
-    requires counted { count ≡ length (entries_in E.held slots.now) }
-    requires nonzero { AllByRecursion (λ x. 0 < E.key x) (slot_map E.key E.held slots.now) }
+    requires apart { IsApart E.key (entries_in E.content slots.now) }
+    requires counted { count ≡ length (entries_in E.content slots.now) }
+    requires nonzero { AllByRecursion (λ x. 0 < E.key x) (slot_map E.key E.content slots.now) }
     requires low { 0 < theta }
-    ensures cut { IfOk result (λ t. cut E.key nominal (slot_map E.key E.held slots.now) theta ≡ retained E.key (slot_map E.key E.held slots.now) t) }
+    ensures cut { IfOk result (λ t. cut E.key nominal (slot_map E.key E.content slots.now) theta ≡ retained E.key (slot_map E.key E.content slots.now) t) }
     ensures low { IfOk result (λ t. 0 < t) }
     ensures high { IfOk result (λ t. t ≤ theta) }
 {

@@ -1,7 +1,7 @@
 //! Freeing the slots of a table.
 ghost use Rattle.std.specs.Prelude.{◌≡◌, ◌<◌, ◌≤◌, ◌^◌, length, [], IfOk, IsOk};
 ghost use Rattle.core_table.specs.HashTable.{slots_of_operator};
-ghost use Rattle.core_slots.specs.Layout.{entries_in};
+ghost use Rattle.core_slots.specs.SlotLayout.{entries_in};
 
 use core_slots::{SlotEntry, free_slots};
 use std::alloc::{AllocError, Allocator};
@@ -10,7 +10,7 @@ use std::alloc::{AllocError, Allocator};
 pub(crate) fn clear_slots<E: SlotEntry, A: Allocator>(slots: &mut Vec<E::Slot, A>, size: usize)
     requires { size ≤ length slots.old.items }
     ensures size { length slots.new.items ≡ size }
-    ensures free { entries_in E.held slots.new.items ≡ [] }
+    ensures free { entries_in E.content slots.new.items ≡ [] }
 {
     slots.truncate(size);
     'free_each: for at in 0..size {
@@ -25,7 +25,7 @@ pub(crate) fn operator_slots<E: SlotEntry, A: Allocator + Drop>(
 ) -> Result<Vec<E::Slot, A>, AllocError>
     requires { lg < 40 }
     ensures size { IfOk result (λ slots. length slots.items ≡ slots_of_operator lg) }
-    ensures free { IfOk result (λ slots. entries_in E.held slots.items ≡ []) }
+    ensures free { IfOk result (λ slots. entries_in E.content slots.items ≡ []) }
     ensures none { lg ≡ 0 → IsOk result }
 {
     if lg == 0 {

@@ -11,7 +11,7 @@ ghost use Rattle.core_laws.specs.Refusal.{Refuses};
 ghost use Rattle.core_laws.specs.Settings.{settings_refusal};
 ghost use Rattle.core_table.specs.HashTable.{Table, IsTable, IsSized, IsSeedHash, empty_table, set_table, after_reset, after_hashes, lg_size_for, whole_log, has_room, may_insert, threshold, sub_multiple, slots_of_operator, nothing_done, ticked, key_hash, after_insertion, after_hash, creates_hash, hash_allocates, after_tuple, creates_tuple, trimmed_table, cut_table, StopsAtMemory, counts_after, lg_cur_after, counts_after_trim, AreFewLooks, AreEnoughLooks, IsUncountedIfScreened, IsBelowThreshold, RefusesBelowThreshold};
 ghost use Rattle.core_table.specs.ResizeFactor.{lg_of};
-ghost use Rattle.core_slots.specs.Layout.{filled, IsLaidOut, entries_in, slot_map};
+ghost use Rattle.core_slots.specs.SlotLayout.{filled, IsLaidOut, entries_in, slot_map};
 ghost use Rattle.core_slots.specs.Entry.{tuple_key, entry_step};
 ghost use Rattle.core_table.specs.declared.hash_table.TheConstants.{BLOCK};
 ghost use Rattle.core_laws.specs.Insertion.{IsRedundant, Drops, creates, RefusesUpsert};
@@ -65,15 +65,15 @@ pub struct SketchHashTable<E: SlotEntry, A: Allocator = Global> {
 
 impl<E: SlotEntry, A: Allocator> Model for SketchHashTable<E, A> {
     ghost use Rattle.std.specs.Prelude.{true, map};
-    ghost use Rattle.core_slots.specs.Layout.{entries_in, slot_map};
+    ghost use Rattle.core_slots.specs.SlotLayout.{entries_in, slot_map};
     ghost use Rattle.core_table.specs.ResizeFactor.{lg_of};
     ghost use Rattle.core_table.specs.HashTable.{Table, IsProbing};
 
     ghost Value = { Table E };
 
-    ghost view = { λ t. record { map = record { kept = record { entries = slot_map E.key E.held t.slots.items; theta = t.theta }; lg_nom = t.lg_nom_size; has_slots = t.has_slots; start = t.starting_theta; seed = t.seed; seed_hash = t.seed_hash }; lends = entries_in E.held t.slots.items; layout = record { lg_cur = t.lg_cur_size; grow = lg_of t.resize_factor; slots = map E.held t.slots.items }; counts = t.counts } };
+    ghost view = { λ t. record { map = record { kept = record { entries = slot_map E.key E.content t.slots.items; theta = t.theta }; lg_nom = t.lg_nom_size; has_slots = t.has_slots; start = t.starting_theta; seed = t.seed; seed_hash = t.seed_hash }; sequence = entries_in E.content t.slots.items; layout = record { lg_cur = t.lg_cur_size; grow = lg_of t.resize_factor; slots = map E.content t.slots.items }; counts = t.counts } };
 
-    ghost invariant = { λ t. IsProbing E.key (record { kept = record { entries = slot_map E.key E.held t.slots.items; theta = t.theta }; lg_nom = t.lg_nom_size; has_slots = t.has_slots; start = t.starting_theta; seed = t.seed; seed_hash = t.seed_hash }) t.lg_cur_size (lg_of t.resize_factor) t.threshold t.count (map E.held t.slots.items) t.counts };
+    ghost invariant = { λ t. IsProbing E.key (record { kept = record { entries = slot_map E.key E.content t.slots.items; theta = t.theta }; lg_nom = t.lg_nom_size; has_slots = t.has_slots; start = t.starting_theta; seed = t.seed; seed_hash = t.seed_hash }) t.lg_cur_size (lg_of t.resize_factor) t.threshold t.count (map E.content t.slots.items) t.counts };
 }
 
 impl<E: SlotEntry, A: Allocator> SketchHashTable<E, A> {
@@ -187,12 +187,12 @@ impl<E: SlotEntry, A: Allocator> SketchHashTable<E, A> {
         ensures threshold { self.now.map.has_slots ≡ true → result ≡ threshold self.now.layout.lg_cur self.now.map.lg_nom }
         ensures none { self.now.map.has_slots ≡ false → result ≡ 0 }
         ensures laid_out { self.now.map.has_slots ≡ true → IsLaidOut E.key self.now.layout.lg_cur self.now.layout.slots }
-        ensures few { self.now.map.has_slots ≡ true → length self.now.map.kept.entries ≤ threshold self.now.layout.lg_cur self.now.map.lg_nom }
+        ensures limited { self.now.map.has_slots ≡ true → length self.now.map.kept.entries ≤ threshold self.now.layout.lg_cur self.now.map.lg_nom }
         ensures slots { self.now.map.has_slots ≡ true → self.now.layout.lg_cur ≤ self.now.map.lg_nom + 1 }
         ensures rebuilds { 7 * 2 ^ self.now.map.lg_nom * self.now.counts.rebuilds ≤ 8 * self.now.counts.inserted }
         ensures placed { self.now.counts.trims ≡ 0 → self.now.counts.placed ≤ 3 * self.now.counts.inserted }
-        ensures listed { self.now.lends ≡ filled self.now.layout.slots }
-        ensures held { self.now.map.kept.entries ≡ map_of E.key (filled self.now.layout.slots) }
+        ensures listed { self.now.sequence ≡ filled self.now.layout.slots }
+        ensures content { self.now.map.kept.entries ≡ map_of E.key (filled self.now.layout.slots) }
         ensures free { self.now.map.has_slots ≡ true → length self.now.map.kept.entries < length self.now.layout.slots }
         ensures slotless { self.now.map.has_slots ≡ false → self.now.layout.slots ≡ [] }
     {
@@ -295,9 +295,9 @@ impl<E: SlotEntry, A: Allocator> SketchHashTable<E, A> {
 
     /// Each retained entry once, in an unspecified order.
     pub fn iter_entries(&self) -> SketchHashTableIter<'_, E>
-        ensures listed { result ≡ self.now.lends }
-        ensures each_once { IsListing E.key self.now.map.kept.entries self.now.lends }
-        ensures fits { length self.now.lends < 2 ^ 64 }
+        ensures listed { result ≡ self.now.sequence }
+        ensures each_once { IsListing E.key self.now.map.kept.entries self.now.sequence }
+        ensures fits { length self.now.sequence < 2 ^ 64 }
         ensures sound { IsTable E.key self.now.map }
     {
         let _count = self.count;
@@ -530,6 +530,31 @@ impl<E: SlotEntry + Clone, A: Allocator + Clone> SketchHashTable<E, A> {
     }
 }
 
+impl<E: SlotEntry + Clone, A: Allocator + Clone> SketchHashTable<E, A> {
+    /// A copy of the table of a sketch, whose nominal logarithm is from 4 to 26: with the same entries, theta and
+    /// settings, but perhaps in another order. The memory is from clones of its allocator. Refused with `OutOfMemory`
+    /// alone.
+    pub fn clone(&self) -> Result<Self, Error>
+        requires clones_equal { ClonesEqual E.is_clone }
+        requires of_sketch { MIN_LG_K ≤ self.now.map.lg_nom }
+        requires small { self.now.map.lg_nom ≤ MAX_LG_K }
+        ensures copied { IfOk result (λ t. t.map ≡ self.now.map) }
+        ensures grows { IfOk result (λ t. t.layout.grow ≡ self.now.layout.grow) }
+        ensures refused { Refuses result None true }
+    {
+        let aside = self.slots.allocator().clone()?;
+        let entries = entries_below::<E, A>(aside, &self.slots, self.theta, self.count)?;
+        let alloc = self.slots.allocator().clone()?;
+        let grow = self.resize_factor;
+        let start = self.starting_theta;
+        let seed = self.seed;
+        let mut copy = SketchHashTable::new(alloc, self.lg_nom_size, grow, start, seed)?;
+        copy.set_retention_theta(self.theta);
+        let table = filled(copy, entries)?;
+        Ok(table)
+    }
+}
+
 /// The table of a theta sketch, whose entries are hashes alone.
 pub type ThetaHashTable<A = Global> = SketchHashTable<ThetaEntry, A>;
 
@@ -610,7 +635,7 @@ impl<A: Allocator + Clone> SketchHashTable<ThetaEntry, A> {
     /// Inserts a block of hashes in their order, after dropping those that are screened or found at once.
     fn insert_block(&mut self, hashes: &[u64]) -> Result<(), Error>
         requires room { 3 ≤ self.old.map.lg_nom }
-        requires few { length hashes.now ≤ BLOCK }
+        requires limited { length hashes.now ≤ BLOCK }
         ensures after { OnOk result (self.new.map ≡ after_hashes hashes.now self.old.map) }
         ensures err { OnErr result (StopsAtMemory hashes.now self.old.map self.new.map) }
         ensures refused { Refuses result None true }
@@ -625,9 +650,9 @@ impl<A: Allocator + Clone> SketchHashTable<ThetaEntry, A> {
     /// they are.
     fn copy_unfound(&self, hashes: &[u64], block: &mut [u64]) -> usize
         requires room { 3 ≤ self.now.map.lg_nom }
-        requires few { length hashes.now ≤ length block.old }
+        requires limited { length hashes.now ≤ length block.old }
         ensures left { Drops (IsRedundant hash_key self.now.map.kept) hashes.now (take result block.new) }
-        ensures few { result ≤ length block.old }
+        ensures limited { result ≤ length block.old }
         ensures sound { IsTable hash_key self.now.map }
     {
         let front = &mut block[..hashes.len()];
@@ -656,9 +681,9 @@ pub type TupleHashTable<S, A = Global> = SketchHashTable<TupleEntry<S>, A>;
 impl<S: Drop, A: Allocator> SketchHashTable<TupleEntry<S>, A> {
     /// Each retained entry once, in an unspecified order: what `iter_entries` returns.
     pub fn iter(&self) -> SketchHashTableIter<'_, TupleEntry<S>>
-        ensures listed { result ≡ self.now.lends }
-        ensures each_once { IsListing tuple_key self.now.map.kept.entries self.now.lends }
-        ensures fits { length self.now.lends < 2 ^ 64 }
+        ensures listed { result ≡ self.now.sequence }
+        ensures each_once { IsListing tuple_key self.now.map.kept.entries self.now.sequence }
+        ensures fits { length self.now.sequence < 2 ^ 64 }
         ensures sound { IsTable tuple_key self.now.map }
     {
         self.iter_entries()

@@ -3,7 +3,7 @@ ghost use Rattle.std.specs.Prelude.{◌≡◌, ◌+◌, ◌-◌, ◌*◌, ◌/�
 ghost use Rattle.core_laws.specs.Cuts.{cut};
 ghost use Rattle.core_laws.specs.Maps.{with_entry};
 ghost use Rattle.core_laws.specs.Refusal.{Refuses};
-ghost use Rattle.core_slots.specs.Layout.{slot, IsLaidOut, entries_in, slot_map};
+ghost use Rattle.core_slots.specs.SlotLayout.{slot, IsLaidOut, entries_in, slot_map};
 ghost use Rattle.core_table.specs.HashTable.{threshold, HasSize, sub_multiple, ticked, ticked_if, size_after, count_after};
 ghost use Rattle.core_table.specs.Insertion.{HasPlaceFor, kept_in, after_put, grown, IsCutOf, IsWritten};
 
@@ -100,14 +100,14 @@ pub(crate) fn put_entry<E: SlotEntry + Drop, A: Allocator + Clone>(
     entry: E,
     counts: &mut Counts,
 ) -> Result<Sizes, AllocError>
-    requires place { HasPlaceFor E.key (map E.held slots.old.items) sizes at entry }
+    requires place { HasPlaceFor E.key (map E.content slots.old.items) sizes at entry }
     requires room { sizes.lg_nom < 3 → sizes.count + 1 < 2 ^ sizes.lg_cur }
     requires inside { at < length slots.old.items }
-    ensures laid_out { IfOk result (λ s. IsLaidOut E.key s.lg_cur (map E.held slots.new.items)) }
-    ensures counted { IfOk result (λ s. s.count ≡ length (entries_in E.held slots.new.items)) }
+    ensures laid_out { IfOk result (λ s. IsLaidOut E.key s.lg_cur (map E.content slots.new.items)) }
+    ensures counted { IfOk result (λ s. s.count ≡ length (entries_in E.content slots.new.items)) }
     ensures after { IfOk result (λ s.
-        kept_in E.key E.held slots.new.items s.theta
-        ≡ after_put E.key sizes (slot_map E.key E.held slots.old.items) entry) }
+        kept_in E.key E.content slots.new.items s.theta
+        ≡ after_put E.key sizes (slot_map E.key E.content slots.old.items) entry) }
     ensures sized { IfOk result (λ s. HasSize s.lg_cur sizes.lg_nom sizes.grow s.count) }
     ensures size { IfOk result (λ s. s.lg_cur ≡ size_after sizes.lg_cur sizes.lg_nom sizes.grow sizes.count) }
     ensures most { IfOk result (λ s. s.most ≡ threshold s.lg_cur sizes.lg_nom) }
@@ -144,15 +144,15 @@ fn overflow<E: SlotEntry + Drop, A: Allocator + Clone>(
     entry: E,
     counts: &mut Counts,
 ) -> Result<Sizes, AllocError>
-    requires place { HasPlaceFor E.key (map E.held slots.old.items) sizes at entry }
+    requires place { HasPlaceFor E.key (map E.content slots.old.items) sizes at entry }
     requires room { sizes.lg_nom < 3 → sizes.count + 1 < 2 ^ sizes.lg_cur }
     requires inside { at < length slots.old.items }
     requires full { threshold sizes.lg_cur sizes.lg_nom < sizes.count + 1 }
-    ensures laid_out { IfOk result (λ s. IsLaidOut E.key s.lg_cur (map E.held slots.new.items)) }
-    ensures counted { IfOk result (λ s. s.count ≡ length (entries_in E.held slots.new.items)) }
+    ensures laid_out { IfOk result (λ s. IsLaidOut E.key s.lg_cur (map E.content slots.new.items)) }
+    ensures counted { IfOk result (λ s. s.count ≡ length (entries_in E.content slots.new.items)) }
     ensures after { IfOk result (λ s.
-        kept_in E.key E.held slots.new.items s.theta
-        ≡ after_put E.key sizes (slot_map E.key E.held slots.old.items) entry) }
+        kept_in E.key E.content slots.new.items s.theta
+        ≡ after_put E.key sizes (slot_map E.key E.content slots.old.items) entry) }
     ensures sized { IfOk result (λ s. HasSize s.lg_cur sizes.lg_nom sizes.grow s.count) }
     ensures size { IfOk result (λ s. s.lg_cur ≡ size_after sizes.lg_cur sizes.lg_nom sizes.grow sizes.count) }
     ensures most { IfOk result (λ s. s.most ≡ threshold s.lg_cur sizes.lg_nom) }
@@ -182,11 +182,11 @@ fn grow<E: SlotEntry + Drop, A: Allocator + Clone>(
     entry: E,
     counts: &mut Counts,
 ) -> Result<Sizes, AllocError>
-    requires place { HasPlaceFor E.key (map E.held slots.old.items) sizes at entry }
+    requires place { HasPlaceFor E.key (map E.content slots.old.items) sizes at entry }
     requires growing { sizes.lg_cur ≤ sizes.lg_nom }
     requires inside { at < length slots.old.items }
-    ensures laid_out { IfOk result (λ s. IsLaidOut E.key s.lg_cur (map E.held slots.new.items)) }
-    ensures after { OnOk result (slot_map E.key E.held slots.new.items ≡ with_entry E.key (slot_map E.key E.held slots.old.items) entry) }
+    ensures laid_out { IfOk result (λ s. IsLaidOut E.key s.lg_cur (map E.content slots.new.items)) }
+    ensures after { OnOk result (slot_map E.key E.content slots.new.items ≡ with_entry E.key (slot_map E.key E.content slots.old.items) entry) }
     ensures same { IfOk result (λ s. s ≡ grown sizes) }
     ensures err { OnErr result (slots.new.items ≡ slots.old.items) }
     ensures looks { 2 * counts.new.looks
@@ -226,16 +226,16 @@ fn rebuild<E: SlotEntry + Drop, A: Allocator + Clone>(
     entry: E,
     counts: &mut Counts,
 ) -> Result<Sizes, AllocError>
-    requires place { HasPlaceFor E.key (map E.held slots.old.items) sizes at entry }
+    requires place { HasPlaceFor E.key (map E.content slots.old.items) sizes at entry }
     requires full { 15 * 2 ^ sizes.lg_nom / 8 < sizes.count + 1 }
     requires large { 8 ≤ 2 ^ sizes.lg_nom }
     requires inside { at < length slots.old.items }
-    ensures laid_out { OnOk result (IsLaidOut E.key sizes.lg_cur (map E.held slots.new.items)) }
+    ensures laid_out { OnOk result (IsLaidOut E.key sizes.lg_cur (map E.content slots.new.items)) }
     ensures after { IfOk result (λ s.
-        kept_in E.key E.held slots.new.items s.theta
-        ≡ after_put E.key sizes (slot_map E.key E.held slots.old.items) entry) }
+        kept_in E.key E.content slots.new.items s.theta
+        ≡ after_put E.key sizes (slot_map E.key E.content slots.old.items) entry) }
     ensures same { IfOk result (λ s. s ≡ record sizes { count = 2 ^ sizes.lg_nom; theta = s.theta }) }
-    ensures count { OnOk result (length (entries_in E.held slots.new.items) ≡ 2 ^ sizes.lg_nom) }
+    ensures count { OnOk result (length (entries_in E.content slots.new.items) ≡ 2 ^ sizes.lg_nom) }
     ensures err { OnErr result (slots.new.items ≡ slots.old.items) }
     ensures looks { 2 * counts.new.looks
         ≤ 2 * counts.old.looks + (counts.new.placed - counts.old.placed) * (counts.new.placed - counts.old.placed + 1) }
@@ -297,13 +297,13 @@ pub(crate) fn write_at<E: SlotEntry + Drop, S: UpsertStep<E> + Drop>(
     step: S,
 ) -> Result<(), Error>
     requires inside { at < length slots.old }
-    requires taken { IsSome (slot (map E.held slots.old) at) }
-    requires nonzero { (x : E) → slot (map E.held slots.old) at ≡ Some x → (0 < E.key x) × (0 < E.key ((S.means step).writes x)) }
-    ensures ok { OnOk result (IsWritten at (S.means step).writes (map E.held slots.old) (map E.held slots.new)) }
-    ensures err { OnErr result (map E.held slots.new ≡ map E.held slots.old) }
+    requires taken { IsSome (slot (map E.content slots.old) at) }
+    requires nonzero { (x : E) → slot (map E.content slots.old) at ≡ Some x → (0 < E.key x) × (0 < E.key ((S.means step).writes x)) }
+    ensures ok { OnOk result (IsWritten at (S.means step).writes (map E.content slots.old) (map E.content slots.new)) }
+    ensures err { OnErr result (map E.content slots.new ≡ map E.content slots.old) }
     ensures size { length slots.new ≡ length slots.old }
     ensures refused { (x : E)
-        → slot (map E.held slots.old) at ≡ Some x
+        → slot (map E.content slots.old) at ≡ Some x
         → Refuses result ((S.means step).refuses_existing x) (S.means step).allocates }
 {
     let slot = mem::replace(&mut slots[at], E::free_slot());
@@ -329,14 +329,14 @@ pub(crate) fn cut_slots<E: SlotEntry + Drop, A: Allocator + Clone>(
     placed: &mut Count,
 ) -> Result<u64, AllocError>
     requires small { lg < 40 }
-    requires laid_out { IsLaidOut E.key lg (map E.held slots.old.items) }
-    requires counted { count ≡ length (entries_in E.held slots.old.items) }
-    requires many { nominal < length (entries_in E.held slots.old.items) }
-    requires room { length (entries_in E.held slots.old.items) ≤ 2 ^ lg }
-    ensures laid_out { OnOk result (IsLaidOut E.key lg (map E.held slots.new.items)) }
+    requires laid_out { IsLaidOut E.key lg (map E.content slots.old.items) }
+    requires counted { count ≡ length (entries_in E.content slots.old.items) }
+    requires many { nominal < length (entries_in E.content slots.old.items) }
+    requires room { length (entries_in E.content slots.old.items) ≤ 2 ^ lg }
+    ensures laid_out { OnOk result (IsLaidOut E.key lg (map E.content slots.new.items)) }
     ensures after { IfOk result (λ theta.
-        IsCutOf E.key nominal (slot_map E.key E.held slots.old.items) (kept_in E.key E.held slots.new.items theta)) }
-    ensures count { OnOk result (length (entries_in E.held slots.new.items) ≡ nominal) }
+        IsCutOf E.key nominal (slot_map E.key E.content slots.old.items) (kept_in E.key E.content slots.new.items theta)) }
+    ensures count { OnOk result (length (entries_in E.content slots.new.items) ≡ nominal) }
     ensures placed { OnOk result (placed.new ≡ placed.old + nominal) }
     ensures placed_err { OnErr result (placed.new ≡ placed.old) }
     ensures err { OnErr result (slots.new.items ≡ slots.old.items) }

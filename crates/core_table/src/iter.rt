@@ -5,7 +5,7 @@ ghost use Rattle.std.specs.List.{AllByRecursion};
 ghost use Rattle.std.specs.Option.{option_copied};
 ghost use Rattle.std.specs.Simd.Lanes.{mask_l};
 ghost use Rattle.std.specs.Iterator.SizeHint.{IsWithinCount};
-ghost use Rattle.core_slots.specs.Layout.{filled, entries_in};
+ghost use Rattle.core_slots.specs.SlotLayout.{filled, entries_in};
 ghost use Rattle.core_table.specs.Gathering.{from_below};
 ghost use Rattle.core_table.specs.Marks.{AreMarked, under};
 
@@ -43,19 +43,19 @@ pub struct SketchHashTableIter<'a, E: SlotEntry> {
 
 impl<'a, E: SlotEntry> Model for SketchHashTableIter<'a, E> {
     ghost use Rattle.std.specs.Prelude.{List, map};
-    ghost use Rattle.core_slots.specs.Layout.{entries_in};
+    ghost use Rattle.core_slots.specs.SlotLayout.{entries_in};
     ghost use Rattle.core_table.specs.Marks.{AreMarked};
 
     ghost Value = { List E };
 
-    ghost view = { λ s. entries_in E.held s.rest.slots.now };
+    ghost view = { λ s. entries_in E.content s.rest.slots.now };
 
-    ghost invariant = { λ s. AreMarked (map E.held s.rest.slots.now) s.rest.ahead s.rest.marks };
+    ghost invariant = { λ s. AreMarked (map E.content s.rest.slots.now) s.rest.ahead s.rest.marks };
 }
 
 impl<'a, E: SlotEntry> SketchHashTableIter<'a, E> {
     pub(crate) fn over(slots: &'a [E::Slot]) -> Self
-        ensures { result ≡ entries_in E.held slots.entry.now }
+        ensures { result ≡ entries_in E.content slots.entry.now }
     {
         SketchHashTableIter {
             rest: Marked {
@@ -74,7 +74,7 @@ const BLOCK: usize = 64;
 /// Whether a slot holds an entry below theta.
 #[inline(always)]
 fn holds_below<E: SlotEntry>(slot: &E::Slot, theta: u64) -> bool
-    ensures { MatchOption (E.held slot.now) (result ≡ false) (λ x. result ≡ nat_lt (E.key x) theta) }
+    ensures { MatchOption (E.content slot.now) (result ≡ false) (λ x. result ≡ nat_lt (E.key x) theta) }
 {
     E::is_below(slot, theta)
 }
@@ -82,7 +82,7 @@ fn holds_below<E: SlotEntry>(slot: &E::Slot, theta: u64) -> bool
 /// 1 for a slot that holds an entry, below the bound if there is one, and otherwise 0.
 #[inline(always)]
 fn mark_of<E: SlotEntry>(slot: &E::Slot, bound: Option<u64>) -> u64
-    ensures { result ≡ if is_some (under E.key bound E.held slot.now) then 1 else 0 }
+    ensures { result ≡ if is_some (under E.key bound E.content slot.now) then 1 else 0 }
 {
     match bound {
         Some(theta) => holds_below::<E>(slot, theta) as u64,
@@ -95,7 +95,7 @@ fn mark_of<E: SlotEntry>(slot: &E::Slot, bound: Option<u64>) -> u64
 #[inline(always)]
 fn marks_of<E: SlotEntry>(slots: &[E::Slot], bound: Option<u64>) -> u64
     requires { length slots.now ≤ 64 }
-    ensures { result ≡ mask_l (map is_some (map (under E.key bound E.held) slots.now)) }
+    ensures { result ≡ mask_l (map is_some (map (under E.key bound E.content) slots.now)) }
 {
     let mut marks = 0u64;
     'mark_each: for i in 0..slots.len() {
@@ -107,9 +107,9 @@ fn marks_of<E: SlotEntry>(slots: &[E::Slot], bound: Option<u64>) -> u64
 /// The slots from the first block that has a slot to mark, with the marks of that block; no slots if there is none.
 #[inline(always)]
 fn marked_from<'a, E: SlotEntry + 'a>(slots: &'a [E::Slot], bound: Option<u64>) -> Marked<'a, E>
-    ensures marked { AreMarked (map (under E.key bound E.held) result.slots.now) result.ahead result.marks }
-    ensures same { filled (map (under E.key bound E.held) result.slots.now) ≡ filled (map (under E.key bound E.held) slots.entry.now) }
-    ensures none { result.marks ≡ 0 → filled (map (under E.key bound E.held) result.slots.now) ≡ [] }
+    ensures marked { AreMarked (map (under E.key bound E.content) result.slots.now) result.ahead result.marks }
+    ensures same { filled (map (under E.key bound E.content) result.slots.now) ≡ filled (map (under E.key bound E.content) slots.entry.now) }
+    ensures none { result.marks ≡ 0 → filled (map (under E.key bound E.content) result.slots.now) ≡ [] }
 {
     let mut left = slots;
     'pass_blocks: while !left.is_empty() {
@@ -134,10 +134,10 @@ fn marked_from<'a, E: SlotEntry + 'a>(slots: &'a [E::Slot], bound: Option<u64>) 
 /// The rest, with a mark if an entry is left: unchanged if it has a mark already, otherwise from a later block on.
 #[inline(always)]
 fn marked_ahead<'a, E: SlotEntry + 'a>(rest: Marked<'a, E>, bound: Option<u64>) -> Marked<'a, E>
-    requires marked { AreMarked (map (under E.key bound E.held) rest.slots.now) rest.ahead rest.marks }
-    ensures marked { AreMarked (map (under E.key bound E.held) result.slots.now) result.ahead result.marks }
-    ensures same { filled (map (under E.key bound E.held) result.slots.now) ≡ filled (map (under E.key bound E.held) rest.entry.slots.now) }
-    ensures none { result.marks ≡ 0 → filled (map (under E.key bound E.held) result.slots.now) ≡ [] }
+    requires marked { AreMarked (map (under E.key bound E.content) rest.slots.now) rest.ahead rest.marks }
+    ensures marked { AreMarked (map (under E.key bound E.content) result.slots.now) result.ahead result.marks }
+    ensures same { filled (map (under E.key bound E.content) result.slots.now) ≡ filled (map (under E.key bound E.content) rest.entry.slots.now) }
+    ensures none { result.marks ≡ 0 → filled (map (under E.key bound E.content) result.slots.now) ≡ [] }
 {
     if rest.marks != 0 {
         return rest;
@@ -151,11 +151,11 @@ pub(crate) fn first_in<'a, E: SlotEntry + 'a>(
     left: Marked<'a, E>,
     bound: Option<u64>,
 ) -> (Option<&'a E>, Marked<'a, E>)
-    requires marked { AreMarked (map (under E.key bound E.held) left.slots.now) left.ahead left.marks }
-    ensures marked { AreMarked (map (under E.key bound E.held) result.1.slots.now) result.1.ahead result.1.marks }
-    ensures first { filled (map (under E.key bound E.held) left.entry.slots.now)
-        ≡ filled (option_copied result.0 ∷ map (under E.key bound E.held) result.1.slots.now) }
-    ensures none { result.0 ≡ None → filled (map (under E.key bound E.held) left.entry.slots.now) ≡ [] }
+    requires marked { AreMarked (map (under E.key bound E.content) left.slots.now) left.ahead left.marks }
+    ensures marked { AreMarked (map (under E.key bound E.content) result.1.slots.now) result.1.ahead result.1.marks }
+    ensures first { filled (map (under E.key bound E.content) left.entry.slots.now)
+        ≡ filled (option_copied result.0 ∷ map (under E.key bound E.content) result.1.slots.now) }
+    ensures none { result.0 ≡ None → filled (map (under E.key bound E.content) left.entry.slots.now) ≡ [] }
 {
     let rest = marked_ahead(left, bound);
     if rest.marks == 0 {
@@ -177,7 +177,7 @@ const PASSED: usize = 8;
 /// Whether some of a few slots hold an entry below theta. It takes no branch on what a slot holds.
 #[inline(always)]
 fn any_below<E: SlotEntry>(block: &[E::Slot], theta: u64) -> bool
-    ensures { result ≡ false → AllByRecursion (λ x. theta ≤ E.key x) (entries_in E.held block.now) }
+    ensures { result ≡ false → AllByRecursion (λ x. theta ≤ E.key x) (entries_in E.content block.now) }
 {
     let mut any = false;
     'test_each: for slot in block {
@@ -189,7 +189,7 @@ fn any_below<E: SlotEntry>(block: &[E::Slot], theta: u64) -> bool
 /// The slots from the first one that holds an entry below theta.
 #[inline(always)]
 fn slots_from_below<'a, E: SlotEntry + 'a>(slots: &'a [E::Slot], theta: u64) -> &'a [E::Slot]
-    ensures { entries_in E.held result.now ≡ from_below E.key theta (entries_in E.held slots.entry.now) }
+    ensures { entries_in E.content result.now ≡ from_below E.key theta (entries_in E.content slots.entry.now) }
 {
     let mut left = slots;
     'pass_blocks: while left.len() >= PASSED {

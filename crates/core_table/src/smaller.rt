@@ -1,5 +1,5 @@
-//! Tables of fewer nominal entries.
-ghost use Rattle.std.specs.Prelude.{◌≡◌, ◌<◌, ◌≤◌, ◌^◌, [], true, length, None, IfOk};
+//! Tables that are filled with the entries of another.
+ghost use Rattle.std.specs.Prelude.{◌≡◌, ◌*◌, ◌/◌, ◌<◌, ◌≤◌, ◌^◌, [], true, length, None, IfOk};
 ghost use Rattle.std.specs.List.{AllByRecursion};
 ghost use Rattle.core_laws.specs.Maps.{IsApart, map_of};
 ghost use Rattle.core_laws.specs.Refusal.{Refuses};
@@ -9,8 +9,8 @@ use core_slots::{PutStep, SlotEntry};
 use sketch_base::Error;
 use std::alloc::Allocator;
 
-/// An empty table with these entries inserted. Their hashes are distinct and below its theta, and they are no more than its
-/// nominal entries, so nothing is rebuilt. Refused with `OutOfMemory` alone.
+/// An empty table with these entries inserted. Their hashes are distinct and below its theta, and they are at most fifteen
+/// eighths of its nominal entries, so nothing is rebuilt. Refused with `OutOfMemory` alone.
 pub(crate) fn filled<E: SlotEntry + Drop, A: Allocator + Clone>(
     table: SketchHashTable<E, A>,
     entries: Vec<E, A>,
@@ -20,7 +20,7 @@ pub(crate) fn filled<E: SlotEntry + Drop, A: Allocator + Clone>(
     requires apart { IsApart E.key entries.items }
     requires nonzero { AllByRecursion (λ x. 0 < E.key x) entries.items }
     requires below_theta { AllByRecursion (λ x. E.key x < table.map.kept.theta) entries.items }
-    requires few { length entries.items ≤ 2 ^ table.map.lg_nom }
+    requires limited { length entries.items ≤ 15 * 2 ^ table.map.lg_nom / 8 }
     ensures after { IfOk result (λ t.
         t.map
         ≡ record table.map

@@ -2,14 +2,15 @@
 use Rattle.std.proofs.Common.{◌≡◌, ℕ, Bool, true, false, List, [], ◌∷◌, ◌++◌, length, map, Option, Some, None, refl, sym, ap, subst, ◌∙◌, append_assoc, append-nil, ◌≤◌, ◌<◌, arith}
 use Rattle.std.specs.Prelude.{IfSome, IfOk, Result, Ok, Err, get_or}
 use Rattle.sketch_base.specs.Seed.{seed_hash}
-use Rattle.core_compact.specs.CompactState.{Compact}
+use Rattle.core_compact.specs.CompactState.{Compact, ordered_sketch}
 use Rattle.line_sketches.specs.Sources.{GivesNext, Continues}
 use Rattle.line_sketches.specs.Shards.{sketches_of_texts}
 use Rattle.expression_text.specs.declared.operator.Step.{Step}
 use Rattle.expression_text.specs.Grammar.{IsSpelled}
 use Rattle.set_expressions.specs.Values.{value_of}
-use Rattle.set_expressions.specs.Running.{values_of, sketch_of_value}
+use Rattle.set_expressions.specs.Running.{values_of}
 use Rattle.distinct_arguments.specs.Settings.{OptionValues}
+use Rattle.distinct.proofs.WholeStreams.{whole_result}
 use Rattle.distinct.specs.Failures.{chosen_hashing}
 use Rattle.distinct.specs.Evaluations.{sketch_of_text, SketchesFirst, SketchesNext, AreSketched, AreOperands, IsEvaluated, IsEvaluatedOf, evaluated_text}
 
@@ -19,9 +20,9 @@ mapped-more f (y ∷ ys) x = ap (λ zs. f y ∷ zs) (mapped-more f ys x)
 
 -- a list of one
 pub only_one : {T : Type 0} (xs : List T) (x : T) → 1 ≤ length xs → length xs < 2 → x ≡ get_or xs 0 x → xs ≡ x ∷ []
-only_one [] x some few is = absurd (omega arith)
-only_one (y ∷ []) x some few is = ap (λ z. z ∷ []) (sym is)
-only_one (y ∷ z ∷ ys) x some few is = absurd (omega arith)
+only_one [] x some limited is = absurd (omega arith)
+only_one (y ∷ []) x some limited is = ap (λ z. z ∷ []) (sym is)
+only_one (y ∷ z ∷ ys) x some limited is = absurd (omega arith)
 
 module _ (options : OptionValues) (seed : ℕ) where
   sketched-more : (texts : List (List ℕ)) (sketches : List (Compact ℕ)) (text : List ℕ) (s : Compact ℕ) → AreSketched options seed texts sketches → s ≡ sketch_of_text options seed text → AreSketched options seed (texts ++ text ∷ []) (sketches ++ s ∷ [])
@@ -63,7 +64,7 @@ module _ (options : OptionValues) (seed : ℕ) where
   -- the result of the only expression
   pub evaluated : {V E : Type 0} (r : Result V E) (items : V → List ℕ) (known : Option (List (List ℕ))) (expressions : List (List ℕ)) (text : List ℕ) (names : List (List ℕ)) (steps : List Step) (sketches : List (Compact ℕ)) (s : Compact ℕ) →
       expressions ≡ text ∷ [] → (spelled : IsSpelled text names steps) → IfSome known (λ texts. AreOperands options.keys options seed texts sketches) → length names ≡ length sketches →
-      s ≡ sketch_of_value (seed_hash seed) (value_of options.lg_k (values_of sketches) spelled.tree) → IfOk r (λ v. items v ≡ evaluated_text options text s) →
+      s ≡ ordered_sketch (value_of options.lg_k (values_of sketches) spelled.tree) (seed_hash seed) → IfOk r (λ v. items v ≡ evaluated_text options text s) →
       IfSome known (λ texts. IfOk r (λ v. IsEvaluatedOf options seed expressions texts (items v)))
   evaluated r items None expressions text names steps sketches s only spelled operands counted value put = tt
   evaluated (Err e) items (Some texts) expressions text names steps sketches s only spelled operands counted value put = tt
@@ -76,4 +77,5 @@ module _ (options : OptionValues) (seed : ℕ) where
         operands = operands;
         counted = counted;
         result = put ∙ ap (evaluated_text options text) value;
+        whole = whole_result options seed texts sketches spelled.tree operands;
       })

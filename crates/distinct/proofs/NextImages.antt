@@ -161,3 +161,10 @@ module _ (seed : ℕ) where
   met_image remaining hex line texts (Some reader) sketches r items expected closed read image counted = absurd (cc)
   met_image remaining hex line texts None sketches r items expected closed read image counted =
       all_left hex line texts (λ all. IfOk r (λ v. IsIntersectionImage seed all (items v) × IsExpected expected (length all))) (met_of_known r items expected (images_left hex None line texts) sketches read image counted)
+
+  -- ---- the sketches of all images, before a file is opened
+
+  pub all_read : {R A V E : Type 0} (remaining : R → Option (List ℕ)) (hex : Bool) (line : ℕ) (texts : Option (List (List ℕ))) (reader : Option (BufReader R A)) (r : Result V E) (items : V → List (Compact ℕ)) → reader ≡ None →
+      IfSome (images_left hex (open_text remaining reader) line texts) (λ all. IfOk r (λ v. AreRead seed all (items v))) → IfSome texts (λ known. IfOk r (λ v. AreRead seed (images_of hex known) (items v)))
+  all_read remaining hex line texts (Some reader) r items closed read = absurd (cc)
+  all_read remaining hex line texts None r items closed read = all_left hex line texts (λ all. IfOk r (λ v. AreRead seed all (items v))) read

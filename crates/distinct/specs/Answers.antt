@@ -1,5 +1,5 @@
 -- What a command writes, by the texts of its files.
-use Rattle.std.specs.Prelude.{ℕ, ◌≡◌, ◌++◌, Bool, true, false, List, [], ◌∷◌, length, map, Option, IfSome, String, Vec, string_bytes, decimal, codes, if◌then◌else◌}
+use Rattle.std.specs.Prelude.{ℕ, ◌≡◌, ◌++◌, Bool, true, false, List, [], ◌∷◌, length, map, Option, Some, None, IfSome, String, Vec, string_bytes, decimal, codes, if◌then◌else◌}
 use Rattle.std.specs.Io.KnownBytes.{Appends}
 use Rattle.core_compact.specs.CompactState.{Compact, compact_value}
 use Rattle.core_state.specs.Fraction.{compact_fraction}
@@ -8,18 +8,20 @@ use Rattle.core_laws.specs.Operators.{meet, minus}
 use Rattle.theta_sketches.specs.Image.{Reads, written}
 use Rattle.sketch_base.specs.Seed.{seed_hash}
 use Rattle.lines.specs.Lines.{lines_of_all}
-use Rattle.line_sketches.specs.Hex.{hex_of}
 use Rattle.line_sketches.specs.Keys.{value_of_lines, sketch_of_value}
 use Rattle.line_sketches.specs.Shards.{values_of_sketches, AreRead}
 use Rattle.line_sketches.specs.Unions.{IsUnitedImage}
-use Rattle.distinct_arguments.specs.Settings.{OptionValues}
+use Rattle.distinct_arguments.specs.Settings.{OptionValues, chosen_group}
 use Rattle.distinct_arguments.specs.Arguments.{Action, prints, runs, fails}
 use Rattle.distinct.specs.Failures.{called, chosen_hashing}
 use Rattle.distinct.specs.Evaluations.{IsEvaluatedOf}
-use Rattle.distinct.specs.Images.{images_of}
+use Rattle.distinct.specs.Images.{images_of, in_form}
+use Rattle.distinct.specs.Groups.{IsGroupedText}
+use Rattle.lines.specs.declared.key.Key.{Key}
 use Rattle.distinct.specs.Texts.{count_text, shown_text, head_of}
+use Rattle.distinct.specs.Visits.{visits_of, visits_text}
 use Rattle.distinct_arguments.specs.declared.commands.Command.{Command}
-use Rattle.distinct_arguments.specs.declared.commands.Command.TheVariants.{Count, Sketch, Combine, Show, Eval}
+use Rattle.distinct_arguments.specs.declared.commands.Command.TheVariants.{Count, Sketch, Combine, Show, Eval, Visits}
 use Rattle.distinct_arguments.specs.declared.commands.Operator.{Operator}
 use Rattle.distinct_arguments.specs.declared.commands.Operator.TheVariants.{Union, Meet, Minus}
 
@@ -33,10 +35,6 @@ texts_of texts = map (λ text. text.items) texts
 -- the sketch of the lines of all texts, each text cut into lines by itself, with the key and the size that the options set, under a seed
 abbrev pub sketch_of : OptionValues → (seed : ℕ) → (texts : List (List ℕ)) → Compact ℕ
 sketch_of options seed texts = sketch_of_value seed (value_of_lines (chosen_hashing options seed) options.lg_k (lines_of_all texts))
-
--- an image as it is written: its bytes, or a line of their hexadecimal digits
-abbrev pub in_form : (hex : Bool) → (image : List ℕ) → List ℕ
-in_form hex image = if hex then hex_of image ++ 10 ∷ [] else image
 
 -- the ordered sketches of an intersection and of a difference
 abbrev pub intersection_of : (seed : ℕ) → List (Compact ℕ) → Compact ℕ
@@ -94,14 +92,25 @@ abbrev pub IsShownOf : OptionValues → (seed : ℕ) → (names texts : List (Li
 IsShownOf options seed names texts out =
     (lines : List ℕ) × AreLinesOf options.hex options seed names texts lines × (out ≡ head_of options.form ++ lines)
 
+-- what `count` prints of texts, by the key of their groups if there is one
+abbrev pub IsCounted : (by : Option Key) → OptionValues → (seed : ℕ) → (texts : List (List ℕ)) → List ℕ → Type 0
+IsCounted None options seed texts out = out ≡ count_text options (sketch_of options seed texts)
+IsCounted (Some by) options seed texts out = IsGroupedText false options seed by texts out
+
+-- what `sketch` writes of texts, by the key of their groups if there is one
+abbrev pub IsSketched : (by : Option Key) → OptionValues → (seed : ℕ) → (texts : List (List ℕ)) → List ℕ → Type 0
+IsSketched None options seed texts out = out ≡ in_form options.hex (written (sketch_of options seed texts))
+IsSketched (Some by) options seed texts out = IsGroupedText true options seed by texts out
+
 -- what a command writes for files of these names and texts; the only name of `eval` is its expression
 abbrev pub IsAnswer : Command → OptionValues → (seed : ℕ) → (names texts : List (List ℕ)) → List ℕ → Type 0
-IsAnswer Count options seed names texts out = out ≡ count_text options (sketch_of options seed texts)
-IsAnswer Sketch options seed names texts out = out ≡ in_form options.hex (written (sketch_of options seed texts))
+IsAnswer Count options seed names texts out = IsCounted (chosen_group options) options seed texts out
+IsAnswer Sketch options seed names texts out = IsSketched (chosen_group options) options seed texts out
 IsAnswer (Combine operator) options seed names texts out =
     (image : List ℕ) × IsCombinedOf operator options seed texts image × (out ≡ in_form options.hex image)
 IsAnswer Show options seed names texts out = IsShownOf options seed names texts out
 IsAnswer Eval options seed names texts out = IsEvaluatedOf options seed names texts out
+IsAnswer Visits options seed names texts out = out ≡ visits_text options (visits_of options seed texts)
 
 -- the command's answer was written, and nothing else
 abbrev pub Writes : Command → OptionValues → (seed : ℕ) → (names texts : List (List ℕ)) → (old new : Option (List ℕ)) → Type 0

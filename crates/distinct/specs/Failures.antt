@@ -2,6 +2,7 @@
 use Rattle.std.specs.Prelude.{ℕ, ◌≡◌, ◌≢◌, ◌⊎◌, ◌==◌, ◌&&◌, ◌+◌, ◌-◌, ◌^◌, min, ⊤, Bool, true, false, List, [], ◌∷◌, length, Option, Some, None, IfSome, String, codes, string_bytes, if◌then◌else◌}
 use Rattle.std.specs.Str.{bytes_eq}
 use Rattle.lines.specs.declared.key.Hashing.{Hashing}
+use Rattle.expression_text.specs.Grammar.{SpellsNothing}
 use Rattle.distinct_arguments.specs.Faults.{status_of as fault_status}
 use Rattle.distinct_arguments.specs.declared.fault.Fault.TheVariants.{NotOneExpression}
 use Rattle.distinct_arguments.specs.Settings.{chosen_key}
@@ -10,11 +11,11 @@ use Rattle.distinct_arguments.specs.Settings.{OptionValues}
 use Rattle.distinct.specs.Images.{images_of}
 use Rattle.distinct.specs.declared.images.Images.{Images}
 use Rattle.distinct_arguments.specs.declared.commands.Command.{Command}
-use Rattle.distinct_arguments.specs.declared.commands.Command.TheVariants.{Count, Sketch, Combine, Eval}
+use Rattle.distinct_arguments.specs.declared.commands.Command.TheVariants.{Count, Sketch, Combine, Eval, Visits}
 use Rattle.distinct_arguments.specs.declared.commands.Operator.{Operator}
 use Rattle.distinct_arguments.specs.declared.commands.Operator.TheVariants.{Minus}
 use Rattle.distinct.specs.declared.failure.Failure.{Failure}
-use Rattle.distinct.specs.declared.failure.Failure.TheVariants.{NotText, Arguments, NoFiles, NotTwo, NoExpression, NoName, Terminal, WrongCount, Memory, Unreadable, NoSketch, NoHex, NoLine, NotWritten}
+use Rattle.distinct.specs.declared.failure.Failure.TheVariants.{NotText, Arguments, NoFiles, NotTwo, NoExpression, NoName, Terminal, WrongCount, NotOneEach, Memory, Unreadable, NoSketch, NoHex, NoLine, PastGreatest, NotWritten}
 
 -- the exit status: 2 if the arguments are wrong, else 1
 abbrev pub status_of : Failure → ℕ
@@ -75,6 +76,11 @@ IsOfImages (NoHex name line) = ⊤
 IsOfImages (NoLine name) = ⊤
 IsOfImages failure = IsOfReading failure
 
+-- lines are not summed: memory was refused, a file can't be read, or a sum would be 2^64 or more
+abbrev pub IsOfSums : Failure → Type 0
+IsOfSums (PastGreatest name line) = ⊤
+IsOfSums failure = IsOfReading failure
+
 -- memory was refused, or the output of this name failed
 abbrev pub IsOfWriting : (name : List ℕ) → Failure → Type 0
 IsOfWriting name Memory = ⊤
@@ -101,26 +107,27 @@ IsOfCombining operator options count texts NotTwo = (operator ≡ Minus) × AreN
 IsOfCombining operator options count texts failure = IsOfUnion options.expected failure
 
 -- a text is not read as an expression: memory was refused, it spells none, or it has a name that can't be one
-abbrev pub IsOfExpression : Failure → Type 0
-IsOfExpression Memory = ⊤
-IsOfExpression (NoExpression text fault) = ⊤
-IsOfExpression (NoName text number) = ⊤
-IsOfExpression _ = ⊥
+abbrev pub IsOfExpression : (text : List ℕ) → Failure → Type 0
+IsOfExpression text Memory = ⊤
+IsOfExpression text (NoExpression copy fault) = SpellsNothing text
+IsOfExpression text (NoName copy number) = ⊤
+IsOfExpression text _ = ⊥
 
 -- an evaluation fails: there is not one expression, it is not read, there are not as many sketches as names, or a file is at fault
 abbrev pub IsOfEvaluation : (count : ℕ) → Failure → Type 0
 IsOfEvaluation count (Arguments NotOneExpression) = count ≢ 1
 IsOfEvaluation count (NoExpression text fault) = ⊤
 IsOfEvaluation count (NoName text number) = ⊤
-IsOfEvaluation count (WrongCount counted number) = number ≢ counted
+IsOfEvaluation count (NotOneEach found names) = found ≢ names
 IsOfEvaluation count failure = IsOfImages failure
 
 -- a command fails: what it reads or writes is at fault, it has no image, there are not as many as are expected, `minus` doesn't have two, or
 -- `eval` doesn't have one expression
 abbrev pub IsOfCommand : Command → OptionValues → (count : ℕ) → (texts : Option (List (List ℕ))) → Failure → Type 0
-IsOfCommand command options count texts NoFiles = (count ≡ 0) × (command ≡ Count → ⊥) × (command ≡ Sketch → ⊥) × (command ≡ Eval → ⊥)
+IsOfCommand command options count texts NoFiles = (count ≡ 0) × (command ≡ Count → ⊥) × (command ≡ Sketch → ⊥) × (command ≡ Eval → ⊥) × (command ≡ Visits → ⊥)
 IsOfCommand command options count texts NotTwo = (command ≡ Combine Minus) × AreNotTwo options.hex count texts
-IsOfCommand command options count texts (WrongCount counted number) = ((command ≡ Eval → ⊥) → options.expected ≡ Some number) × (number ≢ counted)
+IsOfCommand command options count texts (WrongCount counted number) = (options.expected ≡ Some number) × (number ≢ counted)
+IsOfCommand command options count texts (NotOneEach found names) = (command ≡ Eval) × (found ≢ names)
 IsOfCommand command options count texts (NoExpression text fault) = command ≡ Eval
 IsOfCommand command options count texts (Arguments NotOneExpression) = (command ≡ Eval) × (count ≢ 1)
 IsOfCommand command options count texts failure = status_of failure ≡ 1

@@ -6,11 +6,15 @@ use Rattle.std.specs.declared.io.buffered.BufReader.{BufReader}
 use Rattle.std.specs.List.{onto_first, prefix_len, suffix_len}
 use Rattle.std.specs.Char.{is_ascii_whitespace}
 use Rattle.sketch_base.specs.Seed.{seed_hash}
-use Rattle.line_sketches.specs.Hex.{bytes_of_hex}
+use Rattle.line_sketches.specs.Hex.{hex_of, bytes_of_hex}
 use Rattle.line_sketches.specs.Sources.{GivesNext}
 use Rattle.distinct.specs.declared.images.Images.{Images}
 use Rattle.core_compact.specs.CompactState.{Compact}
 use Rattle.theta_sketches.specs.Image.{Reads}
+
+-- an image as it is written: its bytes, or a line of their hexadecimal digits
+abbrev pub in_form : (hex : Bool) → (image : List ℕ) → List ℕ
+in_form hex image = if hex then hex_of image ++ 10 ∷ [] else image
 
 -- a text without the blanks at its end, and without those at both ends
 abbrev pub without_end : List ℕ → List ℕ

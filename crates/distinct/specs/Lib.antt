@@ -4,4 +4,6 @@ pub mod Lists
 pub mod Images
 pub mod Failures
 pub mod Evaluations
+pub mod Visits
+pub mod Groups
 pub mod Answers

@@ -3,7 +3,9 @@ ghost use Rattle.std.specs.Prelude.{◌≡◌, ◌≢◌, ℕ, OnOk, IfOk, IfErr
 ghost use Rattle.sketch_base.specs.Seed.{seed_hash};
 ghost use Rattle.theta_sketches.specs.Image.{written};
 ghost use Rattle.distinct_arguments.specs.Faults.{options_of, request_action};
-ghost use Rattle.distinct.specs.Answers.{names_of, sketch_of, in_form, IsAnswer, Writes, Performs};
+ghost use Rattle.distinct_arguments.specs.Settings.{chosen_group};
+ghost use Rattle.distinct.specs.Answers.{names_of, sketch_of, IsCounted, IsSketched, IsAnswer, Writes, Performs};
+ghost use Rattle.distinct.specs.Images.{in_form};
 ghost use Rattle.distinct.specs.Texts.{count_text};
 ghost use Rattle.distinct.specs.Failures.{IsOfReading, IsOfCommand};
 ghost use Rattle.distinct.specs.declared.failure.Failure.TheVariants as failure;
@@ -11,10 +13,12 @@ ghost use Rattle.distinct.specs.declared.failure.Failure.TheVariants as failure;
 use crate::combine::combine_inputs;
 use crate::eval::eval_inputs;
 use crate::failure::{Failure, out_of_memory};
+use crate::groups::print_groups;
 use crate::inputs::Inputs;
 use crate::output::put;
 use crate::remarks::Console;
 use crate::show::{count_text, show_inputs};
+use crate::visits::visit_inputs;
 use distinct_arguments::{Command, Options, Request, text_of};
 use line_sketches::{Sources, Unread, hex_line, image_of, sketch_sources};
 use lines::Hashing;
@@ -28,8 +32,8 @@ const STANDARD_OUTPUT: &str = "standard output";
 /// Runs a command under a seed on the files that sources give, under these names, and writes its whole answer and nothing
 /// else. For `eval` the only name is the expression. It fails with `NoFiles` only if it needs images and no file is named;
 /// with `NotTwo` only for `minus` and, if contracts know the files' bytes, only if two files aren't named (without `--hex`)
-/// or their images aren't two; with `WrongCount` only for `eval`, or if `--expect` names another number than it reports to
-/// have found; and with `NoExpression` or `NotOneExpression` only for `eval`. Any other failure has status 1: memory, a
+/// or their images aren't two; with `WrongCount` only if `--expect` names another number than it reports to have found;
+/// and with `NotOneEach`, `NoExpression` or `NotOneExpression` only for `eval`. Any other failure has status 1: memory, a
 /// file, its contents or the writer is at fault.
 pub fn answer<S: Sources + Drop, C: Console, O: Write>(
     alloc: Global,
@@ -92,15 +96,8 @@ fn answer_of<S: Sources + Drop, C: Console>(
 {
     let inputs = Inputs::new(sources, files);
     match command {
-        Command::Count => {
-            let counted = sketch_inputs(alloc, options, seed, inputs, console)?;
-            let text = count_text(alloc, options, &counted)?;
-            Ok(text.into_bytes())
-        }
-        Command::Sketch => {
-            let sketch = sketch_inputs(alloc, options, seed, inputs, console)?;
-            image_in_form(alloc, options.hex, &sketch)
-        }
+        Command::Count => { count_inputs(alloc, options, seed, inputs, console) }
+        Command::Sketch => { write_sketch(alloc, options, seed, inputs, console) }
         Command::Combine(operator) => {
             if files.is_empty() {
                 return Err(Failure::NoFiles);
@@ -116,6 +113,52 @@ fn answer_of<S: Sources + Drop, C: Console>(
             show_inputs(alloc, options, seed, files, inputs)
         }
         Command::Eval => eval_inputs(alloc, options, seed, files, inputs, console),
+        Command::Visits => visit_inputs(alloc, options, seed, inputs),
+    }
+}
+
+/// What `count` prints of the lines of all sources in turn, by groups if the options say so.
+fn count_inputs<S: Sources + Drop, C: Console>(
+    alloc: Global,
+    options: &Options<'_>,
+    seed: u64,
+    inputs: Inputs<'_, S>,
+    console: &mut C,
+) -> Result<Vec<u8>, Failure>
+    requires seeded { seed_hash seed ≢ 0 }
+    ensures counted { IfSome (S.texts inputs.entry.sources) (λ texts.
+        IfOk result (λ v. IsCounted (chosen_group (options_of options.now)) (options_of options.now) seed texts v.items)) }
+    ensures failed { IfErr result IsOfReading }
+{
+    match options.group() {
+        Some(by) => print_groups(alloc, options, seed, false, by, inputs, console),
+        None => {
+            let counted = sketch_inputs(alloc, options, seed, inputs, console)?;
+            let text = count_text(alloc, options, &counted)?;
+            Ok(text.into_bytes())
+        }
+    }
+}
+
+/// What `sketch` writes of the lines of all sources in turn, by groups if the options say so.
+fn write_sketch<S: Sources + Drop, C: Console>(
+    alloc: Global,
+    options: &Options<'_>,
+    seed: u64,
+    inputs: Inputs<'_, S>,
+    console: &mut C,
+) -> Result<Vec<u8>, Failure>
+    requires seeded { seed_hash seed ≢ 0 }
+    ensures sketched { IfSome (S.texts inputs.entry.sources) (λ texts.
+        IfOk result (λ v. IsSketched (chosen_group (options_of options.now)) (options_of options.now) seed texts v.items)) }
+    ensures failed { IfErr result IsOfReading }
+{
+    match options.group() {
+        Some(by) => print_groups(alloc, options, seed, true, by, inputs, console),
+        None => {
+            let sketch = sketch_inputs(alloc, options, seed, inputs, console)?;
+            image_in_form(alloc, options.hex, &sketch)
+        }
     }
 }
 
@@ -132,7 +175,7 @@ fn in_form(alloc: Global, hex: bool, image: Vec<u8>) -> Result<Vec<u8>, Failure>
 }
 
 /// The image of a sketch as it is written.
-fn image_in_form(alloc: Global, hex: bool, sketch: &CompactThetaSketch) -> Result<Vec<u8>, Failure>
+pub fn image_in_form(alloc: Global, hex: bool, sketch: &CompactThetaSketch) -> Result<Vec<u8>, Failure>
     ensures form { IfOk result (λ v. v.items ≡ in_form hex (written sketch.now)) }
     ensures memory { IfErr result (λ f. f ≡ failure.Memory) }
 {

@@ -4,16 +4,19 @@ ghost use Rattle.sketch_base.specs.Seed.{seed_hash};
 ghost use Rattle.core_laws.specs.Settings.{settings_refusal};
 ghost use Rattle.core_laws.specs.declared.TheConstants.{MAX_THETA};
 ghost use Rattle.line_sketches.specs.Refusals.{RefusesRead};
-ghost use Rattle.expression_text.specs.Grammar.{IsSpelled};
+ghost use Rattle.expression_text.specs.Grammar.{IsSpelled, SpellsNothing};
+ghost use Rattle.expression_text.specs.declared.fault.Reason.TheVariants.{Memory};
 ghost use Rattle.set_expressions.specs.Values.{value_of};
-ghost use Rattle.set_expressions.specs.Running.{values_of, sketch_of_value};
+ghost use Rattle.core_compact.specs.CompactState.{ordered_sketch};
+ghost use Rattle.set_expressions.specs.Running.{values_of};
 ghost use Rattle.distinct_arguments.specs.Faults.{options_of};
 ghost use Rattle.distinct.specs.Answers.{names_of};
 ghost use Rattle.distinct.specs.Evaluations.{sketch_of_text, SketchesNext, AreSketched, AreOperands, IsEvaluatedOf, evaluated_text};
+ghost use Rattle.distinct.specs.Seeds.{AreSeeded};
 ghost use Rattle.distinct.specs.Failures.{IsOfReading, IsOfImages, IsOfExpression, IsOfEvaluation};
 ghost use Rattle.distinct.specs.declared.failure.Failure.TheVariants as failure;
 
-use crate::answer::image_to_put;
+use crate::answer::image_in_form;
 use crate::combine::all_sketches;
 use crate::failure::{Failure, out_of_memory};
 use crate::images::Images;
@@ -41,7 +44,8 @@ pub struct Expression {
 
 /// The failure for a text that is not an expression, for this reason.
 fn unspelled(alloc: Global, text: &str, fault: SyntaxFault) -> Failure
-    ensures { IsOfExpression result }
+    requires { fault.reason ≢ Memory → SpellsNothing text.now }
+    ensures { IsOfExpression text.now result }
 {
     if fault.reason == Reason::Memory {
         return Failure::Memory;
@@ -54,7 +58,7 @@ fn unspelled(alloc: Global, text: &str, fault: SyntaxFault) -> Failure
 
 /// The failure for an expression with a name that can't be one.
 fn unnamed(alloc: Global, text: &str, reason: Unlisted) -> Failure
-    ensures { IsOfExpression result }
+    ensures { IsOfExpression text.now result }
 {
     match reason {
         Unlisted::Memory => Failure::Memory,
@@ -68,7 +72,7 @@ fn unnamed(alloc: Global, text: &str, reason: Unlisted) -> Failure
 /// The expression that a text spells. It fails if the text spells none, or if memory is refused.
 pub fn expression_in(alloc: Global, text: &str) -> Result<Expression, Failure>
     ensures spelled { IfOk result (λ e. IsSpelled text.now (names_of e.names.items) e.steps.items) }
-    ensures failed { IfErr result IsOfExpression }
+    ensures failed { IfErr result (IsOfExpression text.now) }
 {
     let parsed = match parse(alloc, text.as_bytes()) {
         Ok(parsed) => parsed,
@@ -91,6 +95,7 @@ fn sketch_source<R: Read, C: Console>(
 ) -> Result<CompactThetaSketch, Unread>
     ensures sketch { IfSome (R.remaining source.old) (λ text.
         IfOk result (λ s. s ≡ sketch_of_text (options_of options.now) seed text)) }
+    ensures seeded { IfOk result (λ s. s.seed_hash ≡ seed_hash seed) }
     ensures refused { RefusesRead result (settings_refusal options.now.lg_k MAX_THETA seed) }
 {
     let mut block = vec![in alloc; 0u8; BLOCK]?;
@@ -102,7 +107,7 @@ fn sketch_source<R: Read, C: Console>(
     sketch_lines(alloc, hashing, lg_k, source, &mut block, console)
 }
 
-/// The sketch of the lines of the next source, or `None` at the end. It fails if memory is refused or the source can't be
+/// The sketch of the lines of the next source, of this seed, or `None` at the end. It fails if memory is refused or the source can't be
 /// read.
 fn next_lines<S: Sources, C: Console>(
     alloc: Global,
@@ -112,6 +117,7 @@ fn next_lines<S: Sources, C: Console>(
     console: &mut C,
 ) -> Result<Option<CompactThetaSketch>, Failure>
     requires seeded { seed_hash seed ≢ 0 }
+    ensures seeded { IfOk result (λ next. IfSome next (λ s. s.seed_hash ≡ seed_hash seed)) }
     ensures sketches { IfOk result (SketchesNext (options_of options.now) seed (S.texts inputs.old.sources) (S.texts inputs.new.sources)) }
     ensures failed { IfErr result IsOfReading }
 {
@@ -127,7 +133,7 @@ fn next_lines<S: Sources, C: Console>(
     }
 }
 
-/// The sketches of the lines of all sources, one for each source. It fails if memory is refused or a source can't be read.
+/// The sketches of the lines of all sources, one for each source, each of this seed. It fails if memory is refused or a source can't be read.
 fn all_lines<S: Sources, C: Console>(
     alloc: Global,
     options: &Options<'_>,
@@ -136,6 +142,7 @@ fn all_lines<S: Sources, C: Console>(
     console: &mut C,
 ) -> Result<Vec<CompactThetaSketch>, Failure>
     requires seeded { seed_hash seed ≢ 0 }
+    ensures seeded { IfOk result (λ v. AreSeeded seed v.items) }
     ensures sketched { IfSome (S.texts inputs.old.sources) (λ texts. IfOk result (λ v. AreSketched (options_of options.now) seed texts v.items)) }
     ensures failed { IfErr result IsOfReading }
 {
@@ -149,7 +156,7 @@ fn all_lines<S: Sources, C: Console>(
     Err(Failure::Memory)
 }
 
-/// The sketches of all sources: those of their lines with `--keys`, else those that they have as images.
+/// The sketches of all sources, each of this seed: those of their lines with `--keys`, else those that they have as images.
 fn operands<S: Sources + Drop, C: Console>(
     alloc: Global,
     options: &Options<'_>,
@@ -158,6 +165,7 @@ fn operands<S: Sources + Drop, C: Console>(
     console: &mut C,
 ) -> Result<Vec<CompactThetaSketch>, Failure>
     requires seeded { seed_hash seed ≢ 0 }
+    ensures seeded { IfOk result (λ v. AreSeeded seed v.items) }
     ensures operands { IfSome (S.texts inputs.entry.sources) (λ texts.
         IfOk result (λ v. AreOperands options.now.keys (options_of options.now) seed texts v.items)) }
     ensures failed { IfErr result IsOfImages }
@@ -166,11 +174,11 @@ fn operands<S: Sources + Drop, C: Console>(
         let mut inputs = inputs;
         return all_lines(alloc, options, seed, &mut inputs, console);
     }
-    let mut images = Images::new(alloc, inputs, false, seed);
+    let mut images = Images::new(alloc, inputs, options.hex, seed);
     all_sketches(alloc, seed, &mut images)
 }
 
-/// The result of an expression over one sketch per name. It fails if memory is refused.
+/// The result of an expression over one sketch per name, each of this seed. It fails if memory is refused.
 fn result_of(
     alloc: Global,
     options: &Options<'_>,
@@ -178,20 +186,23 @@ fn result_of(
     expression: &Expression,
     sketches: &[CompactThetaSketch],
 ) -> Result<CompactThetaSketch, Failure>
+    requires seed { seed_hash seed ≢ 0 }
+    requires seeded { AreSeeded seed sketches.now }
+    requires spelled { (text : List ℕ) × IsSpelled text (names_of expression.now.names.items) expression.now.steps.items }
     requires counted { length expression.now.names.items ≡ length sketches.now }
     ensures value { (text : List ℕ)
         → (spelled : IsSpelled text (names_of expression.now.names.items) expression.now.steps.items)
-        → IfOk result (λ s. s ≡ sketch_of_value (seed_hash seed) (value_of options.now.lg_k (values_of sketches.now) spelled.tree)) }
+        → IfOk result (λ s. s ≡ ordered_sketch (value_of options.now.lg_k (values_of sketches.now) spelled.tree) (seed_hash seed)) }
     ensures memory { IfErr result (λ f. f ≡ failure.Memory) }
 {
     let steps = expression.steps.as_slice();
     match evaluate(alloc, seed, options.lg_k, steps, sketches) {
         Ok(sketch) => Ok(sketch),
-        Err(_) => Err(Failure::Memory),
+        Err(error) => Err(out_of_memory(error)),
     }
 }
 
-/// What `eval` prints of a sketch, the result of this expression, or its image with `--output`.
+/// What `eval` prints of a sketch, the result of this expression, or its image as it is written with `--output`.
 fn put_result(
     alloc: Global,
     options: &Options<'_>,
@@ -202,7 +213,7 @@ fn put_result(
     ensures memory { IfErr result (λ f. f ≡ failure.Memory) }
 {
     if options.output.is_some() {
-        return image_to_put(sketch);
+        return image_in_form(alloc, options.hex, sketch);
     }
     let head = head_of(alloc, options.form)?;
     let line = shown_text(alloc, options, text, sketch)?;
@@ -236,7 +247,7 @@ pub fn eval_inputs<S: Sources + Drop, C: Console>(
     let found = sketches.len();
     let wanted = expression.names.len();
     if found != wanted {
-        return Err(Failure::WrongCount(found as u64, wanted as u64));
+        return Err(Failure::NotOneEach(found as u64, wanted as u64));
     }
     let result = result_of(alloc, options, seed, &expression, sketches.as_slice())?;
     put_result(alloc, options, text, &result)

@@ -29,10 +29,14 @@ pub enum Failure {
     Terminal,
     /// The images found are not as many as the second number, which was expected.
     WrongCount(u64, u64),
+    /// The images found are not as many as the names of an expression, the second number: with `--hex` each file has one.
+    NotOneEach(u64, u64),
     /// A file has no seed: no number, or one that can't be a seed.
     NoSeed(String),
     /// A list of files has an empty name, or one that is not UTF-8, at this number, from 1.
     NoName(String, u64),
+    /// A list of files has lines and no NUL byte.
+    NoNul(String),
     /// Memory was refused.
     Memory,
     /// A file can't be read.
@@ -43,6 +47,8 @@ pub enum Failure {
     NoHex(String, u64),
     /// A file that should have an image in each line has no line.
     NoLine(String),
+    /// The line of this number, from 1, of a file would make the sum of its key 2^64 or more.
+    PastGreatest(String, u64),
     /// Writing to standard output, or to the file of this name, failed.
     NotWritten(String, io::Error),
 }
@@ -73,6 +79,70 @@ pub fn out_of_memory(error: Error) -> Failure
     Failure::Memory
 }
 
+/// The most bytes of a file's name that a message prints, but for the end of a character.
+const LONGEST_NAME: usize = 200;
+
+/// The name of a file as messages print it: each control character is escaped, and what is behind 200 bytes is left out.
+#[derive(Drop)]
+struct Named<'a>(&'a str);
+
+impl fmt::Display for Named<'_> {
+    fn fmt<W: fmt::Write>(&self, f: &mut fmt::Formatter<W>) -> fmt::Result {
+        for (place, c) in self.0.char_indices() {
+            if LONGEST_NAME <= place {
+                return write!(f, "..");
+            }
+            if c.is_control() {
+                write!(f, "{}", c.escape_default())?;
+            } else {
+                write!(f, "{c}")?;
+            }
+        }
+        Ok(())
+    }
+}
+
+/// Why a file can't be read or written, as messages say it.
+#[derive(Drop)]
+struct Cause<'a>(&'a io::Error);
+
+impl fmt::Display for Cause<'_> {
+    fn fmt<W: fmt::Write>(&self, f: &mut fmt::Formatter<W>) -> fmt::Result {
+        if self.0.kind() == io::ErrorKind::IsADirectory {
+            return write!(f, "is a directory");
+        }
+        write!(f, "{}", self.0)
+    }
+}
+
+/// The sketches of a family of the DataSketches format; `None` if no family has this number.
+pub fn family_name(family: u8) -> Option<&'static str> {
+    match family {
+        1 => Some("Alpha sketches"),
+        2 => Some("update sketches"),
+        3 => Some("theta sketches"),
+        4 => Some("unions"),
+        5 => Some("intersections"),
+        6 => Some("differences"),
+        7 => Some("HLL sketches"),
+        8 => Some("quantiles sketches"),
+        9 => Some("tuple sketches"),
+        10 => Some("frequency sketches"),
+        11 => Some("reservoirs"),
+        12 => Some("unions of reservoirs"),
+        13 => Some("VarOpt sketches"),
+        14 => Some("unions of VarOpt sketches"),
+        15 => Some("KLL sketches"),
+        16 => Some("CPC sketches"),
+        17 => Some("REQ sketches"),
+        18 => Some("count-min sketches"),
+        19 => Some("EBPPS sketches"),
+        20 => Some("t-digests"),
+        21 => Some("Bloom filters"),
+        _ => None,
+    }
+}
+
 /// Why a file, or a line of it, is not an image, as messages say it.
 #[derive(Drop)]
 struct Defect<'a>(&'a Flaw);
@@ -82,10 +152,16 @@ impl fmt::Display for Defect<'_> {
         match self.0 {
             Flaw::Hexadecimal => write!(f, "is hexadecimal text: pass --hex"),
             Flaw::Short => write!(f, "is not the image of a theta sketch"),
-            Flaw::Family(family) => write!(
-                f,
-                "is another kind of sketch (family {family}); theta sketches are of family 3"
-            ),
+            Flaw::Family(family) => match family_name(*family) {
+                Some(sketches) => write!(
+                    f,
+                    "is not the image of a theta sketch (byte 3 is {family}, the family of {sketches}, not 3)"
+                ),
+                None => write!(
+                    f,
+                    "is not the image of a theta sketch (byte 3 is {family}, not 3)"
+                ),
+            },
             Flaw::Version(version) => write!(
                 f,
                 "is of version {version}; versions 1 to 3 are read"
@@ -116,20 +192,23 @@ impl fmt::Display for Misspelling {
     fn fmt<W: fmt::Write>(&self, f: &mut fmt::Formatter<W>) -> fmt::Result {
         let offset = self.0.offset;
         match self.0.reason {
-            Reason::MissingOperand => write!(f, "misses a name at byte {offset}"),
-            Reason::MissingOperator => write!(f, "misses an operator at byte {offset}"),
-            Reason::MissingClosing => write!(f, "misses a closing parenthesis at byte {offset}"),
+            Reason::MissingOperand => write!(f, "a name is missing at byte {offset}"),
+            Reason::MissingOperator => write!(f, "an operator is missing at byte {offset}"),
+            Reason::MissingClosing => write!(
+                f,
+                "a closing parenthesis is missing at byte {offset}"
+            ),
             Reason::UnexpectedClosing => write!(
                 f,
-                "has a closing parenthesis at byte {offset} without an opening one"
+                "the closing parenthesis at byte {offset} has no opening one"
             ),
-            Reason::OpenQuote => write!(f, "has a quote at byte {offset} that is not closed"),
+            Reason::OpenQuote => write!(f, "the quote at byte {offset} is not closed"),
             Reason::TooDeep => write!(
                 f,
-                "has more than {MAX_LEVELS} levels of parentheses at byte {offset}"
+                "more than {MAX_LEVELS} levels of parentheses at byte {offset}"
             ),
-            Reason::EmptyName => write!(f, "has an empty name at byte {offset}"),
-            Reason::Memory => write!(f, "was not read: out of memory"),
+            Reason::EmptyName => write!(f, "the name at byte {offset} is empty"),
+            Reason::Memory => write!(f, "not read: out of memory"),
         }
     }
 }
@@ -142,11 +221,11 @@ impl fmt::Display for Failure {
                 "argument {number}, {text}, is not UTF-8 text: rename the file, or read it from standard input (distinct .. < FILE)"
             ),
             Failure::Arguments(fault) => write!(f, "{fault}"),
-            Failure::NoFiles => write!(f, "no image given (try --help)"),
-            Failure::NotTwo => write!(f, "minus takes two images (try --help)"),
+            Failure::NoFiles => write!(f, "no image given"),
+            Failure::NotTwo => write!(f, "minus takes two images (try distinct minus --help)"),
             Failure::NoExpression(text, fault) => write!(
                 f,
-                "eval: '{}' {}",
+                "eval: '{}': {}",
                 Escaped(text),
                 Misspelling(*fault)
             ),
@@ -158,32 +237,47 @@ impl fmt::Display for Failure {
                 f,
                 "{found} images found, {expected} expected; nothing was written"
             ),
+            Failure::NotOneEach(found, names) => write!(
+                f,
+                "{found} images found, {names} expected: with eval --hex each file has one line"
+            ),
             Failure::NoSeed(name) => write!(
                 f,
                 "{}: has no seed: a number from 0 to 18446744073709551615 whose seed hash is not 0",
-                Escaped(name)
+                Named(name)
             ),
             Failure::NoName(name, number) => write!(
                 f,
                 "{}: name {number} is empty or not UTF-8 text",
-                Escaped(name)
+                Named(name)
+            ),
+            Failure::NoNul(name) => write!(
+                f,
+                "{}: has no NUL byte; each name ends in one (find -print0)",
+                Named(name)
             ),
             Failure::Memory => write!(f, "out of memory"),
-            Failure::Unreadable(name, error) => write!(f, "{}: {error}", Escaped(name)),
-            Failure::NoSketch(name, 0, flaw) => write!(f, "{}: {}", Escaped(name), Defect(flaw)),
+            Failure::Unreadable(name, error) => write!(f, "{}: {}", Named(name), Cause(error)),
+            Failure::NoSketch(name, 0, flaw) => write!(f, "{}: {}", Named(name), Defect(flaw)),
             Failure::NoSketch(name, line, flaw) => write!(
                 f,
                 "{}: line {line} {}",
-                Escaped(name),
+                Named(name),
                 Defect(flaw)
             ),
             Failure::NoHex(name, line) => write!(
                 f,
                 "{}: line {line} is not hexadecimal",
-                Escaped(name)
+                Named(name)
             ),
-            Failure::NoLine(name) => write!(f, "{}: has no line, and so no image", Escaped(name)),
-            Failure::NotWritten(name, error) => write!(f, "{}: {error}", Escaped(name)),
+            Failure::NoLine(name) => write!(f, "{}: has no line, and so no image", Named(name)),
+            Failure::PastGreatest(name, line) => write!(
+                f,
+                "{}: line {line}: the sum of its key is above {}",
+                Named(name),
+                u64::MAX
+            ),
+            Failure::NotWritten(name, error) => write!(f, "{}: {}", Named(name), Cause(error)),
         }
     }
 }

@@ -176,9 +176,16 @@ fn read_into(rt: &HostRuntime, name: &str, bytes: &mut Vec<u8>) -> io::Result<()
     Ok(())
 }
 
-/// The names in a list of files, which a file of this name has, or standard input for `-`.
+/// The names in a list of files, which a file of this name has, or standard input for `-`. A list of lines without a NUL
+/// byte is refused: its names would be read as one.
 pub fn files_in_list(rt: &HostRuntime, list: &str) -> Result<Vec<String>, Failure> {
     let bytes = read_whole(rt, list)?;
+    if !bytes.contains(&0) && bytes.contains(&b'\n') {
+        return match String::from_str(rt.alloc(), called(list)) {
+            Ok(name) => Err(Failure::NoNul(name)),
+            Err(_) => Err(Failure::Memory),
+        };
+    }
     match names_in(rt.alloc(), bytes.as_slice()) {
         Ok(names) => Ok(names),
         Err(Unlisted::Memory) => Err(Failure::Memory),

@@ -10,6 +10,8 @@ mod answer;
 mod combine;
 mod eval;
 mod failure;
+mod groups;
+mod hints;
 mod images;
 mod inputs;
 mod lists;
@@ -20,10 +22,12 @@ mod seeds;
 mod show;
 #[cfg(test)]
 mod tests;
+mod visits;
 
 use crate::answer::perform;
 use crate::eval::expression_in;
 use crate::failure::Failure;
+use crate::hints::Hint;
 use crate::inputs::{Files, files_in_list};
 use crate::progress::Progress;
 use crate::seeds::seed_of;
@@ -39,9 +43,25 @@ fn main(rt: HostRuntime) -> ExitCode {
         Ok(()) => ExitCode::from(0),
         Err(failure) => {
             let status = failure.status();
-            let _ = eprintln!(rt; "distinct: {failure}");
+            let words = words_of(&rt);
+            let hint = Hint {
+                failure: &failure,
+                words: words.as_slice(),
+            };
+            let _ = eprintln!(rt; "distinct: {failure}{hint}");
             ExitCode::from(status)
         }
+    }
+}
+
+/// The program's arguments; none if one is not text, or if memory is refused.
+fn words_of(rt: &HostRuntime) -> Vec<String> {
+    let Ok(args) = env::args(rt) else {
+        return Vec::new(rt.alloc());
+    };
+    match args.skip(1).collect(rt.alloc()) {
+        Ok(words) => words,
+        Err(_) => Vec::new(rt.alloc()),
     }
 }
 
@@ -123,7 +143,8 @@ fn check_terminal(
     command: Command,
     options: &Options<'_>,
 ) -> Result<(), Failure> {
-    let writes_image = command != Command::Count && command != Command::Show;
+    let prints_counts = command == Command::Count || command == Command::Show;
+    let writes_image = !prints_counts && command != Command::Visits;
     if writes_image && !options.hex && options.output.is_none() && rt.stdout().is_terminal() {
         Err(Failure::Terminal)
     } else {
@@ -146,7 +167,8 @@ fn run_request(
     let (from_standard, progress, output) = match request {
         Request::Print(_) => (false, false, None),
         Request::Run(command, options, _) => {
-            let reads_lines = command == Command::Count || command == Command::Sketch;
+            let makes_sketch = command == Command::Count || command == Command::Sketch;
+            let reads_lines = makes_sketch || command == Command::Visits;
             let from_standard = reads_lines && options.list.is_none();
             (from_standard, options.progress, options.output)
         }

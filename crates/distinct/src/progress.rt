@@ -1,6 +1,7 @@
 //! Remarks and reports of progress on standard error.
 
 use crate::remarks::{Console, Remark};
+use grouped_lines::GroupWatch;
 use line_sketches::Watch;
 use reports::estimate_so_far;
 use std::alloc::Allocator;
@@ -66,6 +67,21 @@ impl<'a> Watch for Progress<'a> {
             let _ = eprintln!(self.rt;
                 "distinct: {lines} lines, {bytes} bytes, about {count} distinct"
             );
+        }
+    }
+}
+
+impl<'a> GroupWatch for Progress<'a> {
+    fn saw_line(&mut self, bytes: usize, groups: usize) {
+        if !self.enabled {
+            return;
+        }
+        self.lines = self.lines.saturating_add(1);
+        self.bytes = self.bytes.saturating_add(bytes as u64).saturating_add(1);
+        if self.is_time() {
+            let lines = self.lines;
+            let bytes = self.bytes;
+            let _ = eprintln!(self.rt; "distinct: {lines} lines, {bytes} bytes, {groups} groups");
         }
     }
 }

@@ -1,6 +1,7 @@
 //! What the program says beside its answer: remarks on it, and reports of progress.
 
 use distinct_arguments::Escaped;
+use grouped_lines::GroupWatch;
 use line_sketches::Watch;
 use reports::Report;
 use std::fmt;
@@ -48,8 +49,8 @@ impl fmt::Display for Remark<'_> {
     }
 }
 
-/// Takes remarks, and watches while lines are sketched.
-pub trait Console: Watch {
+/// Takes remarks, and watches while lines are sketched or put into groups.
+pub trait Console: Watch + GroupWatch {
     /// Takes a remark on the answer.
     fn remark(&mut self, remark: Remark<'_>);
 }

@@ -17,7 +17,7 @@ pub fn seed_of(rt: &HostRuntime, options: &Options<'_>) -> Result<u64, Failure>
     match options.seed {
         Seed::Number(seed) => match compute_seed_hash(seed, ErrorKind::InvalidArgument) {
             Ok(_) => Ok(seed),
-            Err(_) => Err(Failure::Arguments(Fault::WrongSeed)),
+            Err(_) => Err(Failure::Arguments(Fault::ZeroSeed(seed))),
         },
         Seed::File(name) => read_seed(rt, name),
     }

@@ -18,7 +18,7 @@ use std::alloc::{AllocError, Global};
 use theta_sketches::CompactThetaSketch;
 
 /// The standard deviations of bounds: those of `--bounds`, or two.
-fn deviations_of(options: &Options<'_>) -> Deviations
+pub fn deviations_of(options: &Options<'_>) -> Deviations
     ensures { result ≡ deviations_of (options_of options.now) }
 {
     options.bounds.unwrap_or(Deviations::Two)

@@ -6,11 +6,14 @@ ghost use Rattle.theta_sketches.specs.Image.{written};
 ghost use Rattle.line_sketches.specs.Unions.{IsUnitedImage};
 ghost use Rattle.distinct_arguments.specs.Arguments.{action_of};
 ghost use Rattle.distinct_arguments.specs.Faults.{options_of};
-ghost use Rattle.distinct.specs.Answers.{names_of, texts_of, sketch_of, in_form};
-ghost use Rattle.distinct.specs.Answers.{IsIntersectionImage, IsDifferenceImage, IsShownOf, IsAnswer, Performs};
+ghost use Rattle.distinct_arguments.specs.Settings.{chosen_group};
+ghost use Rattle.distinct.specs.Answers.{names_of, texts_of, sketch_of};
+ghost use Rattle.distinct.specs.Images.{in_form};
+ghost use Rattle.distinct.specs.Answers.{IsIntersectionImage, IsDifferenceImage, IsShownOf, IsCounted, IsSketched, IsAnswer, Performs};
 ghost use Rattle.distinct.specs.Evaluations.{IsEvaluatedOf};
 ghost use Rattle.distinct.specs.Images.{images_of};
 ghost use Rattle.distinct.specs.Texts.{count_text};
+ghost use Rattle.distinct.specs.Visits.{visits_of, visits_text};
 
 use crate::answer::{answer, perform};
 use crate::failure::Failure;
@@ -20,6 +23,7 @@ use distinct_arguments::{
     Command, Fault, Operator, Options, Request, Seed, Topic, read_arguments, text_of,
 };
 use expression_text::{Reason, SyntaxFault};
+use grouped_lines::GroupWatch;
 use line_sketches::{Flaw, Texts, Watch, hex_line, read_hex};
 use sketch_base::{DEFAULT_UPDATE_SEED, ErrorKind as SketchError, compute_seed_hash};
 use std::alloc::{AllocError, Allocator, Global};
@@ -42,14 +46,17 @@ enum Kind {
     NoExpression(Reason),
     Terminal,
     WrongCount,
+    NotOneEach,
     NoSeed,
     NoName,
+    NoNul,
     Memory,
     Unreadable,
     NoSketch(Flaw),
     NoSketchOnLine(Flaw),
     NoHex,
     NoLine,
+    PastGreatest,
     NotWritten,
     NameOfControls,
 }
@@ -68,14 +75,17 @@ fn failure_of(alloc: Global, kind: Kind) -> Result<Failure, AllocError> {
         ),
         Kind::Terminal => Failure::Terminal,
         Kind::WrongCount => Failure::WrongCount(2, 3),
+        Kind::NotOneEach => Failure::NotOneEach(3, 2),
         Kind::NoSeed => Failure::NoSeed(name),
         Kind::NoName => Failure::NoName(name, 2),
+        Kind::NoNul => Failure::NoNul(name),
         Kind::Memory => Failure::Memory,
         Kind::Unreadable => Failure::Unreadable(name, Error::from(ErrorKind::NotFound)),
         Kind::NoSketch(flaw) => Failure::NoSketch(name, 0, flaw),
         Kind::NoSketchOnLine(flaw) => Failure::NoSketch(name, 7, flaw),
         Kind::NoHex => Failure::NoHex(name, 7),
         Kind::NoLine => Failure::NoLine(name),
+        Kind::PastGreatest => Failure::PastGreatest(name, 7),
         Kind::NotWritten => Failure::NotWritten(name, Error::from(ErrorKind::StorageFull)),
         Kind::NameOfControls => Failure::NoLine(String::from_str(alloc, CONTROLS)?),
     })
@@ -98,47 +108,56 @@ fn prints_each_failure(rt: HostRuntime) -> Result<(), Fail> {
         ),
         (Kind::Arguments, 2, "--lg-k takes a number from 4 to 26"),
         (Kind::ArgumentsMemory, 1, "out of memory"),
-        (Kind::NoFiles, 2, "no image given (try --help)"),
-        (Kind::NotTwo, 2, "minus takes two images (try --help)"),
+        (Kind::NoFiles, 2, "no image given"),
+        (
+            Kind::NotTwo,
+            2,
+            "minus takes two images (try distinct minus --help)",
+        ),
         (
             Kind::NoExpression(Reason::MissingOperand),
             2,
-            "eval: 'it' misses a name at byte 4",
+            "eval: 'it': a name is missing at byte 4",
         ),
         (
             Kind::NoExpression(Reason::MissingOperator),
             2,
-            "eval: 'it' misses an operator at byte 4",
+            "eval: 'it': an operator is missing at byte 4",
         ),
         (
             Kind::NoExpression(Reason::MissingClosing),
             2,
-            "eval: 'it' misses a closing parenthesis at byte 4",
+            "eval: 'it': a closing parenthesis is missing at byte 4",
         ),
         (
             Kind::NoExpression(Reason::UnexpectedClosing),
             2,
-            "eval: 'it' has a closing parenthesis at byte 4 without an opening one",
+            "eval: 'it': the closing parenthesis at byte 4 has no opening one",
         ),
         (
             Kind::NoExpression(Reason::OpenQuote),
             2,
-            "eval: 'it' has a quote at byte 4 that is not closed",
+            "eval: 'it': the quote at byte 4 is not closed",
         ),
         (
             Kind::NoExpression(Reason::TooDeep),
             2,
-            "eval: 'it' has more than 64 levels of parentheses at byte 4",
+            "eval: 'it': more than 64 levels of parentheses at byte 4",
         ),
         (
             Kind::NoExpression(Reason::EmptyName),
             2,
-            "eval: 'it' has an empty name at byte 4",
+            "eval: 'it': the name at byte 4 is empty",
         ),
         (
             Kind::Terminal,
             2,
             "standard output is a terminal, and an image is not text: pass --output FILE, or --hex",
+        ),
+        (
+            Kind::NotOneEach,
+            1,
+            "3 images found, 2 expected: with eval --hex each file has one line",
         ),
         (
             Kind::WrongCount,
@@ -151,6 +170,11 @@ fn prints_each_failure(rt: HostRuntime) -> Result<(), Fail> {
             "it: has no seed: a number from 0 to 18446744073709551615 whose seed hash is not 0",
         ),
         (Kind::NoName, 1, "it: name 2 is empty or not UTF-8 text"),
+        (
+            Kind::NoNul,
+            1,
+            "it: has no NUL byte; each name ends in one (find -print0)",
+        ),
         (Kind::Memory, 1, "out of memory"),
         (Kind::Unreadable, 1, "it: entity not found"),
         (
@@ -166,7 +190,12 @@ fn prints_each_failure(rt: HostRuntime) -> Result<(), Fail> {
         (
             Kind::NoSketch(Flaw::Family(7)),
             1,
-            "it: is another kind of sketch (family 7); theta sketches are of family 3",
+            "it: is not the image of a theta sketch (byte 3 is 7, the family of HLL sketches, not 3)",
+        ),
+        (
+            Kind::NoSketch(Flaw::Family(50)),
+            1,
+            "it: is not the image of a theta sketch (byte 3 is 50, not 3)",
         ),
         (
             Kind::NoSketch(Flaw::Version(4)),
@@ -201,6 +230,11 @@ fn prints_each_failure(rt: HostRuntime) -> Result<(), Fail> {
         ),
         (Kind::NoHex, 1, "it: line 7 is not hexadecimal"),
         (Kind::NoLine, 1, "it: has no line, and so no image"),
+        (
+            Kind::PastGreatest,
+            1,
+            "it: line 7: the sum of its key is above 18446744073709551615",
+        ),
         (Kind::NotWritten, 1, "it: no storage space"),
         (
             Kind::NameOfControls,
@@ -224,6 +258,10 @@ struct Quiet {}
 
 impl Watch for Quiet {
     fn saw<A: Allocator>(&mut self, _bytes: usize, _lines: u64, _sketch: &ThetaSketch<A>) {}
+}
+
+impl GroupWatch for Quiet {
+    fn saw_line(&mut self, _bytes: usize, _groups: usize) {}
 }
 
 impl Console for Quiet {
@@ -266,7 +304,7 @@ fn count_of(
     texts: &[Vec<u8>],
 ) -> Result<Vec<u8>, Failure>
     requires seeded { seed_hash seed ≢ 0 }
-    ensures counted { IfOk result (λ v. v.items ≡ count_text (options_of options.now) (sketch_of (options_of options.now) seed (texts_of texts.now))) }
+    ensures counted { IfOk result (λ v. IsCounted (chosen_group (options_of options.now)) (options_of options.now) seed (texts_of texts.now) v.items) }
 {
     answered(alloc, Command::Count, options, seed, names, texts)
 }
@@ -280,7 +318,7 @@ fn sketch_of(
     texts: &[Vec<u8>],
 ) -> Result<Vec<u8>, Failure>
     requires seeded { seed_hash seed ≢ 0 }
-    ensures sketched { IfOk result (λ v. v.items ≡ in_form options.now.hex (written (sketch_of (options_of options.now) seed (texts_of texts.now)))) }
+    ensures sketched { IfOk result (λ v. IsSketched (chosen_group (options_of options.now)) (options_of options.now) seed (texts_of texts.now) v.items) }
 {
     answered(alloc, Command::Sketch, options, seed, names, texts)
 }
@@ -364,6 +402,20 @@ fn eval_of(
     answered(alloc, Command::Eval, options, seed, names, texts)
 }
 
+/// What `visits` writes of texts.
+fn visits_of(
+    alloc: Global,
+    options: &Options<'_>,
+    seed: u64,
+    names: &[String],
+    texts: &[Vec<u8>],
+) -> Result<Vec<u8>, Failure>
+    requires seeded { seed_hash seed ≢ 0 }
+    ensures visited { IfOk result (λ v. v.items ≡ visits_text (options_of options.now) (visits_of (options_of options.now) seed (texts_of texts.now))) }
+{
+    answered(alloc, Command::Visits, options, seed, names, texts)
+}
+
 /// What a command writes, by its helper.
 fn written_by(
     alloc: Global,
@@ -383,6 +435,22 @@ fn written_by(
         Command::Combine(Operator::Minus) => minus_of(alloc, options, seed, names, texts),
         Command::Show => show_of(alloc, options, seed, names, texts),
         Command::Eval => eval_of(alloc, options, seed, names, texts),
+        Command::Visits => visits_of(alloc, options, seed, names, texts),
+    }
+}
+
+/// The same, if the seed can be one.
+fn written_by_seed(
+    alloc: Global,
+    command: Command,
+    options: &Options<'_>,
+    seed: u64,
+    names: &[String],
+    texts: &[Vec<u8>],
+) -> Result<Vec<u8>, Failure> {
+    match compute_seed_hash(seed, SketchError::InvalidArgument) {
+        Ok(_) => written_by(alloc, command, options, seed, names, texts),
+        Err(_) => Err(Failure::NoFiles),
     }
 }
 
@@ -469,12 +537,13 @@ fn both_written(
     if compute_seed_hash(seed, SketchError::InvalidArgument).is_err() {
         return Err(Failure::NoFiles);
     }
+    let is_visits = command == Command::Visits;
     let reads_lines = command == Command::Count || command == Command::Sketch || options.keys;
     let prints = command == Command::Count || command == Command::Show || command == Command::Eval;
-    let is_image = !options.hex && (!prints || options.output.is_some());
-    let files = two_texts(alloc, !options.hex && !reads_lines, texts)?;
+    let is_image = !options.hex && !is_visits && (!prints || options.output.is_some());
+    let files = two_texts(alloc, !options.hex && !is_visits && !reads_lines, texts)?;
     let written = performed(alloc, words.as_slice(), seed, names, files.as_slice())?;
-    let second = written_by(alloc, command, &options, seed, names, files.as_slice())?;
+    let second = written_by_seed(alloc, command, &options, seed, names, files.as_slice())?;
     Ok((
         in_digits(alloc, is_image, written)?,
         in_digits(alloc, is_image, second)?,
@@ -537,6 +606,16 @@ fn writes_each_answer(rt: HostRuntime) -> Result<(), Fail> {
             &["count", "--lg-k=4", "--json", "--bounds=1", "a", "b"],
             LETTERS,
             "{\"estimate\":18,\"lower\":16,\"upper\":20,\"exact\":false,\"retained\":16,\"theta\":8286655706689789920}\n",
+        ),
+        (
+            &["count", "--by", "1", "--separator", "n", "a", "b"],
+            TEXTS,
+            "\t1\na\t1\nbob\t1\n",
+        ),
+        (
+            &["sketch", "--by=1", "--separator=n", "--hex", "a", "b"],
+            TEXTS,
+            "\t01030300001acc93dc8d24339151380f\na\t01030300001acc93fc08309e1c5ed36b\nbob\t01030300001acc935f1032909707cc27\n",
         ),
         (&["sketch", "a", "b"], TEXTS, THREE),
         (&["sketch", "--hex", "a", "b"], TEXTS, THREE),
@@ -614,6 +693,22 @@ fn writes_each_answer(rt: HostRuntime) -> Result<(), Fail> {
             &["eval", "--keys", "--lg-k=4", "a + b"],
             LETTERS,
             "a + b: 18 estimated, from 16 to 21, retained 16, theta 8286655706689789920\n",
+        ),
+        (&["visits", "a", "b"], TEXTS, "1: 1\n2: 2\n"),
+        (
+            &["visits", "--lg-k=4", "--bounds", "a", "b"],
+            LETTERS,
+            "1: 18 16 21\n",
+        ),
+        (
+            &["visits", "--tsv", "a", "b"],
+            TEXTS,
+            "from\tto\testimate\tlower\tupper\texact\tretained\ttheta\n1\t1\t1\t1\t1\ttrue\t1\t9223372036854775807\n2\t2\t2\t2\t2\ttrue\t2\t9223372036854775807\n",
+        ),
+        (
+            &["eval", "--hex", "--output", "o", "a + b"],
+            ESTIMATING,
+            "03030300001acc9303000000000000000000909dceda8237000064a7b3b6e00d0000c84e676dc11b00002cf61a24a229\n",
         ),
         (
             &["eval", "--output", "o", "a + b"],

@@ -1,6 +1,6 @@
 -- The values of a command's options.
 use Rattle.std.specs.Prelude.{ℕ, ◌-◌, Bool, true, false, List, Option, Some, None, Result, Ok, Err}
-use Rattle.std.specs.Option.{option_map_or, unwrap_or}
+use Rattle.std.specs.Option.{option_map, option_map_or, unwrap_or}
 use Rattle.lines.specs.declared.key.Key.{Key}
 use Rattle.lines.specs.declared.key.Key.TheVariants.{Line, Field as FieldKey}
 use Rattle.estimates.specs.declared.bounds.Deviations.{Deviations}
@@ -9,7 +9,7 @@ use Rattle.distinct_arguments.specs.Words.{number_of, byte_of, seed_of, deviatio
 use Rattle.distinct_arguments.specs.declared.options.Form.{Form}
 use Rattle.distinct_arguments.specs.declared.options.Form.TheVariants.{Plain, Tsv as TsvForm, Json as JsonForm}
 use Rattle.distinct_arguments.specs.declared.options.OptionName.{OptionName}
-use Rattle.distinct_arguments.specs.declared.options.OptionName.TheVariants.{LgK, Field, Separator, Seed, SeedFile, FileList, Expect, Progress, Bounds, Tsv, Json, Hex, Output, Keys}
+use Rattle.distinct_arguments.specs.declared.options.OptionName.TheVariants.{LgK, Field, Separator, By, Seed, SeedFile, FileList, Expect, Progress, Bounds, Tsv, Json, Hex, Output, Keys}
 
 -- the seed of hashes: a number, or the name of the file that has it
 pub data SeedValue : Type 0 where
@@ -21,6 +21,7 @@ pub record OptionValues : Type 0 where
   pub lg_k : ℕ
   pub field : Option ℕ
   pub separator : Option ℕ
+  pub by : Option ℕ
   pub seed : SeedValue
   pub hex : Bool
   pub keys : Bool
@@ -37,6 +38,7 @@ default_options = record {
   lg_k = 12;
   field = None;
   separator = None;
+  by = None;
   seed = seed_number 9001;
   hex = false;
   keys = false;
@@ -52,6 +54,10 @@ default_options = record {
 abbrev pub chosen_key : OptionValues → Key
 chosen_key options = option_map_or (λ number. FieldKey (number - 1) (unwrap_or options.separator 9)) options.field Line
 
+-- the key by which options group lines, if they do: the field of its number, the first being 1, with a tab (9) as the default separator
+abbrev pub chosen_group : OptionValues → Option Key
+chosen_group options = option_map (λ number. FieldKey (number - 1) (unwrap_or options.separator 9)) options.by
+
 -- why arguments are wrong
 pub data Mistake : Type 0 where
   no_command : Mistake
@@ -62,6 +68,7 @@ pub data Mistake : Type 0 where
   unneeded_value : (name : List ℕ) → Mistake
   wrong_size : Mistake
   wrong_field : Mistake
+  wrong_group : Mistake
   wrong_separator : Mistake
   wrong_seed : Mistake
   wrong_deviations : Mistake
@@ -69,6 +76,7 @@ pub data Mistake : Type 0 where
   not_one_expression : Mistake
   lone_field : Mistake
   lone_separator : Mistake
+  lone_groups : Mistake
   files_and_list : Mistake
   standard_twice : Mistake
 
@@ -91,6 +99,7 @@ value_or mistake changed (Some x) = Ok (changed x)
 abbrev pub with_value : OptionValues → OptionName → (name value : List ℕ) → Result OptionValues Mistake
 with_value options LgK name value = value_or wrong_size (λ n. record options { lg_k = n }) (number_of 4 26 value)
 with_value options Field name value = value_or wrong_field (λ n. record options { field = Some n }) (number_of 1 4294967295 value)
+with_value options By name value = value_or wrong_group (λ n. record options { by = Some n }) (number_of 1 4294967295 value)
 with_value options Separator name value = value_or wrong_separator (λ byte. record options { separator = Some byte }) (byte_of value)
 with_value options Seed name value = value_or wrong_seed (λ n. record options { seed = seed_number n }) (seed_of value)
 with_value options SeedFile name value = Ok (record options { seed = seed_file value })

@@ -19,6 +19,8 @@ pub enum Command {
     Show,
     /// Evaluates an expression over the sketches of files.
     Eval,
+    /// Prints how many keys come how often.
+    Visits,
 }
 
 /// What the program prints without reading a file.

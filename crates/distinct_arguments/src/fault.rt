@@ -1,8 +1,9 @@
 //! What is wrong with arguments.
 ghost use Rattle.std.specs.Prelude.{◌≡◌};
-ghost use Rattle.distinct_arguments.specs.Settings.{unknown_command, unknown_option, behind_file, no_value, unneeded_value};
+ghost use Rattle.distinct_arguments.specs.Settings.{unknown_command, unknown_option, behind_file, no_value, unneeded_value, wrong_seed};
 ghost use Rattle.distinct_arguments.specs.Faults.{Reports, status_of};
 
+use crate::words::number_of;
 use std::alloc::Global;
 use std::fmt;
 
@@ -25,10 +26,14 @@ pub enum Fault {
     WrongSize,
     /// The value of `--field` is not a number from 1 to 2^32 - 1.
     WrongField,
+    /// The value of `--by` is not a number from 1 to 2^32 - 1.
+    WrongGroup,
     /// The value of `--separator` is not one byte.
     WrongSeparator,
-    /// The value of `--seed` is not a number from 0 to 2^64 - 1, or its seed hash is 0.
+    /// The value of `--seed` is not a number from 0 to 2^64 - 1.
     WrongSeed,
+    /// The value of `--seed` is this number, from 0 to 2^64 - 1, whose seed hash is 0.
+    ZeroSeed(u64),
     /// The value of `--bounds` is not 1, 2 or 3.
     WrongDeviations,
     /// The value of `--expect` is not a number from 1 to 2^32 - 1.
@@ -37,8 +42,10 @@ pub enum Fault {
     NotOneExpression,
     /// `eval` has `--field` without `--keys`.
     LoneField,
-    /// There is `--separator` without `--field`.
+    /// There is `--separator` without `--field` and without `--by`.
     LoneSeparator,
+    /// `sketch` has `--by` without `--hex`.
+    LoneGroups,
     /// There are `--files0-from` and a file.
     FilesAndList,
     /// Standard input would be read twice.
@@ -109,6 +116,16 @@ pub(crate) fn unneeded_value(alloc: Global, name: &str) -> Fault
     }
 }
 
+/// The fault of a word that is no seed.
+pub(crate) fn wrong_seed(word: &str) -> Fault
+    ensures { Reports result wrong_seed }
+{
+    match number_of(word, 0, u64::MAX) {
+        Some(number) => Fault::ZeroSeed(number),
+        None => Fault::WrongSeed,
+    }
+}
+
 /// A text as messages print it: each control character is escaped, so that it stays on one line.
 #[derive(Drop)]
 pub struct Escaped<'a>(pub &'a str);
@@ -131,16 +148,14 @@ impl fmt::Display for Fault {
         match self {
             Fault::NoCommand => write!(
                 f,
-                "no command: count, sketch, union, meet, minus, show or eval (try --help)"
+                "no command: count, sketch, union, meet, minus, show, eval or visits (try --help)"
             ),
             Fault::UnknownCommand(word) => write!(
                 f,
-                "{}: not one of count, sketch, union, meet, minus, show and eval (try --help)",
+                "{}: is not a command (count, sketch, union, meet, minus, show, eval or visits; try --help)",
                 Escaped(word)
             ),
-            Fault::UnknownOption(name) => {
-                write!(f, "{}: no such option (try --help)", Escaped(name))
-            }
+            Fault::UnknownOption(name) => write!(f, "{}: not an option", Escaped(name)),
             Fault::BehindFile(word) => write!(
                 f,
                 "{}: options come before files (a file of this name: ./{})",
@@ -151,10 +166,14 @@ impl fmt::Display for Fault {
             Fault::UnneededValue(name) => write!(f, "{}: takes no value", Escaped(name)),
             Fault::WrongSize => write!(f, "--lg-k takes a number from 4 to 26"),
             Fault::WrongField => write!(f, "--field takes a number from 1 to 4294967295"),
-            Fault::WrongSeparator => write!(f, "--separator takes one byte"),
-            Fault::WrongSeed => write!(
+            Fault::WrongGroup => write!(f, "--by takes a number from 1 to 4294967295"),
+            Fault::WrongSeparator => write!(f, "--separator takes one byte; a tab is the default"),
+            Fault::WrongSeed => {
+                write!(f, "--seed takes a number from 0 to 18446744073709551615")
+            }
+            Fault::ZeroSeed(number) => write!(
                 f,
-                "--seed takes a number from 0 to 18446744073709551615 whose seed hash is not 0"
+                "{number} can't be a seed (its seed hash is 0): take another"
             ),
             Fault::WrongDeviations => write!(f, "--bounds takes 1, 2 or 3, as in --bounds=2"),
             Fault::WrongCount => write!(f, "--expect takes a number from 1 to 4294967295"),
@@ -163,7 +182,8 @@ impl fmt::Display for Fault {
                 "eval takes one expression in quotes, such as 'mon + tue - wed'"
             ),
             Fault::LoneField => write!(f, "--field needs --keys"),
-            Fault::LoneSeparator => write!(f, "--separator needs --field"),
+            Fault::LoneSeparator => write!(f, "--separator needs --field or --by"),
+            Fault::LoneGroups => write!(f, "--by needs --hex"),
             Fault::FilesAndList => write!(f, "files are named by arguments and by --files0-from"),
             Fault::StandardTwice => write!(f, "standard input would be read twice"),
             Fault::Memory => write!(f, "out of memory"),

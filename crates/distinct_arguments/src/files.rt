@@ -3,7 +3,7 @@ ghost use Rattle.std.specs.Prelude.{◌≡◌, ◌≤◌, ◌+◌, nat_lt, strin
 ghost use Rattle.std.specs.Option.{option_map};
 ghost use Rattle.std.specs.List.{find};
 ghost use Rattle.distinct_arguments.specs.Arguments.{standard_files, standard_uses, is_standard_seed, is_standard_list};
-ghost use Rattle.distinct_arguments.specs.Arguments.{is_standard_default, has_one_expression, run_action, files_action};
+ghost use Rattle.distinct_arguments.specs.Arguments.{is_standard_default, has_one_expression, has_lone_groups, run_action, files_action};
 ghost use Rattle.distinct_arguments.specs.Faults.{options_of, seed_value, ParsesAs};
 ghost use Rattle.distinct_arguments.specs.Words.{is_option, is_standard, reads_lines, reads_expression, words_of};
 
@@ -49,6 +49,7 @@ fn reads_lines(command: Command) -> bool
         Command::Combine(_) => false,
         Command::Show => false,
         Command::Eval => false,
+        Command::Visits => true,
     }
 }
 
@@ -111,6 +112,16 @@ fn is_read_twice(command: Command, options: &Options<'_>, files: &[String]) -> b
     is_repeated(seed + list + default, files)
 }
 
+/// Whether a command would write sketches of groups as bytes.
+fn has_lone_groups(command: Command, options: &Options<'_>) -> bool
+    ensures { result ≡ has_lone_groups command (options_of options.now) }
+{
+    match command {
+        Command::Sketch => options.by.is_some() && !options.hex,
+        _ => false,
+    }
+}
+
 /// The request to run a command on files, if its options and the files fit together.
 pub(crate) fn run_request<'a>(
     command: Command,
@@ -125,8 +136,11 @@ pub(crate) fn run_request<'a>(
     if reads_expression(command) && options.field.is_some() && !options.keys {
         return Err(Fault::LoneField);
     }
-    if options.separator.is_some() && options.field.is_none() {
+    if options.separator.is_some() && options.field.is_none() && options.by.is_none() {
         return Err(Fault::LoneSeparator);
+    }
+    if has_lone_groups(command, &options) {
+        return Err(Fault::LoneGroups);
     }
     if options.list.is_some() && !files.is_empty() {
         return Err(Fault::FilesAndList);

@@ -5,15 +5,16 @@ use crate::commands::{Command, Operator, Topic};
 const VERSION: &str = "distinct 0.1.0\n";
 
 const HELP: &str = "\
-distinct: how many distinct lines there are, about, in little memory
+distinct: counts distinct lines approximately, in little memory
 
-  distinct count [FILE..]          prints how many distinct lines there are, about
+  distinct count [FILE..]          prints about how many distinct lines the files have together
   distinct sketch [FILE..]         writes the sketch of the lines as an image
   distinct union IMAGE..           writes the sketch of the lines that any of these saw
   distinct meet IMAGE..            .. that all of these saw
   distinct minus IMAGE IMAGE       .. that the first saw and the second did not
   distinct show IMAGE..            prints one line per image
   distinct eval EXPRESSION         prints one line on a set expression, such as 'mon + tue - wed'
+  distinct visits [FILE..]         prints how many lines come once, twice, 3 to 4 times, and so on
   distinct COMMAND --help          prints the options of a command; -h does so too
   distinct --help                  prints this text; -h does so too
   distinct --version               prints the version; -V does so too
@@ -21,7 +22,7 @@ distinct: how many distinct lines there are, about, in little memory
 Options come before files. A value is the next word, or behind =, as in --field 2 and --field=2. If
 an option is given twice, the last counts. Behind -- every word is a file.
 
-A file named - is standard input. Without a FILE, count and sketch read standard input. With
+A file named - is standard input. Without a FILE, count, sketch and visits read standard input. With
 --files0-from FILE the names of the files are read from FILE, where each ends in a NUL byte, as
 find -print0 writes them.
 
@@ -36,20 +37,22 @@ refused, 2 for wrong arguments.
 ";
 
 const COUNT: &str = "\
-distinct count [OPTION..] [FILE..]: how many distinct lines the files have together, about
+distinct count [OPTION..] [FILE..]: prints about how many distinct lines the files have together
 
   --lg-k N            keep 2^N hashes, N from 4 to 26; default 12, with a standard error of 1.6
                       percent
   --field N           a line's key is its field N, from 1, as cut has it: a line without a
                       separator is its own key, and one of fewer fields has the empty key
-  --separator C       the byte between fields, with --field; default a tab
+  --by N              count the lines of each group: those whose field N is the same, as --field has
+                      it. Prints a line per group: its name, a tab, its count; in ascending order
+  --separator C       the byte between fields, with --field or --by; default a tab
   --seed N            the seed of the hashes, from 0 to 2^64 - 1; default 9001
   --seed-file FILE    the seed is the number in FILE, and not in the process list
   --files0-from FILE  the names of the files are in FILE, each ended by a NUL byte
   --progress          about once a second, a line to standard error: lines, bytes and the
-                      estimate so far
-  --bounds[=N]        print bounds of the count too, N standard deviations from it; N is 1, 2 or 3,
-                      default 2
+                      estimate so far, or the number of groups
+  --bounds[=Z]        print three numbers: the estimate, its lower and its upper bound, for Z
+                      standard deviations; Z is 1, 2 or 3, default 2
   --tsv               print values separated by tabs, under a line of their names
   --json              print a JSON object
 ";
@@ -59,14 +62,16 @@ distinct sketch [OPTION..] [FILE..]: writes the sketch of the files' lines as an
 
   --lg-k N            keep 2^N hashes, N from 4 to 26; default 12
   --field N           a line's key is its field N, from 1, as cut has it
-  --separator C       the byte between fields, with --field; default a tab
+  --by N              with --hex: sketch the lines of each group, which have the same field N, and
+                      write a line per group: its name, a tab, its image; in ascending order
+  --separator C       the byte between fields, with --field or --by; default a tab
   --seed N            the seed of the hashes, from 0 to 2^64 - 1; default 9001
   --seed-file FILE    the seed is the number in FILE, and not in the process list
   --files0-from FILE  the names of the files are in FILE, each ended by a NUL byte
   --progress          about once a second, a line to standard error: lines, bytes and the
-                      estimate so far
+                      estimate so far, or the number of groups
   --hex               the image in hexadecimal, on a line
-  --output FILE       to FILE, all or nothing, and not to standard output
+  --output FILE       write to FILE, all or nothing, instead of standard output
 ";
 
 const UNION: &str = "\
@@ -78,8 +83,8 @@ distinct union [OPTION..] IMAGE..: writes the sketch of the lines that any of th
   --seed-file FILE    the seed is the number in FILE, and not in the process list
   --files0-from FILE  the names of the files are in FILE, each ended by a NUL byte
   --expect N          fail if there are not N images; N from 1 to 2^32 - 1
-  --hex               images in hexadecimal, one a line, in and out
-  --output FILE       to FILE, all or nothing, and not to standard output
+  --hex               images in hexadecimal, one per line, in and out
+  --output FILE       write to FILE, all or nothing, instead of standard output
 ";
 
 const MEET: &str = "\
@@ -89,8 +94,8 @@ distinct meet [OPTION..] IMAGE..: writes the sketch of the lines that all of the
   --seed-file FILE    the seed is the number in FILE, and not in the process list
   --files0-from FILE  the names of the files are in FILE, each ended by a NUL byte
   --expect N          fail if there are not N images; N from 1 to 2^32 - 1
-  --hex               images in hexadecimal, one a line, in and out
-  --output FILE       to FILE, all or nothing, and not to standard output
+  --hex               images in hexadecimal, one per line, in and out
+  --output FILE       write to FILE, all or nothing, instead of standard output
 ";
 
 const MINUS: &str = "\
@@ -99,8 +104,8 @@ the second did not
 
   --seed N            the seed of the images, from 0 to 2^64 - 1; default 9001
   --seed-file FILE    the seed is the number in FILE, and not in the process list
-  --hex               images in hexadecimal, one a line, in and out
-  --output FILE       to FILE, all or nothing, and not to standard output
+  --hex               images in hexadecimal, one per line, in and out
+  --output FILE       write to FILE, all or nothing, instead of standard output
 ";
 
 const SHOW: &str = "\
@@ -110,11 +115,11 @@ exactly or estimated, how many hashes it retains, and its theta
   --seed N            the seed of the images, from 0 to 2^64 - 1; default 9001
   --seed-file FILE    the seed is the number in FILE, and not in the process list
   --files0-from FILE  the names of the files are in FILE, each ended by a NUL byte
-  --hex               images in hexadecimal, one a line
-  --bounds[=N]        print bounds of the count too, N standard deviations from it; N is 1, 2 or 3,
+  --hex               images in hexadecimal, one per line
+  --bounds=Z          the bounds of an estimate are for Z standard deviations; Z is 1, 2 or 3,
                       default 2
   --tsv               print values separated by tabs, under a line of their names
-  --json              print a JSON object per image, one a line
+  --json              print a JSON object per image, one per line
 ";
 
 const EVAL: &str = "\
@@ -132,11 +137,29 @@ distinct lines it has, exactly or estimated, how many hashes it retains, and its
   --keys              the files have lines, not images; each is sketched with 2^N hashes
   --field N           with --keys: a line's key is its field N, from 1, as cut has it
   --separator C       the byte between fields, with --field; default a tab
-  --bounds[=N]        print bounds of the count too, N standard deviations from it; N is 1, 2 or 3,
+  --bounds=Z          the bounds of an estimate are for Z standard deviations; Z is 1, 2 or 3,
                       default 2
   --tsv               print values separated by tabs, under a line of their names
   --json              print a JSON object
+  --hex               images in hexadecimal: each file has one line, and so has that of --output
   --output FILE       write the image of the result to FILE, all or nothing, and print nothing
+";
+
+const VISITS: &str = "\
+distinct visits [OPTION..] [FILE..]: how many distinct lines come once in the files together, twice,
+3 to 4 times, 5 to 8 times and so on: a line for each range up to the most frequent line retained
+
+  --lg-k N            keep 2^N hashes, N from 4 to 26; default 12. The numbers are exact up to 2^N
+                      distinct lines, and else estimates; how often a retained line comes is exact
+  --field N           a line's key is its field N, from 1, as cut has it
+  --separator C       the byte between fields, with --field; default a tab
+  --seed N            the seed of the hashes, from 0 to 2^64 - 1; default 9001
+  --seed-file FILE    the seed is the number in FILE, and not in the process list
+  --files0-from FILE  the names of the files are in FILE, each ended by a NUL byte
+  --bounds[=N]        print bounds of each number too, N standard deviations from it; N is 1, 2 or
+                      3, default 2
+  --tsv               print values separated by tabs, under a line of their names
+  --json              print a JSON object per range, each on a line
 ";
 
 /// The text on a topic.
@@ -151,5 +174,6 @@ pub fn text_of(topic: Topic) -> &'static str {
         Topic::Help(Command::Combine(Operator::Minus)) => MINUS,
         Topic::Help(Command::Show) => SHOW,
         Topic::Help(Command::Eval) => EVAL,
+        Topic::Help(Command::Visits) => VISITS,
     }
 }

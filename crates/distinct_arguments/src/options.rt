@@ -10,6 +10,7 @@ pub enum OptionName {
     LgK,
     Field,
     Separator,
+    By,
     Seed,
     SeedFile,
     FileList,
@@ -48,6 +49,8 @@ pub struct Options<'a> {
     pub field: Option<u32>,
     /// The byte between fields; a tab if `None`.
     pub separator: Option<u8>,
+    /// The number of the field that is the name of a line's group, from 1, or `None` if lines are not grouped.
+    pub by: Option<u32>,
     pub seed: Seed<'a>,
     /// Whether images are in hexadecimal digits.
     pub hex: bool,
@@ -67,4 +70,5 @@ pub struct Options<'a> {
     ghost low: { 4 ≤ lg_k },
     ghost high: { lg_k ≤ 26 },
     ghost from_one: { ForSome field (λ number. 0 < number) },
+    ghost by_from_one: { ForSome by (λ number. 0 < number) },
 }

@@ -1,10 +1,10 @@
 //! What options do to the values of options.
 ghost use Rattle.std.specs.Prelude.{◌≡◌};
 ghost use Rattle.std.specs.Option.{option_map};
-ghost use Rattle.distinct_arguments.specs.Settings.{default_options, chosen_key, with_flag, with_value};
+ghost use Rattle.distinct_arguments.specs.Settings.{default_options, chosen_key, chosen_group, with_flag, with_value};
 ghost use Rattle.distinct_arguments.specs.Faults.{options_of, SetsOptions};
 
-use crate::fault::{Fault, unneeded_value};
+use crate::fault::{Fault, unneeded_value, wrong_seed};
 use crate::options::{Form, OptionName, Options, Seed};
 use crate::words::{byte_of, deviations_of, number_of, seed_of};
 use core_laws::{DEFAULT_LG_K, MAX_LG_K, MIN_LG_K};
@@ -25,6 +25,7 @@ impl<'a> Options<'a> {
             lg_k: DEFAULT_LG_K,
             field: None,
             separator: None,
+            by: None,
             seed: Seed::Number(DEFAULT_UPDATE_SEED),
             hex: false,
             keys: false,
@@ -44,6 +45,16 @@ impl<'a> Options<'a> {
         match self.field {
             Some(number) => Key::field(number, self.separator.unwrap_or(TAB)),
             None => Key::Line,
+        }
+    }
+
+    /// Which part of a line is the name of its group; `None` if lines are not grouped.
+    pub fn group(&self) -> Option<Key>
+        ensures { result ≡ chosen_group (options_of self.now) }
+    {
+        match self.by {
+            Some(number) => Some(Key::field(number, self.separator.unwrap_or(TAB))),
+            None => None,
         }
     }
 }
@@ -86,13 +97,17 @@ pub(crate) fn with_value<'a>(
             Some(number) => changed.field = Some(number as u32),
             None => return Err(Fault::WrongField),
         },
+        OptionName::By => match number_of(value, 1, u32::MAX as u64) {
+            Some(number) => changed.by = Some(number as u32),
+            None => return Err(Fault::WrongGroup),
+        },
         OptionName::Separator => match byte_of(value) {
             Some(byte) => changed.separator = Some(byte),
             None => return Err(Fault::WrongSeparator),
         },
         OptionName::Seed => match seed_of(value) {
             Some(seed) => changed.seed = Seed::Number(seed),
-            None => return Err(Fault::WrongSeed),
+            None => return Err(wrong_seed(value)),
         },
         OptionName::Expect => match number_of(value, 1, u32::MAX as u64) {
             Some(count) => changed.expected = Some(count),

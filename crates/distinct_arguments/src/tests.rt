@@ -28,6 +28,9 @@ fn push_numbers(text: &mut String, options: &Options<'_>) -> Result<(), AllocErr
     if let Some(number) = options.field {
         write!(text, " field={number}")?;
     }
+    if let Some(number) = options.by {
+        write!(text, " by={number}")?;
+    }
     if let Some(byte) = options.separator {
         write!(text, " separator={byte}")?;
     }
@@ -122,6 +125,7 @@ meet a => Combine(Meet) | a
 minus a b => Combine(Minus) | a b
 show a => Show | a
 eval a => Eval | a
+visits => Visits |
 # help
 count --help => Help(Count)
 union -h a => Help(Combine(Union))
@@ -141,6 +145,7 @@ union --lg-k 005 a => Combine(Union) lg_k=5 | a
 count --field 1 a => Count field=1 | a
 sketch --field=4294967295 a => Sketch field=4294967295 | a
 count --field 2 --separator ; a => Count field=2 separator=59 | a
+count --by 4 --separator ; a => Count by=4 separator=59 | a
 count --separator== --field=2 a => Count field=2 separator=61 | a
 count --seed 0 a => Count seed=0 | a
 minus --seed=18446744073709551615 a b => Combine(Minus) seed=18446744073709551615 | a b
@@ -166,6 +171,9 @@ sketch --output=a=b c => Sketch output=a=b | c
 eval --keys --field 2 --separator ; a => Eval field=2 separator=59 keys | a
 eval --lg-k=5 --seed 1 --bounds --tsv a => Eval lg_k=5 seed=1 bounds=Two Tsv | a
 eval --seed-file s --json --output o a+b => Eval seed_file=s output=o Json | a+b
+eval --hex --output=o a => Eval output=o hex | a
+visits --lg-k 5 --field 2 --seed=1 --bounds=3 --json a b => Visits lg_k=5 field=2 seed=1 bounds=Three Json | a b
+visits --tsv --files0-from l => Visits list=l Tsv |
 # the last of an option counts
 count --lg-k 5 --lg-k=6 a => Count lg_k=6 | a
 count --lg-k=6 --lg-k 12 a => Count | a
@@ -191,11 +199,14 @@ count --field 0 => WrongField
 count --field=4294967296 => WrongField
 count --field +2 => WrongField
 count --field 2x => WrongField
+count --by 0 => WrongGroup
+count --by=4294967296 => WrongGroup
+count --by=1,2 => WrongGroup
 count --field 2 --separator ab => WrongSeparator
 count --field 2 --separator= => WrongSeparator
 count --field 2 --separator é => WrongSeparator
 count --seed 18446744073709551616 => WrongSeed
-count --seed 50541 => WrongSeed
+count --seed 50541 => ZeroSeed(50541)
 count --seed=+1 => WrongSeed
 count --seed -1 => WrongSeed
 count --seed= => WrongSeed
@@ -209,6 +220,7 @@ meet --expect +1 => WrongCount
 # values that are missing, or not needed
 count --lg-k => NoValue(\"--lg-k\")
 count --field => NoValue(\"--field\")
+count --by => NoValue(\"--by\")
 count --separator => NoValue(\"--separator\")
 minus --seed => NoValue(\"--seed\")
 show --seed-file => NoValue(\"--seed-file\")
@@ -236,13 +248,17 @@ minus --files0-from l => UnknownOption(\"--files0-from\")
 minus --expect 2 a b => UnknownOption(\"--expect\")
 show --progress a => UnknownOption(\"--progress\")
 show --output o a => UnknownOption(\"--output\")
+show --by 1 => UnknownOption(\"--by\")
 show --separator => UnknownOption(\"--separator\")
 count --keys a => UnknownOption(\"--keys\")
 show --keys => UnknownOption(\"--keys\")
-eval --hex a => UnknownOption(\"--hex\")
 eval --files0-from l => UnknownOption(\"--files0-from\")
 eval --expect 1 a => UnknownOption(\"--expect\")
 eval --progress a => UnknownOption(\"--progress\")
+visits --progress a => UnknownOption(\"--progress\")
+visits --hex a => UnknownOption(\"--hex\")
+visits --output o a => UnknownOption(\"--output\")
+visits --keys a => UnknownOption(\"--keys\")
 count --frob=1 a => UnknownOption(\"--frob\")
 count --=1 a => UnknownOption(\"--\")
 count -x a => UnknownOption(\"-x\")
@@ -262,6 +278,8 @@ count a b -- c => BehindFile(\"--\")
 count a -x -y => BehindFile(\"-x\")
 # options and files that don't fit together
 count --separator ; a => LoneSeparator
+sketch --by 1 a => LoneGroups
+sketch --by 1 --hex a => Sketch by=1 hex | a
 sketch --separator=; => LoneSeparator
 count --files0-from l a => FilesAndList
 union --files0-from l -- a => FilesAndList
@@ -271,6 +289,7 @@ union a - b - => StandardTwice
 minus -- - - => StandardTwice
 count --seed-file - => StandardTwice
 sketch --seed-file=- => StandardTwice
+visits --seed-file - => StandardTwice
 union --seed-file - => Combine(Union) seed_file=- |
 count --seed-file - a => Count seed_file=- | a
 count --seed-file - - => StandardTwice
@@ -293,7 +312,7 @@ eval --seed-file - a => Eval seed_file=- | a
 count --lg-k 3 --field 0 => WrongSize
 count --field 0 --lg-k 3 => WrongField
 count --frob --lg-k 3 => UnknownOption(\"--frob\")
-count --seed 50541 --frob => WrongSeed
+count --seed 50541 --frob => ZeroSeed(50541)
 sketch --hex=1 --lg-k => UnneededValue(\"--hex\")
 count --lg-k 3 a -x => WrongSize
 count --bounds=4 - - => WrongDeviations
@@ -323,7 +342,7 @@ fn reads_each_row(rt: HostRuntime) -> Result<(), Fail> {
             count = count.saturating_add(1);
         }
     }
-    assert_eq!(rt; count, 195);
+    assert_eq!(rt; count, 211);
     Ok(())
 }
 
@@ -340,19 +359,19 @@ fn message_of(alloc: Global, text: &str) -> Result<(u8, String), AllocError> {
 const MESSAGES: &[(&str, &str)] = &[
     (
         "",
-        "no command: count, sketch, union, meet, minus, show or eval (try --help)",
+        "no command: count, sketch, union, meet, minus, show, eval or visits (try --help)",
     ),
     (
         "it",
-        "it: not one of count, sketch, union, meet, minus, show and eval (try --help)",
+        "it: is not a command (count, sketch, union, meet, minus, show, eval or visits; try --help)",
     ),
     // controls that a terminal obeys: an escape sequence, a bell, a carriage return, a delete, and two of one character
     // that begin an escape sequence
     (
         "a\u{1b}[31mb\u{7}\r\u{7f}\u{9b}2J\u{90}\u{e9}",
-        "a\\u{1b}[31mb\\u{7}\\r\\u{7f}\\u{9b}2J\\u{90}\u{e9}: not one of count, sketch, union, meet, minus, show and eval (try --help)",
+        "a\\u{1b}[31mb\\u{7}\\r\\u{7f}\\u{9b}2J\\u{90}\u{e9}: is not a command (count, sketch, union, meet, minus, show, eval or visits; try --help)",
     ),
-    ("count -a\nb=c", "-a\\nb: no such option (try --help)"),
+    ("count -a\nb=c", "-a\\nb: not an option"),
     (
         "count a --hex",
         "--hex: options come before files (a file of this name: ./--hex)",
@@ -368,10 +387,18 @@ const MESSAGES: &[(&str, &str)] = &[
         "count --field 0",
         "--field takes a number from 1 to 4294967295",
     ),
-    ("count --separator ab", "--separator takes one byte"),
+    ("count --by 0", "--by takes a number from 1 to 4294967295"),
+    (
+        "count --separator ab",
+        "--separator takes one byte; a tab is the default",
+    ),
     (
         "count --seed x",
-        "--seed takes a number from 0 to 18446744073709551615 whose seed hash is not 0",
+        "--seed takes a number from 0 to 18446744073709551615",
+    ),
+    (
+        "count --seed 50541",
+        "50541 can't be a seed (its seed hash is 0): take another",
     ),
     (
         "count --bounds=4",
@@ -381,7 +408,8 @@ const MESSAGES: &[(&str, &str)] = &[
         "union --expect 0",
         "--expect takes a number from 1 to 4294967295",
     ),
-    ("count --separator ;", "--separator needs --field"),
+    ("count --separator ;", "--separator needs --field or --by"),
+    ("sketch --by 1", "--by needs --hex"),
     (
         "count --files0-from l a",
         "files are named by arguments and by --files0-from",
@@ -432,6 +460,7 @@ fn helps_with_each_option(rt: HostRuntime) {
         ),
         (Command::Show, "distinct show [OPTION..] IMAGE..: "),
         (Command::Eval, "distinct eval [OPTION..] EXPRESSION: "),
+        (Command::Visits, "distinct visits [OPTION..] [FILE..]: "),
     ] {
         let text = text_of(Topic::Help(command));
         assert!(rt; text.starts_with(begin), "{command:?}");
@@ -439,6 +468,7 @@ fn helps_with_each_option(rt: HostRuntime) {
             "--lg-k",
             "--field",
             "--separator",
+            "--by",
             "--seed",
             "--seed-file",
             "--files0-from",
@@ -474,6 +504,7 @@ fn helps_in_short_lines(rt: HostRuntime) {
         Topic::Help(Command::Combine(Operator::Minus)),
         Topic::Help(Command::Show),
         Topic::Help(Command::Eval),
+        Topic::Help(Command::Visits),
     ] {
         for line in text_of(topic).lines() {
             assert!(rt; line.len() <= 100, "{line}");

@@ -21,6 +21,7 @@ pub(crate) fn command_of(word: &str) -> Option<Command>
         "minus" => Some(Command::Combine(Operator::Minus)),
         "show" => Some(Command::Show),
         "eval" => Some(Command::Eval),
+        "visits" => Some(Command::Visits),
         _ => None,
     }
 }
@@ -68,6 +69,7 @@ pub fn option_called(name: &str) -> Option<OptionName>
         "--lg-k" => Some(OptionName::LgK),
         "--field" => Some(OptionName::Field),
         "--separator" => Some(OptionName::Separator),
+        "--by" => Some(OptionName::By),
         "--seed" => Some(OptionName::Seed),
         "--seed-file" => Some(OptionName::SeedFile),
         "--files0-from" => Some(OptionName::FileList),
@@ -87,8 +89,11 @@ pub fn option_called(name: &str) -> Option<OptionName>
 pub fn has_option(command: Command, option: OptionName) -> bool
     ensures { result ≡ has_option command option }
 {
-    let reads_lines = command == Command::Count || command == Command::Sketch;
-    let shows_counts = command == Command::Count || command == Command::Show;
+    let makes_sketch = command == Command::Count || command == Command::Sketch;
+    let reads_lines = makes_sketch || command == Command::Visits;
+    let shows_counts = command == Command::Count
+        || command == Command::Show
+        || command == Command::Visits;
     let is_eval = command == Command::Eval;
     match option {
         OptionName::Seed => true,
@@ -98,7 +103,8 @@ pub fn has_option(command: Command, option: OptionName) -> bool
         }
         OptionName::Field => reads_lines || is_eval,
         OptionName::Separator => reads_lines || is_eval,
-        OptionName::Progress => reads_lines,
+        OptionName::By => makes_sketch,
+        OptionName::Progress => makes_sketch,
         OptionName::Keys => is_eval,
         OptionName::FileList => !is_eval && command != Command::Combine(Operator::Minus),
         OptionName::Expect => {
@@ -108,7 +114,7 @@ pub fn has_option(command: Command, option: OptionName) -> bool
         OptionName::Bounds => shows_counts || is_eval,
         OptionName::Tsv => shows_counts || is_eval,
         OptionName::Json => shows_counts || is_eval,
-        OptionName::Hex => !is_eval && command != Command::Count,
+        OptionName::Hex => command != Command::Count && command != Command::Visits,
         OptionName::Output => !shows_counts,
     }
 }

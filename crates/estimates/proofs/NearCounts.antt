@@ -76,8 +76,8 @@ near_within z r t n near =
 pub near_from_lower : (z r t n : ℕ) → r ≤ n → IsNear z r t n → (count_bounds z r t).lower ≤ n
 unfolding count_bounds
 near_from_lower z r t n seen near =
-    let few : (middle z r t - reach z r t) / (2 * t) ≤ n = div-le_of_le-mul (2 * t) (omega (arith, (near_within z r t n near).1)) in
-    omega (arith, few, seen)
+    let limited : (middle z r t - reach z r t) / (2 * t) ≤ n = div-le_of_le-mul (2 * t) (omega (arith, (near_within z r t n near).1)) in
+    omega (arith, limited, seen)
 
 pub near_to_upper : (z r t n : ℕ) → 0 < t → IsNear z r t n → n ≤ (count_bounds z r t).upper
 unfolding count_bounds
@@ -156,8 +156,8 @@ middle_near S a e x away root =
           let same : e ≡ a + d = omega (arith, lt) in
           let gap : abs_diff a e ≡ d = omega (arith, lt) in
           let square : (2 * d + S) * (2 * d + S) ≤ x * x = mul-le (2 * d + S) (2 * d + S) x x (omega (arith, away, lt)) (omega (arith, away, lt)) in
-          let few : x * x ≤ S * (S + 4 * (a + d)) = subst (λ (y : ℕ). x * x ≤ S * (S + 4 * y)) same root in
-          let near : d * d ≤ S * a = omega (arith, square, few) in
+          let limited : x * x ≤ S * (S + 4 * (a + d)) = subst (λ (y : ℕ). x * x ≤ S * (S + 4 * y)) same root in
+          let near : d * d ≤ S * a = omega (arith, square, limited) in
           rw gap near
       | inr le ↦
           let d : ℕ = a - e in
@@ -165,7 +165,7 @@ middle_near S a e x away root =
           let gap : abs_diff a e ≡ d = omega (arith, le) in
           let near : d * d ≤ S * (e + d) =
           elim (cases_lt (2 * d) S) [
-            | inl few ↦ omega (arith, mul-le d d S d (omega (arith, few)) (omega arith))
+            | inl limited ↦ omega (arith, mul-le d d S d (omega (arith, limited)) (omega arith))
             | inr many ↦ above_near S e d (2 * d - S) x (omega (arith, many)) (omega (arith, away, le, many)) root
           ] in
           rw gap (subst (λ (y : ℕ). d * d ≤ S * y) (sym same) near)

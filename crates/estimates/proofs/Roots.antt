@@ -12,7 +12,7 @@ root_above k m h = elim (cases_lt k m) [ inl lt ↦ lt | inr le ↦ absurd (omeg
 
 -- of the numbers below k, c have a square below n: c is k, or its square is at least n; no smaller number has such a square
 record IsCounted (n k c : ℕ) : Type 0 where
-  few : c ≤ k
+  limited : c ≤ k
   enough : (n ≤ c * c) ⊎ (c ≡ k)
   least : (m : ℕ) → n ≤ m * m → c ≤ m
 
@@ -20,20 +20,20 @@ step : (n k c : ℕ) → IsCounted n k c → (b : Bool) → nat_lt (k * k) n ≡
 step n k c h true e =
     let small : k * k < n = grind (arith, nat_tests) in
     record {
-      few = omega (arith, h.few);
-      enough = elim h.enough [ inl big ↦ absurd (omega (arith, small, big, mul-le c c k k h.few h.few)) | inr same ↦ inr (omega (arith, same)) ];
-      least = λ m big. omega (arith, h.few, root_above k m (omega (arith, small, big)));
+      limited = omega (arith, h.limited);
+      enough = elim h.enough [ inl big ↦ absurd (omega (arith, small, big, mul-le c c k k h.limited h.limited)) | inr same ↦ inr (omega (arith, same)) ];
+      least = λ m big. omega (arith, h.limited, root_above k m (omega (arith, small, big)));
     }
 step n k c h false e =
     let big : n ≤ k * k = grind (arith, nat_tests) in
     record {
-      few = omega (arith, h.few);
+      limited = omega (arith, h.limited);
       enough = elim h.enough [ inl enough ↦ inl (omega (arith, enough)) | inr same ↦ inl (subst (λ (x : ℕ). n ≤ (x + 0) * (x + 0)) (sym same) (omega (arith, big))) ];
       least = λ m more. omega (arith, h.least m more);
     }
 
 counted : (n k : ℕ) → IsCounted n k (squares_below n k)
-counted n zero = record { few = omega arith; enough = inr refl; least = λ m more. omega arith }
+counted n zero = record { limited = omega arith; enough = inr refl; least = λ m more. omega arith }
 counted n (suc k) = step n k (squares_below n k) (counted n k) (nat_lt (k * k) n) refl
 
 own_square : (n : ℕ) → n ≤ n * n

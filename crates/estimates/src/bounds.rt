@@ -48,7 +48,7 @@ fn ceil_sqrt(number: u128) -> u128
 /// from 1 to `MAX_THETA`: the ends of the Wilson score interval, rounded outwards. The lower bound is at least the number
 /// of retained entries. Both are that number if theta is `MAX_THETA`; pass `MAX_THETA` for an empty sketch.
 pub fn count_bounds(retained: usize, theta: u64, deviations: Deviations) -> Interval
-    requires few { retained < 2 ^ 32 }
+    requires limited { retained < 2 ^ 32 }
     requires low { 0 < theta }
     requires high { theta ≤ MAX_THETA }
     ensures { result ≡ count_bounds (deviation_count deviations) retained theta }

@@ -1,5 +1,5 @@
 -- What is pending between two tokens, from one token to the next.
-use Rattle.std.proofs.Common.{◌≡◌, ℕ, ◌<◌, ◌≤◌, ◌+◌, Bool, true, false, List, [], ◌∷◌, ◌++◌, length, get_or, refl, ap, sym, subst, ◌∙◌, arith, append_assoc, append-nil}
+use Rattle.std.proofs.Common.{◌≡◌, ℕ, eqb, ◌<◌, ◌≤◌, ◌+◌, Bool, true, false, List, [], ◌∷◌, ◌++◌, length, get_or, refl, ap, sym, subst, ◌∙◌, arith, append_assoc, append-nil}
 use Rattle.std.proofs.lemmas.List.{same_from_push, get_or_append_left, nil_from_length, length-map, get_or-map}
 use Rattle.std.proofs.lemmas.Slice.Eq.{bytes_eq-Decides}
 use Rattle.std.specs.Str.{bytes_eq}
@@ -43,15 +43,15 @@ weak_lacks least pending rest last is weak = λ front op e.
 
 -- ---- strengths
 
-pub strength-few : (op : Operator) → strength op < 3
-strength-few Union = omega arith
-strength-few Intersection = omega arith
-strength-few Difference = omega arith
+pub strength-limited : (op : Operator) → strength op < 3
+strength-limited Union = omega arith
+strength-limited Intersection = omega arith
+strength-limited Difference = omega arith
 
 above_atom : (frames : List Frame) → IsAbove 3 frames
 above_atom [] = tt
 above_atom (group ∷ frames) = tt
-above_atom (left a op ∷ frames) = strength-few op
+above_atom (left a op ∷ frames) = strength-limited op
 
 above_settled : (s : ℕ) (frames : List Frame) (pending : List Pending) → pending ≡ pending_of frames → LacksSign s pending → IsAbove s frames
 above_settled s [] pending are settled = tt
@@ -83,7 +83,7 @@ nothing_read names pending steps no_pending no_steps = record {
   around = record { pending_are = no_pending; levels_are = refl; sound = tt };
   tokens_are = λ more. refl;
   steps_are = no_steps;
-  few = omega arith;
+  limited = omega arith;
 }
 
 module _ (tokens : List Lexeme) (names : List (List ℕ)) (pending : List Pending) (steps : List Step) (levels : ℕ) where
@@ -92,7 +92,7 @@ module _ (tokens : List Lexeme) (names : List (List ℕ)) (pending : List Pendin
     frames = wants.frames;
     tree = Named i;
     around = record { pending_are = wants.around.pending_are; levels_are = wants.around.levels_are; sound = frames_more (length names) (length new) wants.frames (length_more names at.more new at.appended) wants.around.sound };
-    operand = record { bound = tt; deep = omega (arith, wants.few); within = λ n le. omega (arith, at.found.inside, le) };
+    operand = record { bound = tt; deep = omega (arith, wants.limited); within = λ n le. omega (arith, at.found.inside, le) };
     above = above_atom wants.frames;
     tight = omega arith;
     tokens_are = λ more.
@@ -115,16 +115,16 @@ module _ (tokens : List Lexeme) (names : List (List ℕ)) (pending : List Pendin
         };
         tokens_are = λ more. ap (λ ts. ts ++ sign op ∷ []) (has.tokens_are more) ∙ append_assoc (tokens_before (names ++ more) has.frames) (tokens_of (names ++ more) has.tree) (sign op ∷ []);
         steps_are = has.steps_are;
-        few = omega (arith, has.operand.deep);
+        limited = omega (arith, has.operand.deep);
       }
 
   pub opening_read : WantsOperand tokens names pending steps levels → levels < 64 → WantsOperand (tokens ++ opening ∷ []) names (pending ++ Group ∷ []) steps (levels + 1)
-  opening_read wants few = record {
+  opening_read wants limited = record {
     frames = group ∷ wants.frames;
     around = record { pending_are = ap (λ ps. ps ++ Group ∷ []) wants.around.pending_are; levels_are = ap (λ n. n + 1) wants.around.levels_are; sound = wants.around.sound };
     tokens_are = λ more. ap (λ ts. ts ++ opening ∷ []) (wants.tokens_are more);
     steps_are = wants.steps_are;
-    few = omega (arith, wants.around.levels_are, few);
+    limited = omega (arith, wants.around.levels_are, limited);
   }
 
   -- an operator that was pending is combined
@@ -223,17 +223,17 @@ module _ (tokens : List Lexeme) (names : List (List ℕ)) (pending : List Pendin
       (HasOperand least tokens names pending steps levels → IsSettled least tokens names settled new_steps levels) → new ≡ settled ++ Sign op ∷ [] →
       IsReading tokens names pending steps levels after → IsReading (tokens ++ sign op ∷ []) names new new_steps levels false
   sign_reading after op least settled new new_steps is_after same settles pushed reading =
-      let few : least ≤ 3 = omega (arith, same, strength-few op) in
-      let all : IsSettled least tokens names settled new_steps levels = settles (looser least tokens names pending steps levels few (had after is_after reading)) in
+      let limited : least ≤ 3 = omega (arith, same, strength-limited op) in
+      let all : IsSettled least tokens names settled new_steps levels = settles (looser least tokens names pending steps levels limited (had after is_after reading)) in
       let S : ℕ → Type 0 = λ n. IsSettled n tokens names settled new_steps levels in
       let P : List Pending → Type 0 = λ ps. WantsOperand (tokens ++ sign op ∷ []) names ps new_steps levels in
       subst P (sym pushed) (sign_read tokens names settled new_steps levels op (subst S same all))
 
   pub opening_reading : (after : Bool) (new : List Pending) → after ≡ false → levels < 64 → new ≡ pending ++ Group ∷ [] → IsReading tokens names pending steps levels after → IsReading (tokens ++ opening ∷ []) names new steps (levels + 1) after
-  opening_reading true new not_after few pushed reading = absurd (cc)
-  opening_reading false new not_after few pushed reading =
+  opening_reading true new not_after limited pushed reading = absurd (cc)
+  opening_reading false new not_after limited pushed reading =
       let P : List Pending → Type 0 = λ ps. WantsOperand (tokens ++ opening ∷ []) names ps steps (levels + 1) in
-      subst P (sym pushed) (opening_read tokens names pending steps levels reading few)
+      subst P (sym pushed) (opening_read tokens names pending steps levels reading limited)
 
   pub closing_reading : (after : Bool) (settled new : List Pending) (last : Pending) (new_steps : List Step) (fewer : ℕ) → after ≡ true → levels ≡ fewer + 1 →
       (HasOperand 0 tokens names pending steps levels → IsSettled 0 tokens names settled new_steps levels) → settled ≡ new ++ last ∷ [] →
@@ -246,6 +246,41 @@ module _ (tokens : List Lexeme) (names : List (List ℕ)) (pending : List Pendin
       length settled ≡ 0 → IsText tokens text → IsReading tokens names pending steps levels after → IsSpelled text names new_steps
   end_reading after settled new_steps text is_after settles none is reading =
       end_read tokens names settled new_steps levels text is (settles (looser 0 tokens names pending steps levels (omega arith) (had after is_after reading))) none
+
+-- ---- why a token may not follow
+
+none_open : (frames : List Frame) → [] ≡ pending_of frames → open_groups frames ≡ 0
+none_open [] none = refl
+none_open (group ∷ frames) none = absurd (no_push (pending_of frames) Group (sym none))
+none_open (left a op ∷ frames) none = absurd (no_push (pending_of frames) (Sign op) (sym none))
+
+some_open : (pending : List Pending) (frames : List Frame) → LacksSign 0 pending → (length pending ≡ 0 → ⊥) → pending ≡ pending_of frames → 0 < open_groups frames
+some_open pending [] settled some are = absurd (some (ap length are))
+some_open pending (group ∷ frames) settled some are = omega arith
+some_open pending (left a op ∷ frames) settled some are = absurd (omega (arith, settled (pending_of frames) op are))
+
+pub some_listed : {X : Type 0} (list items : List X) → false ≡ eqb (length list) 0 → list ≡ items → length items ≡ 0 → ⊥
+some_listed list items some same none =
+    let both : false ≡ true = some ∙ ap (λ xs. eqb (length xs) 0) same ∙ ap (λ n. eqb n 0) none in absurd (cc)
+
+module _ (tokens : List Lexeme) (names : List (List ℕ)) (pending : List Pending) (steps : List Step) (levels : ℕ) where
+  -- no parenthesis is open if nothing is pending
+  pub none_closed : (after : Bool) (settled : List Pending) (new_steps : List Step) → (HasOperand 0 tokens names pending steps levels → IsSettled 0 tokens names settled new_steps levels) → length settled ≡ 0 →
+      IsReading tokens names pending steps levels after → after ≡ true → 0 < levels → ⊥
+  none_closed true settled new_steps settles none reading is_after some =
+      let all = settles (looser 0 tokens names pending steps levels (omega arith) reading) in
+      let has = all.has in
+      omega (arith, some, has.around.levels_are, none_open has.frames (sym (nil_from_length settled none) ∙ has.around.pending_are))
+  none_closed false settled new_steps settles none reading is_after some = absurd (cc)
+
+  -- some parenthesis is open if something is pending at the end
+  pub some_unclosed : (after : Bool) (settled : List Pending) (new_steps : List Step) → (HasOperand 0 tokens names pending steps levels → IsSettled 0 tokens names settled new_steps levels) → (length settled ≡ 0 → ⊥) →
+      IsReading tokens names pending steps levels after → after ≡ true → levels ≡ 0 → ⊥
+  some_unclosed true settled new_steps settles some reading is_after none =
+      let all = settles (looser 0 tokens names pending steps levels (omega arith) reading) in
+      let has = all.has in
+      omega (arith, none, has.around.levels_are, some_open settled has.frames all.settled some has.around.pending_are)
+  some_unclosed false settled new_steps settles some reading is_after none = absurd (cc)
 
 -- ---- names
 

@@ -1,2 +1,4 @@
 pub mod SplitTokens
 pub mod Frames
+mod NextToken
+mod Shapes

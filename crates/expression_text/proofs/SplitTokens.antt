@@ -3,12 +3,14 @@ use Rattle.std.proofs.Common.{◌≡◌, ◌≢◌, ℕ, eqb, ◌<◌, ◌≤◌
 use Rattle.std.proofs.lemmas.List.{get_or_append_left}
 use Rattle.std.proofs.Math.Seq.{get_or-append_seam}
 use Rattle.std.specs.Prelude.{◌⊎◌, Option, Some, None, MatchOption, IfSome}
-use Rattle.expression_text.specs.Tokens.{Lexeme, name, sign, opening, closing, is_blank, is_word_byte, AreAll, Lacks, BeginsWord, Spells, IsToken, IsAfterBlanks, IsSplitWord, IsText}
+use Rattle.std.proofs.lemmas.Bool.Decides.{nat_tests}
+use Rattle.expression_text.specs.Tokens.{Lexeme, name, sign, opening, closing, is_blank, is_word_byte, AreAll, Lacks, BeginsWord, Spells, IsToken, IsAfterBlanks, IsSplitWord, IsText, NoBlankFirst, LacksToken}
 use Rattle.expression_text.specs.declared.operator.Operator.{Operator}
 use Rattle.expression_text.specs.declared.operator.Operator.TheVariants.{Union, Intersection, Difference}
 use Rattle.expression_text.specs.declared.operator.Step.{Step}
 use Rattle.expression_text.specs.declared.parsing.Pending.{Pending}
-use Rattle.expression_text.specs.Reading.{IsReading, HasRead}
+use Rattle.expression_text.specs.Reading.{IsReading, HasRead, EndsWith}
+use Rattle.expression_text.proofs.NextToken.{no_token, next_token}
 
 -- the bytes before a place pass a test
 pub front_passes : (test : ℕ → Bool) (text front rest : List ℕ) (i : ℕ) → text ≡ front ++ rest → length front ≡ i → ((k : ℕ) → k < i → test (get_or text k 0) ≡ true) → AreAll test front
@@ -19,6 +21,14 @@ front_passes test text front rest i parts len each k lt =
 -- blanks before a place
 pub blanks_before : (text front rest : List ℕ) (i : ℕ) → text ≡ front ++ rest → length front ≡ i → ((k : ℕ) → k < i → is_blank (get_or text k 0) ≡ true) → IsAfterBlanks text rest
 blanks_before text front rest i parts len each = record { blanks = front; parts = parts; are_blank = front_passes is_blank text front rest i parts len each }
+
+-- a text begins with no blank at a byte that is none
+pub no_blank_there : (front rest : List ℕ) → is_blank (get_or (front ++ rest) (length front) 0) ≡ false → NoBlankFirst rest
+no_blank_there front [] other = tt
+no_blank_there front (b ∷ rest) other = ap is_blank (sym (get_or-append_seam front b rest 0)) ∙ other
+
+pub no_blank_at : (text front rest : List ℕ) (i : ℕ) → text ≡ front ++ rest → length front ≡ i → is_blank (get_or text i 0) ≡ false → NoBlankFirst rest
+no_blank_at text front rest i parts len other = no_blank_there front rest (ap (λ t. is_blank (get_or t (length front) 0)) (sym parts) ∙ ap (λ n. is_blank (get_or text n 0)) len ∙ other)
 
 pub blanks_alone : (text : List ℕ) (i : ℕ) → length text ≤ i → ((k : ℕ) → k < i → is_blank (get_or text k 0) ≡ true) → IsAfterBlanks text []
 blanks_alone text i le each = record { blanks = text; parts = sym (append-nil text); are_blank = λ k lt. each k (omega (arith, lt, le)) }
@@ -88,18 +98,41 @@ nonempty closing front spells empty = let both : ◌≡◌ {A = List ℕ} (41 �
 pub token_shorter : (t : Lexeme) (text rest : List ℕ) → IsToken t text rest → length rest < length text
 token_shorter t text rest token = shorter text token.front rest token.parts (nonempty t token.front token.spells)
 
-pub nothing_before : (text rest : List ℕ) (names : List (List ℕ)) (pending : List Pending) (steps : List Step) (levels : ℕ) (after : Bool) → IsAfterBlanks text rest → IsReading [] names pending steps levels after → HasRead text rest names pending steps levels after
-nothing_before text rest names pending steps levels after blanks reading = record { tokens = []; before = text; blanks = blanks; joined = λ more is. is; reading = reading }
+pub nothing_before : (text rest : List ℕ) (names : List (List ℕ)) (pending : List Pending) (steps : List Step) (levels : ℕ) (after : Bool) → IsAfterBlanks text rest → NoBlankFirst rest → IsReading [] names pending steps levels after → HasRead text rest names pending steps levels after
+nothing_before text rest names pending steps levels after blanks trimmed reading = record {
+  tokens = [];
+  before = text;
+  blanks = blanks;
+  joined = λ more is. is;
+  parted = λ all is. record { more = all; parted = refl; is_text = is };
+  trimmed = trimmed;
+  reading = reading;
+}
+
+-- the tokens behind one more token
+next_parted : (before rest behind : List ℕ) (tokens all more : List Lexeme) (t : Lexeme) → IsAfterBlanks before rest → NoBlankFirst rest → IsToken t rest behind → all ≡ tokens ++ more → IsText more before → EndsWith behind (tokens ++ t ∷ []) all
+next_parted before rest behind tokens all [] t blanks trimmed token parted is =
+    absurd (no_token before behind t is (record { from = rest; after_blanks = blanks; token = token }))
+next_parted before rest behind tokens all (u ∷ more) t blanks trimmed token parted is =
+    let same = next_token before rest behind is.0 t u blanks token is.1 in
+    let T : List ℕ → Type 0 = λ r. IsText more r in
+    record {
+      more = more;
+      parted = parted ∙ ap (λ (l : Lexeme). tokens ++ l ∷ more) same.0 ∙ sym (append_assoc tokens (t ∷ []) more);
+      is_text = subst T same.1 is.2;
+    }
 
 -- one more token
 module _ (text rest : List ℕ) (names : List (List ℕ)) (pending : List Pending) (steps : List Step) (levels : ℕ) (after : Bool) (has : HasRead text rest names pending steps levels after) where
-  pub token_more : (t : Lexeme) (behind next : List ℕ) (new_names : List (List ℕ)) (new_pending : List Pending) (new_steps : List Step) (new_levels : ℕ) (new_after : Bool) → IsToken t rest behind → IsAfterBlanks behind next →
+  pub token_more : (t : Lexeme) (behind next : List ℕ) (new_names : List (List ℕ)) (new_pending : List Pending) (new_steps : List Step) (new_levels : ℕ) (new_after : Bool) → IsToken t rest behind → IsAfterBlanks behind next → NoBlankFirst next →
       IsReading (has.tokens ++ t ∷ []) new_names new_pending new_steps new_levels new_after → HasRead text next new_names new_pending new_steps new_levels new_after
-  token_more t behind next new_names new_pending new_steps new_levels new_after token blanks reading = record {
+  token_more t behind next new_names new_pending new_steps new_levels new_after token blanks trimmed reading = record {
     tokens = has.tokens ++ t ∷ [];
     before = behind;
     blanks = blanks;
     joined = λ more is. subst (λ ts. IsText ts text) (sym (append_assoc has.tokens (t ∷ []) more)) (has.joined (t ∷ more) (behind, record { from = rest; after_blanks = has.blanks; token = token }, is));
+    parted = λ all is. let end = has.parted all is in next_parted has.before rest behind has.tokens all end.more t has.blanks has.trimmed token end.parted end.is_text;
+    trimmed = trimmed;
     reading = reading;
   }
 
@@ -127,3 +160,9 @@ at_none A B o is fact = subst (λ p. MatchOption p A B) is fact
 
 pub if_some : {X : Type 0} (B : X → Type 0) (o : Option X) (x : X) → o ≡ Some x → IfSome o B → B x
 if_some B o x is fact = subst (λ p. IfSome p B) is fact
+
+pub is_nil : (xs : List ℕ) → true ≡ eqb (length xs) 0 → length xs ≡ 0
+is_nil xs empty = grind (arith, nat_tests)
+
+pub quote_lacks : (text rest : List ℕ) (b : ℕ) → text ≡ b ∷ rest → b ≡ 34 → LacksToken (34 ∷ rest) → LacksToken text
+quote_lacks text rest b parts is lacks = subst LacksToken (sym (parts ∙ ap (λ (x : ℕ). x ∷ rest) is)) lacks

@@ -50,3 +50,7 @@ pub record IsSpelled (text : List ℕ) (names : List (List ℕ)) (steps : List S
   pub deep : depth tree ≤ most_levels
   pub within : IsWithin (length names) tree
   pub steps_are : steps ≡ postfix tree
+
+-- a text spells no expression
+abbrev pub SpellsNothing : (text : List ℕ) → Type 0
+SpellsNothing text = (names : List (List ℕ)) (steps : List Step) → IsSpelled text names steps → ⊥

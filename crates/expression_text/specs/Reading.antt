@@ -6,7 +6,7 @@ use Rattle.expression_text.specs.declared.parsing.Pending.{Pending}
 use Rattle.expression_text.specs.declared.parsing.Pending.TheVariants.{Group, Sign}
 use Rattle.expression_text.specs.Expressions.{Expression, postfix, IsWithin}
 use Rattle.expression_text.specs.Grammar.{tokens_of, strength, level, IsBound, depth, most_levels}
-use Rattle.expression_text.specs.Tokens.{Lexeme, sign, opening, IsAfterBlanks, IsText}
+use Rattle.expression_text.specs.Tokens.{Lexeme, name, sign, opening, closing, IsAfterBlanks, IsText, IsToken, NoBlankFirst}
 
 -- names have this name at an index
 pub record HasName (names : List (List ℕ)) (word : List ℕ) (i : ℕ) : Type 0 where
@@ -82,7 +82,7 @@ pub record WantsOperand (tokens : List Lexeme) (names : List (List ℕ)) (pendin
   pub around : AreAround names pending levels frames
   pub tokens_are : (more : List (List ℕ)) → tokens ≡ tokens_before (names ++ more) frames
   pub steps_are : steps ≡ steps_before frames
-  pub few : open_groups frames ≤ most_levels
+  pub limited : open_groups frames ≤ most_levels
 
 -- tokens that end with an operand, which is bound together at least this tightly
 pub record HasOperand (least : ℕ) (tokens : List Lexeme) (names : List (List ℕ)) (pending : List Pending) (steps : List Step) (levels : ℕ) : Type 0 where
@@ -105,10 +105,33 @@ abbrev pub IsReading : (tokens : List Lexeme) → (names : List (List ℕ)) → 
 IsReading tokens names pending steps levels true = HasOperand 3 tokens names pending steps levels
 IsReading tokens names pending steps levels false = WantsOperand tokens names pending steps levels
 
+-- a token may follow, after this many open parentheses and perhaps an operand
+abbrev pub CanFollow : (levels : ℕ) → (after_operand : Bool) → Lexeme → Type 0
+CanFollow levels after_operand (name word) = after_operand ≡ false
+CanFollow levels after_operand (sign op) = after_operand ≡ true
+CanFollow levels after_operand opening = (after_operand ≡ false) × (levels < most_levels)
+CanFollow levels after_operand closing = (after_operand ≡ true) × (0 < levels)
+
+-- no expression goes on with a text: its next token, if it has one, may not follow
+abbrev pub CannotGoOn : (levels : ℕ) → (after_operand : Bool) → (text : List ℕ) → Type 0
+CannotGoOn levels after_operand text = (t : Lexeme) (rest : List ℕ) → IsToken t text rest → CanFollow levels after_operand t → ⊥
+
+-- an expression may end: every parenthesis is closed, behind an operand
+abbrev pub CanEnd : (levels : ℕ) → (after_operand : Bool) → Type 0
+CanEnd levels after_operand = (levels ≡ 0) × (after_operand ≡ true)
+
+-- all tokens are these, and then those of a text
+pub record EndsWith (text : List ℕ) (tokens all : List Lexeme) : Type 0 where
+  pub more : List Lexeme
+  pub parted : all ≡ tokens ++ more
+  pub is_text : IsText more text
+
 -- the tokens of a text up to a rest that begins with no blank
 pub record HasRead (text rest : List ℕ) (names : List (List ℕ)) (pending : List Pending) (steps : List Step) (levels : ℕ) (after_operand : Bool) : Type 0 where
   pub tokens : List Lexeme
   pub before : List ℕ
   pub blanks : IsAfterBlanks before rest
   pub joined : (more : List Lexeme) → IsText more before → IsText (tokens ++ more) text
+  pub parted : (all : List Lexeme) → IsText all text → EndsWith before tokens all
+  pub trimmed : NoBlankFirst rest
   pub reading : IsReading tokens names pending steps levels after_operand

@@ -1,5 +1,5 @@
 -- The tokens of a text.
-use Rattle.std.specs.Prelude.{ℕ, ◌≡◌, ◌≢◌, ◌<◌, ◌==◌, ◌||◌, ◌⊎◌, not, Bool, true, List, [], ◌∷◌, ◌++◌, length, get_or}
+use Rattle.std.specs.Prelude.{ℕ, ◌≡◌, ◌≢◌, ◌<◌, ◌==◌, ◌||◌, ◌⊎◌, not, Bool, true, false, List, [], ◌∷◌, ◌++◌, length, get_or}
 use Rattle.expression_text.specs.declared.operator.Operator.{Operator}
 use Rattle.expression_text.specs.declared.operator.Operator.TheVariants.{Union, Intersection, Difference}
 use Rattle.expression_text.specs.declared.tokens.Token.{Token}
@@ -40,6 +40,11 @@ abbrev pub BeginsWord : List ℕ → Type 0
 BeginsWord [] = ⊥
 BeginsWord (b ∷ bytes) = is_word_byte b ≡ true
 
+-- a text doesn't begin with a blank
+abbrev pub NoBlankFirst : List ℕ → Type 0
+NoBlankFirst [] = Unit {0}
+NoBlankFirst (b ∷ bytes) = is_blank b ≡ false
+
 -- a name of word bytes, as it is: "-" alone is none
 pub record IsPlain (word front : List ℕ) : Type 0 where
   pub same : front ≡ word
@@ -66,6 +71,10 @@ pub record IsToken (t : Lexeme) (text rest : List ℕ) : Type 0 where
   pub parts : text ≡ front ++ rest
   pub spells : Spells t front
   pub ends : BeginsWord front → BeginsWord rest → ⊥
+
+-- a text begins with no token
+abbrev pub LacksToken : (text : List ℕ) → Type 0
+LacksToken text = (t : Lexeme) (rest : List ℕ) → IsToken t text rest → ⊥
 
 -- the rest of a text after some blanks
 pub record IsAfterBlanks (text rest : List ℕ) : Type 0 where

@@ -1,9 +1,10 @@
 //! Reads an expression, token by token.
-ghost use Rattle.std.specs.Prelude.{◌≡◌, ◌++◌, ◌∷◌, ◌<◌, ◌≤◌, ℕ, [], List, map, length, IfOk, IfErr, IfSome, OnOk, MatchOption};
-ghost use Rattle.expression_text.specs.Grammar.{strength, IsSpelled};
-ghost use Rattle.expression_text.specs.Tokens.{Lexeme, name, sign, opening, closing, lexeme_of, IsText, IsToken};
-ghost use Rattle.expression_text.specs.Reading.{HasName, IsIndexed, HasOperand, IsSettled, LacksSign, IsReading};
+ghost use Rattle.std.specs.Prelude.{◌≡◌, ◌≢◌, ◌++◌, ◌∷◌, ◌<◌, ◌≤◌, ℕ, [], List, map, length, IfOk, IfErr, IfSome, OnOk, MatchOption};
+ghost use Rattle.expression_text.specs.Grammar.{strength, IsSpelled, SpellsNothing};
+ghost use Rattle.expression_text.specs.Tokens.{Lexeme, name, sign, opening, closing, lexeme_of, IsText, IsToken, NoBlankFirst};
+ghost use Rattle.expression_text.specs.Reading.{HasName, IsIndexed, HasOperand, IsSettled, LacksSign, IsReading, CanFollow, CannotGoOn, CanEnd};
 ghost use Rattle.expression_text.specs.declared.parsing.Pending.TheVariants.{Sign};
+ghost use Rattle.expression_text.specs.declared.fault.Reason.TheVariants.{Memory};
 
 use crate::fault::{Reason, SyntaxFault};
 use crate::operator::{Operator, Step};
@@ -77,9 +78,10 @@ fn settle<A: Allocator>(
     steps: &mut Vec<Step, A>,
     least: u8,
 ) -> Result<(), Reason>
-    ensures { (tokens : List Lexeme) (names : List (List ℕ)) (levels : ℕ)
+    ensures settled { (tokens : List Lexeme) (names : List (List ℕ)) (levels : ℕ)
         → HasOperand least tokens names pending.old.items steps.old.items levels
         → OnOk result (IsSettled least tokens names pending.new.items steps.new.items levels) }
+    ensures memory { IfErr result (λ reason. reason ≡ Memory) }
 {
     while let Some(operator) = take_sign(pending, least) {
         steps.push(Step::Combine(operator))?;
@@ -105,7 +107,8 @@ fn index_of<A: Allocator + Clone + Drop>(
     names: &mut Vec<Vec<u8, A>, A>,
     word: &[u8],
 ) -> Result<usize, Reason>
-    ensures { IfOk result (IsIndexed (map (λ v. v.items) names.old.items) (map (λ v. v.items) names.new.items) word.now) }
+    ensures index { IfOk result (IsIndexed (map (λ v. v.items) names.old.items) (map (λ v. v.items) names.new.items) word.now) }
+    ensures memory { IfErr result (λ reason. reason ≡ Memory) }
 {
     if let Some(index) = place_of(names, word) {
         return Ok(index);
@@ -120,11 +123,13 @@ fn index_of<A: Allocator + Clone + Drop>(
 impl<A: Allocator + Clone + Drop> Reading<A> {
     /// Reads a name.
     fn put_name(&mut self, alloc: A, word: &[u8]) -> Result<(), Reason>
-        ensures { (tokens : List Lexeme)
+        ensures reads { (tokens : List Lexeme)
             → IsReading tokens (map (λ v. v.items) self.old.names.items) self.old.pending.items self.old.steps.items self.old.levels self.old.after_operand
             → OnOk result (
             IsReading (tokens ++ name word.now ∷ []) (map (λ v. v.items) self.new.names.items)
             self.new.pending.items self.new.steps.items self.new.levels self.new.after_operand) }
+        ensures refused { IfErr result (λ reason.
+            reason ≢ Memory → CanFollow self.old.levels self.old.after_operand (name word.now) → ⊥) }
     {
         if self.after_operand {
             return Err(Reason::MissingOperator);
@@ -137,11 +142,13 @@ impl<A: Allocator + Clone + Drop> Reading<A> {
 
     /// Reads an operator.
     fn put_sign(&mut self, operator: Operator) -> Result<(), Reason>
-        ensures { (tokens : List Lexeme)
+        ensures reads { (tokens : List Lexeme)
             → IsReading tokens (map (λ v. v.items) self.old.names.items) self.old.pending.items self.old.steps.items self.old.levels self.old.after_operand
             → OnOk result (
             IsReading (tokens ++ sign operator ∷ []) (map (λ v. v.items) self.new.names.items)
             self.new.pending.items self.new.steps.items self.new.levels self.new.after_operand) }
+        ensures refused { IfErr result (λ reason.
+            reason ≢ Memory → CanFollow self.old.levels self.old.after_operand (sign operator) → ⊥) }
     {
         if !self.after_operand {
             return Err(Reason::MissingOperand);
@@ -154,11 +161,13 @@ impl<A: Allocator + Clone + Drop> Reading<A> {
 
     /// Reads an opening parenthesis.
     fn open(&mut self) -> Result<(), Reason>
-        ensures { (tokens : List Lexeme)
+        ensures reads { (tokens : List Lexeme)
             → IsReading tokens (map (λ v. v.items) self.old.names.items) self.old.pending.items self.old.steps.items self.old.levels self.old.after_operand
             → OnOk result (
             IsReading (tokens ++ opening ∷ []) (map (λ v. v.items) self.new.names.items)
             self.new.pending.items self.new.steps.items self.new.levels self.new.after_operand) }
+        ensures refused { IfErr result (λ reason.
+            reason ≢ Memory → CanFollow self.old.levels self.old.after_operand opening → ⊥) }
     {
         if self.after_operand {
             return Err(Reason::MissingOperator);
@@ -173,11 +182,15 @@ impl<A: Allocator + Clone + Drop> Reading<A> {
 
     /// Reads a closing parenthesis.
     fn close(&mut self) -> Result<(), Reason>
-        ensures { (tokens : List Lexeme)
+        ensures reads { (tokens : List Lexeme)
             → IsReading tokens (map (λ v. v.items) self.old.names.items) self.old.pending.items self.old.steps.items self.old.levels self.old.after_operand
             → OnOk result (
             IsReading (tokens ++ closing ∷ []) (map (λ v. v.items) self.new.names.items)
             self.new.pending.items self.new.steps.items self.new.levels self.new.after_operand) }
+        ensures refused { (tokens : List Lexeme)
+            → IsReading tokens (map (λ v. v.items) self.old.names.items) self.old.pending.items self.old.steps.items self.old.levels self.old.after_operand
+            → IfErr result (λ reason.
+            reason ≢ Memory → CanFollow self.old.levels self.old.after_operand closing → ⊥) }
     {
         if self.levels == 0 {
             return Err(Reason::UnexpectedClosing);
@@ -195,11 +208,15 @@ impl<A: Allocator + Clone + Drop> Reading<A> {
 
     /// Reads a token.
     fn put(&mut self, alloc: A, token: Token<'_>) -> Result<(), Reason>
-        ensures { (tokens : List Lexeme)
+        ensures reads { (tokens : List Lexeme)
             → IsReading tokens (map (λ v. v.items) self.old.names.items) self.old.pending.items self.old.steps.items self.old.levels self.old.after_operand
             → OnOk result (
             IsReading (tokens ++ lexeme_of token.entry ∷ []) (map (λ v. v.items) self.new.names.items)
             self.new.pending.items self.new.steps.items self.new.levels self.new.after_operand) }
+        ensures refused { (tokens : List Lexeme)
+            → IsReading tokens (map (λ v. v.items) self.old.names.items) self.old.pending.items self.old.steps.items self.old.levels self.old.after_operand
+            → IfErr result (λ reason.
+            reason ≢ Memory → CanFollow self.old.levels self.old.after_operand (lexeme_of token.entry) → ⊥) }
     {
         match token {
             Token::Name(word) => self.put_name(alloc, word),
@@ -218,6 +235,11 @@ impl<A: Allocator + Clone + Drop> Reading<A> {
             (t : Lexeme) × IsToken t text.now rest.now ×
             IsReading (tokens ++ t ∷ []) (map (λ v. v.items) self.new.names.items) self.new.pending.items self.new.steps.items self.new.levels self.new.after_operand)) }
         ensures shorter { IfOk result (λ o. IfSome o (λ rest. length rest.now < length text.now)) }
+        ensures some { IfErr result (λ reason. reason ≢ Memory → text.now ≢ []) }
+        ensures refused { (tokens : List Lexeme)
+            → IsReading tokens (map (λ v. v.items) self.old.names.items) self.old.pending.items self.old.steps.items self.old.levels self.old.after_operand
+            → NoBlankFirst text.now
+            → IfErr result (λ reason. reason ≢ Memory → CannotGoOn self.old.levels self.old.after_operand text.now) }
     {
         match first_token(text)? {
             None => Ok(None),
@@ -234,6 +256,8 @@ impl<A: Allocator + Clone + Drop> Reading<A> {
             → OnOk result ((tokens : List Lexeme) × IsText tokens text.now ×
             IsReading tokens (map (λ v. v.items) self.new.names.items) self.new.pending.items self.new.steps.items self.new.levels self.new.after_operand) }
         ensures fault { IfErr result (λ f. f.offset ≤ length text.now) }
+        ensures unspelled { IsReading [] (map (λ v. v.items) self.old.names.items) self.old.pending.items self.old.steps.items self.old.levels self.old.after_operand
+            → IfErr result (λ f. f.reason ≢ Memory → SpellsNothing text.now) }
     {
         let mut rest = skip_blanks(text);
         'each: loop {
@@ -248,10 +272,13 @@ impl<A: Allocator + Clone + Drop> Reading<A> {
 
     /// Ends the expression.
     fn finish(mut self) -> Result<Parsed<A>, Reason>
-        ensures { (tokens : List Lexeme) (text : List ℕ)
+        ensures spelled { (tokens : List Lexeme) (text : List ℕ)
             → IsText tokens text
             → IsReading tokens (map (λ v. v.items) self.names.items) self.pending.items self.steps.items self.levels self.after_operand
             → IfOk result (λ x. IsSpelled text (map (λ v. v.items) x.names.items) x.steps.items) }
+        ensures refused { (tokens : List Lexeme)
+            → IsReading tokens (map (λ v. v.items) self.names.items) self.pending.items self.steps.items self.levels self.after_operand
+            → IfErr result (λ reason. reason ≢ Memory → CanEnd self.levels self.after_operand → ⊥) }
     {
         if !self.after_operand {
             return Err(Reason::MissingOperand);
@@ -267,7 +294,8 @@ impl<A: Allocator + Clone + Drop> Reading<A> {
 
 /// The state before the first token.
 fn new_reading<A: Allocator + Clone + Drop>(alloc: &A) -> Result<Reading<A>, Reason>
-    ensures { IfOk result (λ r. IsReading [] (map (λ v. v.items) r.names.items) r.pending.items r.steps.items r.levels r.after_operand) }
+    ensures nothing { IfOk result (λ r. IsReading [] (map (λ v. v.items) r.names.items) r.pending.items r.steps.items r.levels r.after_operand) }
+    ensures memory { IfErr result (λ reason. reason ≡ Memory) }
 {
     let pending = Vec::new(alloc.clone()?);
     let names = Vec::new(alloc.clone()?);
@@ -288,10 +316,11 @@ fn new_reading<A: Allocator + Clone + Drop>(alloc: &A) -> Result<Reading<A>, Rea
 /// difference. `&` binds tighter than the others, which bind alike, from the left. Parentheses may be nested in 64
 /// levels.
 ///
-/// An error is the first fault of the text, or that memory was refused.
+/// An error is the first fault of the text, which then spells no expression, or that memory was refused.
 pub fn parse<A: Allocator + Clone + Drop>(alloc: A, text: &[u8]) -> Result<Parsed<A>, SyntaxFault>
     ensures spelled { IfOk result (λ x. IsSpelled text.now (map (λ v. v.items) x.names.items) x.steps.items) }
     ensures fault { IfErr result (λ f. f.offset ≤ length text.now) }
+    ensures unspelled { IfErr result (λ f. f.reason ≢ Memory → SpellsNothing text.now) }
 {
     let mut reading = match new_reading(&alloc) {
         Ok(reading) => reading,

@@ -1,6 +1,6 @@
 //! The tokens of a text.
-ghost use Rattle.std.specs.Prelude.{◌≡◌, ◌≢◌, ◌<◌, ◌++◌, ◌∷◌, ℕ, [], length, slice_index, IfOk, IfSome, MatchOption};
-ghost use Rattle.expression_text.specs.Tokens.{is_blank, is_word_byte, IsAfterBlanks, IsSplitWord, IsToken, lexeme_of};
+ghost use Rattle.std.specs.Prelude.{◌≡◌, ◌≢◌, ◌<◌, ◌++◌, ◌∷◌, ℕ, [], length, slice_index, IfOk, IfErr, IfSome, IfNone, MatchOption};
+ghost use Rattle.expression_text.specs.Tokens.{is_blank, is_word_byte, IsAfterBlanks, IsSplitWord, IsToken, Lacks, LacksToken, BeginsWord, NoBlankFirst, lexeme_of};
 
 use crate::fault::Reason;
 use crate::operator::Operator;
@@ -40,7 +40,8 @@ fn is_word_byte(byte: u8) -> bool
 
 /// The text after the blanks at its front.
 pub fn skip_blanks(text: &[u8]) -> &[u8]
-    ensures { IsAfterBlanks text.now result.now }
+    ensures blanks { IsAfterBlanks text.now result.now }
+    ensures trimmed { NoBlankFirst result.now }
 {
     for (i, byte) in text.iter().enumerate() {
         if !is_blank(*byte) {
@@ -68,6 +69,7 @@ fn split_word(text: &[u8]) -> (&[u8], &[u8])
 fn split_quoted(text: &[u8]) -> Option<(&[u8], &[u8])>
     ensures before { IfSome result (λ x. (k : ℕ) → k < length x.0.now → slice_index x.0.now k ≢ 34) }
     ensures parts { IfSome result (λ x. text.now ≡ x.0.now ++ 34 ∷ x.1.now) }
+    ensures none { IfNone result (Lacks 34 text.now) }
 {
     for (i, byte) in text.iter().enumerate() {
         if *byte == b'"' {
@@ -79,7 +81,8 @@ fn split_quoted(text: &[u8]) -> Option<(&[u8], &[u8])>
 
 /// The token of a name in quotes, from the text after the first quote; and the text after the token.
 fn quoted_name(text: &[u8]) -> Result<(Token<'_>, &[u8]), Reason>
-    ensures { IfOk result (λ x. IsToken (lexeme_of x.0) (34 ∷ text.now) x.1.now) }
+    ensures token { IfOk result (λ x. IsToken (lexeme_of x.0) (34 ∷ text.now) x.1.now) }
+    ensures refused { IfErr result (λ _. LacksToken (34 ∷ text.now)) }
 {
     let Some((name, rest)) = split_quoted(text) else {
         return Err(Reason::OpenQuote);
@@ -92,7 +95,8 @@ fn quoted_name(text: &[u8]) -> Result<(Token<'_>, &[u8]), Reason>
 
 /// The token of the word at the front of a text: the difference or a name; and the text after it.
 fn word_token(text: &[u8]) -> Result<(Token<'_>, &[u8]), Reason>
-    ensures { IfOk result (λ x. IsToken (lexeme_of x.0) text.now x.1.now) }
+    ensures token { IfOk result (λ x. IsToken (lexeme_of x.0) text.now x.1.now) }
+    ensures refused { IfErr result (λ _. BeginsWord text.now → ⊥) }
 {
     let (word, rest) = split_word(text);
     match word {
@@ -104,7 +108,9 @@ fn word_token(text: &[u8]) -> Result<(Token<'_>, &[u8]), Reason>
 
 /// The token at the front of a text, which doesn't begin with a blank, and the text after it.
 pub fn first_token(text: &[u8]) -> Result<Option<(Token<'_>, &[u8])>, Reason>
-    ensures { IfOk result (λ o. MatchOption o (text.now ≡ []) (λ x. IsToken (lexeme_of x.0) text.now x.1.now)) }
+    ensures token { IfOk result (λ o. MatchOption o (text.now ≡ []) (λ x. IsToken (lexeme_of x.0) text.now x.1.now)) }
+    ensures some { IfErr result (λ _. text.now ≢ []) }
+    ensures refused { NoBlankFirst text.now → IfErr result (λ _. LacksToken text.now) }
 {
     let Some((first, rest)) = text.split_first() else {
         return Ok(None);

@@ -55,7 +55,7 @@ module _ (hashing : Hashing) where
   compact lg_k [] small = record { shown = IsShown-none MAX_THETA (seed_hash hashing.seed) true true (omega arith) (omega arith) (λ _. refl); empty_ordered = λ _. refl }
   compact lg_k (line ∷ lines) small =
       let all = set_retained lg_k (line ∷ lines) in
-      let few : length (cut hash_key (2 ^ lg_k) (key_set hashing (line ∷ lines)) MAX_THETA).entries ≤ 2 ^ lg_k = length-cut hash_key (2 ^ lg_k) (key_set hashing (line ∷ lines)) MAX_THETA all.ascending in record {
+      let limited : length (cut hash_key (2 ^ lg_k) (key_set hashing (line ∷ lines)) MAX_THETA).entries ≤ 2 ^ lg_k = length-cut hash_key (2 ^ lg_k) (key_set hashing (line ∷ lines)) MAX_THETA all.ascending in record {
         shown = IsShown-retained hash_key (cut hash_key (2 ^ lg_k) (key_set hashing (line ∷ lines)) MAX_THETA) (seed_hash hashing.seed) true (IsRetained-cut hash_key (2 ^ lg_k) (key_set hashing (line ∷ lines)) MAX_THETA all) (omega (arith, pow_mono {i = lg_k} {j = 26} small));
         empty_ordered = λ e. absurd (cc);
       }

@@ -9,3 +9,4 @@ pub mod Digits
 pub mod Meets
 pub mod Refused
 pub mod Preambles
+mod Seeding

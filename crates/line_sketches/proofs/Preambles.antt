@@ -55,25 +55,25 @@ hashes_long (x ∷ xs) text s =
     omega arith
 
 module _ (bytes : List ℕ) (h : ℕ) (p : Preamble) (xs : List ℕ) (has : HasEntries hash_key SpellsHash bytes p h xs) where
-  text_long : length has.held.text ≡ 8 * p.count
-  text_long = hashes_long xs has.held.text has.held.spelled ∙ ap (λ (n : ℕ). 8 * n) has.held.counted
+  text_long : length has.content.text ≡ 8 * p.count
+  text_long = hashes_long xs has.content.text has.content.spelled ∙ ap (λ (n : ℕ). 8 * n) has.content.counted
 
   enough : p.start + 8 * p.count ≤ length bytes
   enough =
-      let parts = ap length has.held.there ∙ length-append has.held.text has.held.after in
+      let parts = ap length has.content.there ∙ length-append has.content.text has.content.after in
       let rest = length-drop p.start bytes in
       omega (arith, parts, rest, text_long, has.whole)
 
   alone_has : HasEntries hash_key SpellsHash (take (p.start + 8 * p.count) bytes) p h xs
   alone_has =
-      let text = has.held.text in
+      let text = has.content.text in
       let taken = length-take-le (p.start + 8 * p.count) bytes enough in
       let long : 8 * p.count ≤ length text = omega (arith, text_long) in
       let short : length text ≤ 8 * p.count = omega (arith, text_long) in
       let same : drop p.start (take (p.start + 8 * p.count) bytes) ≡ text ++ [] =
-      drop-take p.start (8 * p.count) bytes ∙ ap (take (8 * p.count)) has.held.there ∙ take-append-le (8 * p.count) text has.held.after long ∙ take_all (8 * p.count) text short ∙ sym (append-nil text) in record {
+      drop-take p.start (8 * p.count) bytes ∙ ap (take (8 * p.count)) has.content.there ∙ take-append-le (8 * p.count) text has.content.after long ∙ take_all (8 * p.count) text short ∙ sym (append-nil text) in record {
         whole = omega (arith, taken);
-        held = record { text = text; after = []; there = same; spelled = has.held.spelled; counted = has.held.counted };
+        content = record { text = text; after = []; there = same; spelled = has.content.spelled; counted = has.content.counted };
         lawful = has.lawful;
       }
 
@@ -174,7 +174,7 @@ module _ (bytes : List ℕ) (h : ℕ) (nonzero : 0 < h) where
       let s = state_after_preamble p h xs in
       let n = p.start + 8 * p.count in
       read_so s longs 3 p.start p.count b (omega arith) (omega arith) said (enough bytes h p xs f)
-      (version_3 longs s (begins_same bytes n longs 3 long (enough bytes h p xs f) b) reads) f.held.counted (seed_same (checks_seed bytes) (seed_hash_at bytes) h same)
+      (version_3 longs s (begins_same bytes n longs 3 long (enough bytes h p xs f) b) reads) f.content.counted (seed_same (checks_seed bytes) (seed_hash_at bytes) h same)
 
   flagged_read : {s : Compact ℕ} (longs : ℕ) → Begins bytes longs 3 3 → ReadsFlagged hash_key SpellsHash bytes longs h s → IsRead bytes h s
   flagged_read longs b (empty_image e) =
@@ -220,11 +220,11 @@ module _ (bytes : List ℕ) (h : ℕ) (nonzero : 0 < h) where
 
 -- versions 1 and 2
 
-record IsUnflagged (bytes : List ℕ) (p : Preamble) (told h : ℕ) (s : Compact ℕ) : Type 0 where
+record IsUnflagged (bytes : List ℕ) (p : Preamble) (reported h : ℕ) (s : Compact ℕ) : Type 0 where
   pub within : p.start + 8 * p.count ≤ length bytes
-  pub alone : ReadsUnflagged (take (p.start + 8 * p.count) bytes) p told h s
+  pub alone : ReadsUnflagged (take (p.start + 8 * p.count) bytes) p reported h s
   pub counted : length s.entries ≡ p.count
-  pub seed : (is_vacant p ≡ true) ⊎ (told ≡ h)
+  pub seed : (is_vacant p ≡ true) ⊎ (reported ≡ h)
 
 first_true : (a b : Bool) → (a && b) ≡ true → a ≡ true
 first_true true b e = refl
@@ -234,8 +234,8 @@ second_true : (a b : Bool) → (a && b) ≡ true → b ≡ true
 second_true true b e = e
 second_true false b e = absurd (cc)
 
-unflagged_read : {s : Compact ℕ} (bytes : List ℕ) (p : Preamble) (told h : ℕ) → ReadsUnflagged bytes p told h s → IsUnflagged bytes p told h s
-unflagged_read bytes p told h (vacant_image w e) =
+unflagged_read : {s : Compact ℕ} (bytes : List ℕ) (p : Preamble) (reported h : ℕ) → ReadsUnflagged bytes p reported h s → IsUnflagged bytes p reported h s
+unflagged_read bytes p reported h (vacant_image w e) =
     let none : p.count ≡ 0 = eqb-true p.count 0 (first_true (eqb p.count 0) (eqb p.theta MAX_THETA) e) in
     let within : p.start + 8 * p.count ≤ length bytes = omega (arith, none, w) in
     let taken = length-take-le (p.start + 8 * p.count) bytes within in record {
@@ -244,18 +244,18 @@ unflagged_read bytes p told h (vacant_image w e) =
       counted = sym none;
       seed = inl e;
     }
-unflagged_read bytes p told h (filled_image xs e same f) = record {
+unflagged_read bytes p reported h (filled_image xs e same f) = record {
   within = enough bytes h p xs f;
   alone = filled_image xs e same (alone_has bytes h p xs f);
-  counted = f.held.counted;
+  counted = f.content.counted;
   seed = inr same;
 }
 
 module _ (bytes : List ℕ) (h : ℕ) (nonzero : 0 < h) where
   -- the seed hash of version 2: the sketch is empty, or it is the reader's
-  seed_of_2 : (longs : ℕ) (told : Bool) → Begins bytes longs 2 3 → (told ≡ true → is_vacant_image bytes ≡ true) → (told ≡ true) ⊎ (seed_hash_at bytes ≡ h) → (checks_seed bytes && not (eqb (seed_hash_at bytes) h)) ≡ false
-  seed_of_2 longs told b vacant (inl e) = unchecked (checks_seed bytes) (not (eqb (seed_hash_at bytes) h)) (λ i. checks_by (b.version_is i) (is_empty bytes) (vacant e i))
-  seed_of_2 longs told b vacant (inr same) = seed_same (checks_seed bytes) (seed_hash_at bytes) h same
+  seed_of_2 : (longs : ℕ) (reported : Bool) → Begins bytes longs 2 3 → (reported ≡ true → is_vacant_image bytes ≡ true) → (reported ≡ true) ⊎ (seed_hash_at bytes ≡ h) → (checks_seed bytes && not (eqb (seed_hash_at bytes) h)) ≡ false
+  seed_of_2 longs reported b vacant (inl e) = unchecked (checks_seed bytes) (not (eqb (seed_hash_at bytes) h)) (λ i. checks_by (b.version_is i) (is_empty bytes) (vacant e i))
+  seed_of_2 longs reported b vacant (inr same) = seed_same (checks_seed bytes) (seed_hash_at bytes) h same
 
   spelled_read : {s : Compact ℕ} → SpellsSketch bytes h s → IsRead bytes h s
   spelled_read (version_3 longs s b r) = flagged_read bytes h nonzero longs b r
@@ -275,8 +275,8 @@ module _ (bytes : List ℕ) (h : ℕ) (nonzero : 0 < h) where
       let said = said_of bytes 2 2 (is_empty bytes) b (omega arith) (omega arith) refl room in
       let front = take n bytes in
       let q : announced 2 (count_at front) MAX_THETA true ≡ p = ap (λ (c : ℕ). announced 2 c MAX_THETA true) (number_same bytes n 4 8 counted) in
-      let told : seed_hash_at front ≡ seed_hash_at bytes = number_same bytes n 2 6 seeded in
-      let alone = subst (λ (r : Preamble). ReadsUnflagged front r (seed_hash_at front) h s) (sym q) (subst (λ (t : ℕ). ReadsUnflagged front p t h s) (sym told) f.alone) in
+      let reported : seed_hash_at front ≡ seed_hash_at bytes = number_same bytes n 2 6 seeded in
+      let alone = subst (λ (r : Preamble). ReadsUnflagged front r (seed_hash_at front) h s) (sym q) (subst (λ (t : ℕ). ReadsUnflagged front p t h s) (sym reported) f.alone) in
       let vacant : is_vacant p ≡ true → is_vacant_image bytes ≡ true = λ e. λ i. vacant_by (b.longs_are i) (said.has i) (first_true (eqb (count_at bytes) 0) (eqb MAX_THETA MAX_THETA) e i) (eqb (theta_at bytes) MAX_THETA) in
       read_so bytes h nonzero s 2 2 16 (count_at bytes) b (omega arith) (omega arith) said f.within (version_2_exact s (begins_same bytes n 2 2 le f.within b) alone) f.counted (seed_of_2 2 (is_vacant p) b vacant f.seed)
   spelled_read (version_2_estimating s b r) =
@@ -291,8 +291,8 @@ module _ (bytes : List ℕ) (h : ℕ) (nonzero : 0 < h) where
       let said = said_of bytes 3 2 (is_empty bytes) b (omega arith) (omega arith) refl room in
       let front = take n bytes in
       let q : announced 3 (count_at front) (theta_at front) true ≡ p = λ i. announced 3 (number_same bytes n 4 8 counted i) (number_same bytes n 8 16 bounded i) true in
-      let told : seed_hash_at front ≡ seed_hash_at bytes = number_same bytes n 2 6 seeded in
-      let alone = subst (λ (r : Preamble). ReadsUnflagged front r (seed_hash_at front) h s) (sym q) (subst (λ (t : ℕ). ReadsUnflagged front p t h s) (sym told) f.alone) in
+      let reported : seed_hash_at front ≡ seed_hash_at bytes = number_same bytes n 2 6 seeded in
+      let alone = subst (λ (r : Preamble). ReadsUnflagged front r (seed_hash_at front) h s) (sym q) (subst (λ (t : ℕ). ReadsUnflagged front p t h s) (sym reported) f.alone) in
       let vacant : is_vacant p ≡ true → is_vacant_image bytes ≡ true = λ e. λ i. vacant_by (b.longs_are i) (said.has i) (first_true (eqb (count_at bytes) 0) (eqb (theta_at bytes) MAX_THETA) e i) (second_true (eqb (count_at bytes) 0) (eqb (theta_at bytes) MAX_THETA) e i) in
       read_so bytes h nonzero s 3 2 24 (count_at bytes) b (omega arith) (omega arith) said f.within (version_2_estimating s (begins_same bytes n 3 2 le f.within b) alone) f.counted (seed_of_2 3 (is_vacant p) b vacant f.seed)
   spelled_read (version_1 longs s b r) =

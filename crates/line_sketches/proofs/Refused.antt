@@ -75,13 +75,13 @@ least_size seed accepted = accepted_by (seed_hash seed == 0) accepted
 flagged_seed : (bytes : List ℕ) (longs h : ℕ) (s : Compact ℕ) (Spells : List ℕ → ℕ → Type 0) → ReadsFlagged hash_key Spells bytes longs h s → s.seed_hash ≡ h
 flagged_seed bytes longs h s Spells reads = elim reads as (λ s reads. s.seed_hash ≡ h) [
   | empty_image e ↦ refl
-  | single_image xs e told n has ↦ refl
-  | exact_image xs e told n has ↦ refl
-  | estimating_image xs e told n has ↦ refl
+  | single_image xs e reported n has ↦ refl
+  | exact_image xs e reported n has ↦ refl
+  | estimating_image xs e reported n has ↦ refl
 ]
 
-unflagged_seed : (bytes : List ℕ) (p : Preamble) (told h : ℕ) (s : Compact ℕ) → ReadsUnflagged bytes p told h s → s.seed_hash ≡ h
-unflagged_seed bytes p told h s reads = elim reads as (λ s reads. s.seed_hash ≡ h) [
+unflagged_seed : (bytes : List ℕ) (p : Preamble) (reported h : ℕ) (s : Compact ℕ) → ReadsUnflagged bytes p reported h s → s.seed_hash ≡ h
+unflagged_seed bytes p reported h s reads = elim reads as (λ s reads. s.seed_hash ≡ h) [
   | vacant_image small vacant ↦ refl
   | filled_image xs filled same has ↦ refl
 ]
@@ -137,8 +137,8 @@ memory_of A B C None e none refused = refused.1
 memory_of A B C (Some kind) e none refused = absurd (cc)
 
 pub union_memory : {P : Type 0} (old new : Union ℕ P) (shows : Shown) (e : ErrorKind) → update_refusal old shows ≡ None →
-    MatchOption (update_refusal old shows) ((shows.empty ≡ false) × (e ≡ OutOfMemory) × (new ≡ record old { failed = true; held = new.held })) (λ kind. (e ≡ kind) × (new ≡ old)) → e ≡ OutOfMemory
-union_memory old new shows e none refused = memory_of (shows.empty ≡ false) (new ≡ record old { failed = true; held = new.held }) (new ≡ old) (update_refusal old shows) e none refused
+    MatchOption (update_refusal old shows) ((shows.empty ≡ false) × (e ≡ OutOfMemory) × (new ≡ record old { failed = true; content = new.content })) (λ kind. (e ≡ kind) × (new ≡ old)) → e ≡ OutOfMemory
+union_memory old new shows e none refused = memory_of (shows.empty ≡ false) (new ≡ record old { failed = true; content = new.content }) (new ≡ old) (update_refusal old shows) e none refused
 
 pub ready_accepts : {P : Type 0} (seed : ℕ) (u : Union ℕ P) (s : Compact ℕ) (shows : Shown) → IsReady seed u → s.seed_hash ≡ seed_hash seed → shows ≡ shown_of hash_key s → update_refusal u shows ≡ None
 ready_accepts seed u s shows ready same is = ap (update_refusal u) is ∙ accepts_of u.failed s.empty u.seed_hash s.seed_hash ready.sound (ready.seeded ∙ sym same)

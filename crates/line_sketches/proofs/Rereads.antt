@@ -27,7 +27,7 @@ module _ (hashing : Hashing) where
       let up : IsAscending hash_key v.entries = subst (IsAscending hash_key) (sym s.all_below) (ascending-filter hash_key _ whole s.ascending) in
       ap (λ xs. NonEmpty (record { entries = xs; theta = v.theta })) (map_of-ascending hash_key v.entries up)
 
-  value_again : (lg_k : ℕ) (lines : List (List ℕ)) → compact_value hash_key (sketch_of_value hashing.seed (value_of_lines hashing lg_k lines)) ≡ value_of_lines hashing lg_k lines
+  pub value_again : (lg_k : ℕ) (lines : List (List ℕ)) → compact_value hash_key (sketch_of_value hashing.seed (value_of_lines hashing lg_k lines)) ≡ value_of_lines hashing lg_k lines
   value_again lg_k [] = refl
   value_again lg_k (line ∷ lines) = again _ (key_set hashing (line ∷ lines)) (sample hashing lg_k (line ∷ lines))
 

@@ -38,11 +38,11 @@ joined_next old new values (NonEmpty v) so_far join =
     ∙ sym (union_of_union hash_key first_hash (λ x y same. same) (2 ^ old.lg_k) old.start values (NonEmpty v))
 
 -- the settings of a union stay
-made_same : {P : Type 0} (seed lg_k : ℕ) (old new : Union ℕ P) → old ≡ record (empty_union lg_k MAX_THETA (seed_hash seed) old.policy) { empty = old.empty; held = old.held } → new ≡ record old { empty = new.empty; held = new.held } →
-    new ≡ record (empty_union lg_k MAX_THETA (seed_hash seed) new.policy) { empty = new.empty; held = new.held }
+made_same : {P : Type 0} (seed lg_k : ℕ) (old new : Union ℕ P) → old ≡ record (empty_union lg_k MAX_THETA (seed_hash seed) old.policy) { empty = old.empty; content = old.content } → new ≡ record old { empty = new.empty; content = new.content } →
+    new ≡ record (empty_union lg_k MAX_THETA (seed_hash seed) new.policy) { empty = new.empty; content = new.content }
 made_same {P} seed lg_k old new was made =
-    let again : Union ℕ P → Union ℕ P = λ u. record u { empty = new.empty; held = new.held } in
-    let policy : P → Union ℕ P = λ p. record (empty_union lg_k MAX_THETA (seed_hash seed) p) { empty = new.empty; held = new.held } in
+    let again : Union ℕ P → Union ℕ P = λ u. record u { empty = new.empty; content = new.content } in
+    let policy : P → Union ℕ P = λ p. record (empty_union lg_k MAX_THETA (seed_hash seed) p) { empty = new.empty; content = new.content } in
     made ∙ ap again was ∙ ap policy (sym (ap (λ u. u.policy) made))
 
 -- one more image
@@ -58,7 +58,7 @@ values-more (t ∷ ts) s = ap (λ vs. compact_value hash_key t ∷ vs) (values-m
 
 pub image_more : {P : Type 0} (seed lg_k : ℕ) (images : List (List ℕ)) (image : List ℕ) (s : Compact ℕ) (old new : Union ℕ P) (shows : Shown) (listing : List ℕ) → HasUnited seed lg_k images old → Reads image (seed_hash seed) s →
     (shows.empty ≡ true → new ≡ old) → (shows.empty ≡ false → union_value hash_key new ≡ unite hash_key first_hash (2 ^ old.lg_k) old.start (union_value hash_key old ∷ shown_value hash_key shows listing ∷ [])) →
-    shown_value hash_key shows listing ≡ compact_value hash_key s → new ≡ record old { empty = new.empty; held = new.held } → HasUnited seed lg_k (images ++ image ∷ []) new
+    shown_value hash_key shows listing ≡ compact_value hash_key s → new ≡ record old { empty = new.empty; content = new.content } → HasUnited seed lg_k (images ++ image ∷ []) new
 image_more seed lg_k images image s old new shows listing has reads skipped joins is made =
     let lg : old.lg_k ≡ lg_k = ap (λ u. u.lg_k) has.made in
     let start : old.start ≡ MAX_THETA = ap (λ u. u.start) has.made in
@@ -82,7 +82,7 @@ nothing_united {P} seed lg_k u is =
       sketches = [];
       are_read = tt;
       value = ap (union_value hash_key) is;
-      made = is ∙ (λ i. record (with_policy u.policy) { empty = sym (ap (λ v. v.empty) is) i; held = sym (ap (λ v. v.held) is) i });
+      made = is ∙ (λ i. record (with_policy u.policy) { empty = sym (ap (λ v. v.empty) is) i; content = sym (ap (λ v. v.content) is) i });
     }
 
 -- the settings of a union

@@ -1,7 +1,7 @@
 -- The hashes of lines, and their sketch.
 use Rattle.std.specs.Prelude.{ℕ, ◌≡◌, ◌⊎◌, ◌^◌, Bool, true, false, List, [], ◌∷◌, map}
 use Rattle.sketch_base.specs.Seed.{seed_hash}
-use Rattle.core_compact.specs.CompactState.{Compact, empty_compact}
+use Rattle.core_compact.specs.CompactState.{Compact, empty_compact, ordered_sketch}
 use Rattle.core_laws.specs.Entries.{hash_step, hash_key}
 use Rattle.core_laws.specs.declared.leaf.LeafStep.{LeafStep}
 use Rattle.core_laws.specs.declared.leaf.LeafStep.TheVariants.{Add}
@@ -31,8 +31,7 @@ value_of_lines hashing lg_k (line ∷ lines) = NonEmpty (kmin (2 ^ lg_k) (key_se
 
 -- the ordered sketch of a value, under this seed
 abbrev pub sketch_of_value : (seed : ℕ) → Sketch ℕ → Compact ℕ
-sketch_of_value seed Empty = empty_compact (seed_hash seed)
-sketch_of_value seed (NonEmpty v) = record { empty = false; entries = v.entries; theta = v.theta; seed_hash = seed_hash seed; ordered = true }
+sketch_of_value seed v = ordered_sketch v (seed_hash seed)
 
 -- a line is among lines
 abbrev pub IsAmong : (line : List ℕ) → List (List ℕ) → Type 0

@@ -22,7 +22,7 @@ pub record HasUnited {P : Type 0} (seed lg_k : ℕ) (images : List (List ℕ)) (
   pub sketches : List (Compact ℕ)
   pub are_read : AreRead seed images sketches
   pub value : union_value hash_key u ≡ united lg_k (values_of_sketches sketches)
-  pub made : u ≡ record (empty_union lg_k MAX_THETA (seed_hash seed) u.policy) { empty = u.empty; held = u.held }
+  pub made : u ≡ record (empty_union lg_k MAX_THETA (seed_hash seed) u.policy) { empty = u.empty; content = u.content }
 
 -- the image of the union of the sketches in images
 abbrev pub IsUnitedImage : (seed lg_k : ℕ) → (images : List (List ℕ)) → List ℕ → Type 0

@@ -1,5 +1,6 @@
 //! Sketches of the lines of a reader.
 ghost use Rattle.std.specs.Prelude.{◌≡◌, ◌+◌, ◌<◌, ◌≤◌, ℕ, List, [], length, take, IfOk, IfErr, OnOk, IfSome, None, true};
+ghost use Rattle.sketch_base.specs.Seed.{seed_hash};
 ghost use Rattle.core_laws.specs.Refusal.{Refuses};
 ghost use Rattle.core_laws.specs.Settings.{settings_refusal};
 ghost use Rattle.core_laws.specs.declared.TheConstants.{MAX_THETA};
@@ -78,7 +79,7 @@ const LINES_AT_ONCE: usize = 256;
 /// Hashes the first lines of a text that end in an LF, in order, into `hashes`: all of them, or as many as there is
 /// room for. Returns their number and the text after the last of them.
 fn hash_lines<'a>(hashing: Hashing, text: &'a [u8], hashes: &mut [u64]) -> (usize, &'a [u8])
-    ensures few { result.0 ≤ length hashes.old }
+    ensures limited { result.0 ≤ length hashes.old }
     ensures lines { AreHashesOfLines hashing text.now (take result.0 hashes.new) result.1.now }
     ensures all { result.0 < length hashes.old → Lacks 10 result.1.now }
     ensures shorter { length result.1.now + result.0 ≤ length text.now }
@@ -180,6 +181,7 @@ pub fn add_lines<A: Allocator + Clone, R: Read, W: Watch>(
 ) -> Result<(), Unread>
     requires room { 0 < length block.old }
     ensures lines { IfSome (R.remaining reader.old) (λ text. OnOk result (state_of sketch.new ≡ with_lines hashing (state_of sketch.old) (lines_of text))) }
+    ensures seeded { OnOk result (sketch.new.map.seed_hash ≡ sketch.old.map.seed_hash) }
     ensures refused { RefusesRead result None }
     ensures retried { IfErr result IsLasting }
 {
@@ -229,6 +231,7 @@ pub fn finished<A: Allocator + Clone>(
     ensures sketch { (hashing : Hashing) (lg_k : ℕ) (lines : List (List ℕ))
         → state_of sketch.old ≡ with_lines hashing (new_state hashing.seed lg_k) lines
         → IfOk result (λ s. s ≡ sketch_of_value hashing.seed (value_of_lines hashing lg_k lines)) }
+    ensures seeded { IfOk result (λ s. s.seed_hash ≡ sketch.old.map.seed_hash) }
     ensures refused { Refuses result None true }
 {
     sketch.trim()?;
@@ -252,6 +255,7 @@ pub fn sketch_lines<A: Allocator + Clone + Drop, R: Read, W: Watch>(
     requires room { 0 < length block.old }
     ensures sketch { IfSome (R.remaining reader.old) (λ text.
         IfOk result (λ s. s ≡ sketch_of_value hashing.seed (value_of_lines hashing lg_k (lines_of text)))) }
+    ensures seeded { IfOk result (λ s. s.seed_hash ≡ seed_hash hashing.seed) }
     ensures refused { RefusesRead result (settings_refusal lg_k MAX_THETA hashing.seed) }
     ensures retried { IfErr result IsLasting }
 {

@@ -12,8 +12,8 @@ module _ (byte : ℕ) (text : List ℕ) (from count : ℕ) (room : from + 32 ≤
   pub none_more : ((k : ℕ) → k < from → get_or text k 0 ≡ byte → ⊥) → (k : ℕ) → k < from + count → get_or text k 0 ≡ byte → ⊥
   none_more none k lt e = elim (cases_lt k from) [ inl l ↦ none k l e | inr ge ↦ eqb-false (get_or text k 0) byte (run_in_chunk_fails (λ (x : ℕ). eqb x byte) text from 32 count 0 room counted k ge lt) e ]
 
-  pub here : count < 32 → get_or text (from + count) 0 ≡ byte
-  here few = eqb-true (get_or text (from + count) 0) byte (run_in_chunk_stops (λ (x : ℕ). eqb x byte) text from 32 count 0 room counted few)
+  pub present : count < 32 → get_or text (from + count) 0 ≡ byte
+  present limited = eqb-true (get_or text (from + count) 0) byte (run_in_chunk_stops (λ (x : ℕ). eqb x byte) text from 32 count 0 room counted limited)
 
 pub parts_at : (byte : ℕ) (text : List ℕ) (n : ℕ) → n < length text → get_or text n 0 ≡ byte → text ≡ take n text ++ byte ∷ take (length text - (n + 1)) (drop (n + 1) text)
 parts_at byte text n lt is = grind (arith, common_steps)

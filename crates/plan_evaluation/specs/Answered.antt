@@ -1,14 +1,9 @@
 -- The result of a plan: one ordered sketch.
 use Rattle.std.specs.Prelude.{ℕ, ◌≡◌, true, false, map}
-use Rattle.core_compact.specs.CompactState.{Compact, empty_compact, compact_value}
+use Rattle.core_compact.specs.CompactState.{Compact, compact_value, ordered_sketch}
 use Rattle.core_laws.specs.Cuts.{Retained}
 use Rattle.core_laws.specs.Folds.{Fold, unmarked_value}
 use Rattle.core_laws.specs.Values.{Sketch, Empty, NonEmpty}
-
--- the ordered sketch of a value
-abbrev pub ordered_sketch : {X : Type 0} → Sketch X → (seed_hash : ℕ) → Compact X
-ordered_sketch Empty seed_hash = empty_compact seed_hash
-ordered_sketch (NonEmpty v) seed_hash = record { empty = false; entries = v.entries; theta = v.theta; seed_hash = seed_hash; ordered = true }
 
 -- the ordered sketch with this value, which has no mark
 abbrev pub IsSketchOf : {X : Type 0} → (X → ℕ) → Sketch (Fold X) → (seed_hash : ℕ) → Compact X → Type 0

@@ -18,16 +18,16 @@ RefusedFor e strict why = (e ≡ OutOfMemory) ⊎ ((e ≡ Policy) × IsTrue stri
 
 -- for each whole map that a union holds and each one that a part samples: after the part, the union holds the two joined
 abbrev pub HoldsMore : {X V : Type 0} → (f : Family (Fold X) V) → (old new : List (Fold X) → Type 0) → Sketch (Fold X) → Type 0
-HoldsMore {X} f old new v = (whole come : List (Fold X)) → IsAscending f.key whole → IsAscending f.key come → old whole → IsAllBelow f.key v come → new (joined f.key f.merges whole come)
+HoldsMore {X} f old new v = (whole arriving : List (Fold X)) → IsAscending f.key whole → IsAscending f.key arriving → old whole → IsAllBelow f.key v arriving → new (joined f.key f.merges whole arriving)
 
 -- for each of these pairs of whole maps: if the union's policy refuses the part, the two joined have a mark
 abbrev pub MarksJoined : {X V : Type 0} → (f : Family (Fold X) V) → (holds : List (Fold X) → Type 0) → Sketch (Fold X) → Type 0
-MarksJoined {X} f holds v = (whole come : List (Fold X)) → IsAscending f.key whole → IsAscending f.key come → holds whole → IsAllBelow f.key v come → has_mark (joined f.key f.merges whole come) ≡ true
+MarksJoined {X} f holds v = (whole arriving : List (Fold X)) → IsAscending f.key whole → IsAscending f.key arriving → holds whole → IsAllBelow f.key v arriving → has_mark (joined f.key f.merges whole arriving) ≡ true
 
 -- for all whole maps that an intersection and a part sample: their common part has a mark
 abbrev pub MarksMet : {X V : Type 0} → (f : Family (Fold X) V) → (so_far : Option (Sketch (Fold X))) → Sketch (Fold X) → Type 0
 MarksMet f None v = ⊥
-MarksMet {X} f (Some u) v = (whole come : List (Fold X)) → IsAllBelow f.key u whole → IsAllBelow f.key v come → has_mark (common f.key f.merges whole come) ≡ true
+MarksMet {X} f (Some u) v = (whole arriving : List (Fold X)) → IsAllBelow f.key u whole → IsAllBelow f.key v arriving → has_mark (common f.key f.merges whole arriving) ≡ true
 
 -- why the evaluation of a plan is refused: its settings, if no policy must refuse before the first out of range; or memory;
 -- or a policy that may refuse before the first setting out of range

@@ -150,7 +150,7 @@ pub trait SketchFamily<A: Allocator> {
             (united union.new) (part_result (rules self.now).key state listed part.now).value) }
         ensures made_with { OnOk result (
             united union.new
-            ≡ record (united union.old) { empty = (united union.new).empty; held = (united union.new).held }) }
+            ≡ record (united union.old) { empty = (united union.new).empty; content = (united union.new).content }) }
         ensures holds { OnOk result (
             HoldsMore (folds_of (rules self.now) (refuses self.now)) (holds self.now union.old)
             (holds self.now union.new) (part_result (rules self.now).key state listed part.now).value) }
@@ -168,7 +168,7 @@ pub trait SketchFamily<A: Allocator> {
         ensures cuts { OnOk result (
             union_value (rules self.now).key (united union.new)
             ≡ cut_value (rules self.now).key (2 ^ lg_k) (union_value (rules self.now).key (united union.old))) }
-        ensures made_with { OnOk result (united union.new ≡ record (united union.old) { held = (united union.new).held; lg_k = lg_k }) }
+        ensures made_with { OnOk result (united union.new ≡ record (united union.old) { content = (united union.new).content; lg_k = lg_k }) }
         ensures holds { OnOk result ((whole : List (Fold Self.Entry)) → holds self.now union.old whole → holds self.now union.new whole) }
         ensures refused { Refuses result (lower_refusal (united union.old) lg_k) true };
 

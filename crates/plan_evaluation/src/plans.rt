@@ -21,7 +21,8 @@ ghost use Rattle.plan_values.specs.MergePlan.{only_unites, IsMergePlan};
 ghost use Rattle.plan_values.specs.Refusals.{may_refuse, must_refuse};
 ghost use Rattle.plan_values.specs.Value.{value_in, value_of, plan_refusal};
 ghost use Rattle.plan_values.specs.WholeStreams.{whole_in, whole_of, whole_hashes};
-ghost use Rattle.plan_evaluation.specs.Answered.{ordered_sketch, HasKeys, IsSketchOf};
+ghost use Rattle.core_compact.specs.CompactState.{ordered_sketch};
+ghost use Rattle.plan_evaluation.specs.Answered.{HasKeys, IsSketchOf};
 ghost use Rattle.plan_evaluation.specs.Refused.{IsPlanRefused};
 
 use crate::evaluate::{compacted, evaluate};

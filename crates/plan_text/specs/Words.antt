@@ -16,8 +16,8 @@ more_words None = []
 more_words (Some rest) = words rest.now
 
 -- a number is 1 to 20 digits with a value below 2 ^ 64; leading zeros count as digits
-abbrev pub number : List ℕ → Option ℕ
-number word =
+abbrev pub number_of_word : List ℕ → Option ℕ
+number_of_word word =
     if all_ascii_digits word && nat_lt 0 (length word) && nat_le (length word) 20 && nat_lt (digits_value 10 word) (2 ^ 64)
     then Some (digits_value 10 word) else None
 
@@ -28,15 +28,15 @@ at_most limit (Some n) = if nat_le n limit then Some n else None
 
 -- the number that a word spells, if it is at most a limit
 abbrev pub small : ℕ → List ℕ → Option ℕ
-small limit word = at_most limit (number word)
+small limit word = at_most limit (number_of_word word)
 
 -- a starting theta: a number, or the greatest theta by name
 abbrev pub start_of : List ℕ → Option ℕ
-start_of word = if bytes_eq word (codes "max") then Some MAX_THETA else number word
+start_of word = if bytes_eq word (codes "max") then Some MAX_THETA else number_of_word word
 
 -- a text begins with a word of digits that spells this number, followed by `rest`
 pub record BeginsWithNumber (text : List ℕ) (value : ℕ) (rest : List ℕ) : Type 0 where
   pub word : List ℕ
   pub parts : text ≡ word ++ rest
   pub digits : IsTrue (all_ascii_digits word)
-  pub spells : number word ≡ Some value
+  pub spells : number_of_word word ≡ Some value

@@ -11,7 +11,7 @@ use std::marker::Model;
 /// `Box`, so it allocates nothing itself. It stores the number of levels of its item: at most 63.
 #[derive(Drop)]
 pub struct Boxed<T, A: Allocator = Global> {
-    held: Box<T, A>,
+    content: Box<T, A>,
     /// The levels of the item.
     levels: u8,
 }
@@ -21,7 +21,7 @@ impl<T, A: Allocator> Model for Boxed<T, A> {
 
     ghost coded = { T.code };
 
-    ghost view = { λ b. b.held.value };
+    ghost view = { λ b. b.content.value };
 }
 
 impl<T: Levels + Drop, A: Allocator> Boxed<T, A> {
@@ -30,22 +30,22 @@ impl<T: Levels + Drop, A: Allocator> Boxed<T, A> {
     /// # Errors
     ///
     /// `InvalidArgument` if the item has `MAX_LEVELS` levels, since a plan around it would have one more.
-    pub fn from_box(held: Box<T, A>) -> Result<Boxed<T, A>, Error>
-        ensures { MatchResult result (λ b. b ≡ held.value) (λ e. e ≡ InvalidArgument) }
+    pub fn from_box(content: Box<T, A>) -> Result<Boxed<T, A>, Error>
+        ensures { MatchResult result (λ b. b ≡ content.value) (λ e. e ≡ InvalidArgument) }
     {
-        if held.levels() < MAX_LEVELS {
-            Ok(Boxed::of_fewer(held))
+        if content.levels() < MAX_LEVELS {
+            Ok(Boxed::of_fewer(content))
         } else {
             Err(Error::new(ErrorKind::InvalidArgument))
         }
     }
 
     /// Wraps a box whose item has fewer than `MAX_LEVELS` levels.
-    pub(crate) fn of_fewer(held: Box<T, A>) -> Boxed<T, A>
-        ensures { result ≡ held.value }
+    pub(crate) fn of_fewer(content: Box<T, A>) -> Boxed<T, A>
+        ensures { result ≡ content.value }
     {
-        let levels = held.levels();
-        Boxed { held, levels }
+        let levels = content.levels();
+        Boxed { content, levels }
     }
 }
 
@@ -59,6 +59,6 @@ impl<T, A: Allocator> Boxed<T, A> {
     pub fn get(&self) -> &T
         ensures { result.now ≡ self.now }
     {
-        &self.held
+        &self.content
     }
 }

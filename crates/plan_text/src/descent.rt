@@ -120,8 +120,8 @@ fn boxed<V: StepValue, A: Allocator + Clone>(
 ) -> Result<Boxed<Plan<V, A>, A>, AllocError>
     ensures { IfOk result (λ b. b ≡ plan) }
 {
-    let held = Box::new(alloc.clone()?, plan)?;
-    Ok(Boxed::of_fewer(held))
+    let content = Box::new(alloc.clone()?, plan)?;
+    Ok(Boxed::of_fewer(content))
 }
 
 /// `count` plans of at most `levels` levels, and the text after them.

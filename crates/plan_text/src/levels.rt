@@ -15,14 +15,14 @@ pub trait Levels {
 
 impl<V, A: Allocator> Levels for Plan<V, A> {
     fn levels(&self) -> u8 {
-        let held = match self {
+        let content = match self {
             Plan::Leaf { .. } => 0,
             Plan::Union { parts, .. } => parts.held_levels(),
             Plan::Meet { parts } => parts.held_levels(),
             Plan::Minus(first, second) => first.held_levels().max(second.held_levels()),
             Plan::Via { part, .. } => part.held_levels(),
         };
-        held.saturating_add(1)
+        content.saturating_add(1)
     }
 }
 

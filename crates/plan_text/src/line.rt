@@ -1,6 +1,6 @@
 //! What one line says.
 ghost use Rattle.std.specs.Prelude.{◌≡◌, ◌∷◌, ◌≤◌, Some, IfSome};
-ghost use Rattle.plan_text.specs.Words.{words, more_words, number, small, start_of, BeginsWithNumber};
+ghost use Rattle.plan_text.specs.Words.{words, more_words, number_of_word, small, start_of, BeginsWithNumber};
 ghost use Rattle.plan_text.specs.Reading.{says};
 ghost use Rattle.plan_text.specs.declared.line.Line.TheVariants as line;
 ghost use Rattle.plan_text.specs.Lines.{form_of, order_of, said, said_one, said_two, said_three, said_four};
@@ -64,7 +64,7 @@ fn word(line: &[u8]) -> (&[u8], Option<&[u8]>)
 
 /// The number that a word spells: 1 to 20 digits of a value below 2^64.
 fn number(word: &[u8]) -> Option<u64>
-    ensures { result ≡ number word.now }
+    ensures { result ≡ number_of_word word.now }
 {
     if word.is_empty() || word.len() > MAX_DIGITS {
         return None;

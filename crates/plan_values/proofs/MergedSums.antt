@@ -153,8 +153,8 @@ module _ {S : Type 0} (whole_number : S → ℤ) (least greatest : ℤ) (zero : 
     of_leaf = λ steps. subst (λ o. SumsUp o (values_at h steps)) (sym (folded-values (Some zero) sums steps h [] [] carried refl)) (leaf_sums h (values_at h steps));
   }
 
-  value_told : (o : Option (Fold (TupleEntry S))) (us : List S) (e : TupleEntry S) → o ≡ Some (Value e) → SumsUp o us → whole_number e.summary ≡ amount us
-  value_told o us e is sums_up = subst (λ q. SumsUp q us) is sums_up
+  value_reported : (o : Option (Fold (TupleEntry S))) (us : List S) (e : TupleEntry S) → o ≡ Some (Value e) → SumsUp o us → whole_number e.summary ≡ amount us
+  value_reported o us e is sums_up = subst (λ q. SumsUp q us) is sums_up
 
   no_value : (o : Option (Fold (TupleEntry S))) (e : TupleEntry S) → o ≡ None → o ≡ Some (Value e) → ⊥
   no_value o e none some = cc
@@ -162,7 +162,7 @@ module _ {S : Type 0} (whole_number : S → ℤ) (least greatest : ℤ) (zero : 
   pub merged_sums : {Z : Type 0} (h : ℕ) (p : Plan S Z) (e : TupleEntry S) → only_unites p ≡ true → entry_at (fold_key tuple_key) (whole_in folds p) h ≡ Some (Value e) → whole_number e.summary ≡ total (map whole_number (added_values h p))
   merged_sums {Z} h p e unites found =
       (elim (is_carried h) as (λ b. is_carried h ≡ b → whole_number e.summary ≡ total (map whole_number (added_values h p))) [
-        | true ↦ λ carried. value_told _ (added_values h p) e found (merge_relation Z folds (tuple_folds_keep (Some zero) sums sums) h SumsUp (summing h carried) p unites)
+        | true ↦ λ carried. value_reported _ (added_values h p) e found (merge_relation Z folds (tuple_folds_keep (Some zero) sums sums) h SumsUp (summing h carried) p unites)
         | false ↦ λ uncarried. absurd (no_value _ e (merge_lacks folds (tuple_folds_keep (Some zero) sums sums) h p uncarried unites) found)
       ]) refl
 

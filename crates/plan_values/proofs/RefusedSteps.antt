@@ -40,30 +40,30 @@ module _ {X V : Type 0} (g : Family X V) (refuses : X → X → Bool) (h : ℕ) 
   abbrev own : Upsert X
   own = g.step_of h x
 
-  abbrev held : List (Fold X)
-  held = map Value v.entries
+  abbrev content : List (Fold X)
+  content = map Value v.entries
 
-  written : (w : X) (o : Option ErrorKind) → has_mark (with_entry (fold_key g.key) held (cond (is_some o) (Refused (g.key w)) (Value (own.writes w)))) ≡ is_some o
+  written : (w : X) (o : Option ErrorKind) → has_mark (with_entry (fold_key g.key) content (cond (is_some o) (Refused (g.key w)) (Value (own.writes w)))) ≡ is_some o
   written w None = ap has_mark (with_entry-map Value g.key (fold_key g.key) (λ y. refl) v.entries (own.writes w)) ∙ no_mark (with_entry g.key v.entries (own.writes w))
-  written w (Some kind) = mark_among (below (fold_key g.key) held (g.key w)) (above (fold_key g.key) held (g.key w)) (g.key w)
+  written w (Some kind) = mark_among (below (fold_key g.key) content (g.key w)) (above (fold_key g.key) content (g.key w)) (g.key w)
 
-  made : (m : Option X) (o : Option ErrorKind) → has_mark (option_map_or (λ y. with_entry (fold_key g.key) held y) (cond (is_some o) (Some (Refused h)) (option_map Value m)) held) ≡ is_some o
+  made : (m : Option X) (o : Option ErrorKind) → has_mark (option_map_or (λ y. with_entry (fold_key g.key) content y) (cond (is_some o) (Some (Refused h)) (option_map Value m)) content) ≡ is_some o
   made None None = no_mark v.entries
   made (Some y) None = ap has_mark (with_entry-map Value g.key (fold_key g.key) (λ z. refl) v.entries y) ∙ no_mark (with_entry g.key v.entries y)
-  made m (Some kind) = mark_among (below (fold_key g.key) held h) (above (fold_key g.key) held h) h
+  made m (Some kind) = mark_among (below (fold_key g.key) content h) (above (fold_key g.key) content h) h
 
   inserted : (o : Option X) → entry_at g.key v.entries h ≡ o →
-      has_mark (whole_upsert (fold_key g.key) h (folded g.key h own) held) ≡ has_mark (option_map_or (λ y. with_entry (fold_key g.key) held (fold_writes g.key own y)) (option_map Value o) (option_map_or (λ y. with_entry (fold_key g.key) held y) (fold_makes h own) held))
+      has_mark (whole_upsert (fold_key g.key) h (folded g.key h own) content) ≡ has_mark (option_map_or (λ y. with_entry (fold_key g.key) content (fold_writes g.key own y)) (option_map Value o) (option_map_or (λ y. with_entry (fold_key g.key) content y) (fold_makes h own) content))
   inserted o e =
-      ap (λ o. has_mark (option_map_or (λ y. with_entry (fold_key g.key) held (fold_writes g.key own y)) o (option_map_or (λ y. with_entry (fold_key g.key) held y) (fold_makes h own) held))) (entry_at-map Value g.key (fold_key g.key) (λ y. refl) v.entries h ∙ ap (λ o. option_map Value o) e)
+      ap (λ o. has_mark (option_map_or (λ y. with_entry (fold_key g.key) content (fold_writes g.key own y)) o (option_map_or (λ y. with_entry (fold_key g.key) content y) (fold_makes h own) content))) (entry_at-map Value g.key (fold_key g.key) (λ y. refl) v.entries h ∙ ap (λ o. option_map Value o) e)
 
   -- an addition is refused among folds without marks exactly if its insertion is
   pub addition_is_refused : step_refused (folds_of g refuses) (Add h x) (unmarked v) ≡ is_some (upsert_refusal g.key h own v)
   addition_is_refused =
-      (elim (is_screened h v.theta) as (λ b. is_screened h v.theta ≡ b → (not b && has_mark (whole_upsert (fold_key g.key) h (folded g.key h own) held)) ≡ is_some (upsert_refusal g.key h own v)) [
+      (elim (is_screened h v.theta) as (λ b. is_screened h v.theta ≡ b → (not b && has_mark (whole_upsert (fold_key g.key) h (folded g.key h own) content)) ≡ is_some (upsert_refusal g.key h own v)) [
         | true ↦ λ s. ap is_some (sym (screened_case g.key 0 h own v s).refusal_is)
         | false ↦ λ s.
-            (elim (entry_at g.key v.entries h) as (λ o. entry_at g.key v.entries h ≡ o → has_mark (whole_upsert (fold_key g.key) h (folded g.key h own) held) ≡ is_some (upsert_refusal g.key h own v)) [
+            (elim (entry_at g.key v.entries h) as (λ o. entry_at g.key v.entries h ≡ o → has_mark (whole_upsert (fold_key g.key) h (folded g.key h own) content) ≡ is_some (upsert_refusal g.key h own v)) [
               | Some w ↦ λ e. inserted (Some w) e ∙ written w (own.refuses_existing w) ∙ ap is_some (sym (existing_case g.key 0 h own v w s e).refusal_is)
               | None ↦ λ e. inserted None e ∙ made own.makes own.refuses_absent ∙ ap is_some (sym (absent_case g.key 0 h own v s e).refusal_is)
             ]) refl
@@ -84,11 +84,11 @@ not_right false b off = off
 
 module _ {T : Type 0} where
   turn-append : (test : List T → T → Bool) (xs : List T) (y : T) → of_turn test xs ≡ false → test xs y ≡ false → of_turn test (xs ++ y ∷ []) ≡ false
-  turn-append test [] y none here = neither _ _ here refl
-  turn-append test (x ∷ xs) y none here = neither _ _ (not_left _ _ none) (turn-append (λ ys. test (x ∷ ys)) xs y (not_right (test [] x) _ none) here)
+  turn-append test [] y none present = neither _ _ present refl
+  turn-append test (x ∷ xs) y none present = neither _ _ (not_left _ _ none) (turn-append (λ ys. test (x ∷ ys)) xs y (not_right (test [] x) _ none) present)
 
   pub turn_next : (test : List T → T → Bool) (xs : List T) (i : ℕ) (d : T) → i < length xs → of_turn test (take i xs) ≡ false → test (take i xs) (get_or xs i d) ≡ false → of_turn test (take (i + 1) xs) ≡ false
-  turn_next test xs i d lt none here = ap (of_turn test) (take_more xs i d lt) ∙ turn-append test (take i xs) (get_or xs i d) none here
+  turn_next test xs i d lt none present = ap (of_turn test) (take_more xs i d lt) ∙ turn-append test (take i xs) (get_or xs i d) none present
 
   -- a test of one in turn holds of some turn
   pub in_turn : (test : List T → T → Bool) (xs : List T) (i : ℕ) (d : T) → i < length xs → test (take i xs) (get_or xs i d) ≡ true → of_turn test xs ≡ true

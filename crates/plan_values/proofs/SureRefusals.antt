@@ -33,9 +33,9 @@ module _ {X V : Type 0} (Z : Type 0) (f : Family (Fold X) V) (seed : ℕ) where
   marked_of t u same may must = ap (λ (t : Traced X). t.marked) same ∙ may (sym (ap (λ (t : Traced X). t.refused) same) ∙ must)
 
   -- a part that is refused, or one behind it
-  one_may : (must may fit here later rest : Bool) → (must ≡ true → may ≡ true) → (rest ≡ true → later ≡ true) → (must || (fit && rest)) ≡ true → (may || (fit && (here || later))) ≡ true
-  one_may true may fit here later rest one more e = or_left _ _ (one refl)
-  one_may false may fit here later rest one more e = or_right may _ (both fit _ (and_left _ _ e) (or_right here _ (more (and_right fit _ e))))
+  one_may : (must may fit present later rest : Bool) → (must ≡ true → may ≡ true) → (rest ≡ true → later ≡ true) → (must || (fit && rest)) ≡ true → (may || (fit && (present || later))) ≡ true
+  one_may true may fit present later rest one more e = or_left _ _ (one refl)
+  one_may false may fit present later rest one more e = or_right may _ (both fit _ (and_left _ _ e) (or_right present _ (more (and_right fit _ e))))
 
   turns_may : (test : List (List (Fold X)) → Bool) (lg_k : ℕ) (parts : List (UnionPart (Plan V Z))) → AllByRecursion MayIfMust (plans_of parts) → turns_refused lg_k (map (part_map (traced f seed)) parts) ≡ true → turns_marked test lg_k (map (part_map (traced f seed)) parts) ≡ true
   turns_may test lg_k [] each must = absurd (cc)

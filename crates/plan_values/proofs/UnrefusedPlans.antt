@@ -27,8 +27,8 @@ use Rattle.plan_values.proofs.RefusedSteps.{neither, not_left, not_right}
 
 module _ {T : Type 0} where
   any-append : (test : T → Bool) (xs : List T) (y : T) → list_any test xs ≡ false → test y ≡ false → list_any test (xs ++ y ∷ []) ≡ false
-  any-append test [] y none here = neither _ _ here refl
-  any-append test (x ∷ xs) y none here = neither _ _ (not_left _ _ none) (any-append test xs y (not_right (test x) _ none) here)
+  any-append test [] y none present = neither _ _ present refl
+  any-append test (x ∷ xs) y none present = neither _ _ (not_left _ _ none) (any-append test xs y (not_right (test x) _ none) present)
 
 module _ {X V : Type 0} (Z : Type 0) (f : Family (Fold X) V) (seed : ℕ) where
   free : (t u : Traced X) → t ≡ u → u.refused ≡ false → t.refused ≡ false
@@ -36,10 +36,10 @@ module _ {X V : Type 0} (Z : Type 0) (f : Family (Fold X) V) (seed : ℕ) where
 
   -- one more plan that no policy must refuse
   pub more_unrefused : (ps : List (Plan V Z)) (p : Plan V Z) → list_any (must_refuse f seed) ps ≡ false → must_refuse f seed p ≡ false → list_any (must_refuse f seed) (ps ++ p ∷ []) ≡ false
-  more_unrefused ps p none here = any-append (must_refuse f seed) ps p none here
+  more_unrefused ps p none present = any-append (must_refuse f seed) ps p none present
 
   pub next_unrefused : (parts : List (Plan V Z)) (i : ℕ) (d : Plan V Z) → i < length parts → list_any (must_refuse f seed) (take i parts) ≡ false → must_refuse f seed (get_or parts i d) ≡ false → list_any (must_refuse f seed) (take (i + 1) parts) ≡ false
-  next_unrefused parts i d lt none here = ap (list_any (must_refuse f seed)) (take_more parts i d lt) ∙ more_unrefused (take i parts) (get_or parts i d) none here
+  next_unrefused parts i d lt none present = ap (list_any (must_refuse f seed)) (take_more parts i d lt) ∙ more_unrefused (take i parts) (get_or parts i d) none present
 
   -- ---- leaves
 
@@ -60,14 +60,14 @@ module _ {X V : Type 0} (Z : Type 0) (f : Family (Fold X) V) (seed : ℕ) where
   -- what is behind a part that is out of range isn't looked at
   turns_at : (lg_k : ℕ) (parts : List (UnionPart (Plan V Z))) (i : ℕ) (d : UnionPart (Plan V Z)) (p : Plan V Z) → i < length parts → get_or parts i d ≡ union_part.Of p → list_any (must_refuse f seed) (plans_of (take i parts)) ≡ false → must_refuse f seed p ≡ false → fits seed p ≡ false →
       turns_refused lg_k (map (part_map (traced f seed)) parts) ≡ false
-  turns_at lg_k [] i d p lt is none here bad = absurd (omega arith)
-  turns_at lg_k (union_part.Of q ∷ parts) zero d p lt is none here bad =
+  turns_at lg_k [] i d p lt is none present bad = absurd (omega arith)
+  turns_at lg_k (union_part.Of q ∷ parts) zero d p lt is none present bad =
       let same : q ≡ p = cc in
-      neither (must_refuse f seed q) _ (ap (must_refuse f seed) same ∙ here) (left_bad (traced f seed q).fits _ (traced_fits Z f seed q ∙ ap (fits seed) same ∙ bad))
-  turns_at lg_k (union_part.Lower l ∷ parts) zero d p lt is none here bad = absurd cc
-  turns_at lg_k (union_part.Of q ∷ parts) (suc i) d p lt is none here bad =
-      neither (must_refuse f seed q) _ (not_left _ _ none) (right_bad (traced f seed q).fits _ (turns_at lg_k parts i d p (omega arith) is (not_right (must_refuse f seed q) _ none) here bad))
-  turns_at lg_k (union_part.Lower l ∷ parts) (suc i) d p lt is none here bad = right_bad (nat_le MIN_LG_K l && nat_le l lg_k) _ (turns_at l parts i d p (omega arith) is none here bad)
+      neither (must_refuse f seed q) _ (ap (must_refuse f seed) same ∙ present) (left_bad (traced f seed q).fits _ (traced_fits Z f seed q ∙ ap (fits seed) same ∙ bad))
+  turns_at lg_k (union_part.Lower l ∷ parts) zero d p lt is none present bad = absurd cc
+  turns_at lg_k (union_part.Of q ∷ parts) (suc i) d p lt is none present bad =
+      neither (must_refuse f seed q) _ (not_left _ _ none) (right_bad (traced f seed q).fits _ (turns_at lg_k parts i d p (omega arith) is (not_right (must_refuse f seed q) _ none) present bad))
+  turns_at lg_k (union_part.Lower l ∷ parts) (suc i) d p lt is none present bad = right_bad (nat_le MIN_LG_K l && nat_le l lg_k) _ (turns_at l parts i d p (omega arith) is none present bad)
 
   turns_lowered : (lg_k : ℕ) (parts : List (UnionPart (Plan V Z))) (i : ℕ) (d : UnionPart (Plan V Z)) (l : ℕ) → i < length parts → get_or parts i d ≡ union_part.Lower l → list_any (must_refuse f seed) (plans_of (take i parts)) ≡ false → may_lower lg_k (lowers_of (take i parts)) l ≡ false →
       turns_refused lg_k (map (part_map (traced f seed)) parts) ≡ false
@@ -90,7 +90,7 @@ module _ {X V : Type 0} (Z : Type 0) (f : Family (Fold X) V) (seed : ℕ) where
     union_unbuilt e refused = free _ _ (traced_union Z f seed lg_k start parts) (left_bad (may_be_built lg_k start seed) _ (ap is_none refused))
 
     pub union_part_unrefused : (i : ℕ) (d : UnionPart (Plan V Z)) (p : Plan V Z) → i < length parts → get_or parts i d ≡ union_part.Of p → list_any (must_refuse f seed) (plans_of (take i parts)) ≡ false → must_refuse f seed p ≡ false → fits seed p ≡ false → must_refuse f seed (plan.Union lg_k start parts) ≡ false
-    union_part_unrefused i d p lt is none here bad = free _ _ (traced_union Z f seed lg_k start parts) (right_bad (may_be_built lg_k start seed) _ (turns_at lg_k parts i d p lt is none here bad))
+    union_part_unrefused i d p lt is none present bad = free _ _ (traced_union Z f seed lg_k start parts) (right_bad (may_be_built lg_k start seed) _ (turns_at lg_k parts i d p lt is none present bad))
 
     pub union_lower_unrefused : (i : ℕ) (d : UnionPart (Plan V Z)) (l : ℕ) → i < length parts → get_or parts i d ≡ union_part.Lower l → list_any (must_refuse f seed) (plans_of (take i parts)) ≡ false → may_lower lg_k (lowers_of (take i parts)) l ≡ false → must_refuse f seed (plan.Union lg_k start parts) ≡ false
     union_lower_unrefused i d l lt is none bad = free _ _ (traced_union Z f seed lg_k start parts) (right_bad (may_be_built lg_k start seed) _ (turns_lowered lg_k parts i d l lt is none bad))
@@ -102,9 +102,9 @@ module _ {X V : Type 0} (Z : Type 0) (f : Family (Fold X) V) (seed : ℕ) where
   parts_free (q ∷ parts) none = neither (must_refuse f seed q) _ (not_left _ _ none) (right_bad (traced f seed q).fits _ (parts_free parts (not_right (must_refuse f seed q) _ none)))
 
   parts_at : (parts : List (Plan V Z)) (i : ℕ) (d : Plan V Z) → i < length parts → list_any (must_refuse f seed) (take i parts) ≡ false → must_refuse f seed (get_or parts i d) ≡ false → fits seed (get_or parts i d) ≡ false → parts_refused (map (traced f seed) parts) ≡ false
-  parts_at [] i d lt none here bad = absurd (omega arith)
-  parts_at (q ∷ parts) zero d lt none here bad = neither (must_refuse f seed q) _ here (left_bad (traced f seed q).fits _ (traced_fits Z f seed q ∙ bad))
-  parts_at (q ∷ parts) (suc i) d lt none here bad = neither (must_refuse f seed q) _ (not_left _ _ none) (right_bad (traced f seed q).fits _ (parts_at parts i d (omega arith) (not_right (must_refuse f seed q) _ none) here bad))
+  parts_at [] i d lt none present bad = absurd (omega arith)
+  parts_at (q ∷ parts) zero d lt none present bad = neither (must_refuse f seed q) _ present (left_bad (traced f seed q).fits _ (traced_fits Z f seed q ∙ bad))
+  parts_at (q ∷ parts) (suc i) d lt none present bad = neither (must_refuse f seed q) _ (not_left _ _ none) (right_bad (traced f seed q).fits _ (parts_at parts i d (omega arith) (not_right (must_refuse f seed q) _ none) present bad))
 
   module _ (parts : List (Plan V Z)) where
     pub meet_unrefused : list_any (must_refuse f seed) parts ≡ false → must_refuse f seed (plan.Meet parts) ≡ false
@@ -114,7 +114,7 @@ module _ {X V : Type 0} (Z : Type 0) (f : Family (Fold X) V) (seed : ℕ) where
     meet_unseeded e refused = free _ _ (traced_meet Z f seed parts) (left_bad (may_have_seed seed) _ (ap is_none refused))
 
     pub meet_part_unrefused : (i : ℕ) (d : Plan V Z) → i < length parts → list_any (must_refuse f seed) (take i parts) ≡ false → must_refuse f seed (get_or parts i d) ≡ false → fits seed (get_or parts i d) ≡ false → must_refuse f seed (plan.Meet parts) ≡ false
-    meet_part_unrefused i d lt none here bad = free _ _ (traced_meet Z f seed parts) (right_bad (may_have_seed seed) _ (parts_at parts i d lt none here bad))
+    meet_part_unrefused i d lt none present bad = free _ _ (traced_meet Z f seed parts) (right_bad (may_have_seed seed) _ (parts_at parts i d lt none present bad))
 
   -- ---- differences, and what is written and read
 
@@ -123,8 +123,8 @@ module _ {X V : Type 0} (Z : Type 0) (f : Family (Fold X) V) (seed : ℕ) where
     minus_unseeded e refused = free _ _ (traced_minus Z f seed first second) (left_bad (may_have_seed seed) _ (ap is_none refused))
 
     pub minus_first_unrefused : must_refuse f seed first ≡ false → fits seed first ≡ false → must_refuse f seed (plan.Minus first second) ≡ false
-    minus_first_unrefused here bad =
-        free _ _ (traced_minus Z f seed first second) (right_bad (may_have_seed seed) _ (neither (must_refuse f seed first) _ here (left_bad (traced f seed first).fits _ (traced_fits Z f seed first ∙ bad))))
+    minus_first_unrefused present bad =
+        free _ _ (traced_minus Z f seed first second) (right_bad (may_have_seed seed) _ (neither (must_refuse f seed first) _ present (left_bad (traced f seed first).fits _ (traced_fits Z f seed first ∙ bad))))
 
     pub minus_unrefused : must_refuse f seed first ≡ false → must_refuse f seed second ≡ false → must_refuse f seed (plan.Minus first second) ≡ false
     minus_unrefused one two = free _ _ (traced_minus Z f seed first second) (right_bad (may_have_seed seed) _ (neither (must_refuse f seed first) _ one (right_bad (traced f seed first).fits _ two)))

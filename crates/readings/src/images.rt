@@ -13,8 +13,8 @@ fn put_head(
     ordered: bool,
 ) -> Result<(), AllocError> {
     let order = if ordered { "ordered" } else { "unordered" };
-    let held = if empty { "empty" } else { "filled" };
-    write!(text, "{held} {theta} {seed_hash} {order}")
+    let content = if empty { "empty" } else { "filled" };
+    write!(text, "{content} {theta} {seed_hash} {order}")
 }
 
 /// Appends a theta sketch: its head and its hashes in its order.

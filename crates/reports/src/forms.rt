@@ -129,7 +129,10 @@ fn object_head<A: Allocator>(alloc: A, name: Option<&str>) -> Result<String<A>, 
 }
 
 /// Appends the fields of a report in a JSON object.
-fn put_fields<A: Allocator>(line: &mut String<A>, report: Report) -> Result<(), AllocError>
+pub(crate) fn put_fields<A: Allocator>(
+    line: &mut String<A>,
+    report: Report,
+) -> Result<(), AllocError>
     ensures { OnOk result (string_bytes line.new ≡ string_bytes line.old ++ json_fields report) }
 {
     let estimate = report.estimate;

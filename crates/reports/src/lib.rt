@@ -7,10 +7,14 @@
 mod forms;
 pub mod laws;
 mod names;
+mod part;
+mod ranges;
 mod report;
 #[cfg(test)]
 mod tests;
 
 pub use forms::{count_line, json_line, shown_line, tsv_head, tsv_row};
 pub use names::escaped_name;
+pub use part::report_of_part;
+pub use ranges::{range_json_line, range_line, range_tsv_head, range_tsv_row};
 pub use report::{Report, estimate_so_far, report_of};

@@ -27,7 +27,7 @@ pub struct Report {
 }
 
 /// The nearest whole number to a fraction; a half is rounded up.
-fn rounded(over: u128, under: u128) -> u128
+pub(crate) fn rounded(over: u128, under: u128) -> u128
     requires not_zero { 0 < under }
     requires small { over < 2 ^ 96 }
     requires low { under < 2 ^ 64 }

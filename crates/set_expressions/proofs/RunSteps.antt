@@ -9,7 +9,7 @@ use Rattle.sketch_base.specs.Seed.{seed_hash}
 use Rattle.core_laws.specs.Settings.{settings_refusal}
 use Rattle.core_laws.specs.declared.TheConstants.{MAX_THETA}
 use Rattle.std.proofs.lemmas.Bool.Decides.{nat_tests}
-use Rattle.core_compact.specs.CompactState.{Compact, compact_value, IsAnswer}
+use Rattle.core_compact.specs.CompactState.{Compact, compact_value, IsAnswer, ordered_sketch}
 use Rattle.core_laws.specs.Entries.{hash_key}
 use Rattle.core_laws.specs.Values.{Sketch, Empty, NonEmpty}
 use Rattle.expression_text.specs.declared.operator.Operator.{Operator}
@@ -17,7 +17,7 @@ use Rattle.expression_text.specs.declared.operator.Step.{Step}
 use Rattle.expression_text.specs.declared.operator.Step.TheVariants.{Operand, Combine}
 use Rattle.expression_text.specs.Expressions.{Expression, Named, Grouped, Combined, postfix, IsWithin}
 use Rattle.set_expressions.specs.Values.{combined, value_of}
-use Rattle.set_expressions.specs.Running.{values_of, sketch_of_value, after_step, after_steps, only_value, result_of, values_onto, AreOrdered, is_accepted, are_accepted, evaluation_refusal}
+use Rattle.set_expressions.specs.Running.{values_of, after_step, after_steps, only_value, result_of, values_onto, AreOrdered, is_accepted, are_accepted, evaluation_refusal}
 
 -- the steps of an expression push its value
 steps_run : (lg_k : ℕ) (values : List (Sketch ℕ)) (e : Expression) (rest : List Step) (stack : List (Sketch ℕ)) → IsWithin (length values) e →
@@ -59,7 +59,7 @@ answer_value Empty h requested s answer = ap (compact_value hash_key) answer
 answer_value (NonEmpty v) h requested s answer = rw answer.nonempty (λ i. NonEmpty (record { entries = answer.lists_all.same_map i; theta = answer.same_theta i }))
 
 -- an ordered answer is the ordered sketch of its value
-pub answer_sketch : (v : Sketch ℕ) (h : ℕ) (s : Compact ℕ) → IsAnswer hash_key v h true s → s ≡ sketch_of_value h v
+pub answer_sketch : (v : Sketch ℕ) (h : ℕ) (s : Compact ℕ) → IsAnswer hash_key v h true s → s ≡ ordered_sketch v h
 answer_sketch Empty h s answer = answer
 answer_sketch (NonEmpty v) h s answer = λ i. record { empty = answer.nonempty i; entries = answer.in_order answer.ordered_if i; theta = answer.same_theta i; seed_hash = answer.same_seed i; ordered = answer.ordered_if i }
 

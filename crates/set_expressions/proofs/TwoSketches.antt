@@ -74,8 +74,8 @@ memory_of_union A B C None e none refused = refused.1
 memory_of_union A B C (Some kind) e none refused = absurd (cc)
 
 pub union_memory : {P : Type 0} (old new : Union ℕ P) (shows : Shown) (e : ErrorKind) → update_refusal old shows ≡ None →
-    MatchOption (update_refusal old shows) ((shows.empty ≡ false) × (e ≡ OutOfMemory) × (new ≡ record old { failed = true; held = new.held })) (λ kind. (e ≡ kind) × (new ≡ old)) → e ≡ OutOfMemory
-union_memory old new shows e none refused = memory_of_union (shows.empty ≡ false) (new ≡ record old { failed = true; held = new.held }) (new ≡ old) (update_refusal old shows) e none refused
+    MatchOption (update_refusal old shows) ((shows.empty ≡ false) × (e ≡ OutOfMemory) × (new ≡ record old { failed = true; content = new.content })) (λ kind. (e ≡ kind) × (new ≡ old)) → e ≡ OutOfMemory
+union_memory old new shows e none refused = memory_of_union (shows.empty ≡ false) (new ≡ record old { failed = true; content = new.content }) (new ≡ old) (update_refusal old shows) e none refused
 
 difference_one : (h x y : ℕ) (first second : Bool) → x ≡ h → y ≡ h → cond first None (cond (not (h == x)) (Some InvalidArgument) (cond second None (cond (not (h == y)) (Some InvalidArgument) None))) ≡ None
 difference_one h x y true second one two = refl
@@ -145,7 +145,7 @@ pub nothing_united : {P : Type 0} (lg_k h : ℕ) (u : Union ℕ P) → u ≡ emp
 nothing_united lg_k h u made = ap (union_value hash_key) made
 
 -- the value of a new union after two sketches, and its seed
-module _ {P : Type 0} (lg_k h : ℕ) (empty one : Union ℕ P) (made : empty ≡ empty_union lg_k MAX_THETA h empty.policy) (made_one : one ≡ record empty { empty = one.empty; held = one.held }) where
+module _ {P : Type 0} (lg_k h : ℕ) (empty one : Union ℕ P) (made : empty ≡ empty_union lg_k MAX_THETA h empty.policy) (made_one : one ≡ record empty { empty = one.empty; content = one.content }) where
   pub one_sound : one.failed ≡ false
   one_sound = ap (λ u. u.failed) made_one ∙ ap (λ u. u.failed) made
 

@@ -17,11 +17,6 @@ use Rattle.set_expressions.specs.Values.{combined}
 abbrev pub values_of : List (Compact ℕ) → List (Sketch ℕ)
 values_of sketches = map (λ s. compact_value hash_key s) sketches
 
--- the ordered sketch of a value
-abbrev pub sketch_of_value : (seed_hash : ℕ) → Sketch ℕ → Compact ℕ
-sketch_of_value h Empty = empty_compact h
-sketch_of_value h (NonEmpty v) = record { empty = false; entries = v.entries; theta = v.theta; seed_hash = h; ordered = true }
-
 -- the stack after one step, the last result first; None if a value is missing
 abbrev pub after_step : (lg_k : ℕ) → List (Sketch ℕ) → Step → List (Sketch ℕ) → Option (List (Sketch ℕ))
 after_step lg_k values (Operand i) stack = option_map (λ v. v ∷ stack) (slice_get values i)

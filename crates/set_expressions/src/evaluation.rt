@@ -3,7 +3,7 @@ ghost use Rattle.std.specs.Prelude.{◌≡◌, ◌^◌, ◌++◌, ℕ, List, [],
 ghost use Rattle.sketch_base.specs.Seed.{seed_hash};
 ghost use Rattle.sketch_base.specs.declared.error.ErrorKind.TheVariants.{OutOfMemory, InvalidArgument};
 ghost use Rattle.expression_text.specs.declared.operator.Step.TheVariants.{Combine};
-ghost use Rattle.core_compact.specs.CompactState.{IsAnswer, compact_value};
+ghost use Rattle.core_compact.specs.CompactState.{IsAnswer, compact_value, ordered_sketch};
 ghost use Rattle.core_laws.specs.Entries.{hash_key, first_hash};
 ghost use Rattle.core_laws.specs.Operators.{meet_next, unite};
 ghost use Rattle.core_laws.specs.Values.{Sketch};
@@ -16,7 +16,7 @@ ghost use Rattle.core_laws.specs.declared.TheConstants.{MAX_THETA};
 ghost use Rattle.expression_text.specs.declared.operator.Operator.TheVariants.{Union, Intersection, Difference};
 ghost use Rattle.expression_text.specs.Expressions.{Expression, postfix, IsWithin};
 ghost use Rattle.set_expressions.specs.Values.{combined, value_of, set_of};
-ghost use Rattle.set_expressions.specs.Running.{values_of, sketch_of_value, after_step, after_steps, values_onto, AreOrdered, is_accepted, are_accepted, evaluation_refusal, IsStepRefused};
+ghost use Rattle.set_expressions.specs.Running.{values_of, after_step, after_steps, values_onto, AreOrdered, is_accepted, are_accepted, evaluation_refusal, IsStepRefused};
 
 use core_laws::{MAX_LG_K, MIN_LG_K};
 use expression_text::{Operator, Step};
@@ -127,7 +127,7 @@ fn unite_sketch<A: Allocator + Clone, B: Allocator>(
         → OnOk result (
         union_value hash_key union.new
         ≡ unite hash_key first_hash (2 ^ union.old.lg_k) union.old.start (values ++ compact_value hash_key sketch.now ∷ [])) }
-    ensures made { OnOk result (union.new ≡ record union.old { empty = union.new.empty; held = union.new.held }) }
+    ensures made { OnOk result (union.new ≡ record union.old { empty = union.new.empty; content = union.new.content }) }
     ensures refused { Refuses result None true }
 {
     union.update(sketch.as_view())?;
@@ -289,7 +289,7 @@ pub fn evaluate<A: Allocator + Clone + Drop, B: Allocator>(
     ensures value { (e : Expression)
         → steps.now ≡ postfix e
         → IsWithin (length sketches.now) e
-        → IfOk result (λ s. s ≡ sketch_of_value (seed_hash seed) (value_of lg_k (values_of sketches.now) e)) }
+        → IfOk result (λ s. s ≡ ordered_sketch (value_of lg_k (values_of sketches.now) e) (seed_hash seed)) }
     ensures whole { (e : Expression) (sets : List (List ℕ))
         → steps.now ≡ postfix e
         → AreSamples hash_key (values_of sketches.now) sets

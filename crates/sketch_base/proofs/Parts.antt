@@ -15,21 +15,21 @@ overlapped k j r m t low high hr hm is_low is_high =
     ∙ or_block k m (t * 2 ^ j + m) r 0 hr (pow_pos k)
     ∙ (λ i. above i * 2 ^ k + or_zero_r r i)
 
-pub few : (bs : List ℕ) → 0 < length bs → length bs < 4 → ((i : ℕ) → get_or bs i 0 < 2 ^ 8) → bit_or (bit_or (get_or bs 0 0) ((get_or bs (length bs / 2) 0 * 2 ^ (8 * (length bs / 2))) % 2 ^ 64)) ((get_or bs (length bs - 1) 0 * 2 ^ (8 * (length bs - 1))) % 2 ^ 64) ≡ number bs % 2 ^ 64
-few [] some short small = absurd (omega arith)
-few (a ∷ []) some short small =
+pub limited : (bs : List ℕ) → 0 < length bs → length bs < 4 → ((i : ℕ) → get_or bs i 0 < 2 ^ 8) → bit_or (bit_or (get_or bs 0 0) ((get_or bs (length bs / 2) 0 * 2 ^ (8 * (length bs / 2))) % 2 ^ 64)) ((get_or bs (length bs - 1) 0 * 2 ^ (8 * (length bs - 1))) % 2 ^ 64) ≡ number bs % 2 ^ 64
+limited [] some short small = absurd (omega arith)
+limited (a ∷ []) some short small =
     let ha : a < 2 ^ 8 = small 0 in
     let once : (a * 2 ^ 0) % 2 ^ 64 ≡ a = omega arith in
     let sum : a ≡ (a + 256 * 0) % 2 ^ 64 = omega arith in
     (λ i. bit_or (bit_or a (once i)) (once i)) ∙ ap (λ x. bit_or x a) (or_self a) ∙ or_self a ∙ sum
-few (a ∷ b ∷ []) some short small =
+limited (a ∷ b ∷ []) some short small =
     let ha : a < 2 ^ 8 = small 0 in
     let hb : b < 2 ^ 8 = small 1 in
     let one = overlapped 8 0 a 0 b a ((b * 2 ^ 8) % 2 ^ 64) ha (omega arith) (omega arith) (omega arith) in
     let two = overlapped 8 8 a b 0 ((b * 2 ^ 0 + 0) * 2 ^ 8 + a) ((b * 2 ^ 8) % 2 ^ 64) ha hb (omega arith) (omega arith) in
     let sum : (0 * 2 ^ 8 + b) * 2 ^ 8 + a ≡ (a + 256 * (b + 256 * 0)) % 2 ^ 64 = omega arith in
     ap (λ x. bit_or x ((b * 2 ^ 8) % 2 ^ 64)) one ∙ two ∙ sum
-few (a ∷ b ∷ c ∷ []) some short small =
+limited (a ∷ b ∷ c ∷ []) some short small =
     let ha : a < 2 ^ 8 = small 0 in
     let hb : b < 2 ^ 8 = small 1 in
     let hc : c < 2 ^ 8 = small 2 in
@@ -37,7 +37,7 @@ few (a ∷ b ∷ c ∷ []) some short small =
     let two = overlapped 16 0 (b * 2 ^ 8 + a) 0 c ((b * 2 ^ 0 + 0) * 2 ^ 8 + a) ((c * 2 ^ 16) % 2 ^ 64) (omega arith) (omega arith) (omega arith) (omega arith) in
     let sum : (c * 2 ^ 0 + 0) * 2 ^ 16 + (b * 2 ^ 8 + a) ≡ (a + 256 * (b + 256 * (c + 256 * 0))) % 2 ^ 64 = omega arith in
     ap (λ x. bit_or x ((c * 2 ^ 16) % 2 ^ 64)) one ∙ two ∙ sum
-few (a ∷ b ∷ c ∷ d ∷ bs) some short small = absurd (omega arith)
+limited (a ∷ b ∷ c ∷ d ∷ bs) some short small = absurd (omega arith)
 
 -- four and more bytes from their first four and their last four
 pub halves : (bs : List ℕ) → 4 ≤ length bs → length bs < 8 → ((i : ℕ) → get_or bs i 0 < 2 ^ 8) → bit_or (number (take 4 bs)) ((number (drop (length bs - 4) bs) * 2 ^ (8 * (length bs - 4))) % 2 ^ 64) ≡ number bs % 2 ^ 64

@@ -1,6 +1,7 @@
 -- Estimates from the numbers of a state, as C reads them.
 use Rattle.std.specs.Prelude.{◌≡◌, ◌*◌, ◌/◌, ◌%◌, ◌^◌, ◌&&◌, ℕ, Bool, true, false, is_some, nat_lt, nat_le, if◌then◌else◌, Option, Some, None}
 use Rattle.core_laws.specs.declared.TheConstants.{MAX_THETA}
+use Rattle.core_state.specs.Fraction.{decimal_of}
 use Rattle.core_state.specs.declared.fraction.TheConstants.{MAX_PLACES}
 use Rattle.estimates.specs.Bounds.{count_bounds}
 use Rattle.sketch_c.specs.declared.bounds.Wide.{Wide}
@@ -17,20 +18,19 @@ is_state retained theta = nat_lt retained (2 ^ 32) && nat_lt 0 theta && nat_le t
 abbrev pub numerator : (retained : ℕ) → ℕ
 numerator retained = retained * MAX_THETA
 
--- the estimate rounded down to a number of decimals: its whole part, and its decimals as one number
-abbrev pub whole_part : (retained theta : ℕ) → ℕ
-whole_part retained theta = numerator retained / theta
+-- a fraction was written as a decimal number, rounded down, with status 0; or a number is out of range, with 1, and nothing
+-- is written
+abbrev pub WritesQuotient : (is_valid : Bool) → ℕ × ℕ → (places : ℕ) → (whole_before : Wide) → (decimals_before status : ℕ) → (whole : Wide) → (decimals : ℕ) → Type 0
+WritesQuotient is_valid fraction places whole_before decimals_before status whole decimals =
+    ((is_valid && nat_le places MAX_PLACES) ≡ true
+    → (status ≡ 0) × (whole ≡ wide (decimal_of fraction places).whole) × (decimals ≡ (decimal_of fraction places).decimals))
+    × ((is_valid && nat_le places MAX_PLACES) ≡ false
+    → (status ≡ 1) × (whole ≡ whole_before) × (decimals ≡ decimals_before))
 
-abbrev pub decimals_of : (retained theta places : ℕ) → ℕ
-decimals_of retained theta places = numerator retained % theta * 10 ^ places / theta
-
--- the whole part and the decimals of the estimate were written, with status 0; or a number is out of range, with 1, and
--- nothing is written
+-- the estimate of a state was written as a decimal number; or a number is out of range
 abbrev pub WritesDecimal : (retained theta places : ℕ) → (whole_before : Wide) → (decimals_before status : ℕ) → (whole : Wide) → (decimals : ℕ) → Type 0
 WritesDecimal retained theta places whole_before decimals_before status whole decimals =
-    ((is_state retained theta && nat_le places MAX_PLACES) ≡ true
-    → (status ≡ 0) × (whole ≡ wide (whole_part retained theta)) × (decimals ≡ decimals_of retained theta places))
-    × ((is_state retained theta && nat_le places MAX_PLACES) ≡ false → (status ≡ 1) × (whole ≡ whole_before) × (decimals ≡ decimals_before))
+    WritesQuotient (is_state retained theta) (numerator retained, theta) places whole_before decimals_before status whole decimals
 
 -- a number of standard deviations that has bounds
 abbrev pub valid_deviations : ℕ → Option ℕ
@@ -40,5 +40,8 @@ valid_deviations n = if nat_le 1 n && nat_le n 3 then Some n else None
 abbrev pub WritesBounds : (retained theta deviations : ℕ) → (lower_before upper_before : Wide) → (status : ℕ) → (lower upper : Wide) → Type 0
 WritesBounds retained theta deviations lower_before upper_before status lower upper =
     ((is_state retained theta && is_some (valid_deviations deviations)) ≡ true
-    → (status ≡ 0) × (lower ≡ wide (count_bounds deviations retained theta).lower) × (upper ≡ wide (count_bounds deviations retained theta).upper))
-    × ((is_state retained theta && is_some (valid_deviations deviations)) ≡ false → (status ≡ 1) × (lower ≡ lower_before) × (upper ≡ upper_before))
+    → (status ≡ 0)
+    × (lower ≡ wide (count_bounds deviations retained theta).lower)
+    × (upper ≡ wide (count_bounds deviations retained theta).upper))
+    × ((is_state retained theta && is_some (valid_deviations deviations)) ≡ false
+    → (status ≡ 1) × (lower ≡ lower_before) × (upper ≡ upper_before))

@@ -22,3 +22,8 @@ FillsFrom IsMade IsRefused (Some source) old status new = Fills (IsMade source) 
 abbrev pub OnObjectWith : {S T : Type 0} → (Does : S → T → ℕ → T → Type 0) → Option S → Option T → (status : ℕ) → Option T → Type 0
 OnObjectWith Does None old status new = (status ≡ 1) × (new ≡ old)
 OnObjectWith Does (Some source) old status new = OnObject (Does source) old status new
+
+-- a value of an object was written, with status 0; without an object the status is 1 and the caller's variable is as before
+abbrev pub WritesValue : {V : Type 0} → Option V → (before : V) → (status : ℕ) → (after : V) → Type 0
+WritesValue None before status after = (status ≡ 1) × (after ≡ before)
+WritesValue (Some value) before status after = (status ≡ 0) × (after ≡ value)

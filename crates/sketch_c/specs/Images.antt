@@ -6,6 +6,8 @@ use Rattle.core_laws.specs.Entries.{hash_key, first_hash}
 use Rattle.core_laws.specs.Operators.{meet_next}
 use Rattle.core_laws.specs.Values.{Sketch}
 use Rattle.theta_sketches.specs.Image.{Reads, written}
+use Rattle.sketch_c.specs.Buffer.{Writes}
+use Rattle.sketch_c.specs.Intersections.{IsDifferenceOf}
 use Rattle.sketch_c.specs.Thetas.{IsReadRefusal}
 use Rattle.sketch_c.specs.declared.compact.CompactSketch.{CompactSketch}
 
@@ -25,3 +27,13 @@ IsImageOfBoth IsResult seed first second image =
 -- the refusal of an operation on two images: one of them is read as no sketch of this seed, with 2, or memory, with 3
 abbrev pub IsRefusalOfEither : (seed : ℕ) → (first second : List ℕ) → (status : ℕ) → Type 0
 IsRefusalOfEither seed first second status = IsReadRefusal first seed status ⊎ IsReadRefusal second seed status
+
+-- the image of the intersection of the sketches that two images begin with was put into a buffer; or the call was refused
+abbrev pub WritesIntersection : (seed : ℕ) → (first second before : List ℕ) → (count_before status : ℕ) → (after : List ℕ) → (count : ℕ) → Type 0
+WritesIntersection seed first second before count_before status after count =
+    Writes (IsImageOfBoth (IsIntersectionOf seed) seed first second) (IsRefusalOfEither seed first second) before count_before status after count
+
+-- the image of their difference was put into a buffer; or the call was refused
+abbrev pub WritesDifference : (seed : ℕ) → (first second before : List ℕ) → (count_before status : ℕ) → (after : List ℕ) → (count : ℕ) → Type 0
+WritesDifference seed first second before count_before status after count =
+    Writes (IsImageOfBoth IsDifferenceOf seed first second) (IsRefusalOfEither seed first second) before count_before status after count

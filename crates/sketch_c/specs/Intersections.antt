@@ -40,7 +40,7 @@ MeetsShown shown listing old status new =
 
 -- a sketch that takes updates was intersected
 abbrev pub MeetsSketch : SeededSketch → (old : SeededIntersection) → (status : ℕ) → (new : SeededIntersection) → Type 0
-MeetsSketch t old status new = MeetsShown (sketch_shows hash_key t.sketch) t.sketch.lends old status new
+MeetsSketch t old status new = MeetsShown (sketch_shows hash_key t.sketch) t.sketch.sequence old status new
 
 -- a compact sketch was intersected
 abbrev pub MeetsCompact : CompactSketch → (old : SeededIntersection) → (status : ℕ) → (new : SeededIntersection) → Type 0

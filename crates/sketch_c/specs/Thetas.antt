@@ -1,27 +1,25 @@
 -- Calls on theta sketches: by the sketch before, the arguments, the status and the sketch after.
-use Rattle.std.specs.Prelude.{◌≡◌, ◌≢◌, ◌⊎◌, ◌^◌, ◌==◌, ◌&&◌, ℕ, Bool, List, length, true, false, nat_lt, if◌then◌else◌, Option, Some, None, IsTrue}
+use Rattle.std.specs.Prelude.{◌≡◌, ◌≢◌, ◌⊎◌, ◌^◌, ◌==◌, ◌&&◌, ℕ, Bool, List, length, true, false, nat_lt, if◌then◌else◌, IsTrue}
 use Rattle.std.specs.Int.{w64, to_le_bytes}
 use Rattle.sketch_base.specs.Seed.{hash_of, seed_hash}
 use Rattle.core_compact.specs.CompactState.{Compact, IsAnswer}
 use Rattle.core_laws.specs.Entries.{hash_key}
-use Rattle.core_laws.specs.Settings.{settings_refusal}
 use Rattle.core_laws.specs.Values.{Sketch, theta_of, count_of}
-use Rattle.core_laws.specs.declared.TheConstants.{MAX_THETA}
 use Rattle.core_state.specs.Updatable.{sketch_value, StopsUpdates}
 use Rattle.core_table.specs.HashTable.{empty_table, after_hash, after_hashes, after_reset, hash_allocates, trimmed_table}
 use Rattle.theta_sketches.specs.Image.{Reads, IsReadable, written}
-use Rattle.sketch_c.specs.Status.{IsRefusal}
+use Rattle.sketch_c.specs.Status.{IsUnread}
 use Rattle.sketch_c.specs.declared.compact.CompactSketch.{CompactSketch}
 use Rattle.sketch_c.specs.declared.state.State.{State}
 use Rattle.sketch_c.specs.declared.theta.SeededSketch.{SeededSketch}
 
--- a new sketch: empty, with these settings, at the greatest theta
-abbrev pub IsNewSketch : (lg_k seed : ℕ) → SeededSketch → Type 0
-IsNewSketch lg_k seed t = (t.seed ≡ seed) × (t.sketch.empty ≡ true) × (t.sketch.map ≡ empty_table lg_k MAX_THETA seed)
+-- a new sketch: empty, with these settings
+abbrev pub IsNewSketch : (lg_k start seed : ℕ) → SeededSketch → Type 0
+IsNewSketch lg_k start seed t = (t.seed ≡ seed) × (t.sketch.empty ≡ true) × (t.sketch.map ≡ empty_table lg_k start seed)
 
--- the refusal of a new sketch: settings that no sketch may have, or memory
-abbrev pub IsSettingsRefusal : (lg_k seed status : ℕ) → Type 0
-IsSettingsRefusal lg_k seed status = IsRefusal (settings_refusal lg_k MAX_THETA seed) true status
+-- a copy of a sketch: the same entries, theta and settings
+abbrev pub IsSameSketch : (old new : SeededSketch) → Type 0
+IsSameSketch old new = (new.seed ≡ old.seed) × (new.sketch.empty ≡ old.sketch.empty) × (new.sketch.map ≡ old.sketch.map)
 
 -- a hash was inserted, with status 0; or memory was refused, which an insertion requests only for a new hash below theta,
 -- with status 3, and nothing has changed
@@ -59,11 +57,6 @@ Trims old status new =
 abbrev pub Resets : (old : SeededSketch) → (status : ℕ) → (new : SeededSketch) → Type 0
 Resets old status new = (status ≡ 0) × (new.seed ≡ old.seed) × (new.sketch.empty ≡ true) × (new.sketch.map ≡ after_reset old.sketch.map)
 
--- a state was written, with status 0; without an object the status is 1 and the caller's state is as before
-abbrev pub ReadsState : Option State → (before : State) → (status : ℕ) → (after : State) → Type 0
-ReadsState None before status after = (status ≡ 1) × (after ≡ before)
-ReadsState (Some state) before status after = (status ≡ 0) × (after ≡ state)
-
 -- the state of a value, with whether it is empty
 abbrev pub value_state : {X : Type 0} → Bool → Sketch X → State
 value_state empty v = record { retained = count_of v; theta = theta_of v; empty = (if empty then 1 else 0) }
@@ -72,9 +65,12 @@ value_state empty v = record { retained = count_of v; theta = theta_of v; empty 
 abbrev pub theta_state : SeededSketch → State
 theta_state t = value_state t.sketch.empty (sketch_value t.sketch)
 
--- the state of a compact sketch
+-- the state of a compact sketch, of either family
+abbrev pub state_of : {X : Type 0} → Compact X → State
+state_of s = record { retained = length s.entries; theta = s.theta; empty = (if s.empty then 1 else 0) }
+
 abbrev pub compact_state : CompactSketch → State
-compact_state s = record { retained = length s.sketch.entries; theta = s.sketch.theta; empty = (if s.sketch.empty then 1 else 0) }
+compact_state s = state_of s.sketch
 
 -- the image of a compact sketch
 abbrev pub IsCompactImage : CompactSketch → List ℕ → Type 0
@@ -98,11 +94,7 @@ IsReadFrom bytes seed s = Reads bytes (seed_hash seed) s.sketch
 
 -- the refusal of reading: memory, with 3; or bytes that are read as no sketch, with 2
 abbrev pub IsReadRefusal : (bytes : List ℕ) → (seed : ℕ) → (status : ℕ) → Type 0
-IsReadRefusal bytes seed status = (status ≡ 3) ⊎ ((status ≡ 2) × (IsReadable bytes (seed_hash seed) → ⊥))
-
--- the refusal of a call that is refused memory alone
-abbrev pub IsMemoryRefusal : (status : ℕ) → Type 0
-IsMemoryRefusal status = status ≡ 3
+IsReadRefusal bytes seed status = IsUnread (IsReadable bytes (seed_hash seed)) status
 
 -- the state of the sketch that bytes begin with was written, with status 0; or reading was refused, and nothing is written
 abbrev pub ReadsImageState : (bytes : List ℕ) → (seed : ℕ) → (before : State) → (status : ℕ) → (after : State) → Type 0

@@ -27,7 +27,7 @@ Merges shown listing old new =
     × (shown.empty ≡ true → new.union ≡ old.union)
     × UnitesHashes old.union new.union shown listing
     × JoinsHashes old.union new.union shown listing
-    × (new.union ≡ record old.union { empty = new.union.empty; held = new.union.held })
+    × (new.union ≡ record old.union { empty = new.union.empty; content = new.union.content })
 
 -- a sketch was merged; or the union refused it, with 1 for another seed and with 5 if it has failed, and is unchanged; or
 -- memory was refused, with 3, and the union has failed
@@ -38,7 +38,7 @@ AddsShown shown listing old status new =
 
 -- a sketch that takes updates was added
 abbrev pub AddsSketch : SeededSketch → (old : SeededUnion) → (status : ℕ) → (new : SeededUnion) → Type 0
-AddsSketch t old status new = AddsShown (sketch_shows hash_key t.sketch) t.sketch.lends old status new
+AddsSketch t old status new = AddsShown (sketch_shows hash_key t.sketch) t.sketch.sequence old status new
 
 -- a compact sketch was added
 abbrev pub AddsCompact : CompactSketch → (old : SeededUnion) → (status : ℕ) → (new : SeededUnion) → Type 0

@@ -17,7 +17,8 @@ pub struct Wide {
     pub high: u64,
 }
 
-fn split(number: u128) -> Wide
+/// A number of 128 bits, in its two halves.
+pub(crate) fn split(number: u128) -> Wide
     ensures { result ≡ wide number }
 {
     Wide {

@@ -4,9 +4,10 @@ ghost use Rattle.std.specs.Coded.{coded_option};
 ghost use Rattle.core_laws.specs.Refusal.{Refuses};
 ghost use Rattle.sketch_c.specs.Bounds.{is_state};
 ghost use Rattle.sketch_c.specs.Buffer.{WritesOf};
-ghost use Rattle.sketch_c.specs.Calls.{Fills, FillsFrom};
+ghost use Rattle.sketch_c.specs.Calls.{Fills, FillsFrom, WritesValue};
 ghost use Rattle.sketch_c.specs.Handle.{handle_owns};
-ghost use Rattle.sketch_c.specs.Thetas.{compact_state, ReadsState, IsCompactImage, IsCopy, IsMemoryRefusal, IsReadFrom, IsReadRefusal};
+ghost use Rattle.sketch_c.specs.Status.{IsMemoryRefusal};
+ghost use Rattle.sketch_c.specs.Thetas.{compact_state, IsCompactImage, IsCopy, IsReadFrom, IsReadRefusal};
 ghost use Rattle.sketch_c.specs.contracts.compact.CompactSketch.{the_row};
 ghost use Rattle.sketch_c.specs.declared.compact.CompactSketch.{CompactSketch};
 
@@ -221,7 +222,7 @@ pub extern "C" fn kcp_compact_state(
     sketch: &mut CompactHandle,
     out: &mut State,
 ) -> u32
-    ensures state { ReadsState (option_map compact_state sketch.old.value) out.old result out.new }
+    ensures state { WritesValue (option_map compact_state sketch.old.value) out.old result out.new }
     ensures usable { result ≡ 0 → is_state out.new.retained out.new.theta ≡ true }
     ensures unchanged { sketch.new.value ≡ sketch.old.value }
 {

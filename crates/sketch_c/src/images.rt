@@ -2,9 +2,9 @@
 ghost use Rattle.std.specs.Prelude.{◌≡◌, true, IfOk, IfErr};
 ghost use Rattle.sketch_c.specs.Bounds.{is_state};
 ghost use Rattle.sketch_c.specs.Buffer.{Writes};
-ghost use Rattle.sketch_c.specs.Images.{IsIntersectionOf, IsImageOfBoth, IsRefusalOfEither};
-ghost use Rattle.sketch_c.specs.Intersections.{IsDifferenceOf};
-ghost use Rattle.sketch_c.specs.Thetas.{IsCompactImage, IsMemoryRefusal, ReadsImageState};
+ghost use Rattle.sketch_c.specs.Images.{IsIntersectionOf, WritesIntersection, WritesDifference};
+ghost use Rattle.sketch_c.specs.Status.{IsMemoryRefusal};
+ghost use Rattle.sketch_c.specs.Thetas.{IsCompactImage, ReadsImageState};
 
 use crate::buffer::put;
 use crate::compact::{CompactSketch, read, state};
@@ -75,7 +75,7 @@ pub extern "C" fn kcp_images_intersect(
     out: &mut [u8],
     length: &mut u64,
 ) -> u32
-    ensures { Writes (IsImageOfBoth (IsIntersectionOf seed) seed first.now second.now) (IsRefusalOfEither seed first.now second.now) out.old length.old result out.new length.new }
+    ensures { WritesIntersection seed first.now second.now out.old length.old result out.new length.new }
 {
     let a = match read(alloc, first, seed) {
         Ok(sketch) => sketch,
@@ -102,7 +102,7 @@ pub extern "C" fn kcp_images_difference(
     out: &mut [u8],
     length: &mut u64,
 ) -> u32
-    ensures { Writes (IsImageOfBoth IsDifferenceOf seed first.now second.now) (IsRefusalOfEither seed first.now second.now) out.old length.old result out.new length.new }
+    ensures { WritesDifference seed first.now second.now out.old length.old result out.new length.new }
 {
     let a = match read(alloc, first, seed) {
         Ok(sketch) => sketch,

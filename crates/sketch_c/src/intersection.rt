@@ -3,7 +3,7 @@ ghost use Rattle.std.specs.Prelude.{◌≡◌, true, None, Option, IfOk, IfErr, 
 ghost use Rattle.std.specs.Coded.{coded_option};
 ghost use Rattle.core_laws.specs.Refusal.{Refuses};
 ghost use Rattle.core_operators.specs.Intersection.{seed_refusal};
-ghost use Rattle.theta_sketches.specs.View.{view_shows, view_lends};
+ghost use Rattle.theta_sketches.specs.View.{view_shows, view_sequence};
 ghost use Rattle.sketch_c.specs.Calls.{OnObject, OnObjectWith, Fills, FillsFrom};
 ghost use Rattle.sketch_c.specs.Handle.{handle_owns};
 ghost use Rattle.sketch_c.specs.Intersections.{IsNewIntersection, IsSeedRefusal, MeetsShown, MeetsSketch, MeetsCompact, MeetsImage, IsIntersectionResult, IsNoResult};
@@ -108,7 +108,7 @@ fn built(alloc: Global, seed: u64) -> Result<Box<SeededIntersection>, Error>
 }
 
 fn add(object: &mut SeededIntersection, view: ThetaSketchView<'_, Global>) -> u32
-    ensures { MeetsShown (view_shows view.entry) (view_lends view.entry) object.old result object.new }
+    ensures { MeetsShown (view_shows view.entry) (view_sequence view.entry) object.old result object.new }
 {
     match object.intersection.update(view) {
         Ok(()) => OK,

@@ -4,30 +4,37 @@ ghost use Rattle.std.specs.Coded.{coded_option};
 ghost use Rattle.core_laws.specs.Refusal.{Refuses};
 ghost use Rattle.core_laws.specs.Settings.{settings_refusal};
 ghost use Rattle.core_laws.specs.declared.TheConstants.{MAX_THETA};
-ghost use Rattle.sketch_c.specs.Bounds.{is_state};
+ghost use Rattle.sketch_c.specs.Bounds.{is_state, wide};
 ghost use Rattle.sketch_c.specs.Buffer.{WritesOf};
-ghost use Rattle.sketch_c.specs.Calls.{OnObject, Fills};
+ghost use Rattle.sketch_c.specs.Calls.{OnObject, Fills, FillsFrom, WritesValue};
 ghost use Rattle.sketch_c.specs.Handle.{handle_owns};
-ghost use Rattle.sketch_c.specs.Sums.{IsNewSums, AddsValue, AddsAtBytes, TrimsSums, ResetsSums, sums_state, IsImageOfSums};
-ghost use Rattle.sketch_c.specs.Thetas.{IsSettingsRefusal, IsMemoryRefusal, ReadsState};
+ghost use Rattle.sketch_c.specs.Settings.{IsSettingsRefusal, IsNewRefusal};
+ghost use Rattle.sketch_c.specs.Status.{IsRefusal, IsMemoryRefusal};
+ghost use Rattle.sketch_c.specs.Sums.{IsNewSums, AddsValue, AddsAtBytes, AddsAtNumber, TrimsSums, ResetsSums, sums_state, sums_total, IsImageOfSums, IsCompactFormOfSums};
 ghost use Rattle.sketch_c.specs.contracts.sums.SeededSums.{the_row};
 ghost use Rattle.sketch_c.specs.declared.sums.SeededSums.{SeededSums};
 
+use crate::bounds::{Wide, split};
 use crate::buffer::put;
-use crate::hashes::hash_of_bytes;
+use crate::compact_sums::{self, CompactSums, CompactSumsHandle};
+use crate::hashes::{hash_of_bytes, hash_of_number};
 use crate::opaque::Opaque;
 use crate::owned::Owned;
+use crate::settings::factor_of;
 use crate::state::State;
 use crate::status::{INVALID_ARGUMENT, OK, OUT_OF_MEMORY, status_of};
+use crate::totals::total_of;
 use sketch_base::Error;
 use std::alloc::Global;
 use std::marker::Model;
-use tuple_sketches::{DefaultUpdatePolicy, TupleSketch, TupleSketchBuilder};
+use tuple_sketches::{
+    DefaultUpdatePolicy, MAX_THETA, ResizeFactor, TupleSketch, TupleSketchBuilder,
+};
 
 /// A sketch of sums, and the seed of its hashes.
 #[derive(Drop)]
 pub struct SeededSums {
-    sketch: TupleSketch<DefaultUpdatePolicy<u64>>,
+    pub(crate) sketch: TupleSketch<DefaultUpdatePolicy<u64>>,
     seed: u64,
 }
 
@@ -96,15 +103,46 @@ pub(crate) fn is_filled(alloc: Global, handle: &mut SumsHandle) -> bool
     filled
 }
 
-fn built(alloc: Global, lg_k: u8, seed: u64) -> Result<Box<SeededSums>, Error>
-    ensures made { IfOk result (λ t. IsNewSums lg_k seed t.value) }
-    ensures refused { Refuses result (settings_refusal lg_k MAX_THETA seed) true }
+fn built(
+    alloc: Global,
+    lg_k: u8,
+    factor: ResizeFactor,
+    start: u64,
+    seed: u64,
+) -> Result<Box<SeededSums>, Error>
+    ensures made { IfOk result (λ t. IsNewSums lg_k start seed t.value) }
+    ensures refused { Refuses result (settings_refusal lg_k start seed) true }
 {
     let sketch = TupleSketchBuilder::new(DefaultUpdatePolicy::<u64>::default())
         .lg_k(lg_k)
+        .resize_factor(factor)
+        .starting_theta(start)
         .seed(seed)
         .build(alloc)?;
     Ok(Box::new(alloc, SeededSums { sketch, seed })?)
+}
+
+/// Puts a new sketch into a handle.
+fn fill_new(
+    alloc: Global,
+    sums: &mut SumsHandle,
+    lg_k: u8,
+    factor: ResizeFactor,
+    start: u64,
+    seed: u64,
+) -> u32
+    ensures { Fills (IsNewSums lg_k start seed) (IsRefusal (settings_refusal lg_k start seed) true) sums.old.value result sums.new.value }
+{
+    if is_filled(alloc, sums) {
+        return INVALID_ARGUMENT;
+    }
+    match built(alloc, lg_k, factor, start, seed) {
+        Ok(made) => {
+            fill(alloc, sums, Some(made));
+            OK
+        }
+        Err(error) => status_of(error.kind()),
+    }
 }
 
 #[inline(always)]
@@ -115,6 +153,14 @@ fn add_at_hash(sums: &mut SeededSums, hash: u64, value: u64) -> u32
         Ok(()) => OK,
         Err(error) => status_of(error.kind()),
     }
+}
+
+#[inline(always)]
+fn add_at_number(sums: &mut SeededSums, number: u64, value: u64) -> u32
+    ensures { AddsAtNumber number value sums.old result sums.new }
+{
+    let hash = hash_of_number(sums.seed, number);
+    add_at_hash(sums, hash, value)
 }
 
 #[inline(always)]
@@ -160,23 +206,65 @@ fn image(sums: &SeededSums) -> Result<Vec<u8>, Error>
     sums.sketch.compact(true)?.serialize()
 }
 
+/// The sketch's ordered compact form.
+fn compact_form(alloc: Global, sums: &SeededSums) -> Result<Box<CompactSums>, Error>
+    ensures made { IfOk result (λ s. IsCompactFormOfSums sums.now s.value) }
+    ensures refused { Refuses result None true }
+{
+    let sketch = sums.sketch.compact(true)?;
+    Ok(Box::new(alloc, CompactSums { sketch })?)
+}
+
+fn fill_compact(alloc: Global, sums: &SeededSums, out: &mut CompactSumsHandle) -> u32
+    ensures { Fills (IsCompactFormOfSums sums.now) IsMemoryRefusal out.old.value result out.new.value }
+{
+    if compact_sums::is_filled(alloc, out) {
+        return INVALID_ARGUMENT;
+    }
+    match compact_form(alloc, sums) {
+        Ok(made) => {
+            compact_sums::fill(alloc, out, Some(made));
+            OK
+        }
+        Err(_) => OUT_OF_MEMORY,
+    }
+}
+
+/// The sum of all sums of a sketch.
+fn total(sums: &SeededSums) -> Wide
+    ensures { result ≡ wide (sums_total sums.now) }
+{
+    // By its contract there are fewer than 2^32 entries.
+    let _ = sums.sketch.num_retained();
+    split(total_of(sums.sketch.iter()))
+}
+
 /// Makes a tuple sketch of sums with 2^`lg_k` nominal entries, `lg_k` from 4 to 26, and puts it into a handle.
 ///
 /// Refused with `INVALID_ARGUMENT` if the handle has a sketch already, `lg_k` is out of range or the hash of the seed is
 /// 0, and with `OUT_OF_MEMORY`; then the handle is as before.
 #[unsafe(no_mangle)]
 pub extern "C" fn kcp_sums_new(alloc: Global, sums: &mut SumsHandle, lg_k: u8, seed: u64) -> u32
-    ensures { Fills (IsNewSums lg_k seed) (IsSettingsRefusal lg_k seed) sums.old.value result sums.new.value }
+    ensures { Fills (IsNewSums lg_k MAX_THETA seed) (IsSettingsRefusal lg_k seed) sums.old.value result sums.new.value }
 {
-    if is_filled(alloc, sums) {
-        return INVALID_ARGUMENT;
-    }
-    match built(alloc, lg_k, seed) {
-        Ok(made) => {
-            fill(alloc, sums, Some(made));
-            OK
-        }
-        Err(error) => status_of(error.kind()),
+    fill_new(alloc, sums, lg_k, ResizeFactor::X8, MAX_THETA, seed)
+}
+
+/// Makes a sketch of sums with a resize factor and a starting theta, as `kcp_theta_new_with` does.
+#[unsafe(no_mangle)]
+pub extern "C" fn kcp_sums_new_with(
+    alloc: Global,
+    sums: &mut SumsHandle,
+    lg_k: u8,
+    seed: u64,
+    resize_factor: u32,
+    starting_theta: u64,
+) -> u32
+    ensures { Fills (IsNewSums lg_k starting_theta seed) (IsNewRefusal lg_k resize_factor starting_theta seed) sums.old.value result sums.new.value }
+{
+    match factor_of(resize_factor) {
+        Some(factor) => fill_new(alloc, sums, lg_k, factor, starting_theta, seed),
+        None => INVALID_ARGUMENT,
     }
 }
 
@@ -206,6 +294,24 @@ pub extern "C" fn kcp_sums_add_hash(
         return INVALID_ARGUMENT;
     };
     let status = add_at_hash(&mut object, hash, value);
+    fill(alloc, sums, Some(object));
+    status
+}
+
+/// Adds a value to the sum of a number, by the hash of its eight bytes, the lowest first. Refused as `kcp_sums_add_hash` is.
+#[unsafe(no_mangle)]
+pub extern "C" fn kcp_sums_add_u64(
+    alloc: Global,
+    sums: &mut SumsHandle,
+    number: u64,
+    value: u64,
+) -> u32
+    ensures { OnObject (AddsAtNumber number value) sums.old.value result sums.new.value }
+{
+    let Some(mut object) = take(alloc, sums) else {
+        return INVALID_ARGUMENT;
+    };
+    let status = add_at_number(&mut object, number, value);
     fill(alloc, sums, Some(object));
     status
 }
@@ -258,7 +364,7 @@ pub extern "C" fn kcp_sums_reset(alloc: Global, sums: &mut SumsHandle) -> u32
 /// Refused with `INVALID_ARGUMENT` if the handle has no sketch; then nothing is written.
 #[unsafe(no_mangle)]
 pub extern "C" fn kcp_sums_state(alloc: Global, sums: &mut SumsHandle, out: &mut State) -> u32
-    ensures state { ReadsState (option_map sums_state sums.old.value) out.old result out.new }
+    ensures state { WritesValue (option_map sums_state sums.old.value) out.old result out.new }
     ensures usable { result ≡ 0 → is_state out.new.retained out.new.theta ≡ true }
     ensures unchanged { sums.new.value ≡ sums.old.value }
 {
@@ -291,4 +397,42 @@ pub extern "C" fn kcp_sums_image(
     };
     fill(alloc, sums, Some(object));
     status
+}
+
+/// Makes the ordered compact form of a sketch, and puts it into a handle. The sketch doesn't change.
+///
+/// Refused with `INVALID_ARGUMENT` if the first handle has no sketch or the second one has a sketch, and with
+/// `OUT_OF_MEMORY`; then nothing has changed.
+#[unsafe(no_mangle)]
+pub extern "C" fn kcp_sums_compact(
+    alloc: Global,
+    sums: &mut SumsHandle,
+    out: &mut CompactSumsHandle,
+) -> u32
+    ensures made { FillsFrom IsCompactFormOfSums (λ _. IsMemoryRefusal) sums.old.value out.old.value result out.new.value }
+    ensures unchanged { sums.new.value ≡ sums.old.value }
+{
+    let Some(object) = take(alloc, sums) else {
+        return INVALID_ARGUMENT;
+    };
+    let status = fill_compact(alloc, &object, out);
+    fill(alloc, sums, Some(object));
+    status
+}
+
+/// Writes the total of a sketch, the sum of its sums, below 2^96. The estimate of the total of all values that were added
+/// is this total times `MAX_THETA`, over theta. The sketch doesn't change.
+///
+/// Refused with `INVALID_ARGUMENT` if the handle has no sketch; then nothing is written.
+#[unsafe(no_mangle)]
+pub extern "C" fn kcp_sums_total(alloc: Global, sums: &mut SumsHandle, out: &mut Wide) -> u32
+    ensures total { WritesValue (option_map (λ t. wide (sums_total t)) sums.old.value) out.old result out.new }
+    ensures unchanged { sums.new.value ≡ sums.old.value }
+{
+    let Some(object) = take(alloc, sums) else {
+        return INVALID_ARGUMENT;
+    };
+    *out = total(&object);
+    fill(alloc, sums, Some(object));
+    OK
 }

@@ -6,9 +6,11 @@ ghost use Rattle.core_laws.specs.Settings.{settings_refusal};
 ghost use Rattle.core_laws.specs.declared.TheConstants.{MAX_THETA};
 ghost use Rattle.sketch_c.specs.Bounds.{is_state};
 ghost use Rattle.sketch_c.specs.Buffer.{WritesOf};
-ghost use Rattle.sketch_c.specs.Calls.{OnObject, Fills, FillsFrom};
+ghost use Rattle.sketch_c.specs.Calls.{OnObject, Fills, FillsFrom, WritesValue};
 ghost use Rattle.sketch_c.specs.Handle.{handle_owns};
-ghost use Rattle.sketch_c.specs.Thetas.{IsNewSketch, IsSettingsRefusal, UpdatesHash, UpdatesNumber, UpdatesBytes, UpdatesHashes, Trims, Resets, theta_state, ReadsState, IsImageOf, IsCompactForm, IsMemoryRefusal};
+ghost use Rattle.sketch_c.specs.Settings.{IsSettingsRefusal, IsNewRefusal};
+ghost use Rattle.sketch_c.specs.Status.{IsRefusal, IsMemoryRefusal};
+ghost use Rattle.sketch_c.specs.Thetas.{IsNewSketch, IsSameSketch, UpdatesHash, UpdatesNumber, UpdatesBytes, UpdatesHashes, Trims, Resets, theta_state, IsImageOf, IsCompactForm};
 ghost use Rattle.sketch_c.specs.contracts.theta.SeededSketch.{the_row};
 ghost use Rattle.sketch_c.specs.declared.theta.SeededSketch.{SeededSketch};
 
@@ -17,12 +19,13 @@ use crate::compact::{self, CompactHandle, CompactSketch};
 use crate::hashes::{hash_of_bytes, hash_of_number};
 use crate::opaque::Opaque;
 use crate::owned::Owned;
+use crate::settings::factor_of;
 use crate::state::State;
 use crate::status::{INVALID_ARGUMENT, OK, OUT_OF_MEMORY, status_of};
 use sketch_base::Error;
 use std::alloc::Global;
 use std::marker::Model;
-use theta_sketches::{ThetaSketch, ThetaSketchBuilder};
+use theta_sketches::{MAX_THETA, ResizeFactor, ThetaSketch, ThetaSketchBuilder};
 
 /// A sketch that takes updates, and the seed of its hashes.
 #[derive(Drop)]
@@ -96,15 +99,46 @@ pub(crate) fn is_filled(alloc: Global, handle: &mut ThetaHandle) -> bool
     filled
 }
 
-fn built(alloc: Global, lg_k: u8, seed: u64) -> Result<Box<SeededSketch>, Error>
-    ensures made { IfOk result (λ t. IsNewSketch lg_k seed t.value) }
-    ensures refused { Refuses result (settings_refusal lg_k MAX_THETA seed) true }
+fn built(
+    alloc: Global,
+    lg_k: u8,
+    factor: ResizeFactor,
+    start: u64,
+    seed: u64,
+) -> Result<Box<SeededSketch>, Error>
+    ensures made { IfOk result (λ t. IsNewSketch lg_k start seed t.value) }
+    ensures refused { Refuses result (settings_refusal lg_k start seed) true }
 {
     let sketch = ThetaSketchBuilder::default()
         .lg_k(lg_k)
+        .resize_factor(factor)
+        .starting_theta(start)
         .seed(seed)
         .build(alloc)?;
     Ok(Box::new(alloc, SeededSketch { sketch, seed })?)
+}
+
+/// Puts a new sketch into a handle.
+fn fill_new(
+    alloc: Global,
+    sketch: &mut ThetaHandle,
+    lg_k: u8,
+    factor: ResizeFactor,
+    start: u64,
+    seed: u64,
+) -> u32
+    ensures { Fills (IsNewSketch lg_k start seed) (IsRefusal (settings_refusal lg_k start seed) true) sketch.old.value result sketch.new.value }
+{
+    if is_filled(alloc, sketch) {
+        return INVALID_ARGUMENT;
+    }
+    match built(alloc, lg_k, factor, start, seed) {
+        Ok(theta) => {
+            fill(alloc, sketch, Some(theta));
+            OK
+        }
+        Err(error) => status_of(error.kind()),
+    }
 }
 
 #[inline(always)]
@@ -187,6 +221,33 @@ fn compact_form(alloc: Global, theta: &SeededSketch) -> Result<Box<CompactSketch
     Ok(Box::new(alloc, CompactSketch { sketch })?)
 }
 
+/// A copy of a sketch.
+fn copied(alloc: Global, theta: &SeededSketch) -> Result<Box<SeededSketch>, Error>
+    ensures copied { IfOk result (λ t. IsSameSketch theta.now t.value) }
+    ensures refused { Refuses result None true }
+{
+    let copy = SeededSketch {
+        sketch: theta.sketch.clone()?,
+        seed: theta.seed,
+    };
+    Ok(Box::new(alloc, copy)?)
+}
+
+fn fill_copy(alloc: Global, theta: &SeededSketch, out: &mut ThetaHandle) -> u32
+    ensures { Fills (IsSameSketch theta.now) IsMemoryRefusal out.old.value result out.new.value }
+{
+    if is_filled(alloc, out) {
+        return INVALID_ARGUMENT;
+    }
+    match copied(alloc, theta) {
+        Ok(made) => {
+            fill(alloc, out, Some(made));
+            OK
+        }
+        Err(_) => OUT_OF_MEMORY,
+    }
+}
+
 fn fill_compact(alloc: Global, theta: &SeededSketch, out: &mut CompactHandle) -> u32
     ensures { Fills (IsCompactForm theta.now) IsMemoryRefusal out.old.value result out.new.value }
 {
@@ -208,18 +269,52 @@ fn fill_compact(alloc: Global, theta: &SeededSketch, out: &mut CompactHandle) ->
 /// 0, and with `OUT_OF_MEMORY`; then the handle is as before.
 #[unsafe(no_mangle)]
 pub extern "C" fn kcp_theta_new(alloc: Global, sketch: &mut ThetaHandle, lg_k: u8, seed: u64) -> u32
-    ensures { Fills (IsNewSketch lg_k seed) (IsSettingsRefusal lg_k seed) sketch.old.value result sketch.new.value }
+    ensures { Fills (IsNewSketch lg_k MAX_THETA seed) (IsSettingsRefusal lg_k seed) sketch.old.value result sketch.new.value }
 {
-    if is_filled(alloc, sketch) {
+    fill_new(alloc, sketch, lg_k, ResizeFactor::X8, MAX_THETA, seed)
+}
+
+/// Makes a theta sketch, as `kcp_theta_new` does, whose slots grow by the resize factor, 1, 2, 4 or 8, and which begins at
+/// a theta from 1 to `MAX_THETA`, also after a reset. With the factor 1 it has all of its slots from the start. No value
+/// depends on the factor.
+///
+/// Refused as `kcp_theta_new` is, and with `INVALID_ARGUMENT` also if the factor or the theta is out of range.
+#[unsafe(no_mangle)]
+pub extern "C" fn kcp_theta_new_with(
+    alloc: Global,
+    sketch: &mut ThetaHandle,
+    lg_k: u8,
+    seed: u64,
+    resize_factor: u32,
+    starting_theta: u64,
+) -> u32
+    ensures { Fills (IsNewSketch lg_k starting_theta seed) (IsNewRefusal lg_k resize_factor starting_theta seed) sketch.old.value result sketch.new.value }
+{
+    match factor_of(resize_factor) {
+        Some(factor) => fill_new(alloc, sketch, lg_k, factor, starting_theta, seed),
+        None => INVALID_ARGUMENT,
+    }
+}
+
+/// Copies a sketch into another handle: its entries, its theta and its settings. The sketch doesn't change.
+///
+/// Refused with `INVALID_ARGUMENT` if the first handle has no sketch or the second one has a sketch, and with
+/// `OUT_OF_MEMORY`; then nothing has changed.
+#[unsafe(no_mangle)]
+pub extern "C" fn kcp_theta_clone(
+    alloc: Global,
+    sketch: &mut ThetaHandle,
+    out: &mut ThetaHandle,
+) -> u32
+    ensures copied { FillsFrom IsSameSketch (λ _. IsMemoryRefusal) sketch.old.value out.old.value result out.new.value }
+    ensures unchanged { sketch.new.value ≡ sketch.old.value }
+{
+    let Some(theta) = take(alloc, sketch) else {
         return INVALID_ARGUMENT;
-    }
-    match built(alloc, lg_k, seed) {
-        Ok(theta) => {
-            fill(alloc, sketch, Some(theta));
-            OK
-        }
-        Err(error) => status_of(error.kind()),
-    }
+    };
+    let status = fill_copy(alloc, &theta, out);
+    fill(alloc, sketch, Some(theta));
+    status
 }
 
 /// Frees the sketch of a handle, which has none afterwards. A handle without one stays as it is.
@@ -331,7 +426,7 @@ pub extern "C" fn kcp_theta_reset(alloc: Global, sketch: &mut ThetaHandle) -> u3
 /// Refused with `INVALID_ARGUMENT` if the handle has no sketch; then nothing is written.
 #[unsafe(no_mangle)]
 pub extern "C" fn kcp_theta_state(alloc: Global, sketch: &mut ThetaHandle, out: &mut State) -> u32
-    ensures state { ReadsState (option_map theta_state sketch.old.value) out.old result out.new }
+    ensures state { WritesValue (option_map theta_state sketch.old.value) out.old result out.new }
     ensures usable { result ≡ 0 → is_state out.new.retained out.new.theta ≡ true }
     ensures unchanged { sketch.new.value ≡ sketch.old.value }
 {

@@ -1,8 +1,10 @@
 //! Objects on more than one thread.
 
 use crate::compact::CompactSketch;
+use crate::compact_sums::CompactSums;
 use crate::intersection::SeededIntersection;
 use crate::sums::SeededSums;
+use crate::sums_union::SeededSumsUnion;
 use crate::theta::SeededSketch;
 use crate::union::SeededUnion;
 
@@ -15,4 +17,6 @@ fn objects_are_send() {
     is_send::<SeededUnion>();
     is_send::<SeededIntersection>();
     is_send::<SeededSums>();
+    is_send::<CompactSums>();
+    is_send::<SeededSumsUnion>();
 }

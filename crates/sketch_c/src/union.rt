@@ -5,11 +5,11 @@ ghost use Rattle.core_laws.specs.Refusal.{Refuses};
 ghost use Rattle.core_laws.specs.Settings.{settings_refusal};
 ghost use Rattle.core_laws.specs.declared.TheConstants.{MAX_THETA};
 ghost use Rattle.core_operators.specs.Union.{failure};
-ghost use Rattle.theta_sketches.specs.View.{view_shows, view_lends};
+ghost use Rattle.theta_sketches.specs.View.{view_shows, view_sequence};
 ghost use Rattle.sketch_c.specs.Buffer.{Writes, WritesOf};
 ghost use Rattle.sketch_c.specs.Calls.{OnObject, OnObjectWith, Fills, FillsFrom};
 ghost use Rattle.sketch_c.specs.Handle.{handle_owns};
-ghost use Rattle.sketch_c.specs.Thetas.{IsSettingsRefusal};
+ghost use Rattle.sketch_c.specs.Settings.{IsSettingsRefusal};
 ghost use Rattle.sketch_c.specs.Unions.{IsNewUnion, AddsShown, AddsSketch, AddsCompact, AddsImage, IsUnionResult, IsUnionImage, IsResultRefusal, ResetsUnion};
 ghost use Rattle.sketch_c.specs.contracts.union.SeededUnion.{the_row};
 ghost use Rattle.sketch_c.specs.declared.union.SeededUnion.{SeededUnion};
@@ -109,7 +109,7 @@ fn built(alloc: Global, lg_k: u8, seed: u64) -> Result<Box<SeededUnion>, Error>
 }
 
 fn add(union: &mut SeededUnion, view: ThetaSketchView<'_, Global>) -> u32
-    ensures { AddsShown (view_shows view.entry) (view_lends view.entry) union.old result union.new }
+    ensures { AddsShown (view_shows view.entry) (view_sequence view.entry) union.old result union.new }
 {
     match union.union.update(view) {
         Ok(()) => OK,

@@ -9,7 +9,7 @@ use Rattle.sketch_base.specs.declared.error.ErrorKind.TheVariants.{InvalidArgume
 use Rattle.core_laws.specs.declared.TheConstants.{MAX_THETA}
 use Rattle.core_laws.specs.Folds.{Fold, unmarked_value}
 use Rattle.core_laws.specs.Values.{Sketch, Empty, NonEmpty}
-use Rattle.core_compact.specs.CompactState.{Compact}
+use Rattle.core_compact.specs.CompactState.{Compact, ordered_sketch}
 use Rattle.core_slots.specs.declared.entry.TupleEntry.{TupleEntry}
 use Rattle.core_policies.specs.Sums.{unsigned_sum}
 use Rattle.plan_text.specs.declared.command.Command.{Command}
@@ -24,7 +24,6 @@ use Rattle.tuple_sketches.specs.Image.{written as written_tuples}
 use Rattle.plan_values.specs.Family.{Family, tuple_folds}
 use Rattle.plan_values.specs.Refusals.{may_refuse, must_refuse}
 use Rattle.plan_values.specs.Value.{value_of, value_in, plan_refusal}
-use Rattle.plan_evaluation.specs.Answered.{ordered_sketch}
 
 -- a text and the LF that ends its line
 abbrev pub ended_line : List ℕ → List ℕ

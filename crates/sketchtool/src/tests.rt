@@ -1,14 +1,11 @@
-//! Facts that no clause states: the answers to texts from outside, the bytes that each read requests, and the effect of
-//! failed reads and writes.
+//! Facts that no clause states: requests for memory, the bytes that each read requests, and the effect of failed reads
+//! and writes. Plans with answers from outside are in `examples/`.
 
 mod fakes;
-mod faults;
 mod levels;
 mod memory;
-mod merges;
 mod running;
 mod tuples;
-mod worked;
 
 use crate::run::run;
 use plan_text::{Command, Plan, read_plan};
@@ -20,12 +17,6 @@ fn answer_to<R: Read>(alloc: Global, reader: &mut R) -> (u8, Vec<u8>) {
     let mut written = Vec::new(alloc);
     let ending = run(alloc, reader, &mut written);
     (ending.status(), written)
-}
-
-/// The status of a run that reads this text, and what it wrote.
-fn answer_to_text(alloc: Global, text: &str) -> (u8, Vec<u8>) {
-    let mut reader = text.as_bytes();
-    answer_to(alloc, &mut reader)
 }
 
 /// The theta plan of a text.

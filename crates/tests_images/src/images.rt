@@ -1,12 +1,10 @@
 use crate::readings::{EXACT, Reading, assert_reads, assert_text_reads};
-use sketch_base::{Error, ErrorKind, compute_seed_hash};
+use sketch_base::Error;
 use std::alloc::{AllocError, AllocGlobal, Global};
 use std::process::Abort;
 use std::test::Fail;
-use tests_sketches::common::{add, bytes_of, kind_of, sketch_of};
-use theta_sketches::{
-    CompactThetaSketch, ThetaSketch, ThetaSketchBuilder, ThetaSketchView, ThetaUnionBuilder,
-};
+use tests_sketches::common::bytes_of;
+use theta_sketches::{CompactThetaSketch, ThetaSketch, ThetaSketchBuilder};
 
 const EMPTY: &str = "01 03 03 00 00 1e 00 00";
 
@@ -269,39 +267,6 @@ fn refuses_beginnings(rt: HostRuntime) -> Result<(), Fail> {
     Ok(())
 }
 
-// The first seed whose seed hash is 0.
-fn seed_without_hash() -> Option<u64> {
-    for seed in 0..200_000 {
-        if compute_seed_hash(seed, ErrorKind::InvalidArgument).is_err() {
-            return Some(seed);
-        }
-    }
-    None
-}
-
-// The seed hash of the sketch that is read from an empty sketch's image under a seed.
-fn read_under(alloc: Global, seed: u64) -> Result<u16, Error> {
-    let bytes = bytes_of(alloc, EMPTY)?;
-    let sketch = CompactThetaSketch::deserialize_with_seed(alloc, &bytes, seed)?;
-    Ok(sketch.seed_hash())
-}
-
-// An empty sketch has the reader's seed hash.
-#[test]
-fn reads_under_another_seed(rt: HostRuntime) -> Result<(), Fail> {
-    let seed_hash = compute_seed_hash(1, ErrorKind::InvalidArgument)?;
-    assert_eq!(rt; read_under(rt.alloc(), 1)?, seed_hash);
-    Ok(())
-}
-
-#[test]
-fn refuses_a_seed_without_hash(rt: HostRuntime) -> Result<(), Fail> {
-    let seed = seed_without_hash().unwrap_or(0);
-    let kind = kind_of(read_under(rt.alloc(), seed));
-    assert_eq!(rt; kind, Some(ErrorKind::InvalidData));
-    Ok(())
-}
-
 // A sketch of 2^5 nominal entries, updated with these hashes.
 fn sketch_below(alloc: Global, start: u64, hashes: &[u64]) -> Result<ThetaSketch, Error> {
     let builder = ThetaSketchBuilder::default().lg_k(5);
@@ -381,127 +346,6 @@ fn writes_images(rt: HostRuntime) -> Result<(), Fail> {
     for (name, start, hashes, ordered, text) in cases {
         let images = images_of(rt.alloc(), start, hashes, ordered)?;
         assert_eq!(rt; images, twice(rt.alloc(), text)?, "{name}, and read again");
-    }
-    Ok(())
-}
-
-// An image of three preamble longs that is read as exact is written with one.
-fn written_short(alloc: Global) -> Result<Vec<u8>, Error> {
-    let image = bytes_of(
-        alloc,
-        "03 03 03 00 00 1a cc 93 01 00 00 00 00 00 00 00 ff ff ff ff ff ff ff 7f 07 00 00 00 00 00 00 00",
-    )?;
-    written_again(alloc, &image)
-}
-
-#[test]
-fn writes_the_shortest_preamble(rt: HostRuntime) -> Result<(), Fail> {
-    let written = written_short(rt.alloc())?;
-    let want = bytes_of(
-        rt.alloc(),
-        "01 03 03 00 00 1a cc 93 07 00 00 00 00 00 00 00",
-    )?;
-    assert_eq!(rt; written, want);
-    Ok(())
-}
-
-// A sketch of 2^5 nominal entries, updated with every second number from `first` to 200.
-fn every_second(alloc: Global, first: u64) -> Result<ThetaSketch, Error> {
-    let mut sketch = ThetaSketchBuilder::default().lg_k(5).build(alloc)?;
-    for hash in (first..201).step_by(2) {
-        sketch.update_hash(hash)?;
-    }
-    Ok(sketch)
-}
-
-// The ordered image of a union of 2^5 nominal entries.
-fn image_of_both(
-    alloc: Global,
-    first: ThetaSketchView<'_>,
-    second: ThetaSketchView<'_>,
-) -> Result<Vec<u8>, Error> {
-    let mut union = ThetaUnionBuilder::default().lg_k(5).build(alloc)?;
-    union.update(first)?;
-    union.update(second)?;
-    let answer = union.to_sketch(true)?;
-    answer.serialize()
-}
-
-// The image of the union of every second number from one first and from another.
-fn united(alloc: Global, first: u64, second: u64) -> Result<Vec<u8>, Error> {
-    let first = every_second(alloc, first)?;
-    let second = every_second(alloc, second)?;
-    image_of_both(alloc, first.as_view(), second.as_view())
-}
-
-// The image of the hashes 1 to 32 below theta 33: 280 bytes.
-fn thirty_two_below(alloc: Global) -> Result<Vec<u8>, Error> {
-    let mut want = bytes_of(
-        alloc,
-        "03 03 03 00 00 1a cc 93 20 00 00 00 00 00 00 00 21 00 00 00 00 00 00 00",
-    )?;
-    for hash in 1..33u64 {
-        want.extend_from_slice(&hash.to_le_bytes())?;
-    }
-    Ok(want)
-}
-
-// Odd and even numbers to 200, united in both orders.
-#[test]
-fn unites_to_one_image(rt: HostRuntime) -> Result<(), Fail> {
-    for (first, second) in [(1, 2), (2, 1)] {
-        let image = united(rt.alloc(), first, second)?;
-        assert_eq!(rt;
-            image,
-            thirty_two_below(rt.alloc())?,
-            "of {first} and {second}"
-        );
-    }
-    Ok(())
-}
-
-// The sketch that is read from the unordered image of the odd numbers to 200.
-fn sent(alloc: Global) -> Result<CompactThetaSketch, Error> {
-    let image = every_second(alloc, 1)?.compact(false)?.serialize()?;
-    CompactThetaSketch::deserialize(alloc, &image)
-}
-
-// The image of the union of the odd numbers, sent as an unordered image, and the even ones.
-fn united_with_sent(alloc: Global) -> Result<Vec<u8>, Error> {
-    let odd = sent(alloc)?;
-    let even = every_second(alloc, 2)?;
-    image_of_both(alloc, odd.as_view(), even.as_view())
-}
-
-#[test]
-fn unites_through_an_image(rt: HostRuntime) -> Result<(), Fail> {
-    let image = united_with_sent(rt.alloc())?;
-    assert_eq!(rt; image, thirty_two_below(rt.alloc())?);
-    Ok(())
-}
-
-// The image of a union, updated with the hashes from 1 to a last.
-fn image_of_union(alloc: Global, last: u64) -> Result<Vec<u8>, Error> {
-    let mut union = ThetaUnionBuilder::default().lg_k(5).build(alloc)?;
-    add(&mut union, sketch_of(alloc, 9001, 1, last)?)?;
-    let answer = union.to_sketch(true)?;
-    answer.serialize()
-}
-
-// A union of 2^5 nominal entries retains 32 hashes without a cut, and cuts 33 hashes below the greatest.
-#[test]
-fn writes_where_a_union_cuts(rt: HostRuntime) -> Result<(), Fail> {
-    for (last, head) in [
-        (32u64, "02 03 03 00 00 1a cc 93 20 00 00 00 00 00 00 00"),
-        (
-            33,
-            "03 03 03 00 00 1a cc 93 20 00 00 00 00 00 00 00 21 00 00 00 00 00 00 00",
-        ),
-    ] {
-        let image = image_of_union(rt.alloc(), last)?;
-        let want = bytes_of(rt.alloc(), head)?;
-        assert_eq!(rt; image.len(), want.len() + 256, "{last}");
-        assert_eq!(rt; &image[..want.len()], want.as_slice(), "{last}");
     }
     Ok(())
 }

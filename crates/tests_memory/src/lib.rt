@@ -1,9 +1,7 @@
 //! Tests of memory over the public calls of the theta sketches: the number and the bytes of a call's requests, that
-//! calls which need no memory request none, and the state after each refused request.
+//! calls which need no memory request none, and how a call ends if each of its requests is refused.
 #![tactic(auto)]
 
-#[cfg(test)]
-mod many_requests;
 #[cfg(test)]
 mod operator_requests;
 #[cfg(test)]
@@ -16,5 +14,3 @@ mod requests;
 mod sketches_without_memory;
 #[cfg(test)]
 mod table_requests;
-#[cfg(test)]
-mod tables_without_memory;

@@ -2,7 +2,7 @@
 //! requests none.
 
 use refusing_allocator::{Refusal, Refusing};
-use sketch_base::{Error, SketchBytes};
+use sketch_base::{Error, ErrorKind, SketchBytes};
 use std::test::Fail;
 use tests_sketches::common::{Heap, kind_of};
 use theta_core::{EntrySketch, KeySketch, MAX_THETA};
@@ -41,11 +41,11 @@ fn make<'a>(sketch: &mut ThetaSketch<&'a Heap>, call: Call) -> Result<usize, Err
 
 /// The number of entries that a sketch's iterator returns.
 fn lent_by<'a>(sketch: &ThetaSketch<&'a Heap>) -> usize {
-    let mut lent = 0usize;
+    let mut iterated = 0usize;
     for _entry in sketch.iter() {
-        lent = lent.saturating_add(1);
+        iterated = iterated.saturating_add(1);
     }
-    lent
+    iterated
 }
 
 /// The number of entries of a view, summed over its three iterators.
@@ -53,9 +53,10 @@ fn seen_through<'a>(view: ThetaSketchView<'_, &'a Heap>) -> usize {
     let _flags = (view.is_empty(), view.is_ordered());
     let _numbers = (view.theta64(), view.seed_hash(), view.num_retained());
     let _metadata = view.metadata();
-    let lent = view.entries().count();
+    let iterated = view.entries().count();
     let hashes = view.hashes().count();
-    lent.saturating_add(hashes)
+    iterated
+        .saturating_add(hashes)
         .saturating_add(view.iter().count())
 }
 
@@ -69,8 +70,8 @@ fn seen_in<'a>(sketch: &CompactThetaSketch<&'a Heap>) -> usize {
     let _numbers = (sketch.theta64(), sketch.seed_hash(), sketch.num_retained());
     let _fraction = sketch.estimate_fraction();
     let _size = sketch.estimated_size();
-    let lent = seen_through(ThetaSketchView::from(sketch));
-    lent.saturating_add(sketch.iter().count())
+    let iterated = seen_through(ThetaSketchView::from(sketch));
+    iterated.saturating_add(sketch.iter().count())
 }
 
 /// A sketch updated with the hashes from 1 to a last.
@@ -97,6 +98,7 @@ fn sketches_request_nothing(rt: HostRuntime) -> Result<(), Fail> {
     let heap = Refusing::new(rt.alloc());
     let mut sketch = sketch_to(&heap, 30)?;
     sketch.update("apple")?;
+    let compact = sketch.compact(false)?;
     // A call, and the number that it returns.
     let calls = [
         (Call::Update(0), 31),
@@ -110,38 +112,39 @@ fn sketches_request_nothing(rt: HostRuntime) -> Result<(), Fail> {
         (Call::View, 93),
         (Call::Reset, 0),
         (Call::Trim, 0),
-        (Call::View, 0),
     ];
     heap.restart(Refusal::From(0));
     for (call, wanted) in calls {
         let found = asked(&heap, &mut sketch, call);
         assert_eq!(rt; found, (Some(wanted), 0), "{call:?}");
     }
+    assert_eq!(rt; (seen_in(&compact), heap.seen()), (124, 0));
     Ok(())
 }
 
+/// Why a sketch of these settings is refused, and the number of its requests.
+fn refusal(heap: &Heap, lg_k: u8, start: u64, seed: u64) -> (Option<ErrorKind>, u64) {
+    let builder = ThetaSketchBuilder::default().lg_k(lg_k);
+    let kind = kind_of(builder.starting_theta(start).seed(seed).build(heap));
+    (kind, heap.seen())
+}
+
 #[test]
-fn sketches_below_a_theta_request_nothing(rt: HostRuntime) -> Result<(), Fail> {
+fn refused_settings_request_nothing(rt: HostRuntime) {
     let heap = Refusing::new(rt.alloc());
-    let mut sketch = sketch_to(&heap, 61)?;
-    let compact = sketch.compact(false)?;
-    // A call, and the number that it returns.
-    let calls = [
-        (Call::Update(33), 32),
-        (Call::Update(34), 32),
-        (Call::Update(32), 32),
-        (Call::Update(1), 32),
-        (Call::Trim, 32),
-        (Call::Read, 512),
-        (Call::View, 96),
-    ];
     heap.restart(Refusal::From(0));
-    for (call, wanted) in calls {
-        let found = asked(&heap, &mut sketch, call);
-        assert_eq!(rt; found, (Some(wanted), 0), "{call:?}");
+    let cases = [
+        (3, 1, 9001),
+        (27, 1, 9001),
+        (5, 0, 9001),
+        (5, 9223372036854775808, 9001),
+        (5, 1, 50541),
+    ];
+    for (lg_k, start, seed) in cases {
+        let found = refusal(&heap, lg_k, start, seed);
+        let wanted = (Some(ErrorKind::InvalidArgument), 0);
+        assert_eq!(rt; found, wanted, "at {lg_k}, {start}, {seed}");
     }
-    assert_eq!(rt; (seen_in(&compact), heap.seen()), (128, 0));
-    Ok(())
 }
 
 /// Writes 29 bytes.

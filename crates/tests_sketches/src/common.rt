@@ -41,18 +41,6 @@ pub fn sketch_of(alloc: Global, seed: u64, first: u64, last: u64) -> Result<Thet
     Ok(sketch)
 }
 
-/// The compact form of a sketch of the default seed and 32 nominal entries, updated with the hashes from the first to
-/// the last.
-pub fn compact_of(
-    alloc: Global,
-    first: u64,
-    last: u64,
-    ordered: bool,
-) -> Result<CompactThetaSketch, Error> {
-    let sketch = sketch_of(alloc, 9001, first, last)?;
-    sketch.compact(ordered)
-}
-
 /// Updates a union with a sketch.
 pub fn add(union: &mut ThetaUnion, sketch: ThetaSketch) -> Result<(), Error> {
     union.update(sketch.as_view())
@@ -81,21 +69,6 @@ pub fn mixed_hashes(alloc: Global, count: u64, distinct: u64) -> Result<Vec<u64>
         hashes.push(if which == 1 { u64::MAX } else { spread })?;
     }
     Ok(hashes)
-}
-
-/// The emptiness, theta and hashes of an updatable sketch.
-pub fn shown_of<A: Allocator>(alloc: Global, sketch: &ThetaSketch<A>) -> Result<Value, AllocError> {
-    let hashes = ascending(alloc, sketch.iter())?;
-    Ok((sketch.is_empty(), sketch.theta64(), hashes))
-}
-
-/// The value of a sketch of 2^`lg_k` nominal entries after hashes, with one call for each.
-pub fn after_each(alloc: Global, lg_k: u8, hashes: &[u64]) -> Result<Value, Error> {
-    let mut sketch = ThetaSketchBuilder::default().lg_k(lg_k).build(alloc)?;
-    for hash in hashes {
-        sketch.update_hash(*hash)?;
-    }
-    Ok(shown_of(alloc, &sketch)?)
 }
 
 /// The emptiness, theta and hashes of a compact sketch.

@@ -5,26 +5,14 @@
 mod audience;
 pub mod common;
 #[cfg(test)]
-mod differences;
+mod examples;
 #[cfg(test)]
 mod family;
 #[cfg(test)]
-mod hashes;
-#[cfg(test)]
-mod intersections;
-#[cfg(test)]
-mod many_hashes;
-#[cfg(test)]
 mod mapped;
-#[cfg(test)]
-mod plain;
 #[cfg(test)]
 mod sketches;
 #[cfg(test)]
 mod slots;
 #[cfg(test)]
 mod steps;
-#[cfg(test)]
-mod tables;
-#[cfg(test)]
-mod unions;

@@ -4,8 +4,8 @@ ghost use Rattle.std.specs.Prelude.{Some, false};
 use std::alloc::Global;
 use std::test::Fail;
 use tuple_sketches::{
-    CompactTupleSketch, Error, SummaryCombinePolicy, SummaryPolicy, SummaryUpdatePolicy,
-    TupleSketchBuilder, TupleUnionBuilder,
+    Error, SummaryCombinePolicy, SummaryPolicy, SummaryUpdatePolicy, TupleSketchBuilder,
+    TupleUnion, TupleUnionBuilder,
 };
 
 /// Keeps the last word that came with a key.
@@ -44,37 +44,27 @@ impl<'a> SummaryCombinePolicy for LastWord<'a> {
     }
 }
 
-/// A sketch of the last word at each hash.
-fn sketch_of<'a>(
+/// Updates a union with a sketch of the last word at each hash.
+fn add<'a>(
     alloc: Global,
+    union: &mut TupleUnion<LastWord<'a>>,
     words: &[(u64, &'a str)],
-) -> Result<CompactTupleSketch<&'a str>, Error> {
+) -> Result<(), Error> {
     let mut sketch = TupleSketchBuilder::new(LastWord { first: "" }).build(alloc)?;
     for (hash, word) in words {
         sketch.update_hash(*hash, *word)?;
     }
-    sketch.compact(true)
+    union.update(sketch.as_view())
 }
 
-/// The union of two sketches of words, in which the second's words are the last.
-fn united<'a>(
-    alloc: Global,
-    first: &CompactTupleSketch<&'a str>,
-    second: &CompactTupleSketch<&'a str>,
-) -> Result<CompactTupleSketch<&'a str>, Error> {
-    let mut union = TupleUnionBuilder::new(LastWord { first: "" }).build(alloc)?;
-    union.update(first.as_view())?;
-    union.update(second.as_view())?;
-    union.to_sketch(true)
-}
-
-/// The hashes of a sketch, each with its word.
+/// The hashes of a union, each with its word.
 fn listed<'a>(
     alloc: Global,
-    sketch: &CompactTupleSketch<&'a str>,
+    union: &TupleUnion<LastWord<'a>>,
 ) -> Result<Vec<(u64, &'a str)>, Error> {
+    let answer = union.to_sketch(true)?;
     let mut words = Vec::new(alloc);
-    for entry in sketch.iter() {
+    for entry in answer.iter() {
         words.push((entry.hash(), *entry.summary()))?;
     }
     Ok(words)
@@ -86,12 +76,13 @@ fn last_words<'a>(
     first: &[(u64, &'a str)],
     second: &[(u64, &'a str)],
 ) -> Result<Vec<(u64, &'a str)>, Error> {
-    let first = sketch_of(alloc, first)?;
-    let second = sketch_of(alloc, second)?;
-    listed(alloc, &united(alloc, &first, &second)?)
+    let mut union = TupleUnionBuilder::new(LastWord { first: "" }).build(alloc)?;
+    add(alloc, &mut union, first)?;
+    add(alloc, &mut union, second)?;
+    listed(alloc, &union)
 }
 
-/// The last words, if one key is seen again in the first sketch and one in the second.
+/// The last words, if one key is seen again in the first list and one in the second.
 fn words_of<'a>(
     alloc: Global,
     green: &'a str,

@@ -17,12 +17,6 @@ pub fn kind_of<T: Drop>(answer: Result<T, Error>) -> Option<ErrorKind> {
     answer.err().map(|e| e.kind())
 }
 
-/// The sum over all entries.
-pub fn total(entries: TupleSketchIter<'_, u64>) -> u64 {
-    let sums = entries.map(|entry| *entry.summary());
-    sums.fold(0, |total: u64, sum| total.saturating_add(sum))
-}
-
 /// The hashes and sums of entries, ascending by hash.
 pub fn ascending(
     alloc: Global,
@@ -34,23 +28,12 @@ pub fn ascending(
     Ok(pairs)
 }
 
-/// Each number from 1 to the last, with ten times itself.
-pub fn tenfold(alloc: Global, last: u64) -> Result<Vec<(u64, u64)>, AllocError> {
-    let mut pairs = Vec::new(alloc);
-    for number in 1..=last {
-        pairs.push((number, number.wrapping_mul(10)))?;
-    }
-    Ok(pairs)
-}
-
-/// A sketch of 32 nominal entries, updated at each hash from 1 to the last with four and then six times the hash.
-pub fn sums_of(alloc: Global, last: u64) -> Result<Sums, Error> {
+/// A sketch of sums with a starting theta, updated with these keys and their values.
+pub fn sums_below(alloc: Global, start: u64, pairs: &[(u64, u64)]) -> Result<Sums, Error> {
     let builder = TupleSketchBuilder::new(DefaultUpdatePolicy::<u64>::default());
-    let mut sketch = builder.lg_k(5).build(alloc)?;
-    for times in [4u64, 6] {
-        for hash in 1..=last {
-            sketch.update_hash(hash, hash.wrapping_mul(times))?;
-        }
+    let mut sketch = builder.starting_theta(start).build(alloc)?;
+    for (hash, value) in pairs {
+        sketch.update_hash(*hash, *value)?;
     }
     Ok(sketch)
 }

@@ -1,4 +1,4 @@
-//! Tests over the public calls of the tuple sketches: values from outside, policies for tests, and memory that is refused.
+//! Tests over the public calls of the tuple sketches: policies for tests, and memory that is refused.
 #![tactic(auto)]
 
 #[cfg(test)]
@@ -10,14 +10,10 @@ mod common;
 #[cfg(test)]
 mod forms;
 #[cfg(test)]
-mod operator_requests;
-#[cfg(test)]
 mod operators;
 #[cfg(test)]
 mod policies;
 #[cfg(test)]
 mod requests;
-#[cfg(test)]
-mod sums;
 #[cfg(test)]
 mod tables;

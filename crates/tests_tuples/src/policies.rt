@@ -42,19 +42,8 @@ fn slowest(alloc: Global, calls: &[(&str, u64)]) -> Result<TupleSketch<Greatest>
     Ok(sketch)
 }
 
-/// The number of entries of a sketch of greatest values after some values at key 9, and the greatest of these.
-fn greatest_of(alloc: Global, values: &[u64]) -> Result<(usize, Option<u64>), Error> {
-    let mut sketch = TupleSketchBuilder::new(Greatest).build(alloc)?;
-    for value in values {
-        sketch.update_hash(9, *value)?;
-    }
-    let greatest = sketch.iter().next().map(|entry| *entry.summary());
-    Ok((sketch.num_retained(), greatest))
-}
-
 #[test]
 fn greatest_values_are_kept(rt: HostRuntime) -> Result<(), Fail> {
-    assert_eq!(rt; greatest_of(rt.alloc(), &[3, 7, 5])?, (1, Some(7)));
     let calls = [("home", 20), ("search", 310), ("home", 45), ("search", 170)];
     let slowest = slowest(rt.alloc(), &calls)?;
     let mut millis: Vec<u64> = slowest
@@ -135,24 +124,6 @@ fn refusals_change_nothing(rt: HostRuntime) -> Result<(), Fail> {
         let mut sketch = counting(rt.alloc(), start)?;
         let found = after_value(&mut sketch, hash, value);
         assert_eq!(rt; found, wanted, "{value} at {hash}, from {start}");
-    }
-    Ok(())
-}
-
-#[test]
-fn a_refused_value_leaves_the_summary(rt: HostRuntime) -> Result<(), Fail> {
-    let refused = Some(ErrorKind::Policy);
-    let mut sketch = counting(rt.alloc(), 5)?;
-    // A value at key 9, and the state after it.
-    let rows = [
-        (2, (None, false, Some(3))),
-        (4, (refused, false, Some(3))),
-        (3, (None, false, Some(0))),
-        (1, (refused, false, Some(0))),
-    ];
-    for (value, wanted) in rows {
-        let found = after_value(&mut sketch, 9, value);
-        assert_eq!(rt; found, wanted, "after {value}");
     }
     Ok(())
 }

@@ -4,7 +4,7 @@ ghost use Rattle.sketch_base.specs.Seed.{seed_hash};
 ghost use Rattle.core_operators.specs.ANotB.{difference_refusal, IsHashDifference};
 ghost use Rattle.core_operators.specs.Intersection.{seed_refusal};
 ghost use Rattle.core_laws.specs.Refusal.{Refuses};
-ghost use Rattle.theta_sketches.specs.View.{view_shows, view_lends};
+ghost use Rattle.theta_sketches.specs.View.{view_shows, view_sequence};
 
 use crate::compact_sketch::CompactThetaSketch;
 use crate::view::ThetaSketchView;
@@ -76,7 +76,7 @@ impl ThetaANotB {
         ordered: bool,
     ) -> Result<CompactThetaSketch<A>, Error>
         ensures ok { IfOk result (
-            IsHashDifference (view_shows a.entry) (view_lends a.entry) (view_shows b.entry) (view_lends b.entry) ordered) }
+            IsHashDifference (view_shows a.entry) (view_sequence a.entry) (view_shows b.entry) (view_sequence b.entry) ordered) }
         ensures refused { Refuses result (difference_refusal self.now (view_shows a.entry) (view_shows b.entry)) true }
     {
         let state = a_not_b::compute_with_entries(alloc, self.seed_hash, a, b, ordered)?;

@@ -6,7 +6,7 @@ ghost use Rattle.core_laws.specs.Refusal.{Refuses};
 ghost use Rattle.core_laws.specs.Shown.{shown_value};
 ghost use Rattle.core_state.specs.Fraction.{decimal_of, compact_fraction};
 ghost use Rattle.core_state.specs.declared.fraction.TheConstants.{MAX_PLACES};
-ghost use Rattle.theta_sketches.specs.View.{view_shows, view_lends};
+ghost use Rattle.theta_sketches.specs.View.{view_shows, view_sequence};
 
 use crate::view::ThetaSketchView;
 use core_compact::CompactSketchState;
@@ -50,8 +50,8 @@ impl<A: Allocator> CompactThetaSketch<A> {
     /// A view of the sketch, for operators.
     pub fn as_view(&self) -> ThetaSketchView<'_, A>
         ensures shows { view_shows result ≡ shown_of hash_key self.now }
-        ensures lends { view_lends result ≡ self.now.entries }
-        ensures value { shown_value hash_key (view_shows result) (view_lends result) ≡ compact_value hash_key self.now }
+        ensures sequence { view_sequence result ≡ self.now.entries }
+        ensures value { shown_value hash_key (view_shows result) (view_sequence result) ≡ compact_value hash_key self.now }
     {
         ThetaSketchView::of_compact(&self.state)
     }
@@ -95,7 +95,7 @@ impl<A: Allocator> CompactThetaSketch<A> {
 
     /// The estimate as a decimal number with `places` decimals, from 0 to 19, rounded down; 0 for an empty sketch.
     pub fn estimate_decimal(&self, places: u32) -> Decimal
-        requires few { places ≤ MAX_PLACES }
+        requires limited { places ≤ MAX_PLACES }
         ensures { result ≡ decimal_of (compact_fraction self.now) places }
     {
         compact_decimal(&self.state, places)

@@ -3,12 +3,12 @@ ghost use Rattle.std.specs.Prelude.{◌≡◌, Some, None, false, is_some, IfOk,
 ghost use Rattle.sketch_base.specs.Seed.{seed_hash};
 ghost use Rattle.sketch_base.specs.declared.seed.TheConstants.{DEFAULT_UPDATE_SEED};
 ghost use Rattle.core_laws.specs.Entries.{hash_key, first_hash};
-ghost use Rattle.core_operators.specs.Intersection.{Intersection, new_intersection, seed_refusal, intersect_refusal, IsAnswerIfAny, IsIntersection, held_of, IsHashIntersectError};
+ghost use Rattle.core_operators.specs.Intersection.{Intersection, new_intersection, seed_refusal, intersect_refusal, IsAnswerIfAny, IsIntersection, content_of, IsHashIntersectError};
 ghost use Rattle.core_laws.specs.Operators.{meet_next};
 ghost use Rattle.core_laws.specs.Cuts.{IsRetained};
 ghost use Rattle.core_laws.specs.Refusal.{Refuses};
 ghost use Rattle.core_laws.specs.Shown.{shown_value};
-ghost use Rattle.theta_sketches.specs.View.{view_shows, view_lends};
+ghost use Rattle.theta_sketches.specs.View.{view_shows, view_sequence};
 
 use crate::compact_sketch::CompactThetaSketch;
 use crate::view::ThetaSketchView;
@@ -104,12 +104,12 @@ impl<A: Allocator + Clone> ThetaIntersection<A> {
             self.new.result
             ≡ Some (
             meet_next hash_key first_hash self.old.result (
-            shown_value hash_key (view_shows sketch.entry) (view_lends sketch.entry)))) }
+            shown_value hash_key (view_shows sketch.entry) (view_sequence sketch.entry)))) }
         ensures made_with { self.new ≡ record self.old { result = self.new.result } }
         ensures accepted { OnOk result (intersect_refusal self.old (view_shows sketch.entry) ≡ None) }
         ensures refused { IfErr result (IsHashIntersectError self.old self.new (view_shows sketch.entry)) }
         ensures sound { IsIntersection self.old }
-        ensures held { IsRetained hash_key (held_of self.old.result) }
+        ensures content { IsRetained hash_key (content_of self.old.result) }
     {
         self.state.update(sketch)?;
         Ok(())

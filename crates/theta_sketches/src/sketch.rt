@@ -12,7 +12,7 @@ ghost use Rattle.core_laws.specs.Values.{theta_of, count_of, fraction_of};
 ghost use Rattle.core_laws.specs.Shown.{IsShown, shown_value};
 ghost use Rattle.core_state.specs.Fraction.{decimal_of};
 ghost use Rattle.core_state.specs.declared.fraction.TheConstants.{MAX_PLACES};
-ghost use Rattle.theta_sketches.specs.View.{view_shows, view_lends};
+ghost use Rattle.theta_sketches.specs.View.{view_shows, view_sequence};
 
 use crate::compact_sketch::CompactThetaSketch;
 use crate::view::ThetaSketchView;
@@ -55,8 +55,8 @@ impl<A: Allocator> ThetaSketch<A> {
     /// A view of the sketch, for operators.
     pub fn as_view(&self) -> ThetaSketchView<'_, A>
         ensures shows { view_shows result ≡ sketch_shows hash_key self.now }
-        ensures lends { view_lends result ≡ self.now.lends }
-        ensures value { shown_value hash_key (view_shows result) (view_lends result) ≡ sketch_value self.now }
+        ensures sequence { view_sequence result ≡ self.now.sequence }
+        ensures value { shown_value hash_key (view_shows result) (view_sequence result) ≡ sketch_value self.now }
     {
         ThetaSketchView::of_state(&self.state)
     }
@@ -85,7 +85,7 @@ impl<A: Allocator> ThetaSketch<A> {
     /// How many hashes it retains, fewer than 2^32.
     pub fn num_retained(&self) -> usize
         ensures count { result ≡ count_of (sketch_value self.now) }
-        ensures listed { result ≡ length self.now.lends }
+        ensures listed { result ≡ length self.now.sequence }
         ensures sound { IsShown (sketch_shows hash_key self.now) }
     {
         self.state.num_retained()
@@ -101,7 +101,7 @@ impl<A: Allocator> ThetaSketch<A> {
 
     /// The estimate as a decimal number with `places` decimals, from 0 to 19, rounded down; 0 for an empty sketch.
     pub fn estimate_decimal(&self, places: u32) -> Decimal
-        requires few { places ≤ MAX_PLACES }
+        requires limited { places ≤ MAX_PLACES }
         ensures { result ≡ decimal_of (fraction_of (sketch_value self.now)) places }
     {
         self.state.estimate_decimal(places)
@@ -123,8 +123,8 @@ impl<A: Allocator> ThetaSketch<A> {
 
     /// Its entries, each once, in an unspecified order.
     pub fn iter(&self) -> ThetaSketchIter<'_>
-        ensures listed { result ≡ record { rest = self.now.lends; counted = false } }
-        ensures each_once { IsListing hash_key self.now.map.kept.entries self.now.lends }
+        ensures listed { result ≡ record { rest = self.now.sequence; counted = false } }
+        ensures each_once { IsListing hash_key self.now.map.kept.entries self.now.sequence }
     {
         ThetaSketchIter::over(self.state.entries())
     }
@@ -213,6 +213,18 @@ impl<A: Allocator + Clone> ThetaSketch<A> {
         ensures refused { Refuses result None (nat_lt (2 ^ self.old.map.lg_nom) (length self.old.map.kept.entries)) }
     {
         self.state.trim()
+    }
+
+    /// Returns a copy of the sketch, in memory of clones of its allocator: with the same hashes, theta and settings, but
+    /// perhaps with another order of `iter`. Refused with `OutOfMemory` alone.
+    pub fn clone(&self) -> Result<Self, Error>
+        ensures empty { IfOk result (λ s. s.empty ≡ self.now.empty) }
+        ensures copied { IfOk result (λ s. s.map ≡ self.now.map) }
+        ensures refused { Refuses result None true }
+    {
+        Ok(ThetaSketch {
+            state: self.state.clone()?,
+        })
     }
 
     /// Returns a compact sketch of the same value, untrimmed. The result is ordered if `ordered` is true, if it is

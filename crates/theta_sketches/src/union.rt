@@ -8,7 +8,7 @@ ghost use Rattle.core_laws.specs.Settings.{settings_refusal};
 ghost use Rattle.core_laws.specs.Cuts.{IsRetained};
 ghost use Rattle.core_operators.specs.Union.{Union, empty_union, union_value, update_refusal, lower_refusal, lower_allocates, lowered, failure, IsUnion, JoinsHashes, UnitesHashes, IsHashUpdateError};
 ghost use Rattle.core_laws.specs.Values.{cut_value};
-ghost use Rattle.theta_sketches.specs.View.{view_shows, view_lends};
+ghost use Rattle.theta_sketches.specs.View.{view_shows, view_sequence};
 
 use crate::compact_sketch::CompactThetaSketch;
 use crate::policy::NoopUnionPolicy;
@@ -72,13 +72,13 @@ impl<A: Allocator + Clone> ThetaUnion<A> {
     /// another seed; then nothing has changed. Refused with `OutOfMemory`; then the union has failed.
     pub fn update<B: Allocator>(&mut self, sketch: ThetaSketchView<'_, B>) -> Result<(), Error>
         ensures skipped { OnOk result ((view_shows sketch.entry).empty ≡ true → self.new ≡ self.old) }
-        ensures united { OnOk result (UnitesHashes self.old self.new (view_shows sketch.entry) (view_lends sketch.entry)) }
-        ensures joined { OnOk result (JoinsHashes self.old self.new (view_shows sketch.entry) (view_lends sketch.entry)) }
-        ensures made_with { OnOk result (self.new ≡ record self.old { empty = self.new.empty; held = self.new.held }) }
+        ensures united { OnOk result (UnitesHashes self.old self.new (view_shows sketch.entry) (view_sequence sketch.entry)) }
+        ensures joined { OnOk result (JoinsHashes self.old self.new (view_shows sketch.entry) (view_sequence sketch.entry)) }
+        ensures made_with { OnOk result (self.new ≡ record self.old { empty = self.new.empty; content = self.new.content }) }
         ensures accepted { OnOk result (update_refusal self.old (view_shows sketch.entry) ≡ None) }
         ensures refused { IfErr result (IsHashUpdateError self.old self.new (view_shows sketch.entry)) }
         ensures sound { IsUnion self.old }
-        ensures held { IsRetained hash_key self.old.held }
+        ensures content { IsRetained hash_key self.old.content }
     {
         self.state.update(sketch)?;
         Ok(())
@@ -107,7 +107,7 @@ impl<A: Allocator + Clone> ThetaUnion<A> {
         ensures err { OnErr result (self.new ≡ self.old) }
         ensures refused { Refuses result (lower_refusal self.old lg_k) (lower_allocates self.old lg_k) }
         ensures sound { IsUnion self.old }
-        ensures held { IsRetained hash_key self.old.held }
+        ensures content { IsRetained hash_key self.old.content }
     {
         self.state.lower_lg_k(lg_k)
     }

@@ -25,18 +25,18 @@ table_after cs i d lt old was now before after =
     let stepped : MapTable ℕ → MapTable ℕ = λ t. record t { kept = after_command (2 ^ t.lg_nom) t.start (get_or cs i d) t.kept } in
     let with : Retained ℕ → MapTable ℕ = λ v. record old { kept = v } in
     after ∙ ap stepped before
-    ∙ ap with (sym (after_append (2 ^ old.lg_nom) old.start (take i cs) (get_or cs i d) old.kept) ∙ ap (λ (few : List TableCommand). after_commands (2 ^ old.lg_nom) old.start few old.kept) (sym (take_more cs i d lt)))
+    ∙ ap with (sym (after_append (2 ^ old.lg_nom) old.start (take i cs) (get_or cs i d) old.kept) ∙ ap (λ (limited : List TableCommand). after_commands (2 ^ old.lg_nom) old.start limited old.kept) (sym (take_more cs i d lt)))
 
 -- the replies to one more of them
-pub replied_more : (cs : List TableCommand) (i : ℕ) (d : TableCommand) (lt : i < length cs) (old was : MapTable ℕ) (told : TableReply) (told_so_far told_now : List TableReply) →
+pub replied_more : (cs : List TableCommand) (i : ℕ) (d : TableCommand) (lt : i < length cs) (old was : MapTable ℕ) (reported : TableReply) (reported_so_far reported_now : List TableReply) →
     was ≡ record old { kept = after_commands (2 ^ old.lg_nom) old.start (take i cs) old.kept } →
-    told_so_far ≡ replies (2 ^ old.lg_nom) old.start (take i cs) old.kept →
-    told ≡ reply (2 ^ was.lg_nom) was.start (get_or cs i d) was.kept →
-    told_now ≡ told_so_far ++ told ∷ [] →
-    told_now ≡ replies (2 ^ old.lg_nom) old.start (take (i + 1) cs) old.kept
-replied_more cs i d lt old was told told_so_far told_now before so_far is now =
+    reported_so_far ≡ replies (2 ^ old.lg_nom) old.start (take i cs) old.kept →
+    reported ≡ reply (2 ^ was.lg_nom) was.start (get_or cs i d) was.kept →
+    reported_now ≡ reported_so_far ++ reported ∷ [] →
+    reported_now ≡ replies (2 ^ old.lg_nom) old.start (take (i + 1) cs) old.kept
+replied_more cs i d lt old was reported reported_so_far reported_now before so_far is now =
     now
-    ∙ ap (λ (rs : List TableReply). rs ++ told ∷ []) so_far
+    ∙ ap (λ (rs : List TableReply). rs ++ reported ∷ []) so_far
     ∙ ap (λ (r : TableReply). replies (2 ^ old.lg_nom) old.start (take i cs) old.kept ++ r ∷ []) (is ∙ ap (λ (t : MapTable ℕ). reply (2 ^ t.lg_nom) t.start (get_or cs i d) t.kept) before)
     ∙ sym (replies_append (2 ^ old.lg_nom) old.start (take i cs) (get_or cs i d) old.kept)
-    ∙ ap (λ (few : List TableCommand). replies (2 ^ old.lg_nom) old.start few old.kept) (sym (take_more cs i d lt))
+    ∙ ap (λ (limited : List TableCommand). replies (2 ^ old.lg_nom) old.start limited old.kept) (sym (take_more cs i d lt))

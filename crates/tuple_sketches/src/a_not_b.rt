@@ -7,7 +7,7 @@ ghost use Rattle.core_laws.specs.Entries.{ClonesEqual};
 ghost use Rattle.core_laws.specs.Refusal.{Refuses};
 ghost use Rattle.core_operators.specs.ANotB.{difference_refusal, IsDifference};
 ghost use Rattle.core_operators.specs.Intersection.{seed_refusal};
-ghost use Rattle.core_state.specs.View.{shows, lends};
+ghost use Rattle.core_state.specs.View.{shows, sequence};
 
 use crate::compact_sketch::CompactTupleSketch;
 use crate::operands::difference_of;
@@ -85,7 +85,7 @@ impl TupleANotB {
         ordered: bool,
     ) -> Result<CompactTupleSketch<S, A>, Error>
         requires clones_equal { ClonesEqual S.is_clone }
-        ensures ok { IfOk result (IsDifference tuple_key (shows tuple_key a.entry) (lends a.entry) (shows tuple_key b.entry) ordered) }
+        ensures ok { IfOk result (IsDifference tuple_key (shows tuple_key a.entry) (sequence a.entry) (shows tuple_key b.entry) ordered) }
         ensures refused { Refuses result (difference_refusal self.now (shows tuple_key a.entry) (shows tuple_key b.entry)) true }
     {
         let state = difference_of(alloc, self.seed_hash, a, b, ordered)?;

@@ -5,7 +5,7 @@ ghost use Rattle.core_laws.specs.Entries.{ClonesEqual};
 ghost use Rattle.core_laws.specs.Refusal.{Refuses};
 ghost use Rattle.core_laws.specs.Shown.{shown_value};
 ghost use Rattle.core_state.specs.Fraction.{decimal_of, compact_fraction};
-ghost use Rattle.core_state.specs.View.{shows, lends};
+ghost use Rattle.core_state.specs.View.{shows, sequence};
 ghost use Rattle.core_state.specs.declared.fraction.TheConstants.{MAX_PLACES};
 ghost use Rattle.core_slots.specs.Entry.{tuple_key};
 
@@ -51,8 +51,8 @@ impl<S: Drop, A: Allocator> CompactTupleSketch<S, A> {
     /// A view of the sketch, for operators.
     pub fn as_view(&self) -> TupleSketchView<'_, S, A>
         ensures shows { shows tuple_key result ≡ shown_of tuple_key self.now }
-        ensures lends { lends result ≡ self.now.entries }
-        ensures value { shown_value tuple_key (shows tuple_key result) (lends result) ≡ compact_value tuple_key self.now }
+        ensures sequence { sequence result ≡ self.now.entries }
+        ensures value { shown_value tuple_key (shows tuple_key result) (sequence result) ≡ compact_value tuple_key self.now }
     {
         TupleSketchView::of_compact(&self.state)
     }
@@ -96,7 +96,7 @@ impl<S: Drop, A: Allocator> CompactTupleSketch<S, A> {
 
     /// The estimate as a decimal number with `places` decimals, from 0 to 19, rounded down; 0 for an empty sketch.
     pub fn estimate_decimal(&self, places: u32) -> Decimal
-        requires few { places ≤ MAX_PLACES }
+        requires limited { places ≤ MAX_PLACES }
         ensures { result ≡ decimal_of (compact_fraction self.now) places }
     {
         compact_decimal(&self.state, places)

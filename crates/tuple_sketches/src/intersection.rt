@@ -7,8 +7,8 @@ ghost use Rattle.core_laws.specs.Cuts.{IsRetained};
 ghost use Rattle.core_laws.specs.Entries.{ClonesEqual};
 ghost use Rattle.core_laws.specs.Refusal.{Refuses};
 ghost use Rattle.core_policies.specs.Summaries.{combined, combine_refused};
-ghost use Rattle.core_operators.specs.Intersection.{new_intersection, seed_refusal, intersect_refusal, IsAnswerIfAny, IsIntersection, IsMet, held_of, IsIntersectError};
-ghost use Rattle.core_state.specs.View.{shows, lends};
+ghost use Rattle.core_operators.specs.Intersection.{new_intersection, seed_refusal, intersect_refusal, IsAnswerIfAny, IsIntersection, IsMet, content_of, IsIntersectError};
+ghost use Rattle.core_state.specs.View.{shows, sequence};
 
 use crate::compact_sketch::CompactTupleSketch;
 use crate::operands::meet_view;
@@ -88,14 +88,14 @@ impl<P: SummaryCombinePolicy + Drop, A: Allocator + Clone> TupleIntersection<P, 
         ensures met { OnOk result (
             IsMet tuple_key (combined (P.combines self.old.state.policy))
             (combine_refused (P.combines self.old.state.policy)) self.old.state self.new.state
-            (shows tuple_key sketch.entry) (lends sketch.entry)) }
+            (shows tuple_key sketch.entry) (sequence sketch.entry)) }
         ensures made_with { self.new.state ≡ record self.old.state { result = self.new.state.result } }
         ensures accepted { OnOk result (intersect_refusal self.old.state (shows tuple_key sketch.entry) ≡ None) }
         ensures refused { IfErr result (
             IsIntersectError tuple_key (combine_refused (P.combines self.old.state.policy)) self.old.state
-            self.new.state (shows tuple_key sketch.entry) (lends sketch.entry)) }
+            self.new.state (shows tuple_key sketch.entry) (sequence sketch.entry)) }
         ensures sound { IsIntersection self.old.state }
-        ensures held { IsRetained tuple_key (held_of self.old.state.result) }
+        ensures content { IsRetained tuple_key (content_of self.old.state.result) }
     {
         meet_view(&mut self.state, sketch)
     }

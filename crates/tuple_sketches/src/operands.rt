@@ -5,9 +5,9 @@ ghost use Rattle.core_laws.specs.Cuts.{IsRetained};
 ghost use Rattle.core_laws.specs.Entries.{ClonesEqual};
 ghost use Rattle.core_laws.specs.Refusal.{Refuses};
 ghost use Rattle.core_operators.specs.ANotB.{difference_refusal, IsDifference};
-ghost use Rattle.core_operators.specs.Intersection.{intersect_refusal, IsIntersection, IsMet, held_of, IsIntersectError};
+ghost use Rattle.core_operators.specs.Intersection.{intersect_refusal, IsIntersection, IsMet, content_of, IsIntersectError};
 ghost use Rattle.core_operators.specs.Union.{update_refusal, IsUnion, JoinsShown, UnitesShown, IsUpdateError};
-ghost use Rattle.core_state.specs.View.{shows, lends};
+ghost use Rattle.core_state.specs.View.{shows, sequence};
 
 use core_compact::CompactSketchState;
 use core_operators::{IntersectionState, UnionState, a_not_b};
@@ -31,16 +31,16 @@ where
     ensures skipped { OnOk result ((shows E.key view.entry).empty ≡ true → union.new ≡ union.old) }
     ensures joined { OnOk result (
         JoinsShown E.key (P.merges union.old.policy) (P.refuses union.old.policy) union.old union.new
-        (shows E.key view.entry) (lends view.entry)) }
+        (shows E.key view.entry) (sequence view.entry)) }
     ensures united { OnOk result (
         UnitesShown E.key (P.merges union.old.policy) (P.refuses union.old.policy) union.old union.new
-        (shows E.key view.entry) (lends view.entry)) }
+        (shows E.key view.entry) (sequence view.entry)) }
     ensures accepted { OnOk result (update_refusal union.old (shows E.key view.entry) ≡ None) }
     ensures refused { IfErr result (
         IsUpdateError E.key (P.refuses union.old.policy) union.old union.new (shows E.key view.entry)
-        (lends view.entry)) }
+        (sequence view.entry)) }
     ensures sound { IsUnion union.old }
-    ensures held { IsRetained E.key union.old.held }
+    ensures content { IsRetained E.key union.old.content }
 {
     union.update(view)
 }
@@ -58,14 +58,14 @@ where
     requires clones_equal { ClonesEqual E.is_clone }
     ensures met { OnOk result (
         IsMet E.key (P.merges intersection.old.policy) (P.refuses intersection.old.policy) intersection.old
-        intersection.new (shows E.key view.entry) (lends view.entry)) }
+        intersection.new (shows E.key view.entry) (sequence view.entry)) }
     ensures made_with { intersection.new ≡ record intersection.old { result = intersection.new.result } }
     ensures accepted { OnOk result (intersect_refusal intersection.old (shows E.key view.entry) ≡ None) }
     ensures refused { IfErr result (
         IsIntersectError E.key (P.refuses intersection.old.policy) intersection.old intersection.new
-        (shows E.key view.entry) (lends view.entry)) }
+        (shows E.key view.entry) (sequence view.entry)) }
     ensures sound { IsIntersection intersection.old }
-    ensures held { IsRetained E.key (held_of intersection.old.result) }
+    ensures content { IsRetained E.key (content_of intersection.old.result) }
 {
     intersection.update(view)
 }
@@ -90,7 +90,7 @@ where
     E::Slot: 'v,
     F::Slot: 'w,
     requires clones_equal { ClonesEqual E.is_clone }
-    ensures ok { IfOk result (IsDifference E.key (shows E.key a.entry) (lends a.entry) (shows F.key b.entry) ordered) }
+    ensures ok { IfOk result (IsDifference E.key (shows E.key a.entry) (sequence a.entry) (shows F.key b.entry) ordered) }
     ensures refused { Refuses result (difference_refusal seed_hash (shows E.key a.entry) (shows F.key b.entry)) true }
 {
     a_not_b::compute_with_entries(alloc, seed_hash, a, b, ordered)

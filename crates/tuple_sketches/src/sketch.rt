@@ -8,7 +8,7 @@ ghost use Rattle.core_table.specs.HashTable.{empty_table, after_reset, key_hash,
 ghost use Rattle.core_laws.specs.Maps.{IsListing};
 ghost use Rattle.core_laws.specs.Insertion.{upsert_refusal, upsert_allocates};
 ghost use Rattle.core_state.specs.Updatable.{sketch_value, sketch_shows};
-ghost use Rattle.core_state.specs.View.{shows, lends};
+ghost use Rattle.core_state.specs.View.{shows, sequence};
 ghost use Rattle.core_laws.specs.Values.{theta_of, count_of, fraction_of};
 ghost use Rattle.core_laws.specs.Shown.{IsShown, shown_value};
 ghost use Rattle.core_state.specs.Fraction.{decimal_of};
@@ -52,8 +52,8 @@ impl<P: SummaryPolicy, A: Allocator> TupleSketch<P, A> {
     /// A view of the sketch, for operators.
     pub fn as_view(&self) -> TupleSketchView<'_, P::Summary, A>
         ensures shows { shows tuple_key result ≡ sketch_shows tuple_key self.now.state }
-        ensures lends { lends result ≡ self.now.state.lends }
-        ensures value { shown_value tuple_key (shows tuple_key result) (lends result) ≡ sketch_value self.now.state }
+        ensures sequence { sequence result ≡ self.now.state.sequence }
+        ensures value { shown_value tuple_key (shows tuple_key result) (sequence result) ≡ sketch_value self.now.state }
     {
         TupleSketchView::of_state(&self.state)
     }
@@ -82,7 +82,7 @@ impl<P: SummaryPolicy, A: Allocator> TupleSketch<P, A> {
     /// How many entries it retains, fewer than 2^32.
     pub fn num_retained(&self) -> usize
         ensures count { result ≡ count_of (sketch_value self.now.state) }
-        ensures listed { result ≡ length self.now.state.lends }
+        ensures listed { result ≡ length self.now.state.sequence }
         ensures sound { IsShown (sketch_shows tuple_key self.now.state) }
     {
         self.state.num_retained()
@@ -98,7 +98,7 @@ impl<P: SummaryPolicy, A: Allocator> TupleSketch<P, A> {
 
     /// The estimate as a decimal number with `places` decimals, from 0 to 19, rounded down; 0 for an empty sketch.
     pub fn estimate_decimal(&self, places: u32) -> Decimal
-        requires few { places ≤ MAX_PLACES }
+        requires limited { places ≤ MAX_PLACES }
         ensures { result ≡ decimal_of (fraction_of (sketch_value self.now.state)) places }
     {
         self.state.estimate_decimal(places)
@@ -120,8 +120,8 @@ impl<P: SummaryPolicy, A: Allocator> TupleSketch<P, A> {
 
     /// Its entries, each once, in an unspecified order.
     pub fn iter(&self) -> TupleSketchIter<'_, P::Summary>
-        ensures listed { result ≡ record { rest = self.now.state.lends; counted = false } }
-        ensures each_once { IsListing tuple_key self.now.state.map.kept.entries self.now.state.lends }
+        ensures listed { result ≡ record { rest = self.now.state.sequence; counted = false } }
+        ensures each_once { IsListing tuple_key self.now.state.map.kept.entries self.now.state.sequence }
     {
         self.state.entries()
     }

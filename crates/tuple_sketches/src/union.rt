@@ -10,7 +10,7 @@ ghost use Rattle.core_laws.specs.Refusal.{Refuses};
 ghost use Rattle.core_laws.specs.Values.{cut_value};
 ghost use Rattle.core_policies.specs.Summaries.{combine_refused};
 ghost use Rattle.core_operators.specs.Union.{empty_union, union_value, update_refusal, lower_refusal, lower_allocates, lowered, failure, IsUnion, IsUpdateError, JoinsSummaries, UnitesSummaries};
-ghost use Rattle.core_state.specs.View.{shows, lends};
+ghost use Rattle.core_state.specs.View.{shows, sequence};
 
 use crate::compact_sketch::CompactTupleSketch;
 use crate::operands::join_view;
@@ -75,17 +75,17 @@ impl<P: SummaryCombinePolicy + Drop, A: Allocator + Clone> TupleUnion<P, A> {
         ensures skipped { OnOk result ((shows tuple_key sketch.entry).empty ≡ true → self.new.state ≡ self.old.state) }
         ensures united { OnOk result (
             UnitesSummaries (P.combines self.old.state.policy) self.old.state self.new.state
-            (shows tuple_key sketch.entry) (lends sketch.entry)) }
+            (shows tuple_key sketch.entry) (sequence sketch.entry)) }
         ensures joined { OnOk result (
             JoinsSummaries (P.combines self.old.state.policy) self.old.state self.new.state
-            (shows tuple_key sketch.entry) (lends sketch.entry)) }
-        ensures made_with { OnOk result (self.new.state ≡ record self.old.state { empty = self.new.state.empty; held = self.new.state.held }) }
+            (shows tuple_key sketch.entry) (sequence sketch.entry)) }
+        ensures made_with { OnOk result (self.new.state ≡ record self.old.state { empty = self.new.state.empty; content = self.new.state.content }) }
         ensures accepted { OnOk result (update_refusal self.old.state (shows tuple_key sketch.entry) ≡ None) }
         ensures refused { IfErr result (
             IsUpdateError tuple_key (combine_refused (P.combines self.old.state.policy)) self.old.state
-            self.new.state (shows tuple_key sketch.entry) (lends sketch.entry)) }
+            self.new.state (shows tuple_key sketch.entry) (sequence sketch.entry)) }
         ensures sound { IsUnion self.old.state }
-        ensures held { IsRetained tuple_key self.old.state.held }
+        ensures content { IsRetained tuple_key self.old.state.content }
     {
         join_view(&mut self.state, sketch)
     }
@@ -120,7 +120,7 @@ impl<P: SummaryCombinePolicy + Drop, A: Allocator + Clone> TupleUnion<P, A> {
         ensures err { OnErr result (self.new.state ≡ self.old.state) }
         ensures refused { Refuses result (lower_refusal self.old.state lg_k) (lower_allocates self.old.state lg_k) }
         ensures sound { IsUnion self.old.state }
-        ensures held { IsRetained tuple_key self.old.state.held }
+        ensures content { IsRetained tuple_key self.old.state.content }
     {
         self.state.lower_lg_k(lg_k)
     }

@@ -39,7 +39,7 @@ fn main(rt: HostRuntime) -> Result<(), Stopped> {
     let mut both = ThetaUnionBuilder::default().lg_k(14).build(rt.alloc())?;
     both.update(monday.as_view())?;
     both.update(tuesday.as_view())?;
-    let (above, below) = both.to_sketch(true)?.estimate_fraction();
-    println!(rt; "{above} / {below} visitors")?;
+    let total = both.to_sketch(true)?.estimate_decimal(2);
+    println!(rt; "{total} visitors")?;
     Ok(())
 }

@@ -11,9 +11,9 @@ use Rattle.core_laws.proofs.maps.Ascending.{each-weaker, each-get_or, filter_eac
 
 module _ {X : Type 0} where
   find_at_place : (p : X → Bool) (xs : List X) (j : ℕ) (d : X) → j < length xs → ((e : X) → p (get_or xs j e) ≡ true) → ((i : ℕ) (e : X) → i < j → p (get_or xs i e) ≡ false) → find p xs ≡ Some (get_or xs j d)
-  find_at_place p [] j d lt here before = absurd (omega arith)
-  find_at_place p (x ∷ xs) zero d lt here before = rw (here d) refl
-  find_at_place p (x ∷ xs) (suc j) d lt here before = rw (before zero d (omega arith)) (find_at_place p xs j d (omega arith) here (λ i e less. before (suc i) e (omega arith)))
+  find_at_place p [] j d lt present before = absurd (omega arith)
+  find_at_place p (x ∷ xs) zero d lt present before = rw (present d) refl
+  find_at_place p (x ∷ xs) (suc j) d lt present before = rw (before zero d (omega arith)) (find_at_place p xs j d (omega arith) present (λ i e less. before (suc i) e (omega arith)))
 
   find_nowhere : (p : X → Bool) (xs : List X) → ((i : ℕ) (e : X) → i < length xs → p (get_or xs i e) ≡ false) → find p xs ≡ None
   find_nowhere p [] fails = refl

@@ -30,15 +30,15 @@ module _ {X : Type 0} (key : X → ℕ) where
   cut_lawful xs k start theta up (inl e) = rw e refl
   cut_lawful xs k start theta up (inr low) =
       let place : (i : ℕ) × (x : X) × Stands xs theta i x = place_of_key xs theta low.is_key in
-      let here : key (get_or xs place.0 place.1) ≡ theta = ap key place.2.is ∙ place.2.has_key in
-      let rank_is : rank key xs theta ≡ place.0 = ap (rank key xs) (sym here) ∙ rank_parts key xs _ place.0 (parts_at key xs place.0 place.1 up place.2.in_range) in
+      let present : key (get_or xs place.0 place.1) ≡ theta = ap key place.2.is ∙ place.2.has_key in
+      let rank_is : rank key xs theta ≡ place.0 = ap (rank key xs) (sym present) ∙ rank_parts key xs _ place.0 (parts_at key xs place.0 place.1 up place.2.in_range) in
       let above_it : place.0 < rank key xs start =
-      elim (cases_lt place.0 (rank key xs start)) [ inl lt ↦ lt | inr le ↦ absurd (omega (arith, (parts_rank key xs start up).others place.0 place.1 le place.2.in_range, here, low.below_start)) ] in
+      elim (cases_lt place.0 (rank key xs start)) [ inl lt ↦ lt | inr le ↦ absurd (omega (arith, (parts_rank key xs start up).others place.0 place.1 le place.2.in_range, present, low.below_start)) ] in
       let whole : cut key k xs start ≡ record { entries = take k xs; theta = key (get_or xs k place.1) } = cut_more key k xs start place.1 up (omega (arith, low.ranked, rank_is)) in
       elim (cases_lt k (rank key xs theta)) [
         | inl lt ↦ cut_more key k xs theta place.1 up lt ∙ sym whole
         | inr le ↦
             let same : k ≡ place.0 = omega (arith, le, low.ranked, rank_is) in
             cut_few key k xs theta up le ∙ ap (λ ys. record { entries = ys; theta = theta }) (below_rank key xs theta up ∙ ap (λ n. take n xs) (rank_is ∙ sym same))
-            ∙ ap (λ t. record { entries = take k xs; theta = t }) (sym here ∙ ap (λ j. key (get_or xs j place.1)) (sym same)) ∙ sym whole
+            ∙ ap (λ t. record { entries = take k xs; theta = t }) (sym present ∙ ap (λ j. key (get_or xs j place.1)) (sym same)) ∙ sym whole
       ]

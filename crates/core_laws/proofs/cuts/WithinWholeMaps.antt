@@ -224,7 +224,7 @@ module _ {X : Type 0} (key : X → ℕ) where
   found_key [] h x e = absurd (cc)
   found_key (y ∷ ys) h x e =
       (elim (eqb (key y) h) as (λ b. eqb (key y) h ≡ b → cond b (Some y) (entry_at key ys h) ≡ Some x → key x ≡ h) [
-        | true ↦ λ f g. let same : y ≡ x = cc in let here : key y ≡ h = grind (arith, nat_tests) in rw (← same) here
+        | true ↦ λ f g. let same : y ≡ x = cc in let present : key y ≡ h = grind (arith, nat_tests) in rw (← same) present
         | false ↦ λ f g. found_key ys h x g
       ]) refl e
 

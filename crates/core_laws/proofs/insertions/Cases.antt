@@ -131,12 +131,12 @@ module _ {X : Type 0} (key : X → ℕ) where
   length-cut k (y ∷ ys) t up = length-cut_with y k (y ∷ ys) t up
 
   -- after a rebuild there are at most fifteen eighths of k
-  pub few-rebuilt : (k : ℕ) (xs : List X) (theta : ℕ) → IsAscending key xs → 8 ≤ k → length (rebuilt key k xs theta).entries ≤ 15 * k / 8
-  few-rebuilt k xs theta up large =
+  pub limited-rebuilt : (k : ℕ) (xs : List X) (theta : ℕ) → IsAscending key xs → 8 ≤ k → length (rebuilt key k xs theta).entries ≤ 15 * k / 8
+  limited-rebuilt k xs theta up large =
       elim (cases_lt (15 * k / 8) (length xs)) [
         | inl lt ↦ rw (rebuilt_full key k xs theta large lt) (omega (arith, length-cut k xs theta up))
         | inr le ↦ rw (rebuilt_free key k xs theta le) le
       ]
 
-  pub few-cut : (k : ℕ) (xs : List X) (theta : ℕ) → IsAscending key xs → 8 ≤ k → length (cut key k xs theta).entries ≤ 15 * k / 8
-  few-cut k xs theta up large = omega (arith, length-cut k xs theta up)
+  pub limited-cut : (k : ℕ) (xs : List X) (theta : ℕ) → IsAscending key xs → 8 ≤ k → length (cut key k xs theta).entries ≤ 15 * k / 8
+  limited-cut k xs theta up large = omega (arith, length-cut k xs theta up)

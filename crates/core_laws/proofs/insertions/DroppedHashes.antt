@@ -81,11 +81,11 @@ redundant_with xs theta x q (inr some) = inr (has-with_entry hash_key xs x q som
 
 -- an existing entry, inserted again
 same_with : (xs : List ℕ) (x : ℕ) → IsAscending hash_key xs → entry_at hash_key xs x ≡ Some x → with_entry hash_key xs x ≡ xs
-same_with xs x up here =
+same_with xs x up present =
     same_map hash_key (with_entry hash_key xs x) xs (ascending-with_entry hash_key xs x up) up
     (λ q. entry_at-with_entry hash_key xs x q
     ∙ (elim (eqb x q) as (λ b. eqb x q ≡ b → cond b (Some x) (entry_at hash_key xs q) ≡ entry_at hash_key xs q) [
-      | true ↦ λ e. let same : x ≡ q = grind (arith, nat_tests) in sym (subst (λ (u : ℕ). entry_at hash_key xs u ≡ Some x) same here)
+      | true ↦ λ e. let same : x ≡ q = grind (arith, nat_tests) in sym (subst (λ (u : ℕ). entry_at hash_key xs u ≡ Some x) same present)
       | false ↦ λ e. refl
     ]) refl)
 
@@ -97,8 +97,8 @@ module _ (k : ℕ) where
   existing_stays : (v : Retained ℕ) (h x : ℕ) → IsRetained hash_key v → is_screened h v.theta ≡ false → entry_at hash_key v.entries h ≡ Some x → after_upsert hash_key k h (hash_step h) v ≡ v
   existing_stays v h x is passes there =
       let same : x ≡ h = found_key hash_key v.entries h x there in
-      let here : entry_at hash_key v.entries x ≡ Some x = rw same (there ∙ ap Some same) in
-      (existing_case hash_key k h (hash_step h) v x passes there).after_is ∙ ap (λ xs. record { entries = xs; theta = v.theta }) (same_with v.entries x is.ascending here)
+      let present : entry_at hash_key v.entries x ≡ Some x = rw same (there ∙ ap Some same) in
+      (existing_case hash_key k h (hash_step h) v x passes there).after_is ∙ ap (λ xs. record { entries = xs; theta = v.theta }) (same_with v.entries x is.ascending present)
 
   -- an insertion of a hash that is redundant changes nothing
   redundant_stays : (v : Retained ℕ) (h : ℕ) → IsRetained hash_key v → IsRedundant hash_key v h → after_upsert hash_key k h (hash_step h) v ≡ v
@@ -121,7 +121,7 @@ module _ (k : ℕ) where
 
   left_after : (v : Retained ℕ) (h : ℕ) → IsRetained hash_key v → IsLeft v h (after_upsert hash_key k h (hash_step h) v)
   left_after v h is =
-      let same : IsRedundant hash_key v h → IsLeft v h v = λ here. record { retained = is; redundant = λ q redundant. redundant; inserted = here } in
+      let same : IsRedundant hash_key v h → IsLeft v h v = λ present. record { retained = is; redundant = λ q redundant. redundant; inserted = present } in
       (elim (is_screened h v.theta) as (λ b. is_screened h v.theta ≡ b → IsLeft v h (after_upsert hash_key k h (hash_step h) v)) [
         | true ↦ λ e. rw (screened_case hash_key k h (hash_step h) v e).after_is (same (inl e))
         | false ↦ λ e.
@@ -132,12 +132,12 @@ module _ (k : ℕ) where
                   let high : h < v.theta = grind (arith, nat_tests) in
                   let more = IsRetained-with_entry hash_key v.entries v.theta h is low high in
                   let hit : eqb h h ≡ true = grind (arith, nat_tests) in
-                  let here : IsSome (entry_at hash_key (with_entry hash_key v.entries h) h) = rw (entry_at-with_entry hash_key v.entries h h, hit) refl in
+                  let present : IsSome (entry_at hash_key (with_entry hash_key v.entries h) h) = rw (entry_at-with_entry hash_key v.entries h h, hit) refl in
                   rw (absent_case hash_key k h (hash_step h) v e there).after_is
                   (record {
                     retained = IsRetained-rebuilt hash_key k (with_entry hash_key v.entries h) v.theta more;
                     redundant = λ q redundant. redundant_rebuilt k (with_entry hash_key v.entries h) v.theta q more (redundant_with v.entries v.theta h q redundant);
-                    inserted = redundant_rebuilt k (with_entry hash_key v.entries h) v.theta h more (inr here);
+                    inserted = redundant_rebuilt k (with_entry hash_key v.entries h) v.theta h more (inr present);
                   })
             ]) refl
       ]) refl

@@ -87,7 +87,7 @@ module _ {X : Type 0} (key : X → ℕ) where
               let later : AllByRecursion (λ z. key x < key z) ys = each-weaker _ _ (λ z less. omega (arith, less)) ys (ascending-head key y ys upy) in
               let tails : (q : ℕ) → entry_at key xs q ≡ entry_at key ys q = λ q.
               (elim (eqb (key x) q) as (λ b. eqb (key x) q ≡ b → entry_at key xs q ≡ entry_at key ys q) [
-                | true ↦ λ e. let here : key x ≡ q = grind (arith, nat_tests) in subst (λ (u : ℕ). entry_at key xs u ≡ entry_at key ys u) here (entry_at_past xs (key x) (ascending-head key x xs upx) ∙ sym (entry_at_past ys (key x) later))
+                | true ↦ λ e. let present : key x ≡ q = grind (arith, nat_tests) in subst (λ (u : ℕ). entry_at key xs u ≡ entry_at key ys u) present (entry_at_past xs (key x) (ascending-head key x xs upx) ∙ sym (entry_at_past ys (key x) later))
                 | false ↦ λ e.
                     let nx : key x ≢ q = grind (arith, nat_tests) in
                     let ny : key y ≢ q = grind (arith, nat_tests) in

@@ -19,7 +19,7 @@ apart xs pairs = IsDistinct-from_apart eqb xs (λ i j d lt in_range. ne_eqb _ _ 
 pub pairs_of : (xs : List ℕ) → IsDistinct eqb xs → AllPairs (λ x y. x ≢ y) xs
 pairs_of xs different = λ i j d lt in_range same.
     let differ = apart_from_distinct eqb xs i j d different lt in_range in
-    let here : eqb (get_or xs i d) (get_or xs j d) ≡ true = eq-eqb _ _ same in
+    let present : eqb (get_or xs i d) (get_or xs j d) ≡ true = eq-eqb _ _ same in
     cc
 
 module _ {X : Type 0} (key : X → ℕ) where
@@ -63,8 +63,8 @@ module _ {X : Type 0} (key : X → ℕ) where
 
 module _ {X : Type 0} (key : X → ℕ) where
   -- entries that ascend are a listing as they are
-  pub lent-ascending : (xs : List X) → IsAscending key xs → IsListing key xs xs
-  lent-ascending xs up = record {
+  pub iterated-ascending : (xs : List X) → IsAscending key xs → IsListing key xs xs
+  iterated-ascending xs up = record {
     each_once = IsPermutation-refl xs;
     apart = ascending-apart key xs up;
     same_map = same_map key (map_of key xs) xs (ascending-map_of key xs) up (entry_at-map_of key xs);
@@ -90,8 +90,8 @@ module _ {X : Type 0} (key : X → ℕ) where
   each-indexed P (x ∷ xs) all = (all 0 x (omega arith), each-indexed P xs (λ k d lt. all (suc k) d (omega arith)))
 
   -- a property of each entry of a map is one of each entry that it lists
-  pub each-lent : (P : X → Type 0) (entries lends : List X) → IsListing key entries lends → AllByRecursion P entries → AllByRecursion P lends
-  each-lent P entries lends lent all = each-indexed P lends (All-permutation P entries lends lent.each_once (λ k d lt. each-get_or P entries k d lt all))
+  pub each-iterated : (P : X → Type 0) (entries sequence : List X) → IsListing key entries sequence → AllByRecursion P entries → AllByRecursion P sequence
+  each-iterated P entries sequence iterated all = each-indexed P sequence (All-permutation P entries sequence iterated.each_once (λ k d lt. each-get_or P entries k d lt all))
 
   pub each-hash : (P : ℕ → Type 0) (xs : List X) → AllByRecursion (λ x. P (key x)) xs → AllByRecursion P (map key xs)
   each-hash P [] all = tt

@@ -144,8 +144,8 @@ module _ {X : Type 0} (key : X → ℕ) (merges : X → X → X) (keeps : KeepsK
         uncut_if = λ all. omega (arith, s.uncut_if (all-begin _ done (v ∷ []) all), (all-end _ done (v ∷ []) all).0);
         shows = λ q found. all-more _ done v (s.shows q (in_shared met v q found).0) (in_shared met v q found).1;
         shows_if = λ e q have.
-            (let held = s.shows_if (one e) q (all-begin _ done (v ∷ []) have) in
-            shared_if met v q (omega (arith, e, s.keys_low q held)) held (all-end _ done (v ∷ []) have).0);
+            (let content = s.shows_if (one e) q (all-begin _ done (v ∷ []) have) in
+            shared_if met v q (omega (arith, e, s.keys_low q content)) content (all-end _ done (v ∷ []) have).0);
       }
 
   stops : (done : List (Retained X)) (met v : Retained X) (after values : List (Retained X)) → Stands key done met → v.theta ≤ MAX_THETA → values ≡ done ++ v ∷ after → is_disjoint key merges met v ≡ true → BecomesDisjoint key values
@@ -155,7 +155,7 @@ module _ {X : Type 0} (key : X → ℕ) (merges : X → X → X) (keeps : KeepsK
       let least : min met.theta v.theta ≡ MAX_THETA = grind (arith, nat_tests) in
       let one : met.theta ≡ MAX_THETA = omega (arith, least, s.theta_high, high) in
       let two : v.theta ≡ MAX_THETA = omega (arith, least, s.theta_high, high) in
-      let held = some_key key met.entries four.second in
+      let content = some_key key met.entries four.second in
       record {
         before = done;
         last = v;
@@ -163,7 +163,7 @@ module _ {X : Type 0} (key : X → ℕ) (merges : X → X → X) (keeps : KeepsK
         there = there;
         uncut = all-more _ done v (s.uncut one) two;
         has_keys = some_key key v.entries four.third;
-        shared_before = (held.0, s.shows held.0 held.1);
+        shared_before = (content.0, s.shows content.0 content.1);
         none_shared = λ q have.
             (let at_met = s.shows_if one q (all-begin _ done (v ∷ []) have) in
             let some = key_some key (shared key merges met v).entries q (shared_if met v q (omega (arith, least, s.keys_low q at_met)) at_met (all-end _ done (v ∷ []) have).0) in
@@ -180,29 +180,29 @@ module _ {X : Type 0} (key : X → ℕ) (merges : X → X → X) (keeps : KeepsK
       ]) refl empty
 
   is_stopped : (done : List (Retained X)) (met last : Retained X) (p q : ℕ) → Stands key done met → AllByRecursion (λ v. v.theta ≡ MAX_THETA) (done ++ last ∷ []) → IsSome (entry_at key last.entries p) → HaveKey key q done → ((r : ℕ) → HaveKey key r (done ++ last ∷ []) → ⊥) → is_disjoint key merges met last ≡ true
-  is_stopped done met last p q s uncut has held none =
+  is_stopped done met last p q s uncut has content none =
       let one : met.theta ≡ MAX_THETA = s.uncut_if (all-begin _ done (last ∷ []) uncut) in
       let two : last.theta ≡ MAX_THETA = (all-end _ done (last ∷ []) uncut).0 in
       let least : min met.theta last.theta ≡ MAX_THETA = omega (arith, one, two) in
       let first : eqb (min met.theta last.theta) MAX_THETA ≡ true = grind (arith, nat_tests) in
-      four_true _ _ _ _ first (key_some key met.entries q (s.shows_if one q held)) (key_some key last.entries p has)
+      four_true _ _ _ _ first (key_some key met.entries q (s.shows_if one q content)) (key_some key last.entries p has)
       (no_key key (shared key merges met last).entries (λ r found. none r (all-more _ done last (s.shows r (in_shared met last r found).0) (in_shared met last r found).1)))
 
   stopped : (bs done : List (Retained X)) (met last : Retained X) (after : List (Retained X)) (p q : ℕ) → Stands key done met → AllByRecursion (λ v. v.theta ≡ MAX_THETA) (done ++ (bs ++ last ∷ [])) → IsSome (entry_at key last.entries p) → HaveKey key q (done ++ bs) → ((r : ℕ) → HaveKey key r (done ++ (bs ++ last ∷ [])) → ⊥) → meet_from key merges met (map NonEmpty (bs ++ last ∷ after)) ≡ Empty
-  stopped [] done met last after p q s uncut has held none = rw (is_stopped done met last p q s uncut has (all-begin _ done [] held) none) refl
-  stopped (b ∷ bs) done met last after p q s uncut has held none =
+  stopped [] done met last after p q s uncut has content none = rw (is_stopped done met last p q s uncut has (all-begin _ done [] content) none) refl
+  stopped (b ∷ bs) done met last after p q s uncut has content none =
       let same : b.theta ≡ MAX_THETA = (all-end _ done (b ∷ (bs ++ last ∷ [])) uncut).0 in
       elim (is_disjoint key merges met b) as (λ t. cond t Empty (meet_from key merges (shared key merges met b) (map NonEmpty (bs ++ last ∷ after))) ≡ Empty) [
         | true ↦ refl
-        | false ↦ stopped bs (done ++ b ∷ []) (shared key merges met b) last after p q (stands-more done met b s (omega (arith, same))) (all-over _ done (bs ++ last ∷ []) b uncut) has (all-over _ done bs b held) (λ r have. none r (all-back _ done (bs ++ last ∷ []) b have))
+        | false ↦ stopped bs (done ++ b ∷ []) (shared key merges met b) last after p q (stands-more done met b s (omega (arith, same))) (all-over _ done (bs ++ last ∷ []) b uncut) has (all-over _ done bs b content) (λ r have. none r (all-back _ done (bs ++ last ∷ []) b have))
       ]
 
   begins : (before : List (Retained X)) (last u : Retained X) (after vs : List (Retained X)) (p q : ℕ) → IsRetained key u → u ∷ vs ≡ before ++ last ∷ after → AllByRecursion (λ v. v.theta ≡ MAX_THETA) (before ++ last ∷ []) → IsSome (entry_at key last.entries p) → HaveKey key q before → ((r : ℕ) → HaveKey key r (before ++ last ∷ []) → ⊥) → meet_from key merges u (map NonEmpty vs) ≡ Empty
-  begins [] last u after vs p q kept there uncut has held none = absurd (none p (has, tt))
-  begins (b ∷ bs) last u after vs p q kept there uncut has held none =
+  begins [] last u after vs p q kept there uncut has content none = absurd (none p (has, tt))
+  begins (b ∷ bs) last u after vs p q kept there uncut has content none =
       let first : u ≡ b = cc in
       let rest : vs ≡ bs ++ last ∷ after = cc in
-      rw (first, rest) (stopped bs (b ∷ []) b last after p q (stands-one b (rw (← first) kept)) uncut has held none)
+      rw (first, rest) (stopped bs (b ∷ []) b last after p q (stands-one b (rw (← first) kept)) uncut has content none)
 
 -- if a meet is Empty, `BecomesDisjoint` holds of its values
 pub becomes_disjoint : {X : Type 0} (key : X → ℕ) (merges : X → X → X) → KeepsKey key merges → (u : Retained X) (vs : List (Retained X)) → AllByRecursion (IsRetained key) (u ∷ vs) → meet key merges (NonEmpty u ∷ map NonEmpty vs) ≡ Empty → BecomesDisjoint key (u ∷ vs)

@@ -63,22 +63,22 @@ module _ {X : Type 0} (key : X → ℕ) where
             ]) refl
       ]) refl
 
-module _ {X : Type 0} (key : X → ℕ) (merges : X → X → X) (refuses : X → X → Bool) (keeps : KeepsKey key merges) (whole come : List (Fold X)) (q : ℕ) (x y : X) (one : entry_at (fold_key key) whole q ≡ Some (Value x)) (two : entry_at (fold_key key) come q ≡ Some (Value y)) (refused : refuses x y ≡ true) where
+module _ {X : Type 0} (key : X → ℕ) (merges : X → X → X) (refuses : X → X → Bool) (keeps : KeepsKey key merges) (whole arriving : List (Fold X)) (q : ℕ) (x y : X) (one : entry_at (fold_key key) whole q ≡ Some (Value x)) (two : entry_at (fold_key key) arriving q ≡ Some (Value y)) (refused : refuses x y ≡ true) where
   marked_fold : ◌≡◌ {A = Option (Fold X)} (Some (fold_merges key merges refuses (Value x) (Value y))) (Some (Refused (key x)))
   marked_fold = ap (λ (b : Bool). Some (cond b (Refused (key x)) (Value (merges x y)))) refused
 
   -- a refused merge leaves a mark in the joined maps
-  pub join_marks : IsApart (fold_key key) come → has_mark (joined (fold_key key) (fold_merges key merges refuses) whole come) ≡ true
+  pub join_marks : IsApart (fold_key key) arriving → has_mark (joined (fold_key key) (fold_merges key merges refuses) whole arriving) ≡ true
   join_marks apart = found_mark key _ q (key x)
-      (entry_at-joined (fold_key key) (fold_merges key merges refuses) (fold_keeps key merges refuses keeps) come whole q apart
-      ∙ ap (λ o. either (fold_merges key merges refuses) o (entry_at (fold_key key) come q)) one
+      (entry_at-joined (fold_key key) (fold_merges key merges refuses) (fold_keeps key merges refuses keeps) arriving whole q apart
+      ∙ ap (λ o. either (fold_merges key merges refuses) o (entry_at (fold_key key) arriving q)) one
       ∙ ap (λ o. either (fold_merges key merges refuses) (Some (Value x)) o) two
       ∙ marked_fold)
 
   -- and in their common part
-  pub meet_marks : has_mark (common (fold_key key) (fold_merges key merges refuses) whole come) ≡ true
+  pub meet_marks : has_mark (common (fold_key key) (fold_merges key merges refuses) whole arriving) ≡ true
   meet_marks = found_mark key _ q (key x)
-      (entry_at-common (fold_key key) (fold_merges key merges refuses) (fold_keeps key merges refuses keeps) whole come q
-      ∙ ap (λ o. both (fold_merges key merges refuses) o (entry_at (fold_key key) come q)) one
+      (entry_at-common (fold_key key) (fold_merges key merges refuses) (fold_keeps key merges refuses keeps) whole arriving q
+      ∙ ap (λ o. both (fold_merges key merges refuses) o (entry_at (fold_key key) arriving q)) one
       ∙ ap (λ o. both (fold_merges key merges refuses) (Some (Value x)) o) two
       ∙ marked_fold)

@@ -49,9 +49,9 @@ module _ {X : Type 0} (key : X → ℕ) (merges : X → X → X) (keeps : KeepsK
     carried = each-joined (λ h. h < MAX_THETA) ys whole so_far.carried carried;
     same =
         let u : ℕ = min t v in
-        let held : below key entries u ≡ below key whole u = sym (below-below key entries u t (omega arith)) ∙ ap (λ zs. below key zs u) so_far.same ∙ below-below key whole u t (omega arith) in
-        let come : below key xs u ≡ below key ys u = ap (λ zs. below key zs u) all_below ∙ below-below key ys u v (omega arith) in
-        below-joined key merges keeps xs entries u ∙ ap (λ zs. joined key merges zs (below key xs u)) held ∙ ap (λ zs. joined key merges (below key whole u) zs) come ∙ sym (below-joined key merges keeps ys whole u);
+        let content : below key entries u ≡ below key whole u = sym (below-below key entries u t (omega arith)) ∙ ap (λ zs. below key zs u) so_far.same ∙ below-below key whole u t (omega arith) in
+        let arriving : below key xs u ≡ below key ys u = ap (λ zs. below key zs u) all_below ∙ below-below key ys u v (omega arith) in
+        below-joined key merges keeps xs entries u ∙ ap (λ zs. joined key merges zs (below key xs u)) content ∙ ap (λ zs. joined key merges (below key whole u) zs) arriving ∙ sym (below-joined key merges keeps ys whole u);
   }
 
   pub gathered : (values : List (Sketch X)) (wholes : List (List X)) (entries whole : List X) (t : ℕ) → AreSamples key values wholes → Gathered entries whole t →

@@ -113,10 +113,10 @@ module _ {X : Type 0} (key : X → ℕ) (merges : X → X → X) (keeps : KeepsK
   keys_from (NonEmpty v ∷ values) u q lt below own all =
       let low : q < v.theta = low_key key v.theta v.entries q below.0 all.0 in
       let less : q < min u.theta v.theta = omega (arith, lt, low) in
-      let here : IsSome (entry_at key (shared key merges u v).entries q) = both_in u v q less own all.0 in
+      let present : IsSome (entry_at key (shared key merges u v).entries q) = both_in u v q less own all.0 in
       (elim (is_disjoint key merges u v) as (λ b. is_disjoint key merges u v ≡ b → IsKeyOf key q (cond b Empty (meet_from key merges (shared key merges u v) values))) [
-        | true ↦ λ e. absurd (nothing_found key (shared key merges u v).entries q (last_of (eqb (min u.theta v.theta) MAX_THETA) (not (eqb (length u.entries) 0)) (not (eqb (length v.entries) 0)) (eqb (length (shared key merges u v).entries) 0) e) here)
-        | false ↦ λ e. keys_from values (shared key merges u v) q less below.1 here all.1
+        | true ↦ λ e. absurd (nothing_found key (shared key merges u v).entries q (last_of (eqb (min u.theta v.theta) MAX_THETA) (not (eqb (length u.entries) 0)) (not (eqb (length v.entries) 0)) (eqb (length (shared key merges u v).entries) 0) e) present)
+        | false ↦ λ e. keys_from values (shared key merges u v) q less below.1 present all.1
       ]) refl
 
   -- a hash is a key of a meet if it is a key of every value

@@ -23,14 +23,14 @@ use Rattle.core_laws.proofs.cuts.WithinWholeMaps.{below-below, lawful-le, cut_be
 use Rattle.core_laws.specs.Entries.{KeepsKey}
 
 module _ {X : Type 0} (key : X → ℕ) (merges : X → X → X) (refuses : X → X → Bool) (keeps : KeepsKey key merges) where
-  pub union-joined : (k m : ℕ) (held listing : List X) (kept : Retained X) → IsAscending key held → AllByRecursion (λ x. 0 < key x) listing →
-      unmarked kept ≡ after_upserts (fold_key key) k (merge_step (fold_merges key merges refuses) never) (map Value listing) (unmarked (retained key held m)) →
-      IsWithin (fold_key key) k m (unmarked kept) (joined (fold_key key) (fold_merges key merges refuses) (map Value (below key held m)) (map Value (below key listing m)))
-  union-joined k m held listing kept up nonzero merged =
-      let start : IsWithin (fold_key key) k m (unmarked (retained key held m)) (map Value (below key held m)) =
-      subst (λ ys. IsWithin (fold_key key) k m (record { entries = ys; theta = m }) ys) (below-map Value key (fold_key key) (λ y. refl) held m) (within-lowered (fold_key key) k m (fold_merges key merges refuses) never (fold_keeps key merges refuses keeps) (map Value held) (ascending-marked key held up)) in
-      rw merged (subst (λ ys. IsWithin (fold_key key) k m (after_upserts (fold_key key) k (merge_step (fold_merges key merges refuses) never) (map Value listing) (unmarked (retained key held m))) (joined (fold_key key) (fold_merges key merges refuses) (map Value (below key held m)) ys)) (below-map Value key (fold_key key) (λ y. refl) listing m)
-      (within-joined (fold_key key) k m (fold_merges key merges refuses) never (fold_keeps key merges refuses keeps) (map Value listing) (unmarked (retained key held m)) (map Value (below key held m)) (each-marked key (λ h. 0 < h) listing nonzero) start))
+  pub union-joined : (k m : ℕ) (content listing : List X) (kept : Retained X) → IsAscending key content → AllByRecursion (λ x. 0 < key x) listing →
+      unmarked kept ≡ after_upserts (fold_key key) k (merge_step (fold_merges key merges refuses) never) (map Value listing) (unmarked (retained key content m)) →
+      IsWithin (fold_key key) k m (unmarked kept) (joined (fold_key key) (fold_merges key merges refuses) (map Value (below key content m)) (map Value (below key listing m)))
+  union-joined k m content listing kept up nonzero merged =
+      let start : IsWithin (fold_key key) k m (unmarked (retained key content m)) (map Value (below key content m)) =
+      subst (λ ys. IsWithin (fold_key key) k m (record { entries = ys; theta = m }) ys) (below-map Value key (fold_key key) (λ y. refl) content m) (within-lowered (fold_key key) k m (fold_merges key merges refuses) never (fold_keeps key merges refuses keeps) (map Value content) (ascending-marked key content up)) in
+      rw merged (subst (λ ys. IsWithin (fold_key key) k m (after_upserts (fold_key key) k (merge_step (fold_merges key merges refuses) never) (map Value listing) (unmarked (retained key content m))) (joined (fold_key key) (fold_merges key merges refuses) (map Value (below key content m)) ys)) (below-map Value key (fold_key key) (λ y. refl) listing m)
+      (within-joined (fold_key key) k m (fold_merges key merges refuses) never (fold_keeps key merges refuses keeps) (map Value listing) (unmarked (retained key content m)) (map Value (below key content m)) (each-marked key (λ h. 0 < h) listing nonzero) start))
 
   -- and theta is not raised
   pub union-lowers : (k m : ℕ) (v : Retained X) (whole : List (Fold X)) → IsWithin (fold_key key) k m (unmarked v) whole → v.theta ≤ m
@@ -68,14 +68,14 @@ module _ {X : Type 0} (key : X → ℕ) (merges : X → X → X) (keeps : KeepsK
       (λ q. entry_at-joined key merges keeps xs whole q apart ∙ ap (λ o. either merges (entry_at key whole q) o) (sym (entry_at-map_of key xs q)) ∙ sym (entry_at-joined key merges keeps (map_of key xs) whole q (ascending-apart key (map_of key xs) (ascending-map_of key xs))))
 
   -- a retained map within a joined map has the value that the cut of the whole has
-  pub joined-value : (k m : ℕ) (v : Retained X) (held xs : List X) → IsAscending key held → IsApart key xs → IsWithin key k m v (joined key merges (below key held m) (below key xs m)) → cut key k v.entries v.theta ≡ cut key k (joined key merges held (map_of key xs)) m
-  joined-value k m v held xs up apart within =
+  pub joined-value : (k m : ℕ) (v : Retained X) (content xs : List X) → IsAscending key content → IsApart key xs → IsWithin key k m v (joined key merges (below key content m) (below key xs m)) → cut key k v.entries v.theta ≡ cut key k (joined key merges content (map_of key xs)) m
+  joined-value k m v content xs up apart within =
       ap (λ ys. cut key k ys v.theta) within.entries_are
-      ∙ cut_below key k (joined key merges (below key held m) (below key xs m)) v.theta within.ascending
-      ∙ cut_lawful key (joined key merges (below key held m) (below key xs m)) k m v.theta within.ascending within.lawful
-      ∙ ap (λ ys. cut key k ys m) (sym (below-joined key merges keeps xs held m))
-      ∙ cut_below key k (joined key merges held xs) m (ascending-joined key merges keeps xs held up)
-      ∙ ap (λ ys. cut key k ys m) (joined-map_of held xs up apart)
+      ∙ cut_below key k (joined key merges (below key content m) (below key xs m)) v.theta within.ascending
+      ∙ cut_lawful key (joined key merges (below key content m) (below key xs m)) k m v.theta within.ascending within.lawful
+      ∙ ap (λ ys. cut key k ys m) (sym (below-joined key merges keeps xs content m))
+      ∙ cut_below key k (joined key merges content xs) m (ascending-joined key merges keeps xs content up)
+      ∙ ap (λ ys. cut key k ys m) (joined-map_of content xs up apart)
 
   -- the value after an update is the union of the value before and the input
   pub update-value : (k start m : ℕ) (old new : Retained X) (xs : List X) (theta : ℕ) → m ≡ min old.theta theta → old.theta ≤ start → IsAscending key old.entries → IsApart key xs → IsWithin key k m new (joined key merges (below key old.entries m) (below key xs m)) →

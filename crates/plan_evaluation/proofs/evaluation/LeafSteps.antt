@@ -52,13 +52,13 @@ module _ {X V : Type 0} (f : Family (Fold X) V) (lawful : IsFamily f) (lg_k star
     -- no step so far is refused, nor is this one
     pub unrefused_stepped : (kept : Retained X) → unmarked kept ≡ leaf_from f.key f.step_of (2 ^ lg_k) start (take i steps) (none_below start) → steps_refused f (2 ^ lg_k) start (take i steps) ≡ false → step_refused f (get_or steps i d) (unmarked kept) ≡ false →
         steps_refused f (2 ^ lg_k) start (take (i + 1) steps) ≡ false
-    unrefused_stepped kept was so_far here =
-        turn_next (λ begun step. step_refused f step (leaf_from f.key f.step_of (2 ^ lg_k) start begun (none_below start))) steps i d lt so_far (ap (step_refused f (get_or steps i d)) (sym was) ∙ here)
+    unrefused_stepped kept was so_far present =
+        turn_next (λ begun step. step_refused f step (leaf_from f.key f.step_of (2 ^ lg_k) start begun (none_below start))) steps i d lt so_far (ap (step_refused f (get_or steps i d)) (sym was) ∙ present)
 
     -- or else some step is
     pub refused_stepped : (kept : Retained X) → unmarked kept ≡ leaf_from f.key f.step_of (2 ^ lg_k) start (take i steps) (none_below start) → step_refused f (get_or steps i d) (unmarked kept) ≡ true → steps_refused f (2 ^ lg_k) start steps ≡ true
-    refused_stepped kept was here =
-        in_turn (λ begun step. step_refused f step (leaf_from f.key f.step_of (2 ^ lg_k) start begun (none_below start))) steps i d lt (ap (step_refused f (get_or steps i d)) (sym was) ∙ here)
+    refused_stepped kept was present =
+        in_turn (λ begun step. step_refused f step (leaf_from f.key f.step_of (2 ^ lg_k) start begun (none_below start))) steps i d lt (ap (step_refused f (get_or steps i d)) (sym was) ∙ present)
 
   -- the value of a sketch after all steps
   pub stepped_value : (s : Updatable X) → unmarked s.map.kept ≡ leaf_from f.key f.step_of (2 ^ lg_k) start steps (none_below start) → s.empty ≡ not (is_updated steps false) →

@@ -11,7 +11,7 @@ use Rattle.core_laws.specs.Maps.{entry_at}
 use Rattle.core_laws.specs.Values.{Sketch, Empty, NonEmpty}
 use Rattle.core_laws.proofs.maps.MappedEntries.{cut-map}
 use Rattle.core_policies.specs.Sums.{sum_within}
-use Rattle.core_compact.specs.CompactState.{Compact as State, compact_value}
+use Rattle.core_compact.specs.CompactState.{Compact as State, compact_value, ordered_sketch}
 use Rattle.core_slots.specs.Entry.{tuple_key}
 use Rattle.core_slots.specs.declared.entry.TupleEntry.{TupleEntry}
 use Rattle.plan_text.specs.declared.plan.Plan.{Plan}
@@ -20,7 +20,7 @@ use Rattle.plan_values.specs.Family.{tuple_folds}
 use Rattle.plan_values.specs.MergePlan.{only_unites}
 use Rattle.plan_values.specs.Value.{value_in, plan_refusal}
 use Rattle.plan_values.proofs.MergedSums.{retained_sums}
-use Rattle.plan_evaluation.specs.Answered.{ordered_sketch, HasKeys, IsSketchOf}
+use Rattle.plan_evaluation.specs.Answered.{HasKeys, IsSketchOf}
 
 module _ {X : Type 0} (key : X → ℕ) (k start : ℕ) (whole : List (Fold X)) where
   keys_marked : (xs : List X) → map (fold_key key) (map Value xs) ≡ map key xs
@@ -30,9 +30,9 @@ module _ {X : Type 0} (key : X → ℕ) (k start : ℕ) (whole : List (Fold X)) 
   -- the keys of a cut are the k-minimum of the keys
   keys_cut : (v : Retained X) → unmarked v ≡ cut (fold_key key) k whole start → record { entries = map key v.entries; theta = v.theta } ≡ kmin k (map (fold_key key) whole) start
   keys_cut v is =
-      let told : Retained (Fold X) → Retained ℕ = λ u. record { entries = map (fold_key key) u.entries; theta = u.theta } in
+      let reported : Retained (Fold X) → Retained ℕ = λ u. record { entries = map (fold_key key) u.entries; theta = u.theta } in
       ap (λ (hs : List ℕ). record { entries = hs; theta = v.theta }) (sym (keys_marked v.entries))
-      ∙ ap told is ∙ sym (cut-map (fold_key key) (fold_key key) hash_key (λ x. refl) k whole start)
+      ∙ ap reported is ∙ sym (cut-map (fold_key key) (fold_key key) hash_key (λ x. refl) k whole start)
 
   has_keys : (w : Sketch X) (h : ℕ) (s : State X) → s ≡ ordered_sketch w h → unmarked_value w ≡ NonEmpty (cut (fold_key key) k whole start) → HasKeys key (kmin k (map (fold_key key) whole) start) s
   has_keys Empty h s is value = absurd (cc)

@@ -7,14 +7,14 @@ use Rattle.core_laws.specs.Entries.{hash_key}
 use Rattle.core_laws.specs.Folds.{Fold, never}
 use Rattle.core_laws.specs.Refusal.{Refuses}
 use Rattle.core_laws.specs.Values.{Sketch, Empty, NonEmpty}
-use Rattle.core_compact.specs.CompactState.{Compact as State, IsAnswer, compact_value}
+use Rattle.core_compact.specs.CompactState.{Compact as State, IsAnswer, compact_value, ordered_sketch}
 use Rattle.plan_text.specs.declared.plan.Plan.{Plan}
 use Rattle.plan_values.specs.Family.{Family, hashes, folds_of}
 use Rattle.plan_values.specs.Refusals.{may_refuse, must_refuse}
 use Rattle.plan_values.specs.Value.{value_in, value_of, plan_refusal}
 use Rattle.plan_values.proofs.PlansWithoutMarks.{theta_unmarked}
 use Rattle.plan_values.proofs.UnmarkedValues.{unmarked_distinct}
-use Rattle.plan_evaluation.specs.Answered.{ordered_sketch, IsSketchOf}
+use Rattle.plan_evaluation.specs.Answered.{IsSketchOf}
 use Rattle.plan_evaluation.specs.Parts.{IsFoldAnswer}
 use Rattle.plan_evaluation.specs.Refused.{IsPlanRefused}
 

@@ -47,12 +47,12 @@ module _ {X V : Type 0} (f : Family (Fold X) V) (lawful : IsFamily f) where
   met_more (v ∷ vs) last = ap (λ (u : Sketch (Fold X)). Some u) (sym (meet_of_meet f.key f.merges v vs last))
 
   -- a value that a policy refuses leaves a mark in the common part of the whole maps
-  marks_more : (vs : List (Sketch (Fold X))) (wholes : List (List (Fold X))) (last : Sketch (Fold X)) (come : List (Fold X)) → AreSamples f.key vs wholes → IsAllBelow f.key last come → MarksMet f (met_of f vs) last → has_mark (shared_of f (wholes ++ come ∷ [])) ≡ true
-  marks_more [] wholes last come samples below marks = absurd marks
-  marks_more (v ∷ vs) [] last come samples below marks = absurd samples
-  marks_more (v ∷ vs) (whole ∷ wholes) last come samples below marks =
-      ap has_mark (common_all-more f.key f.merges whole wholes come)
-      ∙ marks (common_all f.key f.merges whole wholes) come (meet_samples f.key f.merges lawful.merged v vs whole wholes samples.0 samples.1).all_below below
+  marks_more : (vs : List (Sketch (Fold X))) (wholes : List (List (Fold X))) (last : Sketch (Fold X)) (arriving : List (Fold X)) → AreSamples f.key vs wholes → IsAllBelow f.key last arriving → MarksMet f (met_of f vs) last → has_mark (shared_of f (wholes ++ arriving ∷ [])) ≡ true
+  marks_more [] wholes last arriving samples below marks = absurd marks
+  marks_more (v ∷ vs) [] last arriving samples below marks = absurd samples
+  marks_more (v ∷ vs) (whole ∷ wholes) last arriving samples below marks =
+      ap has_mark (common_all-more f.key f.merges whole wholes arriving)
+      ∙ marks (common_all f.key f.merges whole wholes) arriving (meet_samples f.key f.merges lawful.merged v vs whole wholes samples.0 samples.1).all_below below
 
   module _ {Z : Type 0} (parts : List (Plan V Z)) (i : ℕ) (d : Plan V Z) (lt : i < length parts) where
     pub met_next : (was now : Option (Sketch X)) (v : Sketch (Fold X)) → option_map unmarked_value was ≡ met_of f (map (value_in f) (take i parts)) → option_map unmarked_value now ≡ Some (meet_next f.key f.merges (option_map unmarked_value was) v) → v ≡ value_in f (get_or parts i d) →

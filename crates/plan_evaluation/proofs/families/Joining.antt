@@ -12,10 +12,10 @@ use Rattle.plan_evaluation.specs.Parts.{Joins}
 
 -- a union without its policy
 abbrev pub plain : {X P : Type 0} → Union X P → Union X (Unit {0})
-plain u = record { empty = u.empty; failed = u.failed; held = u.held; lg_k = u.lg_k; start = u.start; seed_hash = u.seed_hash; policy = tt }
+plain u = record { empty = u.empty; failed = u.failed; content = u.content; lg_k = u.lg_k; start = u.start; seed_hash = u.seed_hash; policy = tt }
 
 module _ {X P V : Type 0} (f : Family X V) (refuses : X → X → Bool) (keeps : KeepsKey f.key f.merges) (old new : Union X P) where
-  pub joins_plain : (s : Shown) (listing : List X) → IsUnion old → old.failed ≡ false → IsAscending f.key old.held.entries → IsApart f.key listing → (s.empty ≡ true → new ≡ old) → (s.empty ≡ false → IsJoined f.key f.merges refuses old new s.theta listing) →
+  pub joins_plain : (s : Shown) (listing : List X) → IsUnion old → old.failed ≡ false → IsAscending f.key old.content.entries → IsApart f.key listing → (s.empty ≡ true → new ≡ old) → (s.empty ≡ false → IsJoined f.key f.merges refuses old new s.theta listing) →
       (v : Sketch (Fold X)) → unmarked_value (shown_value f.key s listing) ≡ v → Joins f.key (folds_of f refuses) (plain old) (plain new) v
   joins_plain s listing sound at_work up apart skipped joins v is =
       subst (λ w. Joins f.key (folds_of f refuses) (plain old) (plain new) w) is

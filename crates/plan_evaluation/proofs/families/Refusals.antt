@@ -17,7 +17,7 @@ use Rattle.core_laws.proofs.maps.LookUps.{entry_at-below}
 use Rattle.core_laws.proofs.maps.MappedEntries.{entry_at-map}
 use Rattle.core_laws.proofs.maps.MapsOfLists.{ascending-apart, entry_at-map_of}
 use Rattle.core_laws.proofs.operators.Marks.{join_marks, meet_marks}
-use Rattle.core_operators.specs.Intersection.{Intersection, IsCutShort, held_of, intersect_refusal, is_settled}
+use Rattle.core_operators.specs.Intersection.{Intersection, IsCutShort, content_of, intersect_refusal, is_settled}
 use Rattle.core_operators.specs.Union.{Union, IsBroken, IsMergeRefused, update_refusal}
 use Rattle.core_policies.specs.Summaries.{update_step, first_summary}
 use Rattle.core_slots.specs.Entry.{tuple_key}
@@ -60,33 +60,33 @@ module _ {X : Type 0} (key : X → ℕ) where
 
 module _ {X V : Type 0} (f : Family X V) (refuses : X → X → Bool) (keeps : KeepsKey f.key f.merges) where
   -- a refused merge of a held entry and a new one leaves a mark in the joined whole maps
-  joined_mark : (held : Retained X) (listing : List X) (theta t : ℕ) (whole come : List (Fold X)) → IsMergeRefused f.key refuses (below f.key held.entries t) listing →
-      IsAscending (fold_key f.key) come → map Value held.entries ≡ below (fold_key f.key) whole held.theta → map Value (map_of f.key listing) ≡ below (fold_key f.key) come theta →
-      has_mark (joined (fold_key f.key) (fold_merges f.key f.merges refuses) whole come) ≡ true
-  joined_mark held listing theta t whole come broken up all comes =
-      let one = (found_below f.key held.entries t broken.at broken.held_entry broken.is_held).0 in
-      join_marks f.key f.merges refuses keeps whole come broken.at broken.held_entry broken.new_entry
-      (at_whole f.key whole held.entries held.theta broken.at broken.held_entry all one)
-      (at_whole f.key come (map_of f.key listing) theta broken.at broken.new_entry comes (entry_at-map_of f.key listing broken.at ∙ broken.comes))
-      broken.refused (ascending-apart (fold_key f.key) come up)
+  joined_mark : (content : Retained X) (listing : List X) (theta t : ℕ) (whole arriving : List (Fold X)) → IsMergeRefused f.key refuses (below f.key content.entries t) listing →
+      IsAscending (fold_key f.key) arriving → map Value content.entries ≡ below (fold_key f.key) whole content.theta → map Value (map_of f.key listing) ≡ below (fold_key f.key) arriving theta →
+      has_mark (joined (fold_key f.key) (fold_merges f.key f.merges refuses) whole arriving) ≡ true
+  joined_mark content listing theta t whole arriving broken up all comes =
+      let one = (found_below f.key content.entries t broken.at broken.held_entry broken.is_held).0 in
+      join_marks f.key f.merges refuses keeps whole arriving broken.at broken.held_entry broken.new_entry
+      (at_whole f.key whole content.entries content.theta broken.at broken.held_entry all one)
+      (at_whole f.key arriving (map_of f.key listing) theta broken.at broken.new_entry comes (entry_at-map_of f.key listing broken.at ∙ broken.comes))
+      broken.refused (ascending-apart (fold_key f.key) arriving up)
 
   -- and in their common part
-  met_mark : (held : Retained X) (listing : List X) (theta t : ℕ) (whole come : List (Fold X)) → IsMergeRefused f.key refuses (below f.key held.entries t) listing →
-      map Value held.entries ≡ below (fold_key f.key) whole held.theta → map Value (map_of f.key listing) ≡ below (fold_key f.key) come theta →
-      has_mark (common (fold_key f.key) (fold_merges f.key f.merges refuses) whole come) ≡ true
-  met_mark held listing theta t whole come broken all comes =
-      let one = (found_below f.key held.entries t broken.at broken.held_entry broken.is_held).0 in
-      meet_marks f.key f.merges refuses keeps whole come broken.at broken.held_entry broken.new_entry
-      (at_whole f.key whole held.entries held.theta broken.at broken.held_entry all one)
-      (at_whole f.key come (map_of f.key listing) theta broken.at broken.new_entry comes (entry_at-map_of f.key listing broken.at ∙ broken.comes))
+  met_mark : (content : Retained X) (listing : List X) (theta t : ℕ) (whole arriving : List (Fold X)) → IsMergeRefused f.key refuses (below f.key content.entries t) listing →
+      map Value content.entries ≡ below (fold_key f.key) whole content.theta → map Value (map_of f.key listing) ≡ below (fold_key f.key) arriving theta →
+      has_mark (common (fold_key f.key) (fold_merges f.key f.merges refuses) whole arriving) ≡ true
+  met_mark content listing theta t whole arriving broken all comes =
+      let one = (found_below f.key content.entries t broken.at broken.held_entry broken.is_held).0 in
+      meet_marks f.key f.merges refuses keeps whole arriving broken.at broken.held_entry broken.new_entry
+      (at_whole f.key whole content.entries content.theta broken.at broken.held_entry all one)
+      (at_whole f.key arriving (map_of f.key listing) theta broken.at broken.new_entry comes (entry_at-map_of f.key listing broken.at ∙ broken.comes))
       broken.refused
 
   -- the entries of an intersection, met with new ones
-  marks_met : (o : Option (Sketch X)) (listing : List X) (theta t : ℕ) → is_settled o ≡ false → IsMergeRefused f.key refuses (below f.key (held_of o).entries t) listing →
+  marks_met : (o : Option (Sketch X)) (listing : List X) (theta t : ℕ) → is_settled o ≡ false → IsMergeRefused f.key refuses (below f.key (content_of o).entries t) listing →
       MarksMet (folds_of f refuses) (option_map unmarked_value o) (NonEmpty (record { entries = map Value (map_of f.key listing); theta = theta }))
   marks_met None listing theta t unsettled broken = let none = broken.is_held in absurd (cc)
   marks_met (Some Empty) listing theta t unsettled broken = absurd (cc)
-  marks_met (Some (NonEmpty u)) listing theta t unsettled broken = λ whole come all comes. met_mark u listing theta t whole come broken all comes
+  marks_met (Some (NonEmpty u)) listing theta t unsettled broken = λ whole arriving all comes. met_mark u listing theta t whole arriving broken all comes
 
   module _ {P : Type 0} where
     -- why a union refuses a part of its seed
@@ -101,7 +101,7 @@ module _ {X V : Type 0} (f : Family X V) (refuses : X → X → Bool) (keeps : K
             refused.0,
             refl,
             subst (λ w. MarksJoined (folds_of f refuses) (HoldsAll f.key old) w) (sym shown ∙ is)
-                (λ whole come up high held all. joined_mark old.held listing s.theta (min old.held.theta s.theta) whole come refused.1 high held all),
+                (λ whole arriving up high content all. joined_mark old.content listing s.theta (min old.content.theta s.theta) whole arriving refused.1 high content all),
           )
         ])
 
@@ -117,7 +117,7 @@ module _ {X V : Type 0} (f : Family X V) (refuses : X → X → Bool) (keeps : K
             refused.0,
             refl,
             subst (λ w. MarksMet (folds_of f refuses) (option_map unmarked_value old.result) w) (sym shown ∙ is)
-                (marks_met old.result listing s.theta (min (held_of old.result).theta s.theta) short.unsettled refused.1),
+                (marks_met old.result listing s.theta (min (content_of old.result).theta s.theta) short.unsettled refused.1),
           )
         ])
 

@@ -15,5 +15,5 @@ module _ {X Z S : Type 0} (key : X → ℕ) where
 
   -- a view has each key once
   pub apart_lent : (v : Viewed X Z S) → IsShown (viewed_shows key v) → IsApart key (viewed_lending v).rest
-  apart_lent (Mutable sketch) sound = apart-distinct key sketch.now.lends sound.distinct
+  apart_lent (Mutable sketch) sound = apart-distinct key sketch.now.sequence sound.distinct
   apart_lent (Compact sketch) sound = apart-distinct key sketch.now.entries sound.distinct

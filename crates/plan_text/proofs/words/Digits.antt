@@ -9,7 +9,7 @@ use Rattle.std.proofs.lemmas.Bool.Decides.{nat_tests}
 use Rattle.std.proofs.lemmas.Nat.{pow-add}
 use Rattle.std.proofs.Math.Nat.{pow-le-pow_right}
 use Rattle.plan_text.proofs.words.Separators.{Lacks}
-use Rattle.plan_text.specs.Words.{number}
+use Rattle.plan_text.specs.Words.{number_of_word}
 
 abbrev pub digits_from : ℕ → List ℕ → Option ℕ
 digits_from n [] = Some n
@@ -45,7 +45,7 @@ and_both true false two small n e f = absurd cc
 and_both true true false small n e f = absurd cc
 and_both true true true small n e f = refl
 
-pub number_is : (w : List ℕ) → 0 < length w → length w ≤ 20 → digits_from 0 w ≡ number w
+pub number_is : (w : List ℕ) → 0 < length w → length w ≤ 20 → digits_from 0 w ≡ number_of_word w
 number_is w low high = digits_from_is 0 w (omega arith) ∙ sym (and_both (all_ascii_digits w) (ltb 0 (length w)) (leb (length w) 20) (ltb (digits_value 10 w) (2 ^ 64)) (digits_value 10 w) (lt-ltb 0 (length w) low) (le-leb (length w) 20 high))
 
 -- a digit that ends the reading
@@ -95,7 +95,7 @@ pub more_digits : (v d i : ℕ) → v < 10 ^ i → d < 10 → v * 10 + d < 10 ^ 
 more_digits v d i lt small = rw pow-add (omega arith)
 
 pub below_19 : (v i : ℕ) → v < 10 ^ i → i < 19 → v < 10 ^ 18
-below_19 v i lt few = let some : 0 < 10 = omega arith in let most : i ≤ 18 = omega arith in let le : 10 ^ i ≤ 10 ^ 18 = pow-le-pow_right some most in omega arith
+below_19 v i lt limited = let some : 0 < 10 = omega arith in let most : i ≤ 18 = omega arith in let le : 10 ^ i ≤ 10 ^ 18 = pow-le-pow_right some most in omega arith
 
 first_digit : (b c : ℕ) → is_ascii_digit c ≡ false → is_ascii_digit b ≡ true → b ≡ c → ⊥
 first_digit b c other digit e = let both : true ≡ false = sym digit ∙ ap is_ascii_digit e ∙ other in absurd cc

@@ -4,8 +4,8 @@ use Rattle.std.specs.Prelude.{map}
 use Rattle.std.specs.Str.{all_ascii_digits}
 use Rattle.plan_text.proofs.words.Separators.{Lacks, lines_some, words_some, words_none}
 use Rattle.plan_text.proofs.words.Digits.{digits_lack}
-use Rattle.plan_text.specs.Text.{lines_of}
-use Rattle.plan_text.specs.Words.{words, number}
+use Rattle.lines.specs.Lines.{lines_of}
+use Rattle.plan_text.specs.Words.{words, number_of_word}
 use Rattle.plan_text.specs.Lines.{said}
 use Rattle.plan_text.specs.Reading.{says}
 use Rattle.plan_text.specs.declared.line.Line.TheVariants as line
@@ -42,7 +42,7 @@ added_lacks bs h = Lacks_both 10 (97 ∷ 100 ∷ 100 ∷ 32 ∷ []) bs (Lacks_on
 add_lacks : Lacks 32 (97 ∷ 100 ∷ 100 ∷ [])
 add_lacks = Lacks_one 32 97 (100 ∷ 100 ∷ []) (λ e. absurd (omega arith)) (Lacks_one 32 100 (100 ∷ []) (λ e. absurd (omega arith)) (Lacks_one 32 100 [] (λ e. absurd (omega arith)) (Lacks_none 32)))
 
-pub says_add : (text word rest : List ℕ) (hash : ℕ) → text ≡ 97 ∷ 100 ∷ 100 ∷ 32 ∷ (word ++ 10 ∷ rest) → all_ascii_digits word ≡ true → number word ≡ Some hash → says text ≡ Some (line.Step (step.Add hash None)) ∷ says rest
+pub says_add : (text word rest : List ℕ) (hash : ℕ) → text ≡ 97 ∷ 100 ∷ 100 ∷ 32 ∷ (word ++ 10 ∷ rest) → all_ascii_digits word ≡ true → number_of_word word ≡ Some hash → says text ≡ Some (line.Step (step.Add hash None)) ∷ says rest
 says_add text word rest hash e digits spells =
     let front = 97 ∷ 100 ∷ 100 ∷ 32 ∷ word in
     let lines : lines_of text ≡ front ∷ lines_of rest = ap lines_of e ∙ lines_some front rest (added_lacks word (digits_lack 10 word refl digits)) in
@@ -51,7 +51,7 @@ says_add text word rest hash e digits spells =
     let meant : said ((97 ∷ 100 ∷ 100 ∷ []) ∷ word ∷ []) ≡ Some (line.Step (step.Add hash None)) = rw spells refl in
     ap (map (λ l. said (words l))) lines ∙ ap (λ s. s ∷ says rest) (ap said split ∙ meant)
 
-pub says_add_value : (text word second rest : List ℕ) (hash value : ℕ) → text ≡ 97 ∷ 100 ∷ 100 ∷ 32 ∷ (word ++ 32 ∷ (second ++ 10 ∷ rest)) → all_ascii_digits word ≡ true → number word ≡ Some hash → all_ascii_digits second ≡ true → number second ≡ Some value → says text ≡ Some (line.Step (step.Add hash (Some value))) ∷ says rest
+pub says_add_value : (text word second rest : List ℕ) (hash value : ℕ) → text ≡ 97 ∷ 100 ∷ 100 ∷ 32 ∷ (word ++ 32 ∷ (second ++ 10 ∷ rest)) → all_ascii_digits word ≡ true → number_of_word word ≡ Some hash → all_ascii_digits second ≡ true → number_of_word second ≡ Some value → says text ≡ Some (line.Step (step.Add hash (Some value))) ∷ says rest
 says_add_value text word second rest hash value e digits spells more_digits more_spells =
     let both = word ++ 32 ∷ second in
     let front = 97 ∷ 100 ∷ 100 ∷ 32 ∷ both in

@@ -5,7 +5,7 @@ use Rattle.sketch_base.specs.Seed.{seed_hash}
 use Rattle.sketch_base.specs.declared.seed.TheConstants.{DEFAULT_UPDATE_SEED}
 use Rattle.sketch_base.specs.declared.error.ErrorKind.{ErrorKind}
 use Rattle.sketch_base.specs.declared.error.ErrorKind.TheVariants.{InvalidArgument, InvalidData, OutOfMemory, Policy, Failed}
-use Rattle.core_compact.specs.CompactState.{Compact, compact_value}
+use Rattle.core_compact.specs.CompactState.{Compact, compact_value, ordered_sketch}
 use Rattle.core_slots.specs.Entry.{tuple_key}
 use Rattle.core_slots.specs.declared.entry.TupleEntry.{TupleEntry}
 use Rattle.core_laws.specs.Values.{Sketch, Empty, NonEmpty}
@@ -16,7 +16,7 @@ use Rattle.plan_text.specs.declared.command.Form.{Form}
 use Rattle.plan_text.specs.declared.command.Form.TheVariants.{Show, Image}
 use Rattle.plan_values.specs.Refusals.{must_refuse}
 use Rattle.plan_values.specs.Value.{value_of, value_in, fits, plan_refusal}
-use Rattle.plan_evaluation.specs.Answered.{ordered_sketch, IsSketchOf}
+use Rattle.plan_evaluation.specs.Answered.{IsSketchOf}
 use Rattle.sketchtool.specs.Answer.{Texts, theta_texts, tuple_texts, sums, AnswersCommand, shows, argument, policy, sketch_text, value_text, argument_line, policy_line, refusal_line, command_refusal, policy_may_refuse, policy_must_refuse}
 
 -- the text of an ordered sketch is that of its value
@@ -75,13 +75,13 @@ answers_policy command (inr (inr broken)) = λ input s. policy command s broken.
 
 -- the line of a refusal answers a command whose evaluation may be refused with that error
 answers_line : {Z : Type 0} (command : Command Z) (kind : ErrorKind) (text : List ℕ) → MayRefuse command kind → refusal_line kind ≡ Some text → AnswersCommand command 1 text
-answers_line command InvalidArgument text refused told = subst (AnswersCommand command 1) (same_line argument_line text told) (answers_argument command refused)
-answers_line command Policy text refused told = subst (AnswersCommand command 1) (same_line policy_line text told) (answers_policy command refused)
-answers_line command InvalidData text refused told = absurd cc
-answers_line command OutOfMemory text refused told = absurd cc
-answers_line command Failed text refused told = absurd cc
+answers_line command InvalidArgument text refused reported = subst (AnswersCommand command 1) (same_line argument_line text reported) (answers_argument command refused)
+answers_line command Policy text refused reported = subst (AnswersCommand command 1) (same_line policy_line text reported) (answers_policy command refused)
+answers_line command InvalidData text refused reported = absurd cc
+answers_line command OutOfMemory text refused reported = absurd cc
+answers_line command Failed text refused reported = absurd cc
 
 pub answers_refused : {Z T E : Type 0} (command : Command Z) (kind : ErrorKind) (status : T → ℕ) (text : T → List ℕ) (r : Result T E) → MayRefuse command kind
     → IfOk r (λ x. (status x ≡ 1) × (refusal_line kind ≡ Some (text x))) → IfOk r (λ x. AnswersCommand command (status x) (text x))
-answers_refused command kind status text (Ok x) refused told = λ input s. rw told.0 (answers_line command kind (text x) refused told.1 input s)
-answers_refused command kind status text (Err e) refused told = tt
+answers_refused command kind status text (Ok x) refused reported = λ input s. rw reported.0 (answers_line command kind (text x) refused reported.1 input s)
+answers_refused command kind status text (Err e) refused reported = tt

@@ -7,8 +7,6 @@ use std::io::{Error, ErrorKind, Read, Result, Write};
 #[derive(Clone, Copy)]
 pub enum After<'a> {
     End,
-    /// It fails at each further read.
-    Failure,
     /// It fails at one read, and would then return this text.
     Once(ErrorKind, &'a [u8]),
     /// It returns one byte at each read, and never ends.
@@ -59,7 +57,6 @@ impl Read for Pieces<'_> {
         }
         match self.after {
             After::End => Ok(0),
-            After::Failure => Err(Error::from(ErrorKind::BrokenPipe)),
             After::Once(kind, rest) => {
                 self.text = rest;
                 self.after = After::End;

@@ -36,24 +36,6 @@ fn reads_in_pieces(rt: HostRuntime) -> Result<(), Fail> {
     Ok(())
 }
 
-/// The status of a run whose reads fail after these bytes, and the number of bytes it wrote.
-fn answer_to_failure(alloc: Global, front: &[u8], piece: usize) -> (u8, usize) {
-    let mut reader = Pieces::new(front, piece, After::Failure);
-    let (status, written) = answer_to(alloc, &mut reader);
-    (status, written.len())
-}
-
-#[test]
-fn fails_with_a_read(rt: HostRuntime) -> Result<(), Fail> {
-    let text = long_text(rt.alloc())?;
-    for (length, piece) in [(0, 1), (5, 1), (4096, 4096), (5000, 4096), (20000, 7)] {
-        let front = text.as_bytes().get(..length).ok_or("too short")?;
-        let said = answer_to_failure(rt.alloc(), front, piece);
-        assert_eq!(rt; said, (2, 0), "after {length}");
-    }
-    Ok(())
-}
-
 /// How a run ends, and what it wrote, if its reader returns `front` in pieces of at most seven bytes and then does this.
 fn ending_after(alloc: Global, front: &[u8], after: After<'_>) -> (Ending, Vec<u8>) {
     let mut reader = Pieces::new(front, 7, after);

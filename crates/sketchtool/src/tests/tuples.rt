@@ -1,80 +1,12 @@
-//! Plans of tuples: the order in which summaries are combined, and summaries that can't be written.
-ghost use Rattle.std.specs.Prelude.{◌+◌, ◌*◌, ◌^◌, Some, None, false, nat_lt, if◌then◌else◌};
+//! Plans of tuples whose summaries can't be written.
+ghost use Rattle.std.specs.Prelude.{Some, false};
 
-use super::{answer_to_text, tuple_plan};
-use core_policies::DefaultUpdatePolicy;
+use super::tuple_plan;
 use plan_evaluation::evaluate_tuple;
 use sketch_base::{DEFAULT_UPDATE_SEED, Error, ErrorKind, SketchBytes, SketchSlice};
 use std::alloc::{Allocator, Global};
 use std::test::Fail;
 use tuple_sketches::{SummaryCombinePolicy, SummaryPolicy, SummaryUpdatePolicy, TupleSummaryValue};
-
-/// Combines summaries as decimal digits: appends the new digit to those so far.
-#[derive(Debug, Clone, Copy)]
-struct Digits;
-
-impl SummaryPolicy for Digits {
-    type Summary = u64;
-
-    ghost creates = { λ policy. Some 0 };
-
-    ghost takes_memory = { λ policy. false };
-
-    fn create(&self) -> Result<u64, Error> {
-        Ok(0)
-    }
-}
-
-impl SummaryCombinePolicy for Digits {
-    ghost combines = { λ policy digits digit. if nat_lt (10 * digits + digit) (2 ^ 64) then Some (10 * digits + digit) else None };
-
-    fn combine(&self, digits: &mut u64, digit: &u64) -> Result<(), Error> {
-        let Some(tens) = digits.checked_mul(10) else {
-            return Err(Error::new(ErrorKind::Policy));
-        };
-        let Some(sum) = tens.checked_add(*digit) else {
-            return Err(Error::new(ErrorKind::Policy));
-        };
-        *digits = sum;
-        Ok(())
-    }
-}
-
-/// The first summary in the sketch of a plan if summaries are combined as digits; `None` if it has none.
-fn digits_of(alloc: Global, text: &str) -> Result<Option<u64>, Error> {
-    let Some(plan) = tuple_plan(alloc, text) else {
-        return Ok(None);
-    };
-    let updates = DefaultUpdatePolicy::<u64>::default();
-    let sketch = evaluate_tuple(alloc, &plan, DEFAULT_UPDATE_SEED, updates, Digits)?;
-    Ok(sketch.iter().next().map(|entry| *entry.summary()))
-}
-
-#[test]
-fn combines_in_the_order_of_the_parts(rt: HostRuntime) -> Result<(), Fail> {
-    let rows = [
-        (
-            "tuple show\nunion 5 max 3\nleaf 5 max 1\nadd 5 1\nleaf 5 max 1\nadd 5 2\nleaf 5 max 1\nadd 5 3\n",
-            123,
-        ),
-        (
-            "tuple show\nunion 5 max 3\nleaf 5 max 1\nadd 5 3\nleaf 5 max 1\nadd 5 2\nleaf 5 max 1\nadd 5 1\n",
-            321,
-        ),
-        (
-            "tuple show\nmeet 3\nleaf 5 max 1\nadd 5 1\nleaf 5 max 1\nadd 5 2\nleaf 5 max 1\nadd 5 3\n",
-            123,
-        ),
-        (
-            "tuple show\nmeet 3\nleaf 5 max 1\nadd 5 3\nleaf 5 max 1\nadd 5 2\nleaf 5 max 1\nadd 5 1\n",
-            321,
-        ),
-    ];
-    for (text, wanted) in rows {
-        assert_eq!(rt; digits_of(rt.alloc(), text)?, Some(wanted), "{text}");
-    }
-    Ok(())
-}
 
 /// A summary that can't be written, and has no bytes.
 #[derive(Debug, Clone, Copy)]

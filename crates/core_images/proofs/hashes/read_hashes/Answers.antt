@@ -17,9 +17,9 @@ returns-then-words-count-clause-refused g c =
 pub returns-clause-ok : goal.returns-clause-ok
 returns-clause-ok g c =
     let bytes = c.args.bytes.now in
-    let few = c.as_chunks.ensures.front_len in
-    let told = c.split_at.ensures.front ∙ ap (take c.args.count) c.as_chunks.ensures.front in
-    let all = items_from_extend c.extend.result c.extend.ensures.ran (YieldsList-from_map _ (from_le_bytes w64) (YieldsList-from_slice (take c.args.count (first_chunks 8 (length bytes / 8) bytes)) (ap iter_rest c.map-hashes.ensures.source ∙ c.iter.ensures.rest ∙ told)) c.map-hashes.ensures.closure (λ x r q k. search rules)) in
+    let limited = c.as_chunks.ensures.front_len in
+    let reported = c.split_at.ensures.front ∙ ap (take c.args.count) c.as_chunks.ensures.front in
+    let all = items_from_extend c.extend.result c.extend.ensures.ran (YieldsList-from_map _ (from_le_bytes w64) (YieldsList-from_slice (take c.args.count (first_chunks 8 (length bytes / 8) bytes)) (ap iter_rest c.map-hashes.ensures.source ∙ c.iter.ensures.rest ∙ reported)) c.map-hashes.ensures.closure (λ x r q k. search rules)) in
     let made = rw c.in_ok-extend.was at all in
     let items : c.extend.new.self.items ≡ map (from_le_bytes w64) (take c.args.count (first_chunks 8 (length bytes / 8) bytes)) = made.0 ∙ ap (λ l. l ++ map (from_le_bytes w64) (take c.args.count (first_chunks 8 (length bytes / 8) bytes))) c.in_ok-entries.ensures.items in
-    rw items (words_held c.args.count (length bytes / 8) bytes (omega (arith, few, c.if-words-count.false)) (omega arith))
+    rw items (words_held c.args.count (length bytes / 8) bytes (omega (arith, limited, c.if-words-count.false)) (omega arith))

@@ -1,5 +1,5 @@
 use Rattle.core_images.specs.Preamble.{flagged_layout}
-use Rattle.core_images.proofs.Layouts.{flagged_from, comes_one}
+use Rattle.core_images.proofs.ImageLayouts.{flagged_from, comes_one}
 use Rattle.core_images.proofs.laws.one_flagged_reading.Goals as goal
 
 pub returns : goal.returns

@@ -1,7 +1,7 @@
 use Rattle.std.proofs.Common.{◌≡◌, ◌∙◌, ap, inr, Some}
 use Rattle.std.proofs.lemmas.Result.{err_from_is_err_and}
 use Rattle.core_images.specs.declared.preamble.Layout.TheVariants.{Filled}
-use Rattle.core_images.proofs.ReadEntries.{held_of, good_of, refused_weaker}
+use Rattle.core_images.proofs.ReadEntries.{content_of, good_of, refused_weaker}
 use Rattle.core_images.proofs.read.read_after_preamble.Goals as goal
 
 pub returns-in_err-entries-in-Some-Filled : goal.returns-in_err-entries-in-Some-Filled
@@ -10,17 +10,17 @@ returns-in_err-entries-in-Some-Filled g c =
     let inner : c.in-Some-Filled.field-0 ≡ Filled c.in-Some-Filled.p = rw c.in-Some-Filled.is at c.in-Some-Filled.field-0-is in
     let e : c.args.layout ≡ Some (Filled c.in-Some-Filled.p) = c.in-Some-Filled.is ∙ ap Some inner in
     let refused = rw c.split_at.ensures.back at c.in_err-entries-in-Some-Filled.ensures.refused in
-    rw (p.1, p.2, e) (refused_weaker c.in_err-entries-in-Some-Filled.field-0.0 (held_of g.E.ImageEntry.spells g.met.E.ImageEntry.one_spelling g.E.SketchEntry.key c.args.bytes.now c.args.seed_hash c.in-Some-Filled.p) refused)
+    rw (p.1, p.2, e) (refused_weaker c.in_err-entries-in-Some-Filled.field-0.0 (content_of g.E.ImageEntry.spells g.met.E.ImageEntry.one_spelling g.E.SketchEntry.key c.args.bytes.now c.args.seed_hash c.in-Some-Filled.p) refused)
 
 pub returns-else-branch : goal.returns-else-branch
 returns-else-branch g c =
     let inner : c.in-Some-Filled.field-0 ≡ Filled c.in-Some-Filled.p = rw c.in-Some-Filled.is at c.in-Some-Filled.field-0-is in
     let e : c.args.layout ≡ Some (Filled c.in-Some-Filled.p) = c.in-Some-Filled.is ∙ ap Some inner in
-    let held = rw c.split_at.ensures.back at (c.in_ok-entries-in-Some-Filled.ensures).ok in
+    let content = rw c.split_at.ensures.back at (c.in_ok-entries-in-Some-Filled.ensures).ok in
     rw e (inr (
       c.new-else-branch.ensures,
       λ found.
-          let good = good_of g.E.ImageEntry.spells g.met.E.ImageEntry.one_spelling g.E.SketchEntry.key c.args.bytes.now c.args.seed_hash c.in-Some-Filled.p c.in_ok-entries-in-Some-Filled.entries.items held found in
+          let good = good_of g.E.ImageEntry.spells g.met.E.ImageEntry.one_spelling g.E.SketchEntry.key c.args.bytes.now c.args.seed_hash c.in-Some-Filled.p c.in_ok-entries-in-Some-Filled.entries.items content found in
           let yes = (c.in_ok-are_entries-in-Some-Filled.ensures).ok.1 (rw c.deref.ensures.value good) in
           cc (c.if-branch.false),
     ))

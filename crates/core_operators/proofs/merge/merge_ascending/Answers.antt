@@ -12,8 +12,8 @@ use Rattle.core_operators.proofs.merge.merge_ascending.Goals as goal
 use Rattle.core_operators.proofs.merge.merge_ascending.Goals.{else-merge_in_order-test, then-merge_in_order-test+then-is_past_either}
 
 -- a hash that is past neither theta is below both
-below_both : (h t own : ℕ) (told : Bool) → (min t own ≤ h → told ≡ true) → told ≡ false → h < min t own
-below_both h t own told past not_past =
+below_both : (h t own : ℕ) (reported : Bool) → (min t own ≤ h → reported ≡ true) → reported ≡ false → h < min t own
+below_both h t own reported past not_past =
     elim (cases_lt h (min t own)) [
       | inl lt ↦ lt
       | inr le ↦ absurd (let e = sym (past le) ∙ not_past in cc)

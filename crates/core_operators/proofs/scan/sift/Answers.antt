@@ -41,7 +41,7 @@ compare_each-preserved g c =
           (sifted_on key other c.args.theta (λ r. r.now) _ c.compare_each.left.now c.compare_each.others_left.now c.in-Some.entry c.in-Some-first.other.now c.compare_each.kept c.compare_each.count c.hash-hash.result c.hash-known.result c.number_if-count.result c.number_if.result c.number_if-in-compare_each.result
           c.in-Some.ensures.value c.in-Some-first.ensures.value (omega (arith, c.compare_each.invariant.room, c.compare_each-test.true)) c.hash-hash.ensures c.hash-known.ensures (omega (arith, c.if-hash-theta.false)) c.number_if-count.ensures.value c.number_if.ensures.value c.number_if-in-compare_each.ensures.value c.compare_each.invariant.so_far);
       room = length-set _ _ _ ∙ c.compare_each.invariant.room;
-      few = omega (arith, c.number_if-count.ensures.small, c.compare_each-test.true);
+      limited = omega (arith, c.number_if-count.ensures.small, c.compare_each-test.true);
       fewer = fewer_left c.compare_each.left.now c.compare_each.count c.number_if-count.result c.number_if.result (length c.args.entries.now) c.hash-hash.result c.hash-known.result c.number_if-count.ensures.value c.number_if.ensures.value (some_first c.compare_each.left.now c.in-Some.entry.now c.in-Some.ensures.value) c.compare_each.invariant.fewer;
     }
 
@@ -50,13 +50,13 @@ no_first at None left none e = e
 no_first at (Some r) left none e = absurd (none r refl)
 
 pub returns-clause-whole : goal.returns-clause-whole
-returns-clause-whole g c = λ few.
+returns-clause-whole g c = λ limited.
     let key = g.E.SketchEntry.key in
     let other = g.F.SketchEntry.key in
     let left = c.compare_each.left.now in
     let others = c.compare_each.others_left.now in
     elim c.compare_each-test.branch [
-      | else-compare_each-test w ↦ absurd (omega (arith, few, w.compare_each-test.false))
+      | else-compare_each-test w ↦ absurd (omega (arith, limited, w.compare_each-test.false))
       | then-compare_each-test+in_default w ↦ whole_at_end key other c.args.theta left others (no_first (λ r. r.now) w.first.result left w.in_default.not-Some w.first.ensures.value)
       | then-compare_each-test+in-Some+in_default-first w ↦ whole_with_none key other c.args.theta left others (no_first (λ r. r.now) w.first-in-compare_each.result others w.in_default-first.not-Some w.first-in-compare_each.ensures.value)
       | then-compare_each-test+in-Some+in-Some-first+then-hash-theta w ↦ whole_past key other c.args.theta left others w.in-Some.entry.now w.in-Some.ensures.value c.compare_each.invariant.so_far.ascending (rw (← w.hash-hash.ensures) (omega (arith, w.if-hash-theta.true)))

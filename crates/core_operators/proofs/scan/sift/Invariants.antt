@@ -6,7 +6,7 @@ use Rattle.core_operators.proofs.scan.sift.Given as goal
 pub record Sifting {X Y R : Type 0} (key : X → ℕ) (other : Y → ℕ) (theta : ℕ) (at : R → X) (entries left : List X) (others others_left : List Y) (kept : List R) (count : ℕ) : Type 0 where
   pub so_far : IsSifting key other theta (to_keep key other theta entries others) left others_left (map at (take count kept))
   pub room : length kept ≡ 64
-  pub few : count ≤ 64
+  pub limited : count ≤ 64
   pub fewer : count + length left ≤ length entries
 
 abbrev pub invariant-compare_each : goal.invariant-compare_each

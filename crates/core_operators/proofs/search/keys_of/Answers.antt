@@ -14,8 +14,8 @@ table_of-requires-clause-nonzero g c = rw c.in_ok-keys.ensures.ok (each-filter (
 pub table_of-requires-clause-below_theta : goal.table_of-requires-clause-below_theta
 table_of-requires-clause-below_theta g c = rw c.in_ok-keys.ensures.ok (each-passes (λ (h : ℕ). h < c.args.theta) (λ h. ltb h c.args.theta) (λ h e. ltb-true h c.args.theta e) (g.T.KeySketch.shown c.args.sketch).hashes)
 
-pub table_of-requires-clause-few : goal.table_of-requires-clause-few
-table_of-requires-clause-few g c = rw c.in_ok-keys.ensures.ok (below_few (g.T.KeySketch.shown c.args.sketch).hashes c.args.theta (2 ^ 32) c.in_ok-keys.ensures.sound.few)
+pub table_of-requires-clause-limited : goal.table_of-requires-clause-limited
+table_of-requires-clause-limited g c = rw c.in_ok-keys.ensures.ok (below_few (g.T.KeySketch.shown c.args.sketch).hashes c.args.theta (2 ^ 32) c.in_ok-keys.ensures.sound.limited)
 
 pub table_of-requires-clause-of_seed : goal.table_of-requires-clause-of_seed
 table_of-requires-clause-of_seed g c = look_up_seed

@@ -28,11 +28,11 @@ share_each-preserved g c =
     let refuses = g.P.IntersectionMergePolicy.refuses c.args.policy.now in
     let keeps = g.met.P.IntersectionMergePolicy.keeps_hash c.args.policy.now in
     let listing = g.S.EntrySketch.listing c.args.sketch in
-    let held = c.args.held.now.map.kept.entries in
+    let content = c.args.content.now.map.kept.entries in
     let shape : c.share_each.entry-iterator.rest ≡ c.in-Some.entry.now ∷ c.next.new.self.rest = c.in-Some.ensures.steps.0 in
     let reading : IsReading key listing (c.in-Some.entry.now ∷ c.next.new.self.rest) c.args.ordered = rw (← shape) c.share_each.invariant.reading in
     record {
-      all = rw c.in_ok-push_found.ensures (more_read key merges refuses keeps c.share_each.entries.items c.next.new.self.rest held c.in-Some.entry.now c.args.theta c.in_ok-found.found (read_from key merges refuses listing held c.args.theta) c.in_ok-found.ensures.combined (rw shape at c.share_each.invariant.all));
+      all = rw c.in_ok-push_found.ensures (more_read key merges refuses keeps c.share_each.entries.items c.next.new.self.rest content c.in-Some.entry.now c.args.theta c.in_ok-found.found (read_from key merges refuses listing content c.args.theta) c.in_ok-found.ensures.combined (rw shape at c.share_each.invariant.all));
       reading = reading-next key listing c.next.new.self.rest c.in-Some.entry.now c.args.ordered reading;
     }
 
@@ -56,12 +56,12 @@ returns-clause-all g c =
     let refuses = g.P.IntersectionMergePolicy.refuses c.args.policy.now in
     let keeps = g.met.P.IntersectionMergePolicy.keeps_hash c.args.policy.now in
     let listing = g.S.EntrySketch.listing c.args.sketch in
-    let held = c.args.held.now.map.kept.entries in
+    let content = c.args.content.now.map.kept.entries in
     let so_far = map Value c.share_each.entries.items in
     elim c.match-next.branch [
       | in-None w ↦
           let h = w.in-None.ensures.steps.0 in
-          let done : so_far ++ [] ≡ read_from key merges refuses listing held c.args.theta = rw h.0 at c.share_each.invariant.all in
+          let done : so_far ++ [] ≡ read_from key merges refuses listing content c.args.theta = rw h.0 at c.share_each.invariant.all in
           sym (append-nil so_far) ∙ done
       | in-Some+then-is_past w ↦
           let shape = w.in-Some.ensures.steps.0 in
@@ -69,6 +69,6 @@ returns-clause-all g c =
           let ordered = past.0 in
           let hash_is = w.hash-hash.ensures in
           let reading : IsReading key listing (w.in-Some.entry.now ∷ c.next.new.self.rest) true = rw (← shape, ← ordered) c.share_each.invariant.reading in
-          let none = read_past key merges refuses keeps listing c.next.new.self.rest held w.in-Some.entry.now c.args.theta reading (rw (← hash_is) past.1) in
+          let none = read_past key merges refuses keeps listing c.next.new.self.rest content w.in-Some.entry.now c.args.theta reading (rw (← hash_is) past.1) in
           sym (append-nil so_far) ∙ ap (λ ys. so_far ++ ys) (sym none) ∙ rw shape at c.share_each.invariant.all
     ]

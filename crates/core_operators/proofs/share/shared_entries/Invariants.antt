@@ -10,7 +10,7 @@ invariant-share_each g l =
     let merges = g.P.IntersectionMergePolicy.merges l.policy in
     let refuses = g.P.IntersectionMergePolicy.refuses l.policy in
     record {
-      all : map Value l.entries.items ++ read_from key merges refuses l.entry-iterator.rest l.held.map.kept.entries l.theta ≡ read_from key merges refuses (g.S.EntrySketch.listing l.fn.sketch) l.held.map.kept.entries l.theta;
+      all : map Value l.entries.items ++ read_from key merges refuses l.entry-iterator.rest l.content.map.kept.entries l.theta ≡ read_from key merges refuses (g.S.EntrySketch.listing l.fn.sketch) l.content.map.kept.entries l.theta;
       reading : IsReading key (g.S.EntrySketch.listing l.fn.sketch) l.entry-iterator.rest l.ordered;
     }
 

@@ -13,7 +13,7 @@ pub for_set_operation-requires-clause-size_high : goal.for_set_operation-require
 for_set_operation-requires-clause-size_high g c =
     let n = length c.args.entries.items in
     let sized : IsSizedFor n c.lg_slots_for-lg_cur.result c.saturating_sub-lg_nom.result = record { cur = let counted : c.len.result ≡ n = omega (arith, c.len.ensures, c.args.entries.ok) in rw (← counted) c.lg_slots_for-lg_cur.ensures; nom = c.saturating_sub-lg_nom.ensures } in
-    sized_high n _ _ sized c.requires.few
+    sized_high n _ _ sized c.requires.limited
 
 pub put_each-init : goal.put_each-init
 put_each-init g c =
@@ -36,9 +36,9 @@ upsert_entry-requires-clause-room g c =
     let low : 0 < n = omega (arith, filling.count) in
     let with_made = c.put_each.invariant.made_with in
     let made = c.in_ok-table.ensures.made in
-    fitting_room key c.hash-hash.result n c.saturating_sub-lg_nom.result c.put_each.table.map (sized_free n _ _ sized c.requires.few low)
+    fitting_room key c.hash-hash.result n c.saturating_sub-lg_nom.result c.put_each.table.map (sized_free n _ _ sized c.requires.limited low)
     (ap (λ t. t.lg_nom) with_made ∙ ap (λ t. t.lg_nom) made)
-    (ap (λ t. t.has_slots) with_made ∙ ap (λ t. t.has_slots) made ∙ sized_slots n _ _ sized c.requires.few low)
+    (ap (λ t. t.has_slots) with_made ∙ ap (λ t. t.has_slots) made ∙ sized_slots n _ _ sized c.requires.limited low)
     (omega (arith, filling.count))
 
 pub put_each-preserved : goal.put_each-preserved
@@ -59,7 +59,7 @@ put_each-preserved g c =
     ∙ ap (λ (m : ℕ). after_upsert key (2 ^ m) c.hash-hash.result (put_step c.new.result.entry) was) lg
     ∙ ap (λ (h : ℕ). after_upsert key k h (put_step c.new.result.entry) was) c.hash-hash.ensures
     ∙ ap (λ x. after_upsert key k (key c.in-Some.entry) (put_step x) was) c.new.ensures
-    ∙ put_is key n c.args.theta c.in-Some.entry c.next.new.self.rest.items was filling k (sized_free n _ _ sized c.requires.few low) in
+    ∙ put_is key n c.args.theta c.in-Some.entry c.next.new.self.rest.items was filling k (sized_free n _ _ sized c.requires.limited low) in
     record {
       made_with = made_with_next c.in_ok-table.table.map c.put_each.table.map c.upsert_entry.new.self.map _ with_made c.in_ok-upsert_entry.ensures.after;
       filling = rw kept (filling-next key n c.args.theta c.in-Some.entry c.next.new.self.rest.items was filling);
@@ -84,5 +84,5 @@ returns-clause-kept g c =
 pub returns-clause-same_seed : goal.returns-clause-same_seed
 returns-clause-same_seed g c = ap (λ t. t.seed_hash) c.put_each.invariant.made_with ∙ ap (λ t. t.seed_hash) c.in_ok-table.ensures.made
 
-pub returns-clause-few : goal.returns-clause-few
-returns-clause-few g c = omega (arith, c.put_each.invariant.filling.count, c.requires.few)
+pub returns-clause-limited : goal.returns-clause-limited
+returns-clause-limited g c = omega (arith, c.put_each.invariant.filling.count, c.requires.limited)

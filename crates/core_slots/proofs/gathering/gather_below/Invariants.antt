@@ -1,19 +1,19 @@
 use Rattle.std.proofs.Common.{◌≡◌, ◌≤◌, [], length, map, take, drop}
 use Rattle.core_laws.specs.Maps.{below}
-use Rattle.core_slots.specs.Layout.{filled}
+use Rattle.core_slots.specs.SlotLayout.{filled}
 use Rattle.core_slots.proofs.gathering.gather_below.Given as goal
 
 -- the slots so far are free, the others are unchanged, and the entries below theta were moved
 abbrev pub invariant-take_each : goal.invariant-take_each
 invariant-take_each g l =
     let key = g.E.SketchEntry.key in
-    let held = g.E.PathEntry.held in
+    let content = g.E.PathEntry.content in
     record {
       size : length l.slots ≡ length l.initial.slots;
       long : length l.others ≡ length l.initial.others;
-      few : l.count ≤ l.at;
-      number : l.count ≡ length (below key (filled (map held (take l.at l.initial.slots))) l.theta);
+      limited : l.count ≤ l.at;
+      number : l.count ≡ length (below key (filled (map content (take l.at l.initial.slots))) l.theta);
       left : drop l.at l.slots ≡ drop l.at l.initial.slots;
-      free : filled (map held (take l.at l.slots)) ≡ [];
-      taken : filled (map held (take l.count l.others)) ≡ below key (filled (map held (take l.at l.initial.slots))) l.theta;
+      free : filled (map content (take l.at l.slots)) ≡ [];
+      taken : filled (map content (take l.count l.others)) ≡ below key (filled (map content (take l.at l.initial.slots))) l.theta;
     }

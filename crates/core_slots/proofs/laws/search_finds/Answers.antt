@@ -1,4 +1,4 @@
-use Rattle.core_slots.proofs.Layouts.{search_finds}
+use Rattle.core_slots.proofs.SlotLayouts.{search_finds}
 use Rattle.core_slots.proofs.laws.search_finds.Goals as goal
 
 pub returns : goal.returns

@@ -2,7 +2,7 @@ use Rattle.std.proofs.Common.{◌≡◌, ℕ, ◌+◌, ◌≤◌, ◌^◌, ◌%�
 use Rattle.std.proofs.Math.Pow.{pow_mono}
 use Rattle.std.proofs.lemmas.Bool.Decides.{nat_tests}
 use Rattle.core_slots.specs.Probe.{probe}
-use Rattle.core_slots.proofs.Layouts.{probe_start, probe_next, probe_low}
+use Rattle.core_slots.proofs.SlotLayouts.{probe_start, probe_next, probe_low}
 use Rattle.core_slots.proofs.Relays.{marks_none, marks_more, few_marks}
 use Rattle.core_slots.proofs.relaying.first_unmarked.Goals as goal
 
@@ -20,7 +20,7 @@ returns-then-not-is_marked-clause-first c =
     let i = c.look.invariant in
     let passed = few_marks c.args.lg c.args.marks.now c.args.hash i.0 i.3 i.4 in
     let clear : get_or c.args.marks.now c.look.at false ≡ false = grind (arith, nat_tests, c.is_marked.ensures.marked, c.if-not-is_marked.true) in
-    record { step = i.0; in_range = omega (arith, passed, c.requires.room); here = sym i.2; before = i.4; unmarked = clear }
+    record { step = i.0; in_range = omega (arith, passed, c.requires.room); present = sym i.2; before = i.4; unmarked = clear }
 
 pub returns-then-not-is_marked-clause-looks : goal.returns-then-not-is_marked-clause-looks
 returns-then-not-is_marked-clause-looks c =

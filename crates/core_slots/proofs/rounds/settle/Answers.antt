@@ -2,10 +2,10 @@ use Rattle.std.proofs.Common.{◌≡◌, ℕ, ◌+◌, ◌*◌, ◌<◌, ◌≤�
 use Rattle.std.proofs.lemmas.List.{length-set}
 use Rattle.std.proofs.lemmas.Nat.{pow_pos}
 use Rattle.std.proofs.Math.Pow.{pow_mono}
-use Rattle.core_slots.specs.Layout.{filled, slot}
+use Rattle.core_slots.specs.SlotLayout.{filled, slot}
 use Rattle.core_slots.specs.Probe.{probe}
 use Rattle.core_slots.specs.Rounds.{IsInRound}
-use Rattle.core_slots.proofs.Held.{length-held, some_of, none_of}
+use Rattle.core_slots.proofs.Held.{length-content, some_of, none_of}
 use Rattle.core_slots.proofs.Moves.{count-append}
 use Rattle.core_slots.proofs.Settled.{in_front, in_wait, waits_next, front_before, wait_behind, front_more, front_none, front_whole, front_is, none_behind, round_starts, round_next, round_short, round_puts, round_keeps, is_free, is_taken, looks_next, looks_put, looks_kept, looks_end}
 use Rattle.core_slots.proofs.rounds.settle.Goals as goal
@@ -14,18 +14,18 @@ use Rattle.core_slots.proofs.rounds.settle.Goals.{in-Some+then-is_settled, in-So
 pub rounds-init : goal.rounds-init
 rounds-init g c =
     let key = g.E.SketchEntry.key in
-    let held = g.E.PathEntry.held in
+    let content = g.E.PathEntry.content in
     let left = c.args.left.now in
-    let slots = map held c.args.slots.now in
+    let slots = map content c.args.slots.now in
     let begun : ℕ = length (filled slots) in
-    let all : in_front held (length left) left ≡ filled (map held left) = front_whole held left (length left) (omega arith) in
+    let all : in_front content (length left) left ≡ filled (map content left) = front_whole content left (length left) (omega arith) in
     rw all (
       begun,
       0,
       omega arith,
       omega arith,
       omega arith,
-      round_starts key c.args.lg (filled (map held left)) slots c.requires.laid_out c.requires.once,
+      round_starts key c.args.lg (filled (map content left)) slots c.requires.laid_out c.requires.once,
       λ some. pow_pos c.args.lg,
       omega arith,
       refl,
@@ -34,121 +34,121 @@ rounds-init g c =
 pub returns-then-count-eq0-clause-found : goal.returns-then-count-eq0-clause-found
 returns-then-count-eq0-clause-found g c =
     let key = g.E.SketchEntry.key in
-    let held = g.E.PathEntry.held in
+    let content = g.E.PathEntry.content in
     let i = c.rounds.invariant in
-    let whole = filled (map held c.args.left.now) ++ filled (map held c.args.slots.now) in
-    let slots = map held c.rounds.slots in
-    let none : in_front held c.rounds.count c.rounds.left ≡ [] = ap (λ (n : ℕ). in_front held n c.rounds.left) c.if-count-eq0.true ∙ front_none held c.rounds.left in
-    let is : IsInRound key c.args.lg whole [] [] slots (length (filled (map held c.args.slots.now))) c.rounds.round i.0 i.1 = rw none at i.5 in
+    let whole = filled (map content c.args.left.now) ++ filled (map content c.args.slots.now) in
+    let slots = map content c.rounds.slots in
+    let none : in_front content c.rounds.count c.rounds.left ≡ [] = ap (λ (n : ℕ). in_front content n c.rounds.left) c.if-count-eq0.true ∙ front_none content c.rounds.left in
+    let is : IsInRound key c.args.lg whole [] [] slots (length (filled (map content c.args.slots.now))) c.rounds.round i.0 i.1 = rw none at i.5 in
     λ q. is.found q
 
 pub returns-then-count-eq0-clause-all : goal.returns-then-count-eq0-clause-all
 returns-then-count-eq0-clause-all g c =
     let key = g.E.SketchEntry.key in
-    let held = g.E.PathEntry.held in
+    let content = g.E.PathEntry.content in
     let i = c.rounds.invariant in
-    let left = filled (map held c.args.left.now) in
-    let begun = filled (map held c.args.slots.now) in
-    let none : in_front held c.rounds.count c.rounds.left ≡ [] = ap (λ (n : ℕ). in_front held n c.rounds.left) c.if-count-eq0.true ∙ front_none held c.rounds.left in
-    let is : IsInRound key c.args.lg (left ++ begun) [] [] (map held c.rounds.slots) (length begun) c.rounds.round i.0 i.1 = rw none at i.5 in
+    let left = filled (map content c.args.left.now) in
+    let begun = filled (map content c.args.slots.now) in
+    let none : in_front content c.rounds.count c.rounds.left ≡ [] = ap (λ (n : ℕ). in_front content n c.rounds.left) c.if-count-eq0.true ∙ front_none content c.rounds.left in
+    let is : IsInRound key c.args.lg (left ++ begun) [] [] (map content c.rounds.slots) (length begun) c.rounds.round i.0 i.1 = rw none at i.5 in
     λ q. omega (arith, is.all q, count-append (λ x. eqb (key x) q) left begun)
 
 pub returns-then-count-eq0-clause-count : goal.returns-then-count-eq0-clause-count
 returns-then-count-eq0-clause-count g c =
     let key = g.E.SketchEntry.key in
-    let held = g.E.PathEntry.held in
+    let content = g.E.PathEntry.content in
     let i = c.rounds.invariant in
-    let left = filled (map held c.args.left.now) in
-    let begun = filled (map held c.args.slots.now) in
-    let none : in_front held c.rounds.count c.rounds.left ≡ [] = ap (λ (n : ℕ). in_front held n c.rounds.left) c.if-count-eq0.true ∙ front_none held c.rounds.left in
-    let is : IsInRound key c.args.lg (left ++ begun) [] [] (map held c.rounds.slots) (length begun) c.rounds.round i.0 i.1 = rw none at i.5 in
+    let left = filled (map content c.args.left.now) in
+    let begun = filled (map content c.args.slots.now) in
+    let none : in_front content c.rounds.count c.rounds.left ≡ [] = ap (λ (n : ℕ). in_front content n c.rounds.left) c.if-count-eq0.true ∙ front_none content c.rounds.left in
+    let is : IsInRound key c.args.lg (left ++ begun) [] [] (map content c.rounds.slots) (length begun) c.rounds.round i.0 i.1 = rw none at i.5 in
     omega (arith, is.counted, is.all_put, length-append left begun)
 
 pub returns-then-count-eq0-clause-placed : goal.returns-then-count-eq0-clause-placed
 returns-then-count-eq0-clause-placed g c =
     let key = g.E.SketchEntry.key in
-    let held = g.E.PathEntry.held in
+    let content = g.E.PathEntry.content in
     let i = c.rounds.invariant in
-    let left = filled (map held c.args.left.now) in
-    let begun = filled (map held c.args.slots.now) in
-    let none : in_front held c.rounds.count c.rounds.left ≡ [] = ap (λ (n : ℕ). in_front held n c.rounds.left) c.if-count-eq0.true ∙ front_none held c.rounds.left in
-    let is : IsInRound key c.args.lg (left ++ begun) [] [] (map held c.rounds.slots) (length begun) c.rounds.round i.0 i.1 = rw none at i.5 in
+    let left = filled (map content c.args.left.now) in
+    let begun = filled (map content c.args.slots.now) in
+    let none : in_front content c.rounds.count c.rounds.left ≡ [] = ap (λ (n : ℕ). in_front content n c.rounds.left) c.if-count-eq0.true ∙ front_none content c.rounds.left in
+    let is : IsInRound key c.args.lg (left ++ begun) [] [] (map content c.rounds.slots) (length begun) c.rounds.round i.0 i.1 = rw none at i.5 in
     omega (arith, i.2, is.counted, length-append left begun)
 
 pub returns-then-count-eq0-clause-looked : goal.returns-then-count-eq0-clause-looked
 returns-then-count-eq0-clause-looked g c =
     let key = g.E.SketchEntry.key in
-    let held = g.E.PathEntry.held in
+    let content = g.E.PathEntry.content in
     let i = c.rounds.invariant in
-    let left = filled (map held c.args.left.now) in
-    let begun = filled (map held c.args.slots.now) in
-    let none : in_front held c.rounds.count c.rounds.left ≡ [] = ap (λ (n : ℕ). in_front held n c.rounds.left) c.if-count-eq0.true ∙ front_none held c.rounds.left in
-    let is : IsInRound key c.args.lg (left ++ begun) [] [] (map held c.rounds.slots) (length begun) c.rounds.round i.0 i.1 = rw none at i.5 in
+    let left = filled (map content c.args.left.now) in
+    let begun = filled (map content c.args.slots.now) in
+    let none : in_front content c.rounds.count c.rounds.left ≡ [] = ap (λ (n : ℕ). in_front content n c.rounds.left) c.if-count-eq0.true ∙ front_none content c.rounds.left in
+    let is : IsInRound key c.args.lg (left ++ begun) [] [] (map content c.rounds.slots) (length begun) c.rounds.round i.0 i.1 = rw none at i.5 in
     omega (arith, i.2, i.3, is.counted, length-append left begun)
 
 pub returns-then-count-eq0-clause-looks : goal.returns-then-count-eq0-clause-looks
 returns-then-count-eq0-clause-looks g c =
     let key = g.E.SketchEntry.key in
-    let held = g.E.PathEntry.held in
+    let content = g.E.PathEntry.content in
     let i = c.rounds.invariant in
-    let none : in_front held c.rounds.count c.rounds.left ≡ [] = ap (λ (n : ℕ). in_front held n c.rounds.left) c.if-count-eq0.true ∙ front_none held c.rounds.left in
-    looks_end c.rounds.looks c.args.looks.now i.1 c.rounds.round (length (in_front held c.rounds.count c.rounds.left)) i.0 (length (filled (map held c.rounds.slots))) (length (filled (map held c.args.slots.now))) i.4 (ap length none) i.5.looked_few i.5.all_put
+    let none : in_front content c.rounds.count c.rounds.left ≡ [] = ap (λ (n : ℕ). in_front content n c.rounds.left) c.if-count-eq0.true ∙ front_none content c.rounds.left in
+    looks_end c.rounds.looks c.args.looks.now i.1 c.rounds.round (length (in_front content c.rounds.count c.rounds.left)) i.0 (length (filled (map content c.rounds.slots))) (length (filled (map content c.args.slots.now))) i.4 (ap length none) i.5.looked_few i.5.all_put
 
-pub slot_in_round-next-requires-clause-few : goal.slot_in_round-next-requires-clause-few
-slot_in_round-next-requires-clause-few g c =
+pub slot_in_round-next-requires-clause-limited : goal.slot_in_round-next-requires-clause-limited
+slot_in_round-next-requires-clause-limited g c =
     let most : 2 ^ c.args.lg ≤ 2 ^ 40 = pow_mono {i = c.args.lg} {j = 40} (omega (arith, c.requires.small)) in
     omega (arith, most, c.rounds.invariant.6 (omega (arith, c.look_on-test.true)))
 
 pub put_if_free-is_settled-requires : goal.put_if_free-is_settled-requires
 put_if_free-is_settled-requires g c =
-    let held = g.E.PathEntry.held in
-    omega (arith, c.slot_in_round-next.ensures.below, c.look_on.invariant.5.laid_out.size, length-held held c.look_on.slots)
+    let content = g.E.PathEntry.content in
+    omega (arith, c.slot_in_round-next.ensures.below, c.look_on.invariant.5.laid_out.size, length-content content c.look_on.slots)
 
 pub look_on-init : goal.look_on-init
 look_on-init g c =
-    let held = g.E.PathEntry.held in
+    let content = g.E.PathEntry.content in
     let i = c.rounds.invariant in
-    rw (front_none held c.rounds.left, front_is held c.rounds.left c.rounds.count) (i.0, i.1, i.2, i.3, i.4, i.5, refl, omega arith, refl)
+    rw (front_none content c.rounds.left, front_is content c.rounds.left c.rounds.count) (i.0, i.1, i.2, i.3, i.4, i.5, refl, omega arith, refl)
 
 pub look_on-preserved : goal.look_on-preserved
 look_on-preserved g c =
     let key = g.E.SketchEntry.key in
-    let held = g.E.PathEntry.held in
+    let content = g.E.PathEntry.content in
     let i = c.look_on.invariant in
     let lg : ℕ = c.args.lg in
-    let begun = filled (map held c.args.slots.now) in
-    let whole = filled (map held c.args.left.now) ++ begun in
+    let begun = filled (map content c.args.slots.now) in
+    let whole = filled (map content c.args.left.now) ++ begun in
     let left = c.look_on.left in
-    let slots = map held c.look_on.slots in
+    let slots = map content c.look_on.slots in
     let at : ℕ = c.look_on.at in
     let kept : ℕ = c.look_on.kept in
     let round : ℕ = c.rounds.round in
     let count : ℕ = c.rounds.count in
     let entry = c.take_out-entry.result in
     let dest = c.take_out-entry.new.slot in
-    let stay = in_front held kept left in
-    let wait = in_wait held (at + 1) count left in
+    let stay = in_front content kept left in
+    let wait = in_wait content (at + 1) count left in
     let within : count ≤ length left = omega (arith, i.6, c.rounds.invariant.7) in
     let low : round < 2 ^ lg = c.rounds.invariant.6 (omega (arith, c.look_on-test.true)) in
-    let next_waits : in_wait held at count left ≡ filled (held entry ∷ []) ++ wait =
-    waits_next held left at count c.index-left-at.result c.look_on-test.true within ∙ ap (λ o. filled (o ∷ []) ++ wait) (sym c.take_out-entry.ensures) in
-    let cleared_stay : in_front held kept (set left at dest) ≡ stay = front_before held left kept at dest i.7 in
-    let cleared_wait : in_wait held (at + 1) count (set left at dest) ≡ wait = wait_behind held left at count at dest (omega arith) in
+    let next_waits : in_wait content at count left ≡ filled (content entry ∷ []) ++ wait =
+    waits_next content left at count c.index-left-at.result c.look_on-test.true within ∙ ap (λ o. filled (o ∷ []) ++ wait) (sym c.take_out-entry.ensures) in
+    let cleared_stay : in_front content kept (set left at dest) ≡ stay = front_before content left kept at dest i.7 in
+    let cleared_wait : in_wait content (at + 1) count (set left at dest) ≡ wait = wait_behind content left at count at dest (omega arith) in
     let long : length (set left at dest) ≡ length left = length-set left at dest in
     elim c.match-hash_in.branch [
       | in-Some+then-is_settled w ↦
-          let told = sym c.hash_in.ensures ∙ w.in-Some.is in
-          let one = some_of key (held entry) w.in-Some.hash told in
+          let reported = sym c.hash_in.ensures ∙ w.in-Some.is in
+          let one = some_of key (content entry) w.in-Some.hash reported in
           let next : ℕ = w.slot_in_round-next.result in
           let way : next ≡ probe (key one.0) lg round = w.slot_in_round-next.ensures.value ∙ ap (λ (n : ℕ). probe n lg round) (sym one.2) in
           let put = w.put_if_free-is_settled in
           let free : slot slots next ≡ None = is_free (slot slots next) (sym put.ensures.free ∙ w.if-is_settled.true) in
-          let written : map held put.new.slots ≡ set slots next (Some one.0) = (rw w.if-is_settled.true at put.ensures.written) ∙ ap (λ o. set slots next o) one.1 in
-          let first : in_wait held at count left ≡ one.0 ∷ wait = next_waits ∙ ap (λ o. filled (o ∷ []) ++ wait) one.1 in
+          let written : map content put.new.slots ≡ set slots next (Some one.0) = (rw w.if-is_settled.true at put.ensures.written) ∙ ap (λ o. set slots next o) one.1 in
+          let first : in_wait content at count left ≡ one.0 ∷ wait = next_waits ∙ ap (λ o. filled (o ∷ []) ++ wait) one.1 in
           let is : IsInRound key lg whole stay (one.0 ∷ wait) slots (length begun) round i.0 i.1 = subst (λ xs. IsInRound key lg whole stay xs slots (length begun) round i.0 i.1) first i.5 in
-          let looks = looks_put (c.args.looks.now + i.1) round (length stay) (length (in_wait held at count left)) (length wait) c.look_on.looks (omega (arith, ap length first)) i.4 in
-          let stay_is : in_front held kept (set (set left at dest) kept put.result.1) ≡ stay = front_before held (set left at dest) kept kept put.result.1 (omega arith) ∙ cleared_stay in
-          let wait_is : in_wait held (at + 1) count (set (set left at dest) kept put.result.1) ≡ wait = wait_behind held (set left at dest) at count kept put.result.1 i.7 ∙ cleared_wait in
+          let looks = looks_put (c.args.looks.now + i.1) round (length stay) (length (in_wait content at count left)) (length wait) c.look_on.looks (omega (arith, ap length first)) i.4 in
+          let stay_is : in_front content kept (set (set left at dest) kept put.result.1) ≡ stay = front_before content (set left at dest) kept kept put.result.1 (omega arith) ∙ cleared_stay in
+          let wait_is : in_wait content (at + 1) count (set (set left at dest) kept put.result.1) ≡ wait = wait_behind content (set left at dest) at count kept put.result.1 i.7 ∙ cleared_wait in
           rw (w.left-is, w.slots-is, w.placed-is, w.looks-is, w.kept-is, stay_is, wait_is, written) (
             i.0 + 1,
             i.1 + round + 1,
@@ -161,22 +161,22 @@ look_on-preserved g c =
             i.8,
           )
       | in-Some+else-is_settled w ↦
-          let told = sym c.hash_in.ensures ∙ w.in-Some.is in
-          let one = some_of key (held entry) w.in-Some.hash told in
+          let reported = sym c.hash_in.ensures ∙ w.in-Some.is in
+          let one = some_of key (content entry) w.in-Some.hash reported in
           let next : ℕ = w.slot_in_round-next.result in
           let way : next ≡ probe (key one.0) lg round = w.slot_in_round-next.ensures.value ∙ ap (λ (n : ℕ). probe n lg round) (sym one.2) in
           let put = w.put_if_free-is_settled in
           let other = is_taken (slot slots next) (sym put.ensures.free ∙ w.if-is_settled.false) in
-          let written : map held put.new.slots ≡ slots = rw w.if-is_settled.false at put.ensures.written in
-          let same : held put.result.1 ≡ Some one.0 = (rw w.if-is_settled.false at put.ensures.waits) ∙ one.1 in
-          let first : in_wait held at count left ≡ one.0 ∷ wait = next_waits ∙ ap (λ o. filled (o ∷ []) ++ wait) one.1 in
+          let written : map content put.new.slots ≡ slots = rw w.if-is_settled.false at put.ensures.written in
+          let same : content put.result.1 ≡ Some one.0 = (rw w.if-is_settled.false at put.ensures.waits) ∙ one.1 in
+          let first : in_wait content at count left ≡ one.0 ∷ wait = next_waits ∙ ap (λ o. filled (o ∷ []) ++ wait) one.1 in
           let is : IsInRound key lg whole stay (one.0 ∷ wait) slots (length begun) round i.0 i.1 = subst (λ xs. IsInRound key lg whole stay xs slots (length begun) round i.0 i.1) first i.5 in
-          let looks = looks_kept (c.args.looks.now + i.1) round (length stay) (length (in_wait held at count left)) (length wait) c.look_on.looks (omega (arith, ap length first)) i.4 in
+          let looks = looks_kept (c.args.looks.now + i.1) round (length stay) (length (in_wait content at count left)) (length wait) c.look_on.looks (omega (arith, ap length first)) i.4 in
           let more : length (stay ++ one.0 ∷ []) ≡ length stay + 1 = length-append stay (one.0 ∷ []) in
           let inside : kept < length (set left at dest) = omega (arith, i.7, c.look_on-test.true, within, long) in
-          let stay_is : in_front held (kept + 1) (set (set left at dest) kept put.result.1) ≡ stay ++ one.0 ∷ [] =
-          front_more held (set left at dest) kept put.result.1 inside ∙ ap (λ xs. xs ++ filled (held put.result.1 ∷ [])) cleared_stay ∙ ap (λ o. stay ++ filled (o ∷ [])) same in
-          let wait_is : in_wait held (at + 1) count (set (set left at dest) kept put.result.1) ≡ wait = wait_behind held (set left at dest) at count kept put.result.1 i.7 ∙ cleared_wait in
+          let stay_is : in_front content (kept + 1) (set (set left at dest) kept put.result.1) ≡ stay ++ one.0 ∷ [] =
+          front_more content (set left at dest) kept put.result.1 inside ∙ ap (λ xs. xs ++ filled (content put.result.1 ∷ [])) cleared_stay ∙ ap (λ o. stay ++ filled (o ∷ [])) same in
+          let wait_is : in_wait content (at + 1) count (set (set left at dest) kept put.result.1) ≡ wait = wait_behind content (set left at dest) at count kept put.result.1 i.7 ∙ cleared_wait in
           rw (w.left-is, w.slots-is, w.placed-is, w.looks-is, w.kept-is, stay_is, wait_is, written) (
             i.0,
             i.1,
@@ -189,8 +189,8 @@ look_on-preserved g c =
             omega (arith, more, i.8),
           )
       | in_default w ↦
-          let none : held entry ≡ None = none_of key (held entry) (λ h e. w.in_default.not-Some h (c.hash_in.ensures ∙ e)) in
-          let first : in_wait held at count left ≡ wait = next_waits ∙ ap (λ o. filled (o ∷ []) ++ wait) none in
+          let none : content entry ≡ None = none_of key (content entry) (λ h e. w.in_default.not-Some h (c.hash_in.ensures ∙ e)) in
+          let first : in_wait content at count left ≡ wait = next_waits ∙ ap (λ o. filled (o ∷ []) ++ wait) none in
           let looks : c.look_on.looks ≤ c.args.looks.now + i.1 + round * (length stay + length wait) + length stay = subst (λ xs. c.look_on.looks ≤ c.args.looks.now + i.1 + round * (length stay + length xs) + length stay) first i.4 in
           let is : IsInRound key lg whole stay wait slots (length begun) round i.0 i.1 = subst (λ xs. IsInRound key lg whole stay xs slots (length begun) round i.0 i.1) first i.5 in
           rw (w.left-is, w.slots-is, w.placed-is, w.looks-is, w.kept-is, cleared_stay, cleared_wait) (i.0, i.1, i.2, i.3, looks, is, long ∙ i.6, omega (arith, i.7), i.8)
@@ -199,24 +199,24 @@ look_on-preserved g c =
 pub rounds-preserved : goal.rounds-preserved
 rounds-preserved g c =
     let key = g.E.SketchEntry.key in
-    let held = g.E.PathEntry.held in
+    let content = g.E.PathEntry.content in
     let i = c.look_on.invariant in
     let lg : ℕ = c.args.lg in
-    let begun = filled (map held c.args.slots.now) in
-    let left = filled (map held c.args.left.now) in
-    let slots = map held c.look_on.slots in
+    let begun = filled (map content c.args.slots.now) in
+    let left = filled (map content c.args.left.now) in
+    let slots = map content c.look_on.slots in
     let kept : ℕ = c.look_on.kept in
     let round : ℕ = c.rounds.round in
     let count : ℕ = c.rounds.count in
-    let stay = in_front held kept c.look_on.left in
-    let none : in_wait held c.look_on.at count c.look_on.left ≡ [] = none_behind held c.look_on.left c.look_on.at count (omega (arith, c.look_on-test.false)) in
+    let stay = in_front content kept c.look_on.left in
+    let none : in_wait content c.look_on.at count c.look_on.left ≡ [] = none_behind content c.look_on.left c.look_on.at count (omega (arith, c.look_on-test.false)) in
     let is : IsInRound key lg (left ++ begun) stay [] slots (length begun) round i.0 i.1 = rw none at i.5 in
     let some : 0 < count = omega (arith, c.if-count-eq0.false) in (
       i.0,
       i.1,
       i.2,
       i.3,
-      looks_next (c.args.looks.now + i.1) round (length (in_wait held c.look_on.at count c.look_on.left)) (length stay) c.look_on.looks i.4 (ap length none),
+      looks_next (c.args.looks.now + i.1) round (length (in_wait content c.look_on.at count c.look_on.left)) (length stay) c.look_on.looks i.4 (ap length none),
       round_next key lg (left ++ begun) stay slots (length begun) round i.0 i.1 is,
       λ more. round_short key lg (left ++ begun) stay slots (length begun) round i.0 i.1 [] is (omega (arith, c.requires.room, length-append left begun)) (c.rounds.invariant.6 some) (omega (arith, more, i.8)),
       omega (arith, i.7, c.look_on.auto.at-end, c.look_on.auto.left, c.rounds.invariant.7),

@@ -1,10 +1,10 @@
 use Rattle.std.proofs.Common.{◌≡◌, ℕ, ◌+◌, ◌++◌, [], eqb, length, length-append, map, take, drop, sym, ap, ◌∙◌, subst, arith}
 use Rattle.std.proofs.lemmas.List.{nil_from_length}
 use Rattle.core_laws.specs.Maps.{entry_at}
-use Rattle.core_slots.specs.Layout.{filled}
+use Rattle.core_slots.specs.SlotLayout.{filled}
 use Rattle.core_slots.specs.Rounds.{IsInRound, entry_count}
-use Rattle.core_slots.proofs.Held.{length-held, two_parts}
-use Rattle.core_slots.proofs.Layouts.{laid_out_empty}
+use Rattle.core_slots.proofs.Held.{length-content, two_parts}
+use Rattle.core_slots.proofs.SlotLayouts.{laid_out_empty}
 use Rattle.core_slots.proofs.Moves.{count-append}
 use Rattle.core_slots.proofs.Relays.{apart_once}
 use Rattle.core_slots.proofs.Settled.{all_wait, rest_part, front_kept, part_settled, settled_map, looks_part}
@@ -13,20 +13,20 @@ use Rattle.core_slots.proofs.rounds.settle_all.Goals as goal
 pub parts-init : goal.parts-init
 parts-init g c =
     let key = g.E.SketchEntry.key in
-    let held = g.E.PathEntry.held in
-    let left = filled (map held c.args.left.now.items) in
-    let slots = map held c.args.slots.now in
-    (0, omega arith, omega arith, omega arith, all_wait key c.args.lg left slots (laid_out_empty key c.args.lg slots (length-held held c.args.slots.now ∙ c.requires.size) c.requires.free) c.requires.free (λ q. apart_once key left q c.requires.apart))
+    let content = g.E.PathEntry.content in
+    let left = filled (map content c.args.left.now.items) in
+    let slots = map content c.args.slots.now in
+    (0, omega arith, omega arith, omega arith, all_wait key c.args.lg left slots (laid_out_empty key c.args.lg slots (length-content content c.args.slots.now ∙ c.requires.size) c.requires.free) c.requires.free (λ q. apart_once key left q c.requires.apart))
 
 pub returns-then-count-eq0-clause-map : goal.returns-then-count-eq0-clause-map
 returns-then-count-eq0-clause-map g c =
     let key = g.E.SketchEntry.key in
-    let held = g.E.PathEntry.held in
+    let content = g.E.PathEntry.content in
     let i = c.parts.invariant in
-    let whole = filled (map held c.args.left.now.items) in
-    let slots = map held c.parts.slots in
+    let whole = filled (map content c.args.left.now.items) in
+    let slots = map content c.parts.slots in
     let none : c.parts.left.items ≡ [] = nil_from_length c.parts.left.items (omega (arith, c.len-count.ensures, c.if-count-eq0.true)) in
-    let is : IsInRound key c.args.lg whole [] [] slots 0 0 i.0 0 = subst (λ xs. IsInRound key c.args.lg whole [] (filled (map held xs)) slots 0 0 i.0 0) none i.4 in
+    let is : IsInRound key c.args.lg whole [] [] slots 0 0 i.0 0 = subst (λ xs. IsInRound key c.args.lg whole [] (filled (map content xs)) slots 0 0 i.0 0) none i.4 in
     settled_map key c.args.lg whole slots 0 0 i.0 0 is
 
 pub returns-then-count-eq0-clause-looked : goal.returns-then-count-eq0-clause-looked
@@ -35,39 +35,39 @@ returns-then-count-eq0-clause-looked g c = omega (arith, c.parts.invariant.1, c.
 pub settle-requires-clause-once : goal.settle-requires-clause-once
 settle-requires-clause-once g c =
     let key = g.E.SketchEntry.key in
-    let held = g.E.PathEntry.held in
+    let content = g.E.PathEntry.content in
     let i = c.parts.invariant in
     let now = c.deref_mut.result.now in
     let from : ℕ = c.saturating_sub-from.result in
-    let front = filled (map held (take from now)) in
-    let part = filled (map held (drop from now)) in
-    rw (rest_part now from) (λ q. omega (arith, i.4.all q, i.4.once q, ap (λ xs. entry_count key q (filled (map held xs))) c.deref_mut.ensures.value, ap (entry_count key q) (two_parts held now from), count-append (λ x. eqb (key x) q) front part))
+    let front = filled (map content (take from now)) in
+    let part = filled (map content (drop from now)) in
+    rw (rest_part now from) (λ q. omega (arith, i.4.all q, i.4.once q, ap (λ xs. entry_count key q (filled (map content xs))) c.deref_mut.ensures.value, ap (entry_count key q) (two_parts content now from), count-append (λ x. eqb (key x) q) front part))
 
 pub settle-requires-clause-room : goal.settle-requires-clause-room
 settle-requires-clause-room g c =
-    let held = g.E.PathEntry.held in
+    let content = g.E.PathEntry.content in
     let i = c.parts.invariant in
     let now = c.deref_mut.result.now in
     let from : ℕ = c.saturating_sub-from.result in
-    let front = filled (map held (take from now)) in
-    let part = filled (map held (drop from now)) in
-    rw (rest_part now from) (omega (arith, c.requires.room, i.4.counted, i.4.all_put, ap (λ xs. length (filled (map held xs))) c.deref_mut.ensures.value, ap length (two_parts held now from), length-append front part))
+    let front = filled (map content (take from now)) in
+    let part = filled (map content (drop from now)) in
+    rw (rest_part now from) (omega (arith, c.requires.room, i.4.counted, i.4.all_put, ap (λ xs. length (filled (map content xs))) c.deref_mut.ensures.value, ap length (two_parts content now from), length-append front part))
 
 pub parts-preserved : goal.parts-preserved
 parts-preserved g c =
     let key = g.E.SketchEntry.key in
-    let held = g.E.PathEntry.held in
+    let content = g.E.PathEntry.content in
     let i = c.parts.invariant in
     let was = i.4 in
-    let whole = filled (map held c.args.left.now.items) in
+    let whole = filled (map content c.args.left.now.items) in
     let now = c.deref_mut.result.now in
     let from : ℕ = c.saturating_sub-from.result in
-    let front = filled (map held (take from now)) in
-    let part = filled (map held (drop from now)) in
-    let slots = map held c.parts.slots in
-    let after = map held c.settle.new.slots in
+    let front = filled (map content (take from now)) in
+    let part = filled (map content (drop from now)) in
+    let slots = map content c.parts.slots in
+    let after = map content c.settle.new.slots in
     let left_is : c.truncate.new.self.items ≡ take from now = c.truncate.ensures.items ∙ front_kept now _ _ from c.parts.left.len (omega (arith, c.saturating_sub-from.ensures, c.len-count.ensures, ap length c.deref_mut.ensures.value)) (omega (arith, c.saturating_sub-from.ensures, c.len-count.ensures, c.deref_mut.ensures.len)) in
-    let rest : filled (map held c.parts.left.items) ≡ front ++ part = ap (λ xs. filled (map held xs)) (sym c.deref_mut.ensures.value) ∙ two_parts held now from in
+    let rest : filled (map content c.parts.left.items) ≡ front ++ part = ap (λ xs. filled (map content xs)) (sym c.deref_mut.ensures.value) ∙ two_parts content now from in
     let is : IsInRound key c.args.lg whole [] (front ++ part) slots 0 0 i.0 0 = subst (λ xs. IsInRound key c.args.lg whole [] xs slots 0 0 i.0 0) rest was in
     let found : (q : ℕ) → entry_at key (filled after) q ≡ entry_at key (part ++ filled slots) q = rw (rest_part now from) at c.settle.ensures.found in
     let all : (q : ℕ) → entry_count key q (filled after) ≡ entry_count key q part + entry_count key q (filled slots) = rw (rest_part now from) at c.settle.ensures.all in

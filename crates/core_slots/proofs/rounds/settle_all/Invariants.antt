@@ -1,5 +1,5 @@
 use Rattle.std.proofs.Common.{◌≡◌, ◌+◌, ◌*◌, ◌≤◌, [], ℕ, length, map}
-use Rattle.core_slots.specs.Layout.{filled}
+use Rattle.core_slots.specs.SlotLayout.{filled}
 use Rattle.core_slots.specs.Rounds.{IsInRound}
 use Rattle.core_slots.proofs.rounds.settle_all.Given as goal
 
@@ -7,9 +7,9 @@ use Rattle.core_slots.proofs.rounds.settle_all.Given as goal
 abbrev pub invariant-parts : goal.invariant-parts
 invariant-parts g l =
     let key = g.E.SketchEntry.key in
-    let held = g.E.PathEntry.held in
+    let content = g.E.PathEntry.content in
     (put : ℕ) × (l.placed ≡ l.initial.placed + put) × (l.initial.looks + put ≤ l.looks) × (2 * l.looks ≤ 2 * l.initial.looks + put * (put + 1))
-    × IsInRound key l.lg (filled (map held l.initial.left.items)) [] (filled (map held l.left.items)) (map held l.slots) 0 0 put 0
+    × IsInRound key l.lg (filled (map content l.initial.left.items)) [] (filled (map content l.left.items)) (map content l.slots) 0 0 put 0
 
 -- the waiting slots
 abbrev pub decreases-parts : goal.decreases-parts

@@ -1,6 +1,6 @@
 use Rattle.std.proofs.Common.{ℕ, sym, ap, ◌∙◌}
 use Rattle.core_slots.specs.Probe.{probe}
-use Rattle.core_slots.proofs.Layouts.{probe_start}
+use Rattle.core_slots.proofs.SlotLayouts.{probe_start}
 use Rattle.core_slots.proofs.rounds.slot_in_round.Goals as goal
 
 pub returns-then-round-eq0-clause-value : goal.returns-then-round-eq0-clause-value

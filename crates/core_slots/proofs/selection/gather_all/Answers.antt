@@ -1,6 +1,6 @@
 use Rattle.std.proofs.Common.{◌≡◌, ℕ, ◌+◌, ◌∷◌, ◌++◌, [], List, map, take, sym, ap, ◌∙◌, append_assoc}
 use Rattle.std.proofs.lemmas.List.{map-append, append-nil}
-use Rattle.core_slots.specs.Layout.{filled}
+use Rattle.core_slots.specs.SlotLayout.{filled}
 use Rattle.core_slots.proofs.Held.{filled-next, no_some}
 use Rattle.core_slots.proofs.Windows.{key_held}
 use Rattle.core_slots.proofs.selection.gather_all.Goals as goal
@@ -9,17 +9,17 @@ use Rattle.core_slots.proofs.selection.gather_all.Goals.{in-Some-hash_in+in_ok-p
 pub gather_each-preserved : goal.gather_each-preserved
 gather_each-preserved g c =
     let key = g.E.SketchEntry.key in
-    let held = g.E.PathEntry.held in
+    let content = g.E.PathEntry.content in
     let slots = c.args.slots.now in
     let i : ℕ = c.gather_each.slot-index in
     let s = c.slot-item.result in
     let first : List ℕ = filled (c.args.also ∷ []) in
-    let before = filled (map held (take i slots)) in
+    let before = filled (map content (take i slots)) in
     let seen : List ℕ = map key before in
-    let one : List ℕ = map key (filled (held s ∷ [])) in
-    let more = filled-next held slots i s c.gather_each-test.true ∙ ap (λ t. before ++ filled (held t ∷ [])) (sym c.slot-item.is) in
-    let is : map key (filled (map held (take (i + 1) slots))) ≡ seen ++ one = ap (map key) more ∙ map-append key before (filled (held s ∷ [])) in
-    let next : filled (c.hash_in.result ∷ []) ≡ one = ap (λ o. filled (o ∷ [])) c.hash_in.ensures ∙ key_held key (held s) in
+    let one : List ℕ = map key (filled (content s ∷ [])) in
+    let more = filled-next content slots i s c.gather_each-test.true ∙ ap (λ t. before ++ filled (content t ∷ [])) (sym c.slot-item.is) in
+    let is : map key (filled (map content (take (i + 1) slots))) ≡ seen ++ one = ap (map key) more ∙ map-append key before (filled (content s ∷ [])) in
+    let next : filled (c.hash_in.result ∷ []) ≡ one = ap (λ o. filled (o ∷ [])) c.hash_in.ensures ∙ key_held key (content s) in
     elim c.match-hash_in.branch [
       | in-Some-hash_in+in_ok-push-2 w ↦
           rw (w.hashes-is, is)

@@ -1,6 +1,6 @@
 use Rattle.std.proofs.Common.{◌≡◌, ◌+◌, ◌<◌, ◌++◌, ℕ, List, [], ◌∷◌, length, length-set, map, take, sym, ap, ◌∙◌, arith}
 use Rattle.std.proofs.lemmas.List.{map-append}
-use Rattle.core_slots.specs.Layout.{filled}
+use Rattle.core_slots.specs.SlotLayout.{filled}
 use Rattle.core_slots.specs.Rank.{within}
 use Rattle.core_slots.proofs.Held.{filled-next}
 use Rattle.core_slots.proofs.Windows.{rank-append, within-append, within_slot, rank_slot, kept_next}
@@ -9,7 +9,7 @@ use Rattle.core_slots.proofs.selection.gather_few.Goals as goal
 pub gather_each-preserved : goal.gather_each-preserved
 gather_each-preserved g c =
     let key = g.E.SketchEntry.key in
-    let held = g.E.PathEntry.held in
+    let content = g.E.PathEntry.content in
     let slots = c.args.slots.now in
     let low : ℕ = c.args.low in
     let high : ℕ = c.args.high in
@@ -19,18 +19,18 @@ gather_each-preserved g c =
     let s = c.index-slots-at.result in
     let h : ℕ = c.hash_or_greatest-hash.result in
     let was = c.gather_each.invariant in
-    let before = filled (map held (take at slots)) in
+    let before = filled (map content (take at slots)) in
     let seen : List ℕ = map key before in
-    let more = filled-next held slots at s c.gather_each-test.true ∙ ap (λ t. before ++ filled (held t ∷ [])) (sym c.index-slots-at.is) in
-    let one : List ℕ = map key (filled (held s ∷ [])) in
-    let is : map key (filled (map held (take (at + 1) slots))) ≡ seen ++ one = ap (map key) more ∙ map-append key before (filled (held s ∷ [])) in
-    let kept : within low high (h ∷ []) ≡ within low high one = within_slot key low high (held s) h c.hash_or_greatest-hash.ensures c.requires.far in
-    let inside : count < length found = omega (arith, was.few, was.long, c.requires.room, c.gather_each-test.true) in
+    let more = filled-next content slots at s c.gather_each-test.true ∙ ap (λ t. before ++ filled (content t ∷ [])) (sym c.index-slots-at.is) in
+    let one : List ℕ = map key (filled (content s ∷ [])) in
+    let is : map key (filled (map content (take (at + 1) slots))) ≡ seen ++ one = ap (map key) more ∙ map-append key before (filled (content s ∷ [])) in
+    let kept : within low high (h ∷ []) ≡ within low high one = within_slot key low high (content s) h c.hash_or_greatest-hash.ensures c.requires.far in
+    let inside : count < length found = omega (arith, was.limited, was.long, c.requires.room, c.gather_each-test.true) in
     record {
       long = length-set found count h ∙ was.long;
-      few = omega (arith, was.few, c.number_within-count.ensures.small);
+      limited = omega (arith, was.limited, c.number_within-count.ensures.small);
       gathered = rw (is, c.number_within-count.ensures.number)
           (kept_next low high found count h inside ∙ ap (λ xs. xs ++ within low high (h ∷ [])) was.gathered ∙ ap (λ xs. within low high seen ++ xs) kept ∙ sym (within-append low high seen one));
-      counted = rw is (omega (arith, was.counted, c.number_less-less.ensures.number, rank_slot key low high (held s) h c.hash_or_greatest-hash.ensures c.requires.ordered c.requires.far, rank-append seen one low));
+      counted = rw is (omega (arith, was.counted, c.number_less-less.ensures.number, rank_slot key low high (content s) h c.hash_or_greatest-hash.ensures c.requires.ordered c.requires.far, rank-append seen one low));
       less_few = omega (arith, was.less_few, c.number_less-less.ensures.small);
     }

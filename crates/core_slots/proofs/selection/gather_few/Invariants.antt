@@ -1,17 +1,17 @@
 use Rattle.std.proofs.Common.{◌≡◌, ◌≤◌, length, map, take}
 use Rattle.core_laws.specs.Entries.{hash_key}
 use Rattle.core_laws.specs.Maps.{rank}
-use Rattle.core_slots.specs.Layout.{filled}
+use Rattle.core_slots.specs.SlotLayout.{filled}
 use Rattle.core_slots.specs.Rank.{within}
 use Rattle.core_slots.proofs.selection.gather_few.Given as goal
 
 -- of the hashes so far: those of the window, and how many are less
 abbrev pub invariant-gather_each : goal.invariant-gather_each
 invariant-gather_each g l =
-    let seen = map g.E.SketchEntry.key (filled (map g.E.PathEntry.held (take l.at l.slots))) in
+    let seen = map g.E.SketchEntry.key (filled (map g.E.PathEntry.content (take l.at l.slots))) in
     record {
       long : length l.found ≡ length l.initial.found;
-      few : l.count ≤ l.at;
+      limited : l.count ≤ l.at;
       gathered : take l.count l.found ≡ within l.low l.high seen;
       counted : l.less ≡ rank hash_key seen l.low;
       less_few : l.less ≤ l.at;

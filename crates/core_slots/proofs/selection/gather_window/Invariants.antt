@@ -1,15 +1,15 @@
 use Rattle.std.proofs.Common.{◌≡◌, ◌+◌, ◌≤◌, ◌++◌, ◌∷◌, [], length, map, take}
 use Rattle.core_laws.specs.Entries.{hash_key}
 use Rattle.core_laws.specs.Maps.{rank}
-use Rattle.core_slots.specs.Layout.{filled}
+use Rattle.core_slots.specs.SlotLayout.{filled}
 use Rattle.core_slots.specs.Rank.{within}
 use Rattle.core_slots.proofs.selection.gather_window.Given as goal
 
 -- the gathered hashes, and those of the remaining slots, are all
 abbrev pub invariant-gather_blocks : goal.invariant-gather_blocks
 invariant-gather_blocks g l =
-    let behind = map g.E.SketchEntry.key (filled (map g.E.PathEntry.held l.left)) in
-    let all = map g.E.SketchEntry.key (filled (map g.E.PathEntry.held l.slots)) in
+    let behind = map g.E.SketchEntry.key (filled (map g.E.PathEntry.content l.left)) in
+    let all = map g.E.SketchEntry.key (filled (map g.E.PathEntry.content l.slots)) in
     record {
       short : l.count ≤ length l.hashes.items;
       gathered : take l.count l.hashes.items ++ within l.low l.high behind ≡ within l.low l.high (filled (l.fn.also ∷ []) ++ all);

@@ -1,13 +1,13 @@
 use Rattle.std.proofs.Common.{◌≡◌, ℕ, ◌+◌, ◌≤◌, ◌^◌, ◌%◌, ◌==◌, not, true, Some, map, sym, ap, ◌∙◌, arith}
 use Rattle.std.proofs.Math.Pow.{pow_mono}
 use Rattle.std.proofs.lemmas.Bool.Decides.{nat_tests}
-use Rattle.core_slots.specs.Layout.{slot, is_other}
+use Rattle.core_slots.specs.SlotLayout.{slot, is_other}
 use Rattle.core_slots.specs.Probe.{probe}
-use Rattle.core_slots.proofs.Layouts.{probe_start, probe_next, probe_low, others_none, others_more, few_others}
+use Rattle.core_slots.proofs.SlotLayouts.{probe_start, probe_next, probe_low, others_none, others_more, few_others}
 use Rattle.core_slots.proofs.slots.seek.Goals as goal
 
 pub look-init : goal.look-init
-look-init g c = (0, omega arith, c.slot_among-at.ensures.value ∙ sym (probe_start c.args.hash c.args.lg), omega arith, others_none g.E.SketchEntry.key c.args.lg (map g.E.PathEntry.held c.args.slots.now) c.args.hash)
+look-init g c = (0, omega arith, c.slot_among-at.ensures.value ∙ sym (probe_start c.args.hash c.args.lg), omega arith, others_none g.E.SketchEntry.key c.args.lg (map g.E.PathEntry.content c.args.slots.now) c.args.hash)
 
 pub look_at-requires : goal.look_at-requires
 look_at-requires g c = omega (arith, c.look.invariant.2, c.requires.size, probe_low c.args.hash c.args.lg c.look.invariant.0)
@@ -18,24 +18,24 @@ returns-in-None-clause-inside g c = omega (arith, c.look.invariant.2, c.requires
 pub returns-in-None-clause-on_path : goal.returns-in-None-clause-on_path
 returns-in-None-clause-on_path g c =
     let i = c.look.invariant in
-    let passed = few_others g.E.SketchEntry.key c.args.lg c.args.hash i.0 (map g.E.PathEntry.held c.args.slots.now) i.3 i.4 in
-    record { step = i.0; in_range = omega (arith, passed, c.requires.room); here = sym i.2; others = i.4 }
+    let passed = few_others g.E.SketchEntry.key c.args.lg c.args.hash i.0 (map g.E.PathEntry.content c.args.slots.now) i.3 i.4 in
+    record { step = i.0; in_range = omega (arith, passed, c.requires.room); present = sym i.2; others = i.4 }
 
 pub returns-in-None-clause-looks : goal.returns-in-None-clause-looks
 returns-in-None-clause-looks g c =
     let i = c.look.invariant in
-    omega (arith, c.look_at.ensures.looks, i.1, few_others g.E.SketchEntry.key c.args.lg c.args.hash i.0 (map g.E.PathEntry.held c.args.slots.now) i.3 i.4)
+    omega (arith, c.look_at.ensures.looks, i.1, few_others g.E.SketchEntry.key c.args.lg c.args.hash i.0 (map g.E.PathEntry.content c.args.slots.now) i.3 i.4)
 
 pub returns-then-hash-clause-on_path : goal.returns-then-hash-clause-on_path
 returns-then-hash-clause-on_path g c =
     let i = c.look.invariant in
-    let passed = few_others g.E.SketchEntry.key c.args.lg c.args.hash i.0 (map g.E.PathEntry.held c.args.slots.now) i.3 i.4 in
-    record { step = i.0; in_range = omega (arith, passed, c.requires.room); here = sym i.2; others = i.4 }
+    let passed = few_others g.E.SketchEntry.key c.args.lg c.args.hash i.0 (map g.E.PathEntry.content c.args.slots.now) i.3 i.4 in
+    record { step = i.0; in_range = omega (arith, passed, c.requires.room); present = sym i.2; others = i.4 }
 
 pub returns-then-hash-clause-looks : goal.returns-then-hash-clause-looks
 returns-then-hash-clause-looks g c =
     let i = c.look.invariant in
-    omega (arith, c.look_at.ensures.looks, i.1, few_others g.E.SketchEntry.key c.args.lg c.args.hash i.0 (map g.E.PathEntry.held c.args.slots.now) i.3 i.4)
+    omega (arith, c.look_at.ensures.looks, i.1, few_others g.E.SketchEntry.key c.args.lg c.args.hash i.0 (map g.E.PathEntry.content c.args.slots.now) i.3 i.4)
 
 pub overflow_add-at : goal.overflow_add-at
 overflow_add-at g c =
@@ -47,13 +47,13 @@ overflow_add-at g c =
 pub look-smaller : goal.look-smaller
 look-smaller g c =
     let i = c.look.invariant in
-    omega (arith, c.look_at.ensures.looks, i.1, few_others g.E.SketchEntry.key c.args.lg c.args.hash i.0 (map g.E.PathEntry.held c.args.slots.now) i.3 i.4, c.requires.room)
+    omega (arith, c.look_at.ensures.looks, i.1, few_others g.E.SketchEntry.key c.args.lg c.args.hash i.0 (map g.E.PathEntry.content c.args.slots.now) i.3 i.4, c.requires.room)
 
 pub look-preserved : goal.look-preserved
 look-preserved g c =
     let i = c.look.invariant in
     let key = g.E.SketchEntry.key in
-    let slots = map g.E.PathEntry.held c.args.slots.now in
+    let slots = map g.E.PathEntry.content c.args.slots.now in
     let holds : slot slots c.look.at ≡ Some c.in-Some.entry.now = sym c.in-Some.ensures.holds in
     let another : not (key c.in-Some.entry.now == c.args.hash) ≡ true = grind (arith, nat_tests, c.hash.ensures, c.if-hash.false) in
     let there = ap (λ (n : ℕ). is_other key c.args.hash (slot slots n)) (sym i.2) ∙ ap (is_other key c.args.hash) holds ∙ another in (

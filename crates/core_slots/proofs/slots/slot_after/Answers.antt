@@ -9,13 +9,13 @@ far a b m n one two = mul-le-mul one two
 
 pub overflow_mul-on : goal.overflow_mul-on
 overflow_mul-on c =
-    let product = far c.args.steps c.stride_of.result (2 ^ 40) 256 (omega (arith, c.requires.few)) (omega (arith, c.stride_of.ensures.small)) in
+    let product = far c.args.steps c.stride_of.result (2 ^ 40) 256 (omega (arith, c.requires.limited)) (omega (arith, c.stride_of.ensures.small)) in
     omega (arith, product)
 
 pub overflow_add-on : goal.overflow_add-on
 overflow_add-on c =
     let most : 2 ^ c.args.lg ≤ 2 ^ 40 = pow_mono {i = c.args.lg} {j = 40} (omega (arith, c.requires.small)) in
-    let product = far c.args.steps c.stride_of.result (2 ^ 40) 256 (omega (arith, c.requires.few)) (omega (arith, c.stride_of.ensures.small)) in
+    let product = far c.args.steps c.stride_of.result (2 ^ 40) 256 (omega (arith, c.requires.limited)) (omega (arith, c.stride_of.ensures.small)) in
     omega (arith, product, c.slot_of.ensures.below, most)
 
 pub returns-clause-value : goal.returns-clause-value

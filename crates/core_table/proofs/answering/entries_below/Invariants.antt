@@ -1,17 +1,17 @@
 use Rattle.std.proofs.Common.{◌≡◌, ◌++◌, Some, map, length}
-use Rattle.core_slots.specs.Layout.{filled}
+use Rattle.core_slots.specs.SlotLayout.{filled}
 use Rattle.core_table.specs.Marks.{AreMarked, under}
 use Rattle.core_table.proofs.answering.entries_below.Given as goal
 
 -- the clones so far, and the remaining entries below theta, are all
 abbrev pub invariant-clone_each : goal.invariant-clone_each
 invariant-clone_each g l =
-    let low = under g.E.SketchEntry.key (Some l.theta) g.E.PathEntry.held in
+    let low = under g.E.SketchEntry.key (Some l.theta) g.E.PathEntry.content in
     record {
       marked : AreMarked (map low l.left.slots.now) l.left.ahead l.left.marks;
-      told : l.clones.items ++ filled (map low l.left.slots.now) ≡ filled (map low l.slots);
+      reported : l.clones.items ++ filled (map low l.left.slots.now) ≡ filled (map low l.slots);
     }
 
 -- the remaining entries below theta
 abbrev pub decreases-clone_each : goal.decreases-clone_each
-decreases-clone_each g l = length (filled (map (under g.E.SketchEntry.key (Some l.theta) g.E.PathEntry.held) l.left.slots.now))
+decreases-clone_each g l = length (filled (map (under g.E.SketchEntry.key (Some l.theta) g.E.PathEntry.content) l.left.slots.now))

@@ -7,5 +7,5 @@ free_each-preserved g c =
     let was = c.free_each.invariant in
     let slots = c.free_each.slots.items in (
       length-set slots c.free_each.at c.free_slot.result ∙ was.0,
-      freed g.E.PathEntry.held slots c.free_each.at c.free_slot.result (omega (arith, was.0, c.free_each-test.true)) c.free_slot.ensures was.1,
+      freed g.E.PathEntry.content slots c.free_each.at c.free_slot.result (omega (arith, was.0, c.free_each-test.true)) c.free_slot.ensures was.1,
     )

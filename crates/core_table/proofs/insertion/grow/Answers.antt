@@ -1,12 +1,12 @@
 use Rattle.std.proofs.Common.{◌≡◌, ℕ, ◌+◌, ◌<◌, map, length, refl, ap, ◌∙◌, arith}
 use Rattle.core_laws.specs.Maps.{map_of, with_entry}
-use Rattle.core_slots.specs.Layout.{filled}
+use Rattle.core_slots.specs.SlotLayout.{filled}
 use Rattle.core_table.specs.HashTable.{threshold}
 use Rattle.core_laws.proofs.maps.Ascending.{each-with_entry}
 use Rattle.core_laws.proofs.cuts.Cuts.{below_all}
 use Rattle.core_table.proofs.Tables.{grown, joined_count}
-use Rattle.core_slots.proofs.Held.{length-held}
-use Rattle.core_slots.proofs.Layouts.{length-map_of}
+use Rattle.core_slots.proofs.Held.{length-content}
+use Rattle.core_slots.proofs.SlotLayouts.{length-map_of}
 use Rattle.core_table.proofs.insertion.grow.Goals as goal
 
 pub overflow_add-sizes : goal.overflow_add-sizes
@@ -26,7 +26,7 @@ threshold_of-requires g c = omega (arith, c.min-lg_cur.ensures, c.requires.place
 pub returns-clause-after : goal.returns-clause-after
 returns-clause-after g c =
     let key = g.E.SketchEntry.key in
-    let m = map_of key (filled (map g.E.PathEntry.held c.args.slots.now.items)) in
+    let m = map_of key (filled (map g.E.PathEntry.content c.args.slots.now.items)) in
     c.in_ok-put_spread.ensures.map ∙ below_all key (with_entry key m c.args.entry) c.args.sizes.theta (each-with_entry key (λ y. key y < c.args.sizes.theta) m c.args.entry c.requires.place.below_theta c.requires.place.low)
 
 pub returns-clause-same : goal.returns-clause-same
@@ -37,10 +37,10 @@ returns-clause-same g c =
 pub returns-clause-ticked : goal.returns-clause-ticked
 returns-clause-ticked g c =
     let key = g.E.SketchEntry.key in
-    let held = g.E.PathEntry.held in
-    let slots = map held c.args.slots.now.items in
-    let after = map held c.put_spread.new.slots.items in
-    let inside : c.args.at < length slots = omega (arith, c.requires.inside, length-held held c.args.slots.now.items) in
+    let content = g.E.PathEntry.content in
+    let slots = map content c.args.slots.now.items in
+    let after = map content c.put_spread.new.slots.items in
+    let inside : c.args.at < length slots = omega (arith, c.requires.inside, length-content content c.args.slots.now.items) in
     let many : length (filled after) ≡ c.args.sizes.count + 1 =
     omega (arith, c.requires.place.counted, joined_count key c.args.sizes.lg_cur c.args.at c.args.entry slots c.requires.place.laid_out inside c.requires.place.free c.requires.place.on_path, ap length (returns-clause-after g c), length-map_of key c.min-lg_cur.result after c.in_ok-put_spread.ensures.laid_out) in
     rw (c.tick.ensures, c.tick-2.ensures, c.in_ok-put_spread.ensures.placed, many) refl

@@ -1,9 +1,9 @@
 use Rattle.std.proofs.Common.{◌<◌, ℕ, map, length, sym, ap, inr, ◌∙◌, refl, arith}
 use Rattle.core_laws.specs.Maps.{map_of, with_entry}
-use Rattle.core_slots.specs.Layout.{filled}
+use Rattle.core_slots.specs.SlotLayout.{filled}
 use Rattle.core_table.proofs.Counting.{grown_ticked, rebuilt_ticked}
-use Rattle.core_slots.proofs.Held.{length-held}
-use Rattle.core_slots.proofs.Layouts.{length-map_of}
+use Rattle.core_slots.proofs.Held.{length-content}
+use Rattle.core_slots.proofs.SlotLayouts.{length-map_of}
 use Rattle.core_table.proofs.Tables.{grown, full, joined_count, not_rebuilt}
 use Rattle.core_table.proofs.insertion.overflow.Goals as goal
 
@@ -20,26 +20,26 @@ rebuild-requires-clause-large g c =
 pub returns-then-full-clause-counted : goal.returns-then-full-clause-counted
 returns-then-full-clause-counted g c =
     let key = g.E.SketchEntry.key in
-    let held = g.E.PathEntry.held in
-    let slots = map held c.args.slots.now.items in
-    let after = map held c.grow.new.slots.items in
+    let content = g.E.PathEntry.content in
+    let slots = map content c.args.slots.now.items in
+    let after = map content c.grow.new.slots.items in
     let s = c.args.sizes in
-    let inside : c.args.at < length slots = omega (arith, c.requires.inside, length-held held c.args.slots.now.items) in
+    let inside : c.args.at < length slots = omega (arith, c.requires.inside, length-content content c.args.slots.now.items) in
     let one = c.in_ok-wider.ensures in
     ap (λ z. z.count) one.same ∙ omega (arith, c.requires.place.counted, joined_count key s.lg_cur c.args.at c.args.entry slots c.requires.place.laid_out inside c.requires.place.free c.requires.place.on_path, ap length one.after, length-map_of key c.in_ok-wider.wider.lg_cur after one.laid_out)
 
 pub returns-then-full-clause-after : goal.returns-then-full-clause-after
 returns-then-full-clause-after g c =
     let key = g.E.SketchEntry.key in
-    let held = g.E.PathEntry.held in
-    let slots = map held c.args.slots.now.items in
+    let content = g.E.PathEntry.content in
+    let slots = map content c.args.slots.now.items in
     let s = c.args.sizes in
-    let inside : c.args.at < length slots = omega (arith, c.requires.inside, length-held held c.args.slots.now.items) in
+    let inside : c.args.at < length slots = omega (arith, c.requires.inside, length-content content c.args.slots.now.items) in
     let one = c.in_ok-wider.ensures in
     let wide = grown s.lg_cur _ s.lg_nom s.grow s.count c.requires.place.sized c.if-full.true refl in
     ap (λ ys. record { entries = ys; theta = c.in_ok-wider.wider.theta }) one.after
     ∙ ap (λ (t : ℕ). record { entries = with_entry key (map_of key (filled slots)) c.args.entry; theta = t }) (ap (λ z. z.theta) one.same)
-    ∙ sym (not_rebuilt key s.lg_cur c.args.at c.args.entry slots c.requires.place.laid_out inside c.requires.place.free c.requires.place.on_path s.lg_nom s.theta (inr (omega (arith, c.requires.place.counted, wide.few))))
+    ∙ sym (not_rebuilt key s.lg_cur c.args.at c.args.entry slots c.requires.place.laid_out inside c.requires.place.free c.requires.place.on_path s.lg_nom s.theta (inr (omega (arith, c.requires.place.counted, wide.limited))))
 
 pub returns-then-full-clause-sized : goal.returns-then-full-clause-sized
 returns-then-full-clause-sized g c =

@@ -2,47 +2,47 @@ use Rattle.std.proofs.Common.{◌<◌, ◌≤◌, ◌+◌, map, length, sym, ap,
 use Rattle.std.proofs.lemmas.Bool.{cases_lt}
 use Rattle.core_table.specs.HashTable.{threshold}
 use Rattle.core_table.proofs.Counting.{few_ticked}
-use Rattle.core_slots.proofs.Held.{map-set, length-held}
-use Rattle.core_slots.proofs.Layouts.{laid_out_new, filled_new}
+use Rattle.core_slots.proofs.Held.{map-set, length-content}
+use Rattle.core_slots.proofs.SlotLayouts.{laid_out_new, filled_new}
 use Rattle.core_table.proofs.Tables.{one_more, threshold_most, joins, not_rebuilt}
 use Rattle.core_table.proofs.insertion.put_entry.Goals as goal
 
 pub returns-then-more-sizes-clause-laid_out : goal.returns-then-more-sizes-clause-laid_out
 returns-then-more-sizes-clause-laid_out g c =
     let key = g.E.SketchEntry.key in
-    let held = g.E.PathEntry.held in
-    let slots = map held c.args.slots.now.items in
-    rw (map-set held c.args.slots.now.items c.args.at c.into_slot.result, c.into_slot.ensures)
-    (laid_out_new key c.args.sizes.lg_cur slots c.args.at c.args.entry c.requires.place.laid_out (omega (arith, c.requires.inside, length-held held c.args.slots.now.items)) c.requires.place.free c.requires.place.on_path)
+    let content = g.E.PathEntry.content in
+    let slots = map content c.args.slots.now.items in
+    rw (map-set content c.args.slots.now.items c.args.at c.into_slot.result, c.into_slot.ensures)
+    (laid_out_new key c.args.sizes.lg_cur slots c.args.at c.args.entry c.requires.place.laid_out (omega (arith, c.requires.inside, length-content content c.args.slots.now.items)) c.requires.place.free c.requires.place.on_path)
 
 pub returns-then-more-sizes-clause-counted : goal.returns-then-more-sizes-clause-counted
 returns-then-more-sizes-clause-counted g c =
-    let held = g.E.PathEntry.held in
-    let slots = map held c.args.slots.now.items in
-    rw (map-set held c.args.slots.now.items c.args.at c.into_slot.result, c.into_slot.ensures)
-    (omega (arith, c.requires.place.counted, filled_new slots c.args.at c.args.entry (omega (arith, c.requires.inside, length-held held c.args.slots.now.items)) c.requires.place.free))
+    let content = g.E.PathEntry.content in
+    let slots = map content c.args.slots.now.items in
+    rw (map-set content c.args.slots.now.items c.args.at c.into_slot.result, c.into_slot.ensures)
+    (omega (arith, c.requires.place.counted, filled_new slots c.args.at c.args.entry (omega (arith, c.requires.inside, length-content content c.args.slots.now.items)) c.requires.place.free))
 
 pub returns-then-more-sizes-clause-after : goal.returns-then-more-sizes-clause-after
 returns-then-more-sizes-clause-after g c =
     let key = g.E.SketchEntry.key in
-    let held = g.E.PathEntry.held in
-    let slots = map held c.args.slots.now.items in
+    let content = g.E.PathEntry.content in
+    let slots = map content c.args.slots.now.items in
     let s = c.args.sizes in
-    let inside : c.args.at < length slots = omega (arith, c.requires.inside, length-held held c.args.slots.now.items) in
-    let few : c.args.sizes.count + 1 ≤ threshold c.args.sizes.lg_cur c.args.sizes.lg_nom = omega (arith, c.if-more-sizes.true, c.requires.place.bounded) in
-    rw (map-set held c.args.slots.now.items c.args.at c.into_slot.result, c.into_slot.ensures)
+    let inside : c.args.at < length slots = omega (arith, c.requires.inside, length-content content c.args.slots.now.items) in
+    let limited : c.args.sizes.count + 1 ≤ threshold c.args.sizes.lg_cur c.args.sizes.lg_nom = omega (arith, c.if-more-sizes.true, c.requires.place.bounded) in
+    rw (map-set content c.args.slots.now.items c.args.at c.into_slot.result, c.into_slot.ensures)
     (ap (λ ys. record { entries = ys; theta = c.args.sizes.theta }) (joins key s.lg_cur c.args.at c.args.entry slots c.requires.place.laid_out inside c.requires.place.free c.requires.place.on_path)
     ∙ sym (not_rebuilt key s.lg_cur c.args.at c.args.entry slots c.requires.place.laid_out inside c.requires.place.free c.requires.place.on_path s.lg_nom s.theta
     (elim (cases_lt s.lg_nom 3) [
       | inl lt ↦ inl lt
-      | inr ge ↦ inr (omega (arith, few, c.requires.place.counted, threshold_most s.lg_cur s.lg_nom s.grow s.count c.requires.place.sized ge))
+      | inr ge ↦ inr (omega (arith, limited, c.requires.place.counted, threshold_most s.lg_cur s.lg_nom s.grow s.count c.requires.place.sized ge))
     ])))
 
 pub returns-then-more-sizes-clause-sized : goal.returns-then-more-sizes-clause-sized
 returns-then-more-sizes-clause-sized g c =
     let s = c.args.sizes in
-    let few : c.args.sizes.count + 1 ≤ threshold c.args.sizes.lg_cur c.args.sizes.lg_nom = omega (arith, c.if-more-sizes.true, c.requires.place.bounded) in
-    one_more s.lg_cur s.lg_nom s.grow s.count c.requires.place.sized few c.requires.room
+    let limited : c.args.sizes.count + 1 ≤ threshold c.args.sizes.lg_cur c.args.sizes.lg_nom = omega (arith, c.if-more-sizes.true, c.requires.place.bounded) in
+    one_more s.lg_cur s.lg_nom s.grow s.count c.requires.place.sized limited c.requires.room
 
 pub returns-then-more-sizes-clause-ticked : goal.returns-then-more-sizes-clause-ticked
 returns-then-more-sizes-clause-ticked g c =

@@ -1,5 +1,5 @@
 use Rattle.std.proofs.Common.{◌≡◌, ℕ, ◌+◌, ◌∷◌, [], ◌++◌, map, take, sym, ap, ◌∙◌}
-use Rattle.core_slots.specs.Layout.{filled}
+use Rattle.core_slots.specs.SlotLayout.{filled}
 use Rattle.core_slots.proofs.Held.{filled-next, take_whole}
 use Rattle.core_table.proofs.ListedBelow.{none_below-next}
 use Rattle.core_table.proofs.iter.any_below.Goals as goal
@@ -7,14 +7,14 @@ use Rattle.core_table.proofs.iter.any_below.Goals as goal
 pub test_each-preserved : goal.test_each-preserved
 test_each-preserved g c =
     let key = g.E.SketchEntry.key in
-    let held = g.E.PathEntry.held in
+    let content = g.E.PathEntry.content in
     let block = c.args.block.now in
     let i : ℕ = c.test_each.slot-index in
     let s = c.slot-item.result in
-    let seen = filled (map held (take i block)) in
-    let more : filled (map held (take (i + 1) block)) ≡ seen ++ filled (held s ∷ []) = filled-next held block i s c.test_each-test.true ∙ ap (λ t. seen ++ filled (held t ∷ [])) (sym c.slot-item.is) in
-    λ none. rw more (none_below-next key c.args.theta c.test_each.any c.holds_below-any.result seen (held s) c.test_each.invariant c.holds_below-any.ensures none)
+    let seen = filled (map content (take i block)) in
+    let more : filled (map content (take (i + 1) block)) ≡ seen ++ filled (content s ∷ []) = filled-next content block i s c.test_each-test.true ∙ ap (λ t. seen ++ filled (content t ∷ [])) (sym c.slot-item.is) in
+    λ none. rw more (none_below-next key c.args.theta c.test_each.any c.holds_below-any.result seen (content s) c.test_each.invariant c.holds_below-any.ensures none)
 
 pub returns : goal.returns
 returns g c = λ none.
-    rw (sym (take_whole g.E.PathEntry.held c.args.block.now c.test_each.slot-index c.test_each-test.false)) (c.test_each.invariant none)
+    rw (sym (take_whole g.E.PathEntry.content c.args.block.now c.test_each.slot-index c.test_each-test.false)) (c.test_each.invariant none)

@@ -25,9 +25,9 @@ returns-clause-marked g c = behind _ _ _ _ c.marked_ahead-rest.ensures.marked (o
 
 pub returns-clause-first : goal.returns-clause-first
 returns-clause-first g c =
-    let here = first_held g.E.SketchEntry.key g.E.PathEntry.held c.args.bound _ _ _ c.marked_ahead-rest.ensures.marked (omega (arith, c.if-rest-eq0.false)) c.index-rest-at.result in
+    let present = first_held g.E.SketchEntry.key g.E.PathEntry.content c.args.bound _ _ _ c.marked_ahead-rest.ensures.marked (omega (arith, c.if-rest-eq0.false)) c.index-rest-at.result in
     let marked = held_first _ _ _ _ c.marked_ahead-rest.ensures.marked (omega (arith, c.if-rest-eq0.false)) c.index-rest-at.result in
-    rw (← c.marked_ahead-rest.ensures.same, c.in_slot.ensures, here ∙ sym marked) (parts _ _ _ _ c.marked_ahead-rest.ensures.marked (omega (arith, c.if-rest-eq0.false)) c.index-rest-at.result)
+    rw (← c.marked_ahead-rest.ensures.same, c.in_slot.ensures, present ∙ sym marked) (parts _ _ _ _ c.marked_ahead-rest.ensures.marked (omega (arith, c.if-rest-eq0.false)) c.index-rest-at.result)
 
 pub returns-clause-none : goal.returns-clause-none
-returns-clause-none g c = λ none. absurd (never_none none (c.in_slot.ensures ∙ first_held g.E.SketchEntry.key g.E.PathEntry.held c.args.bound _ _ _ c.marked_ahead-rest.ensures.marked (omega (arith, c.if-rest-eq0.false)) c.index-rest-at.result))
+returns-clause-none g c = λ none. absurd (never_none none (c.in_slot.ensures ∙ first_held g.E.SketchEntry.key g.E.PathEntry.content c.args.bound _ _ _ c.marked_ahead-rest.ensures.marked (omega (arith, c.if-rest-eq0.false)) c.index-rest-at.result))

@@ -5,4 +5,4 @@ use Rattle.core_table.proofs.iter.marked_ahead.Goals as goal
 
 pub returns-clause-same : goal.returns-clause-same
 returns-clause-same g c =
-    c.marked_from.ensures.same ∙ passed_over (under g.E.SketchEntry.key c.args.bound g.E.PathEntry.held) c.args.rest.slots.now c.args.rest.ahead c.args.rest.marks c.requires.marked (omega (arith, c.if-rest-ne0.false))
+    c.marked_from.ensures.same ∙ passed_over (under g.E.SketchEntry.key c.args.bound g.E.PathEntry.content) c.args.rest.slots.now c.args.rest.ahead c.args.rest.marks c.requires.marked (omega (arith, c.if-rest-ne0.false))

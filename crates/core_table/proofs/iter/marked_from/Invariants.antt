@@ -1,11 +1,11 @@
 use Rattle.std.proofs.Common.{◌≡◌, map, length}
-use Rattle.core_slots.specs.Layout.{filled}
+use Rattle.core_slots.specs.SlotLayout.{filled}
 use Rattle.core_table.specs.Marks.{under}
 use Rattle.core_table.proofs.iter.marked_from.Given as goal
 
 -- the passed slots have no entries under the bound
 abbrev pub invariant-pass_blocks : goal.invariant-pass_blocks
-invariant-pass_blocks g l = filled (map (under g.E.SketchEntry.key l.bound g.E.PathEntry.held) l.left) ≡ filled (map (under g.E.SketchEntry.key l.bound g.E.PathEntry.held) l.slots)
+invariant-pass_blocks g l = filled (map (under g.E.SketchEntry.key l.bound g.E.PathEntry.content) l.left) ≡ filled (map (under g.E.SketchEntry.key l.bound g.E.PathEntry.content) l.slots)
 
 -- the remaining slots
 abbrev pub decreases-pass_blocks : goal.decreases-pass_blocks

@@ -7,5 +7,5 @@ use Rattle.core_table.proofs.iter.marks_of.Given as goal
 abbrev pub invariant-mark_each : goal.invariant-mark_each
 invariant-mark_each g l = record {
   within : l.i ≤ length l.slots;
-  told : l.marks ≡ marks_in (drop (length l.slots - l.i) (map (under g.E.SketchEntry.key l.bound g.E.PathEntry.held) l.slots));
+  reported : l.marks ≡ marks_in (drop (length l.slots - l.i) (map (under g.E.SketchEntry.key l.bound g.E.PathEntry.content) l.slots));
 }

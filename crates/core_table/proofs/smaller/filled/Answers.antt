@@ -21,7 +21,7 @@ put_each-init g c =
       grows = refl;
       made_with = refl;
       filling = subst (λ v. IsFilling key n theta items v) none (filling-start key n theta items c.requires.apart c.requires.nonzero c.requires.below_theta (omega arith));
-      rest = ap (λ held. joined key last held items) c.requires.nothing_held;
+      rest = ap (λ content. joined key last content items) c.requires.nothing_held;
     })
 
 pub upsert_entry-requires-clause-room : goal.upsert_entry-requires-clause-room
@@ -40,7 +40,7 @@ put_each-preserved g c =
     let with_made = c.put_each.invariant.made_with in
     let lg : c.put_each.filled.map.lg_nom ≡ c.args.table.map.lg_nom = ap (λ t. t.lg_nom) with_made in
     let k : ℕ = 2 ^ c.args.table.map.lg_nom in
-    let free : n ≤ 15 * k / 8 = omega (arith, c.requires.few) in
+    let free : n ≤ 15 * k / 8 = omega (arith, c.requires.limited) in
     let kept : c.upsert_entry.new.self.map.kept ≡ record { entries = with_entry key was.entries c.in-Some.entry; theta = was.theta } =
     ap (λ t. t.kept) c.in_ok-upsert_entry.ensures.after
     ∙ ap (λ (m : ℕ). after_upsert key (2 ^ m) c.hash-hash.result (put_step c.new.result.entry) was) lg

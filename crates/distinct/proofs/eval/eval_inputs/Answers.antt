@@ -2,9 +2,9 @@ use Rattle.std.proofs.Common.{◌≡◌, ℕ, List, [], ◌∷◌, length, map, 
 use Rattle.std.specs.Prelude.{IfSome}
 use Rattle.std.proofs.lemmas.List.{length-map}
 use Rattle.sketch_base.specs.Seed.{seed_hash}
-use Rattle.core_compact.specs.CompactState.{Compact}
+use Rattle.core_compact.specs.CompactState.{Compact, ordered_sketch}
 use Rattle.set_expressions.specs.Values.{value_of}
-use Rattle.set_expressions.specs.Running.{values_of, sketch_of_value}
+use Rattle.set_expressions.specs.Running.{values_of}
 use Rattle.distinct_arguments.specs.Faults.{options_of}
 use Rattle.distinct.specs.Answers.{names_of}
 use Rattle.distinct.specs.Evaluations.{AreOperands}
@@ -26,5 +26,5 @@ returns-clause-evaluated g c =
     only spelled
     (subst (λ sources. IfSome (g.S.Sources.texts sources) (λ texts. AreOperands options.keys options seed texts sketches)) c.renamed-renamed.ensures c.in_ok-sketches.ensures.operands)
     (length-map expression.names.items (λ name. string_bytes name) ∙ same)
-    (c.in_ok-result.ensures.value text spelled ∙ ap (λ (ss : List (Compact ℕ)). sketch_of_value (seed_hash seed) (value_of options.lg_k (values_of ss) spelled.tree)) c.as_slice-2.ensures.value)
+    (c.in_ok-result.ensures.value text spelled ∙ ap (λ (ss : List (Compact ℕ)). ordered_sketch (value_of options.lg_k (values_of ss) spelled.tree) (seed_hash seed)) c.as_slice-2.ensures.value)
     c.put_result.ensures.result

@@ -6,7 +6,7 @@ use Rattle.distinct_arguments.proofs.files.is_repeated.Given as goal
 abbrev pub invariant-each_file : goal.invariant-each_file
 invariant-each_file l = record {
   all : l.count + standard_files (map (λ file. string_bytes file) l.rest) ≡ l.uses + standard_files (map (λ file. string_bytes file) l.files);
-  few : l.count ≤ 3;
+  limited : l.count ≤ 3;
 }
 
 abbrev pub decreases-each_file : goal.decreases-each_file

@@ -5,7 +5,7 @@ use Rattle.core_laws.specs.Entries.{hash_key, first_hash}
 use Rattle.core_laws.specs.Operators.{meet, meet_next}
 use Rattle.core_laws.specs.Shown.{shown_value}
 use Rattle.core_operators.specs.Intersection.{seed_refusal}
-use Rattle.theta_sketches.specs.View.{view_shows, view_lends}
+use Rattle.theta_sketches.specs.View.{view_shows, view_sequence}
 use Rattle.line_sketches.specs.Meeting.{result_or_empty, met_of, one_refusal, meet_refusal, refusal_of_intersection}
 use Rattle.line_sketches.specs.Shards.{values_of_sketches}
 use Rattle.line_sketches.proofs.Meets.{met_next, result_or_empty-met, same_result, same_item}
@@ -14,7 +14,7 @@ use Rattle.line_sketches.proofs.images.intersection.Goals as goal
 
 pub loop-sketch-preserved : goal.loop-sketch-preserved
 loop-sketch-preserved g c = record {
-  value = met_next c.loop-sketch.so_far.result c.update.new.self.result c.args.sketches.now c.loop-sketch.sketch-index c.sketch-item.result (shown_value hash_key (view_shows c.as_view.result) (view_lends c.as_view.result))
+  value = met_next c.loop-sketch.so_far.result c.update.new.self.result c.args.sketches.now c.loop-sketch.sketch-index c.sketch-item.result (shown_value hash_key (view_shows c.as_view.result) (view_sequence c.as_view.result))
       c.loop-sketch-test.true c.loop-sketch.invariant.value c.in_ok-update.ensures.met (c.as_view.ensures.value ∙ same_item c.args.sketches.now c.loop-sketch.sketch-index c.sketch-item.result c.sketch-item.is);
   same_seed = ap (λ i. i.seed_hash) c.in_ok-update.ensures.made_with ∙ c.loop-sketch.invariant.same_seed;
   refusal =

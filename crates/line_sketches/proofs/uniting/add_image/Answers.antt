@@ -5,13 +5,13 @@ use Rattle.sketch_base.specs.Seed.{seed_hash}
 use Rattle.core_images.specs.Read.{IsRefused}
 use Rattle.theta_sketches.specs.Image.{IsReadable}
 use Rattle.line_sketches.proofs.Refused.{read_seed, ready_accepts, union_memory}
-use Rattle.theta_sketches.specs.View.{view_shows, view_lends}
+use Rattle.theta_sketches.specs.View.{view_shows, view_sequence}
 use Rattle.line_sketches.proofs.Unions.{image_more}
 use Rattle.line_sketches.proofs.uniting.add_image.Goals as goal
 
 pub returns-clause-united : goal.returns-clause-united
 returns-clause-united g c = λ lg_k images has.
-    image_more c.args.seed lg_k images c.args.image.now c.in_ok-sketch.sketch c.args.union.now c.update.new.self (view_shows c.as_view.result) (view_lends c.as_view.result) has c.in_ok-sketch.ensures.reads
+    image_more c.args.seed lg_k images c.args.image.now c.in_ok-sketch.sketch c.args.union.now c.update.new.self (view_shows c.as_view.result) (view_sequence c.as_view.result) has c.in_ok-sketch.ensures.reads
     c.in_ok-update.ensures.skipped c.in_ok-update.ensures.united c.as_view.ensures.value c.in_ok-update.ensures.made_with
 
 pub returns-in_err-update-clause-refused : goal.returns-in_err-update-clause-refused

@@ -21,8 +21,8 @@ loop-count-preserved g c = record {
   united = λ lg_k images has.
       continues_next g.S.Source.Read.remaining (λ taken. HasUnited c.args.seed lg_k (images ++ taken) c.loop-count.union) (λ taken. HasUnited c.args.seed lg_k (images ++ taken) c.add_reader.new.union)
       (g.S.Sources.texts c.args.sources.now) (g.S.Sources.texts c.loop-count.sources) (g.S.Sources.texts c.next_source.new.self) c.in-Ok-Some.field-0 c.in-Ok-Some.source (c.loop-count.invariant.united lg_k images has) c.in-Ok-Some.ensures c.in-Ok-Some.field-0-is
-      (λ taken held. if_some (g.S.Source.Read.remaining c.in-Ok-Some.source) (λ image. HasUnited c.args.seed lg_k ((images ++ taken) ++ image ∷ []) c.add_reader.new.union) (λ image. HasUnited c.args.seed lg_k (images ++ (taken ++ image ∷ [])) c.add_reader.new.union)
-      (λ image now. subst (λ (is : List (List ℕ)). HasUnited c.args.seed lg_k is c.add_reader.new.union) (append_assoc images taken (image ∷ [])) now) (c.in_ok-add_reader-in-Ok-Some.ensures.united lg_k (images ++ taken) held));
+      (λ taken content. if_some (g.S.Source.Read.remaining c.in-Ok-Some.source) (λ image. HasUnited c.args.seed lg_k ((images ++ taken) ++ image ∷ []) c.add_reader.new.union) (λ image. HasUnited c.args.seed lg_k (images ++ (taken ++ image ∷ [])) c.add_reader.new.union)
+      (λ image now. subst (λ (is : List (List ℕ)). HasUnited c.args.seed lg_k is c.add_reader.new.union) (append_assoc images taken (image ∷ [])) now) (c.in_ok-add_reader-in-Ok-Some.ensures.united lg_k (images ++ taken) content));
   ready = λ ready. c.in_ok-add_reader-in-Ok-Some.ensures.ready (c.loop-count.invariant.ready ready);
   parted = continues_next g.S.Source.Read.remaining (λ taken. Unit {0}) (λ taken. Unit {0}) (g.S.Sources.texts c.args.sources.now) (g.S.Sources.texts c.loop-count.sources) (g.S.Sources.texts c.next_source.new.self)
       c.in-Ok-Some.field-0 c.in-Ok-Some.source c.loop-count.invariant.parted c.in-Ok-Some.ensures c.in-Ok-Some.field-0-is (λ taken one. if_any (g.S.Source.Read.remaining c.in-Ok-Some.source));

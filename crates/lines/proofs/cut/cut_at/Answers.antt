@@ -1,5 +1,5 @@
 use Rattle.std.proofs.Common.{◌+◌, arith}
-use Rattle.lines.proofs.Cutting.{none_more, here, parts_at, lacks_front}
+use Rattle.lines.proofs.Cutting.{none_more, present, parts_at, lacks_front}
 use Rattle.lines.proofs.cut.cut_at.Goals as goal
 
 pub returns-then-count-lt-LANES-clause-lacks : goal.returns-then-count-lt-LANES-clause-lacks
@@ -10,7 +10,7 @@ returns-then-count-lt-LANES-clause-lacks c =
 pub returns-then-count-lt-LANES-clause-parts : goal.returns-then-count-lt-LANES-clause-parts
 returns-then-count-lt-LANES-clause-parts c =
     parts_at c.args.byte c.args.text.now (c.loop-from.from + c.first_of_lanes-count.result) (omega arith)
-    (here c.args.byte c.args.text.now c.loop-from.from c.first_of_lanes-count.result (omega arith) c.first_of_lanes-count.ensures c.if-count-lt-LANES.true)
+    (present c.args.byte c.args.text.now c.loop-from.from c.first_of_lanes-count.result (omega arith) c.first_of_lanes-count.ensures c.if-count-lt-LANES.true)
 
 pub loop-from-preserved : goal.loop-from-preserved
 loop-from-preserved c = record {

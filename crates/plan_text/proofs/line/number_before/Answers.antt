@@ -35,9 +35,9 @@ loop-i-preserved c =
     let d = get_or text i 0 in
     let is : is_ascii_digit d ≡ true = sym c.is_ascii_digit.ensures.value ∙ c.if-not-is_ascii_digit.false in
     let same : digit_value d ≡ d - 48 = digit_is d is in
-    let few : i + 1 ≤ 19 = omega arith in
+    let limited : i + 1 ≤ 19 = omega arith in
     let fits : v * 10 + digit_value d < 2 ^ 64 = omega (arith, below_19 v i c.loop-i.invariant.1 (omega arith), digit_small d is) in (
-      few,
+      limited,
       rw (sym same) (more_digits v (digit_value d) i c.loop-i.invariant.1 (digit_small d is)),
       ap (digits_from 0) (take_more text i 0 c.loop-i-test.true) ∙ digits_push 0 v d (take i text) c.loop-i.invariant.2 is fits ∙ ap (λ x. Some (v * 10 + x)) same,
     )

@@ -24,15 +24,15 @@ use Rattle.plan_text.specs.contracts.boxed.Boxed.TheInside as inside
 
 -- the boxed item is the whole value
 abbrev pub the_former : Former {0} → Type 0 → Former {0}
-the_former held A = held
+the_former content A = content
 
-abbrev pub the_weighed : {held : Former {0}} → Weighed held → (A : Type 0) → Weighed (the_former held A)
+abbrev pub the_weighed : {content : Former {0}} → Weighed content → (A : Type 0) → Weighed (the_former content A)
 the_weighed weighed A = weighed
 
 -- the fields: a box (its address, its allocator and its item) and a number of levels
 abbrev field : Type 0 → Former {0}
-field A = via (pair (pair (const (Ptr × A)) this) (const ℕ)) (λ X. Inside X A) (λ X b. (((b.held.ptr, b.held.alloc), b.held.value), b.levels))
-    (λ X v. record { held = record { ptr = v.0.0.0; alloc = v.0.0.1; value = v.0.1 }; levels = v.1 }) (λ X b. refl) (λ X v. refl)
+field A = via (pair (pair (const (Ptr × A)) this) (const ℕ)) (λ X. Inside X A) (λ X b. (((b.content.ptr, b.content.alloc), b.content.value), b.levels))
+    (λ X v. record { content = record { ptr = v.0.0.0; alloc = v.0.0.1; value = v.0.1 }; levels = v.1 }) (λ X b. refl) (λ X v. refl)
 
 abbrev holding : {A X Y : Type 0} → Box X A → Y → Box Y A
 holding b y = record { ptr = b.ptr; alloc = b.alloc; value = y }

@@ -1,11 +1,11 @@
 use Rattle.std.proofs.Common.{◌≡◌, [], true, false, eqb, length, Some, inl, inr, ap, sym, subst, ◌∙◌}
 use Rattle.std.proofs.lemmas.Result.{err_from_is_err_and}
 use Rattle.sketch_base.specs.Seed.{seed_hash}
-use Rattle.core_compact.specs.CompactState.{compact_value}
+use Rattle.core_compact.specs.CompactState.{compact_value, ordered_sketch}
 use Rattle.core_laws.specs.Entries.{hash_key}
 use Rattle.core_laws.specs.Samples.{IsSample}
 use Rattle.set_expressions.specs.Values.{set_of}
-use Rattle.set_expressions.specs.Running.{values_of, values_onto, sketch_of_value, only_value, are_accepted, evaluation_refusal}
+use Rattle.set_expressions.specs.Running.{values_of, values_onto, only_value, are_accepted, evaluation_refusal}
 use Rattle.set_expressions.proofs.RunSteps.{step_missing, all_run, many_left, one_left, last_value, no_result, one_result, answer_sketch, ordered-last}
 use Rattle.set_expressions.specs.Running.{AreOrdered}
 use Rattle.set_expressions.proofs.TwoSketches.{refuses_memory, refuses_kind}
@@ -48,7 +48,7 @@ returns-clause-value g c = λ e is within.
     let ran = all_run lg (values_of sketches) c.args.steps.now c.loop-step.step-index c.loop-step.stack.items rest last c.loop-step-test.false c.loop-step.invariant.ran c.in-Some.ensures.items in
     let ordered = subst (λ xs. AreOrdered h xs) c.in-Some.ensures.items c.loop-step.invariant.ordered in
     answer_sketch (compact_value hash_key last) h last (ordered-last h rest last ordered)
-    ∙ ap (sketch_of_value h) (last_value lg sketches c.args.steps.now last (values_onto rest []) e ran is within)
+    ∙ ap (λ v. ordered_sketch v h) (last_value lg sketches c.args.steps.now last (values_onto rest []) e ran is within)
 
 pub returns-clause-whole : goal.returns-clause-whole
 returns-clause-whole g c = λ e sets is samples within.

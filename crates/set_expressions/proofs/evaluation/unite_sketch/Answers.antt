@@ -2,13 +2,13 @@ use Rattle.std.proofs.Common.{None, refl, ◌∙◌}
 use Rattle.std.proofs.lemmas.Result.{err_from_is_err_and}
 use Rattle.core_compact.specs.CompactState.{compact_value}
 use Rattle.core_laws.specs.Entries.{hash_key}
-use Rattle.theta_sketches.specs.View.{view_shows, view_lends}
+use Rattle.theta_sketches.specs.View.{view_shows, view_sequence}
 use Rattle.set_expressions.proofs.TwoSketches.{refuses_memory, union_accepts, union_memory, one_more}
 use Rattle.set_expressions.proofs.evaluation.unite_sketch.Goals as goal
 
 pub returns-clause-united : goal.returns-clause-united
 returns-clause-united g c = λ values so_far.
-    one_more c.args.union.now c.update.new.self (view_shows c.as_view.result) (view_lends c.as_view.result) (compact_value hash_key c.args.sketch.now) c.in_ok-update.ensures.skipped c.in_ok-update.ensures.united c.as_view.ensures.value values so_far
+    one_more c.args.union.now c.update.new.self (view_shows c.as_view.result) (view_sequence c.as_view.result) (compact_value hash_key c.args.sketch.now) c.in_ok-update.ensures.skipped c.in_ok-update.ensures.united c.as_view.ensures.value values so_far
 
 pub returns-in_err-update-clause-refused : goal.returns-in_err-update-clause-refused
 returns-in_err-update-clause-refused g c =

@@ -1,5 +1,5 @@
 use Rattle.std.proofs.Common.{◌<◌, length, sym, ◌∙◌, arith}
-use Rattle.sketch_base.proofs.Parts.{few}
+use Rattle.sketch_base.proofs.Parts.{limited}
 use Rattle.sketch_base.proofs.Words.{word-short, word_past}
 use Rattle.sketch_base.proofs.murmur.read_few.Goals as goal
 
@@ -10,4 +10,4 @@ pub returns : goal.returns
 returns c =
     let bs = c.args.bytes.now in
     let some : 0 < length bs = grind arith in
-    few bs some c.requires (λ i. omega (arith, c.type_inv.bytes i)) ∙ sym (word-short bs (omega arith))
+    limited bs some c.requires (λ i. omega (arith, c.type_inv.bytes i)) ∙ sym (word-short bs (omega arith))

@@ -7,5 +7,5 @@ use Rattle.sketch_c.proofs.bounds.kcp_estimate_decimal.Goals as goal
 pub overflow_cast-decimals : goal.overflow_cast-decimals
 overflow_cast-decimals c =
     let low : 0 < c.args.theta = grind (arith, nat_tests, c.is_state.ensures, c.if-not-is_state.false) in
-    let few : c.args.places ≤ 19 = c.if-places-gt-MAX_PLACES.false in
-    rw (c.decimals.ensures, c.estimate_decimal-estimate.ensures) (record { fits = decimals_fit (c.args.retained * MAX_THETA) c.args.theta c.args.places low few })
+    let limited : c.args.places ≤ 19 = c.if-places-gt-MAX_PLACES.false in
+    rw (c.decimals.ensures, c.estimate_decimal-estimate.ensures) (record { fits = decimals_fit (c.args.retained * MAX_THETA) c.args.theta c.args.places low limited })

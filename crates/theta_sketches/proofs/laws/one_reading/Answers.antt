@@ -1,9 +1,9 @@
 use Rattle.core_laws.specs.Entries.{hash_key}
 use Rattle.core_images.specs.Entry.{SpellsHash}
 use Rattle.core_images.specs.HashSpelling.{one_hash}
-use Rattle.core_images.proofs.Layouts.{comes_one}
+use Rattle.core_images.proofs.ImageLayouts.{comes_one}
 use Rattle.theta_sketches.specs.ImageLayout.{theta_layout}
-use Rattle.theta_sketches.proofs.Layouts.{theta_from}
+use Rattle.theta_sketches.proofs.ImageLayouts.{theta_from}
 use Rattle.theta_sketches.proofs.laws.one_reading.Goals as goal
 
 pub returns : goal.returns

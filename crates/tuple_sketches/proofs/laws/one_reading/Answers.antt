@@ -1,9 +1,9 @@
 use Rattle.core_slots.specs.Entry.{tuple_key}
 use Rattle.core_images.specs.Summary.{SpellsTuple}
 use Rattle.core_images.specs.SummarySpelling.{one_tuple}
-use Rattle.core_images.proofs.Layouts.{comes_one}
+use Rattle.core_images.proofs.ImageLayouts.{comes_one}
 use Rattle.tuple_sketches.specs.ImageLayout.{tuple_layout}
-use Rattle.tuple_sketches.proofs.Layouts.{tuple_from}
+use Rattle.tuple_sketches.proofs.ImageLayouts.{tuple_from}
 use Rattle.tuple_sketches.proofs.laws.one_reading.Goals as goal
 
 pub returns : goal.returns

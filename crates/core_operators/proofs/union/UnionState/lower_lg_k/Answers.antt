@@ -48,17 +48,17 @@ returns-clause-value g c =
     let is = over_smaller key c.self.inside.empty c.self.inside.failed c.self.inside.policy t s theta c.retention_theta-self-inside.result c.args.lg_k kept.ascending c.in_ok-smaller.ensures.made c.retention_theta-self-inside.ensures.theta in
     rw (← c.self.view_is) (ap (union_value key) is ∙ value_fewer key old c.args.lg_k (omega arith) (ascending-filter key _ t.kept.entries kept.ascending))
 
-pub returns-then-self-clause-held : goal.returns-then-self-clause-held
-returns-then-self-clause-held g c = rw (← c.self.view_is) (IsRetained-below g.E.SketchEntry.key _ _ _ c.retention_theta.ensures.sound.kept c.self.invariant.theta_low c.self.invariant.theta_within)
+pub returns-then-self-clause-content : goal.returns-then-self-clause-content
+returns-then-self-clause-content g c = rw (← c.self.view_is) (IsRetained-below g.E.SketchEntry.key _ _ _ c.retention_theta.ensures.sound.kept c.self.invariant.theta_low c.self.invariant.theta_within)
 
-pub returns-then-lg_k-lt-MIN_LG_K-clause-held : goal.returns-then-lg_k-lt-MIN_LG_K-clause-held
-returns-then-lg_k-lt-MIN_LG_K-clause-held g c = rw (← c.self.view_is) (IsRetained-below g.E.SketchEntry.key _ _ _ c.retention_theta.ensures.sound.kept c.self.invariant.theta_low c.self.invariant.theta_within)
+pub returns-then-lg_k-lt-MIN_LG_K-clause-content : goal.returns-then-lg_k-lt-MIN_LG_K-clause-content
+returns-then-lg_k-lt-MIN_LG_K-clause-content g c = rw (← c.self.view_is) (IsRetained-below g.E.SketchEntry.key _ _ _ c.retention_theta.ensures.sound.kept c.self.invariant.theta_low c.self.invariant.theta_within)
 
-pub returns-then-lg_k-own-2-clause-held : goal.returns-then-lg_k-own-2-clause-held
-returns-then-lg_k-own-2-clause-held g c = rw (← c.self.view_is) (IsRetained-below g.E.SketchEntry.key _ _ _ c.retention_theta.ensures.sound.kept c.self.invariant.theta_low c.self.invariant.theta_within)
+pub returns-then-lg_k-own-2-clause-content : goal.returns-then-lg_k-own-2-clause-content
+returns-then-lg_k-own-2-clause-content g c = rw (← c.self.view_is) (IsRetained-below g.E.SketchEntry.key _ _ _ c.retention_theta.ensures.sound.kept c.self.invariant.theta_low c.self.invariant.theta_within)
 
-pub returns-in_err-smaller-clause-held : goal.returns-in_err-smaller-clause-held
-returns-in_err-smaller-clause-held g c = rw (← c.self.view_is) (IsRetained-below g.E.SketchEntry.key _ _ _ c.retention_theta.ensures.sound.kept c.self.invariant.theta_low c.self.invariant.theta_within)
+pub returns-in_err-smaller-clause-content : goal.returns-in_err-smaller-clause-content
+returns-in_err-smaller-clause-content g c = rw (← c.self.view_is) (IsRetained-below g.E.SketchEntry.key _ _ _ c.retention_theta.ensures.sound.kept c.self.invariant.theta_low c.self.invariant.theta_within)
 
-pub returns-clause-held : goal.returns-clause-held
-returns-clause-held g c = rw (← c.self.view_is) (IsRetained-below g.E.SketchEntry.key _ _ _ c.retention_theta.ensures.sound.kept c.self.invariant.theta_low c.self.invariant.theta_within)
+pub returns-clause-content : goal.returns-clause-content
+returns-clause-content g c = rw (← c.self.view_is) (IsRetained-below g.E.SketchEntry.key _ _ _ c.retention_theta.ensures.sound.kept c.self.invariant.theta_low c.self.invariant.theta_within)

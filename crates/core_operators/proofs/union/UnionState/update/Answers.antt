@@ -11,20 +11,20 @@ use Rattle.core_operators.proofs.UnionValue.{united}
 use Rattle.core_laws.proofs.operators.UnionUpdates.{union-below}
 use Rattle.core_operators.proofs.union.UnionState.update.Goals as goal
 
-pub returns-then-self-clause-held : goal.returns-then-self-clause-held
-returns-then-self-clause-held g c = rw (← c.self.view_is) (IsRetained-below g.E.SketchEntry.key _ _ _ c.retention_theta.ensures.sound.kept c.self.invariant.theta_low c.self.invariant.theta_within)
+pub returns-then-self-clause-content : goal.returns-then-self-clause-content
+returns-then-self-clause-content g c = rw (← c.self.view_is) (IsRetained-below g.E.SketchEntry.key _ _ _ c.retention_theta.ensures.sound.kept c.self.invariant.theta_low c.self.invariant.theta_within)
 
-pub returns-then-seed_hash-clause-held : goal.returns-then-seed_hash-clause-held
-returns-then-seed_hash-clause-held g c = rw (← c.self.view_is) (IsRetained-below g.E.SketchEntry.key _ _ _ c.retention_theta.ensures.sound.kept c.self.invariant.theta_low c.self.invariant.theta_within)
+pub returns-then-seed_hash-clause-content : goal.returns-then-seed_hash-clause-content
+returns-then-seed_hash-clause-content g c = rw (← c.self.view_is) (IsRetained-below g.E.SketchEntry.key _ _ _ c.retention_theta.ensures.sound.kept c.self.invariant.theta_low c.self.invariant.theta_within)
 
-pub returns-in-Err-clause-held : goal.returns-in-Err-clause-held
-returns-in-Err-clause-held g c = rw (← c.self.view_is) (IsRetained-below g.E.SketchEntry.key _ _ _ c.retention_theta.ensures.sound.kept c.self.invariant.theta_low c.self.invariant.theta_within)
+pub returns-in-Err-clause-content : goal.returns-in-Err-clause-content
+returns-in-Err-clause-content g c = rw (← c.self.view_is) (IsRetained-below g.E.SketchEntry.key _ _ _ c.retention_theta.ensures.sound.kept c.self.invariant.theta_low c.self.invariant.theta_within)
 
-pub returns-in-Empty-clause-held : goal.returns-in-Empty-clause-held
-returns-in-Empty-clause-held g c = rw (← c.self.view_is) (IsRetained-below g.E.SketchEntry.key _ _ _ c.retention_theta.ensures.sound.kept c.self.invariant.theta_low c.self.invariant.theta_within)
+pub returns-in-Empty-clause-content : goal.returns-in-Empty-clause-content
+returns-in-Empty-clause-content g c = rw (← c.self.view_is) (IsRetained-below g.E.SketchEntry.key _ _ _ c.retention_theta.ensures.sound.kept c.self.invariant.theta_low c.self.invariant.theta_within)
 
-pub returns-in_default-clause-held : goal.returns-in_default-clause-held
-returns-in_default-clause-held g c = rw (← c.self.view_is) (IsRetained-below g.E.SketchEntry.key _ _ _ c.retention_theta.ensures.sound.kept c.self.invariant.theta_low c.self.invariant.theta_within)
+pub returns-in_default-clause-content : goal.returns-in_default-clause-content
+returns-in_default-clause-content g c = rw (← c.self.view_is) (IsRetained-below g.E.SketchEntry.key _ _ _ c.retention_theta.ensures.sound.kept c.self.invariant.theta_low c.self.invariant.theta_within)
 
 pub returns-in-Err-clause-refused : goal.returns-in-Err-clause-refused
 returns-in-Err-clause-refused g c =
@@ -32,7 +32,7 @@ returns-in-Err-clause-refused g c =
     let theta = c.self.inside.theta in
     let none : update_refusal c.args.self.now (g.S.KeySketch.shown c.args.sketch) ≡ None = search rules in
     let nonempty : (g.S.KeySketch.shown c.args.sketch).empty ≡ false = search rules in
-    let told = rw nonempty at c.in-NonEmpty.ensures.metadata in
+    let reported = rw nonempty at c.in-NonEmpty.ensures.metadata in
     let theta_is : c.in-NonEmpty.theta ≡ (g.S.KeySketch.shown c.args.sketch).theta = cc in
     let m_is : c.min-least.result ≡ min theta (g.S.KeySketch.shown c.args.sketch).theta = c.min-least.ensures ∙ ap (λ t. min theta t) theta_is in
     rw (none, ← c.self.view_is) (record {
@@ -58,7 +58,7 @@ returns-in_default-clause-joined g c nonempty =
     let nonzero : AllByRecursion (λ x. 0 < key x) listing = each-from_map key (λ h. 0 < h) _ (rw listed c.metadata.ensures.is_sound.nonzero) in
     let made = c.merge_entries-merged.ensures.made_with in
     let within = union-below key merges refuses keeps k c.min-least.result theta c.self.inside.table.map.kept now listing c.retention_theta.ensures.sound.kept (omega (arith, c.min-least.ensures)) c.self.invariant.theta_within nonzero c.in_default.ensures.after in
-    let told = rw nonempty at c.in-NonEmpty.ensures.metadata in
+    let reported = rw nonempty at c.in-NonEmpty.ensures.metadata in
     let theta_is : c.in-NonEmpty.theta ≡ (g.S.KeySketch.shown c.args.sketch).theta = cc in
     let m_is : c.min-least.result ≡ min theta (g.S.KeySketch.shown c.args.sketch).theta = c.min-least.ensures ∙ ap (λ t. min theta t) theta_is in
     let now_is : c.min-self-inside.result ≡ min c.min-least.result now.theta = c.min-self-inside.ensures ∙ ap (λ t. min c.min-least.result t) c.retention_theta-in-NonEmpty.ensures.theta in
@@ -76,8 +76,8 @@ returns-in_default-clause-united g c nonempty =
     let keeps = g.met.P.UnionMergePolicy.keeps_hash c.self.inside.policy in
     let listed : map key listing ≡ (g.S.KeySketch.shown c.args.sketch).hashes = c.merge_entries-merged.ensures.listed in
     let apart : IsApart key listing = apart-distinct key listing (rw listed c.metadata.ensures.is_sound.distinct) in
-    let old : Union g.row.E.Denot g.row.P.Denot = record { empty = c.self.inside.empty; failed = c.self.inside.failed; held = retained key c.self.inside.table.map.kept.entries c.self.inside.theta; lg_k = c.self.inside.table.map.lg_nom; start = c.self.inside.table.map.start; seed_hash = c.self.inside.table.map.seed_hash; policy = c.self.inside.policy } in
-    let new : Union g.row.E.Denot g.row.P.Denot = record { empty = false; failed = c.self.inside.failed; held = retained key c.merge_entries-merged.new.table.map.kept.entries c.min-self-inside.result; lg_k = c.merge_entries-merged.new.table.map.lg_nom; start = c.merge_entries-merged.new.table.map.start; seed_hash = c.merge_entries-merged.new.table.map.seed_hash; policy = c.self.inside.policy } in
+    let old : Union g.row.E.Denot g.row.P.Denot = record { empty = c.self.inside.empty; failed = c.self.inside.failed; content = retained key c.self.inside.table.map.kept.entries c.self.inside.theta; lg_k = c.self.inside.table.map.lg_nom; start = c.self.inside.table.map.start; seed_hash = c.self.inside.table.map.seed_hash; policy = c.self.inside.policy } in
+    let new : Union g.row.E.Denot g.row.P.Denot = record { empty = false; failed = c.self.inside.failed; content = retained key c.merge_entries-merged.new.table.map.kept.entries c.min-self-inside.result; lg_k = c.merge_entries-merged.new.table.map.lg_nom; start = c.merge_entries-merged.new.table.map.start; seed_hash = c.merge_entries-merged.new.table.map.seed_hash; policy = c.self.inside.policy } in
     let join : IsJoined key merges refuses old new (g.S.KeySketch.shown c.args.sketch).theta listing = rw (← c.self.view_is) at (returns-in_default-clause-joined g c nonempty) in
     let ok : c.self.inside.failed ≡ false = c.if-self.false in
     rw (nonempty, ← c.self.view_is) (united key merges refuses keeps old new (g.S.KeySketch.shown c.args.sketch).theta listing c.self.invariant.union ok (ascending-filter key _ c.self.inside.table.map.kept.entries c.retention_theta.ensures.sound.kept.ascending) apart join)

@@ -2,8 +2,8 @@ use Rattle.std.proofs.Common.{rules, ◌≡◌, ◌∷◌, ◌++◌, [], None, O
 use Rattle.std.proofs.Math.Seq.{take-nil}
 use Rattle.std.proofs.lemmas.Fn.{chained_keeps}
 use Rattle.std.proofs.lemmas.List.{map-append}
-use Rattle.core_slots.specs.Layout.{filled}
-use Rattle.core_slots.proofs.Layouts.{filled-append}
+use Rattle.core_slots.specs.SlotLayout.{filled}
+use Rattle.core_slots.proofs.SlotLayouts.{filled-append}
 use Rattle.core_slots.proofs.entry.TupleEntryPathEntry.free_slots.Goals as goal
 
 -- one more slot, without an entry

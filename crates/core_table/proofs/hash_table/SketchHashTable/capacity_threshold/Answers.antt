@@ -9,8 +9,8 @@ returns-clause-threshold g c = rw (← c.self.view_is) (λ has. rw has at c.self
 pub returns-clause-none : goal.returns-clause-none
 returns-clause-none g c = rw (← c.self.view_is) (λ lacks. rw lacks at c.self.invariant.bounded)
 
-pub returns-clause-few : goal.returns-clause-few
-returns-clause-few g c = rw (← c.self.view_is) (λ has. omega (arith, slotted_count g.E.SketchEntry.key _ _ _ _ _ c.self.invariant.slotted, (c.self.invariant.slotted.sized has).few))
+pub returns-clause-limited : goal.returns-clause-limited
+returns-clause-limited g c = rw (← c.self.view_is) (λ has. omega (arith, slotted_count g.E.SketchEntry.key _ _ _ _ _ c.self.invariant.slotted, (c.self.invariant.slotted.sized has).limited))
 
 pub returns-clause-rebuilds : goal.returns-clause-rebuilds
 returns-clause-rebuilds g c = rw (← c.self.view_is) (rebuilds_few _ _ _ _ c.self.invariant.counted)

@@ -1,13 +1,14 @@
-use Rattle.std.proofs.Common.{◌≡◌, ◌≤◌, ◌<◌, ◌^◌, ℕ, true, false, List, map, length, refl, ap, sym, ◌∙◌, arith}
+use Rattle.std.proofs.Common.{◌≡◌, ◌≤◌, ◌<◌, ◌^◌, ℕ, true, List, map, length, refl, ap, sym, ◌∙◌, arith}
 use Rattle.std.proofs.Math.Pow.{pow_mono}
 use Rattle.std.specs.List.{AllByRecursion}
 use Rattle.sketch_base.specs.Seed.{seed_hash}
-use Rattle.core_laws.specs.declared.TheConstants.{MIN_LG_K, MAX_LG_K}
+use Rattle.core_laws.specs.declared.TheConstants.{MAX_LG_K}
 use Rattle.core_laws.specs.Maps.{map_of, below, IsApart}
 use Rattle.core_laws.specs.Cuts.{Retained, cut, retained, IsRetained}
-use Rattle.core_slots.specs.Layout.{filled}
+use Rattle.core_slots.specs.SlotLayout.{filled}
 use Rattle.core_table.specs.HashTable.{MapTable, IsTable, empty_table}
-use Rattle.core_table.proofs.Slotted.{slotted_lends}
+use Rattle.core_table.proofs.FilledTables.{has_slots}
+use Rattle.core_table.proofs.Slotted.{slotted_sequence}
 use Rattle.core_table.proofs.ListedBelow.{MakeCut, makes_cut}
 use Rattle.core_table.proofs.hash_table.SketchHashTable.to_smaller_table.Goals as goal
 
@@ -17,13 +18,8 @@ fits_smaller key xs each lg_k k own theta lesser kept low high small power is_cu
     let most : 2 ^ lg_k ≤ 2 ^ 26 = pow_mono {i = lg_k} {j = 26} small in
     makes_cut key xs each k own theta lesser kept low high (omega (arith, most, power)) is_cut
 
--- a table of a sketch has slots
-has_slots : (b : _) (lg : ℕ) → (b ≡ false → lg ≡ 0) → MIN_LG_K ≤ lg → b ≡ true
-has_slots true lg without low = refl
-has_slots false lg without low = absurd (omega (arith, without refl, low))
-
 pub cut_theta-requires-clause-apart : goal.cut_theta-requires-clause-apart
-cut_theta-requires-clause-apart g c = rw c.deref.ensures.value (slotted_lends g.E.SketchEntry.key _ _ _ _ _ c.self.invariant.slotted).apart
+cut_theta-requires-clause-apart g c = rw c.deref.ensures.value (slotted_sequence g.E.SketchEntry.key _ _ _ _ _ c.self.invariant.slotted).apart
 
 pub cut_theta-requires-clause-nonzero : goal.cut_theta-requires-clause-nonzero
 cut_theta-requires-clause-nonzero g c = rw c.deref.ensures.value c.self.invariant.slotted.table.kept.nonzero
@@ -31,45 +27,45 @@ cut_theta-requires-clause-nonzero g c = rw c.deref.ensures.value c.self.invarian
 pub filled-requires-clause-apart : goal.filled-requires-clause-apart
 filled-requires-clause-apart g c =
     let key = g.E.SketchEntry.key in
-    let xs = filled (map g.E.PathEntry.held c.self.inside.slots.items) in
+    let xs = filled (map g.E.PathEntry.content c.self.inside.slots.items) in
     let lesser : ℕ = c.in_ok-lesser.lesser in
-    let fit = fits_smaller key xs (slotted_lends key _ _ _ _ _ c.self.invariant.slotted).apart c.args.lg_nom_size c.nominal_size-fewer.result c.self.inside.theta c.args.theta lesser c.self.invariant.slotted.table.kept c.in_ok-lesser.ensures.low (omega (arith, c.in_ok-lesser.ensures.high, rw (← c.self.view_is) at c.requires.high)) c.requires.small c.nominal_size-fewer.ensures.power (rw c.deref.ensures.value at c.in_ok-lesser.ensures.cut) in
+    let fit = fits_smaller key xs (slotted_sequence key _ _ _ _ _ c.self.invariant.slotted).apart c.args.lg_nom_size c.nominal_size-fewer.result c.self.inside.theta c.args.theta lesser c.self.invariant.slotted.table.kept c.in_ok-lesser.ensures.low (omega (arith, c.in_ok-lesser.ensures.high, rw (← c.self.view_is) at c.requires.high)) c.requires.small c.nominal_size-fewer.ensures.power (rw c.deref.ensures.value at c.in_ok-lesser.ensures.cut) in
     let listed : c.in_ok-kept.kept.items ≡ below key xs lesser = rw c.deref-2.ensures.value at c.in_ok-kept.ensures.listed in
     rw listed fit.apart
 
 pub filled-requires-clause-nonzero : goal.filled-requires-clause-nonzero
 filled-requires-clause-nonzero g c =
     let key = g.E.SketchEntry.key in
-    let xs = filled (map g.E.PathEntry.held c.self.inside.slots.items) in
+    let xs = filled (map g.E.PathEntry.content c.self.inside.slots.items) in
     let lesser : ℕ = c.in_ok-lesser.lesser in
-    let fit = fits_smaller key xs (slotted_lends key _ _ _ _ _ c.self.invariant.slotted).apart c.args.lg_nom_size c.nominal_size-fewer.result c.self.inside.theta c.args.theta lesser c.self.invariant.slotted.table.kept c.in_ok-lesser.ensures.low (omega (arith, c.in_ok-lesser.ensures.high, rw (← c.self.view_is) at c.requires.high)) c.requires.small c.nominal_size-fewer.ensures.power (rw c.deref.ensures.value at c.in_ok-lesser.ensures.cut) in
+    let fit = fits_smaller key xs (slotted_sequence key _ _ _ _ _ c.self.invariant.slotted).apart c.args.lg_nom_size c.nominal_size-fewer.result c.self.inside.theta c.args.theta lesser c.self.invariant.slotted.table.kept c.in_ok-lesser.ensures.low (omega (arith, c.in_ok-lesser.ensures.high, rw (← c.self.view_is) at c.requires.high)) c.requires.small c.nominal_size-fewer.ensures.power (rw c.deref.ensures.value at c.in_ok-lesser.ensures.cut) in
     let listed : c.in_ok-kept.kept.items ≡ below key xs lesser = rw c.deref-2.ensures.value at c.in_ok-kept.ensures.listed in
     rw listed fit.nonzero
 
 pub filled-requires-clause-below_theta : goal.filled-requires-clause-below_theta
 filled-requires-clause-below_theta g c =
     let key = g.E.SketchEntry.key in
-    let xs = filled (map g.E.PathEntry.held c.self.inside.slots.items) in
+    let xs = filled (map g.E.PathEntry.content c.self.inside.slots.items) in
     let lesser : ℕ = c.in_ok-lesser.lesser in
-    let fit = fits_smaller key xs (slotted_lends key _ _ _ _ _ c.self.invariant.slotted).apart c.args.lg_nom_size c.nominal_size-fewer.result c.self.inside.theta c.args.theta lesser c.self.invariant.slotted.table.kept c.in_ok-lesser.ensures.low (omega (arith, c.in_ok-lesser.ensures.high, rw (← c.self.view_is) at c.requires.high)) c.requires.small c.nominal_size-fewer.ensures.power (rw c.deref.ensures.value at c.in_ok-lesser.ensures.cut) in
+    let fit = fits_smaller key xs (slotted_sequence key _ _ _ _ _ c.self.invariant.slotted).apart c.args.lg_nom_size c.nominal_size-fewer.result c.self.inside.theta c.args.theta lesser c.self.invariant.slotted.table.kept c.in_ok-lesser.ensures.low (omega (arith, c.in_ok-lesser.ensures.high, rw (← c.self.view_is) at c.requires.high)) c.requires.small c.nominal_size-fewer.ensures.power (rw c.deref.ensures.value at c.in_ok-lesser.ensures.cut) in
     let listed : c.in_ok-kept.kept.items ≡ below key xs lesser = rw c.deref-2.ensures.value at c.in_ok-kept.ensures.listed in
     rw (c.set_retention_theta.ensures.after, listed) fit.below_theta
 
-pub filled-requires-clause-few : goal.filled-requires-clause-few
-filled-requires-clause-few g c =
+pub filled-requires-clause-limited : goal.filled-requires-clause-limited
+filled-requires-clause-limited g c =
     let key = g.E.SketchEntry.key in
-    let xs = filled (map g.E.PathEntry.held c.self.inside.slots.items) in
+    let xs = filled (map g.E.PathEntry.content c.self.inside.slots.items) in
     let lesser : ℕ = c.in_ok-lesser.lesser in
-    let fit = fits_smaller key xs (slotted_lends key _ _ _ _ _ c.self.invariant.slotted).apart c.args.lg_nom_size c.nominal_size-fewer.result c.self.inside.theta c.args.theta lesser c.self.invariant.slotted.table.kept c.in_ok-lesser.ensures.low (omega (arith, c.in_ok-lesser.ensures.high, rw (← c.self.view_is) at c.requires.high)) c.requires.small c.nominal_size-fewer.ensures.power (rw c.deref.ensures.value at c.in_ok-lesser.ensures.cut) in
+    let fit = fits_smaller key xs (slotted_sequence key _ _ _ _ _ c.self.invariant.slotted).apart c.args.lg_nom_size c.nominal_size-fewer.result c.self.inside.theta c.args.theta lesser c.self.invariant.slotted.table.kept c.in_ok-lesser.ensures.low (omega (arith, c.in_ok-lesser.ensures.high, rw (← c.self.view_is) at c.requires.high)) c.requires.small c.nominal_size-fewer.ensures.power (rw c.deref.ensures.value at c.in_ok-lesser.ensures.cut) in
     let listed : c.in_ok-kept.kept.items ≡ below key xs lesser = rw c.deref-2.ensures.value at c.in_ok-kept.ensures.listed in
-    rw (c.set_retention_theta.ensures.after, c.in_ok-smaller.ensures.made, listed, ← c.nominal_size-fewer.ensures.power) fit.few
+    rw (c.set_retention_theta.ensures.after, c.in_ok-smaller.ensures.made, listed, ← c.nominal_size-fewer.ensures.power) (omega (arith, fit.limited))
 
 pub returns-clause-made : goal.returns-clause-made
 returns-clause-made g c =
     let key = g.E.SketchEntry.key in
-    let xs = filled (map g.E.PathEntry.held c.self.inside.slots.items) in
+    let xs = filled (map g.E.PathEntry.content c.self.inside.slots.items) in
     let lesser : ℕ = c.in_ok-lesser.lesser in
-    let fit = fits_smaller key xs (slotted_lends key _ _ _ _ _ c.self.invariant.slotted).apart c.args.lg_nom_size c.nominal_size-fewer.result c.self.inside.theta c.args.theta lesser c.self.invariant.slotted.table.kept c.in_ok-lesser.ensures.low (omega (arith, c.in_ok-lesser.ensures.high, rw (← c.self.view_is) at c.requires.high)) c.requires.small c.nominal_size-fewer.ensures.power (rw c.deref.ensures.value at c.in_ok-lesser.ensures.cut) in
+    let fit = fits_smaller key xs (slotted_sequence key _ _ _ _ _ c.self.invariant.slotted).apart c.args.lg_nom_size c.nominal_size-fewer.result c.self.inside.theta c.args.theta lesser c.self.invariant.slotted.table.kept c.in_ok-lesser.ensures.low (omega (arith, c.in_ok-lesser.ensures.high, rw (← c.self.view_is) at c.requires.high)) c.requires.small c.nominal_size-fewer.ensures.power (rw c.deref.ensures.value at c.in_ok-lesser.ensures.cut) in
     let listed : c.in_ok-kept.kept.items ≡ below key xs lesser = rw c.deref-2.ensures.value at c.in_ok-kept.ensures.listed in
     let T = MapTable g.row.E.Denot in
     let own = c.self.inside in

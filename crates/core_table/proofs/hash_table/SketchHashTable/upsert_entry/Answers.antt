@@ -3,11 +3,11 @@ use Rattle.std.specs.Prelude.{is_some}
 use Rattle.std.proofs.lemmas.List.{places}
 use Rattle.std.proofs.lemmas.Result.{err_from_is_err_and}
 use Rattle.core_laws.specs.Maps.{map_of}
-use Rattle.core_slots.specs.Layout.{filled}
+use Rattle.core_slots.specs.SlotLayout.{filled}
 use Rattle.core_laws.specs.Insertion.{is_screened}
 use Rattle.core_table.specs.HashTable.{threshold}
 use Rattle.core_table.proofs.Counting.{counted_looks, counted_ticked, ticked_seldom, ticked_looks}
-use Rattle.core_slots.proofs.Held.{length-held}
+use Rattle.core_slots.proofs.Held.{length-content}
 use Rattle.core_table.proofs.Slotted.{slotted_next, slotted_count, filled_over, written_joins, written_laid_out, key_found}
 use Rattle.core_laws.proofs.insertions.Cases.{or_left, or_right, IsRetained-with_entry, IsRetained-rebuilt, screened_case, is_screened_true}
 use Rattle.core_table.proofs.Upserts.{at_entry, at_free}
@@ -18,52 +18,52 @@ pub returns-then-hash-self-clause-ok : goal.returns-then-hash-self-clause-ok
 returns-then-hash-self-clause-ok g c =
     let s : is_screened c.args.hash c.self.inside.theta ≡ true =
     is_screened_true _ _ (elim c.then-hash-self.branch [ then-hash-self-via-then-hash-self w ↦ inr w.if-hash-self.true | then-hash-self-via-else-hash-self+then-hash-eq0 w ↦ inl w.if-hash-eq0.true ]) in
-    let case = screened_case g.E.SketchEntry.key (2 ^ c.self.inside.lg_nom_size) c.args.hash (g.S.UpsertStep.means c.args.step) (record { entries = map_of g.E.SketchEntry.key (filled (map g.E.PathEntry.held c.self.inside.slots.items)); theta = c.self.inside.theta }) s in
+    let case = screened_case g.E.SketchEntry.key (2 ^ c.self.inside.lg_nom_size) c.args.hash (g.S.UpsertStep.means c.args.step) (record { entries = map_of g.E.SketchEntry.key (filled (map g.E.PathEntry.content c.self.inside.slots.items)); theta = c.self.inside.theta }) s in
     rw (← c.self.view_is) (sym case.creates_is)
 
 pub returns-then-hash-self-clause-after : goal.returns-then-hash-self-clause-after
 returns-then-hash-self-clause-after g c =
     let s : is_screened c.args.hash c.self.inside.theta ≡ true =
     is_screened_true _ _ (elim c.then-hash-self.branch [ then-hash-self-via-then-hash-self w ↦ inr w.if-hash-self.true | then-hash-self-via-else-hash-self+then-hash-eq0 w ↦ inl w.if-hash-eq0.true ]) in
-    let case = screened_case g.E.SketchEntry.key (2 ^ c.self.inside.lg_nom_size) c.args.hash (g.S.UpsertStep.means c.args.step) (record { entries = map_of g.E.SketchEntry.key (filled (map g.E.PathEntry.held c.self.inside.slots.items)); theta = c.self.inside.theta }) s in
+    let case = screened_case g.E.SketchEntry.key (2 ^ c.self.inside.lg_nom_size) c.args.hash (g.S.UpsertStep.means c.args.step) (record { entries = map_of g.E.SketchEntry.key (filled (map g.E.PathEntry.content c.self.inside.slots.items)); theta = c.self.inside.theta }) s in
     rw (← c.self.view_is) (rw case.after_is refl)
 
 pub returns-then-hash-self-clause-refused : goal.returns-then-hash-self-clause-refused
 returns-then-hash-self-clause-refused g c =
     let s : is_screened c.args.hash c.self.inside.theta ≡ true =
     is_screened_true _ _ (elim c.then-hash-self.branch [ then-hash-self-via-then-hash-self w ↦ inr w.if-hash-self.true | then-hash-self-via-else-hash-self+then-hash-eq0 w ↦ inl w.if-hash-eq0.true ]) in
-    let case = screened_case g.E.SketchEntry.key (2 ^ c.self.inside.lg_nom_size) c.args.hash (g.S.UpsertStep.means c.args.step) (record { entries = map_of g.E.SketchEntry.key (filled (map g.E.PathEntry.held c.self.inside.slots.items)); theta = c.self.inside.theta }) s in
+    let case = screened_case g.E.SketchEntry.key (2 ^ c.self.inside.lg_nom_size) c.args.hash (g.S.UpsertStep.means c.args.step) (record { entries = map_of g.E.SketchEntry.key (filled (map g.E.PathEntry.content c.self.inside.slots.items)); theta = c.self.inside.theta }) s in
     rw (← c.self.view_is) case.refusal_is
 
 pub returns-in_err-write_at-clause-refused : goal.returns-in_err-write_at-clause-refused
 returns-in_err-write_at-clause-refused g c =
     let key = g.E.SketchEntry.key in
-    let slots = map g.E.PathEntry.held c.self.inside.slots.items in
+    let slots = map g.E.PathEntry.content c.self.inside.slots.items in
     let found = rw c.deref.ensures.value at c.seek-place.ensures in
     let it = at_entry key _ c.self.inside.lg_cur_size _ c.self.inside.count c.args.hash c.seek-place.result.at slots (g.S.UpsertStep.means c.args.step) _ c.self.invariant.slotted refl c.if-hash-eq0.false c.if-hash-self.false (rw (← c.self.view_is) at c.requires.room) found.on_path found.ends found.is_free c.if-not-place.true in
     let p = err_from_is_err_and c.from_residual.result c.from_residual.ensures.1 in
-    rw (p.1, p.2, ← c.self.view_is, it.case.refusal_is, it.case.allocates_is) ((rw c.deref_mut.ensures.value at c.in_err-write_at.ensures.refused) it.entry it.held)
+    rw (p.1, p.2, ← c.self.view_is, it.case.refusal_is, it.case.allocates_is) ((rw c.deref_mut.ensures.value at c.in_err-write_at.ensures.refused) it.entry it.content)
 
 pub invariant_of-self-then-not-place : goal.invariant_of-self-then-not-place
 invariant_of-self-then-not-place g c =
     let key = g.E.SketchEntry.key in
-    let slots = map g.E.PathEntry.held c.self.inside.slots.items in
+    let slots = map g.E.PathEntry.content c.self.inside.slots.items in
     let at : ℕ = c.seek-place.result.at in
     let step = g.S.UpsertStep.means c.args.step in
     let found = rw c.deref.ensures.value at c.seek-place.ensures in
     let it = at_entry key _ c.self.inside.lg_cur_size _ c.self.inside.count c.args.hash at slots step _ c.self.invariant.slotted refl c.if-hash-eq0.false c.if-hash-self.false (rw (← c.self.view_is) at c.requires.room) found.on_path found.ends found.is_free c.if-not-place.true in
     let whole : take c.self.inside.slots.len (c.write_at.new.slots ++ drop (length c.write_at.new.slots) c.self.inside.slots.items) ≡ c.write_at.new.slots = search (rules, places) in
-    let new = map g.E.PathEntry.held c.write_at.new.slots in
-    let wrote : new ≡ set slots at (Some (step.writes it.entry)) = (rw c.deref_mut.ensures.value at c.in_ok-write_at.ensures.ok) it.entry it.held in
-    let inside : at < length slots = omega (arith, found.inside, length-held g.E.PathEntry.held c.self.inside.slots.items) in
-    let keeps = c.requires.keeps_hash it.entry (key_found key c.self.inside.lg_cur_size c.args.hash at it.entry slots it.held found.ends) in
+    let new = map g.E.PathEntry.content c.write_at.new.slots in
+    let wrote : new ≡ set slots at (Some (step.writes it.entry)) = (rw c.deref_mut.ensures.value at c.in_ok-write_at.ensures.ok) it.entry it.content in
+    let inside : at < length slots = omega (arith, found.inside, length-content g.E.PathEntry.content c.self.inside.slots.items) in
+    let keeps = c.requires.keeps_hash it.entry (key_found key c.self.inside.lg_cur_size c.args.hash at it.entry slots it.content found.ends) in
     let joins = written_joins key c.self.inside.lg_cur_size c.args.hash at it.entry (step.writes it.entry) slots it.laid inside found.on_path found.ends keeps in
     let retained = IsRetained-with_entry key (map_of key (filled slots)) c.self.inside.theta (step.writes it.entry) c.self.invariant.slotted.table.kept (omega (arith, keeps, c.if-hash-eq0.false)) (omega (arith, keeps, c.if-hash-self.false)) in
     rw (whole, wrote)
     (record {
       slotted = slotted_next key _ c.self.inside.lg_cur_size _ c.self.inside.count c.self.inside.lg_cur_size c.self.inside.count c.self.inside.theta slots (set slots at (Some (step.writes it.entry))) c.self.invariant.slotted it.has (rw joins retained)
           (written_laid_out key c.self.inside.lg_cur_size c.args.hash at it.entry (step.writes it.entry) slots it.laid inside found.on_path found.ends keeps)
-          (c.self.invariant.slotted.counted ∙ sym (filled_over key slots at (step.writes it.entry) it.entry it.held)) (c.self.invariant.slotted.sized it.has);
+          (c.self.invariant.slotted.counted ∙ sym (filled_over key slots at (step.writes it.entry) it.entry it.content)) (c.self.invariant.slotted.sized it.has);
       bounded = c.self.invariant.bounded;
       counted = counted_looks _ _ _ _ c.self.invariant.counted c.seek-place.new.looks;
     })
@@ -71,7 +71,7 @@ invariant_of-self-then-not-place g c =
 pub returns-then-not-place-clause-ok : goal.returns-then-not-place-clause-ok
 returns-then-not-place-clause-ok g c =
     let key = g.E.SketchEntry.key in
-    let slots = map g.E.PathEntry.held c.self.inside.slots.items in
+    let slots = map g.E.PathEntry.content c.self.inside.slots.items in
     let found = rw c.deref.ensures.value at c.seek-place.ensures in
     let it = at_entry key _ c.self.inside.lg_cur_size _ c.self.inside.count c.args.hash c.seek-place.result.at slots (g.S.UpsertStep.means c.args.step) _ c.self.invariant.slotted refl c.if-hash-eq0.false c.if-hash-self.false (rw (← c.self.view_is) at c.requires.room) found.on_path found.ends found.is_free c.if-not-place.true in
     rw (← c.self.view_is) (sym it.case.creates_is)
@@ -79,31 +79,31 @@ returns-then-not-place-clause-ok g c =
 pub returns-then-not-place-clause-after : goal.returns-then-not-place-clause-after
 returns-then-not-place-clause-after g c =
     let key = g.E.SketchEntry.key in
-    let slots = map g.E.PathEntry.held c.self.inside.slots.items in
+    let slots = map g.E.PathEntry.content c.self.inside.slots.items in
     let at : ℕ = c.seek-place.result.at in
     let step = g.S.UpsertStep.means c.args.step in
     let found = rw c.deref.ensures.value at c.seek-place.ensures in
     let it = at_entry key _ c.self.inside.lg_cur_size _ c.self.inside.count c.args.hash at slots step _ c.self.invariant.slotted refl c.if-hash-eq0.false c.if-hash-self.false (rw (← c.self.view_is) at c.requires.room) found.on_path found.ends found.is_free c.if-not-place.true in
     let whole : take c.self.inside.slots.len (c.write_at.new.slots ++ drop (length c.write_at.new.slots) c.self.inside.slots.items) ≡ c.write_at.new.slots = search (rules, places) in
-    let new = map g.E.PathEntry.held c.write_at.new.slots in
-    let wrote : new ≡ set slots at (Some (step.writes it.entry)) = (rw c.deref_mut.ensures.value at c.in_ok-write_at.ensures.ok) it.entry it.held in
-    let inside : at < length slots = omega (arith, found.inside, length-held g.E.PathEntry.held c.self.inside.slots.items) in
-    let keeps = c.requires.keeps_hash it.entry (key_found key c.self.inside.lg_cur_size c.args.hash at it.entry slots it.held found.ends) in
+    let new = map g.E.PathEntry.content c.write_at.new.slots in
+    let wrote : new ≡ set slots at (Some (step.writes it.entry)) = (rw c.deref_mut.ensures.value at c.in_ok-write_at.ensures.ok) it.entry it.content in
+    let inside : at < length slots = omega (arith, found.inside, length-content g.E.PathEntry.content c.self.inside.slots.items) in
+    let keeps = c.requires.keeps_hash it.entry (key_found key c.self.inside.lg_cur_size c.args.hash at it.entry slots it.content found.ends) in
     let joins = written_joins key c.self.inside.lg_cur_size c.args.hash at it.entry (step.writes it.entry) slots it.laid inside found.on_path found.ends keeps in
     rw (← c.self.view_is, it.case.after_is, whole, wrote, joins) refl
 
 pub returns-then-not-place-clause-refused : goal.returns-then-not-place-clause-refused
 returns-then-not-place-clause-refused g c =
     let key = g.E.SketchEntry.key in
-    let slots = map g.E.PathEntry.held c.self.inside.slots.items in
+    let slots = map g.E.PathEntry.content c.self.inside.slots.items in
     let found = rw c.deref.ensures.value at c.seek-place.ensures in
     let it = at_entry key _ c.self.inside.lg_cur_size _ c.self.inside.count c.args.hash c.seek-place.result.at slots (g.S.UpsertStep.means c.args.step) _ c.self.invariant.slotted refl c.if-hash-eq0.false c.if-hash-self.false (rw (← c.self.view_is) at c.requires.room) found.on_path found.ends found.is_free c.if-not-place.true in
-    rw (← c.self.view_is) (it.case.refusal_is ∙ (rw c.deref_mut.ensures.value at c.in_ok-write_at.ensures.refused) it.entry it.held)
+    rw (← c.self.view_is) (it.case.refusal_is ∙ (rw c.deref_mut.ensures.value at c.in_ok-write_at.ensures.refused) it.entry it.content)
 
 pub returns-in_err-absent-clause-refused : goal.returns-in_err-absent-clause-refused
 returns-in_err-absent-clause-refused g c =
     let key = g.E.SketchEntry.key in
-    let slots = map g.E.PathEntry.held c.self.inside.slots.items in
+    let slots = map g.E.PathEntry.content c.self.inside.slots.items in
     let found = rw c.deref.ensures.value at c.seek-place.ensures in
     let it = at_free key _ c.self.inside.lg_cur_size _ c.self.inside.count c.args.hash c.seek-place.result.at slots (g.S.UpsertStep.means c.args.step) _ c.self.invariant.slotted refl c.if-hash-eq0.false c.if-hash-self.false (rw (← c.self.view_is) at c.requires.room) found.on_path found.ends found.is_free c.if-not-place.false in
     let p = err_from_is_err_and c.from_residual-in_err-absent.result c.from_residual-in_err-absent.ensures.1 in
@@ -112,7 +112,7 @@ returns-in_err-absent-clause-refused g c =
 pub put_entry-requires-clause-place : goal.put_entry-requires-clause-place
 put_entry-requires-clause-place g c =
     let key = g.E.SketchEntry.key in
-    let slots = map g.E.PathEntry.held c.self.inside.slots.items in
+    let slots = map g.E.PathEntry.content c.self.inside.slots.items in
     let found = rw c.deref.ensures.value at c.seek-place.ensures in
     let it = at_free key _ c.self.inside.lg_cur_size _ c.self.inside.count c.args.hash c.seek-place.result.at slots (g.S.UpsertStep.means c.args.step) _ c.self.invariant.slotted refl c.if-hash-eq0.false c.if-hash-self.false (rw (← c.self.view_is) at c.requires.room) found.on_path found.ends found.is_free c.if-not-place.false in
     let made = sym c.in_ok-absent.ensures.made ∙ c.in-Some.is in
@@ -132,7 +132,7 @@ put_entry-requires-clause-place g c =
 pub put_entry-requires-clause-room : goal.put_entry-requires-clause-room
 put_entry-requires-clause-room g c =
     let key = g.E.SketchEntry.key in
-    let slots = map g.E.PathEntry.held c.self.inside.slots.items in
+    let slots = map g.E.PathEntry.content c.self.inside.slots.items in
     let found = rw c.deref.ensures.value at c.seek-place.ensures in
     let it = at_free key _ c.self.inside.lg_cur_size _ c.self.inside.count c.args.hash c.seek-place.result.at slots (g.S.UpsertStep.means c.args.step) _ c.self.invariant.slotted refl c.if-hash-eq0.false c.if-hash-self.false (rw (← c.self.view_is) at c.requires.room) found.on_path found.ends found.is_free c.if-not-place.false in
     it.fits
@@ -140,7 +140,7 @@ put_entry-requires-clause-room g c =
 pub returns-in_err-settled-in-Some-clause-refused : goal.returns-in_err-settled-in-Some-clause-refused
 returns-in_err-settled-in-Some-clause-refused g c =
     let key = g.E.SketchEntry.key in
-    let slots = map g.E.PathEntry.held c.self.inside.slots.items in
+    let slots = map g.E.PathEntry.content c.self.inside.slots.items in
     let found = rw c.deref.ensures.value at c.seek-place.ensures in
     let it = at_free key _ c.self.inside.lg_cur_size _ c.self.inside.count c.args.hash c.seek-place.result.at slots (g.S.UpsertStep.means c.args.step) _ c.self.invariant.slotted refl c.if-hash-eq0.false c.if-hash-self.false (rw (← c.self.view_is) at c.requires.room) found.on_path found.ends found.is_free c.if-not-place.false in
     let p = err_from_is_err_and c.from_residual-in_err-settled-in-Some.result c.from_residual-in_err-settled-in-Some.ensures.1 in
@@ -150,7 +150,7 @@ returns-in_err-settled-in-Some-clause-refused g c =
 pub invariant_of-self-in-Some : goal.invariant_of-self-in-Some
 invariant_of-self-in-Some g c =
     let key = g.E.SketchEntry.key in
-    let slots = map g.E.PathEntry.held c.self.inside.slots.items in
+    let slots = map g.E.PathEntry.content c.self.inside.slots.items in
     let found = rw c.deref.ensures.value at c.seek-place.ensures in
     let it = at_free key _ c.self.inside.lg_cur_size _ c.self.inside.count c.args.hash c.seek-place.result.at slots (g.S.UpsertStep.means c.args.step) _ c.self.invariant.slotted refl c.if-hash-eq0.false c.if-hash-self.false (rw (← c.self.view_is) at c.requires.room) found.on_path found.ends found.is_free c.if-not-place.false in
     let made = sym c.in_ok-absent.ensures.made ∙ c.in-Some.is in
@@ -165,7 +165,7 @@ invariant_of-self-in-Some g c =
     let was = counted_looks lg nom count c.self.inside.counts c.self.invariant.counted c.seek-place.new.looks in
     let is = counted_ticked lg nom grow count (record c.self.inside.counts { looks = c.seek-place.new.looks }) sized it.fits was in
     record {
-      slotted = slotted_next key _ c.self.inside.lg_cur_size _ c.self.inside.count c.in_ok-settled-in-Some.settled.lg_cur c.in_ok-settled-in-Some.settled.count c.in_ok-settled-in-Some.settled.theta slots (map g.E.PathEntry.held c.put_entry.new.slots.items) c.self.invariant.slotted it.has (rw put.after retained)
+      slotted = slotted_next key _ c.self.inside.lg_cur_size _ c.self.inside.count c.in_ok-settled-in-Some.settled.lg_cur c.in_ok-settled-in-Some.settled.count c.in_ok-settled-in-Some.settled.theta slots (map g.E.PathEntry.content c.put_entry.new.slots.items) c.self.invariant.slotted it.has (rw put.after retained)
           put.laid_out put.counted (rw c.lg_value.ensures at put.sized);
       bounded = rw it.has put.most;
       counted = rw (put.size, put.count, put.ticked) (counted_looks _ _ _ _ is c.put_entry.new.counts.looks);
@@ -174,7 +174,7 @@ invariant_of-self-in-Some g c =
 pub returns-in-None-clause-ok : goal.returns-in-None-clause-ok
 returns-in-None-clause-ok g c =
     let key = g.E.SketchEntry.key in
-    let slots = map g.E.PathEntry.held c.self.inside.slots.items in
+    let slots = map g.E.PathEntry.content c.self.inside.slots.items in
     let found = rw c.deref.ensures.value at c.seek-place.ensures in
     let it = at_free key _ c.self.inside.lg_cur_size _ c.self.inside.count c.args.hash c.seek-place.result.at slots (g.S.UpsertStep.means c.args.step) _ c.self.invariant.slotted refl c.if-hash-eq0.false c.if-hash-self.false (rw (← c.self.view_is) at c.requires.room) found.on_path found.ends found.is_free c.if-not-place.false in
     let made = sym c.in_ok-absent.ensures.made ∙ c.in-None.is in
@@ -183,7 +183,7 @@ returns-in-None-clause-ok g c =
 pub returns-in-None-clause-after : goal.returns-in-None-clause-after
 returns-in-None-clause-after g c =
     let key = g.E.SketchEntry.key in
-    let slots = map g.E.PathEntry.held c.self.inside.slots.items in
+    let slots = map g.E.PathEntry.content c.self.inside.slots.items in
     let found = rw c.deref.ensures.value at c.seek-place.ensures in
     let it = at_free key _ c.self.inside.lg_cur_size _ c.self.inside.count c.args.hash c.seek-place.result.at slots (g.S.UpsertStep.means c.args.step) _ c.self.invariant.slotted refl c.if-hash-eq0.false c.if-hash-self.false (rw (← c.self.view_is) at c.requires.room) found.on_path found.ends found.is_free c.if-not-place.false in
     let made = sym c.in_ok-absent.ensures.made ∙ c.in-None.is in
@@ -192,7 +192,7 @@ returns-in-None-clause-after g c =
 pub returns-in-None-clause-refused : goal.returns-in-None-clause-refused
 returns-in-None-clause-refused g c =
     let key = g.E.SketchEntry.key in
-    let slots = map g.E.PathEntry.held c.self.inside.slots.items in
+    let slots = map g.E.PathEntry.content c.self.inside.slots.items in
     let found = rw c.deref.ensures.value at c.seek-place.ensures in
     let it = at_free key _ c.self.inside.lg_cur_size _ c.self.inside.count c.args.hash c.seek-place.result.at slots (g.S.UpsertStep.means c.args.step) _ c.self.invariant.slotted refl c.if-hash-eq0.false c.if-hash-self.false (rw (← c.self.view_is) at c.requires.room) found.on_path found.ends found.is_free c.if-not-place.false in
     rw (← c.self.view_is) (it.case.refusal_is ∙ c.in_ok-absent.ensures.refused)
@@ -200,7 +200,7 @@ returns-in-None-clause-refused g c =
 pub returns-in_ok-settled-in-Some-clause-ok : goal.returns-in_ok-settled-in-Some-clause-ok
 returns-in_ok-settled-in-Some-clause-ok g c =
     let key = g.E.SketchEntry.key in
-    let slots = map g.E.PathEntry.held c.self.inside.slots.items in
+    let slots = map g.E.PathEntry.content c.self.inside.slots.items in
     let found = rw c.deref.ensures.value at c.seek-place.ensures in
     let it = at_free key _ c.self.inside.lg_cur_size _ c.self.inside.count c.args.hash c.seek-place.result.at slots (g.S.UpsertStep.means c.args.step) _ c.self.invariant.slotted refl c.if-hash-eq0.false c.if-hash-self.false (rw (← c.self.view_is) at c.requires.room) found.on_path found.ends found.is_free c.if-not-place.false in
     let made = sym c.in_ok-absent.ensures.made ∙ c.in-Some.is in
@@ -209,7 +209,7 @@ returns-in_ok-settled-in-Some-clause-ok g c =
 pub returns-in_ok-settled-in-Some-clause-after : goal.returns-in_ok-settled-in-Some-clause-after
 returns-in_ok-settled-in-Some-clause-after g c =
     let key = g.E.SketchEntry.key in
-    let slots = map g.E.PathEntry.held c.self.inside.slots.items in
+    let slots = map g.E.PathEntry.content c.self.inside.slots.items in
     let found = rw c.deref.ensures.value at c.seek-place.ensures in
     let it = at_free key _ c.self.inside.lg_cur_size _ c.self.inside.count c.args.hash c.seek-place.result.at slots (g.S.UpsertStep.means c.args.step) _ c.self.invariant.slotted refl c.if-hash-eq0.false c.if-hash-self.false (rw (← c.self.view_is) at c.requires.room) found.on_path found.ends found.is_free c.if-not-place.false in
     let made = sym c.in_ok-absent.ensures.made ∙ c.in-Some.is in
@@ -218,49 +218,49 @@ returns-in_ok-settled-in-Some-clause-after g c =
 pub returns-in_ok-settled-in-Some-clause-refused : goal.returns-in_ok-settled-in-Some-clause-refused
 returns-in_ok-settled-in-Some-clause-refused g c =
     let key = g.E.SketchEntry.key in
-    let slots = map g.E.PathEntry.held c.self.inside.slots.items in
+    let slots = map g.E.PathEntry.content c.self.inside.slots.items in
     let found = rw c.deref.ensures.value at c.seek-place.ensures in
     let it = at_free key _ c.self.inside.lg_cur_size _ c.self.inside.count c.args.hash c.seek-place.result.at slots (g.S.UpsertStep.means c.args.step) _ c.self.invariant.slotted refl c.if-hash-eq0.false c.if-hash-self.false (rw (← c.self.view_is) at c.requires.room) found.on_path found.ends found.is_free c.if-not-place.false in
     rw (← c.self.view_is) (it.case.refusal_is ∙ c.in_ok-absent.ensures.refused)
 
 pub returns-in_err-write_at-clause-looks : goal.returns-in_err-write_at-clause-looks
 returns-in_err-write_at-clause-looks g c =
-    let slots = map g.E.PathEntry.held c.self.inside.slots.items in
+    let slots = map g.E.PathEntry.content c.self.inside.slots.items in
     let found = rw c.deref.ensures.value at c.seek-place.ensures in
     let many = slotted_count g.E.SketchEntry.key _ c.self.inside.lg_cur_size _ c.self.inside.count slots c.self.invariant.slotted in
     rw (← c.self.view_is) (omega (arith, found.looks, many, c.self.invariant.slotted.counted))
 
 pub returns-then-not-place-clause-looks : goal.returns-then-not-place-clause-looks
 returns-then-not-place-clause-looks g c =
-    let slots = map g.E.PathEntry.held c.self.inside.slots.items in
+    let slots = map g.E.PathEntry.content c.self.inside.slots.items in
     let found = rw c.deref.ensures.value at c.seek-place.ensures in
     let many = slotted_count g.E.SketchEntry.key _ c.self.inside.lg_cur_size _ c.self.inside.count slots c.self.invariant.slotted in
     rw (← c.self.view_is) (omega (arith, found.looks, many, c.self.invariant.slotted.counted))
 
 pub returns-in_err-absent-clause-looks : goal.returns-in_err-absent-clause-looks
 returns-in_err-absent-clause-looks g c =
-    let slots = map g.E.PathEntry.held c.self.inside.slots.items in
+    let slots = map g.E.PathEntry.content c.self.inside.slots.items in
     let found = rw c.deref.ensures.value at c.seek-place.ensures in
     let many = slotted_count g.E.SketchEntry.key _ c.self.inside.lg_cur_size _ c.self.inside.count slots c.self.invariant.slotted in
     rw (← c.self.view_is) (omega (arith, found.looks, many, c.self.invariant.slotted.counted))
 
 pub returns-in-None-clause-looks : goal.returns-in-None-clause-looks
 returns-in-None-clause-looks g c =
-    let slots = map g.E.PathEntry.held c.self.inside.slots.items in
+    let slots = map g.E.PathEntry.content c.self.inside.slots.items in
     let found = rw c.deref.ensures.value at c.seek-place.ensures in
     let many = slotted_count g.E.SketchEntry.key _ c.self.inside.lg_cur_size _ c.self.inside.count slots c.self.invariant.slotted in
     rw (← c.self.view_is) (omega (arith, found.looks, many, c.self.invariant.slotted.counted))
 
 pub returns-in_err-settled-in-Some-clause-looks : goal.returns-in_err-settled-in-Some-clause-looks
 returns-in_err-settled-in-Some-clause-looks g c =
-    let slots = map g.E.PathEntry.held c.self.inside.slots.items in
+    let slots = map g.E.PathEntry.content c.self.inside.slots.items in
     let found = rw c.deref.ensures.value at c.seek-place.ensures in
     let many = slotted_count g.E.SketchEntry.key _ c.self.inside.lg_cur_size _ c.self.inside.count slots c.self.invariant.slotted in
     rw (← c.self.view_is) (omega (arith, found.looks, many, c.self.invariant.slotted.counted, c.put_entry.ensures.looks))
 
 pub returns-in_ok-settled-in-Some-clause-looks : goal.returns-in_ok-settled-in-Some-clause-looks
 returns-in_ok-settled-in-Some-clause-looks g c =
-    let slots = map g.E.PathEntry.held c.self.inside.slots.items in
+    let slots = map g.E.PathEntry.content c.self.inside.slots.items in
     let found = rw c.deref.ensures.value at c.seek-place.ensures in
     let many = slotted_count g.E.SketchEntry.key _ c.self.inside.lg_cur_size _ c.self.inside.count slots c.self.invariant.slotted in
     rw (← c.self.view_is) (omega (arith, found.looks, many, c.self.invariant.slotted.counted, c.put_entry.ensures.looks))
@@ -269,30 +269,30 @@ pub returns-then-hash-self-clause-memory : goal.returns-then-hash-self-clause-me
 returns-then-hash-self-clause-memory g c =
     let s : is_screened c.args.hash c.self.inside.theta ≡ true =
     is_screened_true _ _ (elim c.then-hash-self.branch [ then-hash-self-via-then-hash-self w ↦ inr w.if-hash-self.true | then-hash-self-via-else-hash-self+then-hash-eq0 w ↦ inl w.if-hash-eq0.true ]) in
-    let case = screened_case g.E.SketchEntry.key (2 ^ c.self.inside.lg_nom_size) c.args.hash (g.S.UpsertStep.means c.args.step) (record { entries = map_of g.E.SketchEntry.key (filled (map g.E.PathEntry.held c.self.inside.slots.items)); theta = c.self.inside.theta }) s in
+    let case = screened_case g.E.SketchEntry.key (2 ^ c.self.inside.lg_nom_size) c.args.hash (g.S.UpsertStep.means c.args.step) (record { entries = map_of g.E.SketchEntry.key (filled (map g.E.PathEntry.content c.self.inside.slots.items)); theta = c.self.inside.theta }) s in
     rw (← c.self.view_is) (λ low. case.refusal_is)
 
 pub returns-in_err-write_at-clause-memory : goal.returns-in_err-write_at-clause-memory
 returns-in_err-write_at-clause-memory g c =
     let key = g.E.SketchEntry.key in
-    let slots = map g.E.PathEntry.held c.self.inside.slots.items in
+    let slots = map g.E.PathEntry.content c.self.inside.slots.items in
     let found = rw c.deref.ensures.value at c.seek-place.ensures in
     let it = at_entry key _ c.self.inside.lg_cur_size _ c.self.inside.count c.args.hash c.seek-place.result.at slots (g.S.UpsertStep.means c.args.step) _ c.self.invariant.slotted refl c.if-hash-eq0.false c.if-hash-self.false (rw (← c.self.view_is) at c.requires.room) found.on_path found.ends found.is_free c.if-not-place.true in
     let p = err_from_is_err_and c.from_residual.result c.from_residual.ensures.1 in
-    rw (p.1, p.2, ← c.self.view_is, it.case.refusal_is, it.passes) (λ low. ((rw c.deref_mut.ensures.value at c.in_err-write_at.ensures.refused) it.entry it.held))
+    rw (p.1, p.2, ← c.self.view_is, it.case.refusal_is, it.passes) (λ low. ((rw c.deref_mut.ensures.value at c.in_err-write_at.ensures.refused) it.entry it.content))
 
 pub returns-then-not-place-clause-memory : goal.returns-then-not-place-clause-memory
 returns-then-not-place-clause-memory g c =
     let key = g.E.SketchEntry.key in
-    let slots = map g.E.PathEntry.held c.self.inside.slots.items in
+    let slots = map g.E.PathEntry.content c.self.inside.slots.items in
     let found = rw c.deref.ensures.value at c.seek-place.ensures in
     let it = at_entry key _ c.self.inside.lg_cur_size _ c.self.inside.count c.args.hash c.seek-place.result.at slots (g.S.UpsertStep.means c.args.step) _ c.self.invariant.slotted refl c.if-hash-eq0.false c.if-hash-self.false (rw (← c.self.view_is) at c.requires.room) found.on_path found.ends found.is_free c.if-not-place.true in
-    rw (← c.self.view_is) (λ low. (it.case.refusal_is ∙ (rw c.deref_mut.ensures.value at c.in_ok-write_at.ensures.refused) it.entry it.held))
+    rw (← c.self.view_is) (λ low. (it.case.refusal_is ∙ (rw c.deref_mut.ensures.value at c.in_ok-write_at.ensures.refused) it.entry it.content))
 
 pub returns-in_err-absent-clause-memory : goal.returns-in_err-absent-clause-memory
 returns-in_err-absent-clause-memory g c =
     let key = g.E.SketchEntry.key in
-    let slots = map g.E.PathEntry.held c.self.inside.slots.items in
+    let slots = map g.E.PathEntry.content c.self.inside.slots.items in
     let found = rw c.deref.ensures.value at c.seek-place.ensures in
     let it = at_free key _ c.self.inside.lg_cur_size _ c.self.inside.count c.args.hash c.seek-place.result.at slots (g.S.UpsertStep.means c.args.step) _ c.self.invariant.slotted refl c.if-hash-eq0.false c.if-hash-self.false (rw (← c.self.view_is) at c.requires.room) found.on_path found.ends found.is_free c.if-not-place.false in
     let p = err_from_is_err_and c.from_residual-in_err-absent.result c.from_residual-in_err-absent.ensures.1 in
@@ -301,20 +301,20 @@ returns-in_err-absent-clause-memory g c =
 pub returns-in_err-settled-in-Some-clause-memory : goal.returns-in_err-settled-in-Some-clause-memory
 returns-in_err-settled-in-Some-clause-memory g c =
     let key = g.E.SketchEntry.key in
-    let slots = map g.E.PathEntry.held c.self.inside.slots.items in
+    let slots = map g.E.PathEntry.content c.self.inside.slots.items in
     let found = rw c.deref.ensures.value at c.seek-place.ensures in
     let it = at_free key _ c.self.inside.lg_cur_size _ c.self.inside.count c.args.hash c.seek-place.result.at slots (g.S.UpsertStep.means c.args.step) _ c.self.invariant.slotted refl c.if-hash-eq0.false c.if-hash-self.false (rw (← c.self.view_is) at c.requires.room) found.on_path found.ends found.is_free c.if-not-place.false in
     let p = err_from_is_err_and c.from_residual-in_err-settled-in-Some.result c.from_residual-in_err-settled-in-Some.ensures.1 in
     let made = sym c.in_ok-absent.ensures.made ∙ c.in-Some.is in
     rw (p.1, p.2, ← c.self.view_is) (λ low.
     let many = slotted_count key _ c.self.inside.lg_cur_size _ c.self.inside.count slots c.self.invariant.slotted in
-    let few : c.self.inside.count < threshold c.self.inside.lg_cur_size c.self.inside.lg_nom_size = omega (arith, many, low) in
-    let ok = c.in_err-settled-in-Some.ensures.room few in absurd (cc))
+    let limited : c.self.inside.count < threshold c.self.inside.lg_cur_size c.self.inside.lg_nom_size = omega (arith, many, low) in
+    let ok = c.in_err-settled-in-Some.ensures.room limited in absurd (cc))
 
 pub returns-in-None-clause-memory : goal.returns-in-None-clause-memory
 returns-in-None-clause-memory g c =
     let key = g.E.SketchEntry.key in
-    let slots = map g.E.PathEntry.held c.self.inside.slots.items in
+    let slots = map g.E.PathEntry.content c.self.inside.slots.items in
     let found = rw c.deref.ensures.value at c.seek-place.ensures in
     let it = at_free key _ c.self.inside.lg_cur_size _ c.self.inside.count c.args.hash c.seek-place.result.at slots (g.S.UpsertStep.means c.args.step) _ c.self.invariant.slotted refl c.if-hash-eq0.false c.if-hash-self.false (rw (← c.self.view_is) at c.requires.room) found.on_path found.ends found.is_free c.if-not-place.false in
     rw (← c.self.view_is) (λ low. (it.case.refusal_is ∙ c.in_ok-absent.ensures.refused))
@@ -322,27 +322,27 @@ returns-in-None-clause-memory g c =
 pub returns-in_ok-settled-in-Some-clause-memory : goal.returns-in_ok-settled-in-Some-clause-memory
 returns-in_ok-settled-in-Some-clause-memory g c =
     let key = g.E.SketchEntry.key in
-    let slots = map g.E.PathEntry.held c.self.inside.slots.items in
+    let slots = map g.E.PathEntry.content c.self.inside.slots.items in
     let found = rw c.deref.ensures.value at c.seek-place.ensures in
     let it = at_free key _ c.self.inside.lg_cur_size _ c.self.inside.count c.args.hash c.seek-place.result.at slots (g.S.UpsertStep.means c.args.step) _ c.self.invariant.slotted refl c.if-hash-eq0.false c.if-hash-self.false (rw (← c.self.view_is) at c.requires.room) found.on_path found.ends found.is_free c.if-not-place.false in
     rw (← c.self.view_is) (λ low. (it.case.refusal_is ∙ c.in_ok-absent.ensures.refused))
 
 pub returns-in_ok-settled-in-Some-clause-ticked : goal.returns-in_ok-settled-in-Some-clause-ticked
 returns-in_ok-settled-in-Some-clause-ticked g c =
-    let slots = map g.E.PathEntry.held c.self.inside.slots.items in
+    let slots = map g.E.PathEntry.content c.self.inside.slots.items in
     let many = slotted_count g.E.SketchEntry.key _ c.self.inside.lg_cur_size _ c.self.inside.count slots c.self.invariant.slotted in
     rw (← c.self.view_is, ← many) (c.in_ok-settled-in-Some.ensures.ticked ∙ ticked_looks c.self.inside.lg_cur_size c.self.inside.lg_nom_size c.lg_value.result c.self.inside.count c.self.inside.counts c.seek-place.new.looks c.put_entry.new.counts.looks)
 
 pub returns-in_ok-settled-in-Some-clause-sized : goal.returns-in_ok-settled-in-Some-clause-sized
 returns-in_ok-settled-in-Some-clause-sized g c =
-    let slots = map g.E.PathEntry.held c.self.inside.slots.items in
+    let slots = map g.E.PathEntry.content c.self.inside.slots.items in
     let many = slotted_count g.E.SketchEntry.key _ c.self.inside.lg_cur_size _ c.self.inside.count slots c.self.invariant.slotted in
     rw (← c.self.view_is, ← many) (rw c.lg_value.ensures at c.in_ok-settled-in-Some.ensures.size)
 
 pub returns-in_ok-settled-in-Some-clause-seldom : goal.returns-in_ok-settled-in-Some-clause-seldom
 returns-in_ok-settled-in-Some-clause-seldom g c =
     let key = g.E.SketchEntry.key in
-    let slots = map g.E.PathEntry.held c.self.inside.slots.items in
+    let slots = map g.E.PathEntry.content c.self.inside.slots.items in
     let found = rw c.deref.ensures.value at c.seek-place.ensures in
     let it = at_free key _ c.self.inside.lg_cur_size _ c.self.inside.count c.args.hash c.seek-place.result.at slots (g.S.UpsertStep.means c.args.step) _ c.self.invariant.slotted refl c.if-hash-eq0.false c.if-hash-self.false (rw (← c.self.view_is) at c.requires.room) found.on_path found.ends found.is_free c.if-not-place.false in
     let lg = c.self.inside.lg_cur_size in

@@ -1,6 +1,6 @@
 use Rattle.std.proofs.Common.{◌≡◌, false, sym, subst, ◌∙◌}
 use Rattle.std.specs.Prelude.{MatchOption}
-use Rattle.core_state.specs.View.{shows, lends}
+use Rattle.core_state.specs.View.{shows, sequence}
 use Rattle.core_operators.specs.Union.{IsBroken, IsJoined, update_refusal}
 use Rattle.core_policies.specs.Summaries.{combined, combine_refused, combined-keeps}
 use Rattle.core_slots.specs.Entry.{tuple_key}
@@ -19,9 +19,9 @@ returns-clause-refused g c =
     let view = c.view-shown.result in
     let old = c.args.union.now.state in
     let new = c.update.new.self.state in
-    if_refused c.update.result c.update.ensures.refused (λ e told.
-    let refused = subst (λ q. MatchOption (update_refusal old (shows tuple_key view)) (IsBroken tuple_key (combine_refused (g.Q.SummaryCombinePolicy.combines q)) old new (shows tuple_key view) (lends view) e) (λ kind. (e ≡ kind) × (new ≡ old))) c.requires.own told in
-    refused_join (tuples (g.P.SummaryPolicy.creates f.updates) (g.P.SummaryUpdatePolicy.updates f.updates) combines) (combine_refused combines) (combined-keeps combines) old new (shows tuple_key view) (lends view)
+    if_refused c.update.result c.update.ensures.refused (λ e reported.
+    let refused = subst (λ q. MatchOption (update_refusal old (shows tuple_key view)) (IsBroken tuple_key (combine_refused (g.Q.SummaryCombinePolicy.combines q)) old new (shows tuple_key view) (sequence view) e) (λ kind. (e ≡ kind) × (new ≡ old))) c.requires.own reported in
+    refused_join (tuples (g.P.SummaryPolicy.creates f.updates) (g.P.SummaryUpdatePolicy.updates f.updates) combines) (combine_refused combines) (combined-keeps combines) old new (shows tuple_key view) (sequence view)
     c.requires.at_work (c.requires.same_seed ∙ sym c.view-shown.ensures.seed) _ c.view-shown.ensures.value e refused)
 
 pub returns-clause-joins : goal.returns-clause-joins
@@ -31,10 +31,10 @@ returns-clause-joins g c =
     let view = c.view-shown.result in
     let old = c.args.union.now.state in
     let new = c.update.new.self.state in
-    on_both c.update.result c.update.ensures.skipped c.update.ensures.joined (λ skipped told.
-    let joined = subst (λ q. (shows tuple_key view).empty ≡ false → IsJoined tuple_key (combined (g.Q.SummaryCombinePolicy.combines q)) (combine_refused (g.Q.SummaryCombinePolicy.combines q)) old new (shows tuple_key view).theta (lends view)) c.requires.own told in
-    joins_plain (tuples (g.P.SummaryPolicy.creates f.updates) (g.P.SummaryUpdatePolicy.updates f.updates) combines) (combine_refused combines) (combined-keeps combines) old new (shows tuple_key view) (lends view)
-    c.update.ensures.sound c.requires.at_work c.update.ensures.held.ascending (apart_lent tuple_key view.sketch c.num_retained.ensures.sound) skipped joined _ c.view-shown.ensures.value)
+    on_both c.update.result c.update.ensures.skipped c.update.ensures.joined (λ skipped reported.
+    let joined = subst (λ q. (shows tuple_key view).empty ≡ false → IsJoined tuple_key (combined (g.Q.SummaryCombinePolicy.combines q)) (combine_refused (g.Q.SummaryCombinePolicy.combines q)) old new (shows tuple_key view).theta (sequence view)) c.requires.own reported in
+    joins_plain (tuples (g.P.SummaryPolicy.creates f.updates) (g.P.SummaryUpdatePolicy.updates f.updates) combines) (combine_refused combines) (combined-keeps combines) old new (shows tuple_key view) (sequence view)
+    c.update.ensures.sound c.requires.at_work c.update.ensures.content.ascending (apart_lent tuple_key view.sketch c.num_retained.ensures.sound) skipped joined _ c.view-shown.ensures.value)
 
 pub returns-clause-holds : goal.returns-clause-holds
 returns-clause-holds g c =
@@ -43,7 +43,7 @@ returns-clause-holds g c =
     let view = c.view-shown.result in
     let old = c.args.union.now.state in
     let new = c.update.new.self.state in
-    on_both c.update.result c.update.ensures.skipped c.update.ensures.joined (λ skipped told.
-    let joined = subst (λ q. (shows tuple_key view).empty ≡ false → IsJoined tuple_key (combined (g.Q.SummaryCombinePolicy.combines q)) (combine_refused (g.Q.SummaryCombinePolicy.combines q)) old new (shows tuple_key view).theta (lends view)) c.requires.own told in
-    holds_more (tuples (g.P.SummaryPolicy.creates f.updates) (g.P.SummaryUpdatePolicy.updates f.updates) combines) (combine_refused combines) (combined-keeps combines) old new (shows tuple_key view) (lends view)
+    on_both c.update.result c.update.ensures.skipped c.update.ensures.joined (λ skipped reported.
+    let joined = subst (λ q. (shows tuple_key view).empty ≡ false → IsJoined tuple_key (combined (g.Q.SummaryCombinePolicy.combines q)) (combine_refused (g.Q.SummaryCombinePolicy.combines q)) old new (shows tuple_key view).theta (sequence view)) c.requires.own reported in
+    holds_more (tuples (g.P.SummaryPolicy.creates f.updates) (g.P.SummaryUpdatePolicy.updates f.updates) combines) (combine_refused combines) (combined-keeps combines) old new (shows tuple_key view) (sequence view)
     (apart_lent tuple_key view.sketch c.num_retained.ensures.sound) skipped joined _ c.view-shown.ensures.value)

@@ -1,7 +1,7 @@
 use Rattle.std.proofs.Common.{◌≡◌, Some, sym, subst, ◌∙◌}
 use Rattle.std.proofs.lemmas.Result.{err_from_is_err_and}
 use Rattle.std.specs.Option.{option_map}
-use Rattle.core_state.specs.View.{shows, lends}
+use Rattle.core_state.specs.View.{shows, sequence}
 use Rattle.core_laws.specs.Folds.{fold_key, fold_merges, unmarked_value}
 use Rattle.core_laws.specs.Operators.{meet_next}
 use Rattle.core_policies.specs.Summaries.{combined, combine_refused, combined-keeps}
@@ -17,7 +17,7 @@ returns-in_err-update-clause-refused g c =
     let combines = g.Q.SummaryCombinePolicy.combines f.combines in
     let view = c.view-shown.result in
     let refused = rw c.requires.own at c.in_err-update.ensures.refused.1 in
-    rw (p.1, p.2) (refused_meet (tuples (g.P.SummaryPolicy.creates f.updates) (g.P.SummaryUpdatePolicy.updates f.updates) combines) (combine_refused combines) (combined-keeps combines) c.args.intersection.now.state (shows tuple_key view) (lends view)
+    rw (p.1, p.2) (refused_meet (tuples (g.P.SummaryPolicy.creates f.updates) (g.P.SummaryUpdatePolicy.updates f.updates) combines) (combine_refused combines) (combined-keeps combines) c.args.intersection.now.state (shows tuple_key view) (sequence view)
     (c.requires.same_seed ∙ sym c.view-shown.ensures.seed) _ c.view-shown.ensures.value c.in_err-update.field-0.0 refused)
 
 pub returns-clause-meets : goal.returns-clause-meets

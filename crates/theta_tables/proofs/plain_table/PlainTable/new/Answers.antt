@@ -7,7 +7,7 @@ invariant_of-result g c = rw c.new-2.ensures.items (record {
   of_sketch = omega arith;
   table = record {
     kept = record { ascending = ascending-nil _; nonzero = tt; below_theta = tt; theta_low = omega arith; theta_high = omega arith };
-    few = λ _. omega arith;
+    limited = λ _. omega arith;
     made = record {
       lg_nom_high = omega arith;
       start_low = omega arith;

@@ -7,7 +7,7 @@ invariant_of-self g c = rw c.clear.ensures.items (record {
   of_sketch = c.self.invariant.of_sketch;
   table = record {
     kept = record { ascending = ascending-nil _; nonzero = tt; below_theta = tt; theta_low = c.self.invariant.table.made.start_low; theta_high = c.self.invariant.table.made.start_high };
-    few = λ _. omega arith;
+    limited = λ _. omega arith;
     made = c.self.invariant.table.made;
     without_slots = c.self.invariant.table.without_slots;
   };

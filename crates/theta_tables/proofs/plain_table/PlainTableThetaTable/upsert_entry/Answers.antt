@@ -7,7 +7,7 @@ use Rattle.core_laws.specs.Insertion.{is_screened, rebuilt}
 use Rattle.core_laws.proofs.maps.Insertions.{entry_at_place, entry_at_gap, with_entry_at}
 use Rattle.std.proofs.Math.ListN.{length-set}
 use Rattle.core_laws.proofs.maps.Ascending.{ascending-with_entry}
-use Rattle.core_laws.proofs.insertions.Cases.{or_left, or_right, few-rebuilt, IsRetained-with_entry, IsRetained-rebuilt, screened_case, existing_case, absent_case, is_screened_true, is_screened_false}
+use Rattle.core_laws.proofs.insertions.Cases.{or_left, or_right, limited-rebuilt, IsRetained-with_entry, IsRetained-rebuilt, screened_case, existing_case, absent_case, is_screened_true, is_screened_false}
 use Rattle.theta_tables.proofs.plain_table.PlainTableThetaTable.upsert_entry.Goals as goal
 use Rattle.theta_tables.proofs.plain_table.PlainTableThetaTable.upsert_entry.Goals.{then-hash-eq0-via-then-hash-eq0, then-hash-eq0-via-else-hash-eq0+then-hash-self}
 
@@ -53,7 +53,7 @@ invariant_of-self-in-Ok g c =
       of_sketch = c.self.invariant.of_sketch;
       table = record {
         kept = rw (← put) (IsRetained-with_entry key _ _ _ c.self.invariant.table.kept (omega (arith, has_key, c.if-hash-eq0.false)) (omega (arith, has_key, c.if-hash-self.false)));
-        few = λ large. rw (length-set) (c.self.invariant.table.few large);
+        limited = λ large. rw (length-set) (c.self.invariant.table.limited large);
         made = c.self.invariant.table.made;
         without_slots = c.self.invariant.table.without_slots;
       };
@@ -90,11 +90,11 @@ invariant_of-self-in-Some g c =
       of_sketch = c.self.invariant.of_sketch;
       table = record {
         kept = rw c.in_ok-self-inside-in-Some.ensures.ok put;
-        few = λ large.
+        limited = λ large.
             let k : ℕ = c.nominal_size-nominal.result in
             let joined = with_entry key c.self.inside.entries.items c.in-Some.entry in
             let same : length c.put_entry.new.entries.items ≡ length (rebuilt key k joined c.self.inside.theta).entries = ap (λ v. length v.entries) c.in_ok-self-inside-in-Some.ensures.ok in
-            omega (arith, same, few-rebuilt key k joined c.self.inside.theta (ascending-with_entry key c.self.inside.entries.items c.in-Some.entry c.self.invariant.table.kept.ascending) (omega (arith, large, c.nominal_size-nominal.ensures.power)), c.nominal_size-nominal.ensures.power);
+            omega (arith, same, limited-rebuilt key k joined c.self.inside.theta (ascending-with_entry key c.self.inside.entries.items c.in-Some.entry c.self.invariant.table.kept.ascending) (omega (arith, large, c.nominal_size-nominal.ensures.power)), c.nominal_size-nominal.ensures.power);
         made = c.self.invariant.table.made;
         without_slots = c.self.invariant.table.without_slots;
       };

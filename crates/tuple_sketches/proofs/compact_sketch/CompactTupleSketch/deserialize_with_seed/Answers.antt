@@ -2,7 +2,7 @@ use Rattle.std.proofs.Common.{◌<◌, arith}
 use Rattle.std.proofs.lemmas.Result.{err_from_is_err_and}
 use Rattle.sketch_base.specs.Seed.{seed_hash}
 use Rattle.core_images.proofs.ReadEntries.{refused_weaker}
-use Rattle.tuple_sketches.proofs.Layouts.{tuple_from, tuple_to, tuple_whole}
+use Rattle.tuple_sketches.proofs.ImageLayouts.{tuple_from, tuple_to, tuple_whole}
 use Rattle.tuple_sketches.proofs.compact_sketch.CompactTupleSketch.deserialize_with_seed.Goals as goal
 
 pub read_after_preamble-requires : goal.read_after_preamble-requires

@@ -1,0 +1,247 @@
+/* See groups.h. */
+#include "groups.h"
+#include <stdio.h>
+#include <string.h>
+
+/* ---- Unions ---- */
+
+static kc_status begin_rows(union_group *group) {
+    return group->rows.object != NULL ? KC_OK : kc_theta_new(&group->rows, group->lg_k, KC_DEFAULT_SEED);
+}
+
+static kc_status begin_parts(union_group *group) {
+    return group->parts.object != NULL ? KC_OK : kc_union_new(&group->parts, group->lg_k, KC_DEFAULT_SEED);
+}
+
+kc_status union_add_bytes(union_group *group, const void *bytes, size_t count) {
+    kc_status status = begin_rows(group);
+    return status != KC_OK ? status : kc_theta_update_bytes(&group->rows, bytes, count);
+}
+
+kc_status union_add_number(union_group *group, uint64_t number) {
+    kc_status status = begin_rows(group);
+    return status != KC_OK ? status : kc_theta_update_u64(&group->rows, number);
+}
+
+kc_status union_add_sketch(union_group *group, kc_compact *sketch) {
+    kc_status status = begin_parts(group);
+    return status != KC_OK ? status : kc_union_add_compact(&group->parts, sketch);
+}
+
+/* The empty sketch. */
+static kc_status empty_result(kc_compact *out) {
+    kc_theta none = {0};
+    kc_status status = kc_theta_new(&none, LEAST_LG_K, KC_DEFAULT_SEED);
+    if (status == KC_OK) status = kc_theta_compact(&none, out);
+    kc_theta_free(&none);
+    return status;
+}
+
+kc_status union_result(union_group *group, kc_compact *out) {
+    kc_status status = KC_OK;
+    if (group->rows.object != NULL) status = kc_theta_trim(&group->rows);
+    if (status != KC_OK) return status;
+    if (group->parts.object == NULL) return group->rows.object != NULL ? kc_theta_compact(&group->rows, out) : empty_result(out);
+    if (group->rows.object != NULL) status = kc_union_add(&group->parts, &group->rows);
+    return status != KC_OK ? status : kc_union_result(&group->parts, out);
+}
+
+void union_free(union_group *group) {
+    kc_theta_free(&group->rows);
+    kc_union_free(&group->parts);
+}
+
+/* ---- Intersections ---- */
+
+kc_status meet_add(meet_group *group, kc_compact *sketch) {
+    kc_state state;
+    kc_status status = kc_compact_state(sketch, &state);
+    if (status != KC_OK) return status;
+    kc_intersection *piece = state.theta == KC_MAX_THETA ? &group->exact : &group->sampled;
+    if (piece->object == NULL) status = kc_intersection_new(piece, KC_DEFAULT_SEED);
+    return status != KC_OK ? status : kc_intersection_add_compact(piece, sketch);
+}
+
+int meet_has_result(const meet_group *group) { return group->exact.object != NULL || group->sampled.object != NULL; }
+
+kc_status meet_piece(kc_intersection *piece, kc_compact *out) { return kc_intersection_result(piece, out); }
+
+/* The intersection of both pieces. */
+static kc_status meet_pieces(kc_compact *exact, kc_compact *sampled, kc_compact *out) {
+    kc_intersection both = {0};
+    kc_status status = kc_intersection_new(&both, KC_DEFAULT_SEED);
+    if (status == KC_OK) status = kc_intersection_add_compact(&both, exact);
+    if (status == KC_OK) status = kc_intersection_add_compact(&both, sampled);
+    if (status == KC_OK) status = kc_intersection_result(&both, out);
+    kc_intersection_free(&both);
+    return status;
+}
+
+kc_status meet_result(meet_group *group, kc_compact *out) {
+    kc_compact exact = {0}, sampled = {0};
+    kc_state state = {0, 0, 0};
+    if (group->exact.object == NULL) return meet_piece(&group->sampled, out);
+    kc_status status = meet_piece(&group->exact, &exact);
+    if (status == KC_OK) status = kc_compact_state(&exact, &state);
+    if (status == KC_OK && state.retained == 0) status = empty_result(out);
+    else if (status == KC_OK && group->sampled.object == NULL) status = kc_compact_clone(&exact, out);
+    else if (status == KC_OK) {
+        status = meet_piece(&group->sampled, &sampled);
+        if (status == KC_OK) status = meet_pieces(&exact, &sampled, out);
+    }
+    kc_compact_free(&exact);
+    kc_compact_free(&sampled);
+    return status;
+}
+
+void meet_free(meet_group *group) {
+    kc_intersection_free(&group->exact);
+    kc_intersection_free(&group->sampled);
+}
+
+/* ---- Sums ---- */
+
+static kc_status begin_sums(sums_group *group) {
+    return group->rows.object != NULL ? KC_OK : kc_sums_new(&group->rows, group->lg_k, KC_DEFAULT_SEED);
+}
+
+kc_status sums_add_bytes(sums_group *group, const void *bytes, size_t count, uint64_t value) {
+    kc_status status = begin_sums(group);
+    return status != KC_OK ? status : kc_sums_add_bytes(&group->rows, bytes, count, value);
+}
+
+kc_status sums_add_number(sums_group *group, uint64_t number, uint64_t value) {
+    kc_status status = begin_sums(group);
+    return status != KC_OK ? status : kc_sums_add_u64(&group->rows, number, value);
+}
+
+kc_status sums_add_sketch(sums_group *group, kc_compact_sums *sketch) {
+    kc_status status = KC_OK;
+    if (group->parts.object == NULL) status = kc_sums_union_new(&group->parts, group->lg_k, KC_DEFAULT_SEED);
+    return status != KC_OK ? status : kc_sums_union_add_compact(&group->parts, sketch);
+}
+
+kc_status sums_result(sums_group *group, kc_compact_sums *out) {
+    sums_group none = {.lg_k = LEAST_LG_K};
+    if (group->parts.object != NULL) return kc_sums_union_result(&group->parts, out);
+    if (group->rows.object == NULL) group = &none;
+    kc_status status = begin_sums(group);
+    if (status == KC_OK) status = kc_sums_trim(&group->rows);
+    if (status == KC_OK) status = kc_sums_compact(&group->rows, out);
+    sums_free(&none);
+    return status;
+}
+
+void sums_free(sums_group *group) {
+    kc_sums_free(&group->rows);
+    kc_sums_union_free(&group->parts);
+}
+
+/* ---- Images ---- */
+
+/* Families of sketches, and the bytes of an entry: a hash, and in a tuple sketch its sum. */
+enum { THETA = 3, TUPLE = 9 };
+static uint64_t entry_size(int family) { return family == TUPLE ? 16 : 8; }
+
+static uint64_t number_at(const unsigned char *image, size_t place, size_t bytes) {
+    uint64_t n = 0;
+    for (size_t i = bytes; i > 0; i--) n = n << 8 | image[place + i - 1];
+    return n;
+}
+
+/* The versions that are read: 1 to 3 of theta sketches, 1 and 3 of tuple sketches. Those of version 1 and 2 of theta sketches have no flags. */
+static int is_of_version(const unsigned char *image, int family) { return image[1] == 1 || image[1] == 3 || (image[1] == 2 && family == THETA); }
+static int has_flags(const unsigned char *image, int family) { return image[1] == 3 || family == TUPLE; }
+static int is_flagged_empty(const unsigned char *image, int family) { return has_flags(image, family) && (image[5] & 4) != 0; }
+
+/* The length of the image that the bytes begin, by its preamble; 0 if they are too few to say, or it isn't known. There are eight. */
+static uint64_t image_length(const unsigned char *image, size_t count, int family) {
+    if (image[0] < 1 || image[0] > 3 || !is_of_version(image, family)) return 0;
+    if (is_flagged_empty(image, family)) return 8;
+    uint64_t preamble = image[1] == 1 && family == THETA ? 24 : 8 * image[0];
+    if (count < preamble) return 0;
+    if (preamble == 8) return has_flags(image, family) ? 8 + entry_size(family) : 8;
+    return preamble + entry_size(family) * number_at(image, 8, 4);
+}
+
+/* Whether another seed hash than that of the default seed refuses the image. There are eight bytes. */
+static int is_of_another_seed(const unsigned char *image, int family) {
+    static const unsigned char default_seed_hash[] = {0xcc, 0x93};
+    int is_unchecked = has_flags(image, family) ? is_flagged_empty(image, family) : image[1] == 1 || image[0] == 1;
+    return !is_unchecked && memcmp(image + 6, default_seed_hash, 2) != 0;
+}
+
+/* Why bytes that are not read are no image: the first reason that applies. */
+static const char *flaw_of(const unsigned char *image, size_t count, int family) {
+    if (count < 8) return "is too short for a sketch";
+    if (image[2] == THETA && family == TUPLE) return "is that of a theta sketch";
+    if (image[2] == TUPLE && family == THETA) return "is that of a tuple sketch";
+    if (image[2] != family) return "is that of another kind of sketch; pass a compact one";
+    if (image[1] == 4) return "is compressed, which is not read; write it uncompressed";
+    if (!is_of_version(image, family)) return "is of a version that is not read";
+    if (has_flags(image, family) && (image[5] & 1) != 0) return "is in big-endian order, which is not read";
+    if (is_of_another_seed(image, family)) return "is under another seed than 9001";
+    if (image[0] < 1 || image[0] > 3) return "is damaged: it has no preamble";
+    if (image_length(image, count, family) == 0 || count < image_length(image, count, family)) return "is cut short";
+    return "is damaged: its hashes, its theta or its type are not those of a sketch";
+}
+
+/* The status of bytes that were read with this one: of a sketch and more, KC_INVALID_DATA. */
+static kc_status alone(kc_status status, const void *image, size_t count, int family, const char **flaw) {
+    if (status == KC_INVALID_DATA) *flaw = flaw_of(image, count, family);
+    if (status != KC_OK || image_length(image, count, family) == count) return status;
+    *flaw = "is longer than one sketch";
+    return KC_INVALID_DATA;
+}
+
+kc_status read_image(const void *image, size_t count, kc_compact *out, const char **flaw) {
+    kc_status status = alone(kc_compact_read(out, image, count, KC_DEFAULT_SEED), image, count, THETA, flaw);
+    if (status != KC_OK) kc_compact_free(out);
+    return status;
+}
+
+kc_status read_sums(const void *image, size_t count, kc_compact_sums *out, const char **flaw) {
+    kc_status status = alone(kc_compact_sums_read(out, image, count, KC_DEFAULT_SEED), image, count, TUPLE, flaw);
+    if (status != KC_OK) kc_compact_sums_free(out);
+    return status;
+}
+
+/* ---- Texts ---- */
+
+double number_of(kc_wide n) { return (double)n.high * 18446744073709551616.0 + (double)n.low; }
+
+/* Writes a number of 128 bits in decimal, and returns the length. */
+static int write_wide(kc_wide n, char *text) {
+    char digits[40];
+    size_t at = sizeof digits;
+    unsigned __int128 rest = (unsigned __int128)n.high << 64 | n.low;
+    digits[--at] = 0;
+    do digits[--at] = (char)('0' + (int)(rest % 10)); while ((rest /= 10) != 0);
+    memcpy(text, digits + at, sizeof digits - at);
+    return (int)(sizeof digits - at - 1);
+}
+
+int describe_state(const kc_state *state, char *text) {
+    kc_wide whole, lower, upper;
+    uint64_t tenths;
+    if (kc_estimate_decimal(state->retained, state->theta, 1, &whole, &tenths) != KC_OK) return -1;
+    if (kc_count_bounds(state->retained, state->theta, 2, &lower, &upper) != KC_OK) return -1;
+    if (tenths >= 5 && ++whole.low == 0) whole.high++;
+    int at = write_wide(whole, text);
+    if (state->theta == KC_MAX_THETA) at += sprintf(text + at, " exact");
+    else {
+        at += sprintf(text + at, " estimated, from ");
+        at += write_wide(lower, text + at);
+        at += sprintf(text + at, " to ");
+        at += write_wide(upper, text + at);
+    }
+    return at + sprintf(text + at, ", retained %llu, theta %llu", (unsigned long long)state->retained, (unsigned long long)state->theta);
+}
+
+int describe_bounds(kc_wide lower, kc_wide upper, char *text) {
+    int at = sprintf(text, "[");
+    at += write_wide(lower, text + at);
+    at += sprintf(text + at, ",");
+    at += write_wide(upper, text + at);
+    return at + sprintf(text + at, "]");
+}

@@ -1,0 +1,435 @@
+/* Theta sketches in PostgreSQL: the type, the aggregates and the functions that theta_sketch--0.1.0.sql declares.
+ *
+ * A value of the type is an image of one sketch under the default seed, in the form that the library writes: what is read, from text,
+ * bytes or a network, is checked and written anew. A transition state lives in the context of its aggregate, with all that the library
+ * allocates for it (heap.h). A backend has one thread, and each state is used by one call at a time. */
+#include "postgres.h"
+#include "catalog/pg_type.h"
+#include "common/base64.h"
+#include "fmgr.h"
+#include "heap.h"
+#include "libpq/pqformat.h"
+#include "utils/array.h"
+#include "utils/builtins.h"
+#include "groups.h"
+
+PG_MODULE_MAGIC;
+
+/* ---- Errors ---- */
+
+/* Raises an error unless a call of the library did what it promises. */
+static void want(kc_status status) {
+    if (status == KC_OK) return;
+    if (status == KC_OUT_OF_MEMORY) ereport(ERROR, errcode(ERRCODE_OUT_OF_MEMORY), errmsg("theta_sketch: out of memory"));
+    ereport(ERROR, errcode(ERRCODE_INTERNAL_ERROR), errmsg("theta_sketch: the library refused a call with status %u", status));
+}
+
+static int32 checked_lg_k(int32 lg_k) {
+    if (lg_k < LEAST_LG_K || lg_k > GREATEST_LG_K)
+        ereport(ERROR, errcode(ERRCODE_INVALID_PARAMETER_VALUE), errmsg("theta_sketch: lg_k is %d; it is a number from 4 to 26", lg_k));
+    return lg_k;
+}
+
+/* ---- Images ---- */
+
+/* Reads the sketch that the bytes are the image of. */
+static void read_bytes(const char *bytes, size_t count, kc_compact *out) {
+    const char *flaw = "";
+    kc_status status = read_image(bytes, count, out, &flaw);
+    if (status == KC_INVALID_DATA)
+        ereport(ERROR, errcode(ERRCODE_INVALID_BINARY_REPRESENTATION), errmsg("theta_sketch: the image %s", flaw));
+    want(status);
+}
+
+static void read_value(const bytea *image, kc_compact *out) { read_bytes(VARDATA_ANY(image), VARSIZE_ANY_EXHDR(image), out); }
+
+/* The image of a sketch, with `room` bytes left free before it. The sketch is freed. */
+static bytea *image_behind(size_t room, kc_compact *sketch) {
+    uint64_t length = 0;
+    kc_status status = kc_compact_image(sketch, NULL, 0, &length);
+    if (status != KC_TOO_SMALL) want(status);
+    bytea *image = palloc(VARHDRSZ + room + length);
+    SET_VARSIZE(image, VARHDRSZ + room + length);
+    want(kc_compact_image(sketch, VARDATA(image) + room, length, &length));
+    kc_compact_free(sketch);
+    return image;
+}
+
+static bytea *image_of(kc_compact *sketch) { return image_behind(0, sketch); }
+
+/* The image that the library writes of the sketch of other bytes. */
+static bytea *rewritten(const char *bytes, size_t count) {
+    kc_compact sketch = {0};
+    theta_sketch_heap = CurrentMemoryContext;
+    read_bytes(bytes, count, &sketch);
+    return image_of(&sketch);
+}
+
+/* ---- The type ---- */
+
+PG_FUNCTION_INFO_V1(theta_sketch_in);
+Datum theta_sketch_in(PG_FUNCTION_ARGS) {
+    const char *text = PG_GETARG_CSTRING(0);
+    int room = pg_b64_dec_len((int)strlen(text));
+    char *bytes = palloc(room);
+    int count = pg_b64_decode(text, (int)strlen(text), bytes, room);
+    if (count < 0) ereport(ERROR, errcode(ERRCODE_INVALID_TEXT_REPRESENTATION), errmsg("theta_sketch: the text is not base64"));
+    PG_RETURN_BYTEA_P(rewritten(bytes, (size_t)count));
+}
+
+PG_FUNCTION_INFO_V1(theta_sketch_out);
+Datum theta_sketch_out(PG_FUNCTION_ARGS) {
+    bytea *image = PG_GETARG_BYTEA_PP(0);
+    int room = pg_b64_enc_len((int)VARSIZE_ANY_EXHDR(image));
+    char *text = palloc(room + 1);
+    int length = pg_b64_encode(VARDATA_ANY(image), (int)VARSIZE_ANY_EXHDR(image), text, room);
+    if (length < 0) elog(ERROR, "theta_sketch: base64 needs more room than it says");
+    text[length] = 0;
+    PG_RETURN_CSTRING(text);
+}
+
+PG_FUNCTION_INFO_V1(theta_sketch_recv);
+Datum theta_sketch_recv(PG_FUNCTION_ARGS) {
+    StringInfo message = (StringInfo)PG_GETARG_POINTER(0);
+    int count = message->len - message->cursor;
+    PG_RETURN_BYTEA_P(rewritten(pq_getmsgbytes(message, count), (size_t)count));
+}
+
+PG_FUNCTION_INFO_V1(theta_sketch_send);
+Datum theta_sketch_send(PG_FUNCTION_ARGS) { PG_RETURN_BYTEA_P(PG_GETARG_BYTEA_P_COPY(0)); }
+
+PG_FUNCTION_INFO_V1(theta_sketch_from_bytea);
+Datum theta_sketch_from_bytea(PG_FUNCTION_ARGS) {
+    bytea *image = PG_GETARG_BYTEA_PP(0);
+    PG_RETURN_BYTEA_P(rewritten(VARDATA_ANY(image), VARSIZE_ANY_EXHDR(image)));
+}
+
+/* ---- Functions of sketches ---- */
+
+/* The state of the sketch of an argument. */
+static kc_state state_of(FunctionCallInfo fcinfo, int place) {
+    kc_compact sketch = {0};
+    kc_state state = {0, 0, 0};
+    theta_sketch_heap = CurrentMemoryContext;
+    read_value(PG_GETARG_BYTEA_PP(place), &sketch);
+    want(kc_compact_state(&sketch, &state));
+    kc_compact_free(&sketch);
+    return state;
+}
+
+PG_FUNCTION_INFO_V1(theta_sketch_get_estimate);
+Datum theta_sketch_get_estimate(PG_FUNCTION_ARGS) {
+    kc_state state = state_of(fcinfo, 0);
+    PG_RETURN_FLOAT8(kc_estimate(&state));
+}
+
+PG_FUNCTION_INFO_V1(theta_sketch_get_estimate_and_bounds);
+Datum theta_sketch_get_estimate_and_bounds(PG_FUNCTION_ARGS) {
+    int32 deviations = PG_NARGS() > 1 ? PG_GETARG_INT32(1) : 2;
+    kc_wide lower, upper;
+    if (deviations < 1 || deviations > 3)
+        ereport(ERROR, errcode(ERRCODE_INVALID_PARAMETER_VALUE),
+                errmsg("theta_sketch: there are bounds for 1, 2 or 3 standard deviations, not for %d", deviations));
+    kc_state state = state_of(fcinfo, 0);
+    want(kc_count_bounds(state.retained, state.theta, (uint32_t)deviations, &lower, &upper));
+    Datum numbers[] = {Float8GetDatum(kc_estimate(&state)), Float8GetDatum(number_of(lower)), Float8GetDatum(number_of(upper))};
+    PG_RETURN_ARRAYTYPE_P(construct_array(numbers, 3, FLOAT8OID, sizeof(float8), FLOAT8PASSBYVAL, TYPALIGN_DOUBLE));
+}
+
+PG_FUNCTION_INFO_V1(theta_sketch_to_string);
+Datum theta_sketch_to_string(PG_FUNCTION_ARGS) {
+    char text[DESCRIPTION_ROOM];
+    kc_state state = state_of(fcinfo, 0);
+    PG_RETURN_TEXT_P(cstring_to_text_with_len(text, describe_state(&state, text)));
+}
+
+PG_FUNCTION_INFO_V1(theta_sketch_union);
+Datum theta_sketch_union(PG_FUNCTION_ARGS) {
+    union_group group = {.lg_k = (uint8_t)checked_lg_k(PG_NARGS() > 2 ? PG_GETARG_INT32(2) : DEFAULT_LG_K)};
+    kc_compact sketches[3] = {{0}};
+    theta_sketch_heap = CurrentMemoryContext;
+    for (int i = 0; i < 2; i++) {
+        read_value(PG_GETARG_BYTEA_PP(i), &sketches[i]);
+        want(union_add_sketch(&group, &sketches[i]));
+    }
+    want(union_result(&group, &sketches[2]));
+    PG_RETURN_BYTEA_P(image_of(&sketches[2]));
+}
+
+PG_FUNCTION_INFO_V1(theta_sketch_intersection);
+Datum theta_sketch_intersection(PG_FUNCTION_ARGS) {
+    meet_group group = {{0}, {0}};
+    kc_compact sketches[3] = {{0}};
+    theta_sketch_heap = CurrentMemoryContext;
+    for (int i = 0; i < 2; i++) {
+        read_value(PG_GETARG_BYTEA_PP(i), &sketches[i]);
+        want(meet_add(&group, &sketches[i]));
+    }
+    want(meet_result(&group, &sketches[2]));
+    PG_RETURN_BYTEA_P(image_of(&sketches[2]));
+}
+
+PG_FUNCTION_INFO_V1(theta_sketch_a_not_b);
+Datum theta_sketch_a_not_b(PG_FUNCTION_ARGS) {
+    kc_compact first = {0}, second = {0}, out = {0};
+    theta_sketch_heap = CurrentMemoryContext;
+    read_value(PG_GETARG_BYTEA_PP(0), &first);
+    read_value(PG_GETARG_BYTEA_PP(1), &second);
+    want(kc_difference(&first, &second, KC_DEFAULT_SEED, &out));
+    PG_RETURN_BYTEA_P(image_of(&out));
+}
+
+/* ---- Transition states ---- */
+
+/* The state of the aggregates that unite keys or sketches. */
+typedef struct {
+    MemoryContext context;
+    union_group group;
+} UnionState;
+
+/* The state of the aggregate that intersects. */
+typedef struct {
+    MemoryContext context;
+    meet_group group;
+} MeetState;
+
+/* The context of the aggregate that calls. */
+static MemoryContext aggregate_context(FunctionCallInfo fcinfo) {
+    MemoryContext context;
+    if (!AggCheckCallContext(fcinfo, &context)) elog(ERROR, "theta_sketch: called outside an aggregate");
+    return context;
+}
+
+/* The state in the first argument, or a new one; the library's memory is then its context. */
+static UnionState *union_state(FunctionCallInfo fcinfo) {
+    UnionState *state;
+    if (!PG_ARGISNULL(0)) state = (UnionState *)PG_GETARG_POINTER(0);
+    else {
+        MemoryContext context = aggregate_context(fcinfo);
+        state = MemoryContextAllocZero(context, sizeof *state);
+        state->context = context;
+    }
+    theta_sketch_heap = state->context;
+    return state;
+}
+
+static MeetState *meet_state(FunctionCallInfo fcinfo) {
+    MeetState *state;
+    if (!PG_ARGISNULL(0)) state = (MeetState *)PG_GETARG_POINTER(0);
+    else {
+        MemoryContext context = aggregate_context(fcinfo);
+        state = MemoryContextAllocZero(context, sizeof *state);
+        state->context = context;
+    }
+    theta_sketch_heap = state->context;
+    return state;
+}
+
+/* The first argument as it is, for a row that is passed over. */
+static Datum unchanged(FunctionCallInfo fcinfo) {
+    if (PG_ARGISNULL(0)) PG_RETURN_NULL();
+    PG_RETURN_DATUM(PG_GETARG_DATUM(0));
+}
+
+/* Sets lg_k of a group, which has to be the same in all of its rows and parts. */
+static void set_lg_k(union_group *group, int32 lg_k) {
+    if (group->lg_k == 0) group->lg_k = (uint8_t)checked_lg_k(lg_k);
+    else if (group->lg_k != lg_k)
+        ereport(ERROR, errcode(ERRCODE_INVALID_PARAMETER_VALUE), errmsg("theta_sketch: lg_k is %d and %d in one group", group->lg_k, lg_k),
+                errhint("Pass a constant."));
+}
+
+/* The state that a row is added to, with the lg_k of that row. */
+static UnionState *state_for_row(FunctionCallInfo fcinfo) {
+    UnionState *state = union_state(fcinfo);
+    if (PG_NARGS() > 2 && PG_ARGISNULL(2))
+        ereport(ERROR, errcode(ERRCODE_NULL_VALUE_NOT_ALLOWED), errmsg("theta_sketch: lg_k is NULL; it is a number from 4 to 26"));
+    set_lg_k(&state->group, PG_NARGS() > 2 ? PG_GETARG_INT32(2) : DEFAULT_LG_K);
+    return state;
+}
+
+/* ---- Aggregates that unite ---- */
+
+PG_FUNCTION_INFO_V1(theta_sketch_add_bytes);
+Datum theta_sketch_add_bytes(PG_FUNCTION_ARGS) {
+    if (PG_ARGISNULL(1)) return unchanged(fcinfo);
+    UnionState *state = state_for_row(fcinfo);
+    bytea *key = PG_GETARG_BYTEA_PP(1);
+    want(union_add_bytes(&state->group, VARDATA_ANY(key), VARSIZE_ANY_EXHDR(key)));
+    PG_RETURN_POINTER(state);
+}
+
+PG_FUNCTION_INFO_V1(theta_sketch_add_int8);
+Datum theta_sketch_add_int8(PG_FUNCTION_ARGS) {
+    if (PG_ARGISNULL(1)) return unchanged(fcinfo);
+    UnionState *state = state_for_row(fcinfo);
+    want(union_add_number(&state->group, (uint64_t)PG_GETARG_INT64(1)));
+    PG_RETURN_POINTER(state);
+}
+
+PG_FUNCTION_INFO_V1(theta_sketch_add_sketch);
+Datum theta_sketch_add_sketch(PG_FUNCTION_ARGS) {
+    kc_compact sketch = {0};
+    if (PG_ARGISNULL(1)) return unchanged(fcinfo);
+    UnionState *state = state_for_row(fcinfo);
+    read_value(PG_GETARG_BYTEA_PP(1), &sketch);
+    want(union_add_sketch(&state->group, &sketch));
+    kc_compact_free(&sketch);
+    PG_RETURN_POINTER(state);
+}
+
+/* Merges the second state, of another worker, into the first. */
+PG_FUNCTION_INFO_V1(theta_sketch_combine);
+Datum theta_sketch_combine(PG_FUNCTION_ARGS) {
+    kc_compact sketch = {0};
+    if (PG_ARGISNULL(1)) return unchanged(fcinfo);
+    UnionState *other = (UnionState *)PG_GETARG_POINTER(1);
+    UnionState *state = union_state(fcinfo);
+    set_lg_k(&state->group, other->group.lg_k);
+    theta_sketch_heap = other->context;
+    want(union_result(&other->group, &sketch));
+    theta_sketch_heap = state->context;
+    want(union_add_sketch(&state->group, &sketch));
+    kc_compact_free(&sketch);
+    PG_RETURN_POINTER(state);
+}
+
+/* A state as bytes: lg_k, and the image of its result. */
+PG_FUNCTION_INFO_V1(theta_sketch_serialize);
+Datum theta_sketch_serialize(PG_FUNCTION_ARGS) {
+    kc_compact sketch = {0};
+    UnionState *state = union_state(fcinfo);
+    want(union_result(&state->group, &sketch));
+    bytea *bytes = image_behind(1, &sketch);
+    *VARDATA(bytes) = (char)state->group.lg_k;
+    PG_RETURN_BYTEA_P(bytes);
+}
+
+/* A state of such bytes. The combination with another reads it at once, so it is in the context of the row. */
+PG_FUNCTION_INFO_V1(theta_sketch_deserialize);
+Datum theta_sketch_deserialize(PG_FUNCTION_ARGS) {
+    kc_compact sketch = {0};
+    bytea *bytes = PG_GETARG_BYTEA_PP(0);
+    const char *at = VARDATA_ANY(bytes);
+    UnionState *state = palloc0(sizeof *state);
+    (void)aggregate_context(fcinfo);
+    state->context = theta_sketch_heap = CurrentMemoryContext;
+    if (VARSIZE_ANY_EXHDR(bytes) < 1) elog(ERROR, "theta_sketch: a state has no bytes");
+    set_lg_k(&state->group, (unsigned char)*at);
+    read_bytes(at + 1, VARSIZE_ANY_EXHDR(bytes) - 1, &sketch);
+    want(union_add_sketch(&state->group, &sketch));
+    kc_compact_free(&sketch);
+    PG_RETURN_POINTER(state);
+}
+
+/* The result so far of a group that may have had no row. */
+static void result_of(FunctionCallInfo fcinfo, kc_compact *out) {
+    union_group none = {.lg_k = DEFAULT_LG_K};
+    theta_sketch_heap = CurrentMemoryContext;
+    if (PG_ARGISNULL(0)) want(union_result(&none, out));
+    else want(union_result(&union_state(fcinfo)->group, out));
+}
+
+PG_FUNCTION_INFO_V1(theta_sketch_final);
+Datum theta_sketch_final(PG_FUNCTION_ARGS) {
+    kc_compact sketch = {0};
+    result_of(fcinfo, &sketch);
+    PG_RETURN_BYTEA_P(image_of(&sketch));
+}
+
+PG_FUNCTION_INFO_V1(theta_sketch_final_estimate);
+Datum theta_sketch_final_estimate(PG_FUNCTION_ARGS) {
+    kc_compact sketch = {0};
+    kc_state state = {0, 0, 0};
+    result_of(fcinfo, &sketch);
+    want(kc_compact_state(&sketch, &state));
+    kc_compact_free(&sketch);
+    PG_RETURN_FLOAT8(kc_estimate(&state));
+}
+
+/* ---- The aggregate that intersects ---- */
+
+PG_FUNCTION_INFO_V1(theta_sketch_meet);
+Datum theta_sketch_meet(PG_FUNCTION_ARGS) {
+    kc_compact sketch = {0};
+    if (PG_ARGISNULL(1)) return unchanged(fcinfo);
+    MeetState *state = meet_state(fcinfo);
+    read_value(PG_GETARG_BYTEA_PP(1), &sketch);
+    want(meet_add(&state->group, &sketch));
+    kc_compact_free(&sketch);
+    PG_RETURN_POINTER(state);
+}
+
+PG_FUNCTION_INFO_V1(theta_sketch_meet_combine);
+Datum theta_sketch_meet_combine(PG_FUNCTION_ARGS) {
+    if (PG_ARGISNULL(1)) return unchanged(fcinfo);
+    MeetState *other = (MeetState *)PG_GETARG_POINTER(1);
+    MeetState *state = meet_state(fcinfo);
+    kc_intersection *pieces[] = {&other->group.exact, &other->group.sampled};
+    for (int i = 0; i < 2; i++) {
+        kc_compact sketch = {0};
+        if (pieces[i]->object == NULL) continue;
+        want(meet_piece(pieces[i], &sketch));
+        want(meet_add(&state->group, &sketch));
+        kc_compact_free(&sketch);
+    }
+    PG_RETURN_POINTER(state);
+}
+
+/* A state as bytes: the length of the image of its exact piece in eight bytes, that image, and that of its sampled piece; each may be
+ * missing. */
+PG_FUNCTION_INFO_V1(theta_sketch_meet_serialize);
+Datum theta_sketch_meet_serialize(PG_FUNCTION_ARGS) {
+    kc_compact sketch = {0};
+    MeetState *state = meet_state(fcinfo);
+    bytea *exact = NULL, *sampled = NULL;
+    if (state->group.exact.object != NULL) {
+        want(meet_piece(&state->group.exact, &sketch));
+        exact = image_of(&sketch);
+    }
+    if (state->group.sampled.object != NULL) {
+        want(meet_piece(&state->group.sampled, &sketch));
+        sampled = image_of(&sketch);
+    }
+    uint64 length = exact != NULL ? VARSIZE(exact) - VARHDRSZ : 0;
+    uint64 rest = sampled != NULL ? VARSIZE(sampled) - VARHDRSZ : 0;
+    bytea *bytes = palloc(VARHDRSZ + sizeof length + length + rest);
+    SET_VARSIZE(bytes, VARHDRSZ + sizeof length + length + rest);
+    memcpy(VARDATA(bytes), &length, sizeof length);
+    if (exact != NULL) memcpy(VARDATA(bytes) + sizeof length, VARDATA(exact), length);
+    if (sampled != NULL) memcpy(VARDATA(bytes) + sizeof length + length, VARDATA(sampled), rest);
+    PG_RETURN_BYTEA_P(bytes);
+}
+
+PG_FUNCTION_INFO_V1(theta_sketch_meet_deserialize);
+Datum theta_sketch_meet_deserialize(PG_FUNCTION_ARGS) {
+    kc_compact sketch = {0};
+    bytea *bytes = PG_GETARG_BYTEA_PP(0);
+    const char *at = VARDATA_ANY(bytes);
+    size_t count = VARSIZE_ANY_EXHDR(bytes);
+    uint64 length = 0;
+    MeetState *state = palloc0(sizeof *state);
+    (void)aggregate_context(fcinfo);
+    state->context = theta_sketch_heap = CurrentMemoryContext;
+    if (count < sizeof length) elog(ERROR, "theta_sketch: a state has too few bytes");
+    memcpy(&length, at, sizeof length);
+    at += sizeof length, count -= sizeof length;
+    if (count < length) elog(ERROR, "theta_sketch: a state has too few bytes");
+    const size_t lengths[] = {length, count - length};
+    for (int i = 0; i < 2; at += lengths[i++]) {
+        if (lengths[i] == 0) continue;
+        read_bytes(at, lengths[i], &sketch);
+        want(meet_add(&state->group, &sketch));
+        kc_compact_free(&sketch);
+    }
+    PG_RETURN_POINTER(state);
+}
+
+/* NULL for a group without a sketch: nothing is the intersection of no sets. */
+PG_FUNCTION_INFO_V1(theta_sketch_meet_final);
+Datum theta_sketch_meet_final(PG_FUNCTION_ARGS) {
+    kc_compact sketch = {0};
+    if (PG_ARGISNULL(0)) PG_RETURN_NULL();
+    want(meet_result(&meet_state(fcinfo)->group, &sketch));
+    PG_RETURN_BYTEA_P(image_of(&sketch));
+}

@@ -1,0 +1,163 @@
+"""Tuple sketches whose summaries are sums of 64 bits: those that take updates, compact ones, and unions."""
+from __future__ import annotations
+
+import struct
+from fractions import Fraction
+from typing import Any
+
+from . import _keys
+from . import _library as library
+from ._keys import Key
+from ._library import DEFAULT_SEED, MAX_THETA, CompactSumsHandle, State, SumsHandle, SumsUnionHandle, Wide, check, number, written
+from ._sketch import CompactSketch, Sketch, UnionMerge, UpdatableSketch, entries_of, image_of
+
+
+class SumsValue(Sketch):
+    """What both kinds of sketches of sums share: `|` unites two, and adds up the sums of a shared key.
+
+    Both sketches must have one seed, else InvalidArgumentError is raised. Raises PolicyError if a sum would be 2^64 or
+    more. The `lg_k` of the result is the greater of the two.
+    """
+
+    __slots__ = ()
+
+    def items(self) -> list[tuple[int, int]]:
+        """The hash of each key that it retains, and the sum of the key."""
+        return [(hash, total) for hash, total in struct.iter_unpack("<QQ", entries_of(self.to_bytes()))]
+
+    def _compact_handle(self) -> CompactSumsHandle:
+        raise NotImplementedError
+
+    @property
+    def total(self) -> float:
+        """The estimated sum of all values, rounded to the nearest float."""
+        return float(self.total_fraction)
+
+    @property
+    def total_fraction(self) -> Fraction:
+        """The estimated sum of all values: the retained sums together, times 2^63 - 1, over theta."""
+        total, theta = self._total()
+        return Fraction(int(total) * MAX_THETA, theta)
+
+    def total_text(self, places: int = 0) -> str:
+        """The estimated sum of all values, rounded down to so many decimals, from 0 to 19."""
+        places = number(places, 32, "the number of decimals")
+        reason = f"the number of decimals is from 0 to 19, not {places}"
+        return written(library.total_text, *self._total(), places, room=64, reason=reason).decode("ascii")
+
+    def _total(self) -> tuple[Wide, int]:
+        """The retained sums together, and theta."""
+        handle, total, state = self._compact_handle(), Wide(), State()
+        check(library.compact_sums_total(handle, total))
+        check(library.compact_sums_state(handle, state))
+        return total, state.theta
+
+    def __or__(self, other: SumsValue) -> CompactTupleSums:
+        if not isinstance(other, SumsValue):
+            return NotImplemented
+        union = TupleSumsUnion(max(self.lg_k, other.lg_k), self.seed)
+        union.update(self)
+        union.update(other)
+        return union.result()
+
+
+class CompactTupleSums(CompactSketch, SumsValue):
+    """A tuple sketch of sums that never changes: its image in the DataSketches format.
+
+    It is made by `from_bytes`, by `TupleSums.compact` and by `|`. It has no object of the library, may be used by many
+    threads at once, pickled, copied, compared and hashed.
+    """
+
+    __slots__ = ()
+
+    @classmethod
+    def _of(cls, handle: CompactSumsHandle, seed: int, lg_k: int | None) -> CompactTupleSums:
+        """The sketch of a handle that no other thread knows."""
+        made, state = cls.__new__(cls), State()
+        check(library.compact_sums_state(handle, state))
+        made._keep(written(library.compact_sums_image, handle, room=4096), state, seed, lg_k)
+        return made
+
+    @classmethod
+    def from_bytes(cls, data: bytes, seed: int = DEFAULT_SEED, lg_k: int | None = None) -> CompactTupleSums:
+        """Reads the sketch that the bytes begin with, as CompactThetaSketch.from_bytes does."""
+        seed = number(seed, 64, "a seed")
+        return cls._of(_read(image_of(data), seed), seed, lg_k)
+
+    def _compact_handle(self) -> CompactSumsHandle:
+        return _read(self.to_bytes(), self.seed)
+
+
+def _read(image: bytes, seed: int) -> CompactSumsHandle:
+    handle = CompactSumsHandle()
+    check(library.compact_sums_read(handle, image, len(image), seed))
+    return handle
+
+
+class TupleSums(UpdatableSketch, SumsValue):
+    """A tuple sketch that adds up a value for each key: it retains the sums of the keys whose hashes are below its theta.
+
+    Its settings and its use by threads are as in ThetaSketch.
+    """
+
+    __slots__ = ()
+    _kind, _new, _trim = SumsHandle, library.sums_new, library.sums_trim
+    _read_state, _write_image, _entry_size = library.sums_state, library.sums_image, 16
+
+    @classmethod
+    def from_bytes(cls, data: bytes, seed: int = DEFAULT_SEED, lg_k: int | None = None) -> TupleSums:
+        """Reads a sketch as CompactTupleSums.from_bytes does, for further updates."""
+        return cls._of(CompactTupleSums.from_bytes(data, seed, lg_k))
+
+    def update(self, key: Key, value: int = 1) -> None:
+        """Adds a value, from 0 to 2^64 - 1, to the sum of a key, which `ThetaSketch.update` describes.
+
+        Raises PolicyError if the sum would be 2^64 or more, InvalidArgumentError for a number out of range, TypeError for a
+        float, and OutOfMemoryError; the sketch is then unchanged.
+        """
+        value = number(value, 64, "a value")
+        if isinstance(key, (str, bytes, bytearray, memoryview)):
+            data = _keys.bytes_of(key)
+            with self._lock:
+                check(library.sums_add_bytes(self._handle, data, len(data), value))
+        else:
+            found = _keys.number_of(key)
+            with self._lock:
+                check(library.sums_add_u64(self._handle, found, value))
+
+    def compact(self) -> CompactTupleSums:
+        """Its value as a compact sketch, untrimmed."""
+        return CompactTupleSums._of(self._compact_handle(), self.seed, self.lg_k)
+
+    def _compact_handle(self) -> CompactSumsHandle:
+        made = CompactSumsHandle()
+        with self._lock:
+            check(library.sums_compact(self._handle, made))
+        return made
+
+    def _fill(self, value: CompactSketch, handle: Any) -> None:
+        for hash, total in struct.iter_unpack("<QQ", entries_of(value.to_bytes())):
+            check(library.sums_add_hash(handle, hash, total))
+        # The hash 0 is never retained; it makes the sketch nonempty.
+        if not value.is_empty:
+            check(library.sums_add_hash(handle, 0, 0))
+
+
+class TupleSumsUnion(UnionMerge):
+    """A union of any number of sketches of sums, in any order. It adds up the sums of a key.
+
+    It retains at most 2^lg_k sums, those of the least hashes. After a PolicyError or an OutOfMemoryError of `update` it may
+    have failed: it then raises FailedError until it is reset.
+    """
+
+    __slots__ = ()
+    _family, _updatable = SumsValue, TupleSums
+    _kind, _new, _reset = SumsUnionHandle, library.sums_union_new, library.sums_union_reset
+    _add, _add_image = library.sums_union_add, library.sums_union_add_image
+
+    def result(self) -> CompactTupleSums:
+        """Its value as a compact sketch."""
+        made = CompactSumsHandle()
+        with self._lock:
+            check(library.sums_union_result(self._handle, made))
+        return CompactTupleSums._of(made, self.seed, self.lg_k)

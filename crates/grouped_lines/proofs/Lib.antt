@@ -1,0 +1,5 @@
+pub mod WholeFields
+pub mod WholeLines
+pub mod LinesInGroups
+pub mod Entries
+pub mod ReadInTurn

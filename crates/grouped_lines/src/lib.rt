@@ -1,0 +1,23 @@
+//! Lines in groups, by a field, and a sketch for each group.
+//!
+//! The promise is that of `group_sources`: the groups are exactly those of the lines, each once and in ascending order,
+//! and each has the sketch of its own lines. The groups are in a balanced tree, so a line is added in time
+//! logarithmic in their number.
+//!
+//! ```
+//! let hashing = Hashing { key: Key::field(3, b'\t'), seed: 9001 };
+//! let grouping = Grouping { by: Key::field(1, b'\t'), hashing, lg_k: 12 };
+//! let mut groups = group_sources(alloc, grouping, &mut sources, &mut watch)?;
+//! while let Some(group) = groups.next_group()? {
+//!     let name = group.name.as_slice();
+//!     let sketch = &group.sketch;
+//! }
+//! ```
+#![tactic(auto)]
+
+mod fields;
+mod groups;
+mod reading;
+
+pub use groups::{Group, Grouping, Groups};
+pub use reading::{GroupWatch, group_sources};

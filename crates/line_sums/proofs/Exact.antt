@@ -1,0 +1,167 @@
+-- A sketch of sums, after a trim: the hashes that the theta sketch of the same lines retains, each with its exact sum.
+use Rattle.std.proofs.Common.{◌≡◌, ℕ, ◌^◌, true, false, cond, eqb, List, [], ◌∷◌, ◌++◌, length, map, Some, None, Result, Ok, Err, refl, sym, ap, subst, ◌∙◌, arith}
+use Rattle.std.specs.Prelude.{pos, ⊤, ◌==◌, ◌-◌, IfOk, Bool}
+use Rattle.std.specs.List.{AllByRecursion}
+use Rattle.std.proofs.lemmas.Bool.Decides.{nat_tests}
+use Rattle.std.proofs.lemmas.Int.{ints}
+use Rattle.sketch_base.specs.declared.error.ErrorKind.{ErrorKind}
+use Rattle.core_compact.specs.CompactState.{Compact, IsAnswer, ordered_sketch, empty_compact}
+use Rattle.core_laws.specs.Cuts.{Retained, cut, none_below}
+use Rattle.core_laws.specs.Entries.{hash_key}
+use Rattle.core_laws.specs.Folds.{Fold, Value, Refused, fold_key, folded_of, unmarked}
+use Rattle.core_laws.specs.Leaf.{KeepsHashes, kmin, leaf_from, is_updated, whole}
+use Rattle.core_laws.specs.Maps.{IsAscending, entry_at}
+use Rattle.core_laws.specs.Values.{Sketch, Empty, NonEmpty}
+use Rattle.core_laws.specs.declared.TheConstants.{MAX_THETA}
+use Rattle.core_laws.specs.declared.leaf.LeafStep.{LeafStep}
+use Rattle.core_laws.specs.declared.leaf.LeafStep.TheVariants.{Trim}
+use Rattle.core_laws.proofs.cuts.WithinWholeMaps.{found_key}
+use Rattle.core_laws.proofs.insertions.FoldedSteps.{folded-keeps}
+use Rattle.core_laws.proofs.insertions.Leaves.{leaf-sample, leaf_from-append, is_updated-append, trimmed}
+use Rattle.core_laws.proofs.maps.Ascending.{ascending-head, ascending-tail, each-filter}
+use Rattle.core_laws.proofs.maps.LookUps.{entry_at_head, entry_at_past, entry_at_rest}
+use Rattle.core_laws.proofs.maps.MappedEntries.{cut-map}
+use Rattle.core_policies.specs.Sums.{unsigned_sum, unsigned-summed}
+use Rattle.core_policies.proofs.FoldedValues.{updates-keep}
+use Rattle.core_slots.specs.Entry.{tuple_key, tuple_of}
+use Rattle.core_slots.specs.declared.entry.TupleEntry.{TupleEntry}
+use Rattle.lines.specs.declared.key.Hashing.{Hashing}
+use Rattle.line_sketches.specs.Keys.{key_set}
+use Rattle.line_sums.specs.Sums.{adds, folds_of_lines, sum_at, sum_steps, sums_of_lines}
+use Rattle.line_sums.proofs.Amounts.{total_at, added_keys}
+use Rattle.plan_text.specs.declared.plan.Plan.TheVariants as plan
+use Rattle.plan_values.proofs.AddedKeys.{tuple_leaf_keys}
+use Rattle.plan_values.proofs.AddedValues.{unites_leaf, values_leaf}
+use Rattle.plan_values.proofs.MergedSums.{merged_sums}
+use Rattle.plan_values.proofs.NodeEquations.{whole_leaf}
+use Rattle.plan_values.specs.AddedValues.{total}
+use Rattle.plan_values.specs.Family.{tuple_folds}
+use Rattle.plan_values.specs.WholeStreams.{whole_in}
+
+-- what holds of each entry that is found at its key holds of all
+each_found : {X : Type 0} (key : X → ℕ) (P : X → Type 0) (xs : List X) → IsAscending key xs → ((q : ℕ) (x : X) → entry_at key xs q ≡ Some x → P x) → AllByRecursion P xs
+each_found key P [] up found = tt
+each_found {X} key P (x ∷ xs) up found =
+    let later : (q : ℕ) (y : X) → entry_at key xs q ≡ Some y → entry_at key (x ∷ xs) q ≡ Some y = λ q y e.
+    (elim (eqb (key x) q) as (λ b. eqb (key x) q ≡ b → entry_at key (x ∷ xs) q ≡ Some y) [
+      | true ↦ λ same.
+          let is : key x ≡ q = grind (arith, nat_tests) in
+          let none : entry_at key xs (key x) ≡ None = entry_at_past key xs (key x) (ascending-head key x xs up) in
+          let some : entry_at key xs (key x) ≡ Some y = subst (λ (p : ℕ). entry_at key xs p ≡ Some y) (sym is) e in
+          absurd (cc)
+      | false ↦ λ other. let differs : key x ≡ q → ⊥ = grind (arith, nat_tests) in entry_at_rest key x xs q differs ∙ e
+    ]) refl in
+    (found (key x) x (entry_at_head key x xs (key x) refl), each_found key P xs (ascending-tail key x xs up) (λ q y e. found q y (later q y e)))
+
+-- an entry whose sum is the one of its hash
+abbrev HasNumber : (ℕ → ℕ) → Fold (TupleEntry ℕ) → Type 0
+HasNumber number_of (Value e) = e.summary ≡ number_of e.hash
+HasNumber number_of (Refused h) = ⊤
+
+-- such entries, by their keys
+by_keys : (number_of : ℕ → ℕ) (xs : List (TupleEntry ℕ)) → AllByRecursion (HasNumber number_of) (map Value xs) → xs ≡ map (λ h. tuple_of h (number_of h)) (map tuple_key xs)
+by_keys number_of [] all = refl
+by_keys number_of (x ∷ xs) all =
+    let one : x ≡ tuple_of x.hash (number_of x.hash) = ap (tuple_of x.hash) all.0 in
+    ap (λ (e : TupleEntry ℕ). e ∷ xs) one ∙ ap (λ (ys : List (TupleEntry ℕ)). tuple_of x.hash (number_of x.hash) ∷ ys) (by_keys number_of xs all.1)
+
+keys_unmarked : (xs : List (TupleEntry ℕ)) → map (fold_key tuple_key) (map Value xs) ≡ map tuple_key xs
+keys_unmarked [] = refl
+keys_unmarked (x ∷ xs) = ap (λ (hs : List ℕ). x.hash ∷ hs) (keys_unmarked xs)
+
+cut_each : {X : Type 0} (key : X → ℕ) (P : X → Type 0) (k : ℕ) (xs : List X) (t : ℕ) → AllByRecursion P xs → AllByRecursion P (cut key k xs t).entries
+unfolding cut
+cut_each key P k xs t all = each-filter P _ xs all
+
+pub folds_keep : KeepsHashes (fold_key tuple_key) (folded_of tuple_key adds)
+folds_keep = folded-keeps tuple_key adds (updates-keep (Some 0) (unsigned_sum 64))
+
+module _ (hashing : Hashing) (amount : List ℕ → ℕ) (lines : List (List ℕ)) where
+  abbrev steps : List (LeafStep ℕ)
+  steps = sum_steps hashing amount lines
+
+  abbrev whole_map : List (Fold (TupleEntry ℕ))
+  whole_map = whole (fold_key tuple_key) (folded_of tuple_key adds) steps
+
+  keys_whole : map (fold_key tuple_key) whole_map ≡ key_set hashing lines
+  keys_whole = tuple_leaf_keys (Some 0) (unsigned_sum 64) (unsigned_sum 64) (Unit {0}) steps ∙ added_keys hashing amount lines
+
+  number_at : (q : ℕ) (e : TupleEntry ℕ) → entry_at (fold_key tuple_key) whole_map q ≡ Some (Value e) → e.summary ≡ sum_at hashing amount lines q
+  number_at q e found =
+      let there : entry_at (fold_key tuple_key) (whole_in (tuple_folds (Some 0) (unsigned_sum 64) (unsigned_sum 64)) (plan.Leaf 0 0 steps)) q ≡ Some (Value e) = ap (λ (w : List (Fold (TupleEntry ℕ))). entry_at (fold_key tuple_key) w q) (whole_leaf (Unit {0}) (tuple_folds (Some 0) (unsigned_sum 64) (unsigned_sum 64)) 0 0 steps) ∙ found in
+      let summed : pos e.summary ≡ pos (sum_at hashing amount lines q) =
+      merged_sums (λ (n : ℕ). pos n) (pos 0) (pos (2 ^ 64 - 1)) 0 (unsigned_sum 64) refl (unsigned-summed 64) {Z = Unit {0}} q (plan.Leaf 0 0 steps) e (unites_leaf (Unit {0}) 0 0 steps) there
+      ∙ ap (λ (us : List ℕ). total (map pos us)) (values_leaf (Unit {0}) q 0 0 steps)
+      ∙ total_at hashing amount lines q in
+      omega (arith, ints)
+
+  each_number : AllByRecursion (HasNumber (sum_at hashing amount lines)) whole_map
+  each_number =
+      each_found (fold_key tuple_key) (HasNumber (sum_at hashing amount lines)) whole_map (leaf-sample (fold_key tuple_key) (folded_of tuple_key adds) folds_keep 0 0 steps (omega arith)).ascending
+      (λ q f. elim f as (λ g. entry_at (fold_key tuple_key) whole_map q ≡ Some g → HasNumber (sum_at hashing amount lines) g) [
+        | Value e ↦ λ found. let same : e.hash ≡ q = found_key (fold_key tuple_key) whole_map q (Value e) found in number_at q e found ∙ ap (sum_at hashing amount lines) (sym same)
+        | Refused h ↦ λ found. tt
+      ])
+
+  -- what is retained of the whole map without a mark, by its keys
+  retained_exact : (k : ℕ) (v : Retained (TupleEntry ℕ)) → unmarked v ≡ cut (fold_key tuple_key) k whole_map MAX_THETA →
+      v ≡ record { entries = map (λ h. tuple_of h (sum_at hashing amount lines h)) (kmin k (key_set hashing lines) MAX_THETA).entries; theta = (kmin k (key_set hashing lines) MAX_THETA).theta }
+  retained_exact k v is =
+      let keys : cut hash_key k (key_set hashing lines) MAX_THETA ≡ record { entries = map (fold_key tuple_key) (cut (fold_key tuple_key) k whole_map MAX_THETA).entries; theta = (cut (fold_key tuple_key) k whole_map MAX_THETA).theta } =
+      ap (λ (hs : List ℕ). cut hash_key k hs MAX_THETA) (sym keys_whole) ∙ cut-map (fold_key tuple_key) (fold_key tuple_key) hash_key (λ f. refl) k whole_map MAX_THETA in
+      let kept : map tuple_key v.entries ≡ (kmin k (key_set hashing lines) MAX_THETA).entries =
+      sym (keys_unmarked v.entries) ∙ ap (λ (r : Retained (Fold (TupleEntry ℕ))). map (fold_key tuple_key) r.entries) is ∙ ap (λ (r : Retained ℕ). r.entries) (sym keys) in
+      let all : AllByRecursion (HasNumber (sum_at hashing amount lines)) (map Value v.entries) =
+      subst (λ (r : Retained (Fold (TupleEntry ℕ))). AllByRecursion (HasNumber (sum_at hashing amount lines)) r.entries) (sym is) (cut_each (fold_key tuple_key) (HasNumber (sum_at hashing amount lines)) k whole_map MAX_THETA each_number) in
+      let entries : v.entries ≡ map (λ h. tuple_of h (sum_at hashing amount lines h)) (kmin k (key_set hashing lines) MAX_THETA).entries =
+      by_keys (sum_at hashing amount lines) v.entries all ∙ ap (map (λ h. tuple_of h (sum_at hashing amount lines h))) kept in
+      let theta : v.theta ≡ (kmin k (key_set hashing lines) MAX_THETA).theta = ap (λ (r : Retained (Fold (TupleEntry ℕ))). r.theta) is ∙ ap (λ (r : Retained ℕ). r.theta) (sym keys) in
+      λ i. record { entries = entries i; theta = theta i }
+
+stays_updated : (hashing : Hashing) (amount : List ℕ → ℕ) (lines : List (List ℕ)) → is_updated (sum_steps hashing amount lines) true ≡ true
+stays_updated hashing amount [] = refl
+stays_updated hashing amount (line ∷ lines) = stays_updated hashing amount lines
+
+pub not_none : {T : Type 0} (x : T) (xs : List T) → (length (x ∷ xs) == 0) ≡ false
+not_none x xs = grind (arith, nat_tests)
+
+injected : {X : Type 0} (u v : Retained X) → NonEmpty u ≡ NonEmpty v → u ≡ v
+injected u v same = cc
+
+module _ (hashing : Hashing) (amount : List ℕ → ℕ) (lg_k : ℕ) where
+  -- what folds retain after some lines and a trim
+  trimmed_folds : (line : List ℕ) (lines : List (List ℕ)) (v : Retained (Fold (TupleEntry ℕ))) → v ≡ folds_of_lines hashing amount lg_k (line ∷ lines) →
+      cut (fold_key tuple_key) (2 ^ lg_k) v.entries v.theta ≡ cut (fold_key tuple_key) (2 ^ lg_k) (whole_map hashing amount (line ∷ lines)) MAX_THETA
+  trimmed_folds line lines v is =
+      let ss : List (LeafStep ℕ) = sum_steps hashing amount (line ∷ lines) in
+      let last : Retained (Fold (TupleEntry ℕ)) = leaf_from (fold_key tuple_key) (folded_of tuple_key adds) (2 ^ lg_k) MAX_THETA (ss ++ Trim ∷ []) (none_below MAX_THETA) in
+      let updated : is_updated (ss ++ Trim ∷ []) false ≡ true = is_updated-append ss (Trim ∷ []) false ∙ stays_updated hashing amount lines in
+      let opened : NonEmpty last ≡ NonEmpty (cut (fold_key tuple_key) (2 ^ lg_k) (whole_map hashing amount (line ∷ lines)) MAX_THETA) =
+      ap (λ b. cond b (NonEmpty last) Empty) (sym updated)
+      ∙ trimmed (fold_key tuple_key) (folded_of tuple_key adds) folds_keep (2 ^ lg_k) MAX_THETA ss (omega arith) (stays_updated hashing amount lines) in
+      ap (λ (r : Retained (Fold (TupleEntry ℕ))). cut (fold_key tuple_key) (2 ^ lg_k) r.entries r.theta) is
+      ∙ sym (leaf_from-append (fold_key tuple_key) (folded_of tuple_key adds) folds_keep (2 ^ lg_k) MAX_THETA ss (Trim ∷ []) (none_below MAX_THETA))
+      ∙ injected last (cut (fold_key tuple_key) (2 ^ lg_k) (whole_map hashing amount (line ∷ lines)) MAX_THETA) opened
+
+  -- the value after a trim
+  pub trimmed_exact : (lines : List (List ℕ)) (v : Retained (TupleEntry ℕ)) (empty : Bool) → unmarked v ≡ folds_of_lines hashing amount lg_k lines → empty ≡ (length lines == 0) →
+      cond empty Empty (NonEmpty (cut tuple_key (2 ^ lg_k) v.entries v.theta)) ≡ sums_of_lines hashing amount lg_k lines
+  trimmed_exact [] v empty is none = ap (λ b. cond b Empty (NonEmpty (cut tuple_key (2 ^ lg_k) v.entries v.theta))) none
+  trimmed_exact (line ∷ lines) v empty is some =
+      let marked : unmarked (cut tuple_key (2 ^ lg_k) v.entries v.theta) ≡ cut (fold_key tuple_key) (2 ^ lg_k) (whole_map hashing amount (line ∷ lines)) MAX_THETA =
+      sym (cut-map Value tuple_key (fold_key tuple_key) (λ x. refl) (2 ^ lg_k) v.entries v.theta) ∙ trimmed_folds line lines (unmarked v) is in
+      ap (λ b. cond b Empty (NonEmpty (cut tuple_key (2 ^ lg_k) v.entries v.theta))) (some ∙ not_none line lines)
+      ∙ ap NonEmpty (retained_exact hashing amount (line ∷ lines) (2 ^ lg_k) (cut tuple_key (2 ^ lg_k) v.entries v.theta) marked)
+
+-- an ordered result is the ordered sketch
+ordered_answer : (v w : Sketch (TupleEntry ℕ)) (h k : ℕ) (s : Compact (TupleEntry ℕ)) → v ≡ w → h ≡ k → IsAnswer tuple_key v h true s → s ≡ ordered_sketch w k
+ordered_answer Empty w h k s same seeded is = is ∙ ap empty_compact seeded ∙ ap (λ (u : Sketch (TupleEntry ℕ)). ordered_sketch u k) same
+ordered_answer (NonEmpty v) w h k s same seeded is =
+    let entries : s.entries ≡ v.entries = is.in_order is.ordered_if in
+    let hash : s.seed_hash ≡ k = is.same_seed ∙ seeded in
+    (λ i. record { empty = is.nonempty i; entries = entries i; theta = is.same_theta i; seed_hash = hash i; ordered = is.ordered_if i })
+    ∙ ap (λ (u : Sketch (TupleEntry ℕ)). ordered_sketch u k) same
+
+pub ordered_result : (r : Result (Compact (TupleEntry ℕ)) ErrorKind) (v w : Sketch (TupleEntry ℕ)) (h k : ℕ) → v ≡ w → h ≡ k → IfOk r (IsAnswer tuple_key v h true) → IfOk r (λ s. s ≡ ordered_sketch w k)
+ordered_result (Ok s) v w h k same seeded is = ordered_answer v w h k s same seeded is
+ordered_result (Err e) v w h k same seeded is = tt

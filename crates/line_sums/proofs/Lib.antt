@@ -1,0 +1,4 @@
+pub mod Amounts
+pub mod Exact
+pub mod Adding
+pub mod Pieces

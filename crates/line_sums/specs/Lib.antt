@@ -1,0 +1,4 @@
+pub mod Sums
+pub mod Bins
+pub mod Reading
+pub mod Refusals

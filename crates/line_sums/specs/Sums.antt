@@ -1,0 +1,62 @@
+-- The sums of lines, by the hashes of their keys.
+use Rattle.std.specs.Prelude.{ℕ, ◌≡◌, ◌==◌, ◌+◌, ◌^◌, List, [], ◌∷◌, length, map, Some, if◌then◌else◌}
+use Rattle.sketch_base.specs.Seed.{seed_hash}
+use Rattle.core_compact.specs.CompactState.{Compact, ordered_sketch}
+use Rattle.core_laws.specs.Cuts.{Retained, none_below}
+use Rattle.core_laws.specs.Folds.{Fold, fold_key, folded_of, unmarked}
+use Rattle.core_laws.specs.Leaf.{leaf_from}
+use Rattle.core_laws.specs.Step.{Step}
+use Rattle.core_laws.specs.Values.{Sketch, Empty, NonEmpty}
+use Rattle.core_laws.specs.declared.TheConstants.{MAX_THETA}
+use Rattle.core_laws.specs.declared.leaf.LeafStep.{LeafStep}
+use Rattle.core_laws.specs.declared.leaf.LeafStep.TheVariants.{Add}
+use Rattle.core_policies.specs.Summaries.{update_step}
+use Rattle.core_policies.specs.Sums.{unsigned_sum}
+use Rattle.core_slots.specs.Entry.{tuple_key, tuple_of}
+use Rattle.core_slots.specs.declared.entry.TupleEntry.{TupleEntry}
+use Rattle.core_state.specs.Updatable.{Updatable}
+use Rattle.lines.specs.Keys.{line_hash}
+use Rattle.lines.specs.declared.key.Hashing.{Hashing}
+use Rattle.line_sketches.specs.Keys.{value_of_lines}
+
+-- what each line adds to its key: one, so that a sum is the number of a key's lines
+abbrev pub one_each : (line : List ℕ) → ℕ
+one_each line = 1
+
+-- the sum of what the lines of this hash add
+abbrev pub sum_at : Hashing → (amount : List ℕ → ℕ) → (lines : List (List ℕ)) → (h : ℕ) → ℕ
+sum_at hashing amount [] h = 0
+sum_at hashing amount (line ∷ lines) h = (if line_hash hashing line == h then amount line else 0) + sum_at hashing amount lines h
+
+-- the value of hashes, with a number beside each
+abbrev pub with_numbers : (number_of : ℕ → ℕ) → Sketch ℕ → Sketch (TupleEntry ℕ)
+with_numbers number_of Empty = Empty
+with_numbers number_of (NonEmpty v) = NonEmpty (record { entries = map (λ h. tuple_of h (number_of h)) v.entries; theta = v.theta })
+
+-- the value of lines: the hashes that the theta sketch of the lines retains, each with the sum of what its lines add
+abbrev pub sums_of_lines : Hashing → (amount : List ℕ → ℕ) → (lg_k : ℕ) → List (List ℕ) → Sketch (TupleEntry ℕ)
+sums_of_lines hashing amount lg_k lines = with_numbers (sum_at hashing amount lines) (value_of_lines hashing lg_k lines)
+
+-- the ordered sketch of the sums of lines
+abbrev pub sketch_of_sums : Hashing → (amount : List ℕ → ℕ) → (lg_k : ℕ) → List (List ℕ) → Compact (TupleEntry ℕ)
+sketch_of_sums hashing amount lg_k lines = ordered_sketch (sums_of_lines hashing amount lg_k lines) (seed_hash hashing.seed)
+
+-- lines, as the steps of a leaf
+abbrev pub sum_steps : Hashing → (amount : List ℕ → ℕ) → List (List ℕ) → List (LeafStep ℕ)
+sum_steps hashing amount lines = map (λ line. Add (line_hash hashing line) (amount line)) lines
+
+-- the step that adds to the sum at a hash, which is 0 at first; a sum of 2^64 or more is refused
+abbrev pub adds : (hash value : ℕ) → Step (TupleEntry ℕ)
+adds hash value = update_step (Some 0) (unsigned_sum 64) hash value
+
+-- what a sketch retains after lines, in folds
+abbrev pub folds_of_lines : Hashing → (amount : List ℕ → ℕ) → (lg_k : ℕ) → List (List ℕ) → Retained (Fold (TupleEntry ℕ))
+folds_of_lines hashing amount lg_k lines =
+    leaf_from (fold_key tuple_key) (folded_of tuple_key adds) (2 ^ lg_k) MAX_THETA (sum_steps hashing amount lines) (none_below MAX_THETA)
+
+-- a sketch of 2^lg_k nominal entries has had these lines, and no others, and refused none
+pub record HasSummed (hashing : Hashing) (amount : List ℕ → ℕ) (lg_k : ℕ) (lines : List (List ℕ)) (s : Updatable (TupleEntry ℕ)) : Type 0 where
+  pub folds : unmarked s.map.kept ≡ folds_of_lines hashing amount lg_k lines
+  pub same_size : s.map.lg_nom ≡ lg_k
+  pub same_seed : s.map.seed_hash ≡ seed_hash hashing.seed
+  pub emptiness : s.empty ≡ (length lines == 0)

@@ -1,0 +1,21 @@
+//! Sums of lines by their keys: how often each key comes, and how many keys come how often.
+//!
+//! A sketch of sums retains the same hashes as the theta sketch of the same lines, and beside each the sum of what all lines
+//! of that hash add: its number of lines, if each adds one. No line of a retained hash is missed, however large the text.
+//!
+//! How often the lines of texts come, and how many of those retained come five to eight times:
+//!
+//! ```
+//! let hashing = Hashing { key: Key::Line, seed: 9001 };
+//! let visits = sum_sources(alloc, hashing, 12, &mut sources)?;
+//! let from_five_to_eight = count_in(&visits, 3);
+//! ```
+#![tactic(auto)]
+
+mod bins;
+mod sources;
+mod summing;
+
+pub use bins::{BINS, count_in, greatest_of, greatest_sum, least_of};
+pub use sources::sum_sources;
+pub use summing::{SumSketch, Unsummed, add_lines, finished, new_sketch};
