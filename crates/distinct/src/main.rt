@@ -6,32 +6,16 @@
 ghost use Rattle.std.specs.Prelude.{◌≢◌};
 ghost use Rattle.sketch_base.specs.Seed.{seed_hash};
 
-mod answer;
-mod combine;
-mod eval;
-mod failure;
-mod groups;
 mod hints;
-mod images;
-mod inputs;
-mod lists;
 mod output;
 mod progress;
-mod remarks;
-mod seeds;
-mod show;
 #[cfg(test)]
 mod tests;
-mod visits;
 
-use crate::answer::perform;
-use crate::eval::expression_in;
-use crate::failure::Failure;
 use crate::hints::Hint;
-use crate::inputs::{Files, files_in_list};
 use crate::progress::Progress;
-use crate::seeds::seed_of;
 use distinct_arguments::{Command, Fault, Options, Request, Seed, read_arguments};
+use distinct_commands::{Failure, Files, expression_in, files_in_list, perform, seed_of};
 use sketch_base::DEFAULT_UPDATE_SEED;
 use std::env;
 use std::env::Env;

@@ -1,24 +1,11 @@
-//! Writing answers.
-ghost use Rattle.std.specs.Prelude.{OnOk, IfErr};
-ghost use Rattle.std.specs.Io.KnownBytes.{Appends};
-ghost use Rattle.distinct.specs.Failures.{IsOfWriting, ReportsNotWritten};
+//! Writing the file that `--output` names.
+ghost use Rattle.std.specs.Prelude.{IfErr};
+ghost use Rattle.distinct_commands.specs.Failures.{IsOfWriting};
 
-use crate::failure::Failure;
-use std::alloc::Global;
+use distinct_commands::{Failure, not_written};
 use std::fs::{File, Files};
 use std::io::{ErrorKind, Write};
 use std::{fs, io};
-
-/// Writes bytes to a writer, which has this name in messages.
-pub fn put<W: Write>(alloc: Global, writer: &mut W, name: &str, bytes: &[u8]) -> Result<(), Failure>
-    ensures written { OnOk result (Appends (W.contents writer.old) (W.contents writer.new) bytes.now) }
-    ensures failed { IfErr result (IsOfWriting name.now) }
-{
-    match writer.write_all(bytes) {
-        Ok(()) => Ok(()),
-        Err(error) => Err(not_written(alloc, name, error)),
-    }
-}
 
 /// Writes a file of this name, or writes to the device or pipe of this name.
 pub fn put_file(rt: &HostRuntime, name: &str, bytes: &[u8]) -> Result<(), Failure>
@@ -113,14 +100,4 @@ fn put_beside(
     }
     file.write_all(bytes)?;
     fs::rename(rt, beside, name)
-}
-
-/// The failure if the output of this name fails for this reason.
-fn not_written(alloc: Global, name: &str, error: io::Error) -> Failure
-    ensures { ReportsNotWritten name.now error result }
-{
-    match String::from_str(alloc, name) {
-        Ok(name) => Failure::NotWritten(name, error),
-        Err(_) => Failure::Memory,
-    }
 }

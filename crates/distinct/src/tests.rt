@@ -7,21 +7,18 @@ ghost use Rattle.line_sketches.specs.Unions.{IsUnitedImage};
 ghost use Rattle.distinct_arguments.specs.Arguments.{action_of};
 ghost use Rattle.distinct_arguments.specs.Faults.{options_of};
 ghost use Rattle.distinct_arguments.specs.Settings.{chosen_group};
-ghost use Rattle.distinct.specs.Answers.{names_of, texts_of, sketch_of};
-ghost use Rattle.distinct.specs.Images.{in_form};
-ghost use Rattle.distinct.specs.Answers.{IsIntersectionImage, IsDifferenceImage, IsShownOf, IsCounted, IsSketched, IsAnswer, Performs};
-ghost use Rattle.distinct.specs.Evaluations.{IsEvaluatedOf};
-ghost use Rattle.distinct.specs.Images.{images_of};
-ghost use Rattle.distinct.specs.Texts.{count_text};
-ghost use Rattle.distinct.specs.Visits.{visits_of, visits_text};
+ghost use Rattle.distinct_commands.specs.Answers.{names_of, texts_of, sketch_of};
+ghost use Rattle.distinct_commands.specs.Images.{in_form};
+ghost use Rattle.distinct_commands.specs.Answers.{IsIntersectionImage, IsDifferenceImage, IsShownOf, IsCounted, IsSketched, IsAnswer, Performs};
+ghost use Rattle.distinct_commands.specs.Evaluations.{IsEvaluatedOf};
+ghost use Rattle.distinct_commands.specs.Images.{images_of};
+ghost use Rattle.distinct_commands.specs.Texts.{count_text};
+ghost use Rattle.distinct_commands.specs.Visits.{visits_of, visits_text};
 
-use crate::answer::{answer, perform};
-use crate::failure::Failure;
-use crate::lists::{Unlisted, names_in};
-use crate::remarks::{Console, Remark};
 use distinct_arguments::{
     Command, Fault, Operator, Options, Request, Seed, Topic, read_arguments, text_of,
 };
+use distinct_commands::{Console, Failure, Remark, Unlisted, answer, names_in, perform};
 use expression_text::{Reason, SyntaxFault};
 use grouped_lines::GroupWatch;
 use line_sketches::{Flaw, Texts, Watch, hex_line, read_hex};

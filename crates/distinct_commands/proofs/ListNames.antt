@@ -1,0 +1,31 @@
+-- Names in lists, cut at NUL bytes.
+use Rattle.std.proofs.Common.{◌≡◌, ℕ, suc, true, false, cond, eqb, List, [], ◌∷◌, ◌++◌, length, refl, sym, ap, ◌∙◌, append-nil, arith}
+use Rattle.std.specs.List.{onto_first}
+use Rattle.std.proofs.lemmas.Bool.{ne_eqb}
+use Rattle.lines.specs.Lines.{Lacks}
+use Rattle.distinct_commands.specs.Lists.{names_in}
+
+lacks-rest : (b : ℕ) (bs : List ℕ) → Lacks 0 (b ∷ bs) → Lacks 0 bs
+lacks-rest b bs h i lt = h (suc i) (omega arith)
+
+first_not : (b : ℕ) (bs : List ℕ) → Lacks 0 (b ∷ bs) → eqb b 0 ≡ false
+first_not b bs h = ne_eqb b 0 (h 0 (omega arith))
+
+-- a name ends
+pub name_ended : (name rest : List ℕ) → Lacks 0 name → names_in (name ++ 0 ∷ rest) ≡ name ∷ names_in rest
+name_ended [] rest h = refl
+name_ended (b ∷ bs) rest h = rw (first_not b bs h) (ap (onto_first b) (name_ended bs rest (lacks-rest b bs h)))
+
+-- a last name without a NUL byte behind it
+pub last_name : (b : ℕ) (bs : List ℕ) → Lacks 0 (b ∷ bs) → names_in (b ∷ bs) ≡ (b ∷ bs) ∷ []
+last_name b [] h = rw (first_not b [] h) refl
+last_name b (c ∷ bs) h = rw (first_not b (c ∷ bs) h) (ap (onto_first b) (last_name c bs (lacks-rest b (c ∷ bs) h)))
+
+-- at the end nothing is left, or a last name
+pub all_named : (names : List (List ℕ)) (rest all : List ℕ) → names_in all ≡ names ++ names_in rest → length rest ≡ 0 → names ≡ names_in all
+all_named names [] all so_far none = sym (so_far ∙ append-nil names)
+all_named names (b ∷ bs) all so_far none = absurd (omega arith)
+
+pub last_named : (names new : List (List ℕ)) (rest all : List ℕ) → names_in all ≡ names ++ names_in rest → Lacks 0 rest → (length rest ≡ 0 → ⊥) → new ≡ names ++ rest ∷ [] → new ≡ names_in all
+last_named names new [] all so_far lacks some put = absurd (some refl)
+last_named names new (b ∷ bs) all so_far lacks some put = put ∙ sym (so_far ∙ ap (λ ns. names ++ ns) (last_name b bs lacks))

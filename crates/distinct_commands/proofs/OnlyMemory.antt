@@ -1,0 +1,60 @@
+-- For sketches of one seed whose hash is not 0, and sizes in range, the only error is refused memory.
+use Rattle.std.proofs.Common.{◌≡◌, ℕ, ◌≤◌, Bool, true, false, cond, List, [], ◌∷◌, ◌++◌, Option, Some, None, refl, sym, ap, subst, ◌∙◌, arith, inl, inr}
+use Rattle.std.specs.Prelude.{◌⊎◌, ◌==◌, ◌||◌, ◌≢◌}
+use Rattle.std.proofs.lemmas.Bool.Decides.{nat_tests}
+use Rattle.sketch_base.specs.Seed.{seed_hash}
+use Rattle.sketch_base.specs.declared.error.ErrorKind.{ErrorKind}
+use Rattle.sketch_base.specs.declared.error.ErrorKind.TheVariants.{OutOfMemory, InvalidArgument, InvalidData}
+use Rattle.core_compact.specs.CompactState.{Compact, compact_value}
+use Rattle.core_laws.specs.Entries.{hash_key, first_hash}
+use Rattle.core_laws.specs.Operators.{meet_next}
+use Rattle.core_laws.specs.Values.{Sketch}
+use Rattle.core_laws.specs.declared.TheConstants.{MAX_THETA}
+use Rattle.core_operators.specs.Intersection.{is_settled, seed_refusal}
+use Rattle.core_laws.specs.Settings.{settings_refusal}
+use Rattle.line_sketches.specs.Meeting.{first_refusal, meet_refusal, refusal_of_intersection}
+use Rattle.line_sketches.specs.Refusals.{IsUnread, IsUniteRefusal}
+use Rattle.line_sketches.specs.declared.sketching.Unread.{Unread}
+use Rattle.line_sketches.specs.declared.sketching.Unread.TheVariants.{Refused}
+use Rattle.distinct_commands.specs.Seeds.{AreSeeded}
+
+-- a size in range
+pub sized : (lg_k seed : ℕ) → 4 ≤ lg_k → lg_k ≤ 26 → seed_hash seed ≢ 0 → settings_refusal lg_k MAX_THETA seed ≡ None
+sized lg_k seed low high seeded = grind (arith, nat_tests)
+
+read_of : (refusal : Option ErrorKind) (e : ErrorKind) → refusal ≡ None → IsUnread refusal (Refused e) → e ≡ OutOfMemory
+read_of refusal e none (inl is) = let both : None ≡ Some e = sym none ∙ is in absurd (cc)
+read_of refusal e none (inr memory) = memory
+
+pub read_kind : (refusal : Option ErrorKind) (u : Unread) (e : ErrorKind) → refusal ≡ None → u ≡ Refused e → IsUnread refusal u → e ≡ OutOfMemory
+read_kind refusal u e none is refused = read_of refusal e none (subst (IsUnread refusal) is refused)
+
+unite_of : (seed : ℕ) (refusal : Option ErrorKind) (images : Option (List (List ℕ))) (e : ErrorKind) → refusal ≡ None → IsUniteRefusal seed refusal images (Refused e) → (e ≡ OutOfMemory) ⊎ (e ≡ InvalidData)
+unite_of seed refusal images e none (inl is) = let both : None ≡ Some e = sym none ∙ is in absurd (cc)
+unite_of seed refusal images e none (inr (inl memory)) = inl memory
+unite_of seed refusal images e none (inr (inr faulty)) = inr faulty.0
+
+pub unite_kind : (seed : ℕ) (refusal : Option ErrorKind) (images : Option (List (List ℕ))) (u : Unread) (e : ErrorKind) → refusal ≡ None → u ≡ Refused e → IsUniteRefusal seed refusal images u → (e ≡ OutOfMemory) ⊎ (e ≡ InvalidData)
+unite_kind seed refusal images u e none is refused = unite_of seed refusal images e none (subst (IsUniteRefusal seed refusal images) is refused)
+
+-- sketches of one seed
+one_accepted : (settled empty : Bool) (x y : ℕ) → y ≡ x → cond (settled || empty) None (cond (x == y) None (Some InvalidArgument)) ≡ None
+one_accepted true empty x y same = refl
+one_accepted false true x y same = refl
+one_accepted false false x y same = grind (arith, nat_tests)
+
+pub meet_accepted : (seed : ℕ) (so_far : Option (Sketch ℕ)) (sketches : List (Compact ℕ)) → AreSeeded seed sketches → meet_refusal seed so_far sketches ≡ None
+meet_accepted seed so_far [] seeded = refl
+meet_accepted seed so_far (s ∷ sketches) seeded =
+    let next = Some (meet_next hash_key first_hash so_far (compact_value hash_key s)) in
+    ap (λ o. first_refusal o (meet_refusal seed next sketches)) (one_accepted (is_settled so_far) s.empty (seed_hash seed) s.seed_hash seeded.0) ∙ meet_accepted seed next sketches seeded.1
+
+pub seeded-more : (seed : ℕ) (sketches : List (Compact ℕ)) (s : Compact ℕ) → AreSeeded seed sketches → s.seed_hash ≡ seed_hash seed → AreSeeded seed (sketches ++ s ∷ [])
+seeded-more seed [] s all one = (one, tt)
+seeded-more seed (t ∷ ts) s all one = (all.0, seeded-more seed ts s all.1 one)
+
+-- intersections of such sketches
+pub intersection_accepted : (seed : ℕ) (sketches : List (Compact ℕ)) → seed_hash seed ≢ 0 → AreSeeded seed sketches → refusal_of_intersection seed sketches ≡ None
+intersection_accepted seed sketches nonzero seeded =
+    let accepted : seed_refusal seed ≡ None = grind (arith, nat_tests) in
+    ap (λ o. first_refusal o (meet_refusal seed None sketches)) accepted ∙ meet_accepted seed None sketches seeded

@@ -1,0 +1,68 @@
+-- The sketches of an expression's names against their whole streams, and that nothing but memory refuses its evaluation.
+use Rattle.std.proofs.Common.{◌≡◌, ℕ, Bool, true, false, List, [], ◌∷◌, length, map, Option, Some, None, refl, sym, ap, subst, ◌∙◌, arith}
+use Rattle.std.specs.Prelude.{◌&&◌, ◌||◌, ◌==◌}
+use Rattle.std.proofs.lemmas.Bool.Decides.{nat_tests}
+use Rattle.std.proofs.lemmas.List.{length-map}
+use Rattle.sketch_base.specs.Seed.{seed_hash}
+use Rattle.core_compact.specs.CompactState.{Compact, compact_value}
+use Rattle.core_laws.specs.Entries.{hash_key}
+use Rattle.core_laws.specs.Samples.{IsSample, AreSamples}
+use Rattle.core_laws.specs.Settings.{settings_refusal}
+use Rattle.core_laws.specs.Values.{Sketch}
+use Rattle.core_laws.specs.declared.TheConstants.{MAX_THETA}
+use Rattle.lines.specs.Lines.{lines_of}
+use Rattle.line_sketches.specs.Keys.{key_set, value_of_lines}
+use Rattle.line_sketches.specs.Shards.{sketches_of_texts}
+use Rattle.line_sketches.proofs.Shards.{sample}
+use Rattle.line_sketches.proofs.Rereads.{value_again}
+use Rattle.expression_text.specs.declared.operator.Step.{Step}
+use Rattle.expression_text.specs.Expressions.{Expression, postfix, IsWithin}
+use Rattle.set_expressions.specs.Values.{value_of, set_of}
+use Rattle.set_expressions.specs.Running.{values_of, after_steps, only_value, is_accepted, are_accepted, evaluation_refusal}
+use Rattle.set_expressions.proofs.RunSteps.{expression_result, one_result}
+use Rattle.set_expressions.proofs.WholeSets.{expression_sample}
+use Rattle.distinct_arguments.specs.Settings.{OptionValues}
+use Rattle.distinct_commands.specs.Failures.{chosen_hashing}
+use Rattle.distinct_commands.specs.Evaluations.{AreOperands, AreWholeSets}
+use Rattle.distinct_commands.specs.Seeds.{AreSeeded}
+
+module _ (options : OptionValues) (seed : ℕ) where
+  text_samples : (texts : List (List ℕ)) → AreSamples hash_key (values_of (sketches_of_texts (chosen_hashing options seed) options.lg_k texts)) (map (λ text. key_set (chosen_hashing options seed) (lines_of text)) texts)
+  text_samples [] = tt
+  text_samples (text ∷ texts) =
+      let hashing = chosen_hashing options seed in
+      let lines = lines_of text in
+      let V : Sketch ℕ → Type 0 = λ v. IsSample hash_key v (key_set hashing lines) in
+      (subst V (sym (value_again hashing options.lg_k lines)) (sample hashing options.lg_k lines), text_samples texts)
+
+  operand_samples : (keys : Bool) (texts : List (List ℕ)) (sketches : List (Compact ℕ)) (sets : List (List ℕ)) → AreOperands keys options seed texts sketches → AreWholeSets keys options seed texts sketches sets → AreSamples hash_key (values_of sketches) sets
+  operand_samples true texts sketches sets operands are =
+      let S : List (List ℕ) → Type 0 = λ all. AreSamples hash_key (values_of sketches) all in
+      let O : List (Compact ℕ) → Type 0 = λ ss. AreSamples hash_key (values_of ss) (map (λ text. key_set (chosen_hashing options seed) (lines_of text)) texts) in
+      subst S (sym are) (subst O (sym operands) (text_samples texts))
+  operand_samples false texts sketches sets operands are = are
+
+  -- the result is a sample of the expression of the whole streams
+  pub whole_result : (texts : List (List ℕ)) (sketches : List (Compact ℕ)) (e : Expression) → AreOperands options.keys options seed texts sketches → (sets : List (List ℕ)) → AreWholeSets options.keys options seed texts sketches sets →
+      IsSample hash_key (value_of options.lg_k (values_of sketches) e) (set_of sets e)
+  whole_result texts sketches e operands sets are = expression_sample options.lg_k (values_of sketches) sets e (operand_samples options.keys texts sketches sets operands are)
+
+-- ---- sketches of one seed are accepted
+
+one_seed : (h x : ℕ) (empty : Bool) → x ≡ h → (empty || h == x) ≡ true
+one_seed h x true same = refl
+one_seed h x false same = grind (arith, nat_tests)
+
+seeds_accepted : (seed : ℕ) (sketches : List (Compact ℕ)) → AreSeeded seed sketches → are_accepted (seed_hash seed) sketches ≡ true
+seeds_accepted seed [] seeded = refl
+seeds_accepted seed (s ∷ sketches) seeded =
+    ap (λ b. b && are_accepted (seed_hash seed) sketches) (one_seed (seed_hash seed) s.seed_hash s.empty seeded.0) ∙ seeds_accepted seed sketches seeded.1
+
+-- the evaluation of an expression over them is refused for memory alone
+pub evaluation_accepted : (seed lg_k : ℕ) (steps : List Step) (sketches : List (Compact ℕ)) (e : Expression) → settings_refusal lg_k MAX_THETA seed ≡ None → AreSeeded seed sketches → IsWithin (length sketches) e → steps ≡ postfix e →
+    evaluation_refusal seed lg_k steps sketches ≡ None
+evaluation_accepted seed lg_k steps sketches e settings seeded within is =
+    let values = values_of sketches in
+    let inside : IsWithin (length values) e = subst (λ (n : ℕ). IsWithin n e) (sym (length-map sketches (λ s. compact_value hash_key s))) within in
+    one_result seed lg_k steps sketches (value_of lg_k values e) settings (seeds_accepted seed sketches seeded)
+    (ap (λ ss. only_value (after_steps lg_k values ss (Some []))) is ∙ ap only_value (expression_result lg_k values e inside))

@@ -1,0 +1,12 @@
+use Rattle.std.proofs.Common.{◌≡◌, true, Some}
+use Rattle.std.specs.Prelude.{IfSome}
+use Rattle.distinct_commands.specs.Images.{remaining_images}
+use Rattle.distinct_commands.proofs.images.Images.next_line.Given as goal
+
+-- the same images are left
+abbrev pub invariant-files : goal.invariant-files
+invariant-files g l = record {
+  hex : l.self.hex ≡ true;
+  same : IfSome (remaining_images g.S.Source.Read.remaining g.S.Sources.texts l.fn.self)
+      (λ images. remaining_images g.S.Source.Read.remaining g.S.Sources.texts l.self ≡ Some images);
+}

@@ -1,0 +1,11 @@
+use Rattle.std.proofs.Common.{◌≡◌, ◌++◌, length}
+use Rattle.distinct_commands.specs.Answers.{names_of}
+use Rattle.distinct_commands.specs.Lists.{names_in}
+use Rattle.distinct_commands.proofs.lists.names_in.Given as goal
+
+-- the names so far, followed by those of the rest, are all names
+abbrev pub invariant-cut_each : goal.invariant-cut_each
+invariant-cut_each l = names_in l.list ≡ names_of l.names.items ++ names_in l.rest
+
+abbrev pub decreases-cut_each : goal.decreases-cut_each
+decreases-cut_each l = length l.rest

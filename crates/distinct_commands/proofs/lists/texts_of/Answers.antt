@@ -1,0 +1,20 @@
+use Rattle.std.proofs.Common.{◌≡◌, [], ◌∷◌, ◌++◌, length, sym, ap, ◌∙◌, append_assoc, append-nil, arith}
+use Rattle.distinct_commands.specs.Answers.{names_of, texts_of}
+use Rattle.distinct_commands.proofs.NextImages.{nothing_named}
+use Rattle.distinct_commands.proofs.lists.texts_of.Goals as goal
+
+pub put_each-preserved : goal.put_each-preserved
+put_each-preserved c =
+    let old = names_of c.put_each.texts.items in
+    let name = c.in-Some.name.now.items in
+    let others = texts_of c.in-Some.others.now in
+    c.put_each.invariant
+    ∙ ap (λ ns. old ++ ns) (ap texts_of c.in-Some.ensures.cases.0)
+    ∙ sym (append_assoc old (name ∷ []) others)
+    ∙ ap (λ ns. ns ++ others) (sym (c.in_ok-put_name.ensures ∙ ap (λ n. old ++ n ∷ []) c.as_slice.ensures.value))
+
+pub returns : goal.returns
+returns c =
+    let old = names_of c.put_each.texts.items in
+    let none : length c.put_each.left.now ≡ 0 = grind (arith, c.in_default.ensures.cases, c.in_default.ensures.variant, c.in_default.not-Some) in
+    sym (c.put_each.invariant ∙ ap (λ ns. old ++ ns) (nothing_named (λ name. name.items) c.put_each.left.now none) ∙ append-nil old)

@@ -1,0 +1,10 @@
+use Rattle.std.proofs.Common.{◌≡◌, ◌++◌, length}
+use Rattle.distinct_commands.specs.Answers.{names_of, texts_of}
+use Rattle.distinct_commands.proofs.lists.texts_of.Given as goal
+
+-- the texts so far, followed by the names that are left, are all names
+abbrev pub invariant-put_each : goal.invariant-put_each
+invariant-put_each l = texts_of l.names ≡ names_of l.texts.items ++ texts_of l.left
+
+abbrev pub decreases-put_each : goal.decreases-put_each
+decreases-put_each l = length l.left

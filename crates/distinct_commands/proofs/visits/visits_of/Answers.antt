@@ -1,0 +1,13 @@
+use Rattle.std.proofs.Common.{◌≡◌, ap, ◌∙◌}
+use Rattle.lines.specs.Lines.{lines_of_all}
+use Rattle.lines.specs.declared.key.Key.{Key}
+use Rattle.line_sketches.proofs.Turns.{if_some}
+use Rattle.line_sums.specs.Sums.{one_each, sketch_of_sums}
+use Rattle.distinct_arguments.specs.Faults.{options_of}
+use Rattle.distinct_commands.specs.Visits.{visits_of}
+use Rattle.distinct_commands.proofs.visits.visits_of.Goals as goal
+
+pub returns-in-Ok-clause-visits : goal.returns-in-Ok-clause-visits
+returns-in-Ok-clause-visits g c =
+    if_some (g.S.Sources.texts c.args.inputs.sources) (λ texts. c.in-Ok.visits ≡ sketch_of_sums (record { key = c.key.result; seed = c.args.seed }) one_each c.args.options.now.lg_k (lines_of_all texts)) (λ texts. c.in-Ok.visits ≡ visits_of (options_of c.args.options.now) c.args.seed texts)
+    (λ texts is. is ∙ ap (λ (k : Key). sketch_of_sums (record { key = k; seed = c.args.seed }) one_each c.args.options.now.lg_k (lines_of_all texts)) c.key.ensures) c.in-Ok.ensures.sketch

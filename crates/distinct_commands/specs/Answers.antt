@@ -1,0 +1,124 @@
+-- What a command writes, by the texts of its files.
+use Rattle.std.specs.Prelude.{ℕ, ◌≡◌, ◌++◌, Bool, true, false, List, [], ◌∷◌, length, map, Option, Some, None, IfSome, String, Vec, string_bytes, decimal, codes, if◌then◌else◌}
+use Rattle.std.specs.Io.KnownBytes.{Appends}
+use Rattle.core_compact.specs.CompactState.{Compact, compact_value}
+use Rattle.core_state.specs.Fraction.{compact_fraction}
+use Rattle.core_laws.specs.Entries.{hash_key, first_hash}
+use Rattle.core_laws.specs.Operators.{meet, minus}
+use Rattle.theta_sketches.specs.Image.{Reads, written}
+use Rattle.sketch_base.specs.Seed.{seed_hash}
+use Rattle.lines.specs.Lines.{lines_of_all}
+use Rattle.line_sketches.specs.Keys.{value_of_lines, sketch_of_value}
+use Rattle.line_sketches.specs.Shards.{values_of_sketches, AreRead}
+use Rattle.line_sketches.specs.Unions.{IsUnitedImage}
+use Rattle.distinct_arguments.specs.Settings.{OptionValues, chosen_group}
+use Rattle.distinct_arguments.specs.Arguments.{Action, prints, runs, fails}
+use Rattle.distinct_commands.specs.Failures.{called, chosen_hashing}
+use Rattle.distinct_commands.specs.Evaluations.{IsEvaluatedOf}
+use Rattle.distinct_commands.specs.Images.{images_of, in_form}
+use Rattle.distinct_commands.specs.Groups.{IsGroupedText}
+use Rattle.lines.specs.declared.key.Key.{Key}
+use Rattle.distinct_commands.specs.Texts.{count_text, shown_text, head_of}
+use Rattle.distinct_commands.specs.Visits.{visits_of, visits_text}
+use Rattle.distinct_arguments.specs.declared.commands.Command.{Command}
+use Rattle.distinct_arguments.specs.declared.commands.Command.TheVariants.{Count, Sketch, Combine, Show, Eval, Visits}
+use Rattle.distinct_arguments.specs.declared.commands.Operator.{Operator}
+use Rattle.distinct_arguments.specs.declared.commands.Operator.TheVariants.{Union, Meet, Minus}
+
+-- the names of files, and the texts of files in memory
+abbrev pub names_of : {A : Type 0} → List (String A) → List (List ℕ)
+names_of names = map (λ name. string_bytes name) names
+
+abbrev pub texts_of : {A : Type 0} → List (Vec ℕ A) → List (List ℕ)
+texts_of texts = map (λ text. text.items) texts
+
+-- the sketch of the lines of all texts, each text cut into lines by itself, with the key and the size that the options set, under a seed
+abbrev pub sketch_of : OptionValues → (seed : ℕ) → (texts : List (List ℕ)) → Compact ℕ
+sketch_of options seed texts = sketch_of_value seed (value_of_lines (chosen_hashing options seed) options.lg_k (lines_of_all texts))
+
+-- the ordered sketches of an intersection and of a difference
+abbrev pub intersection_of : (seed : ℕ) → List (Compact ℕ) → Compact ℕ
+intersection_of seed sketches = sketch_of_value seed (meet hash_key first_hash (values_of_sketches sketches))
+
+abbrev pub difference_of : (seed : ℕ) → (first second : Compact ℕ) → Compact ℕ
+difference_of seed first second = sketch_of_value seed (minus hash_key hash_key (compact_value hash_key first) (compact_value hash_key second))
+
+-- the image of the intersection of the sketches in images
+abbrev pub IsIntersectionImage : (seed : ℕ) → (images : List (List ℕ)) → List ℕ → Type 0
+IsIntersectionImage seed images out =
+    (sketches : List (Compact ℕ)) × AreRead seed images sketches × (out ≡ written (intersection_of seed sketches))
+
+-- the image of the difference of the sketches in two images
+abbrev pub IsDifferenceImage : (seed : ℕ) → (images : List (List ℕ)) → List ℕ → Type 0
+IsDifferenceImage seed images out =
+    (first second : Compact ℕ) × AreRead seed images (first ∷ second ∷ []) × (out ≡ written (difference_of seed first second))
+
+-- there are as many images as are expected, if a number is
+abbrev pub IsExpected : (expected : Option ℕ) → (count : ℕ) → Type 0
+IsExpected expected count = IfSome expected (λ number. number ≡ count)
+
+-- the image that an operator makes of the sketches in images
+abbrev pub IsCombined : Operator → OptionValues → (seed : ℕ) → (images : List (List ℕ)) → List ℕ → Type 0
+IsCombined Union options seed images out = IsUnitedImage seed options.lg_k images out × IsExpected options.expected (length images)
+IsCombined Meet options seed images out = IsIntersectionImage seed images out × IsExpected options.expected (length images)
+IsCombined Minus options seed images out = IsDifferenceImage seed images out
+
+-- the same for the images in files
+abbrev pub IsCombinedOf : Operator → OptionValues → (seed : ℕ) → (texts : List (List ℕ)) → List ℕ → Type 0
+IsCombinedOf operator options seed texts out = IsCombined operator options seed (images_of options.hex texts) out
+
+-- one line per image, under the file's name
+abbrev pub IsShown : OptionValues → (seed : ℕ) → (names images : List (List ℕ)) → List ℕ → Type 0
+IsShown options seed [] images out = out ≡ []
+IsShown options seed (name ∷ names) [] out = out ≡ []
+IsShown options seed (name ∷ names) (image ∷ images) out =
+    (s : Compact ℕ) × (rest : List ℕ) × Reads image (seed_hash seed) s × (out ≡ shown_text options (called name) s ++ rest)
+    × IsShown options seed names images rest
+
+-- one line per image, under any name
+abbrev pub AreShown : OptionValues → (seed : ℕ) → (images : List (List ℕ)) → List ℕ → Type 0
+AreShown options seed [] out = out ≡ []
+AreShown options seed (image ∷ images) out =
+    (name : List ℕ) × (s : Compact ℕ) × (rest : List ℕ) × Reads image (seed_hash seed) s × (out ≡ shown_text options name s ++ rest)
+    × AreShown options seed images rest
+
+-- one line per image in files: under the file's name if each file is an image, under an unspecified name if each line has one
+abbrev pub AreLinesOf : (hex : Bool) → OptionValues → (seed : ℕ) → (names texts : List (List ℕ)) → List ℕ → Type 0
+AreLinesOf true options seed names texts out = AreShown options seed (images_of true texts) out
+AreLinesOf false options seed names texts out = IsShown options seed names texts out
+
+-- .. behind the head of a table, if there is to be one
+abbrev pub IsShownOf : OptionValues → (seed : ℕ) → (names texts : List (List ℕ)) → List ℕ → Type 0
+IsShownOf options seed names texts out =
+    (lines : List ℕ) × AreLinesOf options.hex options seed names texts lines × (out ≡ head_of options.form ++ lines)
+
+-- what `count` prints of texts, by the key of their groups if there is one
+abbrev pub IsCounted : (by : Option Key) → OptionValues → (seed : ℕ) → (texts : List (List ℕ)) → List ℕ → Type 0
+IsCounted None options seed texts out = out ≡ count_text options (sketch_of options seed texts)
+IsCounted (Some by) options seed texts out = IsGroupedText false options seed by texts out
+
+-- what `sketch` writes of texts, by the key of their groups if there is one
+abbrev pub IsSketched : (by : Option Key) → OptionValues → (seed : ℕ) → (texts : List (List ℕ)) → List ℕ → Type 0
+IsSketched None options seed texts out = out ≡ in_form options.hex (written (sketch_of options seed texts))
+IsSketched (Some by) options seed texts out = IsGroupedText true options seed by texts out
+
+-- what a command writes for files of these names and texts; the only name of `eval` is its expression
+abbrev pub IsAnswer : Command → OptionValues → (seed : ℕ) → (names texts : List (List ℕ)) → List ℕ → Type 0
+IsAnswer Count options seed names texts out = IsCounted (chosen_group options) options seed texts out
+IsAnswer Sketch options seed names texts out = IsSketched (chosen_group options) options seed texts out
+IsAnswer (Combine operator) options seed names texts out =
+    (image : List ℕ) × IsCombinedOf operator options seed texts image × (out ≡ in_form options.hex image)
+IsAnswer Show options seed names texts out = IsShownOf options seed names texts out
+IsAnswer Eval options seed names texts out = IsEvaluatedOf options seed names texts out
+IsAnswer Visits options seed names texts out = out ≡ visits_text options (visits_of options seed texts)
+
+-- the command's answer was written, and nothing else
+abbrev pub Writes : Command → OptionValues → (seed : ℕ) → (names texts : List (List ℕ)) → (old new : Option (List ℕ)) → Type 0
+Writes command options seed names texts old new =
+    (out : List ℕ) × IsAnswer command options seed names texts out × Appends old new out
+
+-- the program did what its arguments say: it printed a text, or ran a command under this seed on files of these names and texts
+abbrev pub Performs : Action → (seed : ℕ) → (names texts : List (List ℕ)) → (old new : Option (List ℕ)) → Type 0
+Performs (prints topic) seed names texts old new = (text : List ℕ) × Appends old new text
+Performs (runs command options files) seed names texts old new = Writes command options seed names texts old new
+Performs (fails fault) seed names texts old new = ⊥

@@ -1,0 +1,137 @@
+-- When each failure occurs.
+use Rattle.std.specs.Prelude.{ℕ, ◌≡◌, ◌≢◌, ◌⊎◌, ◌==◌, ◌&&◌, ◌+◌, ◌-◌, ◌^◌, min, ⊤, Bool, true, false, List, [], ◌∷◌, length, Option, Some, None, IfSome, String, codes, string_bytes, if◌then◌else◌}
+use Rattle.std.specs.Str.{bytes_eq}
+use Rattle.lines.specs.declared.key.Hashing.{Hashing}
+use Rattle.expression_text.specs.Grammar.{SpellsNothing}
+use Rattle.distinct_arguments.specs.Faults.{status_of as fault_status}
+use Rattle.distinct_arguments.specs.declared.fault.Fault.TheVariants.{NotOneExpression}
+use Rattle.distinct_arguments.specs.Settings.{chosen_key}
+use Rattle.std.specs.declared.io.Error.{Error}
+use Rattle.distinct_arguments.specs.Settings.{OptionValues}
+use Rattle.distinct_commands.specs.Images.{images_of}
+use Rattle.distinct_commands.specs.declared.images.Images.{Images}
+use Rattle.distinct_arguments.specs.declared.commands.Command.{Command}
+use Rattle.distinct_arguments.specs.declared.commands.Command.TheVariants.{Count, Sketch, Combine, Eval, Visits}
+use Rattle.distinct_arguments.specs.declared.commands.Operator.{Operator}
+use Rattle.distinct_arguments.specs.declared.commands.Operator.TheVariants.{Minus}
+use Rattle.distinct_commands.specs.declared.failure.Failure.{Failure}
+use Rattle.distinct_commands.specs.declared.failure.Failure.TheVariants.{NotText, Arguments, NoFiles, NotTwo, NoExpression, NoName, Terminal, WrongCount, NotOneEach, Memory, Unreadable, NoSketch, NoHex, NoLine, PastGreatest, NotWritten}
+
+-- the exit status: 2 if the arguments are wrong, else 1
+abbrev pub status_of : Failure → ℕ
+status_of (NotText number text) = 2
+status_of (Arguments fault) = fault_status fault
+status_of NoFiles = 2
+status_of NotTwo = 2
+status_of (NoExpression text fault) = 2
+status_of Terminal = 2
+status_of _ = 1
+
+-- the name of a file in messages
+abbrev pub called : List ℕ → List ℕ
+called name = if bytes_eq name (codes "-") then codes "standard input" else name
+
+-- the next name is the current one, and the others are left; if no name is left, the current one stays
+abbrev pub NotesNext : {A : Type 0} → (current : List ℕ) → (left : List (String A)) → (new_current : List ℕ) → (new_left : List (String A)) → Type 0
+NotesNext current [] new_current new_left = (new_current ≡ current) × (new_left ≡ [])
+NotesNext current (name ∷ names) new_current new_left = (new_current ≡ string_bytes name) × (new_left ≡ names)
+
+-- the number of a line after this many, as far as it is counted
+abbrev pub next_number : (line : ℕ) → ℕ
+next_number line = min (line + 1) (2 ^ 64 - 1)
+
+-- memory was refused, or the file of this name can't be read, for this reason
+abbrev pub ReportsUnreadable : (name : List ℕ) → Error → Failure → Type 0
+ReportsUnreadable name error Memory = ⊤
+ReportsUnreadable name error (Unreadable file reason) = (string_bytes file ≡ name) × (reason ≡ error)
+ReportsUnreadable name error _ = ⊥
+
+-- Memory was refused; or the file that was opened last has no line though each line should be an image; or it, or its line that
+-- was read last, has this flaw; or that line isn't hexadecimal.
+abbrev pub ReportsNoSketch : {S R : Type 0} → Images S R → Failure → Type 0
+ReportsNoSketch images Memory = ⊤
+ReportsNoSketch images (NoSketch file number flaw) =
+    (string_bytes file ≡ called images.inputs.current.now) × (number ≡ images.line) × (images.flaw ≡ Some flaw) × ((images.hex && images.line == 0) ≡ false)
+ReportsNoSketch images (NoHex file number) =
+    (string_bytes file ≡ called images.inputs.current.now) × (number ≡ images.line) × (images.flaw ≡ None) × ((images.hex && images.line == 0) ≡ false)
+ReportsNoSketch images (NoLine file) = (string_bytes file ≡ called images.inputs.current.now) × ((images.hex && images.line == 0) ≡ true)
+ReportsNoSketch images _ = ⊥
+
+-- memory was refused, or the output of this name failed, for this reason
+abbrev pub ReportsNotWritten : (name : List ℕ) → Error → Failure → Type 0
+ReportsNotWritten name error Memory = ⊤
+ReportsNotWritten name error (NotWritten output reason) = (string_bytes output ≡ name) × (reason ≡ error)
+ReportsNotWritten name error _ = ⊥
+
+-- memory was refused, or a file can't be read
+abbrev pub IsOfReading : Failure → Type 0
+IsOfReading Memory = ⊤
+IsOfReading (Unreadable name error) = ⊤
+IsOfReading _ = ⊥
+
+-- .. or it is not an image
+abbrev pub IsOfImages : Failure → Type 0
+IsOfImages (NoSketch name line flaw) = ⊤
+IsOfImages (NoHex name line) = ⊤
+IsOfImages (NoLine name) = ⊤
+IsOfImages failure = IsOfReading failure
+
+-- lines are not summed: memory was refused, a file can't be read, or a sum would be 2^64 or more
+abbrev pub IsOfSums : Failure → Type 0
+IsOfSums (PastGreatest name line) = ⊤
+IsOfSums failure = IsOfReading failure
+
+-- memory was refused, or the output of this name failed
+abbrev pub IsOfWriting : (name : List ℕ) → Failure → Type 0
+IsOfWriting name Memory = ⊤
+IsOfWriting name (NotWritten output error) = string_bytes output ≡ name
+IsOfWriting name _ = ⊥
+
+-- there are not two images: each file is one, and this count of them is not two, or the images in the texts are not two, if these are known
+abbrev pub AreNotTwo : (hex : Bool) → (count : ℕ) → (texts : Option (List (List ℕ))) → Type 0
+AreNotTwo hex count texts = ((hex ≡ false) × (count ≢ 2)) ⊎ IfSome texts (λ all. length (images_of hex all) ≢ 2)
+
+-- another number of images was found than is expected
+abbrev pub IsOfCount : (expected : Option ℕ) → (found : ℕ) → Failure → Type 0
+IsOfCount expected found (WrongCount counted number) = (counted ≡ found) × (expected ≡ Some number) × (number ≢ found)
+IsOfCount expected found _ = ⊥
+
+-- images aren't united: memory, a file or its contents is at fault, or they are not as many as are expected
+abbrev pub IsOfUnion : (expected : Option ℕ) → Failure → Type 0
+IsOfUnion expected (WrongCount counted number) = (expected ≡ Some number) × (number ≢ counted)
+IsOfUnion expected failure = IsOfImages failure
+
+-- images can't be combined: memory, a file or its contents is at fault, there are not as many as are expected, or `minus` doesn't have two
+abbrev pub IsOfCombining : Operator → OptionValues → (count : ℕ) → (texts : Option (List (List ℕ))) → Failure → Type 0
+IsOfCombining operator options count texts NotTwo = (operator ≡ Minus) × AreNotTwo options.hex count texts
+IsOfCombining operator options count texts failure = IsOfUnion options.expected failure
+
+-- a text is not read as an expression: memory was refused, it spells none, or it has a name that can't be one
+abbrev pub IsOfExpression : (text : List ℕ) → Failure → Type 0
+IsOfExpression text Memory = ⊤
+IsOfExpression text (NoExpression copy fault) = SpellsNothing text
+IsOfExpression text (NoName copy number) = ⊤
+IsOfExpression text _ = ⊥
+
+-- an evaluation fails: there is not one expression, it is not read, there are not as many sketches as names, or a file is at fault
+abbrev pub IsOfEvaluation : (count : ℕ) → Failure → Type 0
+IsOfEvaluation count (Arguments NotOneExpression) = count ≢ 1
+IsOfEvaluation count (NoExpression text fault) = ⊤
+IsOfEvaluation count (NoName text number) = ⊤
+IsOfEvaluation count (NotOneEach found names) = found ≢ names
+IsOfEvaluation count failure = IsOfImages failure
+
+-- a command fails: what it reads or writes is at fault, it has no image, there are not as many as are expected, `minus` doesn't have two, or
+-- `eval` doesn't have one expression
+abbrev pub IsOfCommand : Command → OptionValues → (count : ℕ) → (texts : Option (List (List ℕ))) → Failure → Type 0
+IsOfCommand command options count texts NoFiles = (count ≡ 0) × (command ≡ Count → ⊥) × (command ≡ Sketch → ⊥) × (command ≡ Eval → ⊥) × (command ≡ Visits → ⊥)
+IsOfCommand command options count texts NotTwo = (command ≡ Combine Minus) × AreNotTwo options.hex count texts
+IsOfCommand command options count texts (WrongCount counted number) = (options.expected ≡ Some number) × (number ≢ counted)
+IsOfCommand command options count texts (NotOneEach found names) = (command ≡ Eval) × (found ≢ names)
+IsOfCommand command options count texts (NoExpression text fault) = command ≡ Eval
+IsOfCommand command options count texts (Arguments NotOneExpression) = (command ≡ Eval) × (count ≢ 1)
+IsOfCommand command options count texts failure = status_of failure ≡ 1
+
+-- how lines are hashed: by the field of the number that options choose, the first being 1, or the whole line
+abbrev pub chosen_hashing : OptionValues → (seed : ℕ) → Hashing
+chosen_hashing options seed = record { key = chosen_key options; seed = seed }

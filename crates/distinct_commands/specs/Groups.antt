@@ -1,0 +1,53 @@
+-- What `count` prints and `sketch` writes of groups of lines.
+use Rattle.std.specs.Prelude.{ℕ, ◌≡◌, ◌++◌, Bool, true, false, List, [], ◌∷◌, Option, Some, None, is_some, codes, flat_map}
+use Rattle.std.specs.Str.Lossy.{utf8_lossy}
+use Rattle.core_compact.specs.CompactState.{Compact}
+use Rattle.theta_sketches.specs.Image.{written}
+use Rattle.line_sketches.specs.Hex.{hex_of}
+use Rattle.reports.specs.declared.report.Report.{Report}
+use Rattle.reports.specs.Forms.{count_line, json_line, tsv_row}
+use Rattle.lines.specs.Lines.{lines_of_all}
+use Rattle.lines.specs.declared.key.Key.{Key}
+use Rattle.grouped_lines.specs.Groups.{AreGroups, group_sketch}
+use Rattle.grouped_lines.specs.declared.groups.Grouping.{Grouping}
+use Rattle.distinct_arguments.specs.Settings.{OptionValues}
+use Rattle.distinct_arguments.specs.declared.options.Form.{Form}
+use Rattle.distinct_arguments.specs.declared.options.Form.TheVariants.{Plain, Tsv, Json}
+use Rattle.distinct_commands.specs.Failures.{chosen_hashing}
+use Rattle.distinct_commands.specs.Texts.{report_by, head_of}
+
+-- how options group lines by a key
+abbrev pub grouping_of : OptionValues → (seed : ℕ) → (by : Key) → Grouping
+grouping_of options seed by = record { by = by; hashing = chosen_hashing options seed; lg_k = options.lg_k }
+
+-- what is printed of a group: its name as it is, a tab and the line of its count; in a table and in JSON its name in UTF-8,
+-- with U+FFFD for what is not
+abbrev pub grouped_in : Form → (with_bounds : Bool) → (name : List ℕ) → Report → List ℕ
+grouped_in Plain with_bounds name report = name ++ codes "\t" ++ count_line with_bounds report
+grouped_in Tsv with_bounds name report = tsv_row (Some (utf8_lossy name)) report
+grouped_in Json with_bounds name report = json_line (Some (utf8_lossy name)) report
+
+-- what is printed of the group of a name, which has this sketch
+abbrev pub group_text : OptionValues → (name : List ℕ) → Compact ℕ → List ℕ
+group_text options name s = grouped_in options.form (is_some options.bounds) name (report_by options s)
+
+-- the line of a group: its count, or its image as a line has it, behind its name as it is and a tab
+abbrev pub group_line : (images : Bool) → OptionValues → (name : List ℕ) → Compact ℕ → List ℕ
+group_line false options name s = group_text options name s
+group_line true options name s = name ++ codes "\t" ++ hex_of (written s) ++ codes "\n"
+
+-- the lines of the groups of lines that have these names, each with the sketch of its own lines
+abbrev pub groups_text : (images : Bool) → OptionValues → Grouping → (lines names : List (List ℕ)) → List ℕ
+groups_text images options grouping lines names = flat_map (λ name. group_line images options name (group_sketch grouping lines name)) names
+
+-- the head of the table of groups, if there is to be one
+abbrev pub groups_head : (images : Bool) → OptionValues → List ℕ
+groups_head true options = []
+groups_head false options = head_of options.form
+
+-- what is printed of the lines of texts by groups: a line of each group of these lines, in ascending order, behind the head
+abbrev pub IsGroupedText : (images : Bool) → OptionValues → (seed : ℕ) → (by : Key) → (texts : List (List ℕ)) → List ℕ → Type 0
+IsGroupedText images options seed by texts out =
+    (names : List (List ℕ))
+    × AreGroups by (lines_of_all texts) names
+    × (out ≡ groups_head images options ++ groups_text images options (grouping_of options seed by) (lines_of_all texts) names)

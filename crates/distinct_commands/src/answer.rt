@@ -1,0 +1,223 @@
+//! What each command writes, over any sources and any writer.
+ghost use Rattle.std.specs.Prelude.{◌≡◌, ◌≢◌, ℕ, OnOk, IfOk, IfErr, IfSome, length};
+ghost use Rattle.sketch_base.specs.Seed.{seed_hash};
+ghost use Rattle.theta_sketches.specs.Image.{written};
+ghost use Rattle.distinct_arguments.specs.Faults.{options_of, request_action};
+ghost use Rattle.distinct_arguments.specs.Settings.{chosen_group};
+ghost use Rattle.distinct_commands.specs.Answers.{names_of, sketch_of, IsCounted, IsSketched, IsAnswer, Writes, Performs};
+ghost use Rattle.distinct_commands.specs.Images.{in_form};
+ghost use Rattle.distinct_commands.specs.Texts.{count_text};
+ghost use Rattle.distinct_commands.specs.Failures.{IsOfReading, IsOfCommand};
+ghost use Rattle.distinct_commands.specs.declared.failure.Failure.TheVariants as failure;
+
+use crate::combine::combine_inputs;
+use crate::eval::eval_inputs;
+use crate::failure::{Failure, out_of_memory};
+use crate::groups::print_groups;
+use crate::inputs::Inputs;
+use crate::output::put;
+use crate::remarks::Console;
+use crate::show::{count_text, show_inputs};
+use crate::visits::visit_inputs;
+use distinct_arguments::{Command, Options, Request, text_of};
+use line_sketches::{Sources, Unread, hex_line, image_of, sketch_sources};
+use lines::Hashing;
+use std::alloc::Global;
+use std::io::Write;
+use theta_sketches::CompactThetaSketch;
+
+/// The name of standard output in messages.
+const STANDARD_OUTPUT: &str = "standard output";
+
+/// Runs a command under a seed on the files that sources give, under these names, and writes its whole answer and nothing
+/// else. For `eval` the only name is the expression. It fails with `NoFiles` only if it needs images and no file is named;
+/// with `NotTwo` only for `minus` and, if contracts know the files' bytes, only if two files aren't named (without `--hex`)
+/// or their images aren't two; with `WrongCount` only if `--expect` names another number than it reports to have found;
+/// and with `NotOneEach`, `NoExpression` or `NotOneExpression` only for `eval`. Any other failure has status 1: memory, a
+/// file, its contents or the writer is at fault.
+pub fn answer<S: Sources + Drop, C: Console, O: Write>(
+    alloc: Global,
+    command: Command,
+    options: &Options<'_>,
+    seed: u64,
+    files: &[String],
+    sources: S,
+    console: &mut C,
+    writer: &mut O,
+) -> Result<(), Failure>
+    requires seeded { seed_hash seed ≢ 0 }
+    ensures answered { IfSome (S.texts sources) (λ texts.
+        OnOk result (Writes command (options_of options.now) seed (names_of files.now) texts (O.contents writer.old) (O.contents writer.new))) }
+    ensures failed { IfErr result (IsOfCommand command (options_of options.now) (length files.now) (S.texts sources)) }
+{
+    let bytes = answer_of(alloc, command, options, seed, files, sources, console)?;
+    put(alloc, writer, STANDARD_OUTPUT, bytes.as_slice())
+}
+
+/// Does what a request says: prints its text, or runs its command under this seed on the files that sources give, under these
+/// names. It fails if the writer or the command does.
+pub fn perform<S: Sources + Drop, C: Console, O: Write>(
+    alloc: Global,
+    request: Request<'_>,
+    seed: u64,
+    files: &[String],
+    sources: S,
+    console: &mut C,
+    writer: &mut O,
+) -> Result<(), Failure>
+    requires seeded { seed_hash seed ≢ 0 }
+    ensures { IfSome (S.texts sources) (λ texts.
+        OnOk result (Performs (request_action request.entry) seed (names_of files.now) texts (O.contents writer.old) (O.contents writer.new))) }
+{
+    match request {
+        Request::Print(topic) => put(alloc, writer, STANDARD_OUTPUT, text_of(topic).as_bytes()),
+        Request::Run(command, options, _) => {
+            answer(
+                alloc, command, &options, seed, files, sources, console, writer,
+            )
+        }
+    }
+}
+
+/// The bytes that a command writes.
+fn answer_of<S: Sources + Drop, C: Console>(
+    alloc: Global,
+    command: Command,
+    options: &Options<'_>,
+    seed: u64,
+    files: &[String],
+    sources: S,
+    console: &mut C,
+) -> Result<Vec<u8>, Failure>
+    requires seeded { seed_hash seed ≢ 0 }
+    ensures answer { IfSome (S.texts sources) (λ texts.
+        IfOk result (λ v. IsAnswer command (options_of options.now) seed (names_of files.now) texts v.items)) }
+    ensures failed { IfErr result (IsOfCommand command (options_of options.now) (length files.now) (S.texts sources)) }
+{
+    let inputs = Inputs::new(sources, files);
+    match command {
+        Command::Count => { count_inputs(alloc, options, seed, inputs, console) }
+        Command::Sketch => { write_sketch(alloc, options, seed, inputs, console) }
+        Command::Combine(operator) => {
+            if files.is_empty() {
+                return Err(Failure::NoFiles);
+            }
+            let count = files.len();
+            let combined = combine_inputs(alloc, options, seed, count, inputs, operator, console)?;
+            in_form(alloc, options.hex, combined)
+        }
+        Command::Show => {
+            if files.is_empty() {
+                return Err(Failure::NoFiles);
+            }
+            show_inputs(alloc, options, seed, files, inputs)
+        }
+        Command::Eval => eval_inputs(alloc, options, seed, files, inputs, console),
+        Command::Visits => visit_inputs(alloc, options, seed, inputs),
+    }
+}
+
+/// What `count` prints of the lines of all sources in turn, by groups if the options say so.
+fn count_inputs<S: Sources + Drop, C: Console>(
+    alloc: Global,
+    options: &Options<'_>,
+    seed: u64,
+    inputs: Inputs<'_, S>,
+    console: &mut C,
+) -> Result<Vec<u8>, Failure>
+    requires seeded { seed_hash seed ≢ 0 }
+    ensures counted { IfSome (S.texts inputs.entry.sources) (λ texts.
+        IfOk result (λ v. IsCounted (chosen_group (options_of options.now)) (options_of options.now) seed texts v.items)) }
+    ensures failed { IfErr result IsOfReading }
+{
+    match options.group() {
+        Some(by) => print_groups(alloc, options, seed, false, by, inputs, console),
+        None => {
+            let counted = sketch_inputs(alloc, options, seed, inputs, console)?;
+            let text = count_text(alloc, options, &counted)?;
+            Ok(text.into_bytes())
+        }
+    }
+}
+
+/// What `sketch` writes of the lines of all sources in turn, by groups if the options say so.
+fn write_sketch<S: Sources + Drop, C: Console>(
+    alloc: Global,
+    options: &Options<'_>,
+    seed: u64,
+    inputs: Inputs<'_, S>,
+    console: &mut C,
+) -> Result<Vec<u8>, Failure>
+    requires seeded { seed_hash seed ≢ 0 }
+    ensures sketched { IfSome (S.texts inputs.entry.sources) (λ texts.
+        IfOk result (λ v. IsSketched (chosen_group (options_of options.now)) (options_of options.now) seed texts v.items)) }
+    ensures failed { IfErr result IsOfReading }
+{
+    match options.group() {
+        Some(by) => print_groups(alloc, options, seed, true, by, inputs, console),
+        None => {
+            let sketch = sketch_inputs(alloc, options, seed, inputs, console)?;
+            image_in_form(alloc, options.hex, &sketch)
+        }
+    }
+}
+
+/// An image as it is written: its bytes, or a line of their hexadecimal digits.
+fn in_form(alloc: Global, hex: bool, image: Vec<u8>) -> Result<Vec<u8>, Failure>
+    ensures form { IfOk result (λ v. v.items ≡ in_form hex image.items) }
+    ensures memory { IfErr result (λ f. f ≡ failure.Memory) }
+{
+    if hex {
+        Ok(hex_line(alloc, image.as_slice())?)
+    } else {
+        Ok(image)
+    }
+}
+
+/// The image of a sketch as it is written.
+pub fn image_in_form(
+    alloc: Global,
+    hex: bool,
+    sketch: &CompactThetaSketch,
+) -> Result<Vec<u8>, Failure>
+    ensures form { IfOk result (λ v. v.items ≡ in_form hex (written sketch.now)) }
+    ensures memory { IfErr result (λ f. f ≡ failure.Memory) }
+{
+    let image = image_to_put(sketch)?;
+    in_form(alloc, hex, image)
+}
+
+/// The sketch of the lines of all sources in turn. It fails if memory is refused or a source can't be read.
+fn sketch_inputs<S: Sources + Drop, C: Console>(
+    alloc: Global,
+    options: &Options<'_>,
+    seed: u64,
+    inputs: Inputs<'_, S>,
+    console: &mut C,
+) -> Result<CompactThetaSketch, Failure>
+    requires seeded { seed_hash seed ≢ 0 }
+    ensures sketch { IfSome (S.texts inputs.entry.sources) (λ texts. IfOk result (λ s. s ≡ sketch_of (options_of options.now) seed texts)) }
+    ensures failed { IfErr result IsOfReading }
+{
+    let mut inputs = inputs;
+    let hashing = Hashing {
+        key: options.key(),
+        seed,
+    };
+    match sketch_sources(alloc, hashing, options.lg_k, &mut inputs, console) {
+        Ok(sketch) => Ok(sketch),
+        Err(Unread::Failed(error)) => Err(inputs.unreadable(alloc, error)),
+        Err(Unread::Refused(error)) => Err(out_of_memory(error)),
+    }
+}
+
+/// The image of a sketch. It fails if memory is refused.
+pub fn image_to_put(sketch: &CompactThetaSketch) -> Result<Vec<u8>, Failure>
+    ensures image { IfOk result (λ v. v.items ≡ written sketch.now) }
+    ensures memory { IfErr result (λ f. f ≡ failure.Memory) }
+{
+    match image_of(sketch) {
+        Ok(image) => Ok(image),
+        Err(error) => Err(out_of_memory(error)),
+    }
+}

@@ -1,0 +1,226 @@
+//! What `union`, `meet` and `minus` write.
+ghost use Rattle.std.specs.Prelude.{◌≡◌, ◌≢◌, ◌≤◌, ◌⊎◌, ℕ, List, [], ◌∷◌, length, None, IfOk, IfErr, IfSome, IfNone, OnOk};
+ghost use Rattle.sketch_base.specs.Seed.{seed_hash};
+ghost use Rattle.sketch_base.specs.declared.error.ErrorKind.TheVariants.{OutOfMemory, InvalidData};
+ghost use Rattle.theta_sketches.specs.Image.{written};
+ghost use Rattle.line_sketches.specs.Shards.{AreRead};
+ghost use Rattle.line_sketches.specs.Unions.{IsUnitedImage};
+ghost use Rattle.distinct_arguments.specs.Faults.{options_of};
+ghost use Rattle.distinct_commands.specs.Answers.{intersection_of, difference_of, IsCombinedOf, IsExpected};
+ghost use Rattle.distinct_commands.specs.Images.{remaining_images, ReadsNext};
+ghost use Rattle.distinct_commands.specs.Failures.{IsOfImages, IsOfCombining, IsOfCount, IsOfUnion, ReportsNoSketch};
+ghost use Rattle.distinct_commands.specs.Seeds.{AreSeeded};
+ghost use Rattle.distinct_commands.specs.declared.failure.Failure.TheVariants as failure;
+
+use crate::answer::image_to_put;
+use crate::failure::{Failure, out_of_memory};
+use crate::images::Images;
+use crate::inputs::Inputs;
+use crate::remarks::{Console, Remark};
+use distinct_arguments::{Operator, Options};
+use estimates::Deviations;
+use line_sketches::{Sources, Unread, difference, intersection, read_image, unite_images};
+use reports::report_of;
+use sketch_base::{Error, ErrorKind};
+use std::alloc::Global;
+use theta_sketches::CompactThetaSketch;
+
+/// The failure for an image that was not read.
+fn refused<S: Sources>(images: &Images<'_, S>, error: Error) -> Failure
+    requires { (error ≡ OutOfMemory) ⊎ (error ≡ InvalidData) }
+    ensures memory { error ≡ OutOfMemory → result ≡ failure.Memory }
+    ensures data { error ≡ InvalidData → ReportsNoSketch images.now result }
+    ensures of_images { IsOfImages result }
+{
+    if error.kind() == ErrorKind::InvalidData {
+        images.no_sketch()
+    } else {
+        out_of_memory(error)
+    }
+}
+
+/// The sketch of the next image, of this seed, or `None` at the end. It fails if memory is refused, a file can't be
+/// read, or the bytes aren't an image.
+pub fn next_sketch<S: Sources>(
+    alloc: Global,
+    seed: u64,
+    images: &mut Images<'_, S>,
+) -> Result<Option<CompactThetaSketch>, Failure>
+    ensures seeded { IfOk result (λ next. IfSome next (λ s. s.seed_hash ≡ seed_hash seed)) }
+    ensures reads { IfOk result (ReadsNext seed
+        (remaining_images S.Source.remaining S.texts images.old)
+        (remaining_images S.Source.remaining S.texts images.new)) }
+    ensures failed { IfErr result IsOfImages }
+{
+    match images.next_image() {
+        Ok(Some(image)) => match read_image(alloc, seed, image.as_slice()) {
+            Ok(sketch) => Ok(Some(sketch)),
+            Err(error) => Err(refused(images, error)),
+        },
+        Ok(None) => Ok(None),
+        Err(error) => Err(images.unreadable(error)),
+    }
+}
+
+/// The image that an operator makes of the images of `count` files.
+pub fn combine_inputs<S: Sources + Drop, C: Console>(
+    alloc: Global,
+    options: &Options<'_>,
+    seed: u64,
+    count: usize,
+    inputs: Inputs<'_, S>,
+    operator: Operator,
+    console: &mut C,
+) -> Result<Vec<u8>, Failure>
+    requires seeded { seed_hash seed ≢ 0 }
+    ensures combined { IfSome (S.texts inputs.entry.sources) (λ texts.
+        IfOk result (λ v. IsCombinedOf operator (options_of options.now) seed texts v.items)) }
+    ensures failed { IfErr result (IsOfCombining operator (options_of options.now) count (S.texts inputs.entry.sources)) }
+{
+    let mut images = Images::new(alloc, inputs, options.hex, seed);
+    match operator {
+        Operator::Union => union_image(alloc, options, seed, &mut images, console),
+        Operator::Meet => {
+            let sketches = all_sketches(alloc, seed, &mut images)?;
+            check_count(options.expected, sketches.len() as u64)?;
+            meet_image(alloc, seed, sketches.as_slice(), console)
+        }
+        Operator::Minus => {
+            if !options.hex && count != 2 {
+                return Err(Failure::NotTwo);
+            }
+            let sketches = all_sketches(alloc, seed, &mut images)?;
+            match two_of(sketches.as_slice()) {
+                Some((first, second)) => minus_image(alloc, seed, first, second, console),
+                None => Err(Failure::NotTwo),
+            }
+        }
+    }
+}
+
+/// Fails if a number of images is expected, and another was found.
+fn check_count(expected: Option<u64>, found: u64) -> Result<(), Failure>
+    ensures counted { OnOk result (IsExpected expected found) }
+    ensures failed { IfErr result (IsOfCount expected found) }
+{
+    match expected {
+        Some(number) if number != found => Err(Failure::WrongCount(found, number)),
+        _ => Ok(()),
+    }
+}
+
+/// The sketches of a list that has just two.
+fn two_of(sketches: &[CompactThetaSketch]) -> Option<(&CompactThetaSketch, &CompactThetaSketch)>
+    ensures some { IfSome result (λ pair. sketches.now ≡ pair.0.now ∷ pair.1.now ∷ []) }
+    ensures none { IfNone result (length sketches.now ≢ 2) }
+{
+    let (first, others) = sketches.split_first()?;
+    let (second, more) = others.split_first()?;
+    if more.is_empty() {
+        Some((first, second))
+    } else {
+        None
+    }
+}
+
+/// The image of the union of images. It fails if memory is refused, a file can't be read, the bytes aren't an image, or there
+/// aren't as many images as are expected.
+fn union_image<S: Sources, C: Console>(
+    alloc: Global,
+    options: &Options<'_>,
+    seed: u64,
+    images: &mut Images<'_, S>,
+    console: &mut C,
+) -> Result<Vec<u8>, Failure>
+    requires seeded { seed_hash seed ≢ 0 }
+    ensures united { IfSome (remaining_images S.Source.remaining S.texts images.old) (λ all.
+        IfOk result (λ v. IsUnitedImage seed options.now.lg_k all v.items × IsExpected options.now.expected (length all))) }
+    ensures failed { IfErr result (IsOfUnion options.now.expected) }
+{
+    match unite_images(alloc, seed, options.lg_k, images) {
+        Ok(united) => {
+            check_count(options.expected, united.count)?;
+            if let Some(coarser) = images.coarser(options.lg_k) {
+                console.remark(Remark::Coarser(coarser));
+            }
+            Ok(united.image)
+        }
+        Err(Unread::Failed(error)) => Err(images.unreadable(error)),
+        Err(Unread::Refused(error)) => Err(refused(images, error)),
+    }
+}
+
+/// The image of a sketch. If the sketch estimates, the estimate and its bounds are remarked.
+fn remarked_image<C: Console>(
+    sketch: &CompactThetaSketch,
+    console: &mut C,
+) -> Result<Vec<u8>, Failure>
+    ensures image { IfOk result (λ v. v.items ≡ written sketch.now) }
+    ensures memory { IfErr result (λ f. f ≡ failure.Memory) }
+{
+    let report = report_of(sketch, Deviations::Two);
+    if !report.exact {
+        console.remark(Remark::Estimated(report));
+    }
+    image_to_put(sketch)
+}
+
+/// The image of the intersection of sketches of this seed. It fails if memory is refused.
+fn meet_image<C: Console>(
+    alloc: Global,
+    seed: u64,
+    sketches: &[CompactThetaSketch],
+    console: &mut C,
+) -> Result<Vec<u8>, Failure>
+    requires seed { seed_hash seed ≢ 0 }
+    requires seeded { AreSeeded seed sketches.now }
+    ensures image { IfOk result (λ v. v.items ≡ written (intersection_of seed sketches.now)) }
+    ensures memory { IfErr result (λ f. f ≡ failure.Memory) }
+{
+    match intersection(alloc, seed, sketches) {
+        Ok(sketch) => remarked_image(&sketch, console),
+        Err(error) => Err(out_of_memory(error)),
+    }
+}
+
+/// The image of the difference of two sketches of this seed. It fails if memory is refused.
+fn minus_image<C: Console>(
+    alloc: Global,
+    seed: u64,
+    first: &CompactThetaSketch,
+    second: &CompactThetaSketch,
+    console: &mut C,
+) -> Result<Vec<u8>, Failure>
+    requires seed { seed_hash seed ≢ 0 }
+    requires first { first.now.seed_hash ≡ seed_hash seed }
+    requires second { second.now.seed_hash ≡ seed_hash seed }
+    ensures image { IfOk result (λ v. v.items ≡ written (difference_of seed first.now second.now)) }
+    ensures memory { IfErr result (λ f. f ≡ failure.Memory) }
+{
+    match difference(alloc, seed, first, second) {
+        Ok(sketch) => remarked_image(&sketch, console),
+        Err(error) => Err(out_of_memory(error)),
+    }
+}
+
+/// The sketches of all images, each of this seed. It fails if memory is refused, a file can't be read, or the bytes
+/// aren't an image.
+pub fn all_sketches<S: Sources>(
+    alloc: Global,
+    seed: u64,
+    images: &mut Images<'_, S>,
+) -> Result<Vec<CompactThetaSketch>, Failure>
+    ensures seeded { IfOk result (λ v. AreSeeded seed v.items) }
+    ensures read { IfSome (remaining_images S.Source.remaining S.texts images.old) (λ all.
+        IfOk result (λ v. AreRead seed all v.items)) }
+    ensures failed { IfErr result IsOfImages }
+{
+    let mut sketches = Vec::new(alloc);
+    for _ in 0..u64::MAX {
+        match next_sketch(alloc, seed, images)? {
+            Some(sketch) => sketches.push(sketch)?,
+            None => return Ok(sketches),
+        }
+    }
+    Err(Failure::Memory)
+}

@@ -1,0 +1,254 @@
+//! What `eval` prints or writes: the result of a set expression over the sketches of files.
+ghost use Rattle.std.specs.Prelude.{◌≡◌, ◌≢◌, ℕ, List, length, IfOk, IfErr, IfSome};
+ghost use Rattle.sketch_base.specs.Seed.{seed_hash};
+ghost use Rattle.core_laws.specs.Settings.{settings_refusal};
+ghost use Rattle.core_laws.specs.declared.TheConstants.{MAX_THETA};
+ghost use Rattle.line_sketches.specs.Refusals.{RefusesRead};
+ghost use Rattle.expression_text.specs.Grammar.{IsSpelled, SpellsNothing};
+ghost use Rattle.expression_text.specs.declared.fault.Reason.TheVariants.{Memory};
+ghost use Rattle.set_expressions.specs.Values.{value_of};
+ghost use Rattle.core_compact.specs.CompactState.{ordered_sketch};
+ghost use Rattle.set_expressions.specs.Running.{values_of};
+ghost use Rattle.distinct_arguments.specs.Faults.{options_of};
+ghost use Rattle.distinct_commands.specs.Answers.{names_of};
+ghost use Rattle.distinct_commands.specs.Evaluations.{sketch_of_text, SketchesNext, AreSketched, AreOperands, IsEvaluatedOf, evaluated_text};
+ghost use Rattle.distinct_commands.specs.Seeds.{AreSeeded};
+ghost use Rattle.distinct_commands.specs.Failures.{IsOfReading, IsOfImages, IsOfExpression, IsOfEvaluation};
+ghost use Rattle.distinct_commands.specs.declared.failure.Failure.TheVariants as failure;
+
+use crate::answer::image_in_form;
+use crate::combine::all_sketches;
+use crate::failure::{Failure, out_of_memory};
+use crate::images::Images;
+use crate::inputs::Inputs;
+use crate::lists::{Unlisted, texts_of};
+use crate::remarks::Console;
+use crate::show::{head_of, shown_text};
+use distinct_arguments::{Fault, Options};
+use expression_text::{Parsed, Reason, Step, SyntaxFault, parse};
+use line_sketches::{BLOCK, Sources, Unread, sketch_lines};
+use lines::Hashing;
+use set_expressions::evaluate;
+use std::alloc::Global;
+use std::io::Read;
+use theta_sketches::CompactThetaSketch;
+
+/// An expression that was read.
+#[derive(Drop)]
+pub struct Expression {
+    /// The names of its files, each once.
+    pub names: Vec<String>,
+    /// Its steps, in postfix order.
+    pub steps: Vec<Step>,
+}
+
+/// The failure for a text that is not an expression, for this reason.
+fn unspelled(alloc: Global, text: &str, fault: SyntaxFault) -> Failure
+    requires { fault.reason ≢ Memory → SpellsNothing text.now }
+    ensures { IsOfExpression text.now result }
+{
+    if fault.reason == Reason::Memory {
+        return Failure::Memory;
+    }
+    match String::from_str(alloc, text) {
+        Ok(text) => Failure::NoExpression(text, fault),
+        Err(_) => Failure::Memory,
+    }
+}
+
+/// The failure for an expression with a name that can't be one.
+fn unnamed(alloc: Global, text: &str, reason: Unlisted) -> Failure
+    ensures { IsOfExpression text.now result }
+{
+    match reason {
+        Unlisted::Memory => Failure::Memory,
+        Unlisted::Name(number) => match String::from_str(alloc, text) {
+            Ok(text) => Failure::NoName(text, number),
+            Err(_) => Failure::Memory,
+        },
+    }
+}
+
+/// The expression that a text spells. It fails if the text spells none, or if memory is refused.
+pub fn expression_in(alloc: Global, text: &str) -> Result<Expression, Failure>
+    ensures spelled { IfOk result (λ e. IsSpelled text.now (names_of e.names.items) e.steps.items) }
+    ensures failed { IfErr result (IsOfExpression text.now) }
+{
+    let parsed = match parse(alloc, text.as_bytes()) {
+        Ok(parsed) => parsed,
+        Err(fault) => return Err(unspelled(alloc, text, fault)),
+    };
+    let Parsed { names, steps } = parsed;
+    match texts_of(alloc, names.as_slice()) {
+        Ok(names) => Ok(Expression { names, steps }),
+        Err(reason) => Err(unnamed(alloc, text, reason)),
+    }
+}
+
+/// The sketch of the lines of a source. Refused only with `OutOfMemory`; if the source can't be read, its error is returned.
+fn sketch_source<R: Read, C: Console>(
+    alloc: Global,
+    options: &Options<'_>,
+    seed: u64,
+    source: &mut R,
+    console: &mut C,
+) -> Result<CompactThetaSketch, Unread>
+    ensures sketch { IfSome (R.remaining source.old) (λ text.
+        IfOk result (λ s. s ≡ sketch_of_text (options_of options.now) seed text)) }
+    ensures seeded { IfOk result (λ s. s.seed_hash ≡ seed_hash seed) }
+    ensures refused { RefusesRead result (settings_refusal options.now.lg_k MAX_THETA seed) }
+{
+    let mut block = vec![in alloc; 0u8; BLOCK]?;
+    let hashing = Hashing {
+        key: options.key(),
+        seed,
+    };
+    let lg_k = options.lg_k;
+    sketch_lines(alloc, hashing, lg_k, source, &mut block, console)
+}
+
+/// The sketch of the lines of the next source, of this seed, or `None` at the end. It fails if memory is refused or the source can't be
+/// read.
+fn next_lines<S: Sources, C: Console>(
+    alloc: Global,
+    options: &Options<'_>,
+    seed: u64,
+    inputs: &mut Inputs<'_, S>,
+    console: &mut C,
+) -> Result<Option<CompactThetaSketch>, Failure>
+    requires seeded { seed_hash seed ≢ 0 }
+    ensures seeded { IfOk result (λ next. IfSome next (λ s. s.seed_hash ≡ seed_hash seed)) }
+    ensures sketches { IfOk result (SketchesNext (options_of options.now) seed (S.texts inputs.old.sources) (S.texts inputs.new.sources)) }
+    ensures failed { IfErr result IsOfReading }
+{
+    let mut source = match inputs.next_source() {
+        Ok(Some(source)) => source,
+        Ok(None) => return Ok(None),
+        Err(error) => return Err(inputs.unreadable(alloc, error)),
+    };
+    match sketch_source(alloc, options, seed, &mut source, console) {
+        Ok(sketch) => Ok(Some(sketch)),
+        Err(Unread::Failed(error)) => Err(inputs.unreadable(alloc, error)),
+        Err(Unread::Refused(error)) => Err(out_of_memory(error)),
+    }
+}
+
+/// The sketches of the lines of all sources, one for each source, each of this seed. It fails if memory is refused or a source can't be read.
+fn all_lines<S: Sources, C: Console>(
+    alloc: Global,
+    options: &Options<'_>,
+    seed: u64,
+    inputs: &mut Inputs<'_, S>,
+    console: &mut C,
+) -> Result<Vec<CompactThetaSketch>, Failure>
+    requires seeded { seed_hash seed ≢ 0 }
+    ensures seeded { IfOk result (λ v. AreSeeded seed v.items) }
+    ensures sketched { IfSome (S.texts inputs.old.sources) (λ texts. IfOk result (λ v. AreSketched (options_of options.now) seed texts v.items)) }
+    ensures failed { IfErr result IsOfReading }
+{
+    let mut sketches = Vec::new(alloc);
+    'sketch_each: for _ in 0..u64::MAX {
+        match next_lines(alloc, options, seed, inputs, console)? {
+            Some(sketch) => sketches.push(sketch)?,
+            None => return Ok(sketches),
+        }
+    }
+    Err(Failure::Memory)
+}
+
+/// The sketches of all sources, each of this seed: those of their lines with `--keys`, else those that they have as images.
+fn operands<S: Sources + Drop, C: Console>(
+    alloc: Global,
+    options: &Options<'_>,
+    seed: u64,
+    inputs: Inputs<'_, S>,
+    console: &mut C,
+) -> Result<Vec<CompactThetaSketch>, Failure>
+    requires seeded { seed_hash seed ≢ 0 }
+    ensures seeded { IfOk result (λ v. AreSeeded seed v.items) }
+    ensures operands { IfSome (S.texts inputs.entry.sources) (λ texts.
+        IfOk result (λ v. AreOperands options.now.keys (options_of options.now) seed texts v.items)) }
+    ensures failed { IfErr result IsOfImages }
+{
+    if options.keys {
+        let mut inputs = inputs;
+        return all_lines(alloc, options, seed, &mut inputs, console);
+    }
+    let mut images = Images::new(alloc, inputs, options.hex, seed);
+    all_sketches(alloc, seed, &mut images)
+}
+
+/// The result of an expression over one sketch per name, each of this seed. It fails if memory is refused.
+fn result_of(
+    alloc: Global,
+    options: &Options<'_>,
+    seed: u64,
+    expression: &Expression,
+    sketches: &[CompactThetaSketch],
+) -> Result<CompactThetaSketch, Failure>
+    requires seed { seed_hash seed ≢ 0 }
+    requires seeded { AreSeeded seed sketches.now }
+    requires spelled { (text : List ℕ) × IsSpelled text (names_of expression.now.names.items) expression.now.steps.items }
+    requires counted { length expression.now.names.items ≡ length sketches.now }
+    ensures value { (text : List ℕ)
+        → (spelled : IsSpelled text (names_of expression.now.names.items) expression.now.steps.items)
+        → IfOk result (λ s. s ≡ ordered_sketch (value_of options.now.lg_k (values_of sketches.now) spelled.tree) (seed_hash seed)) }
+    ensures memory { IfErr result (λ f. f ≡ failure.Memory) }
+{
+    let steps = expression.steps.as_slice();
+    match evaluate(alloc, seed, options.lg_k, steps, sketches) {
+        Ok(sketch) => Ok(sketch),
+        Err(error) => Err(out_of_memory(error)),
+    }
+}
+
+/// What `eval` prints of a sketch, the result of this expression, or its image as it is written with `--output`.
+fn put_result(
+    alloc: Global,
+    options: &Options<'_>,
+    text: &str,
+    sketch: &CompactThetaSketch,
+) -> Result<Vec<u8>, Failure>
+    ensures result { IfOk result (λ v. v.items ≡ evaluated_text (options_of options.now) text.now sketch.now) }
+    ensures memory { IfErr result (λ f. f ≡ failure.Memory) }
+{
+    if options.output.is_some() {
+        return image_in_form(alloc, options.hex, sketch);
+    }
+    let head = head_of(alloc, options.form)?;
+    let line = shown_text(alloc, options, text, sketch)?;
+    let mut shown = head.into_bytes();
+    shown.extend_from_slice(line.as_bytes())?;
+    Ok(shown)
+}
+
+/// The result of the expression that is the only one of `files`, over the sketches of the sources, which have the
+/// expression's names in their order.
+pub fn eval_inputs<S: Sources + Drop, C: Console>(
+    alloc: Global,
+    options: &Options<'_>,
+    seed: u64,
+    files: &[String],
+    inputs: Inputs<'_, S>,
+    console: &mut C,
+) -> Result<Vec<u8>, Failure>
+    requires seeded { seed_hash seed ≢ 0 }
+    ensures evaluated { IfSome (S.texts inputs.entry.sources) (λ texts.
+        IfOk result (λ v. IsEvaluatedOf (options_of options.now) seed (names_of files.now) texts v.items)) }
+    ensures failed { IfErr result (IsOfEvaluation (length files.now)) }
+{
+    let [file] = files else {
+        return Err(Failure::Arguments(Fault::NotOneExpression));
+    };
+    let text = file.as_str();
+    let expression = expression_in(alloc, text)?;
+    let renamed = inputs.renamed(expression.names.as_slice());
+    let sketches = operands(alloc, options, seed, renamed, console)?;
+    let found = sketches.len();
+    let wanted = expression.names.len();
+    if found != wanted {
+        return Err(Failure::NotOneEach(found as u64, wanted as u64));
+    }
+    let result = result_of(alloc, options, seed, &expression, sketches.as_slice())?;
+    put_result(alloc, options, text, &result)
+}

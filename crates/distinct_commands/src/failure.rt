@@ -1,0 +1,313 @@
+//! Why the program fails.
+ghost use Rattle.std.specs.Prelude.{◌≡◌};
+ghost use Rattle.sketch_base.specs.declared.error.ErrorKind.TheVariants.{OutOfMemory};
+ghost use Rattle.distinct_arguments.specs.declared.fault.Fault.{Fault};
+ghost use Rattle.distinct_commands.specs.Failures.{status_of};
+ghost use Rattle.distinct_commands.specs.declared.failure.Failure.TheVariants as failure;
+
+use distinct_arguments::{Escaped, Fault};
+use expression_text::{MAX_LEVELS, Reason, SyntaxFault};
+use line_sketches::Flaw;
+use sketch_base::Error;
+use std::alloc::{AllocError, AllocFailed};
+use std::{fmt, io};
+
+/// Why the program fails. A file has the name by which it was given.
+#[derive(Debug, Drop)]
+pub enum Failure {
+    /// The argument of this number, from 1, is not text in UTF-8. Its bytes are escaped.
+    NotText(u64, String),
+    /// The arguments are wrong.
+    Arguments(Fault),
+    /// The command needs images, and none is given.
+    NoFiles,
+    /// `minus` needs two images.
+    NotTwo,
+    /// This text is not an expression, for this reason.
+    NoExpression(String, SyntaxFault),
+    /// An image would be written to a terminal.
+    Terminal,
+    /// The images found are not as many as the second number, which was expected.
+    WrongCount(u64, u64),
+    /// The images found are not as many as the names of an expression, the second number: with `--hex` each file has one.
+    NotOneEach(u64, u64),
+    /// A file has no seed: no number, or one that can't be a seed.
+    NoSeed(String),
+    /// A list of files has an empty name, or one that is not UTF-8, at this number, from 1.
+    NoName(String, u64),
+    /// A list of files has lines and no NUL byte.
+    NoNul(String),
+    /// Memory was refused.
+    Memory,
+    /// A file can't be read.
+    Unreadable(String, io::Error),
+    /// A file is not an image, or its line of this number, from 1, is not; 0 if the whole file is meant.
+    NoSketch(String, u64, Flaw),
+    /// A line of this number, from 1, is not hexadecimal.
+    NoHex(String, u64),
+    /// A file that should have an image in each line has no line.
+    NoLine(String),
+    /// The line of this number, from 1, of a file would make the sum of its key 2^64 or more.
+    PastGreatest(String, u64),
+    /// Writing to standard output, or to the file of this name, failed.
+    NotWritten(String, io::Error),
+}
+
+impl Failure {
+    /// The exit status: 2 if the arguments are wrong, else 1.
+    pub fn status(&self) -> u8
+        ensures { result ≡ status_of self.now }
+    {
+        match self {
+            Failure::NotText(_, _) => 2,
+            Failure::Arguments(fault) => fault.status(),
+            Failure::NoFiles => 2,
+            Failure::NotTwo => 2,
+            Failure::NoExpression(_, _) => 2,
+            Failure::Terminal => 2,
+            _ => 1,
+        }
+    }
+}
+
+/// The failure for an error that means refused memory.
+pub fn out_of_memory(error: Error) -> Failure
+    requires { error ≡ OutOfMemory }
+    ensures { result ≡ failure.Memory }
+{
+    let _ = error;
+    Failure::Memory
+}
+
+/// The most bytes of a file's name that a message prints, but for the end of a character.
+const LONGEST_NAME: usize = 200;
+
+/// The name of a file as messages print it: each control character is escaped, and what is behind 200 bytes is left out.
+#[derive(Drop)]
+struct Named<'a>(&'a str);
+
+impl fmt::Display for Named<'_> {
+    fn fmt<W: fmt::Write>(&self, f: &mut fmt::Formatter<W>) -> fmt::Result {
+        for (place, c) in self.0.char_indices() {
+            if LONGEST_NAME <= place {
+                return write!(f, "..");
+            }
+            if c.is_control() {
+                write!(f, "{}", c.escape_default())?;
+            } else {
+                write!(f, "{c}")?;
+            }
+        }
+        Ok(())
+    }
+}
+
+/// Why a file can't be read or written, as messages say it.
+#[derive(Drop)]
+struct Cause<'a>(&'a io::Error);
+
+impl fmt::Display for Cause<'_> {
+    fn fmt<W: fmt::Write>(&self, f: &mut fmt::Formatter<W>) -> fmt::Result {
+        if self.0.kind() == io::ErrorKind::IsADirectory {
+            return write!(f, "is a directory");
+        }
+        write!(f, "{}", self.0)
+    }
+}
+
+/// The sketches of a family of the DataSketches format; `None` if no family has this number.
+pub fn family_name(family: u8) -> Option<&'static str> {
+    match family {
+        1 => Some("Alpha sketches"),
+        2 => Some("update sketches"),
+        3 => Some("theta sketches"),
+        4 => Some("unions"),
+        5 => Some("intersections"),
+        6 => Some("differences"),
+        7 => Some("HLL sketches"),
+        8 => Some("quantiles sketches"),
+        9 => Some("tuple sketches"),
+        10 => Some("frequency sketches"),
+        11 => Some("reservoirs"),
+        12 => Some("unions of reservoirs"),
+        13 => Some("VarOpt sketches"),
+        14 => Some("unions of VarOpt sketches"),
+        15 => Some("KLL sketches"),
+        16 => Some("CPC sketches"),
+        17 => Some("REQ sketches"),
+        18 => Some("count-min sketches"),
+        19 => Some("EBPPS sketches"),
+        20 => Some("t-digests"),
+        21 => Some("Bloom filters"),
+        _ => None,
+    }
+}
+
+/// Why a file, or a line of it, is not an image, as messages say it.
+#[derive(Drop)]
+struct Defect<'a>(&'a Flaw);
+
+impl fmt::Display for Defect<'_> {
+    fn fmt<W: fmt::Write>(&self, f: &mut fmt::Formatter<W>) -> fmt::Result {
+        match self.0 {
+            Flaw::Hexadecimal => write!(f, "is hexadecimal text: pass --hex"),
+            Flaw::Short => write!(f, "is not the image of a theta sketch"),
+            Flaw::Family(family) => match family_name(*family) {
+                Some(sketches) => write!(
+                    f,
+                    "is not the image of a theta sketch (byte 3 is {family}, the family of {sketches}, not 3)"
+                ),
+                None => write!(
+                    f,
+                    "is not the image of a theta sketch (byte 3 is {family}, not 3)"
+                ),
+            },
+            Flaw::Version(version) => write!(
+                f,
+                "is of version {version}; versions 1 to 3 are read"
+            ),
+            Flaw::BigEndian => write!(f, "is in big-endian order, which is not read"),
+            Flaw::Seed => write!(
+                f,
+                "is a sketch under another seed than this command's: pass the --seed it was made with"
+            ),
+            Flaw::Cut => write!(f, "is cut short"),
+            Flaw::Longer => write!(
+                f,
+                "is longer than one image; with --hex a file may have many"
+            ),
+            Flaw::Damaged => write!(
+                f,
+                "is damaged: its hashes or its theta are not those of a theta sketch"
+            ),
+        }
+    }
+}
+
+/// Why a text is not an expression, as messages say it.
+#[derive(Drop)]
+struct Misspelling(SyntaxFault);
+
+impl fmt::Display for Misspelling {
+    fn fmt<W: fmt::Write>(&self, f: &mut fmt::Formatter<W>) -> fmt::Result {
+        let offset = self.0.offset;
+        match self.0.reason {
+            Reason::MissingOperand => write!(f, "a name is missing at byte {offset}"),
+            Reason::MissingOperator => write!(f, "an operator is missing at byte {offset}"),
+            Reason::MissingClosing => write!(
+                f,
+                "a closing parenthesis is missing at byte {offset}"
+            ),
+            Reason::UnexpectedClosing => write!(
+                f,
+                "the closing parenthesis at byte {offset} has no opening one"
+            ),
+            Reason::OpenQuote => write!(f, "the quote at byte {offset} is not closed"),
+            Reason::TooDeep => write!(
+                f,
+                "more than {MAX_LEVELS} levels of parentheses at byte {offset}"
+            ),
+            Reason::EmptyName => write!(f, "the name at byte {offset} is empty"),
+            Reason::Memory => write!(f, "not read: out of memory"),
+        }
+    }
+}
+
+impl fmt::Display for Failure {
+    fn fmt<W: fmt::Write>(&self, f: &mut fmt::Formatter<W>) -> fmt::Result {
+        match self {
+            Failure::NotText(number, text) => write!(
+                f,
+                "argument {number}, {text}, is not UTF-8 text: rename the file, or read it from standard input (distinct .. < FILE)"
+            ),
+            Failure::Arguments(fault) => write!(f, "{fault}"),
+            Failure::NoFiles => write!(f, "no image given"),
+            Failure::NotTwo => write!(f, "minus takes two images (try distinct minus --help)"),
+            Failure::NoExpression(text, fault) => write!(
+                f,
+                "eval: '{}': {}",
+                Escaped(text),
+                Misspelling(*fault)
+            ),
+            Failure::Terminal => write!(
+                f,
+                "standard output is a terminal, and an image is not text: pass --output FILE, or --hex"
+            ),
+            Failure::WrongCount(found, expected) => write!(
+                f,
+                "{found} images found, {expected} expected; nothing was written"
+            ),
+            Failure::NotOneEach(found, names) => write!(
+                f,
+                "{found} images found, {names} expected: with eval --hex each file has one line"
+            ),
+            Failure::NoSeed(name) => write!(
+                f,
+                "{}: has no seed: a number from 0 to 18446744073709551615 whose seed hash is not 0",
+                Named(name)
+            ),
+            Failure::NoName(name, number) => write!(
+                f,
+                "{}: name {number} is empty or not UTF-8 text",
+                Named(name)
+            ),
+            Failure::NoNul(name) => write!(
+                f,
+                "{}: has no NUL byte; each name ends in one (find -print0)",
+                Named(name)
+            ),
+            Failure::Memory => write!(f, "out of memory"),
+            Failure::Unreadable(name, error) => write!(f, "{}: {}", Named(name), Cause(error)),
+            Failure::NoSketch(name, 0, flaw) => write!(f, "{}: {}", Named(name), Defect(flaw)),
+            Failure::NoSketch(name, line, flaw) => write!(
+                f,
+                "{}: line {line} {}",
+                Named(name),
+                Defect(flaw)
+            ),
+            Failure::NoHex(name, line) => write!(
+                f,
+                "{}: line {line} is not hexadecimal",
+                Named(name)
+            ),
+            Failure::NoLine(name) => write!(f, "{}: has no line, and so no image", Named(name)),
+            Failure::PastGreatest(name, line) => write!(
+                f,
+                "{}: line {line}: the sum of its key is above {}",
+                Named(name),
+                u64::MAX
+            ),
+            Failure::NotWritten(name, error) => write!(f, "{}: {}", Named(name), Cause(error)),
+        }
+    }
+}
+
+impl From<Fault> for Failure {
+    ghost use Rattle.distinct_commands.specs.declared.failure.Failure.TheVariants.{Arguments};
+
+    ghost from_gives = { λ fault failure. failure ≡ Arguments fault };
+
+    fn from(fault: Fault) -> Failure {
+        Failure::Arguments(fault)
+    }
+}
+
+impl From<AllocError> for Failure {
+    ghost use Rattle.distinct_commands.specs.declared.failure.Failure.TheVariants.{Memory};
+
+    ghost from_gives = { λ _ e. e ≡ Memory };
+
+    fn from(_e: AllocError) -> Failure {
+        Failure::Memory
+    }
+}
+
+impl<T: Drop> From<AllocFailed<T>> for Failure {
+    ghost use Rattle.distinct_commands.specs.declared.failure.Failure.TheVariants.{Memory};
+
+    ghost from_gives = { λ _ e. e ≡ Memory };
+
+    fn from(_e: AllocFailed<T>) -> Failure {
+        Failure::Memory
+    }
+}

@@ -1,0 +1,232 @@
+//! The images in files: a file is one image and nothing else, or each of its lines is one in hexadecimal, with blanks
+//! allowed around it.
+ghost use Rattle.std.specs.Prelude.{◌≡◌, ◌≢◌, ◌≤◌, true, length, Some, None, IfOk, IfSome, OnOk};
+ghost use Rattle.std.specs.IoError.{error_kind};
+ghost use Rattle.std.specs.declared.io.ErrorKind.TheVariants.{InvalidData};
+ghost use Rattle.std.specs.Io.Buffered.{reader_remaining};
+ghost use Rattle.sketch_base.specs.Seed.{seed_hash};
+ghost use Rattle.line_sketches.specs.Header.{image_length, flaw_of};
+ghost use Rattle.line_sketches.specs.Sources.{GivesNext};
+ghost use Rattle.distinct_commands.specs.Images.{remaining_images, GivesOrCloses, IsSameReader};
+ghost use Rattle.distinct_commands.specs.Failures.{called, next_number, IsOfImages, NotesNext, ReportsUnreadable, ReportsNoSketch};
+
+use crate::failure::Failure;
+use crate::inputs::Inputs;
+use crate::remarks::Coarser;
+use line_sketches::{Flaw, Sources, entry_count, flaw_of, image_length, read_hex};
+use sketch_base::{ErrorKind as KindOfError, compute_seed_hash};
+use std::alloc::Global;
+use std::io;
+use std::io::{BufRead, BufReader, Cursor, ErrorKind, Read};
+
+/// The hash of a seed; 0 if no image can be read under the seed.
+fn hash_of_seed(seed: u64) -> u16
+    ensures { result ≡ seed_hash seed }
+{
+    compute_seed_hash(seed, KindOfError::InvalidArgument).unwrap_or(0)
+}
+
+/// Refuses bytes that have something after an image, since a second image there would be ignored.
+fn check_alone(bytes: &[u8]) -> io::Result<()>
+    ensures { OnOk result (IfSome (image_length bytes.now) (λ n. length bytes.now ≤ n)) }
+{
+    match image_length(bytes) {
+        Some(image) if image < bytes.len() as u64 => Err(io::Error::from(ErrorKind::InvalidData)),
+        _ => Ok(()),
+    }
+}
+
+/// The images of files, one after another.
+#[derive(Drop)]
+pub struct Images<'a, S: Sources> {
+    alloc: Global,
+    inputs: Inputs<'a, S>,
+    hex: bool,
+    open: Option<BufReader<S::Source>>,
+    line: u64,
+    seed: u64,
+    /// What is wrong with the last image, if something is; `None` if a line isn't hexadecimal.
+    flaw: Option<Flaw>,
+    /// The most hashes that an image retains, and the name of its file.
+    most: u64,
+    most_name: &'a str,
+}
+
+impl<'a, S: Sources> Images<'a, S> {
+    /// The images of these files, to be read under this seed.
+    pub fn new(alloc: Global, inputs: Inputs<'a, S>, hex: bool, seed: u64) -> Images<'a, S>
+        ensures inputs { result.inputs ≡ inputs.entry }
+        ensures hex { result.hex ≡ hex }
+        ensures closed { result.«open» ≡ None }
+    {
+        Images {
+            alloc,
+            inputs,
+            hex,
+            open: None,
+            line: 0,
+            seed,
+            flaw: None,
+            most: 0,
+            most_name: "",
+        }
+    }
+
+    /// The name, in messages, of the file that was opened last.
+    pub fn name(&self) -> &'a str
+        ensures { result.now ≡ called self.now.inputs.current.now }
+    {
+        self.inputs.name()
+    }
+
+    /// The failure if the file can't be read, or isn't an image.
+    pub fn unreadable(&self, error: io::Error) -> Failure
+        ensures data { error_kind error ≡ InvalidData → ReportsNoSketch self.now result }
+        ensures read { error_kind error ≢ InvalidData → ReportsUnreadable (called self.now.inputs.current.now) error result }
+        ensures of_images { IsOfImages result }
+    {
+        if error.kind() == ErrorKind::InvalidData {
+            return self.no_sketch();
+        }
+        self.inputs.unreadable(self.alloc, error)
+    }
+
+    /// The failure if the file, or its line, isn't an image, or if it has no line.
+    pub fn no_sketch(&self) -> Failure
+        ensures { ReportsNoSketch self.now result }
+    {
+        let Ok(name) = String::from_str(self.alloc, self.name()) else {
+            return Failure::Memory;
+        };
+        if self.hex && self.line == 0 {
+            return Failure::NoLine(name);
+        }
+        match self.flaw {
+            Some(flaw) => Failure::NoSketch(name, self.line, flaw),
+            None => Failure::NoHex(name, self.line),
+        }
+    }
+
+    /// The remark on the image that retains the most hashes, if these are more than 2^`lg_k`.
+    pub fn coarser(&self, lg_k: u8) -> Option<Coarser<'a>> {
+        if lg_k < 64 && 1u64 << lg_k < self.most {
+            Some(Coarser {
+                name: self.most_name,
+                retained: self.most,
+                lg_k,
+            })
+        } else {
+            None
+        }
+    }
+
+    /// Notes what the preamble of an image says. It fails if the bytes have something after the image, since a second
+    /// image there would be ignored.
+    fn note(&mut self, image: &[u8]) -> io::Result<()>
+        ensures flaw { self.new.flaw ≡ Some (flaw_of (seed_hash self.old.seed) image.now) }
+        ensures same { IsSameReader self.old self.new }
+        ensures left { remaining_images S.Source.remaining S.texts self.new ≡ remaining_images S.Source.remaining S.texts self.old }
+    {
+        self.flaw = Some(flaw_of(image, hash_of_seed(self.seed)));
+        let count = entry_count(image);
+        if self.most < count {
+            self.most = count;
+            self.most_name = self.name();
+        }
+        check_alone(image)
+    }
+
+    /// The next image, or `None` at the end.
+    pub fn next_image(&mut self) -> io::Result<Option<Vec<u8>>>
+        ensures { IfOk result (GivesNext (λ v. Some v.items)
+            (remaining_images S.Source.remaining S.texts self.old)
+            (remaining_images S.Source.remaining S.texts self.new)) }
+    {
+        if self.hex {
+            self.next_line()
+        } else {
+            self.next_whole()
+        }
+    }
+
+    /// All bytes of the next file.
+    fn next_whole(&mut self) -> io::Result<Option<Vec<u8>>>
+        ensures next { IfOk result (GivesNext (λ v. Some v.items) (S.texts self.old.inputs.sources) (S.texts self.new.inputs.sources)) }
+        ensures hex { self.new.hex ≡ self.old.hex }
+        ensures named { NotesNext self.old.inputs.current.now self.old.inputs.left.now self.new.inputs.current.now self.new.inputs.left.now }
+    {
+        let Some(mut input) = self.inputs.next_source()? else {
+            return Ok(None);
+        };
+        let mut image = Vec::new(self.alloc);
+        input.read_to_end(&mut image)?;
+        self.note(image.as_slice())?;
+        Ok(Some(image))
+    }
+
+    /// The image in the next line of the files. A file without a line is refused, since the image that should be in it
+    /// would be missing without a word.
+    fn next_line(&mut self) -> io::Result<Option<Vec<u8>>>
+        requires lines { self.old.hex ≡ true }
+        ensures next { IfOk result (GivesNext (λ v. Some v.items)
+            (remaining_images S.Source.remaining S.texts self.old)
+            (remaining_images S.Source.remaining S.texts self.new)) }
+    {
+        'files: for _ in 0..u64::MAX {
+            if let Some(image) = self.line_of_open()? {
+                self.note(image.as_slice())?;
+                return Ok(Some(image));
+            }
+            let Some(input) = self.inputs.next_source()? else {
+                return Ok(None);
+            };
+            self.open = Some(BufReader::new(self.alloc, input)?);
+            self.line = 0;
+        }
+        Err(io::Error::from(ErrorKind::Other))
+    }
+
+    /// The image in the next line of the open file. At its end the file is closed.
+    fn line_of_open(&mut self) -> io::Result<Option<Vec<u8>>>
+        requires lines { self.old.hex ≡ true }
+        ensures hex { self.new.hex ≡ self.old.hex }
+        ensures named { self.new.inputs ≡ self.old.inputs }
+        ensures counted { IfOk result (λ image. IfSome image (λ _. self.new.line ≡ next_number self.old.line)) }
+        ensures next { IfOk result (GivesOrCloses (λ v. v.items)
+            (remaining_images S.Source.remaining S.texts self.old)
+            (remaining_images S.Source.remaining S.texts self.new)
+            self.new.«open») }
+    {
+        let Some(reader) = &mut self.open else {
+            return Ok(None);
+        };
+        let mut line = Vec::new(self.alloc);
+        let count = reader.read_until(b'\n', &mut line)?;
+        if count == 0 {
+            if self.line == 0 {
+                return Err(io::Error::from(ErrorKind::InvalidData));
+            }
+            self.open = None;
+            return Ok(None);
+        }
+        self.line = self.line.saturating_add(1);
+        self.flaw = None;
+        match read_hex(self.alloc, line.trim_ascii())? {
+            Some(image) => Ok(Some(image)),
+            None => Err(io::Error::from(ErrorKind::InvalidData)),
+        }
+    }
+}
+
+impl<'a, S: Sources> Sources for Images<'a, S> {
+    type Source = Cursor<Vec<u8>>;
+
+    ghost texts = { λ s. remaining_images S.Source.remaining S.texts s };
+
+    fn next_source(&mut self) -> io::Result<Option<Cursor<Vec<u8>>>> {
+        match self.next_image()? {
+            Some(image) => Ok(Some(Cursor::new(image))),
+            None => Ok(None),
+        }
+    }
+}

@@ -1,0 +1,35 @@
+//! The commands of the program `distinct`: what each prints or writes, over any sources of lines and images and any writer.
+//!
+//! The promise is that of `perform`: what a command writes is bound to its options, its seed, and the names and texts of its
+//! files. A command that fails writes nothing but what it had written to the writer before, and says why by a [`Failure`].
+//!
+//! What a request writes, of files that `sources` opens:
+//!
+//! ```
+//! let request = read_arguments(words)?;
+//! perform(alloc, request, seed, files, sources, &mut console, &mut writer)?;
+//! ```
+#![tactic(auto)]
+
+mod answer;
+mod combine;
+mod eval;
+mod failure;
+mod groups;
+mod images;
+mod inputs;
+mod lists;
+mod output;
+mod remarks;
+mod seeds;
+mod show;
+mod visits;
+
+pub use answer::{answer, perform};
+pub use eval::{Expression, expression_in};
+pub use failure::{Failure, family_name};
+pub use inputs::{Files, Input, files_in_list};
+pub use lists::{Unlisted, names_in};
+pub use output::{not_written, put};
+pub use remarks::{Coarser, Console, Remark};
+pub use seeds::seed_of;

@@ -1,0 +1,145 @@
+//! What `count` and `show` print of sketches.
+ghost use Rattle.std.specs.Prelude.{◌≡◌, ◌++◌, None, Some, IfOk, IfErr, IfSome, OnOk, string_bytes};
+ghost use Rattle.distinct_arguments.specs.Faults.{options_of};
+ghost use Rattle.distinct_commands.specs.Answers.{names_of, IsShown, AreShown, IsShownOf};
+ghost use Rattle.distinct_commands.specs.Failures.{called, IsOfImages};
+ghost use Rattle.distinct_commands.specs.Images.{remaining_images};
+ghost use Rattle.distinct_commands.specs.Texts.{deviations_of, count_text, shown_text, head_of};
+
+use crate::combine::next_sketch;
+use crate::failure::Failure;
+use crate::images::Images;
+use crate::inputs::{Inputs, called};
+use distinct_arguments::{Form, Options};
+use estimates::Deviations;
+use line_sketches::Sources;
+use reports::{count_line, json_line, report_of, shown_line, tsv_head, tsv_row};
+use std::alloc::{AllocError, Global};
+use theta_sketches::CompactThetaSketch;
+
+/// The standard deviations of bounds: those of `--bounds`, or two.
+pub fn deviations_of(options: &Options<'_>) -> Deviations
+    ensures { result ≡ deviations_of (options_of options.now) }
+{
+    options.bounds.unwrap_or(Deviations::Two)
+}
+
+/// What `count` prints of a sketch.
+pub fn count_text(
+    alloc: Global,
+    options: &Options<'_>,
+    sketch: &CompactThetaSketch,
+) -> Result<String, AllocError>
+    ensures { IfOk result (λ text. string_bytes text ≡ count_text (options_of options.now) sketch.now) }
+{
+    let report = report_of(sketch, deviations_of(options));
+    match options.form {
+        Form::Plain => count_line(alloc, report, options.bounds.is_some()),
+        Form::Tsv => {
+            let mut text = tsv_head(alloc, false)?;
+            let row = tsv_row(alloc, None, report)?;
+            text.push_str(row.as_str())?;
+            Ok(text)
+        }
+        Form::Json => json_line(alloc, None, report),
+    }
+}
+
+/// What `show` prints before all sketches.
+pub fn head_of(alloc: Global, form: Form) -> Result<String, AllocError>
+    ensures { IfOk result (λ text. string_bytes text ≡ head_of form) }
+{
+    if form == Form::Tsv {
+        tsv_head(alloc, true)
+    } else {
+        Ok(String::new(alloc))
+    }
+}
+
+/// What `show` prints of a sketch.
+pub fn shown_text(
+    alloc: Global,
+    options: &Options<'_>,
+    name: &str,
+    sketch: &CompactThetaSketch,
+) -> Result<String, AllocError>
+    ensures { IfOk result (λ text. string_bytes text ≡ shown_text (options_of options.now) name.now sketch.now) }
+{
+    let report = report_of(sketch, deviations_of(options));
+    match options.form {
+        Form::Plain => shown_line(alloc, name, report),
+        Form::Tsv => tsv_row(alloc, Some(name), report),
+        Form::Json => json_line(alloc, Some(name), report),
+    }
+}
+
+/// One line per image, behind the head of a table if there is to be one.
+pub fn show_inputs<S: Sources + Drop>(
+    alloc: Global,
+    options: &Options<'_>,
+    seed: u64,
+    files: &[String],
+    inputs: Inputs<'_, S>,
+) -> Result<Vec<u8>, Failure>
+    ensures shown { IfSome (S.texts inputs.entry.sources) (λ texts.
+        IfOk result (λ v. IsShownOf (options_of options.now) seed (names_of files.now) texts v.items)) }
+    ensures failed { IfErr result IsOfImages }
+{
+    let mut images = Images::new(alloc, inputs, options.hex, seed);
+    let head = head_of(alloc, options.form)?;
+    let lines = if options.hex {
+        show_lines(alloc, options, seed, &mut images)?
+    } else {
+        show_files(alloc, options, seed, files, &mut images)?
+    };
+    let mut shown = head.into_bytes();
+    shown.extend_from_slice(lines.as_slice())?;
+    Ok(shown)
+}
+
+/// One line per image, where each line of the files has an image.
+fn show_lines<S: Sources>(
+    alloc: Global,
+    options: &Options<'_>,
+    seed: u64,
+    images: &mut Images<'_, S>,
+) -> Result<Vec<u8>, Failure>
+    ensures shown { IfSome (remaining_images S.Source.remaining S.texts images.old) (λ all.
+        IfOk result (λ v. AreShown (options_of options.now) seed all v.items)) }
+    ensures failed { IfErr result IsOfImages }
+{
+    let mut shown = Vec::new(alloc);
+    for _ in 0..u64::MAX {
+        let Some(sketch) = next_sketch(alloc, seed, images)? else {
+            return Ok(shown);
+        };
+        let text = shown_text(alloc, options, images.name(), &sketch)?;
+        shown.extend_from_slice(text.as_bytes())?;
+    }
+    Err(Failure::Memory)
+}
+
+/// One line per image, where each file is an image, under the file's name.
+fn show_files<S: Sources>(
+    alloc: Global,
+    options: &Options<'_>,
+    seed: u64,
+    files: &[String],
+    images: &mut Images<'_, S>,
+) -> Result<Vec<u8>, Failure>
+    ensures shown { IfSome (remaining_images S.Source.remaining S.texts images.old) (λ all.
+        IfOk result (λ v. IsShown (options_of options.now) seed (names_of files.now) all v.items)) }
+    ensures failed { IfErr result IsOfImages }
+{
+    let mut shown = Vec::new(alloc);
+    let mut left = files;
+    while let Some((file, others)) = left.split_first() {
+        let Some(sketch) = next_sketch(alloc, seed, images)? else {
+            return Ok(shown);
+        };
+        let text = shown_text(alloc, options, called(file.as_str()), &sketch)?;
+        shown.extend_from_slice(text.as_bytes())?;
+        left = others;
+    }
+    Ok(shown)
+}
