@@ -7,7 +7,7 @@ use std::fs::{File, Files};
 use std::io::{ErrorKind, Write};
 use std::{fs, io};
 
-/// Writes a file of this name, or writes to the device or pipe of this name.
+/// WritesAnswer a file of this name, or writes to the device or pipe of this name.
 pub fn put_file(rt: &HostRuntime, name: &str, bytes: &[u8]) -> Result<(), Failure>
     ensures { IfErr result (IsOfWriting name.now) }
 {
@@ -41,7 +41,7 @@ fn is_link(rt: &HostRuntime, name: &str) -> bool {
     }
 }
 
-/// Writes a file, all or nothing. Through a symbolic link it writes the file that the link leads to.
+/// WritesAnswer a file, all or nothing. Through a symbolic link it writes the file that the link leads to.
 fn write_file(rt: &HostRuntime, name: &str, bytes: &[u8]) -> io::Result<()> {
     if is_special(rt, name) {
         return fs::write(rt, name, bytes);
@@ -58,7 +58,7 @@ fn write_file(rt: &HostRuntime, name: &str, bytes: &[u8]) -> io::Result<()> {
     }
 }
 
-/// Writes a file, all or nothing: it writes a new file beside it and then renames that. An existing file's permissions
+/// WritesAnswer a file, all or nothing: it writes a new file beside it and then renames that. An existing file's permissions
 /// are kept.
 fn replace_file(rt: &HostRuntime, name: &str, bytes: &[u8]) -> io::Result<()> {
     let (beside, file) = new_beside(rt, name)?;

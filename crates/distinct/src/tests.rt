@@ -9,7 +9,7 @@ ghost use Rattle.distinct_arguments.specs.Faults.{options_of};
 ghost use Rattle.distinct_arguments.specs.Settings.{chosen_group};
 ghost use Rattle.distinct_commands.specs.Answers.{names_of, texts_of, sketch_of};
 ghost use Rattle.distinct_commands.specs.Images.{in_form};
-ghost use Rattle.distinct_commands.specs.Answers.{IsIntersectionImage, IsDifferenceImage, IsShownOf, IsCounted, IsSketched, IsAnswer, Performs};
+ghost use Rattle.distinct_commands.specs.Answers.{IsIntersectionImage, IsDifferenceImage, IsShownOf, IsCountOf, IsSketchOf, IsCommandAnswer, Performs};
 ghost use Rattle.distinct_commands.specs.Evaluations.{IsEvaluatedOf};
 ghost use Rattle.distinct_commands.specs.Images.{images_of};
 ghost use Rattle.distinct_commands.specs.Texts.{count_text};
@@ -275,7 +275,7 @@ fn answered(
     texts: &[Vec<u8>],
 ) -> Result<Vec<u8>, Failure>
     requires seeded { seed_hash seed ≢ 0 }
-    ensures written { IfOk result (λ v. IsAnswer command (options_of options.now) seed (names_of names.now) (texts_of texts.now) v.items) }
+    ensures written { IfOk result (λ v. IsCommandAnswer command (options_of options.now) seed (names_of names.now) (texts_of texts.now) v.items) }
 {
     let mut bytes = Vec::new(alloc);
     let mut console = Quiet {};
@@ -301,7 +301,7 @@ fn count_of(
     texts: &[Vec<u8>],
 ) -> Result<Vec<u8>, Failure>
     requires seeded { seed_hash seed ≢ 0 }
-    ensures counted { IfOk result (λ v. IsCounted (chosen_group (options_of options.now)) (options_of options.now) seed (texts_of texts.now) v.items) }
+    ensures counted { IfOk result (λ v. IsCountOf (chosen_group (options_of options.now)) (options_of options.now) seed (texts_of texts.now) v.items) }
 {
     answered(alloc, Command::Count, options, seed, names, texts)
 }
@@ -315,7 +315,7 @@ fn sketch_of(
     texts: &[Vec<u8>],
 ) -> Result<Vec<u8>, Failure>
     requires seeded { seed_hash seed ≢ 0 }
-    ensures sketched { IfOk result (λ v. IsSketched (chosen_group (options_of options.now)) (options_of options.now) seed (texts_of texts.now) v.items) }
+    ensures sketched { IfOk result (λ v. IsSketchOf (chosen_group (options_of options.now)) (options_of options.now) seed (texts_of texts.now) v.items) }
 {
     answered(alloc, Command::Sketch, options, seed, names, texts)
 }

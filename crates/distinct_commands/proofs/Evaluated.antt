@@ -12,7 +12,7 @@ use Rattle.set_expressions.specs.Running.{values_of}
 use Rattle.distinct_arguments.specs.Settings.{OptionValues}
 use Rattle.distinct_commands.proofs.WholeStreams.{whole_result}
 use Rattle.distinct_commands.specs.Failures.{chosen_hashing}
-use Rattle.distinct_commands.specs.Evaluations.{sketch_of_text, SketchesFirst, SketchesNext, AreSketched, AreOperands, IsEvaluated, IsEvaluatedOf, evaluated_text}
+use Rattle.distinct_commands.specs.Evaluations.{sketch_of_text, SketchesFirst, SketchesNext, AreSketchesOfTexts, AreOperands, IsEvaluated, IsEvaluatedOf, evaluated_text}
 
 mapped-more : {X Y : Type 0} (f : X → Y) (xs : List X) (x : X) → map f (xs ++ x ∷ []) ≡ map f xs ++ f x ∷ []
 mapped-more f [] x = refl
@@ -25,31 +25,31 @@ only_one (y ∷ []) x some limited is = ap (λ z. z ∷ []) (sym is)
 only_one (y ∷ z ∷ ys) x some limited is = absurd (omega arith)
 
 module _ (options : OptionValues) (seed : ℕ) where
-  sketched-more : (texts : List (List ℕ)) (sketches : List (Compact ℕ)) (text : List ℕ) (s : Compact ℕ) → AreSketched options seed texts sketches → s ≡ sketch_of_text options seed text → AreSketched options seed (texts ++ text ∷ []) (sketches ++ s ∷ [])
+  sketched-more : (texts : List (List ℕ)) (sketches : List (Compact ℕ)) (text : List ℕ) (s : Compact ℕ) → AreSketchesOfTexts options seed texts sketches → s ≡ sketch_of_text options seed text → AreSketchesOfTexts options seed (texts ++ text ∷ []) (sketches ++ s ∷ [])
   sketched-more texts sketches text s all one =
       ap (λ ss. ss ++ s ∷ []) all
       ∙ ap (λ t. sketches_of_texts (chosen_hashing options seed) options.lg_k texts ++ t ∷ []) one
       ∙ sym (mapped-more (sketch_of_text options seed) texts text)
 
-  one_sketched : (all taken left : List (List ℕ)) (sketches : List (Compact ℕ)) (s : Compact ℕ) (new : Option (List (List ℕ))) → all ≡ taken ++ left → AreSketched options seed taken sketches → SketchesFirst options seed left s new → Continues (Some all) new (λ ts. AreSketched options seed ts (sketches ++ s ∷ []))
+  one_sketched : (all taken left : List (List ℕ)) (sketches : List (Compact ℕ)) (s : Compact ℕ) (new : Option (List (List ℕ))) → all ≡ taken ++ left → AreSketchesOfTexts options seed taken sketches → SketchesFirst options seed left s new → Continues (Some all) new (λ ts. AreSketchesOfTexts options seed ts (sketches ++ s ∷ []))
   one_sketched all taken left sketches s new parted so_far first =
-      subst (λ (o : Option (List (List ℕ))). Continues (Some all) o (λ ts. AreSketched options seed ts (sketches ++ s ∷ []))) (sym first.leaves) (
+      subst (λ (o : Option (List (List ℕ))). Continues (Some all) o (λ ts. AreSketchesOfTexts options seed ts (sketches ++ s ∷ []))) (sym first.leaves) (
         taken ++ first.text ∷ [],
         parted ∙ ap (λ ts. taken ++ ts) first.parted ∙ sym (append_assoc taken (first.text ∷ []) first.texts_after),
         sketched-more taken sketches first.text s so_far first.sketched,
       )
 
-  pub sketches_more : (old now new : Option (List (List ℕ))) (o : Option (Compact ℕ)) (s : Compact ℕ) (sketches : List (Compact ℕ)) → Continues old now (λ ts. AreSketched options seed ts sketches) → SketchesNext options seed now new o → o ≡ Some s → Continues old new (λ ts. AreSketched options seed ts (sketches ++ s ∷ []))
+  pub sketches_more : (old now new : Option (List (List ℕ))) (o : Option (Compact ℕ)) (s : Compact ℕ) (sketches : List (Compact ℕ)) → Continues old now (λ ts. AreSketchesOfTexts options seed ts sketches) → SketchesNext options seed now new o → o ≡ Some s → Continues old new (λ ts. AreSketchesOfTexts options seed ts (sketches ++ s ∷ []))
   sketches_more None now new o s sketches so_far next is = tt
   sketches_more (Some all) None new o s sketches so_far next is = absurd so_far
   sketches_more (Some all) (Some left) new o s sketches so_far next is = one_sketched all so_far.0 left sketches s new so_far.1 so_far.2 (subst (SketchesNext options seed (Some left) new) is next)
 
-  pub all_sketched : (old now new : Option (List (List ℕ))) (o : Option (Compact ℕ)) (sketches : List (Compact ℕ)) → Continues old now (λ ts. AreSketched options seed ts sketches) → SketchesNext options seed now new o → o ≡ None → IfSome old (λ all. AreSketched options seed all sketches)
+  pub all_sketched : (old now new : Option (List (List ℕ))) (o : Option (Compact ℕ)) (sketches : List (Compact ℕ)) → Continues old now (λ ts. AreSketchesOfTexts options seed ts sketches) → SketchesNext options seed now new o → o ≡ None → IfSome old (λ all. AreSketchesOfTexts options seed all sketches)
   all_sketched None now new o sketches so_far next is = tt
   all_sketched (Some all) None new o sketches so_far next is = absurd so_far
   all_sketched (Some all) (Some left) new o sketches so_far next is =
       let none : left ≡ [] = subst (SketchesNext options seed (Some left) new) is next in
-      subst (λ ts. AreSketched options seed ts sketches) (sym (so_far.1 ∙ ap (λ ts. so_far.0 ++ ts) none ∙ append-nil so_far.0)) so_far.2
+      subst (λ ts. AreSketchesOfTexts options seed ts sketches) (sym (so_far.1 ∙ ap (λ ts. so_far.0 ++ ts) none ∙ append-nil so_far.0)) so_far.2
 
   pub next_sketched : {R : Type 0} (remaining : R → Option (List ℕ)) (old new : Option (List (List ℕ))) (source : R) (s : Compact ℕ) → GivesNext remaining old new (Some source) → IfSome (remaining source) (λ text. s ≡ sketch_of_text options seed text) → SketchesNext options seed old new (Some s)
   next_sketched remaining None new source s gives is = tt

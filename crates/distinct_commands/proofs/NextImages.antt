@@ -7,7 +7,7 @@ use Rattle.core_compact.specs.CompactState.{Compact}
 use Rattle.theta_sketches.specs.Image.{Reads, written}
 use Rattle.line_sketches.specs.Sources.{Continues}
 use Rattle.line_sketches.specs.Shards.{AreRead}
-use Rattle.distinct_commands.specs.Answers.{IsShown, AreShown, IsExpected, IsIntersectionImage, intersection_of}
+use Rattle.distinct_commands.specs.Answers.{AreShownByName, AreShown, IsExpected, IsIntersectionImage, intersection_of}
 use Rattle.distinct_commands.specs.Failures.{called}
 use Rattle.distinct_commands.specs.Images.{images_of, images_left, open_text, ReadsFirst, ReadsNext}
 use Rattle.distinct_commands.specs.Texts.{shown_text}
@@ -49,43 +49,43 @@ module _ (options : OptionValues) (seed : ℕ) where
   abbrev pub ShowsOn : (old : Option (List (List ℕ))) (names : List (List ℕ)) (shown : List ℕ) (now : Option (List (List ℕ))) (left : List (List ℕ)) → Type 0
   ShowsOn None names shown now left = Unit {0}
   ShowsOn (Some all) names shown None left = ⊥
-  ShowsOn (Some all) names shown (Some images) left = (rest : List ℕ) → IsShown options seed left images rest → IsShown options seed names all (shown ++ rest)
+  ShowsOn (Some all) names shown (Some images) left = (rest : List ℕ) → AreShownByName options seed left images rest → AreShownByName options seed names all (shown ++ rest)
 
   pub shows_itself : (old : Option (List (List ℕ))) (names : List (List ℕ)) → ShowsOn old names [] old names
   shows_itself None names = tt
   shows_itself (Some all) names = λ rest is. is
 
   one_shown : (all names : List (List ℕ)) (shown : List ℕ) (images : List (List ℕ)) (name : List ℕ) (others : List (List ℕ)) (s : Compact ℕ) (new : Option (List (List ℕ))) →
-      ((rest : List ℕ) → IsShown options seed (name ∷ others) images rest → IsShown options seed names all (shown ++ rest)) → ReadsFirst seed images s new → ShowsOn (Some all) names (shown ++ shown_text options (called name) s) new others
+      ((rest : List ℕ) → AreShownByName options seed (name ∷ others) images rest → AreShownByName options seed names all (shown ++ rest)) → ReadsFirst seed images s new → ShowsOn (Some all) names (shown ++ shown_text options (called name) s) new others
   one_shown all names shown images name others s new so_far first =
       subst (λ (o : Option (List (List ℕ))). ShowsOn (Some all) names (shown ++ shown_text options (called name) s) o others) (sym first.leaves) (λ rest is.
-      subst (IsShown options seed names all) (sym (append_assoc shown (shown_text options (called name) s) rest))
-      (so_far (shown_text options (called name) s ++ rest) (subst (λ (l : List (List ℕ)). IsShown options seed (name ∷ others) l (shown_text options (called name) s ++ rest)) (sym first.parted) (s, rest, first.reads, refl, is))))
+      subst (AreShownByName options seed names all) (sym (append_assoc shown (shown_text options (called name) s) rest))
+      (so_far (shown_text options (called name) s ++ rest) (subst (λ (l : List (List ℕ)). AreShownByName options seed (name ∷ others) l (shown_text options (called name) s ++ rest)) (sym first.parted) (s, rest, first.reads, refl, is))))
 
   pub shows_more : (old : Option (List (List ℕ))) (names : List (List ℕ)) (shown : List ℕ) (now : Option (List (List ℕ))) (left : List (List ℕ)) (name : List ℕ) (others : List (List ℕ)) (o : Option (Compact ℕ)) (s : Compact ℕ) (new : Option (List (List ℕ))) →
       ShowsOn old names shown now left → left ≡ name ∷ others → ReadsNext seed now new o → o ≡ Some s → ShowsOn old names (shown ++ shown_text options (called name) s) new others
   shows_more None names shown now left name others o s new so_far parted next is = tt
   shows_more (Some all) names shown None left name others o s new so_far parted next is = absurd so_far
   shows_more (Some all) names shown (Some images) left name others o s new so_far parted next is =
-      one_shown all names shown images name others s new (subst (λ (l : List (List ℕ)). (rest : List ℕ) → IsShown options seed l images rest → IsShown options seed names all (shown ++ rest)) parted so_far) (subst (ReadsNext seed (Some images) new) is next)
+      one_shown all names shown images name others s new (subst (λ (l : List (List ℕ)). (rest : List ℕ) → AreShownByName options seed l images rest → AreShownByName options seed names all (shown ++ rest)) parted so_far) (subst (ReadsNext seed (Some images) new) is next)
 
-  none_left : (left : List (List ℕ)) → IsShown options seed left [] []
+  none_left : (left : List (List ℕ)) → AreShownByName options seed left [] []
   none_left [] = refl
   none_left (name ∷ left) = refl
 
   pub shows_all : (old : Option (List (List ℕ))) (names : List (List ℕ)) (shown : List ℕ) (now : Option (List (List ℕ))) (left : List (List ℕ)) (o : Option (Compact ℕ)) (new : Option (List (List ℕ))) →
-      ShowsOn old names shown now left → ReadsNext seed now new o → o ≡ None → IfSome old (λ all. IsShown options seed names all shown)
+      ShowsOn old names shown now left → ReadsNext seed now new o → o ≡ None → IfSome old (λ all. AreShownByName options seed names all shown)
   shows_all None names shown now left o new so_far next is = tt
   shows_all (Some all) names shown None left o new so_far next is = absurd so_far
   shows_all (Some all) names shown (Some images) left o new so_far next is =
       let none : images ≡ [] = subst (ReadsNext seed (Some images) new) is next in
-      subst (IsShown options seed names all) (append-nil shown) (so_far [] (subst (λ (l : List (List ℕ)). IsShown options seed left l []) (sym none) (none_left left)))
+      subst (AreShownByName options seed names all) (append-nil shown) (so_far [] (subst (λ (l : List (List ℕ)). AreShownByName options seed left l []) (sym none) (none_left left)))
 
-  pub shows_named : (old : Option (List (List ℕ))) (names : List (List ℕ)) (shown : List ℕ) (now : Option (List (List ℕ))) (left : List (List ℕ)) → ShowsOn old names shown now left → left ≡ [] → IfSome old (λ all. IsShown options seed names all shown)
+  pub shows_named : (old : Option (List (List ℕ))) (names : List (List ℕ)) (shown : List ℕ) (now : Option (List (List ℕ))) (left : List (List ℕ)) → ShowsOn old names shown now left → left ≡ [] → IfSome old (λ all. AreShownByName options seed names all shown)
   shows_named None names shown now left so_far none = tt
   shows_named (Some all) names shown None left so_far none = absurd so_far
   shows_named (Some all) names shown (Some images) left so_far none =
-      subst (IsShown options seed names all) (append-nil shown) (so_far [] (subst (λ (l : List (List ℕ)). IsShown options seed l images []) (sym none) refl))
+      subst (AreShownByName options seed names all) (append-nil shown) (so_far [] (subst (λ (l : List (List ℕ)). AreShownByName options seed l images []) (sym none) refl))
 
   -- ---- lines on images under any names
 

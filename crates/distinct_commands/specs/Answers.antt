@@ -68,12 +68,12 @@ abbrev pub IsCombinedOf : Operator → OptionValues → (seed : ℕ) → (texts 
 IsCombinedOf operator options seed texts out = IsCombined operator options seed (images_of options.hex texts) out
 
 -- one line per image, under the file's name
-abbrev pub IsShown : OptionValues → (seed : ℕ) → (names images : List (List ℕ)) → List ℕ → Type 0
-IsShown options seed [] images out = out ≡ []
-IsShown options seed (name ∷ names) [] out = out ≡ []
-IsShown options seed (name ∷ names) (image ∷ images) out =
+abbrev pub AreShownByName : OptionValues → (seed : ℕ) → (names images : List (List ℕ)) → List ℕ → Type 0
+AreShownByName options seed [] images out = out ≡ []
+AreShownByName options seed (name ∷ names) [] out = out ≡ []
+AreShownByName options seed (name ∷ names) (image ∷ images) out =
     (s : Compact ℕ) × (rest : List ℕ) × Reads image (seed_hash seed) s × (out ≡ shown_text options (called name) s ++ rest)
-    × IsShown options seed names images rest
+    × AreShownByName options seed names images rest
 
 -- one line per image, under any name
 abbrev pub AreShown : OptionValues → (seed : ℕ) → (images : List (List ℕ)) → List ℕ → Type 0
@@ -85,7 +85,7 @@ AreShown options seed (image ∷ images) out =
 -- one line per image in files: under the file's name if each file is an image, under an unspecified name if each line has one
 abbrev pub AreLinesOf : (hex : Bool) → OptionValues → (seed : ℕ) → (names texts : List (List ℕ)) → List ℕ → Type 0
 AreLinesOf true options seed names texts out = AreShown options seed (images_of true texts) out
-AreLinesOf false options seed names texts out = IsShown options seed names texts out
+AreLinesOf false options seed names texts out = AreShownByName options seed names texts out
 
 -- .. behind the head of a table, if there is to be one
 abbrev pub IsShownOf : OptionValues → (seed : ℕ) → (names texts : List (List ℕ)) → List ℕ → Type 0
@@ -93,32 +93,32 @@ IsShownOf options seed names texts out =
     (lines : List ℕ) × AreLinesOf options.hex options seed names texts lines × (out ≡ head_of options.form ++ lines)
 
 -- what `count` prints of texts, by the key of their groups if there is one
-abbrev pub IsCounted : (by : Option Key) → OptionValues → (seed : ℕ) → (texts : List (List ℕ)) → List ℕ → Type 0
-IsCounted None options seed texts out = out ≡ count_text options (sketch_of options seed texts)
-IsCounted (Some by) options seed texts out = IsGroupedText false options seed by texts out
+abbrev pub IsCountOf : (by : Option Key) → OptionValues → (seed : ℕ) → (texts : List (List ℕ)) → List ℕ → Type 0
+IsCountOf None options seed texts out = out ≡ count_text options (sketch_of options seed texts)
+IsCountOf (Some by) options seed texts out = IsGroupedText false options seed by texts out
 
 -- what `sketch` writes of texts, by the key of their groups if there is one
-abbrev pub IsSketched : (by : Option Key) → OptionValues → (seed : ℕ) → (texts : List (List ℕ)) → List ℕ → Type 0
-IsSketched None options seed texts out = out ≡ in_form options.hex (written (sketch_of options seed texts))
-IsSketched (Some by) options seed texts out = IsGroupedText true options seed by texts out
+abbrev pub IsSketchOf : (by : Option Key) → OptionValues → (seed : ℕ) → (texts : List (List ℕ)) → List ℕ → Type 0
+IsSketchOf None options seed texts out = out ≡ in_form options.hex (written (sketch_of options seed texts))
+IsSketchOf (Some by) options seed texts out = IsGroupedText true options seed by texts out
 
 -- what a command writes for files of these names and texts; the only name of `eval` is its expression
-abbrev pub IsAnswer : Command → OptionValues → (seed : ℕ) → (names texts : List (List ℕ)) → List ℕ → Type 0
-IsAnswer Count options seed names texts out = IsCounted (chosen_group options) options seed texts out
-IsAnswer Sketch options seed names texts out = IsSketched (chosen_group options) options seed texts out
-IsAnswer (Combine operator) options seed names texts out =
+abbrev pub IsCommandAnswer : Command → OptionValues → (seed : ℕ) → (names texts : List (List ℕ)) → List ℕ → Type 0
+IsCommandAnswer Count options seed names texts out = IsCountOf (chosen_group options) options seed texts out
+IsCommandAnswer Sketch options seed names texts out = IsSketchOf (chosen_group options) options seed texts out
+IsCommandAnswer (Combine operator) options seed names texts out =
     (image : List ℕ) × IsCombinedOf operator options seed texts image × (out ≡ in_form options.hex image)
-IsAnswer Show options seed names texts out = IsShownOf options seed names texts out
-IsAnswer Eval options seed names texts out = IsEvaluatedOf options seed names texts out
-IsAnswer Visits options seed names texts out = out ≡ visits_text options (visits_of options seed texts)
+IsCommandAnswer Show options seed names texts out = IsShownOf options seed names texts out
+IsCommandAnswer Eval options seed names texts out = IsEvaluatedOf options seed names texts out
+IsCommandAnswer Visits options seed names texts out = out ≡ visits_text options (visits_of options seed texts)
 
 -- the command's answer was written, and nothing else
-abbrev pub Writes : Command → OptionValues → (seed : ℕ) → (names texts : List (List ℕ)) → (old new : Option (List ℕ)) → Type 0
-Writes command options seed names texts old new =
-    (out : List ℕ) × IsAnswer command options seed names texts out × Appends old new out
+abbrev pub WritesAnswer : Command → OptionValues → (seed : ℕ) → (names texts : List (List ℕ)) → (old new : Option (List ℕ)) → Type 0
+WritesAnswer command options seed names texts old new =
+    (out : List ℕ) × IsCommandAnswer command options seed names texts out × Appends old new out
 
 -- the program did what its arguments say: it printed a text, or ran a command under this seed on files of these names and texts
 abbrev pub Performs : Action → (seed : ℕ) → (names texts : List (List ℕ)) → (old new : Option (List ℕ)) → Type 0
 Performs (prints topic) seed names texts old new = (text : List ℕ) × Appends old new text
-Performs (runs command options files) seed names texts old new = Writes command options seed names texts old new
+Performs (runs command options files) seed names texts old new = WritesAnswer command options seed names texts old new
 Performs (fails fault) seed names texts old new = ⊥

@@ -36,12 +36,12 @@ SketchesNext options seed (Some texts) new None = texts ≡ []
 SketchesNext options seed (Some texts) new (Some s) = SketchesFirst options seed texts s new
 
 -- each text's lines are sketched by themselves
-abbrev pub AreSketched : OptionValues → (seed : ℕ) → (texts : List (List ℕ)) → List (Compact ℕ) → Type 0
-AreSketched options seed texts sketches = sketches ≡ sketches_of_texts (chosen_hashing options seed) options.lg_k texts
+abbrev pub AreSketchesOfTexts : OptionValues → (seed : ℕ) → (texts : List (List ℕ)) → List (Compact ℕ) → Type 0
+AreSketchesOfTexts options seed texts sketches = sketches ≡ sketches_of_texts (chosen_hashing options seed) options.lg_k texts
 
 -- the sketches of an expression's names: with `--keys` those of the texts' lines, else those that the texts have as images
 abbrev pub AreOperands : (keys : Bool) → OptionValues → (seed : ℕ) → (texts : List (List ℕ)) → List (Compact ℕ) → Type 0
-AreOperands true options seed texts sketches = AreSketched options seed texts sketches
+AreOperands true options seed texts sketches = AreSketchesOfTexts options seed texts sketches
 AreOperands false options seed texts sketches = AreRead seed (images_of options.hex texts) sketches
 
 -- the whole streams of the names' sketches, as sets of hashes: with `--keys` those of the texts' lines, else any of which the sketches are samples

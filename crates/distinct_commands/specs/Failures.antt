@@ -18,14 +18,14 @@ use Rattle.distinct_commands.specs.declared.failure.Failure.{Failure}
 use Rattle.distinct_commands.specs.declared.failure.Failure.TheVariants.{NotText, Arguments, NoFiles, NotTwo, NoExpression, NoName, Terminal, WrongCount, NotOneEach, Memory, Unreadable, NoSketch, NoHex, NoLine, PastGreatest, NotWritten}
 
 -- the exit status: 2 if the arguments are wrong, else 1
-abbrev pub status_of : Failure → ℕ
-status_of (NotText number text) = 2
-status_of (Arguments fault) = fault_status fault
-status_of NoFiles = 2
-status_of NotTwo = 2
-status_of (NoExpression text fault) = 2
-status_of Terminal = 2
-status_of _ = 1
+abbrev pub failure_status : Failure → ℕ
+failure_status (NotText number text) = 2
+failure_status (Arguments fault) = fault_status fault
+failure_status NoFiles = 2
+failure_status NotTwo = 2
+failure_status (NoExpression text fault) = 2
+failure_status Terminal = 2
+failure_status _ = 1
 
 -- the name of a file in messages
 abbrev pub called : List ℕ → List ℕ
@@ -130,7 +130,7 @@ IsOfCommand command options count texts (WrongCount counted number) = (options.e
 IsOfCommand command options count texts (NotOneEach found names) = (command ≡ Eval) × (found ≢ names)
 IsOfCommand command options count texts (NoExpression text fault) = command ≡ Eval
 IsOfCommand command options count texts (Arguments NotOneExpression) = (command ≡ Eval) × (count ≢ 1)
-IsOfCommand command options count texts failure = status_of failure ≡ 1
+IsOfCommand command options count texts failure = failure_status failure ≡ 1
 
 -- how lines are hashed: by the field of the number that options choose, the first being 1, or the whole line
 abbrev pub chosen_hashing : OptionValues → (seed : ℕ) → Hashing

@@ -12,12 +12,12 @@ use Rattle.distinct_arguments.specs.declared.options.Form.{Form}
 use Rattle.distinct_arguments.specs.declared.options.Form.TheVariants.{Plain, Tsv, Json}
 
 -- the standard deviations of bounds: those of `--bounds`, or two
-abbrev pub deviations_of : OptionValues → Deviations
-deviations_of options = unwrap_or options.bounds Two
+abbrev pub chosen_deviations : OptionValues → Deviations
+chosen_deviations options = unwrap_or options.bounds Two
 
 -- the report of a sketch, with bounds of these standard deviations
 abbrev pub report_by : OptionValues → Compact ℕ → Report
-report_by options s = report_of (deviation_count (deviations_of options)) s
+report_by options s = report_of (deviation_count (chosen_deviations options)) s
 
 -- what `count` prints of a report
 abbrev pub counted_in : Form → (with_bounds : Bool) → Report → List ℕ

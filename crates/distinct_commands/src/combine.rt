@@ -12,7 +12,7 @@ ghost use Rattle.distinct_commands.specs.Failures.{IsOfImages, IsOfCombining, Is
 ghost use Rattle.distinct_commands.specs.Seeds.{AreSeeded};
 ghost use Rattle.distinct_commands.specs.declared.failure.Failure.TheVariants as failure;
 
-use crate::answer::image_to_put;
+use crate::commands::image_to_put;
 use crate::failure::{Failure, out_of_memory};
 use crate::images::Images;
 use crate::inputs::Inputs;

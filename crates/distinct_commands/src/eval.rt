@@ -11,13 +11,13 @@ ghost use Rattle.core_compact.specs.CompactState.{ordered_sketch};
 ghost use Rattle.set_expressions.specs.Running.{values_of};
 ghost use Rattle.distinct_arguments.specs.Faults.{options_of};
 ghost use Rattle.distinct_commands.specs.Answers.{names_of};
-ghost use Rattle.distinct_commands.specs.Evaluations.{sketch_of_text, SketchesNext, AreSketched, AreOperands, IsEvaluatedOf, evaluated_text};
+ghost use Rattle.distinct_commands.specs.Evaluations.{sketch_of_text, SketchesNext, AreSketchesOfTexts, AreOperands, IsEvaluatedOf, evaluated_text};
 ghost use Rattle.distinct_commands.specs.Seeds.{AreSeeded};
 ghost use Rattle.distinct_commands.specs.Failures.{IsOfReading, IsOfImages, IsOfExpression, IsOfEvaluation};
 ghost use Rattle.distinct_commands.specs.declared.failure.Failure.TheVariants as failure;
 
-use crate::answer::image_in_form;
 use crate::combine::all_sketches;
+use crate::commands::image_in_form;
 use crate::failure::{Failure, out_of_memory};
 use crate::images::Images;
 use crate::inputs::Inputs;
@@ -143,7 +143,7 @@ fn all_lines<S: Sources, C: Console>(
 ) -> Result<Vec<CompactThetaSketch>, Failure>
     requires seeded { seed_hash seed ≢ 0 }
     ensures seeded { IfOk result (λ v. AreSeeded seed v.items) }
-    ensures sketched { IfSome (S.texts inputs.old.sources) (λ texts. IfOk result (λ v. AreSketched (options_of options.now) seed texts v.items)) }
+    ensures sketched { IfSome (S.texts inputs.old.sources) (λ texts. IfOk result (λ v. AreSketchesOfTexts (options_of options.now) seed texts v.items)) }
     ensures failed { IfErr result IsOfReading }
 {
     let mut sketches = Vec::new(alloc);

@@ -2,7 +2,7 @@
 ghost use Rattle.std.specs.Prelude.{◌≡◌};
 ghost use Rattle.sketch_base.specs.declared.error.ErrorKind.TheVariants.{OutOfMemory};
 ghost use Rattle.distinct_arguments.specs.declared.fault.Fault.{Fault};
-ghost use Rattle.distinct_commands.specs.Failures.{status_of};
+ghost use Rattle.distinct_commands.specs.Failures.{failure_status};
 ghost use Rattle.distinct_commands.specs.declared.failure.Failure.TheVariants as failure;
 
 use distinct_arguments::{Escaped, Fault};
@@ -56,7 +56,7 @@ pub enum Failure {
 impl Failure {
     /// The exit status: 2 if the arguments are wrong, else 1.
     pub fn status(&self) -> u8
-        ensures { result ≡ status_of self.now }
+        ensures { result ≡ failure_status self.now }
     {
         match self {
             Failure::NotText(_, _) => 2,

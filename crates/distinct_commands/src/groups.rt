@@ -9,11 +9,11 @@ ghost use Rattle.distinct_commands.specs.Failures.{IsOfReading};
 ghost use Rattle.distinct_commands.specs.Groups.{grouping_of, group_text, group_line, groups_text, groups_head, IsGroupedText};
 ghost use Rattle.distinct_commands.specs.declared.failure.Failure.TheVariants as failure;
 
-use crate::answer::image_to_put;
+use crate::commands::image_to_put;
 use crate::failure::{Failure, out_of_memory};
 use crate::inputs::Inputs;
 use crate::remarks::Console;
-use crate::show::{deviations_of, head_of};
+use crate::show::{chosen_deviations, head_of};
 use distinct_arguments::{Form, Options};
 use grouped_lines::{Grouping, Groups, group_sources};
 use line_sketches::{Sources, Unread, hex_line};
@@ -31,7 +31,7 @@ fn group_text(
 ) -> Result<Vec<u8>, AllocError>
     ensures { IfOk result (λ text. text.items ≡ group_text (options_of options.now) name.now sketch.now) }
 {
-    let report = report_of(sketch, deviations_of(options));
+    let report = report_of(sketch, chosen_deviations(options));
     match options.form {
         Form::Plain => {
             let line = count_line(alloc, report, options.bounds.is_some())?;

@@ -11,8 +11,8 @@
 //! ```
 #![tactic(auto)]
 
-mod answer;
 mod combine;
+mod commands;
 mod eval;
 mod failure;
 mod groups;
@@ -25,7 +25,7 @@ mod seeds;
 mod show;
 mod visits;
 
-pub use answer::{answer, perform};
+pub use commands::{answer, perform};
 pub use eval::{Expression, expression_in};
 pub use failure::{Failure, family_name};
 pub use inputs::{Files, Input, files_in_list};

@@ -8,7 +8,7 @@ use std::alloc::Global;
 use std::io;
 use std::io::Write;
 
-/// Writes bytes to a writer, which has this name in messages.
+/// WritesAnswer bytes to a writer, which has this name in messages.
 pub fn put<W: Write>(alloc: Global, writer: &mut W, name: &str, bytes: &[u8]) -> Result<(), Failure>
     ensures written { OnOk result (Appends (W.contents writer.old) (W.contents writer.new) bytes.now) }
     ensures failed { IfErr result (IsOfWriting name.now) }

@@ -1,10 +1,10 @@
 //! What `count` and `show` print of sketches.
 ghost use Rattle.std.specs.Prelude.{◌≡◌, ◌++◌, None, Some, IfOk, IfErr, IfSome, OnOk, string_bytes};
 ghost use Rattle.distinct_arguments.specs.Faults.{options_of};
-ghost use Rattle.distinct_commands.specs.Answers.{names_of, IsShown, AreShown, IsShownOf};
+ghost use Rattle.distinct_commands.specs.Answers.{names_of, AreShownByName, AreShown, IsShownOf};
 ghost use Rattle.distinct_commands.specs.Failures.{called, IsOfImages};
 ghost use Rattle.distinct_commands.specs.Images.{remaining_images};
-ghost use Rattle.distinct_commands.specs.Texts.{deviations_of, count_text, shown_text, head_of};
+ghost use Rattle.distinct_commands.specs.Texts.{chosen_deviations, count_text, shown_text, head_of};
 
 use crate::combine::next_sketch;
 use crate::failure::Failure;
@@ -18,8 +18,8 @@ use std::alloc::{AllocError, Global};
 use theta_sketches::CompactThetaSketch;
 
 /// The standard deviations of bounds: those of `--bounds`, or two.
-pub fn deviations_of(options: &Options<'_>) -> Deviations
-    ensures { result ≡ deviations_of (options_of options.now) }
+pub fn chosen_deviations(options: &Options<'_>) -> Deviations
+    ensures { result ≡ chosen_deviations (options_of options.now) }
 {
     options.bounds.unwrap_or(Deviations::Two)
 }
@@ -32,7 +32,7 @@ pub fn count_text(
 ) -> Result<String, AllocError>
     ensures { IfOk result (λ text. string_bytes text ≡ count_text (options_of options.now) sketch.now) }
 {
-    let report = report_of(sketch, deviations_of(options));
+    let report = report_of(sketch, chosen_deviations(options));
     match options.form {
         Form::Plain => count_line(alloc, report, options.bounds.is_some()),
         Form::Tsv => {
@@ -65,7 +65,7 @@ pub fn shown_text(
 ) -> Result<String, AllocError>
     ensures { IfOk result (λ text. string_bytes text ≡ shown_text (options_of options.now) name.now sketch.now) }
 {
-    let report = report_of(sketch, deviations_of(options));
+    let report = report_of(sketch, chosen_deviations(options));
     match options.form {
         Form::Plain => shown_line(alloc, name, report),
         Form::Tsv => tsv_row(alloc, Some(name), report),
@@ -128,7 +128,7 @@ fn show_files<S: Sources>(
     images: &mut Images<'_, S>,
 ) -> Result<Vec<u8>, Failure>
     ensures shown { IfSome (remaining_images S.Source.remaining S.texts images.old) (λ all.
-        IfOk result (λ v. IsShown (options_of options.now) seed (names_of files.now) all v.items)) }
+        IfOk result (λ v. AreShownByName (options_of options.now) seed (names_of files.now) all v.items)) }
     ensures failed { IfErr result IsOfImages }
 {
     let mut shown = Vec::new(alloc);

@@ -7,7 +7,7 @@ ghost use Rattle.distinct_commands.specs.Visits.{visits_of, ranges_head, bin_tex
 
 use crate::failure::{Failure, out_of_memory};
 use crate::inputs::Inputs;
-use crate::show::deviations_of;
+use crate::show::chosen_deviations;
 use distinct_arguments::{Form, Options};
 use line_sketches::Sources;
 use line_sums::{BINS, Unsummed, count_in, greatest_of, greatest_sum, least_of, sum_sources};
@@ -80,7 +80,7 @@ fn bin_text(
         visits.is_empty(),
         count_in(visits, bin),
         visits.theta64(),
-        deviations_of(options),
+        chosen_deviations(options),
     );
     match options.form {
         Form::Plain => range_line(alloc, options.bounds.is_some(), least, greatest, report),

@@ -4,7 +4,7 @@ use Rattle.sketch_base.specs.Seed.{seed_hash}
 use Rattle.core_compact.specs.CompactState.{Compact}
 use Rattle.line_sketches.specs.Sources.{Continues}
 use Rattle.distinct_arguments.specs.Faults.{options_of}
-use Rattle.distinct_commands.specs.Evaluations.{AreSketched}
+use Rattle.distinct_commands.specs.Evaluations.{AreSketchesOfTexts}
 use Rattle.distinct_commands.specs.Seeds.{AreSeeded}
 use Rattle.distinct_commands.proofs.OnlyMemory.{seeded-more}
 use Rattle.distinct_commands.proofs.Evaluated.{sketches_more}
@@ -19,6 +19,6 @@ sketch_each-preserved g c =
     let seed : c.in-Some.sketch.seed_hash ≡ seed_hash c.args.seed = subst (λ (o : Option (Compact ℕ)). IfSome o (λ s. s.seed_hash ≡ seed_hash c.args.seed)) c.in-Some.is c.in_ok-sketch.ensures.seeded in
     record {
       seeded = subst (AreSeeded c.args.seed) (sym c.in_ok-push-in-Some.ensures.items) (seeded-more c.args.seed c.sketch_each.sketches.items c.in-Some.sketch c.sketch_each.invariant.seeded seed);
-      sketched = subst (λ (items : List (Compact ℕ)). Continues old new (λ taken. AreSketched options c.args.seed taken items)) (sym c.in_ok-push-in-Some.ensures.items)
+      sketched = subst (λ (items : List (Compact ℕ)). Continues old new (λ taken. AreSketchesOfTexts options c.args.seed taken items)) (sym c.in_ok-push-in-Some.ensures.items)
           (sketches_more options c.args.seed old now new _ c.in-Some.sketch c.sketch_each.sketches.items c.sketch_each.invariant.sketched c.in_ok-sketch.ensures.sketches c.in-Some.is);
     }

@@ -1,6 +1,6 @@
 use Rattle.line_sketches.specs.Sources.{Continues}
 use Rattle.distinct_arguments.specs.Faults.{options_of}
-use Rattle.distinct_commands.specs.Evaluations.{AreSketched}
+use Rattle.distinct_commands.specs.Evaluations.{AreSketchesOfTexts}
 use Rattle.distinct_commands.specs.Seeds.{AreSeeded}
 use Rattle.distinct_commands.proofs.eval.all_lines.Given as goal
 
@@ -8,5 +8,5 @@ use Rattle.distinct_commands.proofs.eval.all_lines.Given as goal
 abbrev pub invariant-sketch_each : goal.invariant-sketch_each
 invariant-sketch_each g l = record {
   seeded : AreSeeded l.seed l.sketches.items;
-  sketched : Continues (g.S.Sources.texts l.fn.inputs.sources) (g.S.Sources.texts l.inputs.sources) (λ taken. AreSketched (options_of l.options) l.seed taken l.sketches.items);
+  sketched : Continues (g.S.Sources.texts l.fn.inputs.sources) (g.S.Sources.texts l.inputs.sources) (λ taken. AreSketchesOfTexts (options_of l.options) l.seed taken l.sketches.items);
 }

@@ -4,7 +4,7 @@ ghost use Rattle.sketch_base.specs.Seed.{seed_hash};
 ghost use Rattle.theta_sketches.specs.Image.{written};
 ghost use Rattle.distinct_arguments.specs.Faults.{options_of, request_action};
 ghost use Rattle.distinct_arguments.specs.Settings.{chosen_group};
-ghost use Rattle.distinct_commands.specs.Answers.{names_of, sketch_of, IsCounted, IsSketched, IsAnswer, Writes, Performs};
+ghost use Rattle.distinct_commands.specs.Answers.{names_of, sketch_of, IsCountOf, IsSketchOf, IsCommandAnswer, WritesAnswer, Performs};
 ghost use Rattle.distinct_commands.specs.Images.{in_form};
 ghost use Rattle.distinct_commands.specs.Texts.{count_text};
 ghost use Rattle.distinct_commands.specs.Failures.{IsOfReading, IsOfCommand};
@@ -47,7 +47,7 @@ pub fn answer<S: Sources + Drop, C: Console, O: Write>(
 ) -> Result<(), Failure>
     requires seeded { seed_hash seed ≢ 0 }
     ensures answered { IfSome (S.texts sources) (λ texts.
-        OnOk result (Writes command (options_of options.now) seed (names_of files.now) texts (O.contents writer.old) (O.contents writer.new))) }
+        OnOk result (WritesAnswer command (options_of options.now) seed (names_of files.now) texts (O.contents writer.old) (O.contents writer.new))) }
     ensures failed { IfErr result (IsOfCommand command (options_of options.now) (length files.now) (S.texts sources)) }
 {
     let bytes = answer_of(alloc, command, options, seed, files, sources, console)?;
@@ -91,7 +91,7 @@ fn answer_of<S: Sources + Drop, C: Console>(
 ) -> Result<Vec<u8>, Failure>
     requires seeded { seed_hash seed ≢ 0 }
     ensures answer { IfSome (S.texts sources) (λ texts.
-        IfOk result (λ v. IsAnswer command (options_of options.now) seed (names_of files.now) texts v.items)) }
+        IfOk result (λ v. IsCommandAnswer command (options_of options.now) seed (names_of files.now) texts v.items)) }
     ensures failed { IfErr result (IsOfCommand command (options_of options.now) (length files.now) (S.texts sources)) }
 {
     let inputs = Inputs::new(sources, files);
@@ -127,7 +127,7 @@ fn count_inputs<S: Sources + Drop, C: Console>(
 ) -> Result<Vec<u8>, Failure>
     requires seeded { seed_hash seed ≢ 0 }
     ensures counted { IfSome (S.texts inputs.entry.sources) (λ texts.
-        IfOk result (λ v. IsCounted (chosen_group (options_of options.now)) (options_of options.now) seed texts v.items)) }
+        IfOk result (λ v. IsCountOf (chosen_group (options_of options.now)) (options_of options.now) seed texts v.items)) }
     ensures failed { IfErr result IsOfReading }
 {
     match options.group() {
@@ -150,7 +150,7 @@ fn write_sketch<S: Sources + Drop, C: Console>(
 ) -> Result<Vec<u8>, Failure>
     requires seeded { seed_hash seed ≢ 0 }
     ensures sketched { IfSome (S.texts inputs.entry.sources) (λ texts.
-        IfOk result (λ v. IsSketched (chosen_group (options_of options.now)) (options_of options.now) seed texts v.items)) }
+        IfOk result (λ v. IsSketchOf (chosen_group (options_of options.now)) (options_of options.now) seed texts v.items)) }
     ensures failed { IfErr result IsOfReading }
 {
     match options.group() {

@@ -1,7 +1,7 @@
 use Rattle.core_laws.specs.declared.TheConstants.{MAX_THETA}
 use Rattle.core_laws.specs.Settings.{settings_refusal}
 use Rattle.distinct_commands.proofs.OnlyMemory.{sized, read_kind}
-use Rattle.distinct_commands.proofs.answer.sketch_inputs.Goals as goal
+use Rattle.distinct_commands.proofs.commands.sketch_inputs.Goals as goal
 
 pub out_of_memory-requires : goal.out_of_memory-requires
 out_of_memory-requires g c =

@@ -2,7 +2,7 @@ use Rattle.std.proofs.Common.{sym, ◌∙◌}
 use Rattle.distinct_arguments.specs.Faults.{options_of}
 use Rattle.distinct_arguments.specs.Settings.{chosen_group}
 use Rattle.distinct_commands.proofs.Answered.{sketched}
-use Rattle.distinct_commands.proofs.answer.write_sketch.Goals as goal
+use Rattle.distinct_commands.proofs.commands.write_sketch.Goals as goal
 
 pub returns-in_ok-sketch-in-None-clause-sketched : goal.returns-in_ok-sketch-in-None-clause-sketched
 returns-in_ok-sketch-in-None-clause-sketched g c =
