@@ -20,7 +20,7 @@ M64 = 2**64 - 1
 
 LINES = "--lg-k --field --separator --seed --seed-file --files0-from --progress "
 OPTIONS = {
-    "count": LINES + "--by --bounds --tsv --json",
+    "count": LINES + "--by --sort --bounds --tsv --json",
     "sketch": LINES + "--by --hex --output",
     "union": "--lg-k --seed --seed-file --files0-from --expect --hex --output",
     "meet": "--seed --seed-file --files0-from --expect --hex --output",
@@ -355,6 +355,8 @@ def set_option(command, options, words):
     value = value if has_value else words.pop(0)
     if option == "--separator" and len(value.encode()) != 1:
         raise Fault("a separator of another length than 1")
+    if option == "--sort" and value not in ("name", "estimate"):
+        raise Fault("another order than name and estimate")
     if option in ("--seed", "--seed-file"):
         options["seed"] = option, value if option == "--seed-file" else number_of(option, value)
     else:
@@ -451,6 +453,8 @@ def read_arguments(words):
         raise Fault("--separator without --field and without --by")
     if command == "sketch" and "--by" in options and "--hex" not in options:
         raise Fault("--by without --hex")
+    if "--sort" in options and "--by" not in options:
+        raise Fault("--sort without --by")
     if "--files0-from" in options and words:
         raise Fault("a list and files")
     if command in ("count", "sketch", "visits") and not words and "--files0-from" not in options:
@@ -458,7 +462,7 @@ def read_arguments(words):
     read = set(names_of(steps_of(words[0]))) if command == "eval" else words
     if [options["seed"][1], options.get("--files0-from"), *read].count("-") > 1:
         raise Fault("standard input twice")
-    for option in ("--field", "--by", "--bounds", "--hex", "--keys", "--output", "--expect"):
+    for option in ("--field", "--by", "--sort", "--bounds", "--hex", "--keys", "--output", "--expect"):
         options.setdefault(option)
     options["--separator"] = options.get("--separator", "\t").encode()
     return command, options, words
@@ -561,7 +565,10 @@ def run(words, files, messages):
         groups = groups_of([text_of(files, name) for name in names], options)
         rows = [(name, sketch_of([text], options, seed)) for name, text in groups.items()]
         if command == "count":
-            return printed_groups([(name, report_of(it, z)) for name, it in rows], options)
+            reports = [(name, report_of(it, z)) for name, it in rows]
+            if options["--sort"] == "estimate":
+                reports.sort(key=lambda row: -row[1]["estimate"])
+            return printed_groups(reports, options)
         answer = b"".join(name + b"\t" + image_of(it, seed_hash(seed)).hex().encode() + b"\n" for name, it in rows)
         if options["--output"] is None:
             return answer

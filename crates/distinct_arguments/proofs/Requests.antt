@@ -28,7 +28,8 @@ once_run : (command : Command) (options : OptionValues) (files : List (List ℕ)
 once_run command options files =
     at_tests (not (has_one_expression command files)) (has_lone_field command options) _ _ _ tt tt
     (at_tests (is_some options.separator && is_none options.field && is_none options.by) (has_lone_groups command options) _ _ _ tt tt
-    (at_list (is_some options.list && not (length files == 0)) _ _ tt (run_once command options files (nat_lt 1 (standard_uses command options files)) refl)))
+    (at_list (is_some options.sort && is_none options.by) _ _ tt
+    (at_list (is_some options.list && not (length files == 0)) _ _ tt (run_once command options files (nat_lt 1 (standard_uses command options files)) refl))))
 
 at_found : (found : Option (List ℕ)) (run : Action) → ReadsOnce run → ReadsOnce (option_map_or (λ w. fails (behind_file w)) found run)
 at_found None run once = once

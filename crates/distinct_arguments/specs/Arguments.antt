@@ -4,7 +4,7 @@ use Rattle.std.specs.Option.{option_map_or}
 use Rattle.std.specs.List.{find}
 use Rattle.std.specs.Str.{bytes_eq}
 use Rattle.distinct_arguments.specs.Words.{command_of, option_called, has_option, reads_lines, reads_expression, is_help, is_version, is_option, is_standard, Setting, split_option}
-use Rattle.distinct_arguments.specs.Settings.{SeedValue, seed_number, seed_file, OptionValues, default_options, Mistake, no_command, unknown_command, unknown_option, behind_file, no_value, unneeded_value, not_one_expression, lone_field, lone_separator, lone_groups, files_and_list, standard_twice, with_flag, with_value}
+use Rattle.distinct_arguments.specs.Settings.{SeedValue, seed_number, seed_file, OptionValues, default_options, Mistake, no_command, unknown_command, unknown_option, behind_file, no_value, unneeded_value, not_one_expression, lone_field, lone_separator, lone_groups, lone_order, files_and_list, standard_twice, with_flag, with_value}
 use Rattle.distinct_arguments.specs.declared.commands.Command.{Command}
 use Rattle.distinct_arguments.specs.declared.commands.Topic.{Topic}
 use Rattle.distinct_arguments.specs.declared.commands.Topic.TheVariants.{Program, Version, Help}
@@ -100,6 +100,7 @@ run_action command options files =
     if has_lone_field command options then fails lone_field else
     if is_some options.separator && is_none options.field && is_none options.by then fails lone_separator else
     if has_lone_groups command options then fails lone_groups else
+    if is_some options.sort && is_none options.by then fails lone_order else
     if is_some options.list && not (length files == 0) then fails files_and_list else
     if nat_lt 1 (standard_uses command options files) then fails standard_twice else
     runs command options files

@@ -5,11 +5,12 @@ use Rattle.lines.specs.declared.key.Key.{Key}
 use Rattle.lines.specs.declared.key.Key.TheVariants.{Line, Field as FieldKey}
 use Rattle.estimates.specs.declared.bounds.Deviations.{Deviations}
 use Rattle.estimates.specs.declared.bounds.Deviations.TheVariants.{Two}
-use Rattle.distinct_arguments.specs.Words.{number_of, byte_of, seed_of, deviations_of}
+use Rattle.distinct_arguments.specs.Words.{number_of, byte_of, seed_of, deviations_of, order_of}
 use Rattle.distinct_arguments.specs.declared.options.Form.{Form}
+use Rattle.distinct_arguments.specs.declared.options.Order.{Order}
 use Rattle.distinct_arguments.specs.declared.options.Form.TheVariants.{Plain, Tsv as TsvForm, Json as JsonForm}
 use Rattle.distinct_arguments.specs.declared.options.OptionName.{OptionName}
-use Rattle.distinct_arguments.specs.declared.options.OptionName.TheVariants.{LgK, Field, Separator, By, Seed, SeedFile, FileList, Expect, Progress, Bounds, Tsv, Json, Hex, Output, Keys}
+use Rattle.distinct_arguments.specs.declared.options.OptionName.TheVariants.{LgK, Field, Separator, By, Sort, Seed, SeedFile, FileList, Expect, Progress, Bounds, Tsv, Json, Hex, Output, Keys}
 
 -- the seed of hashes: a number, or the name of the file that has it
 pub data SeedValue : Type 0 where
@@ -22,6 +23,7 @@ pub record OptionValues : Type 0 where
   pub field : Option ℕ
   pub separator : Option ℕ
   pub by : Option ℕ
+  pub sort : Option Order
   pub seed : SeedValue
   pub hex : Bool
   pub keys : Bool
@@ -39,6 +41,7 @@ default_options = record {
   field = None;
   separator = None;
   by = None;
+  sort = None;
   seed = seed_number 9001;
   hex = false;
   keys = false;
@@ -69,6 +72,7 @@ pub data Mistake : Type 0 where
   wrong_size : Mistake
   wrong_field : Mistake
   wrong_group : Mistake
+  wrong_order : Mistake
   wrong_separator : Mistake
   wrong_seed : Mistake
   wrong_deviations : Mistake
@@ -77,6 +81,7 @@ pub data Mistake : Type 0 where
   lone_field : Mistake
   lone_separator : Mistake
   lone_groups : Mistake
+  lone_order : Mistake
   files_and_list : Mistake
   standard_twice : Mistake
 
@@ -100,6 +105,7 @@ abbrev pub with_value : OptionValues → OptionName → (name value : List ℕ) 
 with_value options LgK name value = value_or wrong_size (λ n. record options { lg_k = n }) (number_of 4 26 value)
 with_value options Field name value = value_or wrong_field (λ n. record options { field = Some n }) (number_of 1 4294967295 value)
 with_value options By name value = value_or wrong_group (λ n. record options { by = Some n }) (number_of 1 4294967295 value)
+with_value options Sort name value = value_or wrong_order (λ order. record options { sort = Some order }) (order_of value)
 with_value options Separator name value = value_or wrong_separator (λ byte. record options { separator = Some byte }) (byte_of value)
 with_value options Seed name value = value_or wrong_seed (λ n. record options { seed = seed_number n }) (seed_of value)
 with_value options SeedFile name value = Ok (record options { seed = seed_file value })

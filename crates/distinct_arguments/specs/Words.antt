@@ -11,7 +11,9 @@ use Rattle.distinct_arguments.specs.declared.commands.Command.{Command}
 use Rattle.distinct_arguments.specs.declared.commands.Command.TheVariants.{Count, Sketch, Combine, Show, Eval, Visits}
 use Rattle.distinct_arguments.specs.declared.commands.Operator.TheVariants.{Union, Meet, Minus}
 use Rattle.distinct_arguments.specs.declared.options.OptionName.{OptionName}
-use Rattle.distinct_arguments.specs.declared.options.OptionName.TheVariants.{LgK, Field, Separator, By, Seed, SeedFile, FileList, Expect, Progress, Bounds, Tsv, Json, Hex, Output, Keys}
+use Rattle.distinct_arguments.specs.declared.options.Order.{Order}
+use Rattle.distinct_arguments.specs.declared.options.Order.TheVariants.{Name, Estimate}
+use Rattle.distinct_arguments.specs.declared.options.OptionName.TheVariants.{LgK, Field, Separator, By, Sort, Seed, SeedFile, FileList, Expect, Progress, Bounds, Tsv, Json, Hex, Output, Keys}
 
 -- the bytes of words
 abbrev pub words_of : {A : Type 0} → List (String A) → List (List ℕ)
@@ -65,6 +67,7 @@ option_called name =
     if bytes_eq name (codes "--field") then Some Field else
     if bytes_eq name (codes "--separator") then Some Separator else
     if bytes_eq name (codes "--by") then Some By else
+    if bytes_eq name (codes "--sort") then Some Sort else
     if bytes_eq name (codes "--seed") then Some Seed else
     if bytes_eq name (codes "--seed-file") then Some SeedFile else
     if bytes_eq name (codes "--files0-from") then Some FileList else
@@ -103,6 +106,11 @@ abbrev pub makes_sketches : Command → Bool
 makes_sketches Count = true
 makes_sketches Sketch = true
 makes_sketches _ = false
+
+-- the command that prints groups, in an order
+abbrev pub has_order : Command → Bool
+has_order Count = true
+has_order _ = false
 
 -- the commands that have `--field`, those that have `--lg-k`, and those that have `--expect`
 abbrev pub has_field : Command → Bool
@@ -144,6 +152,7 @@ has_option command LgK = has_size command
 has_option command Field = has_field command
 has_option command Separator = has_field command
 has_option command By = makes_sketches command
+has_option command Sort = has_order command
 has_option command Progress = makes_sketches command
 has_option command Seed = true
 has_option command SeedFile = true
@@ -178,3 +187,9 @@ deviations_of word =
     if bytes_eq word (codes "1") then Some One else
     if bytes_eq word (codes "2") then Some Two else
     if bytes_eq word (codes "3") then Some Three else None
+
+-- the order of groups that a word names
+abbrev pub order_of : List ℕ → Option Order
+order_of word =
+    if bytes_eq word (codes "name") then Some Name else
+    if bytes_eq word (codes "estimate") then Some Estimate else None

@@ -28,6 +28,8 @@ pub enum Fault {
     WrongField,
     /// The value of `--by` is not a number from 1 to 2^32 - 1.
     WrongGroup,
+    /// The value of `--sort` is not `name` or `estimate`.
+    WrongOrder,
     /// The value of `--separator` is not one byte.
     WrongSeparator,
     /// The value of `--seed` is not a number from 0 to 2^64 - 1.
@@ -46,6 +48,8 @@ pub enum Fault {
     LoneSeparator,
     /// `sketch` has `--by` without `--hex`.
     LoneGroups,
+    /// There is `--sort` without `--by`.
+    LoneOrder,
     /// There are `--files0-from` and a file.
     FilesAndList,
     /// Standard input would be read twice.
@@ -167,6 +171,7 @@ impl fmt::Display for Fault {
             Fault::WrongSize => write!(f, "--lg-k takes a number from 4 to 26"),
             Fault::WrongField => write!(f, "--field takes a number from 1 to 4294967295"),
             Fault::WrongGroup => write!(f, "--by takes a number from 1 to 4294967295"),
+            Fault::WrongOrder => write!(f, "--sort takes name or estimate"),
             Fault::WrongSeparator => write!(f, "--separator takes one byte; a tab is the default"),
             Fault::WrongSeed => {
                 write!(f, "--seed takes a number from 0 to 18446744073709551615")
@@ -184,6 +189,7 @@ impl fmt::Display for Fault {
             Fault::LoneField => write!(f, "--field needs --keys"),
             Fault::LoneSeparator => write!(f, "--separator needs --field or --by"),
             Fault::LoneGroups => write!(f, "--by needs --hex"),
+            Fault::LoneOrder => write!(f, "--sort orders groups: pass --by N too"),
             Fault::FilesAndList => write!(f, "files are named by arguments and by --files0-from"),
             Fault::StandardTwice => write!(f, "standard input would be read twice"),
             Fault::Memory => write!(f, "out of memory"),

@@ -142,6 +142,9 @@ pub(crate) fn run_request<'a>(
     if has_lone_groups(command, &options) {
         return Err(Fault::LoneGroups);
     }
+    if options.sort.is_some() && options.by.is_none() {
+        return Err(Fault::LoneOrder);
+    }
     if options.list.is_some() && !files.is_empty() {
         return Err(Fault::FilesAndList);
     }

@@ -45,6 +45,8 @@ distinct count [OPTION..] [FILE..]: prints about how many distinct lines the fil
                       separator is its own key, and one of fewer fields has the empty key
   --by N              count the lines of each group: those whose field N is the same, as --field has
                       it. Prints a line per group: its name, a tab, its count; in ascending order
+  --sort ORDER        with --by: name, the default, or estimate: the greatest estimate first, and
+                      equal ones by name
   --separator C       the byte between fields, with --field or --by; default a tab
   --seed N            the seed of the hashes, from 0 to 2^64 - 1; default 9001
   --seed-file FILE    the seed is the number in FILE, and not in the process list

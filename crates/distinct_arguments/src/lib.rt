@@ -19,5 +19,5 @@ pub use arguments::read_arguments;
 pub use commands::{Command, Operator, Request, Topic};
 pub use fault::{Escaped, Fault};
 pub use help::text_of;
-pub use options::{Form, OptionName, Options, Seed};
+pub use options::{Form, OptionName, Options, Order, Seed};
 pub use words::{has_option, option_called, seed_of};

@@ -11,6 +11,7 @@ pub enum OptionName {
     Field,
     Separator,
     By,
+    Sort,
     Seed,
     SeedFile,
     FileList,
@@ -40,6 +41,15 @@ pub enum Form {
     Json,
 }
 
+/// The order in which groups are printed.
+#[derive(Clone, Copy, Debug, PartialEq, Eq)]
+pub enum Order {
+    /// In the ascending order of the bytes of their names.
+    Name,
+    /// Those of the greatest estimate first, and those of equal estimates by name.
+    Estimate,
+}
+
 /// The options of a command.
 #[derive(Clone, Copy, Debug)]
 pub struct Options<'a> {
@@ -51,6 +61,8 @@ pub struct Options<'a> {
     pub separator: Option<u8>,
     /// The number of the field that is the name of a line's group, from 1, or `None` if lines are not grouped.
     pub by: Option<u32>,
+    /// The order in which groups are printed; by name if `None`.
+    pub sort: Option<Order>,
     pub seed: Seed<'a>,
     /// Whether images are in hexadecimal digits.
     pub hex: bool,

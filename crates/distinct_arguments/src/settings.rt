@@ -6,7 +6,7 @@ ghost use Rattle.distinct_arguments.specs.Faults.{options_of, SetsOptions};
 
 use crate::fault::{Fault, unneeded_value, wrong_seed};
 use crate::options::{Form, OptionName, Options, Seed};
-use crate::words::{byte_of, deviations_of, number_of, seed_of};
+use crate::words::{byte_of, deviations_of, number_of, order_of, seed_of};
 use core_laws::{DEFAULT_LG_K, MAX_LG_K, MIN_LG_K};
 use estimates::Deviations;
 use lines::Key;
@@ -26,6 +26,7 @@ impl<'a> Options<'a> {
             field: None,
             separator: None,
             by: None,
+            sort: None,
             seed: Seed::Number(DEFAULT_UPDATE_SEED),
             hex: false,
             keys: false,
@@ -100,6 +101,10 @@ pub(crate) fn with_value<'a>(
         OptionName::By => match number_of(value, 1, u32::MAX as u64) {
             Some(number) => changed.by = Some(number as u32),
             None => return Err(Fault::WrongGroup),
+        },
+        OptionName::Sort => match order_of(value) {
+            Some(order) => changed.sort = Some(order),
+            None => return Err(Fault::WrongOrder),
         },
         OptionName::Separator => match byte_of(value) {
             Some(byte) => changed.separator = Some(byte),

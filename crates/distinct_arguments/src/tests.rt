@@ -70,6 +70,9 @@ fn push_flags(text: &mut String, options: &Options<'_>) -> Result<(), AllocError
     if let Some(deviations) = options.bounds {
         write!(text, " bounds={deviations:?}")?;
     }
+    if let Some(order) = options.sort {
+        write!(text, " sort={order:?}")?;
+    }
     if options.form != Form::Plain {
         write!(text, " {:?}", options.form)?;
     }
@@ -146,6 +149,8 @@ count --field 1 a => Count field=1 | a
 sketch --field=4294967295 a => Sketch field=4294967295 | a
 count --field 2 --separator ; a => Count field=2 separator=59 | a
 count --by 4 --separator ; a => Count by=4 separator=59 | a
+count --by 1 --sort estimate a => Count by=1 sort=Estimate | a
+count --sort=estimate --sort=name --by=1 a => Count by=1 sort=Name | a
 count --separator== --field=2 a => Count field=2 separator=61 | a
 count --seed 0 a => Count seed=0 | a
 minus --seed=18446744073709551615 a b => Combine(Minus) seed=18446744073709551615 | a b
@@ -202,6 +207,8 @@ count --field 2x => WrongField
 count --by 0 => WrongGroup
 count --by=4294967296 => WrongGroup
 count --by=1,2 => WrongGroup
+count --by 1 --sort count => WrongOrder
+count --by 1 --sort= => WrongOrder
 count --field 2 --separator ab => WrongSeparator
 count --field 2 --separator= => WrongSeparator
 count --field 2 --separator é => WrongSeparator
@@ -221,6 +228,7 @@ meet --expect +1 => WrongCount
 count --lg-k => NoValue(\"--lg-k\")
 count --field => NoValue(\"--field\")
 count --by => NoValue(\"--by\")
+count --sort => NoValue(\"--sort\")
 count --separator => NoValue(\"--separator\")
 minus --seed => NoValue(\"--seed\")
 show --seed-file => NoValue(\"--seed-file\")
@@ -249,6 +257,7 @@ minus --expect 2 a b => UnknownOption(\"--expect\")
 show --progress a => UnknownOption(\"--progress\")
 show --output o a => UnknownOption(\"--output\")
 show --by 1 => UnknownOption(\"--by\")
+sketch --by 1 --hex --sort name => UnknownOption(\"--sort\")
 show --separator => UnknownOption(\"--separator\")
 count --keys a => UnknownOption(\"--keys\")
 show --keys => UnknownOption(\"--keys\")
@@ -280,6 +289,8 @@ count a -x -y => BehindFile(\"-x\")
 count --separator ; a => LoneSeparator
 sketch --by 1 a => LoneGroups
 sketch --by 1 --hex a => Sketch by=1 hex | a
+count --sort estimate a => LoneOrder
+count --sort name --field 1 a => LoneOrder
 sketch --separator=; => LoneSeparator
 count --files0-from l a => FilesAndList
 union --files0-from l -- a => FilesAndList
@@ -342,7 +353,7 @@ fn reads_each_row(rt: HostRuntime) -> Result<(), Fail> {
             count = count.saturating_add(1);
         }
     }
-    assert_eq!(rt; count, 211);
+    assert_eq!(rt; count, 219);
     Ok(())
 }
 
@@ -410,6 +421,8 @@ const MESSAGES: &[(&str, &str)] = &[
     ),
     ("count --separator ;", "--separator needs --field or --by"),
     ("sketch --by 1", "--by needs --hex"),
+    ("count --by 1 --sort size", "--sort takes name or estimate"),
+    ("count --sort name", "--sort orders groups: pass --by N too"),
     (
         "count --files0-from l a",
         "files are named by arguments and by --files0-from",
@@ -469,6 +482,7 @@ fn helps_with_each_option(rt: HostRuntime) {
             "--field",
             "--separator",
             "--by",
+            "--sort",
             "--seed",
             "--seed-file",
             "--files0-from",

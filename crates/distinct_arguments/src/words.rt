@@ -2,10 +2,10 @@
 ghost use Rattle.std.specs.Prelude.{◌≡◌, ◌==◌, slice_index};
 ghost use Rattle.std.specs.Option.{option_map};
 ghost use Rattle.distinct_arguments.specs.Words.{command_of, option_called, has_option, is_help, is_version, is_option};
-ghost use Rattle.distinct_arguments.specs.Words.{split_option, number_of, byte_of, seed_of, deviations_of};
+ghost use Rattle.distinct_arguments.specs.Words.{split_option, number_of, byte_of, seed_of, deviations_of, order_of};
 
 use crate::commands::{Command, Operator};
-use crate::options::OptionName;
+use crate::options::{OptionName, Order};
 use estimates::Deviations;
 use sketch_base::{ErrorKind, compute_seed_hash};
 
@@ -70,6 +70,7 @@ pub fn option_called(name: &str) -> Option<OptionName>
         "--field" => Some(OptionName::Field),
         "--separator" => Some(OptionName::Separator),
         "--by" => Some(OptionName::By),
+        "--sort" => Some(OptionName::Sort),
         "--seed" => Some(OptionName::Seed),
         "--seed-file" => Some(OptionName::SeedFile),
         "--files0-from" => Some(OptionName::FileList),
@@ -104,6 +105,7 @@ pub fn has_option(command: Command, option: OptionName) -> bool
         OptionName::Field => reads_lines || is_eval,
         OptionName::Separator => reads_lines || is_eval,
         OptionName::By => makes_sketch,
+        OptionName::Sort => command == Command::Count,
         OptionName::Progress => makes_sketch,
         OptionName::Keys => is_eval,
         OptionName::FileList => !is_eval && command != Command::Combine(Operator::Minus),
@@ -177,6 +179,17 @@ pub(crate) fn deviations_of(word: &str) -> Option<Deviations>
         "1" => Some(Deviations::One),
         "2" => Some(Deviations::Two),
         "3" => Some(Deviations::Three),
+        _ => None,
+    }
+}
+
+/// The order of groups that a word names.
+pub(crate) fn order_of(word: &str) -> Option<Order>
+    ensures { result ≡ order_of word.now }
+{
+    match word {
+        "name" => Some(Order::Name),
+        "estimate" => Some(Order::Estimate),
         _ => None,
     }
 }

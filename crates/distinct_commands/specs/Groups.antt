@@ -9,8 +9,11 @@ use Rattle.reports.specs.Forms.{count_line, json_line, tsv_row}
 use Rattle.lines.specs.Lines.{lines_of_all}
 use Rattle.lines.specs.declared.key.Key.{Key}
 use Rattle.grouped_lines.specs.Groups.{AreGroups, group_sketch}
+use Rattle.grouped_lines.specs.Ranked.{AreRanked}
 use Rattle.grouped_lines.specs.declared.groups.Grouping.{Grouping}
 use Rattle.distinct_arguments.specs.Settings.{OptionValues}
+use Rattle.distinct_arguments.specs.declared.options.Order.{Order}
+use Rattle.distinct_arguments.specs.declared.options.Order.TheVariants.{Name, Estimate}
 use Rattle.distinct_arguments.specs.declared.options.Form.{Form}
 use Rattle.distinct_arguments.specs.declared.options.Form.TheVariants.{Plain, Tsv, Json}
 use Rattle.distinct_commands.specs.Failures.{chosen_hashing}
@@ -45,9 +48,22 @@ abbrev pub groups_head : (images : Bool) → OptionValues → List ℕ
 groups_head true options = []
 groups_head false options = head_of options.form
 
--- what is printed of the lines of texts by groups: a line of each group of these lines, in ascending order, behind the head
+-- the estimate that is printed of the group of a name
+abbrev pub group_estimate : OptionValues → Grouping → (lines : List (List ℕ)) → (name : List ℕ) → ℕ
+group_estimate options grouping lines name = (report_by options (group_sketch grouping lines name)).estimate
+
+-- these names are in the order that is chosen: by their estimates, or as they were, which is the order of their bytes
+abbrev pub AreOrdered : Option Order → (estimate : List ℕ → ℕ) → (names ordered : List (List ℕ)) → Type 0
+AreOrdered (Some Estimate) estimate names ordered = AreRanked estimate names ordered
+AreOrdered (Some Name) estimate names ordered = ordered ≡ names
+AreOrdered None estimate names ordered = ordered ≡ names
+
+-- what is printed of the lines of texts by groups: a line of each group of these lines, in the order that is chosen, behind the head
 abbrev pub IsGroupedText : (images : Bool) → OptionValues → (seed : ℕ) → (by : Key) → (texts : List (List ℕ)) → List ℕ → Type 0
 IsGroupedText images options seed by texts out =
-    (names : List (List ℕ))
-    × AreGroups by (lines_of_all texts) names
-    × (out ≡ groups_head images options ++ groups_text images options (grouping_of options seed by) (lines_of_all texts) names)
+    let lines = lines_of_all texts in
+    let grouping = grouping_of options seed by in
+    (names ordered : List (List ℕ))
+    × AreGroups by lines names
+    × AreOrdered options.sort (group_estimate options grouping lines) names ordered
+    × (out ≡ groups_head images options ++ groups_text images options grouping lines ordered)

@@ -6,7 +6,10 @@ ghost use Rattle.grouped_lines.specs.Groups.{HasGroups, AreLeft};
 ghost use Rattle.grouped_lines.specs.declared.groups.Grouping.{Grouping};
 ghost use Rattle.distinct_arguments.specs.Faults.{options_of};
 ghost use Rattle.distinct_commands.specs.Failures.{IsOfReading};
+ghost use Rattle.grouped_lines.specs.Ranked.{AreRanked};
 ghost use Rattle.distinct_commands.specs.Groups.{grouping_of, group_text, group_line, groups_text, groups_head, IsGroupedText};
+ghost use Rattle.distinct_commands.specs.Groups.{group_estimate, AreOrdered};
+ghost use Rattle.distinct_commands.specs.Texts.{report_by};
 ghost use Rattle.distinct_commands.specs.declared.failure.Failure.TheVariants as failure;
 
 use crate::commands::image_to_put;
@@ -14,8 +17,8 @@ use crate::failure::{Failure, out_of_memory};
 use crate::inputs::Inputs;
 use crate::remarks::Console;
 use crate::show::{chosen_deviations, head_of};
-use distinct_arguments::{Form, Options};
-use grouped_lines::{Grouping, Groups, group_sources};
+use distinct_arguments::{Form, Options, Order};
+use grouped_lines::{Group, Grouping, Groups, Ranked, group_sources, ranked_text};
 use line_sketches::{Sources, Unread, hex_line};
 use lines::{Hashing, Key};
 use reports::{count_line, json_line, report_of, tsv_row};
@@ -107,6 +110,77 @@ fn groups_text(
     Err(Failure::Memory)
 }
 
+/// A group with its line, to be ordered by its estimate. It fails if memory is refused.
+fn ranked_group(
+    alloc: Global,
+    options: &Options<'_>,
+    images: bool,
+    group: Group,
+) -> Result<Ranked, Failure>
+    ensures name { IfOk result (λ r. r.name.items ≡ group.name.items) }
+    ensures estimate { IfOk result (λ r. r.estimate ≡ (report_by (options_of options.now) group.sketch).estimate) }
+    ensures text { IfOk result (λ r. r.text.items ≡ group_line images (options_of options.now) group.name.items group.sketch) }
+    ensures memory { IfErr result (λ f. f ≡ failure.Memory) }
+{
+    let Group { name, sketch } = group;
+    let report = report_of(&sketch, chosen_deviations(options));
+    let text = group_line(alloc, options, images, name.as_slice(), &sketch)?;
+    Ok(Ranked {
+        estimate: report.estimate,
+        name,
+        text,
+    })
+}
+
+/// The lines of groups, one after another, in the order of their estimates. It fails if memory is refused.
+fn ranked_groups_text(
+    alloc: Global,
+    options: &Options<'_>,
+    images: bool,
+    groups: &mut Groups,
+) -> Result<Vec<u8>, Failure>
+    ensures printed { (grouping : Grouping) (lines names : List (List ℕ))
+        → AreLeft grouping lines names groups.old
+        → IfOk result (λ v. (ordered : List (List ℕ))
+        × AreRanked (group_estimate (options_of options.now) grouping lines) names ordered
+        × (v.items ≡ groups_text images (options_of options.now) grouping lines ordered)) }
+    ensures memory { IfErr result (λ f. f ≡ failure.Memory) }
+{
+    let mut ranked = Vec::new(alloc);
+    'each_group: for _ in 0..u64::MAX {
+        match groups.next_group() {
+            Ok(Some(group)) => {
+                let one = ranked_group(alloc, options, images, group)?;
+                ranked.push(one)?;
+            }
+            Ok(None) => return Ok(ranked_text(alloc, ranked)?),
+            Err(error) => return Err(out_of_memory(error)),
+        }
+    }
+    Err(Failure::Memory)
+}
+
+/// The lines of groups, one after another, in the order that options choose. It fails if memory is refused.
+fn ordered_text(
+    alloc: Global,
+    options: &Options<'_>,
+    images: bool,
+    groups: &mut Groups,
+) -> Result<Vec<u8>, Failure>
+    ensures printed { (grouping : Grouping) (lines names : List (List ℕ))
+        → AreLeft grouping lines names groups.old
+        → IfOk result (λ v. (ordered : List (List ℕ))
+        × AreOrdered (options_of options.now).sort (group_estimate (options_of options.now) grouping lines) names ordered
+        × (v.items ≡ groups_text images (options_of options.now) grouping lines ordered)) }
+    ensures memory { IfErr result (λ f. f ≡ failure.Memory) }
+{
+    match options.sort {
+        Some(Order::Estimate) => ranked_groups_text(alloc, options, images, groups),
+        Some(Order::Name) => groups_text(alloc, options, images, groups),
+        None => groups_text(alloc, options, images, groups),
+    }
+}
+
 /// The head of a table of groups, if there is to be one.
 fn groups_head(alloc: Global, options: &Options<'_>, images: bool) -> Result<String, AllocError>
     ensures { IfOk result (λ text. string_bytes text ≡ groups_head images (options_of options.now)) }
@@ -136,7 +210,7 @@ pub fn print_groups<S: Sources + Drop, C: Console>(
 {
     let mut groups = read_groups(alloc, options, seed, by, inputs, console)?;
     let head = groups_head(alloc, options, images)?;
-    let lines = groups_text(alloc, options, images, &mut groups)?;
+    let lines = ordered_text(alloc, options, images, &mut groups)?;
     let mut printed = head.into_bytes();
     printed.extend_from_slice(lines.as_slice())?;
     Ok(printed)

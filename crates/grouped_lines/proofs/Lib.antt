@@ -3,3 +3,4 @@ pub mod WholeLines
 pub mod LinesInGroups
 pub mod Entries
 pub mod ReadInTurn
+pub mod Ranking

@@ -17,7 +17,9 @@
 
 mod fields;
 mod groups;
+mod ranked;
 mod reading;
 
 pub use groups::{Group, Grouping, Groups};
+pub use ranked::{Ranked, ranked_text};
 pub use reading::{GroupWatch, group_sources};
