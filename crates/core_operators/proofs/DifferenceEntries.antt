@@ -94,7 +94,7 @@ module _ {X : Type 0} (key : X → ℕ) (theta seed_hash : ℕ) where
       rw (map_of-ascending key (map_of key xs) (ascending-map_of key xs)) at (compact_known (map_of key xs) true sound)
 
 module _ {X : Type 0} where
-  fewer : (p : X → Bool) (xs : List X) → length (filter p xs) ≤ length xs
+  pub fewer : (p : X → Bool) (xs : List X) → length (filter p xs) ≤ length xs
   fewer p [] = omega arith
   fewer p (x ∷ xs) = elim (p x) as (λ b. length (cond b (x ∷ filter p xs) (filter p xs)) ≤ suc (length xs)) [ true ↦ omega (arith, fewer p xs) | false ↦ omega (arith, fewer p xs) ]
 

@@ -5,12 +5,12 @@
 #![tactic(auto)]
 
 pub mod a_not_b;
+mod ascending;
 mod intersection;
 mod iter;
 pub mod laws;
 mod merge;
 mod scan;
-mod search;
 mod share;
 mod union;
 mod view;
