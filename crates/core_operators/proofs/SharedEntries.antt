@@ -435,7 +435,7 @@ module _ {X : Type 0} (key : X → ℕ) (merges : X → X → X) (refuses : X �
   end_arriving left (x ∷ right) t none = absurd (cc)
 
   pub end_retained : (left right : List X) (t : ℕ) → None ≡ slice_get left 0 → read_from key merges refuses right left t ≡ []
-  end_retained [] right t none = common-nil (fold_key key) (turned_round (fold_merges key merges refuses)) (map Value right)
+  end_retained [] right t none = common-nil (fold_key key) (turned_round (fold_merges key merges refuses)) (keeps_turned key merges refuses keeps) (map Value right)
   end_retained (y ∷ left) right t none = absurd (cc)
 
   pub end_past : (arriving left right : List X) (x : X) (t : ℕ) → Some x ≡ slice_get right 0 → IsReading key arriving right true → t ≤ key x → read_from key merges refuses right left t ≡ []

@@ -1,5 +1,5 @@
 //! The entries and the hashes of a sketch below a theta, in ascending order.
-ghost use Rattle.std.specs.Prelude.{◌≡◌, None, map, IfOk};
+ghost use Rattle.std.specs.Prelude.{◌≡◌, true, None, map, IfOk};
 ghost use Rattle.core_laws.specs.Maps.{below, map_of};
 ghost use Rattle.core_laws.specs.Entries.{hash_key, ClonesEqual};
 ghost use Rattle.core_laws.specs.Refusal.{Refuses};

@@ -4,8 +4,8 @@ use Rattle.std.proofs.lemmas.List.{append-nil}
 use Rattle.core_laws.specs.Entries.{hash_key}
 use Rattle.core_laws.proofs.maps.Ascending.{ascending-tail}
 use Rattle.core_operators.proofs.DifferenceEntries.{below_more, stops}
-use Rattle.core_operators.proofs.search.hashes_below.Goals as goal
-use Rattle.core_operators.proofs.search.hashes_below.Goals.{in-None, in-Some+then-is_past}
+use Rattle.core_operators.proofs.ascending.hashes_below.Goals as goal
+use Rattle.core_operators.proofs.ascending.hashes_below.Goals.{in-None, in-Some+then-is_past}
 
 pub collect_each-preserved : goal.collect_each-preserved
 collect_each-preserved g c =

@@ -1,7 +1,7 @@
 use Rattle.std.proofs.Common.{◌≡◌, true, ◌++◌}
 use Rattle.core_laws.specs.Maps.{IsAscending, below}
 use Rattle.core_laws.specs.Entries.{hash_key}
-use Rattle.core_operators.proofs.search.hashes_below.Given as goal
+use Rattle.core_operators.proofs.ascending.hashes_below.Given as goal
 
 -- the hashes so far, then those left that are below theta, are all hashes below theta
 abbrev pub invariant-collect_each : goal.invariant-collect_each

@@ -1,74 +1,68 @@
-use Rattle.std.proofs.Common.{◌≡◌, ◌∷◌, ◌++◌, [], map, true, refl, sym, ap, ◌∙◌, inl, inr}
-use Rattle.std.proofs.lemmas.List.{append-nil}
+use Rattle.std.proofs.Common.{Option, None, Some, ℕ, List, ◌≡◌, ◌+◌, ◌-◌, ◌<◌, ◌≤◌, ◌∙◌, ◌∷◌, ◌++◌, [], cond, leb, eqb, length, take, drop, sym, refl, inl, inr, arith}
+use Rattle.std.specs.Prelude.{option_map}
+use Rattle.std.specs.Option.{option_map_or}
+use Rattle.std.specs.List.{slice_get}
+use Rattle.std.proofs.lemmas.Bool.Decides.{nat_tests}
+use Rattle.std.proofs.lemmas.List.{length-drop, length-append}
 use Rattle.std.proofs.lemmas.Result.{err_from_is_err_and}
-use Rattle.core_laws.specs.Maps.{IsApart}
-use Rattle.core_laws.specs.Folds.{Value}
-use Rattle.core_laws.proofs.maps.MapsOfLists.{apart-distinct, ascending-from_map}
-use Rattle.core_operators.proofs.SharedEntries.{IsReading, read_from, reading-start, reading-next, reading-refused, read_past, more_read}
+use Rattle.core_operators.proofs.ReadPast.{behind, some_first, no_first, counted_few}
+use Rattle.core_operators.proofs.SharedEntries.{IsSharing, sharing-start, shared_on, refused_on, shared_end, end_arriving, end_retained, end_past}
 use Rattle.core_operators.proofs.share.shared_entries.Goals as goal
-use Rattle.core_operators.proofs.share.shared_entries.Goals.{in-None, in-Some+then-is_past}
+use Rattle.core_operators.proofs.share.shared_entries.Goals.{in_default, in-Some+in_default-first, in-Some+in-Some-first+then-hash-theta}
+
+-- an entry is shared only if both hashes are the same
+fewer_than : {X : Type 0} (entries : List X) (o : Option X) → length (option_map_or (λ z. entries ++ z ∷ []) o entries) ≤ length entries + 1
+fewer_than entries None = omega arith
+fewer_than entries (Some z) = omega (arith, length-append entries (z ∷ []))
 
 pub share_each-init : goal.share_each-init
 share_each-init g c =
-    let key = g.S.Entry.SketchEntry.key in
-    let listing = g.S.EntrySketch.listing c.args.sketch in
-    let all : c.into_iter-entry-iterator.result.rest ≡ listing = ap (λ i. i.rest) c.into_iter-entry-iterator.ensures.into_iter_gives ∙ c.entries-items.ensures.all in
-    let hashes = c.entries-items.ensures.hashes in
-    let shown = c.entries-items.ensures.sound in
-    let apart : IsApart key listing = apart-distinct key listing (rw hashes shown.distinct) in
-    rw (all, c.new-entries.ensures.items) (record {
-      all = refl;
-      reading = reading-start key listing c.args.ordered apart (λ e. ascending-from_map key listing (rw hashes (shown.ascending (sym c.requires.in_order ∙ e))));
+    rw c.new-entries.ensures.items (record {
+      so_far = sharing-start g.E.SketchEntry.key (g.P.IntersectionMergePolicy.merges c.args.policy.now) (g.P.IntersectionMergePolicy.refuses c.args.policy.now) (g.met.P.IntersectionMergePolicy.keeps_hash c.args.policy.now) c.args.content.now c.args.arriving.now c.args.theta c.requires.ascending c.requires.arriving_ascend;
+      some = omega arith;
+      few = omega arith;
     })
-
-pub share_each-preserved : goal.share_each-preserved
-share_each-preserved g c =
-    let key = g.S.Entry.SketchEntry.key in
-    let merges = g.P.IntersectionMergePolicy.merges c.args.policy.now in
-    let refuses = g.P.IntersectionMergePolicy.refuses c.args.policy.now in
-    let keeps = g.met.P.IntersectionMergePolicy.keeps_hash c.args.policy.now in
-    let listing = g.S.EntrySketch.listing c.args.sketch in
-    let content = c.args.content.now.map.kept.entries in
-    let shape : c.share_each.entry-iterator.rest ≡ c.in-Some.entry.now ∷ c.next.new.self.rest = c.in-Some.ensures.steps.0 in
-    let reading : IsReading key listing (c.in-Some.entry.now ∷ c.next.new.self.rest) c.args.ordered = rw (← shape) c.share_each.invariant.reading in
-    record {
-      all = rw c.in_ok-push_found.ensures (more_read key merges refuses keeps c.share_each.entries.items c.next.new.self.rest content c.in-Some.entry.now c.args.theta c.in_ok-found.found (read_from key merges refuses listing content c.args.theta) c.in_ok-found.ensures.combined (rw shape at c.share_each.invariant.all));
-      reading = reading-next key listing c.next.new.self.rest c.in-Some.entry.now c.args.ordered reading;
-    }
 
 pub returns-in_err-found-clause-refused : goal.returns-in_err-found-clause-refused
 returns-in_err-found-clause-refused g c =
-    let p = err_from_is_err_and c.from_residual-in_err-found.result c.from_residual-in_err-found.ensures.1 in
-    let key = g.S.Entry.SketchEntry.key in
-    let refuses = g.P.IntersectionMergePolicy.refuses c.args.policy.now in
-    let listing = g.S.EntrySketch.listing c.args.sketch in
-    let shape : c.share_each.entry-iterator.rest ≡ c.in-Some.entry.now ∷ c.next.new.self.rest = c.in-Some.ensures.steps.0 in
-    let reading : IsReading key listing (c.in-Some.entry.now ∷ c.next.new.self.rest) c.args.ordered = rw (← shape) c.share_each.invariant.reading in
-    rw (p.1, p.2) (elim c.in_err-found.ensures.refused [
-      | inl o ↦ inl o
-      | inr r ↦ inr (r.0, reading-refused key refuses _ listing c.next.new.self.rest c.in-Some.entry.now c.args.ordered reading r.1)
-    ])
-
-pub returns-clause-all : goal.returns-clause-all
-returns-clause-all g c =
-    let key = g.S.Entry.SketchEntry.key in
+    let p = err_from_is_err_and c.from_residual.result c.from_residual.ensures.1 in
+    let key = g.E.SketchEntry.key in
     let merges = g.P.IntersectionMergePolicy.merges c.args.policy.now in
     let refuses = g.P.IntersectionMergePolicy.refuses c.args.policy.now in
     let keeps = g.met.P.IntersectionMergePolicy.keeps_hash c.args.policy.now in
-    let listing = g.S.EntrySketch.listing c.args.sketch in
-    let content = c.args.content.now.map.kept.entries in
-    let so_far = map Value c.share_each.entries.items in
-    elim c.match-next.branch [
-      | in-None w ↦
-          let h = w.in-None.ensures.steps.0 in
-          let done : so_far ++ [] ≡ read_from key merges refuses listing content c.args.theta = rw h.0 at c.share_each.invariant.all in
-          sym (append-nil so_far) ∙ done
-      | in-Some+then-is_past w ↦
-          let shape = w.in-Some.ensures.steps.0 in
-          let past = w.is_past.ensures.0 w.if-is_past.true in
-          let ordered = past.0 in
-          let hash_is = w.hash-hash.ensures in
-          let reading : IsReading key listing (w.in-Some.entry.now ∷ c.next.new.self.rest) true = rw (← shape, ← ordered) c.share_each.invariant.reading in
-          let none = read_past key merges refuses keeps listing c.next.new.self.rest content w.in-Some.entry.now c.args.theta reading (rw (← hash_is) past.1) in
-          sym (append-nil so_far) ∙ ap (λ ys. so_far ++ ys) (sym none) ∙ rw shape at c.share_each.invariant.all
-    ]
+    rw (p.1, p.2) (elim c.in_err-found.ensures.refused [
+      | inl o ↦ inl o
+      | inr r ↦ inr (r.0, refused_on key merges refuses keeps c.args.content.now c.share_each.left.now c.args.arriving.now c.share_each.arriving_left.now c.in-Some-first.existing.now c.in-Some.incoming.now c.args.theta c.share_each.entries.items c.hash-hash.result c.hash-known.result c.in-Some-first.ensures.value c.in-Some.ensures.value c.hash-hash.ensures c.hash-known.ensures (omega (arith, c.if-hash-theta.false)) r.1 r.2 c.share_each.invariant.so_far)
+    ])
+
+pub share_each-preserved : goal.share_each-preserved
+share_each-preserved g c =
+    let key = g.E.SketchEntry.key in
+    let merges = g.P.IntersectionMergePolicy.merges c.args.policy.now in
+    let refuses = g.P.IntersectionMergePolicy.refuses c.args.policy.now in
+    let keeps = g.met.P.IntersectionMergePolicy.keeps_hash c.args.policy.now in
+    let left = c.share_each.left.now in
+    let right = c.share_each.arriving_left.now in
+    let more = fewer_than c.share_each.entries.items c.in_ok-found.found in
+    let on = shared_on key merges refuses keeps c.args.content.now left c.args.arriving.now right c.in-Some-first.existing.now c.in-Some.incoming.now c.args.theta c.share_each.entries.items c.in_ok-found.found c.hash-hash.result c.hash-known.result c.number_if.result c.number_if-in-Some.result
+        c.in-Some-first.ensures.value c.in-Some.ensures.value c.hash-hash.ensures c.hash-known.ensures (omega (arith, c.if-hash-theta.false)) c.number_if.ensures.value c.number_if-in-Some.ensures.value c.in_ok-found.ensures.combined c.share_each.invariant.so_far in
+    record {
+      so_far = rw (behind left c.number_if.result, behind right c.number_if-in-Some.result, c.in_ok-push_found.ensures) on;
+      some = rw c.in_ok-push_found.ensures (omega (arith, more, c.tick.ensures, c.share_each.invariant.some));
+      few = counted_few left right c.share_each.compared c.tick.new.self c.hash-known.result c.hash-hash.result c.number_if.result c.number_if-in-Some.result c.tick.ensures (some_first left c.in-Some-first.existing.now c.in-Some-first.ensures.value) (some_first right c.in-Some.incoming.now c.in-Some.ensures.value) c.number_if.ensures.value c.number_if-in-Some.ensures.value c.number_if.ensures.small c.number_if-in-Some.ensures.small _ c.share_each.invariant.few;
+    }
+
+pub returns-clause-all : goal.returns-clause-all
+returns-clause-all g c =
+    let key = g.E.SketchEntry.key in
+    let merges = g.P.IntersectionMergePolicy.merges c.args.policy.now in
+    let refuses = g.P.IntersectionMergePolicy.refuses c.args.policy.now in
+    let keeps = g.met.P.IntersectionMergePolicy.keeps_hash c.args.policy.now in
+    let left = c.share_each.left.now in
+    let right = c.share_each.arriving_left.now in
+    shared_end key merges refuses keeps c.args.content.now left c.args.arriving.now right c.args.theta c.share_each.entries.items c.share_each.invariant.so_far
+    (elim c.match-first.branch [
+      | in_default w ↦ end_arriving key merges refuses keeps left right c.args.theta (no_first (λ r. r.now) c.first.result right w.in_default.not-Some c.first.ensures.value)
+      | in-Some+in_default-first w ↦ end_retained key merges refuses keeps left right c.args.theta (no_first (λ r. r.now) w.first-in-Some.result left w.in_default-first.not-Some w.first-in-Some.ensures.value)
+      | in-Some+in-Some-first+then-hash-theta w ↦ end_past key merges refuses keeps c.args.arriving.now left right w.in-Some.incoming.now c.args.theta w.in-Some.ensures.value c.share_each.invariant.so_far.incoming (rw (← w.hash-hash.ensures) (omega (arith, w.if-hash-theta.true)))
+    ])
