@@ -10,7 +10,7 @@ ghost use Rattle.core_laws.specs.Refusal.{Refuses};
 ghost use Rattle.core_laws.specs.Shown.{IsShown};
 
 use crate::ascending::{ascending_entries, ascending_hashes};
-use crate::scan::difference_by_scan;
+use crate::scan::ascending_difference;
 use crate::share::cloned_entries;
 use crate::view::{EntrySketch, KeySketch, ThetaFamilySketchMetadata};
 use core_compact::{CompactSketchState, is_answer_ordered};
@@ -217,11 +217,11 @@ where
     let list = a.entries();
     if ordered {
         if let Some(entries) = list.as_slice() {
-            return difference_by_scan(alloc, entries, others, theta, compared);
+            return ascending_difference(alloc, entries, others, theta, compared);
         }
     }
     let entries = ascending_entries(alloc.clone()?, a, theta, ordered, 0)?;
-    difference_by_scan(alloc, &entries, others, theta, compared)
+    ascending_difference(alloc, &entries, others, theta, compared)
 }
 
 /// A state of these entries. They are sorted if `requested` is true and they aren't known to ascend.

@@ -11,6 +11,7 @@ mod iter;
 pub mod laws;
 mod merge;
 mod scan;
+mod search;
 mod share;
 mod union;
 mod view;

@@ -1,16 +1,18 @@
 //! The entries that two ascending lists share, and those that a list shares with a sketch.
 ghost use Rattle.std.specs.Prelude.{◌≡◌, ◌==◌, ◌+◌, ◌<◌, ◌≤◌, ◌^◌, [], ◌∷◌, ◌++◌, None, true, if◌then◌else◌, map, length, IfOk, IfErr, OnOk};
-ghost use Rattle.std.specs.Option.{option_map_or};
+ghost use Rattle.std.specs.Option.{option_map_or, option_copied};
 ghost use Rattle.core_laws.specs.Maps.{IsAscending, map_of};
 ghost use Rattle.core_laws.specs.Cuts.{IsRetained};
 ghost use Rattle.core_laws.specs.Refusal.{Refuses};
 ghost use Rattle.core_laws.specs.Shown.{IsShown};
 ghost use Rattle.core_laws.specs.Entries.{ClonesEqual};
 ghost use Rattle.core_operators.specs.Union.{IsMergeRefusal};
-ghost use Rattle.core_operators.specs.Intersection.{IsSharedMap, AreSharedFolds, IsSharedFold, IsPairRefusal};
+ghost use Rattle.core_operators.specs.Intersection.{AreSharedFolds, IsSharedFold, IsSharedPair, IsPairRefusal, IsFoundRefusal};
+ghost use Rattle.core_operators.specs.Search.{AreFewLookUps, is_much_longer};
 
 use crate::ascending::ascending_entries;
 use crate::scan::number_if;
+use crate::search::{found_by_halves, is_much_longer};
 use crate::view::EntrySketch;
 use core_laws::SketchEntry;
 use core_policies::IntersectionMergePolicy;
@@ -58,6 +60,24 @@ fn shared_entry<E: SketchEntry + Clone, P: IntersectionMergePolicy<E>>(
     Ok(Some(merged))
 }
 
+/// Combines two entries of one hash by the policy, if there are both.
+fn shared_pair<E: SketchEntry + Clone, P: IntersectionMergePolicy<E>>(
+    existing: Option<&E>,
+    incoming: Option<&E>,
+    policy: &P,
+) -> Result<Option<E>, Error>
+    requires clones_equal { ClonesEqual E.is_clone }
+    ensures combined { IfOk result (λ o.
+        IsSharedPair E.key (P.merges policy.now) (P.refuses policy.now) (option_copied existing.entry) (option_copied incoming.entry) o) }
+    ensures refused { IfErr result (
+        IsFoundRefusal (P.refuses policy.now) (option_copied existing.entry) (option_copied incoming.entry)) }
+{
+    match (existing, incoming) {
+        (Some(own), Some(other)) => shared_entry(own, other, policy, true),
+        _ => Ok(None),
+    }
+}
+
 /// Appends an entry, if there is one.
 fn push_found<E: Drop, A: Allocator>(
     entries: &mut Vec<E, A>,
@@ -79,7 +99,7 @@ fn push_found<E: Drop, A: Allocator>(
 ///
 /// Counts each comparison of two hashes in `compared`: at least one for each shared entry, and at most as many as both
 /// lists have entries.
-fn shared_entries<E: SketchEntry + Clone + Drop, P: IntersectionMergePolicy<E>, A: Allocator>(
+fn shared_in_pass<E: SketchEntry + Clone + Drop, P: IntersectionMergePolicy<E>, A: Allocator>(
     alloc: A,
     content: &[E],
     arriving: &[E],
@@ -115,6 +135,119 @@ fn shared_entries<E: SketchEntry + Clone + Drop, P: IntersectionMergePolicy<E>, 
         arriving_left = &arriving_left[number_if(hash <= known)..];
     }
     Ok(entries)
+}
+
+/// The entries that two ascending lists share below theta, by looking up each arriving one in `content` by halves. The
+/// rest is as in `shared_in_pass`.
+///
+/// Counts each comparison of two hashes in `compared`: at most k for each arriving entry, if `content` has fewer than
+/// 2^k.
+fn shared_by_arriving<
+    E: SketchEntry + Clone + Drop,
+    P: IntersectionMergePolicy<E>,
+    A: Allocator,
+>(
+    alloc: A,
+    content: &[E],
+    arriving: &[E],
+    policy: &P,
+    theta: u64,
+    compared: &mut Count,
+) -> Result<Vec<E, A>, Error>
+    requires clones_equal { ClonesEqual E.is_clone }
+    requires ascending { IsAscending E.key content.now }
+    requires arriving_ascend { IsAscending E.key arriving.now }
+    ensures all { IfOk result (λ v.
+        AreSharedFolds E.key (P.merges policy.now) (P.refuses policy.now) content.now theta arriving.now v.items) }
+    ensures refused { IfErr result (IsMergeRefusal E.key (P.refuses policy.now) content.now theta arriving.now) }
+    ensures compares { IfOk result (λ v. compared.old + length v.items ≤ compared.new) }
+    ensures compared { AreFewLookUps compared.old compared.new (length arriving.now) (length content.now) }
+{
+    let mut entries = Vec::new(alloc);
+    'look_up_each: for incoming in arriving {
+        let hash = incoming.hash();
+        if hash >= theta {
+            break;
+        }
+        let existing = found_by_halves(content, hash, compared);
+        let found = shared_pair(existing, Some(incoming), policy)?;
+        push_found(&mut entries, found)?;
+    }
+    Ok(entries)
+}
+
+/// The entries that two ascending lists share below theta, by looking up each of `content` among the arriving ones by
+/// halves. The rest is as in `shared_in_pass`.
+///
+/// Counts each comparison of two hashes in `compared`: at most k for each entry of `content`, if fewer than 2^k arrive.
+fn shared_by_content<
+    E: SketchEntry + Clone + Drop,
+    P: IntersectionMergePolicy<E>,
+    A: Allocator,
+>(
+    alloc: A,
+    content: &[E],
+    arriving: &[E],
+    policy: &P,
+    theta: u64,
+    compared: &mut Count,
+) -> Result<Vec<E, A>, Error>
+    requires clones_equal { ClonesEqual E.is_clone }
+    requires ascending { IsAscending E.key content.now }
+    requires arriving_ascend { IsAscending E.key arriving.now }
+    ensures all { IfOk result (λ v.
+        AreSharedFolds E.key (P.merges policy.now) (P.refuses policy.now) content.now theta arriving.now v.items) }
+    ensures refused { IfErr result (IsMergeRefusal E.key (P.refuses policy.now) content.now theta arriving.now) }
+    ensures compares { IfOk result (λ v. compared.old + length v.items ≤ compared.new) }
+    ensures compared { AreFewLookUps compared.old compared.new (length content.now) (length arriving.now) }
+{
+    let mut entries = Vec::new(alloc);
+    'look_up_each: for existing in content {
+        let hash = existing.hash();
+        if hash >= theta {
+            break;
+        }
+        let incoming = found_by_halves(arriving, hash, compared);
+        let found = shared_pair(Some(existing), incoming, policy)?;
+        push_found(&mut entries, found)?;
+    }
+    Ok(entries)
+}
+
+/// The entries that two ascending lists share below theta: each entry of `content`, combined by the policy with the one
+/// of `arriving`. If one list is much longer, the entries of the other are looked up in it. Refused with `OutOfMemory`,
+/// or with `Policy` if the policy refuses.
+///
+/// Counts each comparison of two hashes in `compared`: at least one for each shared entry, and at most as many as both
+/// lists have entries. If one list is much longer and has fewer than 2^k entries, at most k for each of the other.
+fn shared_entries<E: SketchEntry + Clone + Drop, P: IntersectionMergePolicy<E>, A: Allocator>(
+    alloc: A,
+    content: &[E],
+    arriving: &[E],
+    policy: &P,
+    theta: u64,
+    compared: &mut Count,
+) -> Result<Vec<E, A>, Error>
+    requires clones_equal { ClonesEqual E.is_clone }
+    requires ascending { IsAscending E.key content.now }
+    requires arriving_ascend { IsAscending E.key arriving.now }
+    ensures all { IfOk result (λ v.
+        AreSharedFolds E.key (P.merges policy.now) (P.refuses policy.now) content.now theta arriving.now v.items) }
+    ensures refused { IfErr result (IsMergeRefusal E.key (P.refuses policy.now) content.now theta arriving.now) }
+    ensures compares { IfOk result (λ v. compared.old + length v.items ≤ compared.new) }
+    ensures compared { compared.new ≤ compared.old + length content.now + length arriving.now }
+    ensures longer { is_much_longer (length content.now) (length arriving.now) ≡ true
+        → AreFewLookUps compared.old compared.new (length arriving.now) (length content.now) }
+    ensures shorter { is_much_longer (length arriving.now) (length content.now) ≡ true
+        → AreFewLookUps compared.old compared.new (length content.now) (length arriving.now) }
+{
+    if is_much_longer(content.len(), arriving.len()) {
+        return shared_by_arriving(alloc, content, arriving, policy, theta, compared);
+    }
+    if is_much_longer(arriving.len(), content.len()) {
+        return shared_by_content(alloc, content, arriving, policy, theta, compared);
+    }
+    shared_in_pass(alloc, content, arriving, policy, theta, compared)
 }
 
 /// The entries that an ascending list and a sketch share below theta, combined by the policy, in ascending order. If the

@@ -9,8 +9,8 @@ use Rattle.core_operators.proofs.DifferenceEntries.{below_twice}
 use Rattle.core_operators.proofs.SharedEntries.{few_below}
 use Rattle.core_operators.proofs.a_not_b.kept_beside.Goals as goal
 
-pub difference_by_scan-requires-clause-ascending : goal.difference_by_scan-requires-clause-ascending
-difference_by_scan-requires-clause-ascending g c =
+pub ascending_difference-requires-clause-ascending : goal.ascending_difference-requires-clause-ascending
+ascending_difference-requires-clause-ascending g c =
     let key = g.S.Entry.SketchEntry.key in
     let listing = g.S.EntrySketch.listing c.args.a in
     let all : c.in-Some.entries.now ≡ listing = c.in-Some.ensures.left ∙ c.entries-list.ensures.all in
@@ -24,10 +24,10 @@ returns-in-Some-clause-ok g c =
     let all : c.in-Some.entries.now ≡ listing = c.in-Some.ensures.left ∙ c.entries-list.ensures.all in
     let up : IsAscending key listing = ascending-from_map key listing (rw c.entries-list.ensures.hashes (c.entries-list.ensures.sound.ascending (c.requires.in_order ∙ c.if-ordered.true))) in
     let same : c.in-Some.entries.now ≡ map_of key listing = all ∙ sym (map_of-ascending key listing up) in
-    IfOk-weaker c.difference_by_scan.result _ _ (λ v e. e ∙ ap (λ zs. lacking key other (below key zs c.args.theta) c.args.others.now) same) c.difference_by_scan.ensures.ok
+    IfOk-weaker c.ascending_difference.result _ _ (λ v e. e ∙ ap (λ zs. lacking key other (below key zs c.args.theta) c.args.others.now) same) c.ascending_difference.ensures.ok
 
-pub difference_by_scan-requires-2-clause-ascending : goal.difference_by_scan-requires-2-clause-ascending
-difference_by_scan-requires-2-clause-ascending g c =
+pub ascending_difference-requires-2-clause-ascending : goal.ascending_difference-requires-2-clause-ascending
+ascending_difference-requires-2-clause-ascending g c =
     let key = g.S.Entry.SketchEntry.key in
     let listing = g.S.EntrySketch.listing c.args.a in
     rw (c.deref.ensures.value, c.in_ok-entries.ensures.ok) (ascending-filter key _ (map_of key listing) (ascending-map_of key listing))
@@ -38,7 +38,7 @@ returns-clause-ok g c =
     let other = g.F.SketchEntry.key in
     let whole = map_of key (g.S.EntrySketch.listing c.args.a) in
     let entries_are : c.deref.result.now ≡ below key whole c.args.theta = c.deref.ensures.value ∙ c.in_ok-entries.ensures.ok in
-    IfOk-weaker c.difference_by_scan-2.result _ _ (λ v e. e ∙ ap (λ zs. lacking key other (below key zs c.args.theta) c.args.others.now) entries_are ∙ ap (λ zs. lacking key other zs c.args.others.now) (below_twice key whole c.args.theta)) c.difference_by_scan-2.ensures.ok
+    IfOk-weaker c.ascending_difference-2.result _ _ (λ v e. e ∙ ap (λ zs. lacking key other (below key zs c.args.theta) c.args.others.now) entries_are ∙ ap (λ zs. lacking key other zs c.args.others.now) (below_twice key whole c.args.theta)) c.ascending_difference-2.ensures.ok
 
 pub returns-clause-compared : goal.returns-clause-compared
 returns-clause-compared g c =
@@ -46,4 +46,4 @@ returns-clause-compared g c =
     let listing = g.S.EntrySketch.listing c.args.a in
     let entries_are : c.deref.result.now ≡ below key (map_of key listing) c.args.theta = c.deref.ensures.value ∙ c.in_ok-entries.ensures.ok in
     let few = few_below key listing c.args.theta (apart-distinct key listing (rw c.entries-list.ensures.hashes c.entries-list.ensures.sound.distinct)) in
-    omega (arith, few, ap length entries_are, c.difference_by_scan-2.ensures.compared)
+    omega (arith, few, ap length entries_are, c.ascending_difference-2.ensures.compared)

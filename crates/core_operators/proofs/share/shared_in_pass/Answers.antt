@@ -7,8 +7,8 @@ use Rattle.std.proofs.lemmas.List.{length-drop, length-append}
 use Rattle.std.proofs.lemmas.Result.{err_from_is_err_and}
 use Rattle.core_operators.proofs.ReadPast.{behind, some_first, no_first, counted_few}
 use Rattle.core_operators.proofs.SharedEntries.{IsSharing, sharing-start, shared_on, refused_on, shared_end, end_arriving, end_retained, end_past}
-use Rattle.core_operators.proofs.share.shared_entries.Goals as goal
-use Rattle.core_operators.proofs.share.shared_entries.Goals.{in_default, in-Some+in_default-first, in-Some+in-Some-first+then-hash-theta}
+use Rattle.core_operators.proofs.share.shared_in_pass.Goals as goal
+use Rattle.core_operators.proofs.share.shared_in_pass.Goals.{in_default, in-Some+in_default-first, in-Some+in-Some-first+then-hash-theta}
 
 -- an entry is shared only if both hashes are the same
 fewer_than : {X : Type 0} (entries : List X) (o : Option X) → length (option_map_or (λ z. entries ++ z ∷ []) o entries) ≤ length entries + 1

@@ -1,6 +1,6 @@
 use Rattle.std.proofs.Common.{◌≤◌, ◌+◌, length}
 use Rattle.core_operators.proofs.SharedEntries.{IsSharing}
-use Rattle.core_operators.proofs.share.shared_entries.Given as goal
+use Rattle.core_operators.proofs.share.shared_in_pass.Given as goal
 
 -- the entries found so far, and how far both lists are read; each comparison skips an entry of at least one list
 abbrev pub invariant-share_each : goal.invariant-share_each
