@@ -1,5 +1,5 @@
 -- Differences of listings, and the states of the kept entries.
-use Rattle.std.proofs.Common.{◌+◌, inl, inr, take, drop, set, ◌≡◌, ℕ, suc, ◌<◌, ◌≤◌, ◌≢◌, ◌^◌, Bool, true, false, cond, ltb, leb, is_none, min, Result, Ok, Err, IfOk, IfErr, is_err, List, [], ◌∷◌, ◌++◌, length, map, Option, Some, None, refl, sym, ap, ◌∙◌, arith}
+use Rattle.std.proofs.Common.{◌+◌, inl, inr, take, drop, set, ◌≡◌, ℕ, suc, ◌<◌, ◌≤◌, ◌≢◌, ◌^◌, Bool, true, false, cond, ltb, leb, is_none, is_some, not, min, Result, Ok, Err, IfOk, IfErr, is_err, List, [], ◌∷◌, ◌++◌, length, map, Option, Some, None, refl, sym, ap, ◌∙◌, arith}
 use Rattle.std.specs.Prelude.{◌&&◌, ◌==◌, if◌then◌else◌, option_map}
 use Rattle.core_laws.proofs.maps.MappedEntries.{entry_at-map}
 use Rattle.std.specs.List.{filter, slice_get, AllByRecursion, AllPairs}
@@ -221,6 +221,15 @@ below_more done h left theta lt =
 pub few_hashes : (hs : List ℕ) (theta : ℕ) → AllPairs (λ x y. x ≢ y) hs → length (map_of hash_key (below hash_key hs theta)) ≤ length hs
 few_hashes hs theta distinct = omega (arith, count_sorted hash_key 1 0 (below hash_key hs theta) (below_apart hs theta distinct), fewer (λ h. ltb h theta) hs)
 
+-- a search that found nothing, and one that found something
+pub unfound : {R Y : Type 0} (at : R → Y) (r : Option R) (b : Bool) → is_some r ≡ not b → b ≡ true → (o : Option Y) → option_map at r ≡ o → o ≡ None
+unfound at None b tested e o is = sym is
+unfound at (Some r) b tested e o is = absurd (let f : true ≡ not true = rw e at tested in cc)
+
+pub was_found : {R Y : Type 0} (at : R → Y) (r : Option R) (b : Bool) → is_some r ≡ not b → b ≡ false → (o : Option Y) → option_map at r ≡ o → is_none o ≡ false
+was_found at None b tested e o is = absurd (let f : false ≡ not false = rw e at tested in cc)
+was_found at (Some r) b tested e o is = ap is_none (sym is)
+
 module _ {X Y : Type 0} (key : X → ℕ) (other : Y → ℕ) (theta : ℕ) where
   none_mapped : (o : Option Y) → is_none o ≡ is_none (option_map other o)
   none_mapped None = refl
@@ -345,6 +354,16 @@ module _ {X Y : Type 0} (key : X → ℕ) (other : Y → ℕ) (theta : ℕ) wher
       let z_is : z ≡ x = cc in
       let none : below key (z ∷ left) theta ≡ [] = stops key z left theta up (rw z_is le) in
       ap (λ xs. lacking key other xs others) none ∙ sym none
+
+  -- one entry more, which is kept if no other has its hash
+  pub kept_on : (kept : List X) (x : X) (left : List X) (others : List Y) (hash : ℕ) → hash ≡ key x → hash < theta → entry_at other others hash ≡ None → (kept ++ x ∷ []) ++ to_keep left others ≡ kept ++ to_keep (x ∷ left) others
+  kept_on kept x left others hash is lt absent = append_assoc kept (x ∷ []) (to_keep left others) ∙ ap (λ zs. kept ++ zs) (sym (kept_first x left others (rw (← is) lt) (ap (λ (h : ℕ). entry_at other others h) (sym is) ∙ absent)))
+
+  pub dropped_on : (kept : List X) (x : X) (left : List X) (others : List Y) (hash : ℕ) → hash ≡ key x → hash < theta → is_none (entry_at other others hash) ≡ false → kept ++ to_keep left others ≡ kept ++ to_keep (x ∷ left) others
+  dropped_on kept x left others hash is lt there = ap (λ zs. kept ++ zs) (sym (left_first x left others (rw (← is) lt) (ap (λ (h : ℕ). is_none (entry_at other others h)) (sym is) ∙ there)))
+
+  pub keeps_stop : (x : X) (left : List X) (others : List Y) → IsAscending key (x ∷ left) → theta ≤ key x → to_keep (x ∷ left) others ≡ []
+  keeps_stop x left others up le = ap (λ xs. lacking key other xs others) (stops key x left theta up le)
 
   -- the others may be replaced by their hashes
   pub kept_of_hashes : (left : List X) (others : List Y) → to_keep left others ≡ lacking key hash_key (below key left theta) (map other others)

@@ -3,7 +3,9 @@ use Rattle.std.proofs.Common.{◌≡◌, ℕ, zero, suc, ◌+◌, ◌*◌, ◌/�
 use Rattle.std.specs.List.{AllByRecursion}
 use Rattle.std.proofs.Math.Nat.{two-pow-succ}
 use Rattle.std.proofs.lemmas.List.{length-drop, length-take, drop_more}
+use Rattle.std.proofs.lemmas.Bool.Decides.{nat_tests}
 use Rattle.core_laws.specs.Maps.{IsAscending, entry_at}
+use Rattle.core_operators.specs.Search.{is_much_longer, AreFewLookUps}
 use Rattle.core_laws.proofs.maps.Ascending.{ascending-head, ascending-tail, ascending-nil, ascending-cons, each-get_or}
 use Rattle.core_laws.proofs.maps.LookUps.{entry_at_head, entry_at_rest, past}
 
@@ -24,6 +26,13 @@ halve left less before now k half some was = halved left less was.halvings befor
 -- a list that isn't empty can be halved once more
 pub halvings_left : (left before now k : ℕ) → 0 < left → AreHalvings left before now k → now + 1 ≤ before + k
 halvings_left left before now k some was = let next = halve left 0 before now k (omega arith) some was in omega (arith, next.count)
+
+-- looking up each entry in a much longer list takes fewer comparisons than that list has entries
+pub few_in_all : (before after count other_count : ℕ) → other_count < 2 ^ 64 → is_much_longer other_count count ≡ true → AreFewLookUps before after count other_count → after ≤ before + other_count
+few_in_all before after count other_count fits longer few =
+    let most = few 64 fits in
+    let more : count < other_count / 128 = grind (arith, nat_tests) in
+    omega (arith, most, more)
 
 module _ {X : Type 0} (key : X → ℕ) where
   each-take : (P : X → Type 0) (xs : List X) (n : ℕ) → AllByRecursion P xs → AllByRecursion P (take n xs)

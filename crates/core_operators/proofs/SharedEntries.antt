@@ -4,7 +4,8 @@ use Rattle.std.specs.List.{AllByRecursion, slice_get}
 use Rattle.std.specs.Option.{option_map, option_map_or}
 use Rattle.std.proofs.lemmas.Bool.{cases_lt}
 use Rattle.std.proofs.lemmas.Bool.Decides.{nat_tests}
-use Rattle.std.proofs.lemmas.List.{length-map, append_assoc, append-nil}
+use Rattle.std.specs.Prelude.{IfSome}
+use Rattle.std.proofs.lemmas.List.{length-map, length-append, append_assoc, append-nil}
 use Rattle.core_laws.specs.Maps.{IsAscending, IsApart, below, entry_at, with_entry, map_of}
 use Rattle.core_laws.specs.Cuts.{Retained, IsRetained}
 use Rattle.core_laws.specs.Shown.{Shown, IsShown}
@@ -12,7 +13,7 @@ use Rattle.core_laws.specs.declared.TheConstants.{MAX_THETA}
 use Rattle.core_laws.specs.Operators.{common, shared, both}
 use Rattle.core_laws.specs.Folds.{Fold, Value, Refused, fold_key, fold_merges, unmarked}
 use Rattle.core_operators.specs.Union.{IsMergeRefused}
-use Rattle.core_operators.specs.Intersection.{IsSharedFold}
+use Rattle.core_operators.specs.Intersection.{IsSharedFold, IsSharedPair, IsRefusedPair}
 use Rattle.core_laws.proofs.maps.MappedEntries.{map-append, below-map, entry_at-map, with_entry-map}
 use Rattle.core_laws.proofs.maps.Ascending.{ascending-filter, ascending-tail, ascending-head, ascending-nil, ascending-cons, each-weaker}
 use Rattle.core_laws.proofs.operators.CommonMaps.{entry_at-common, each-common, ascending-common, common-nil}
@@ -21,7 +22,7 @@ use Rattle.core_laws.proofs.insertions.Unmarked.{fold_keeps, ascending-marked, e
 use Rattle.core_laws.proofs.maps.MapsOfLists.{entry_at-map_of, ascending-map_of, ascending-apart, apart-distinct, each-from_map}
 use Rattle.core_laws.proofs.cuts.Cuts.{below_all}
 use Rattle.core_table.proofs.OtherOrders.{map_of-ascending, each-map_of}
-use Rattle.core_operators.proofs.DifferenceEntries.{count_sorted, fewer}
+use Rattle.core_operators.proofs.DifferenceEntries.{count_sorted, fewer, stops}
 use Rattle.core_laws.proofs.cuts.WithinWholeMaps.{found_key}
 use Rattle.core_laws.specs.Entries.{KeepsKey}
 
@@ -262,6 +263,15 @@ module _ {X : Type 0} (key : X → ℕ) (merges : X → X → X) (refuses : X �
       ∙ append_assoc (map Value items) (Value z ∷ []) (read_from key merges refuses left content t)
       ∙ ap (λ ys. map Value items ++ ys) (sym (read_some left content x z t is)) ∙ so_far
 
+-- an entry that was found is one more, and took a comparison
+pub fewer_than : {X : Type 0} (entries : List X) (o : Option X) → length (option_map_or (λ z. entries ++ z ∷ []) o entries) ≤ length entries + 1
+fewer_than entries None = omega arith
+fewer_than entries (Some z) = omega (arith, length-append entries (z ∷ []))
+
+pub found_few : {X R : Type 0} (items : List X) (o : Option X) (r : Option R) (before now next : ℕ) → (r ≡ None → o ≡ None) → IfSome r (λ _. now < next) → now ≤ next → before + length items ≤ now → before + length (option_map_or (λ z. items ++ z ∷ []) o items) ≤ next
+found_few items o None before now next none looked grows was = rw (none refl) (omega (arith, was, grows))
+found_few items o (Some r) before now next none looked grows was = omega (arith, fewer_than items o, was, looked)
+
 module _ {X : Type 0} (key : X → ℕ) (merges : X → X → X) where
   -- a retained entry whose key is less than all others makes no difference
   pub common_lesser : (y : X) (ys xs : List X) → AllByRecursion (λ x. key y < key x) xs → common key merges xs (y ∷ ys) ≡ common key merges xs ys
@@ -443,6 +453,81 @@ module _ {X : Type 0} (key : X → ℕ) (merges : X → X → X) (refuses : X �
   end_past arriving left (z ∷ right) x t first reading le =
       let z_is : z ≡ x = cc in
       read_past key merges refuses keeps arriving right left z t reading (rw z_is le)
+
+  -- an arriving entry is looked up among the retained ones
+  paired : (x : X) (e : Option X) → both (fold_merges key merges refuses) (option_map Value e) (Some (Value x)) ≡ option_map (λ w. fold_merges key merges refuses (Value w) (Value x)) e
+  paired x None = refl
+  paired x (Some y) = refl
+
+  pub pair_read : (content : List X) (x : X) (t hash : ℕ) (e o : Option X) → e ≡ entry_at key content hash → hash ≡ key x → hash < t → IsSharedPair key merges refuses e (Some x) o → option_map Value o ≡ read_one key merges refuses content t x
+  pair_read content x t hash e o is hash_is lt pair =
+      let low : key x < t = rw (← hash_is) lt in
+      let there : e ≡ entry_at key (below key content t) (key x) = is ∙ ap (λ (h : ℕ). entry_at key content h) hash_is ∙ sym (one_low key merges refuses content t x low) in
+      pair ∙ paired x e ∙ ap (option_map (λ w. fold_merges key merges refuses (Value w) (Value x))) there
+
+  pub pair_refused : (content : List X) (x : X) (t hash : ℕ) (e : Option X) → e ≡ entry_at key content hash → hash ≡ key x → hash < t → IsRefusedPair refuses e (Some x) → IsMergeRefused key refuses (below key content t) (x ∷ [])
+  pair_refused content x t hash None is hash_is lt refused = absurd refused
+  pair_refused content x t hash (Some y) is hash_is lt refused = one_refused key merges refuses content t x y (rw (← hash_is) lt) (ap (λ (h : ℕ). entry_at key content h) (sym hash_is) ∙ sym is) refused
+
+  -- without the one entry there is no pair
+  pub unpaired : {R : Type 0} (at : R → X) (r : Option R) (x : X) (o : Option X) → IsSharedPair key merges refuses (option_map at r) (Some x) o → r ≡ None → o ≡ None
+  unpaired at None x o pair e = some_is_none key o pair
+  unpaired at (Some r) x o pair e = absurd (cc)
+
+  pub unmatched : {R : Type 0} (at : R → X) (r : Option R) (y : X) (o : Option X) → IsSharedPair key merges refuses (Some y) (option_map at r) o → r ≡ None → o ≡ None
+  unmatched at None y o pair e = some_is_none key o pair
+  unmatched at (Some r) y o pair e = absurd (cc)
+
+  -- the folds that retained entries below a theta share with arriving ones, in the order of the retained ones
+  abbrev pub held_from : (content arriving : List X) (t : ℕ) → List (Fold X)
+  held_from content arriving t = common (fold_key key) (fold_merges key merges refuses) (map Value (below key content t)) (map Value arriving)
+
+  -- for ascending entries both orders are the same
+  pub held_is_read : (content arriving : List X) (t : ℕ) → IsAscending key content → IsAscending key arriving → held_from content arriving t ≡ read_from key merges refuses arriving content t
+  held_is_read content arriving t up arriving_up =
+      let fk = fold_key key in
+      let fm = fold_merges key merges refuses in
+      let own = map Value (below key content t) in
+      let other = map Value arriving in
+      same_map fk _ _ (ascending-common fk fm (fold_keeps key merges refuses keeps) own other (ascending-marked key (below key content t) (ascending-filter key _ content up))) (ascending-common fk (turned_round fm) (keeps_turned key merges refuses keeps) other own (ascending-marked key arriving arriving_up))
+      (λ q. entry_at-common fk fm (fold_keeps key merges refuses keeps) own other q ∙ sym (both_turned fk fm (fold_keeps key merges refuses keeps) (entry_at fk other q) (entry_at fk own q)) ∙ sym (entry_at-common fk (turned_round fm) (keeps_turned key merges refuses keeps) other own q))
+
+  held_one : (y : X) (ys : List X) (other : List (Fold X)) (u : Option (Fold X)) → option_map (λ v. fold_merges key merges refuses (Value y) v) (entry_at (fold_key key) other (key y)) ≡ u
+      → common (fold_key key) (fold_merges key merges refuses) (Value y ∷ map Value ys) other ≡ option_map_or (λ z. z ∷ common (fold_key key) (fold_merges key merges refuses) (map Value ys) other) u (common (fold_key key) (fold_merges key merges refuses) (map Value ys) other)
+  held_one y ys other None is = rw is refl
+  held_one y ys other (Some z) is = rw is refl
+
+  more_items : (items : List X) (o : Option X) (rest : List (Fold X)) → map Value (option_map_or (λ z. items ++ z ∷ []) o items) ++ rest ≡ map Value items ++ option_map_or (λ z. z ∷ rest) (option_map Value o) rest
+  more_items items None rest = refl
+  more_items items (Some z) rest = ap (λ ys. ys ++ rest) (map-append Value items (z ∷ [])) ∙ append_assoc (map Value items) (Value z ∷ []) rest
+
+  matched : (y : X) (e : Option X) → both (fold_merges key merges refuses) (Some (Value y)) (option_map Value e) ≡ option_map (λ v. fold_merges key merges refuses (Value y) v) (option_map Value e)
+  matched y None = refl
+  matched y (Some x) = refl
+
+  -- one more retained entry is looked up among the arriving ones
+  pub held_more : (items left arriving : List X) (y : X) (t hash : ℕ) (e o : Option X) (all : List (Fold X)) → e ≡ entry_at key arriving hash → hash ≡ key y → hash < t → IsSharedPair key merges refuses (Some y) e o
+      → map Value items ++ held_from (y ∷ left) arriving t ≡ all → map Value (option_map_or (λ z. items ++ z ∷ []) o items) ++ held_from left arriving t ≡ all
+  held_more items left arriving y t hash e o all is hash_is lt pair was =
+      let low : ltb (key y) t ≡ true = grind (arith, nat_tests, hash_is, lt) in
+      let seen : entry_at (fold_key key) (map Value arriving) (key y) ≡ option_map Value e = entry_at-map Value key (fold_key key) (λ z. refl) arriving (key y) ∙ ap (option_map Value) (ap (λ (h : ℕ). entry_at key arriving h) (sym hash_is) ∙ sym is) in
+      let one : option_map (λ v. fold_merges key merges refuses (Value y) v) (entry_at (fold_key key) (map Value arriving) (key y)) ≡ option_map Value o = ap (option_map (λ v. fold_merges key merges refuses (Value y) v)) seen ∙ sym (matched y e) ∙ sym pair in
+      let first : held_from (y ∷ left) arriving t ≡ common (fold_key key) (fold_merges key merges refuses) (Value y ∷ map Value (below key left t)) (map Value arriving) = rw low refl in
+      more_items items o (held_from left arriving t) ∙ ap (λ us. map Value items ++ us) (sym (held_one y (below key left t) (map Value arriving) (option_map Value o) one) ∙ sym first) ∙ was
+
+  pub held_past : (y : X) (left arriving : List X) (t : ℕ) → IsAscending key (y ∷ left) → t ≤ key y → held_from (y ∷ left) arriving t ≡ []
+  held_past y left arriving t up le = ap (λ ys. common (fold_key key) (fold_merges key merges refuses) (map Value ys) (map Value arriving)) (stops key y left t up le)
+
+  pub held_refused : (content left arriving : List X) (y : X) (t hash : ℕ) (e : Option X) → IsReading key content (y ∷ left) true → e ≡ entry_at key arriving hash → hash ≡ key y → hash < t → IsRefusedPair refuses (Some y) e → IsMergeRefused key refuses (below key content t) arriving
+  held_refused content left arriving y t hash None reading is hash_is lt refused = absurd refused
+  held_refused content left arriving y t hash (Some x) reading is hash_is lt refused = record {
+    at = key y;
+    held_entry = y;
+    new_entry = x;
+    is_held = one_low key merges refuses content t y (rw (← hash_is) lt) ∙ reading.among (key y) y (entry_at_head key y left (key y) refl);
+    comes = ap (λ (h : ℕ). entry_at key arriving h) (sym hash_is) ∙ sym is;
+    refused = refused;
+  }
 
   -- the entries shared with the map of a listing are the new content
   pub record IsNewContent (content : Retained X) (listing items : List X) (theta t : ℕ) : Type 0 where

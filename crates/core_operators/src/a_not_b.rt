@@ -139,7 +139,15 @@ where
             let spare = alloc.clone()?;
             let mut compared = Count::new();
             let kept = kept_entries(
-                alloc, a, a_ordered, b, b_ordered, b_count, others, theta, &mut compared,
+                alloc,
+                a,
+                a_ordered,
+                b,
+                b_ordered,
+                b_count,
+                others,
+                theta,
+                &mut compared,
             )?;
             if is_empty_result(kept.len(), theta) {
                 return Ok(CompactSketchState::empty(spare, seed_hash));

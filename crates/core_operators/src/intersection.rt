@@ -148,7 +148,13 @@ impl<
                 let own_theta = &mut self.theta;
                 let policy = &self.policy;
                 let outcome = meet_held(
-                    entries, own_theta, sketch, policy, ordered, theta, num_retained,
+                    entries,
+                    own_theta,
+                    sketch,
+                    policy,
+                    ordered,
+                    theta,
+                    num_retained,
                 )?;
                 self.outcome = outcome;
                 Ok(())
@@ -223,7 +229,15 @@ where
         return Ok(Outcome::Held);
     }
     let mut compared = Count::new();
-    let next = shared_with(entries, sketch, policy, ordered, lesser, count, &mut compared)?;
+    let next = shared_with(
+        entries,
+        sketch,
+        policy,
+        ordered,
+        lesser,
+        count,
+        &mut compared,
+    )?;
     let outcome = outcome_of(lesser, content, count, next.len());
     *entries = next;
     *own_theta = lesser;

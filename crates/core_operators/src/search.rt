@@ -13,7 +13,8 @@ const MUCH_LONGER: usize = 128;
 /// Whether the entries of a list of `count` entries are looked up in another of `other_count`: it has more than 128
 /// times as many. A search then takes fewer comparisons than a pass over both.
 pub(crate) fn is_much_longer(other_count: usize, count: usize) -> bool
-    ensures { result ≡ is_much_longer other_count count }
+    ensures value { result ≡ is_much_longer other_count count }
+    ensures fits { other_count < 2 ^ 64 }
 {
     other_count / MUCH_LONGER > count
 }

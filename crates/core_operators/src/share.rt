@@ -142,11 +142,7 @@ fn shared_in_pass<E: SketchEntry + Clone + Drop, P: IntersectionMergePolicy<E>, 
 ///
 /// Counts each comparison of two hashes in `compared`: at most k for each arriving entry, if `content` has fewer than
 /// 2^k.
-fn shared_by_arriving<
-    E: SketchEntry + Clone + Drop,
-    P: IntersectionMergePolicy<E>,
-    A: Allocator,
->(
+fn shared_by_arriving<E: SketchEntry + Clone + Drop, P: IntersectionMergePolicy<E>, A: Allocator>(
     alloc: A,
     content: &[E],
     arriving: &[E],
@@ -180,11 +176,7 @@ fn shared_by_arriving<
 /// halves. The rest is as in `shared_in_pass`.
 ///
 /// Counts each comparison of two hashes in `compared`: at most k for each entry of `content`, if fewer than 2^k arrive.
-fn shared_by_content<
-    E: SketchEntry + Clone + Drop,
-    P: IntersectionMergePolicy<E>,
-    A: Allocator,
->(
+fn shared_by_content<E: SketchEntry + Clone + Drop, P: IntersectionMergePolicy<E>, A: Allocator>(
     alloc: A,
     content: &[E],
     arriving: &[E],

@@ -6,14 +6,9 @@ use Rattle.std.proofs.lemmas.Bool.Decides.{nat_tests}
 use Rattle.std.proofs.lemmas.List.{length-drop, length-append}
 use Rattle.std.proofs.lemmas.Result.{err_from_is_err_and}
 use Rattle.core_operators.proofs.ReadPast.{behind, some_first, no_first, counted_few}
-use Rattle.core_operators.proofs.SharedEntries.{IsSharing, sharing-start, shared_on, refused_on, shared_end, end_arriving, end_retained, end_past}
+use Rattle.core_operators.proofs.SharedEntries.{IsSharing, fewer_than, sharing-start, shared_on, refused_on, shared_end, end_arriving, end_retained, end_past}
 use Rattle.core_operators.proofs.share.shared_in_pass.Goals as goal
 use Rattle.core_operators.proofs.share.shared_in_pass.Goals.{in_default, in-Some+in_default-first, in-Some+in-Some-first+then-hash-theta}
-
--- an entry is shared only if both hashes are the same
-fewer_than : {X : Type 0} (entries : List X) (o : Option X) → length (option_map_or (λ z. entries ++ z ∷ []) o entries) ≤ length entries + 1
-fewer_than entries None = omega arith
-fewer_than entries (Some z) = omega (arith, length-append entries (z ∷ []))
 
 pub share_each-init : goal.share_each-init
 share_each-init g c =
@@ -45,7 +40,7 @@ share_each-preserved g c =
     let right = c.share_each.arriving_left.now in
     let more = fewer_than c.share_each.entries.items c.in_ok-found.found in
     let on = shared_on key merges refuses keeps c.args.content.now left c.args.arriving.now right c.in-Some-first.existing.now c.in-Some.incoming.now c.args.theta c.share_each.entries.items c.in_ok-found.found c.hash-hash.result c.hash-known.result c.number_if.result c.number_if-in-Some.result
-        c.in-Some-first.ensures.value c.in-Some.ensures.value c.hash-hash.ensures c.hash-known.ensures (omega (arith, c.if-hash-theta.false)) c.number_if.ensures.value c.number_if-in-Some.ensures.value c.in_ok-found.ensures.combined c.share_each.invariant.so_far in
+    c.in-Some-first.ensures.value c.in-Some.ensures.value c.hash-hash.ensures c.hash-known.ensures (omega (arith, c.if-hash-theta.false)) c.number_if.ensures.value c.number_if-in-Some.ensures.value c.in_ok-found.ensures.combined c.share_each.invariant.so_far in
     record {
       so_far = rw (behind left c.number_if.result, behind right c.number_if-in-Some.result, c.in_ok-push_found.ensures) on;
       some = rw c.in_ok-push_found.ensures (omega (arith, more, c.tick.ensures, c.share_each.invariant.some));
