@@ -1,5 +1,5 @@
 -- Differences of listings, and the states of the kept entries.
-use Rattle.std.proofs.Common.{◌+◌, inl, inr, take, drop, set, ◌≡◌, ℕ, suc, ◌<◌, ◌≤◌, ◌≢◌, ◌^◌, Bool, true, false, cond, ltb, leb, is_none, is_some, not, min, Result, Ok, Err, IfOk, IfErr, is_err, List, [], ◌∷◌, ◌++◌, length, map, Option, Some, None, refl, sym, ap, ◌∙◌, arith}
+use Rattle.std.proofs.Common.{◌+◌, inl, inr, take, drop, set, ◌≡◌, ℕ, suc, ◌<◌, ◌≤◌, ◌≢◌, ◌^◌, Bool, true, false, cond, ltb, leb, is_none, is_some, not, min, List, [], ◌∷◌, ◌++◌, length, map, Option, Some, None, refl, sym, ap, ◌∙◌, arith}
 use Rattle.std.specs.Prelude.{◌&&◌, ◌==◌, if◌then◌else◌, option_map}
 use Rattle.core_laws.proofs.maps.MappedEntries.{entry_at-map}
 use Rattle.std.specs.List.{filter, slice_get, AllByRecursion, AllPairs}
@@ -9,12 +9,10 @@ use Rattle.std.proofs.lemmas.List.{length-map, map-id, map-append, append_assoc,
 use Rattle.std.proofs.lemmas.List.Sorted.{length_permutation}
 use Rattle.core_compact.specs.CompactState.{Compact, IsCompactOf, IsAnswer, shown_of, empty_compact, is_answer_ordered}
 use Rattle.core_laws.specs.Maps.{IsAscending, IsApart, below, entry_at, map_of}
-use Rattle.core_laws.specs.Places.{IsAt, IsGapFor}
-use Rattle.core_laws.proofs.maps.Insertions.{entry_at_place, entry_at_gap}
 use Rattle.core_laws.specs.Entries.{hash_key}
 use Rattle.core_laws.specs.Operators.{lacking, minus, unless_nothing}
 use Rattle.core_laws.specs.Shown.{Shown, IsShown, shown_value}
-use Rattle.core_laws.specs.Values.{Sketch, Empty, NonEmpty}
+use Rattle.core_laws.specs.Values.{Empty, NonEmpty}
 use Rattle.core_laws.specs.declared.TheConstants.{MAX_THETA}
 use Rattle.core_laws.proofs.maps.Ascending.{each-filter, each-weaker, each-passes, ascending-head, ascending-tail, ascending-nil, ascending-cons, ascending-filter}
 use Rattle.core_laws.proofs.operators.CommonMaps.{filter-and, filter-agree, lacking-nil}

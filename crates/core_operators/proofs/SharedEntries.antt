@@ -9,7 +9,6 @@ use Rattle.std.proofs.lemmas.List.{length-map, length-append, append_assoc, appe
 use Rattle.core_laws.specs.Maps.{IsAscending, IsApart, below, entry_at, with_entry, map_of}
 use Rattle.core_laws.specs.Cuts.{Retained, IsRetained}
 use Rattle.core_laws.specs.Shown.{Shown, IsShown}
-use Rattle.core_laws.specs.declared.TheConstants.{MAX_THETA}
 use Rattle.core_laws.specs.Operators.{common, shared, both}
 use Rattle.core_laws.specs.Folds.{Fold, Value, Refused, fold_key, fold_merges, unmarked}
 use Rattle.core_operators.specs.Union.{IsMergeRefused}

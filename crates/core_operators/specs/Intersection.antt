@@ -9,9 +9,9 @@ use Rattle.core_operators.specs.declared.intersection.Outcome.{Outcome}
 use Rattle.core_operators.specs.declared.intersection.Outcome.TheVariants.{Unbegun, Nothing, Held}
 use Rattle.core_compact.specs.CompactState.{Compact, IsAnswer}
 use Rattle.core_laws.specs.Cuts.{Retained, IsRetained, none_below}
-use Rattle.core_laws.specs.Maps.{below, entry_at, map_of}
+use Rattle.core_laws.specs.Maps.{below, map_of}
 use Rattle.core_laws.specs.Values.{Sketch, Empty, NonEmpty, count_of}
-use Rattle.core_laws.specs.Folds.{Fold, Value, fold_key, fold_merges, unmarked, unmarked_value}
+use Rattle.core_laws.specs.Folds.{Value, fold_key, fold_merges, unmarked, unmarked_value}
 use Rattle.core_operators.specs.Union.{IsMergeRefused}
 use Rattle.core_laws.specs.Shown.{Shown, shown_value}
 use Rattle.core_laws.specs.Operators.{both, common, meet_next, shared}

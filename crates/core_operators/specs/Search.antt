@@ -1,5 +1,5 @@
 -- When one of two ascending lists is searched, and by how many comparisons.
-use Rattle.std.specs.Prelude.{ℕ, ◌+◌, ◌*◌, ◌/◌, ◌<◌, ◌≤◌, ◌≡◌, ◌^◌, nat_lt, Bool, true}
+use Rattle.std.specs.Prelude.{ℕ, ◌+◌, ◌*◌, ◌/◌, ◌<◌, ◌≤◌, ◌^◌, nat_lt, Bool}
 
 -- whether a list has more than 128 times as many entries as another
 abbrev pub is_much_longer : (other_count count : ℕ) → Bool

@@ -1,4 +1,4 @@
-use Rattle.std.proofs.Common.{◌≡◌, ◌∙◌, sym, ap}
+use Rattle.std.proofs.Common.{◌∙◌, sym, ap}
 use Rattle.core_laws.specs.Maps.{IsAscending, below}
 use Rattle.core_laws.proofs.maps.ApartEntries.{apart-filter}
 use Rattle.core_laws.proofs.maps.MapsOfLists.{apart-distinct, ascending-from_map}

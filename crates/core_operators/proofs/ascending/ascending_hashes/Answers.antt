@@ -1,4 +1,4 @@
-use Rattle.std.proofs.Common.{◌≡◌, ◌∙◌, sym}
+use Rattle.std.proofs.Common.{◌∙◌, sym}
 use Rattle.core_laws.specs.Maps.{IsAscending, below}
 use Rattle.core_laws.specs.Entries.{hash_key}
 use Rattle.core_laws.proofs.maps.Ascending.{ascending-filter}

@@ -1,5 +1,4 @@
-use Rattle.std.proofs.Common.{◌≡◌, true, ◌∙◌, sym, arith}
-use Rattle.std.proofs.lemmas.Bool.Decides.{nat_tests}
+use Rattle.std.proofs.Common.{◌∙◌, sym, arith}
 use Rattle.core_operators.proofs.Halving.{few_in_all}
 use Rattle.core_operators.proofs.scan.ascending_difference.Goals as goal
 

@@ -1,7 +1,5 @@
-use Rattle.std.proofs.Common.{ℕ, ◌≡◌, ◌+◌, ◌*◌, ◌≤◌, ◌∙◌, ◌∷◌, ◌++◌, [], true, false, is_none, length, drop, sym, ap, refl, arith}
-use Rattle.std.specs.Prelude.{option_copied}
+use Rattle.std.proofs.Common.{ℕ, ◌≡◌, ◌+◌, ◌∙◌, ◌∷◌, ◌++◌, [], drop, sym, ap, arith}
 use Rattle.std.proofs.lemmas.List.{drop_more, drop_all, append-nil}
-use Rattle.core_laws.specs.Maps.{entry_at}
 use Rattle.core_laws.proofs.maps.Ascending.{ascending-tail}
 use Rattle.core_operators.proofs.DifferenceEntries.{kept_on, dropped_on, keeps_stop, unfound, was_found}
 use Rattle.core_operators.proofs.scan.difference_by_halves.Goals as goal

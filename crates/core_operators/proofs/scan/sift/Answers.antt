@@ -1,7 +1,5 @@
-use Rattle.std.specs.List.{slice_get}
-use Rattle.std.specs.Prelude.{option_map}
-use Rattle.std.proofs.Common.{Option, None, Some, [], ◌∷◌, ℕ, ◌≡◌, ◌+◌, ◌<◌, cond, ltb, leb, ◌-◌, ◌≤◌, ◌∙◌, length, take, drop, refl, List, arith}
-use Rattle.std.proofs.lemmas.List.{length-set, length-drop, take_all}
+use Rattle.std.proofs.Common.{ℕ, ◌≡◌, ◌+◌, ◌<◌, cond, ltb, leb, ◌-◌, ◌≤◌, ◌∙◌, length, take, drop, List, arith}
+use Rattle.std.proofs.lemmas.List.{length-set, length-drop}
 use Rattle.core_operators.proofs.ReadPast.{behind, some_first, no_first, counted_few, counted_some}
 use Rattle.core_operators.proofs.DifferenceEntries.{IsSifting, sifted_on, whole_at_end, whole_with_none, whole_past}
 use Rattle.std.proofs.lemmas.Bool.Decides.{nat_tests}

@@ -1,4 +1,4 @@
-use Rattle.std.proofs.Common.{◌≡◌, ◌/◌, ◌∷◌, length, take, drop, sym, ap, ◌∙◌, arith}
+use Rattle.std.proofs.Common.{◌≡◌, ◌/◌, ◌∷◌, length, drop, sym, ◌∙◌, arith}
 use Rattle.core_operators.proofs.Halving.{halve, middle_found, behind_same, before_same, behind_ascends, before_ascends, behind_short, before_short, some_left}
 use Rattle.core_operators.proofs.search.found_by_halves.Goals as goal
 

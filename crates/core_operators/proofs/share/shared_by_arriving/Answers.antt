@@ -1,11 +1,10 @@
-use Rattle.std.proofs.Common.{Option, None, Some, ℕ, List, ◌≡◌, ◌+◌, ◌*◌, ◌<◌, ◌≤◌, ◌^◌, ◌∙◌, ◌∷◌, ◌++◌, [], true, length, drop, map, sym, ap, refl, inl, inr, arith}
+use Rattle.std.proofs.Common.{ℕ, ◌≡◌, ◌+◌, ◌∙◌, ◌∷◌, ◌++◌, [], true, drop, map, sym, ap, refl, inl, inr, arith}
 use Rattle.std.specs.Prelude.{option_copied}
-use Rattle.std.specs.Option.{option_map_or}
-use Rattle.std.proofs.lemmas.List.{drop_more, drop_all, append-nil, length-append}
+use Rattle.std.proofs.lemmas.List.{drop_more, drop_all, append-nil}
 use Rattle.std.proofs.lemmas.Result.{err_from_is_err_and}
 use Rattle.core_laws.specs.Folds.{Value}
 use Rattle.core_laws.proofs.maps.MapsOfLists.{ascending-apart}
-use Rattle.core_operators.proofs.SharedEntries.{IsReading, read_from, reading-start, reading-next, reading-refused, read_past, more_read, pair_read, pair_refused, unpaired, found_few}
+use Rattle.core_operators.proofs.SharedEntries.{IsReading, reading-start, reading-next, reading-refused, read_past, more_read, pair_read, pair_refused, unpaired, found_few}
 use Rattle.core_operators.proofs.share.shared_by_arriving.Goals as goal
 use Rattle.core_operators.proofs.share.shared_by_arriving.Goals.{else-look_up_each-test, then-look_up_each-test+then-hash-theta}
 

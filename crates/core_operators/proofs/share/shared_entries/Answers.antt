@@ -1,4 +1,4 @@
-use Rattle.std.proofs.Common.{◌≡◌, true, ◌∙◌, sym, arith}
+use Rattle.std.proofs.Common.{◌∙◌, sym, arith}
 use Rattle.core_operators.proofs.Halving.{few_in_all}
 use Rattle.core_operators.proofs.share.shared_entries.Goals as goal
 

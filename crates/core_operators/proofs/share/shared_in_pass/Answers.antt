@@ -1,12 +1,7 @@
-use Rattle.std.proofs.Common.{Option, None, Some, ℕ, List, ◌≡◌, ◌+◌, ◌-◌, ◌<◌, ◌≤◌, ◌∙◌, ◌∷◌, ◌++◌, [], cond, leb, eqb, length, take, drop, sym, refl, inl, inr, arith}
-use Rattle.std.specs.Prelude.{option_map}
-use Rattle.std.specs.Option.{option_map_or}
-use Rattle.std.specs.List.{slice_get}
-use Rattle.std.proofs.lemmas.Bool.Decides.{nat_tests}
-use Rattle.std.proofs.lemmas.List.{length-drop, length-append}
+use Rattle.std.proofs.Common.{inl, inr, arith}
 use Rattle.std.proofs.lemmas.Result.{err_from_is_err_and}
 use Rattle.core_operators.proofs.ReadPast.{behind, some_first, no_first, counted_few}
-use Rattle.core_operators.proofs.SharedEntries.{IsSharing, fewer_than, sharing-start, shared_on, refused_on, shared_end, end_arriving, end_retained, end_past}
+use Rattle.core_operators.proofs.SharedEntries.{fewer_than, sharing-start, shared_on, refused_on, shared_end, end_arriving, end_retained, end_past}
 use Rattle.core_operators.proofs.share.shared_in_pass.Goals as goal
 use Rattle.core_operators.proofs.share.shared_in_pass.Goals.{in_default, in-Some+in_default-first, in-Some+in-Some-first+then-hash-theta}
 
