@@ -27,6 +27,9 @@ use std::alloc::{AllocError, Allocator};
 /// lesser theta is `MAX_THETA`, the result is empty. The result is ordered if `ordered` is true or `a` is ordered, if
 /// it is empty, or if it has one entry at the greatest theta.
 ///
+/// An input that isn't known to be ordered is copied and sorted. Then both are read side by side: whatever the hashes
+/// are, this compares at most as many pairs of hashes as both have.
+///
 /// Refused with `InvalidArgument` if `a` isn't empty and it, or a `b` that isn't empty, has another seed hash than
 /// `seed_hash`, and with `OutOfMemory`. The inputs don't change.
 pub fn compute<S: EntrySketch, T: KeySketch, A: Allocator + Clone>(

@@ -39,8 +39,7 @@ where
     Ok(entries)
 }
 
-/// Combines two entries of one hash by the policy, the retained one first; `None` if their hashes, `known` and `hash`,
-/// differ.
+/// Combines two entries of one hash by the policy, the retained one first; `None` if `same_hash` is false.
 fn shared_entry<E: SketchEntry + Clone, P: IntersectionMergePolicy<E>>(
     existing: &E,
     incoming: &E,
