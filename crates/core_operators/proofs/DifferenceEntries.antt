@@ -1,6 +1,6 @@
 -- Differences of listings, and the states of the kept entries.
-use Rattle.std.proofs.Common.{◌+◌, inl, inr, take, drop, set, ◌≡◌, ℕ, suc, ◌<◌, ◌≤◌, ◌≢◌, ◌^◌, Bool, true, false, cond, ltb, leb, is_none, min, Result, Ok, Err, IfOk, IfErr, is_err, List, [], ◌∷◌, ◌++◌, length, map, Option, Some, None, refl, sym, ap, ◌∙◌, arith}
-use Rattle.std.specs.Prelude.{◌&&◌, ◌==◌, option_map}
+use Rattle.std.proofs.Common.{◌+◌, inl, inr, take, drop, set, ◌≡◌, ℕ, suc, ◌<◌, ◌≤◌, ◌≢◌, ◌^◌, Bool, true, false, cond, ltb, leb, is_none, is_some, not, min, List, [], ◌∷◌, ◌++◌, length, map, Option, Some, None, refl, sym, ap, ◌∙◌, arith}
+use Rattle.std.specs.Prelude.{◌&&◌, ◌==◌, if◌then◌else◌, option_map}
 use Rattle.core_laws.proofs.maps.MappedEntries.{entry_at-map}
 use Rattle.std.specs.List.{filter, slice_get, AllByRecursion, AllPairs}
 use Rattle.std.proofs.lemmas.Bool.{cases_lt}
@@ -9,11 +9,10 @@ use Rattle.std.proofs.lemmas.List.{length-map, map-id, map-append, append_assoc,
 use Rattle.std.proofs.lemmas.List.Sorted.{length_permutation}
 use Rattle.core_compact.specs.CompactState.{Compact, IsCompactOf, IsAnswer, shown_of, empty_compact, is_answer_ordered}
 use Rattle.core_laws.specs.Maps.{IsAscending, IsApart, below, entry_at, map_of}
-use Rattle.core_laws.specs.Places.{IsAt, IsGapFor}
-use Rattle.core_laws.proofs.maps.Insertions.{entry_at_place, entry_at_gap}
 use Rattle.core_laws.specs.Entries.{hash_key}
 use Rattle.core_laws.specs.Operators.{lacking, minus, unless_nothing}
 use Rattle.core_laws.specs.Shown.{Shown, IsShown, shown_value}
+use Rattle.core_laws.specs.Values.{Empty, NonEmpty}
 use Rattle.core_laws.specs.declared.TheConstants.{MAX_THETA}
 use Rattle.core_laws.proofs.maps.Ascending.{each-filter, each-weaker, each-passes, ascending-head, ascending-tail, ascending-nil, ascending-cons, ascending-filter}
 use Rattle.core_laws.proofs.operators.CommonMaps.{filter-and, filter-agree, lacking-nil}
@@ -94,7 +93,7 @@ module _ {X : Type 0} (key : X → ℕ) (theta seed_hash : ℕ) where
       rw (map_of-ascending key (map_of key xs) (ascending-map_of key xs)) at (compact_known (map_of key xs) true sound)
 
 module _ {X : Type 0} where
-  fewer : (p : X → Bool) (xs : List X) → length (filter p xs) ≤ length xs
+  pub fewer : (p : X → Bool) (xs : List X) → length (filter p xs) ≤ length xs
   fewer p [] = omega arith
   fewer p (x ∷ xs) = elim (p x) as (λ b. length (cond b (x ∷ filter p xs) (filter p xs)) ≤ suc (length xs)) [ true ↦ omega (arith, fewer p xs) | false ↦ omega (arith, fewer p xs) ]
 
@@ -173,22 +172,36 @@ module _ {X : Type 0} (key : X → ℕ) where
     greatest = λ e. absurd (cc);
   }
 
-  -- one entry more: kept, or skipped
-  kept_step : (x : X) (left : List X) (hs : List ℕ) (theta : ℕ) (b : Bool) → (ltb (key x) theta && is_none (entry_at hash_key hs (key x))) ≡ b → kept_of (x ∷ left) hs theta ≡ cond b (x ∷ kept_of left hs theta) (kept_of left hs theta)
-  kept_step x left hs theta b =
-      elim (ltb (key x) theta) as (λ t. (t && is_none (entry_at hash_key hs (key x))) ≡ b → lacking key hash_key (cond t (x ∷ below key left theta) (below key left theta)) hs ≡ cond b (x ∷ kept_of left hs theta) (kept_of left hs theta)) [
-        | true ↦ λ e. ap (λ c. cond c (x ∷ kept_of left hs theta) (kept_of left hs theta)) e
-        | false ↦ λ e. ap (λ c. cond c (x ∷ kept_of left hs theta) (kept_of left hs theta)) e
-      ]
+  -- the map of the entries below theta
+  pub map_of_below : (xs : List X) (theta : ℕ) → map_of key (below key xs theta) ≡ below key (map_of key xs) theta
+  map_of_below xs theta =
+      same_map key _ _ (ascending-map_of key (below key xs theta)) (ascending-filter key _ _ (ascending-map_of key xs))
+      (λ q.
+      entry_at-map_of key (below key xs theta) q
+      ∙ entry_at-below key xs theta q
+      ∙ ap (λ o. cond (ltb q theta) o None) (sym (entry_at-map_of key xs q))
+      ∙ sym (entry_at-below key (map_of key xs) theta q))
 
-  pub kept_more : (done : List X) (x : X) (left : List X) (hs : List ℕ) (theta : ℕ) → (ltb (key x) theta && is_none (entry_at hash_key hs (key x))) ≡ true → (done ++ x ∷ []) ++ kept_of left hs theta ≡ done ++ kept_of (x ∷ left) hs theta
-  kept_more done x left hs theta e = append_assoc done (x ∷ []) (kept_of left hs theta) ∙ ap (λ zs. done ++ zs) (sym (kept_step x left hs theta true e))
+  -- what is below theta is below it again
+  pub below_twice : (xs : List X) (theta : ℕ) → below key (below key xs theta) theta ≡ below key xs theta
+  below_twice xs theta = below_all key (below key xs theta) theta (each-passes (λ x. key x < theta) (λ x. ltb (key x) theta) (λ x e. grind (arith, nat_tests)) xs)
 
-  pub kept_same : (done : List X) (x : X) (left : List X) (hs : List ℕ) (theta : ℕ) → (ltb (key x) theta && is_none (entry_at hash_key hs (key x))) ≡ false → done ++ kept_of left hs theta ≡ done ++ kept_of (x ∷ left) hs theta
-  kept_same done x left hs theta e = ap (λ zs. done ++ zs) (sym (kept_step x left hs theta false e))
-
-  pub kept_stops : (x : X) (left : List X) (hs : List ℕ) (theta : ℕ) → IsAscending key (x ∷ left) → theta ≤ key x → kept_of (x ∷ left) hs theta ≡ []
-  kept_stops x left hs theta up le = ap (λ ys. lacking key hash_key ys hs) (stops x left theta up le)
+  -- a state of the kept entries in ascending order meets the laws of a sketch, and may be known to be ordered
+  pub shown_ascending : (a : Shown) (listing : List X) (hs : List ℕ) (theta seed_hash : ℕ) (ordered : Bool) → IsShown a → map key listing ≡ a.hashes → 0 < theta → theta ≤ a.theta → IsShown (shown_of key (listed key theta seed_hash (kept_of (map_of key listing) hs theta) ordered))
+  shown_ascending a listing hs theta seed_hash ordered shown hashes low high =
+      let whole = map_of key listing in
+      let count : length whole ≡ length listing = count_sorted key theta seed_hash listing (apart-distinct key listing (rw hashes shown.distinct)) in
+      let once = fewer (λ x. ltb (key x) theta) whole in
+      let twice = fewer (λ x. is_none (entry_at hash_key hs (key x))) (below key whole theta) in
+      IsShown-retained key (record { entries = kept_of whole hs theta; theta = theta }) seed_hash ordered
+      (record {
+        ascending = ascending-filter key _ _ (ascending-filter key _ whole (ascending-map_of key listing));
+        nonzero = each-filter _ _ _ (each-filter _ _ whole (each-map_of key (λ x. 0 < key x) listing (each-from_map key (λ h. 0 < h) listing (rw hashes shown.nonzero))));
+        below_theta = each-filter _ _ _ (each-passes (λ x. key x < theta) (λ x. ltb (key x) theta) (λ x e. grind (arith, nat_tests)) whole);
+        theta_low = low;
+        theta_high = omega (arith, high, shown.theta_high);
+      })
+      (omega (arith, count, once, twice, length-map listing key, ap length hashes, shown.limited))
 
 -- hashes alone
 pub apart_hashes : (hs : List ℕ) → AllPairs (λ x y. x ≢ y) hs → IsApart hash_key hs
@@ -197,18 +210,23 @@ apart_hashes hs distinct = apart-distinct hash_key hs (rw (map-id hs) distinct)
 pub below_apart : (hs : List ℕ) (theta : ℕ) → AllPairs (λ x y. x ≢ y) hs → IsApart hash_key (below hash_key hs theta)
 below_apart hs theta distinct = apart-filter hash_key _ hs (apart_hashes hs distinct)
 
-pub below_few : (hs : List ℕ) (theta n : ℕ) → length hs < n → length (below hash_key hs theta) < n
-below_few hs theta n limited = omega (arith, fewer (λ h. ltb h theta) hs, limited)
-
 pub below_more : (done : List ℕ) (h : ℕ) (left : List ℕ) (theta : ℕ) → h < theta → (done ++ h ∷ []) ++ below hash_key left theta ≡ done ++ below hash_key (h ∷ left) theta
 below_more done h left theta lt =
     let e : ltb h theta ≡ true = grind (arith, nat_tests) in
     rw e (append_assoc done (h ∷ []) (below hash_key left theta))
 
--- a search in ascending hashes fails exactly if the hash is not among them
-pub search_tells : (hs : List ℕ) (h : ℕ) (r : Result ℕ ℕ) → IsAscending hash_key hs → IfOk r (IsAt hash_key hs h) → IfErr r (IsGapFor hash_key hs h) → is_err r ≡ is_none (entry_at hash_key hs h)
-search_tells hs h (Ok at) up found absent = ap is_none (sym (entry_at_place hash_key hs h at 0 up found))
-search_tells hs h (Err at) up found absent = ap is_none (sym (entry_at_gap hash_key hs h at absent))
+-- at most as many ascending hashes as a sketch has
+pub few_hashes : (hs : List ℕ) (theta : ℕ) → AllPairs (λ x y. x ≢ y) hs → length (map_of hash_key (below hash_key hs theta)) ≤ length hs
+few_hashes hs theta distinct = omega (arith, count_sorted hash_key 1 0 (below hash_key hs theta) (below_apart hs theta distinct), fewer (λ h. ltb h theta) hs)
+
+-- a search that found nothing, and one that found something
+pub unfound : {R Y : Type 0} (at : R → Y) (r : Option R) (b : Bool) → is_some r ≡ not b → b ≡ true → (o : Option Y) → option_map at r ≡ o → o ≡ None
+unfound at None b tested e o is = sym is
+unfound at (Some r) b tested e o is = absurd (let f : true ≡ not true = rw e at tested in cc)
+
+pub was_found : {R Y : Type 0} (at : R → Y) (r : Option R) (b : Bool) → is_some r ≡ not b → b ≡ false → (o : Option Y) → option_map at r ≡ o → is_none o ≡ false
+was_found at None b tested e o is = absurd (let f : false ≡ not false = rw e at tested in cc)
+was_found at (Some r) b tested e o is = ap is_none (sym is)
 
 module _ {X Y : Type 0} (key : X → ℕ) (other : Y → ℕ) (theta : ℕ) where
   none_mapped : (o : Option Y) → is_none o ≡ is_none (option_map other o)
@@ -335,6 +353,16 @@ module _ {X Y : Type 0} (key : X → ℕ) (other : Y → ℕ) (theta : ℕ) wher
       let none : below key (z ∷ left) theta ≡ [] = stops key z left theta up (rw z_is le) in
       ap (λ xs. lacking key other xs others) none ∙ sym none
 
+  -- one entry more, which is kept if no other has its hash
+  pub kept_on : (kept : List X) (x : X) (left : List X) (others : List Y) (hash : ℕ) → hash ≡ key x → hash < theta → entry_at other others hash ≡ None → (kept ++ x ∷ []) ++ to_keep left others ≡ kept ++ to_keep (x ∷ left) others
+  kept_on kept x left others hash is lt absent = append_assoc kept (x ∷ []) (to_keep left others) ∙ ap (λ zs. kept ++ zs) (sym (kept_first x left others (rw (← is) lt) (ap (λ (h : ℕ). entry_at other others h) (sym is) ∙ absent)))
+
+  pub dropped_on : (kept : List X) (x : X) (left : List X) (others : List Y) (hash : ℕ) → hash ≡ key x → hash < theta → is_none (entry_at other others hash) ≡ false → kept ++ to_keep left others ≡ kept ++ to_keep (x ∷ left) others
+  dropped_on kept x left others hash is lt there = ap (λ zs. kept ++ zs) (sym (left_first x left others (rw (← is) lt) (ap (λ (h : ℕ). is_none (entry_at other others h)) (sym is) ∙ there)))
+
+  pub keeps_stop : (x : X) (left : List X) (others : List Y) → IsAscending key (x ∷ left) → theta ≤ key x → to_keep (x ∷ left) others ≡ []
+  keeps_stop x left others up le = ap (λ xs. lacking key other xs others) (stops key x left theta up le)
+
   -- the others may be replaced by their hashes
   pub kept_of_hashes : (left : List X) (others : List Y) → to_keep left others ≡ lacking key hash_key (below key left theta) (map other others)
   kept_of_hashes left others = filter-agree (λ x. is_none (entry_at other others (key x))) (λ x. is_none (entry_at hash_key (map other others) (key x))) (below key left theta) (λ x.
@@ -358,14 +386,28 @@ module _ {X : Type 0} (key : X → ℕ) where
   answer_nothing a b listing hs theta seed_hash requested first second theta_is each nothing =
       rw (minus_value a b listing hs theta first second theta_is, count_sorted key theta seed_hash (kept_of key listing hs theta) each, nothing) refl
 
+  -- the same of the entries kept in ascending order
+  again : (a : Shown) (listing : List X) → shown_value key a (map_of key listing) ≡ shown_value key a listing
+  again a listing = ap (λ zs. if◌then◌else◌ a.empty Empty (NonEmpty (record { entries = zs; theta = a.theta }))) (map_of-ascending key (map_of key listing) (ascending-map_of key listing))
+
+  pub answer_kept_sorted : (a b : Shown) (listing : List X) (hs : List ℕ) (theta seed_hash : ℕ) (requested : Bool) (s : Compact X) → a.empty ≡ false → b.empty ≡ false → theta ≡ min a.theta b.theta → IsApart key (kept_of key (map_of key listing) hs theta) →
+      (length (kept_of key (map_of key listing) hs theta) == 0 && theta == MAX_THETA) ≡ false → IsCompactOf key (record { entries = map_of key (kept_of key (map_of key listing) hs theta); theta = theta }) seed_hash requested s → IsAnswer key (minus key hash_key (shown_value key a listing) (shown_value hash_key b hs)) seed_hash requested s
+  answer_kept_sorted a b listing hs theta seed_hash requested s first second theta_is each some is =
+      rw (again a listing) at (answer_kept a b (map_of key listing) hs theta seed_hash requested s first second theta_is each some is)
+
+  pub answer_nothing_sorted : (a b : Shown) (listing : List X) (hs : List ℕ) (theta seed_hash : ℕ) (requested : Bool) → a.empty ≡ false → b.empty ≡ false → theta ≡ min a.theta b.theta → IsApart key (kept_of key (map_of key listing) hs theta) →
+      (length (kept_of key (map_of key listing) hs theta) == 0 && theta == MAX_THETA) ≡ true → IsAnswer key (minus key hash_key (shown_value key a listing) (shown_value hash_key b hs)) seed_hash requested (empty_compact seed_hash)
+  answer_nothing_sorted a b listing hs theta seed_hash requested first second theta_is each nothing =
+      rw (again a listing) at (answer_nothing a b (map_of key listing) hs theta seed_hash requested first second theta_is each nothing)
+
   pub answer_all : (a b : Shown) (listing : List X) (hs : List ℕ) (seed_hash : ℕ) (requested : Bool) (s : Compact X) → a.empty ≡ false → b.empty ≡ true → IsShown a → map key listing ≡ a.hashes →
       IsCompactOf key (record { entries = map_of key (kept_of key listing [] a.theta); theta = a.theta }) seed_hash requested s → IsAnswer key (minus key hash_key (shown_value key a listing) (shown_value hash_key b hs)) seed_hash requested s
   answer_all a b listing hs seed_hash requested s first second shown hashes is =
       rw (first, second) (rw (kept_all key listing a.theta (each-from_map key (λ h. h < a.theta) listing (rw hashes shown.below_theta))) at is)
 
-  pub shown_below : (a b : Shown) (listing : List X) (hs : List ℕ) (theta seed_hash : ℕ) → IsShown a → IsShown b → map key listing ≡ a.hashes → theta ≡ min a.theta b.theta → IsShown (shown_of key (listed key theta seed_hash (kept_of key listing hs theta) a.ordered))
-  shown_below a b listing hs theta seed_hash shown_a shown_b hashes theta_is =
-      shown_kept key a listing hs theta seed_hash shown_a hashes (omega (arith, theta_is, shown_a.theta_low, shown_b.theta_low)) (omega (arith, theta_is))
+  pub shown_below : (a b : Shown) (listing : List X) (hs : List ℕ) (theta seed_hash : ℕ) (ordered : Bool) → IsShown a → IsShown b → map key listing ≡ a.hashes → theta ≡ min a.theta b.theta → IsShown (shown_of key (listed key theta seed_hash (kept_of key (map_of key listing) hs theta) ordered))
+  shown_below a b listing hs theta seed_hash ordered shown_a shown_b hashes theta_is =
+      shown_ascending key a listing hs theta seed_hash ordered shown_a hashes (omega (arith, theta_is, shown_a.theta_low, shown_b.theta_low)) (omega (arith, theta_is))
 
 pub lesser : (theta first second : ℕ) (a b : Shown) → theta ≡ min first second → a.theta ≡ first → b.theta ≡ second → theta ≡ min a.theta b.theta
 lesser theta first second a b is first_is second_is = rw (first_is, second_is) is

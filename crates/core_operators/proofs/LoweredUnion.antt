@@ -1,10 +1,10 @@
 -- A union that is lowered to fewer nominal entries.
-use Rattle.std.proofs.Common.{◌≡◌, ℕ, ◌<◌, ◌≤◌, ◌^◌, Bool, true, false, cond, eqb, List, [], refl, sym, ap, ◌∙◌, subst, arith}
+use Rattle.std.proofs.Common.{◌≡◌, ℕ, ◌≤◌, ◌^◌, Bool, true, false, cond, eqb, List, [], refl, sym, ap, ◌∙◌, subst, arith}
 use Rattle.std.proofs.lemmas.Bool.Decides.{nat_tests}
 use Rattle.std.proofs.Math.Pow.{pow_mono}
 use Rattle.core_laws.specs.declared.TheConstants.{MIN_LG_K}
 use Rattle.core_laws.specs.Maps.{IsAscending, below}
-use Rattle.core_laws.specs.Cuts.{Retained, retained, cut, none_below, IsRetained}
+use Rattle.core_laws.specs.Cuts.{Retained, retained, cut, IsRetained}
 use Rattle.core_laws.specs.Values.{Empty, NonEmpty, cut_value}
 use Rattle.core_table.specs.HashTable.{MapTable}
 use Rattle.core_operators.specs.Union.{Union, union_value, lowered, IsUnion, IsUnionBelow}

@@ -16,17 +16,22 @@ use Rattle.core_laws.specs.Folds.{Fold, Value, fold_key, fold_merges, unmarked, 
 use Rattle.core_laws.proofs.maps.Ascending.{ascending-nil}
 use Rattle.core_table.proofs.FilledTables.{none_left}
 
+pub not_begun : (o : Outcome) → is_begun o ≡ false → o ≡ Unbegun
+not_begun Unbegun e = refl
+not_begun Nothing e = absurd (cc)
+not_begun Held e = absurd (cc)
+
 module _ {X : Type 0} where
-  none_retained : (key : X → ℕ) → IsRetained key (none_below MAX_THETA)
+  pub none_retained : (key : X → ℕ) → IsRetained key (none_below MAX_THETA)
   none_retained key = record { ascending = ascending-nil key; nonzero = tt; below_theta = tt; theta_low = omega arith; theta_high = omega arith }
 
-  -- the value of an outcome that is begun and isn't Empty is the table's
+  -- the value of an outcome that is begun and isn't Empty is what is retained
   pub held_value : (o : Outcome) (v : Retained X) → is_settled_outcome o ≡ false → is_begun o ≡ true → outcome_value o v ≡ Some (NonEmpty v)
   held_value Unbegun v a b = absurd (cc)
   held_value Nothing v a b = absurd (cc)
   held_value Held v a b = refl
 
-  -- the laws of retained entries hold for an intersection's value if they hold for its table
+  -- the laws of retained entries hold for an intersection's value if they hold for what it keeps
   pub held_retained : (key : X → ℕ) (o : Outcome) (v : Retained X) → IsRetained key v → IsRetained key (content_of (outcome_value o v))
   held_retained key Unbegun v kept = none_retained key
   held_retained key Nothing v kept = none_retained key

@@ -1,20 +1,27 @@
 -- The entries that a table and a listing share.
-use Rattle.std.proofs.Common.{◌≡◌, ℕ, ◌<◌, ◌≤◌, ◌≢◌, Bool, true, false, cond, ltb, eqb, List, [], ◌∷◌, ◌++◌, map, length, min, Option, Some, None, refl, sym, ap, ◌∙◌, subst, arith}
-use Rattle.std.specs.List.{AllByRecursion}
+use Rattle.std.proofs.Common.{◌≡◌, ℕ, ◌<◌, ◌≤◌, ◌≢◌, ◌^◌, ◌+◌, Bool, true, false, cond, ltb, leb, eqb, List, [], ◌∷◌, ◌++◌, map, length, drop, min, Option, Some, None, inl, inr, refl, sym, ap, ◌∙◌, subst, arith}
+use Rattle.std.specs.List.{AllByRecursion, slice_get}
 use Rattle.std.specs.Option.{option_map, option_map_or}
+use Rattle.std.proofs.lemmas.Bool.{cases_lt}
 use Rattle.std.proofs.lemmas.Bool.Decides.{nat_tests}
-use Rattle.std.proofs.lemmas.List.{length-map, append_assoc}
+use Rattle.std.specs.Prelude.{IfSome}
+use Rattle.std.proofs.lemmas.List.{length-map, length-append, append_assoc, append-nil}
 use Rattle.core_laws.specs.Maps.{IsAscending, IsApart, below, entry_at, with_entry, map_of}
-use Rattle.core_laws.specs.Cuts.{Retained}
+use Rattle.core_laws.specs.Cuts.{Retained, IsRetained}
+use Rattle.core_laws.specs.Shown.{Shown, IsShown}
 use Rattle.core_laws.specs.Operators.{common, shared, both}
 use Rattle.core_laws.specs.Folds.{Fold, Value, Refused, fold_key, fold_merges, unmarked}
 use Rattle.core_operators.specs.Union.{IsMergeRefused}
+use Rattle.core_operators.specs.Intersection.{IsSharedFold, IsSharedPair, IsRefusedPair}
 use Rattle.core_laws.proofs.maps.MappedEntries.{map-append, below-map, entry_at-map, with_entry-map}
-use Rattle.core_laws.proofs.maps.Ascending.{ascending-filter, ascending-tail, ascending-head, each-weaker}
-use Rattle.core_laws.proofs.operators.CommonMaps.{entry_at-common, each-common, ascending-common}
-use Rattle.core_laws.proofs.maps.LookUps.{entry_at-below, entry_at_head, entry_at_rest, same_map}
+use Rattle.core_laws.proofs.maps.Ascending.{ascending-filter, ascending-tail, ascending-head, ascending-nil, ascending-cons, each-weaker}
+use Rattle.core_laws.proofs.operators.CommonMaps.{entry_at-common, each-common, ascending-common, common-nil}
+use Rattle.core_laws.proofs.maps.LookUps.{entry_at-below, entry_at_head, entry_at_rest, past, same_map}
 use Rattle.core_laws.proofs.insertions.Unmarked.{fold_keeps, ascending-marked, each-marked}
-use Rattle.core_laws.proofs.maps.MapsOfLists.{entry_at-map_of, ascending-map_of}
+use Rattle.core_laws.proofs.maps.MapsOfLists.{entry_at-map_of, ascending-map_of, ascending-apart, apart-distinct, each-from_map}
+use Rattle.core_laws.proofs.cuts.Cuts.{below_all}
+use Rattle.core_table.proofs.OtherOrders.{map_of-ascending, each-map_of}
+use Rattle.core_operators.proofs.DifferenceEntries.{count_sorted, fewer, stops}
 use Rattle.core_laws.proofs.cuts.WithinWholeMaps.{found_key}
 use Rattle.core_laws.specs.Entries.{KeepsKey}
 
@@ -254,3 +261,335 @@ module _ {X : Type 0} (key : X → ℕ) (merges : X → X → X) (refuses : X �
       ap (λ ys. ys ++ read_from key merges refuses left content t) (map-append Value items (z ∷ []))
       ∙ append_assoc (map Value items) (Value z ∷ []) (read_from key merges refuses left content t)
       ∙ ap (λ ys. map Value items ++ ys) (sym (read_some left content x z t is)) ∙ so_far
+
+-- an entry that was found is one more, and took a comparison
+pub fewer_than : {X : Type 0} (entries : List X) (o : Option X) → length (option_map_or (λ z. entries ++ z ∷ []) o entries) ≤ length entries + 1
+fewer_than entries None = omega arith
+fewer_than entries (Some z) = omega (arith, length-append entries (z ∷ []))
+
+pub found_few : {X R : Type 0} (items : List X) (o : Option X) (r : Option R) (before now next : ℕ) → (r ≡ None → o ≡ None) → IfSome r (λ _. now < next) → now ≤ next → before + length items ≤ now → before + length (option_map_or (λ z. items ++ z ∷ []) o items) ≤ next
+found_few items o None before now next none looked grows was = rw (none refl) (omega (arith, was, grows))
+found_few items o (Some r) before now next none looked grows was = omega (arith, fewer_than items o, was, looked)
+
+module _ {X : Type 0} (key : X → ℕ) (merges : X → X → X) where
+  -- a retained entry whose key is less than all others makes no difference
+  pub common_lesser : (y : X) (ys xs : List X) → AllByRecursion (λ x. key y < key x) xs → common key merges xs (y ∷ ys) ≡ common key merges xs ys
+  common_lesser y ys [] all = refl
+  common_lesser y ys (x ∷ xs) all =
+      let differs : key y ≢ key x = λ same. absurd (omega (arith, same, all.0)) in
+      let seen : entry_at key (y ∷ ys) (key x) ≡ entry_at key ys (key x) = entry_at_rest key y ys (key x) differs in
+      let on = common_lesser y ys xs all.1 in
+      (elim (entry_at key ys (key x)) as (λ o. entry_at key ys (key x) ≡ o → common key merges (x ∷ xs) (y ∷ ys) ≡ common key merges (x ∷ xs) ys) [
+        | Some z ↦ λ e. rw (seen, e) (ap (λ zs. merges x z ∷ zs) on)
+        | None ↦ λ e. rw (seen, e) on
+      ]) refl
+
+  -- entries in front of which the same is shared share the same with one more
+  common_behind : (x : X) (xs zs ys : List X) → common key merges xs ys ≡ common key merges zs ys → common key merges (x ∷ xs) ys ≡ common key merges (x ∷ zs) ys
+  common_behind x xs zs ys same =
+      (elim (entry_at key ys (key x)) as (λ o. entry_at key ys (key x) ≡ o → common key merges (x ∷ xs) ys ≡ common key merges (x ∷ zs) ys) [
+        | Some z ↦ λ e. rw e (ap (λ us. merges x z ∷ us) same)
+        | None ↦ λ e. rw e same
+      ]) refl
+
+module _ {X : Type 0} (key : X → ℕ) where
+  pub ascending-unmarked : (xs : List X) → IsAscending (fold_key key) (map Value xs) → IsAscending key xs
+  ascending-unmarked [] up = ascending-nil key
+  ascending-unmarked (x ∷ xs) up =
+      ascending-cons key x xs (each-unmarked key (λ h. key x < h) xs (ascending-head (fold_key key) (Value x) (map Value xs) up)) (ascending-unmarked xs (ascending-tail (fold_key key) (Value x) (map Value xs) up))
+
+module _ {X : Type 0} (key : X → ℕ) (merges : X → X → X) (refuses : X → X → Bool) (keeps : KeepsKey key merges) where
+  -- a retained entry that is less than all arriving ones shares nothing
+  read_lesser : (y : X) (ys xs : List X) (t : ℕ) → AllByRecursion (λ x. key y < key x) xs → read_from key merges refuses xs (y ∷ ys) t ≡ read_from key merges refuses xs ys t
+  read_lesser y ys xs t all =
+      let fk = fold_key key in
+      let m = turned_round (fold_merges key merges refuses) in
+      elim (ltb (key y) t) as (λ b. common fk m (map Value xs) (map Value (cond b (y ∷ below key ys t) (below key ys t))) ≡ read_from key merges refuses xs ys t) [
+        | true ↦ common_lesser fk m (Value y) (map Value (below key ys t)) (map Value xs) (each-marked key (λ h. key y < h) xs all)
+        | false ↦ refl
+      ]
+
+  -- arriving entries that are not below a theta share nothing below it
+  pub read_below : (xs content : List X) (t : ℕ) → read_from key merges refuses (below key xs t) content t ≡ read_from key merges refuses xs content t
+  read_below [] content t = refl
+  read_below (x ∷ xs) content t =
+      let fk = fold_key key in
+      let m = turned_round (fold_merges key merges refuses) in
+      let on = read_below xs content t in
+      (elim (ltb (key x) t) as (λ b. ltb (key x) t ≡ b → read_from key merges refuses (cond b (x ∷ below key xs t) (below key xs t)) content t ≡ read_from key merges refuses (x ∷ xs) content t) [
+        | true ↦ λ e. common_behind fk m (Value x) (map Value (below key xs t)) (map Value xs) (map Value (below key content t)) on
+        | false ↦ λ e. on ∙ sym (read_none key merges refuses keeps xs content x t (one_past key merges refuses content t x (grind (arith, nat_tests))))
+      ]) refl
+
+  -- two ascending lists are read side by side: the entries shared so far, then those that the rest of both share, are
+  -- all that they share
+  pub record IsSharing (content left arriving right : List X) (t : ℕ) (entries : List X) : Type 0 where
+    pub rest : map Value entries ++ read_from key merges refuses right left t ≡ read_from key merges refuses arriving content t
+    pub retained : IsReading key content left true
+    pub incoming : IsReading key arriving right true
+
+  pub sharing-start : (content arriving : List X) (t : ℕ) → IsAscending key content → IsAscending key arriving → IsSharing content content arriving arriving t []
+  sharing-start content arriving t up arriving_up = record {
+    rest = refl;
+    retained = reading-start key content true (ascending-apart key content up) (λ _. up);
+    incoming = reading-start key arriving true (ascending-apart key arriving arriving_up) (λ _. arriving_up);
+  }
+
+  module _ (content arriving : List X) (y : X) (left : List X) (x : X) (right : List X) (t : ℕ) (entries : List X) (lt : key x < t) (was : IsSharing content (y ∷ left) arriving (x ∷ right) t entries) where
+    left_up : IsAscending key (y ∷ left)
+    left_up = was.retained.in_order refl
+
+    right_up : IsAscending key (x ∷ right)
+    right_up = was.incoming.in_order refl
+
+    shared_less : key x < key y → IsSharing content (y ∷ left) arriving right t entries
+    shared_less less =
+        let absent : entry_at key (y ∷ left) (key x) ≡ None = past key y left (key x) left_up less in
+        record {
+          rest = ap (λ us. map Value entries ++ us) (sym (read_none key merges refuses keeps right (y ∷ left) x t (one_absent key merges refuses (y ∷ left) t x lt absent))) ∙ was.rest;
+          retained = was.retained;
+          incoming = reading-next key arriving right x true was.incoming;
+        }
+
+    shared_greater : key y < key x → IsSharing content left arriving (x ∷ right) t entries
+    shared_greater greater =
+        let all : AllByRecursion (λ z. key y < key z) (x ∷ right) = (greater, each-weaker (λ z. key x < key z) (λ z. key y < key z) (λ z after. omega (arith, greater, after)) right (ascending-head key x right right_up)) in
+        record {
+          rest = ap (λ us. map Value entries ++ us) (sym (read_lesser y left (x ∷ right) t all)) ∙ was.rest;
+          retained = reading-next key content left y true was.retained;
+          incoming = was.incoming;
+        }
+
+    shared_same : (o : Option X) → key x ≡ key y → option_map Value o ≡ Some (fold_merges key merges refuses (Value y) (Value x)) → IsSharing content left arriving right t (option_map_or (λ z. entries ++ z ∷ []) o entries)
+    shared_same o same folded =
+        let there : entry_at key (y ∷ left) (key x) ≡ Some y = entry_at_head key y left (key x) (sym same) in
+        let is : option_map Value o ≡ read_one key merges refuses (y ∷ left) t x = folded ∙ sym (ap (option_map (λ w. fold_merges key merges refuses (Value w) (Value x))) (one_low key merges refuses (y ∷ left) t x lt ∙ there)) in
+        let later : AllByRecursion (λ z. key y < key z) right = each-weaker (λ z. key x < key z) (λ z. key y < key z) (λ z after. omega (arith, same, after)) right (ascending-head key x right right_up) in
+        record {
+          rest = ap (λ us. map Value (option_map_or (λ z. entries ++ z ∷ []) o entries) ++ us) (sym (read_lesser y left right t later)) ∙ more_read key merges refuses keeps entries right (y ∷ left) x t o (read_from key merges refuses arriving content t) is was.rest;
+          retained = reading-next key content left y true was.retained;
+          incoming = reading-next key arriving right x true was.incoming;
+        }
+
+    -- a refused pair is one of both lists
+    shared_refused : key x ≡ key y → refuses y x ≡ true → IsMergeRefused key refuses (below key content t) arriving
+    shared_refused same refused = record {
+      at = key x;
+      held_entry = y;
+      new_entry = x;
+      is_held = one_low key merges refuses content t x lt ∙ was.retained.among (key x) y (entry_at_head key y left (key x) (sym same));
+      comes = was.incoming.among (key x) x (entry_at_head key x right (key x) refl);
+      refused = refused;
+    }
+
+    no_entry : (o : Option X) → option_map Value o ≡ None → o ≡ None
+    no_entry None e = refl
+    no_entry (Some z) e = absurd (cc)
+
+    -- one comparison more, by numbers alone: a list advances if its first isn't the greater
+    shared_more : (o : Option X) → IsSharedFold key merges refuses y x (eqb (key x) (key y)) o → IsSharing content (drop (cond (leb (key y) (key x)) 1 0) (y ∷ left)) arriving (drop (cond (leb (key x) (key y)) 1 0) (x ∷ right)) t (option_map_or (λ z. entries ++ z ∷ []) o entries)
+    shared_more o folded =
+        elim (cases_lt (key x) (key y)) [
+          | inl less ↦
+              let a : leb (key y) (key x) ≡ false = grind (arith, nat_tests) in
+              let b : leb (key x) (key y) ≡ true = grind (arith, nat_tests) in
+              let c : eqb (key x) (key y) ≡ false = grind (arith, nat_tests) in
+              let none : o ≡ None = no_entry o (rw c at folded) in
+              rw (a, b, none) (shared_less less)
+          | inr no_less ↦ elim (cases_lt (key y) (key x)) [
+            | inl greater ↦
+                let a : leb (key y) (key x) ≡ true = grind (arith, nat_tests) in
+                let b : leb (key x) (key y) ≡ false = grind (arith, nat_tests) in
+                let c : eqb (key x) (key y) ≡ false = grind (arith, nat_tests) in
+                let none : o ≡ None = no_entry o (rw c at folded) in
+                rw (a, b, none) (shared_greater greater)
+            | inr no_greater ↦
+                let a : leb (key y) (key x) ≡ true = grind (arith, nat_tests) in
+                let b : leb (key x) (key y) ≡ true = grind (arith, nat_tests) in
+                let same : key x ≡ key y = omega (arith, no_less, no_greater) in
+                let c : eqb (key x) (key y) ≡ true = grind (arith, nat_tests) in
+                rw (a, b) (shared_same o same (rw c at folded))
+          ]
+        ]
+
+  -- the same, stated by the fronts of both lists and by the numbers that the comparisons return
+  pub shared_on : (content left arriving right : List X) (y x : X) (t : ℕ) (entries : List X) (o : Option X) (hash known passed arriving_passed : ℕ)
+      → Some y ≡ slice_get left 0 → Some x ≡ slice_get right 0 → hash ≡ key x → known ≡ key y → hash < t
+      → passed ≡ cond (leb known hash) 1 0 → arriving_passed ≡ cond (leb hash known) 1 0 → IsSharedFold key merges refuses y x (eqb hash known) o
+      → IsSharing content left arriving right t entries → IsSharing content (drop passed left) arriving (drop arriving_passed right) t (option_map_or (λ z. entries ++ z ∷ []) o entries)
+  shared_on content [] arriving right y x t entries o hash known passed arriving_passed first other_first hash_is known_is lt passed_is arriving_is folded was = absurd (cc)
+  shared_on content (w ∷ left) arriving [] y x t entries o hash known passed arriving_passed first other_first hash_is known_is lt passed_is arriving_is folded was = absurd (cc)
+  shared_on content (w ∷ left) arriving (z ∷ right) y x t entries o hash known passed arriving_passed first other_first hash_is known_is lt passed_is arriving_is folded was =
+      let w_is : w ≡ y = cc in
+      let z_is : z ≡ x = cc in
+      rw (passed_is, arriving_is, hash_is, known_is, w_is, z_is) (shared_more content arriving y left x right t entries (rw (← hash_is) lt) (rw (w_is, z_is) at was) o (rw (hash_is, known_is) at folded))
+
+  pub refused_on : (content left arriving right : List X) (y x : X) (t : ℕ) (entries : List X) (hash known : ℕ)
+      → Some y ≡ slice_get left 0 → Some x ≡ slice_get right 0 → hash ≡ key x → known ≡ key y → hash < t → eqb hash known ≡ true → refuses y x ≡ true
+      → IsSharing content left arriving right t entries → IsMergeRefused key refuses (below key content t) arriving
+  refused_on content [] arriving right y x t entries hash known first other_first hash_is known_is lt same refused was = absurd (cc)
+  refused_on content (w ∷ left) arriving [] y x t entries hash known first other_first hash_is known_is lt same refused was = absurd (cc)
+  refused_on content (w ∷ left) arriving (z ∷ right) y x t entries hash known first other_first hash_is known_is lt same refused was =
+      let w_is : w ≡ y = cc in
+      let z_is : z ≡ x = cc in
+      let alike : key x ≡ key y = sym hash_is ∙ (let e : hash ≡ known = grind (arith, nat_tests) in e) ∙ known_is in
+      shared_refused content arriving y left x right t entries (rw (← hash_is) lt) (rw (w_is, z_is) at was) alike refused
+
+  -- if either list is at its end, or the first arriving entry is not below theta, nothing more is shared
+  pub shared_end : (content left arriving right : List X) (t : ℕ) (entries : List X) → IsSharing content left arriving right t entries → read_from key merges refuses right left t ≡ [] → map Value entries ≡ read_from key merges refuses arriving content t
+  shared_end content left arriving right t entries was none = sym (append-nil (map Value entries)) ∙ ap (λ us. map Value entries ++ us) (sym none) ∙ was.rest
+
+  pub end_arriving : (left right : List X) (t : ℕ) → None ≡ slice_get right 0 → read_from key merges refuses right left t ≡ []
+  end_arriving left [] t none = refl
+  end_arriving left (x ∷ right) t none = absurd (cc)
+
+  pub end_retained : (left right : List X) (t : ℕ) → None ≡ slice_get left 0 → read_from key merges refuses right left t ≡ []
+  end_retained [] right t none = common-nil (fold_key key) (turned_round (fold_merges key merges refuses)) (keeps_turned key merges refuses keeps) (map Value right)
+  end_retained (y ∷ left) right t none = absurd (cc)
+
+  pub end_past : (arriving left right : List X) (x : X) (t : ℕ) → Some x ≡ slice_get right 0 → IsReading key arriving right true → t ≤ key x → read_from key merges refuses right left t ≡ []
+  end_past arriving left [] x t first reading le = refl
+  end_past arriving left (z ∷ right) x t first reading le =
+      let z_is : z ≡ x = cc in
+      read_past key merges refuses keeps arriving right left z t reading (rw z_is le)
+
+  -- an arriving entry is looked up among the retained ones
+  paired : (x : X) (e : Option X) → both (fold_merges key merges refuses) (option_map Value e) (Some (Value x)) ≡ option_map (λ w. fold_merges key merges refuses (Value w) (Value x)) e
+  paired x None = refl
+  paired x (Some y) = refl
+
+  pub pair_read : (content : List X) (x : X) (t hash : ℕ) (e o : Option X) → e ≡ entry_at key content hash → hash ≡ key x → hash < t → IsSharedPair key merges refuses e (Some x) o → option_map Value o ≡ read_one key merges refuses content t x
+  pair_read content x t hash e o is hash_is lt pair =
+      let low : key x < t = rw (← hash_is) lt in
+      let there : e ≡ entry_at key (below key content t) (key x) = is ∙ ap (λ (h : ℕ). entry_at key content h) hash_is ∙ sym (one_low key merges refuses content t x low) in
+      pair ∙ paired x e ∙ ap (option_map (λ w. fold_merges key merges refuses (Value w) (Value x))) there
+
+  pub pair_refused : (content : List X) (x : X) (t hash : ℕ) (e : Option X) → e ≡ entry_at key content hash → hash ≡ key x → hash < t → IsRefusedPair refuses e (Some x) → IsMergeRefused key refuses (below key content t) (x ∷ [])
+  pair_refused content x t hash None is hash_is lt refused = absurd refused
+  pair_refused content x t hash (Some y) is hash_is lt refused = one_refused key merges refuses content t x y (rw (← hash_is) lt) (ap (λ (h : ℕ). entry_at key content h) (sym hash_is) ∙ sym is) refused
+
+  -- without the one entry there is no pair
+  pub unpaired : {R : Type 0} (at : R → X) (r : Option R) (x : X) (o : Option X) → IsSharedPair key merges refuses (option_map at r) (Some x) o → r ≡ None → o ≡ None
+  unpaired at None x o pair e = some_is_none key o pair
+  unpaired at (Some r) x o pair e = absurd (cc)
+
+  pub unmatched : {R : Type 0} (at : R → X) (r : Option R) (y : X) (o : Option X) → IsSharedPair key merges refuses (Some y) (option_map at r) o → r ≡ None → o ≡ None
+  unmatched at None y o pair e = some_is_none key o pair
+  unmatched at (Some r) y o pair e = absurd (cc)
+
+  -- the folds that retained entries below a theta share with arriving ones, in the order of the retained ones
+  abbrev pub held_from : (content arriving : List X) (t : ℕ) → List (Fold X)
+  held_from content arriving t = common (fold_key key) (fold_merges key merges refuses) (map Value (below key content t)) (map Value arriving)
+
+  -- for ascending entries both orders are the same
+  pub held_is_read : (content arriving : List X) (t : ℕ) → IsAscending key content → IsAscending key arriving → held_from content arriving t ≡ read_from key merges refuses arriving content t
+  held_is_read content arriving t up arriving_up =
+      let fk = fold_key key in
+      let fm = fold_merges key merges refuses in
+      let own = map Value (below key content t) in
+      let other = map Value arriving in
+      same_map fk _ _ (ascending-common fk fm (fold_keeps key merges refuses keeps) own other (ascending-marked key (below key content t) (ascending-filter key _ content up))) (ascending-common fk (turned_round fm) (keeps_turned key merges refuses keeps) other own (ascending-marked key arriving arriving_up))
+      (λ q. entry_at-common fk fm (fold_keeps key merges refuses keeps) own other q ∙ sym (both_turned fk fm (fold_keeps key merges refuses keeps) (entry_at fk other q) (entry_at fk own q)) ∙ sym (entry_at-common fk (turned_round fm) (keeps_turned key merges refuses keeps) other own q))
+
+  held_one : (y : X) (ys : List X) (other : List (Fold X)) (u : Option (Fold X)) → option_map (λ v. fold_merges key merges refuses (Value y) v) (entry_at (fold_key key) other (key y)) ≡ u
+      → common (fold_key key) (fold_merges key merges refuses) (Value y ∷ map Value ys) other ≡ option_map_or (λ z. z ∷ common (fold_key key) (fold_merges key merges refuses) (map Value ys) other) u (common (fold_key key) (fold_merges key merges refuses) (map Value ys) other)
+  held_one y ys other None is = rw is refl
+  held_one y ys other (Some z) is = rw is refl
+
+  more_items : (items : List X) (o : Option X) (rest : List (Fold X)) → map Value (option_map_or (λ z. items ++ z ∷ []) o items) ++ rest ≡ map Value items ++ option_map_or (λ z. z ∷ rest) (option_map Value o) rest
+  more_items items None rest = refl
+  more_items items (Some z) rest = ap (λ ys. ys ++ rest) (map-append Value items (z ∷ [])) ∙ append_assoc (map Value items) (Value z ∷ []) rest
+
+  matched : (y : X) (e : Option X) → both (fold_merges key merges refuses) (Some (Value y)) (option_map Value e) ≡ option_map (λ v. fold_merges key merges refuses (Value y) v) (option_map Value e)
+  matched y None = refl
+  matched y (Some x) = refl
+
+  -- one more retained entry is looked up among the arriving ones
+  pub held_more : (items left arriving : List X) (y : X) (t hash : ℕ) (e o : Option X) (all : List (Fold X)) → e ≡ entry_at key arriving hash → hash ≡ key y → hash < t → IsSharedPair key merges refuses (Some y) e o
+      → map Value items ++ held_from (y ∷ left) arriving t ≡ all → map Value (option_map_or (λ z. items ++ z ∷ []) o items) ++ held_from left arriving t ≡ all
+  held_more items left arriving y t hash e o all is hash_is lt pair was =
+      let low : ltb (key y) t ≡ true = grind (arith, nat_tests, hash_is, lt) in
+      let seen : entry_at (fold_key key) (map Value arriving) (key y) ≡ option_map Value e = entry_at-map Value key (fold_key key) (λ z. refl) arriving (key y) ∙ ap (option_map Value) (ap (λ (h : ℕ). entry_at key arriving h) (sym hash_is) ∙ sym is) in
+      let one : option_map (λ v. fold_merges key merges refuses (Value y) v) (entry_at (fold_key key) (map Value arriving) (key y)) ≡ option_map Value o = ap (option_map (λ v. fold_merges key merges refuses (Value y) v)) seen ∙ sym (matched y e) ∙ sym pair in
+      let first : held_from (y ∷ left) arriving t ≡ common (fold_key key) (fold_merges key merges refuses) (Value y ∷ map Value (below key left t)) (map Value arriving) = rw low refl in
+      more_items items o (held_from left arriving t) ∙ ap (λ us. map Value items ++ us) (sym (held_one y (below key left t) (map Value arriving) (option_map Value o) one) ∙ sym first) ∙ was
+
+  pub held_past : (y : X) (left arriving : List X) (t : ℕ) → IsAscending key (y ∷ left) → t ≤ key y → held_from (y ∷ left) arriving t ≡ []
+  held_past y left arriving t up le = ap (λ ys. common (fold_key key) (fold_merges key merges refuses) (map Value ys) (map Value arriving)) (stops key y left t up le)
+
+  pub held_refused : (content left arriving : List X) (y : X) (t hash : ℕ) (e : Option X) → IsReading key content (y ∷ left) true → e ≡ entry_at key arriving hash → hash ≡ key y → hash < t → IsRefusedPair refuses (Some y) e → IsMergeRefused key refuses (below key content t) arriving
+  held_refused content left arriving y t hash None reading is hash_is lt refused = absurd refused
+  held_refused content left arriving y t hash (Some x) reading is hash_is lt refused = record {
+    at = key y;
+    held_entry = y;
+    new_entry = x;
+    is_held = one_low key merges refuses content t y (rw (← hash_is) lt) ∙ reading.among (key y) y (entry_at_head key y left (key y) refl);
+    comes = ap (λ (h : ℕ). entry_at key arriving h) (sym hash_is) ∙ sym is;
+    refused = refused;
+  }
+
+  -- the entries shared with the map of a listing are the new content
+  pub record IsNewContent (content : Retained X) (listing items : List X) (theta t : ℕ) : Type 0 where
+    pub is_shared : unmarked (record { entries = items; theta = t }) ≡ shared (fold_key key) (fold_merges key merges refuses) (unmarked content) (unmarked (record { entries = map_of key listing; theta = theta }))
+    pub retained : IsRetained key (record { entries = items; theta = t })
+    pub fewer : length items ≤ length listing
+
+  pub new_content : (content : Retained X) (listing items : List X) (theta t : ℕ) → IsRetained key content → t ≡ min content.theta theta → map Value items ≡ read_from key merges refuses (map_of key listing) content.entries t
+      → IsApart key listing → AllByRecursion (λ x. 0 < key x) listing → 0 < theta → IsNewContent content listing items theta t
+  new_content content listing items theta t kept t_is all apart nonzero low =
+      let fk = fold_key key in
+      let m = turned_round (fold_merges key merges refuses) in
+      let up : IsAscending key (map_of key listing) = ascending-map_of key listing in
+      let again : map_of key (map_of key listing) ≡ map_of key listing = map_of-ascending key (map_of key listing) up in
+      let read = items_read key merges refuses keeps (map_of key listing) content.entries items t all (ascending-apart key (map_of key listing) up) (each-map_of key (λ x. 0 < key x) listing nonzero) in
+      let items_up : IsAscending key items = ascending-unmarked key items (rw (all ∙ read_is key merges refuses keeps (map_of key listing) content.entries t) (ascending-common fk m (keeps_turned key merges refuses keeps) (map Value (map_of key listing)) (below fk (map Value content.entries) t) (ascending-marked key (map_of key listing) up))) in
+      let sorted : map_of key items ≡ items = map_of-ascending key items items_up in
+      let shares = read_shares key merges refuses keeps content (map_of key listing) items theta kept.ascending (rw t_is at all) in
+      record {
+        is_shared = ap (λ (u : ℕ). unmarked (record { entries = items; theta = u })) t_is ∙ ap (λ zs. unmarked (record { entries = zs; theta = min content.theta theta })) (sym sorted) ∙ shares ∙ ap (λ zs. shared fk (fold_merges key merges refuses) (unmarked content) (unmarked (record { entries = zs; theta = theta }))) again;
+        retained = record {
+          ascending = items_up;
+          nonzero = read.nonzero;
+          below_theta = read.below_theta;
+          theta_low = omega (arith, t_is, kept.theta_low, low);
+          theta_high = omega (arith, t_is, kept.theta_high);
+        };
+        fewer = omega (arith, read.limited, ap length (sym again), count_sorted key t 0 listing apart);
+      }
+
+module _ {X : Type 0} (key : X → ℕ) where
+  -- an entry at a key of a sorted listing below a theta is one of the listing
+  pub refused_below : (refuses : X → X → Bool) (content listing : List X) (t : ℕ) → IsMergeRefused key refuses content (below key (map_of key listing) t) → IsMergeRefused key refuses content listing
+  refused_below refuses content listing t refused = record {
+    at = refused.at;
+    held_entry = refused.held_entry;
+    new_entry = refused.new_entry;
+    is_held = refused.is_held;
+    comes = sym (entry_at-map_of key listing refused.at) ∙ (elim (ltb refused.at t) as (λ b. cond b (entry_at key (map_of key listing) refused.at) None ≡ Some refused.new_entry → entry_at key (map_of key listing) refused.at ≡ Some refused.new_entry) [ true ↦ λ e. e | false ↦ λ e. absurd (cc) ]) (sym (entry_at-below key (map_of key listing) t refused.at) ∙ refused.comes);
+    refused = refused.refused;
+  }
+
+  -- a sorted copy of what a sketch lists may be an intersection's content
+  pub record IsCopied (s : Shown) (listing : List X) : Type 0 where
+    pub all : below key (map_of key listing) s.theta ≡ map_of key listing
+    pub retained : IsRetained key (record { entries = map_of key listing; theta = s.theta })
+    pub limited : length (map_of key listing) < 2 ^ 32
+
+  pub copied : (s : Shown) (listing : List X) → IsShown s → map key listing ≡ s.hashes → IsCopied s listing
+  copied s listing shown hashes =
+      let low : AllByRecursion (λ x. key x < s.theta) (map_of key listing) = each-map_of key (λ x. key x < s.theta) listing (each-from_map key (λ h. h < s.theta) listing (rw hashes shown.below_theta)) in
+      record {
+        all = below_all key (map_of key listing) s.theta low;
+        retained = record {
+          ascending = ascending-map_of key listing;
+          nonzero = each-map_of key (λ x. 0 < key x) listing (each-from_map key (λ h. 0 < h) listing (rw hashes shown.nonzero));
+          below_theta = low;
+          theta_low = shown.theta_low;
+          theta_high = shown.theta_high;
+        };
+        limited = omega (arith, count_sorted key 1 0 listing (apart-distinct key listing (rw hashes shown.distinct)), length-map listing key, ap length hashes, shown.limited);
+      }
+
+  -- how many entries of a listing are below a theta
+  pub few_below : (listing : List X) (t : ℕ) → IsApart key listing → length (below key (map_of key listing) t) ≤ length listing
+  few_below listing t apart = omega (arith, fewer (λ x. ltb (key x) t) (map_of key listing), count_sorted key 1 0 listing apart)

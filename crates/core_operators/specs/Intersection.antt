@@ -8,14 +8,13 @@ use Rattle.core_laws.specs.declared.TheConstants.{MAX_THETA}
 use Rattle.core_operators.specs.declared.intersection.Outcome.{Outcome}
 use Rattle.core_operators.specs.declared.intersection.Outcome.TheVariants.{Unbegun, Nothing, Held}
 use Rattle.core_compact.specs.CompactState.{Compact, IsAnswer}
-use Rattle.core_laws.specs.Cuts.{Retained, none_below}
-use Rattle.core_laws.specs.Maps.{below, entry_at, map_of}
+use Rattle.core_laws.specs.Cuts.{Retained, IsRetained, none_below}
+use Rattle.core_laws.specs.Maps.{below, map_of}
 use Rattle.core_laws.specs.Values.{Sketch, Empty, NonEmpty, count_of}
-use Rattle.core_laws.specs.Folds.{Fold, Value, fold_key, fold_merges, unmarked, unmarked_value}
+use Rattle.core_laws.specs.Folds.{Value, fold_key, fold_merges, unmarked, unmarked_value}
 use Rattle.core_operators.specs.Union.{IsMergeRefused}
 use Rattle.core_laws.specs.Shown.{Shown, shown_value}
-use Rattle.core_table.specs.HashTable.{MapTable}
-use Rattle.core_laws.specs.Operators.{common, meet_next, shared}
+use Rattle.core_laws.specs.Operators.{both, common, meet_next, shared}
 
 -- an intersection: its value, if there was an input, its seed hash and its policy
 pub record Intersection (X P : Type 0) : Type 0 where
@@ -27,7 +26,7 @@ pub record Intersection (X P : Type 0) : Type 0 where
 abbrev pub new_intersection : {X P : Type 0} → (hash : ℕ) → P → Intersection X P
 new_intersection hash policy = record { result = None; seed_hash = hash; policy = policy }
 
--- the value of an intersection: by its outcome, and by what its table retains
+-- the value of an intersection: by its outcome, and by what it retains
 abbrev pub outcome_value : {X : Type 0} → Outcome → Retained X → Option (Sketch X)
 outcome_value Unbegun v = None
 outcome_value Nothing v = Some Empty
@@ -48,6 +47,11 @@ is_begun Held = true
 -- the invariant of an intersection: it has fewer than 2^32 entries
 pub record IsIntersection {X P : Type 0} (i : Intersection X P) : Type 0 where
   pub limited : option_map_or count_of i.result 0 < 2 ^ 32
+
+-- an intersection with this value keeps fewer than 2^32 entries, which ascend from 1 to below its theta
+pub record IsKeptIn {X P : Type 0} (key : X → ℕ) (kept : Retained X) (i : Intersection X P) : Type 0 where
+  pub intersection : IsIntersection i
+  pub retained : IsRetained key kept
 
 -- whether the value is Empty for good
 abbrev pub is_settled : {X : Type 0} → Option (Sketch X) → Bool
@@ -87,25 +91,44 @@ pub record IsCutShort {X : Type 0} (key : X → ℕ) (refuses : X → X → Bool
 abbrev pub IsIntersectError : {X P : Type 0} → (key : X → ℕ) → (refuses : X → X → Bool) → (old new : Intersection X P) → Shown → List X → ErrorKind → Type 0
 IsIntersectError key refuses old new s listing e = (new ≡ old) × MatchOption (intersect_refusal old s) (IsCutShort key refuses old.result s listing e) (λ kind. e ≡ kind)
 
--- a new table retains what an old one and an input of this theta share, in folds
-abbrev pub IsSharedMap : {X : Type 0} → (key : X → ℕ) → (merges : X → X → X) → (refuses : X → X → Bool) → (content : MapTable X) → (theta : ℕ) → (listing : List X) → (new : MapTable X) → Type 0
+-- new entries below a theta are what old ones and an input of this theta share, in folds
+abbrev pub IsSharedMap : {X : Type 0} → (key : X → ℕ) → (merges : X → X → X) → (refuses : X → X → Bool) → (content : Retained X) → (theta : ℕ) → (listing : List X) → (new : Retained X) → Type 0
 IsSharedMap key merges refuses content theta listing new =
-    unmarked new.kept ≡ shared (fold_key key) (fold_merges key merges refuses) (unmarked content.kept) (unmarked (record { entries = map_of key listing; theta = theta }))
+    unmarked new ≡ shared (fold_key key) (fold_merges key merges refuses) (unmarked content) (unmarked (record { entries = map_of key listing; theta = theta }))
 
--- a value is that of a table met with an input that isn't Empty, in folds
-abbrev pub IsMetMap : {X : Type 0} → (key : X → ℕ) → (merges : X → X → X) → (refuses : X → X → Bool) → (content : MapTable X) → (theta : ℕ) → (listing : List X) → Option (Sketch X) → Type 0
+-- a value is that of retained entries met with an input that isn't Empty, in folds
+abbrev pub IsMetMap : {X : Type 0} → (key : X → ℕ) → (merges : X → X → X) → (refuses : X → X → Bool) → (content : Retained X) → (theta : ℕ) → (listing : List X) → Option (Sketch X) → Type 0
 IsMetMap key merges refuses content theta listing value =
-    option_map unmarked_value value ≡ Some (meet_next (fold_key key) (fold_merges key merges refuses) (Some (NonEmpty (unmarked content.kept))) (NonEmpty (unmarked (record { entries = map_of key listing; theta = theta }))))
+    option_map unmarked_value value ≡ Some (meet_next (fold_key key) (fold_merges key merges refuses) (Some (NonEmpty (unmarked content))) (NonEmpty (unmarked (record { entries = map_of key listing; theta = theta }))))
 
--- the entries of an input whose keys a table has below theta, in the input's order, each merged into the table's entry
-abbrev pub AreSharedFolds : {X : Type 0} → (key : X → ℕ) → (merges : X → X → X) → (refuses : X → X → Bool) → (content : MapTable X) → (theta : ℕ) → (listing : List X) → List X → Type 0
-AreSharedFolds key merges refuses content theta listing entries =
-    map Value entries ≡ common (fold_key key) (λ y x. fold_merges key merges refuses x y) (map Value listing) (map Value (below key content.kept.entries theta))
+-- the arriving entries whose keys retained ones have below theta, in their order, each merged into the retained one
+abbrev pub AreSharedFolds : {X : Type 0} → (key : X → ℕ) → (merges : X → X → X) → (refuses : X → X → Bool) → (content : List X) → (theta : ℕ) → (arriving : List X) → List X → Type 0
+AreSharedFolds key merges refuses content theta arriving entries =
+    map Value entries ≡ common (fold_key key) (λ y x. fold_merges key merges refuses x y) (map Value arriving) (map Value (below key content theta))
 
--- the table's entry below theta of an incoming entry's key, merged with the incoming one; none if there is none
-abbrev pub IsSharedFold : {X : Type 0} → (key : X → ℕ) → (merges : X → X → X) → (refuses : X → X → Bool) → (content : MapTable X) → (theta : ℕ) → (incoming : X) → Option X → Type 0
-IsSharedFold key merges refuses content theta incoming entry =
-    option_map Value entry ≡ option_map (λ x. fold_merges key merges refuses (Value x) (Value incoming)) (entry_at key (below key content.kept.entries theta) (key incoming))
+-- an existing entry merged with an incoming one, if they have the same hash; otherwise none
+abbrev pub IsSharedFold : {X : Type 0} → (key : X → ℕ) → (merges : X → X → X) → (refuses : X → X → Bool) → (existing incoming : X) → (same_hash : Bool) → Option X → Type 0
+IsSharedFold key merges refuses existing incoming same_hash entry =
+    option_map Value entry ≡ if same_hash then Some (fold_merges key merges refuses (Value existing) (Value incoming)) else None
+
+-- why two entries weren't merged: memory ran out, or they have the same hash and the policy refuses them
+abbrev pub IsPairRefusal : {X : Type 0} → (refuses : X → X → Bool) → (existing incoming : X) → (same_hash : Bool) → ErrorKind → Type 0
+IsPairRefusal refuses existing incoming same_hash kind = (kind ≡ OutOfMemory) ⊎ ((kind ≡ Policy) × (same_hash ≡ true) × (refuses existing incoming ≡ true))
+
+-- an existing entry merged with an incoming one, if there are both
+abbrev pub IsSharedPair : {X : Type 0} → (key : X → ℕ) → (merges : X → X → X) → (refuses : X → X → Bool) → (existing incoming : Option X) → Option X → Type 0
+IsSharedPair key merges refuses existing incoming entry =
+    option_map Value entry ≡ both (fold_merges key merges refuses) (option_map Value existing) (option_map Value incoming)
+
+-- the policy refuses these two entries
+abbrev pub IsRefusedPair : {X : Type 0} → (refuses : X → X → Bool) → (existing incoming : Option X) → Type 0
+IsRefusedPair refuses None incoming = ⊥
+IsRefusedPair refuses (Some y) None = ⊥
+IsRefusedPair refuses (Some y) (Some x) = refuses y x ≡ true
+
+-- why two entries weren't merged: memory ran out, or the policy refuses them
+abbrev pub IsFoundRefusal : {X : Type 0} → (refuses : X → X → Bool) → (existing incoming : Option X) → ErrorKind → Type 0
+IsFoundRefusal refuses existing incoming kind = (kind ≡ OutOfMemory) ⊎ ((kind ≡ Policy) × IsRefusedPair refuses existing incoming)
 
 -- whether two maps share no keys, though both have some and theta is the greatest
 abbrev pub is_nothing_left : (theta content arriving shared : ℕ) → Bool

@@ -1,5 +1,6 @@
 pub mod Iter
 pub mod View
 pub mod Union
+pub mod Search
 pub mod Intersection
 pub mod ANotB

@@ -11,7 +11,7 @@ use Rattle.core_laws.specs.Lawful.{IsWithin}
 use Rattle.core_laws.specs.Operators.{joined, unite}
 use Rattle.core_laws.specs.Step.{merge_step}
 use Rattle.core_laws.specs.Values.{Sketch, Empty, NonEmpty}
-use Rattle.core_laws.specs.Folds.{Fold, Value, fold_key, fold_merges, never, unmarked, unmarked_value}
+use Rattle.core_laws.specs.Folds.{Value, fold_key, fold_merges, never, unmarked, unmarked_value}
 use Rattle.core_laws.specs.Shown.{Shown, shown_value}
 use Rattle.core_policies.specs.Summaries.{combined, combine_refused}
 use Rattle.core_slots.specs.Entry.{tuple_key}

@@ -1,21 +1,21 @@
 //! Differences: the entries of one sketch whose hashes another lacks.
-ghost use Rattle.std.specs.Prelude.{◌≡◌, ◌+◌, ◌<◌, ◌≤◌, ◌==◌, ◌&&◌, ◌||◌, ◌++◌, if◌then◌else◌, true, false, None, map, IfOk};
+ghost use Rattle.std.specs.Prelude.{◌≡◌, ◌+◌, ◌<◌, ◌≤◌, ◌==◌, ◌&&◌, ◌||◌, ◌++◌, if◌then◌else◌, true, false, None, length, map, IfOk};
 ghost use Rattle.std.specs.Option.{ForSome};
 ghost use Rattle.core_compact.specs.CompactState.{IsCompactOf, shown_of, is_answer_ordered};
-ghost use Rattle.core_laws.specs.Maps.{below, map_of};
+ghost use Rattle.core_laws.specs.Maps.{IsAscending, below, map_of};
 ghost use Rattle.core_operators.specs.ANotB.{difference_refusal, IsDifference};
 ghost use Rattle.core_laws.specs.Entries.{hash_key, ClonesEqual};
 ghost use Rattle.core_laws.specs.Operators.{lacking};
 ghost use Rattle.core_laws.specs.Refusal.{Refuses};
 ghost use Rattle.core_laws.specs.Shown.{IsShown};
 
-use crate::scan::difference_by_scan;
-use crate::search::{difference_by_search, keys_of};
+use crate::ascending::{ascending_entries, ascending_hashes};
+use crate::scan::ascending_difference;
 use crate::share::cloned_entries;
 use crate::view::{EntrySketch, KeySketch, ThetaFamilySketchMetadata};
 use core_compact::{CompactSketchState, is_answer_ordered};
 use core_laws::{MAX_THETA, SketchEntry};
-use core_slots::ThetaEntry;
+use core_slots::{Count, ThetaEntry};
 use core_table::sorted_by_hash;
 use sketch_base::{Error, ErrorKind};
 use std::alloc::{AllocError, Allocator};
@@ -26,6 +26,9 @@ use std::alloc::{AllocError, Allocator};
 /// the result has the value of `a`, and the seed of `b` is not checked. If neither is empty, no entry is left and the
 /// lesser theta is `MAX_THETA`, the result is empty. The result is ordered if `ordered` is true or `a` is ordered, if
 /// it is empty, or if it has one entry at the greatest theta.
+///
+/// An input that isn't known to be ordered is copied and sorted. Then both are read side by side: whatever the hashes
+/// are, this compares at most as many pairs of hashes as both have.
 ///
 /// Refused with `InvalidArgument` if `a` isn't empty and it, or a `b` that isn't empty, has another seed hash than
 /// `seed_hash`, and with `OutOfMemory`. The inputs don't change.
@@ -45,8 +48,8 @@ where
     subtract::<S, T, ThetaEntry, A>(alloc, seed_hash, a, b, None, ordered)
 }
 
-/// The same difference for a `b` whose entries can be read, not only its hashes. If both sketches are compact and
-/// ordered, it is faster than `compute`: it reads both side by side and builds no table.
+/// The same difference for a `b` whose entries can be read, not only its hashes. If `b` is compact and ordered, it is
+/// faster than `compute`: it reads the entries of `b` as they are, and copies no hashes.
 pub fn compute_with_entries<S: EntrySketch, T: EntrySketch, A: Allocator + Clone>(
     alloc: A,
     seed_hash: u16,
@@ -137,11 +140,22 @@ where
             }
             let theta = a_theta.min(b_theta);
             let spare = alloc.clone()?;
-            let kept = kept_entries(alloc, a, a_ordered, b, b_ordered, b_count, others, theta)?;
+            let mut compared = Count::new();
+            let kept = kept_entries(
+                alloc,
+                a,
+                a_ordered,
+                b,
+                b_ordered,
+                b_count,
+                others,
+                theta,
+                &mut compared,
+            )?;
             if is_empty_result(kept.len(), theta) {
                 return Ok(CompactSketchState::empty(spare, seed_hash));
             }
-            Ok(state_of(kept, theta, seed_hash, requested, a_ordered))
+            Ok(state_of(kept, theta, seed_hash, false, requested || a_ordered))
         }
     }
 }
@@ -153,7 +167,10 @@ fn is_empty_result(count: usize, theta: u64) -> bool
     count == 0 && theta == MAX_THETA
 }
 
-/// Clones of the entries of `a` below theta whose hashes `b` lacks, in the order of `a`. `b` has `b_count` hashes.
+/// Clones of the entries of `a` below theta whose hashes `b` lacks, in ascending order. `b` has `b_count` hashes. If it
+/// isn't known to be ordered, a copy of its hashes below theta is sorted first.
+///
+/// Counts each comparison of two hashes in `compared`, but those of the sorts: at most as many as both sketches have.
 fn kept_entries<S: EntrySketch, T: KeySketch, F: SketchEntry, A: Allocator + Clone>(
     alloc: A,
     a: S,
@@ -163,32 +180,63 @@ fn kept_entries<S: EntrySketch, T: KeySketch, F: SketchEntry, A: Allocator + Clo
     b_count: usize,
     others: Option<&[F]>,
     theta: u64,
+    compared: &mut Count,
 ) -> Result<Vec<S::Entry, A>, Error>
 where
     S::Entry: Clone,
     requires clones_equal { ClonesEqual S.Entry.is_clone }
     requires a_in_order { (S.shown a).ordered ≡ a_ordered }
     requires b_in_order { (T.shown b).ordered ≡ b_ordered }
-    requires theta_low { 0 < theta }
-    requires theta_high { theta ≤ MAX_THETA }
     requires b_sound { IsShown (T.shown b) }
     requires others { ForSome others (λ entries. map F.key entries.now ≡ (T.shown b).hashes) }
     ensures listed { IfOk result (λ _. map S.Entry.key (S.listing a) ≡ (S.shown a).hashes) }
-    ensures ok { IfOk result (λ v. v.items ≡ lacking S.Entry.key hash_key (below S.Entry.key (S.listing a) theta) (T.shown b).hashes) }
+    ensures ok { IfOk result (λ v. v.items ≡ lacking S.Entry.key hash_key (below S.Entry.key (map_of S.Entry.key (S.listing a)) theta) (T.shown b).hashes) }
     ensures refused { Refuses result None true }
+    ensures compared { compared.new ≤ compared.old + length (S.listing a) + length (T.shown b).hashes }
 {
-    if a_ordered && b_ordered {
-        let list = a.entries();
-        if let (Some(entries), Some(hashes)) = (list.as_slice(), others) {
-            return difference_by_scan(alloc, entries, hashes, theta);
+    if b_ordered {
+        if let Some(hashes) = others {
+            return kept_beside(alloc, a, a_ordered, hashes, theta, compared);
         }
     }
-    let keys = keys_of(alloc.clone()?, b, theta, b_ordered, b_count)?;
-    difference_by_search(alloc, a, &keys, theta, a_ordered)
+    let keys = ascending_hashes(alloc.clone()?, b, theta, b_ordered, b_count)?;
+    kept_beside(alloc, a, a_ordered, &keys, theta, compared)
+}
+
+/// Clones of the entries of `a` below theta whose hashes ascending `others` lack, in ascending order. If `a` isn't known
+/// to be ordered, clones of its entries below theta are sorted first.
+///
+/// Counts each comparison of two hashes in `compared`, but those of the sort: at most as many as `a` and `others` have.
+fn kept_beside<S: EntrySketch, F: SketchEntry, A: Allocator + Clone>(
+    alloc: A,
+    a: S,
+    ordered: bool,
+    others: &[F],
+    theta: u64,
+    compared: &mut Count,
+) -> Result<Vec<S::Entry, A>, Error>
+where
+    S::Entry: Clone,
+    requires clones_equal { ClonesEqual S.Entry.is_clone }
+    requires in_order { (S.shown a).ordered ≡ ordered }
+    requires others_ascend { IsAscending F.key others.now }
+    ensures listed { map S.Entry.key (S.listing a) ≡ (S.shown a).hashes }
+    ensures ok { IfOk result (λ v. v.items ≡ lacking S.Entry.key F.key (below S.Entry.key (map_of S.Entry.key (S.listing a)) theta) others.now) }
+    ensures refused { Refuses result None true }
+    ensures compared { compared.new ≤ compared.old + length (S.listing a) + length others.now }
+{
+    let list = a.entries();
+    if ordered {
+        if let Some(entries) = list.as_slice() {
+            return ascending_difference(alloc, entries, others, theta, compared);
+        }
+    }
+    let entries = ascending_entries(alloc.clone()?, a, theta, ordered, 0)?;
+    ascending_difference(alloc, &entries, others, theta, compared)
 }
 
 /// A state of these entries. They are sorted if `requested` is true and they aren't known to ascend.
-fn state_of<E: SketchEntry + Drop, A: Allocator>(
+pub(crate) fn state_of<E: SketchEntry + Drop, A: Allocator>(
     entries: Vec<E, A>,
     theta: u64,
     seed_hash: u16,

@@ -11,13 +11,14 @@ ghost use Rattle.core_laws.specs.Shown.{IsShown};
 ghost use Rattle.core_laws.specs.Entries.{ClonesEqual};
 ghost use Rattle.core_operators.specs.Union.{IsMergeRefusal};
 
-use crate::share::{copied_table, shared_table};
+use crate::a_not_b::state_of;
+use crate::ascending::ascending_entries;
+use crate::share::shared_with;
 use crate::view::{EntrySketch, ThetaFamilySketchMetadata};
 use core_compact::CompactSketchState;
 use core_laws::MAX_THETA;
 use core_policies::IntersectionMergePolicy;
-use core_slots::SlotEntry;
-use core_table::SketchHashTable;
+use core_slots::{Count, SlotEntry};
 use sketch_base::{Error, ErrorKind, compute_seed_hash};
 use std::alloc::{Allocator, Global};
 use std::marker::Model;
@@ -29,7 +30,7 @@ enum Outcome {
     Unbegun,
     /// The value is Empty, and stays so.
     Nothing,
-    /// The value is the table's entries and theta.
+    /// The value is the entries and theta.
     Held,
 }
 
@@ -38,21 +39,27 @@ enum Outcome {
 /// It has no value before its first input. Its value has the hashes that all inputs share, below their least theta; the
 /// policy combines the entries of a hash, in the order of the calls. The value is Empty once an input is, or once
 /// inputs that have hashes share none while theta is still the greatest. A refused update changes nothing.
+///
+/// It keeps its entries in ascending order. An update reads them and its input side by side: whatever the hashes are, it
+/// compares at most as many pairs of hashes as both have (`shared_with`), besides the sort of an input that isn't known
+/// to be ordered.
 #[derive(Drop)]
 pub struct IntersectionState<E: SlotEntry, P, A: Allocator = Global> {
     outcome: Outcome,
-    table: SketchHashTable<E, A>,
+    entries: Vec<E, A>,
+    theta: u64,
+    seed_hash: u16,
     policy: P,
 }
 
 impl<E: SlotEntry, P, A: Allocator> Model for IntersectionState<E, P, A> {
-    ghost use Rattle.core_operators.specs.Intersection.{Intersection, IsIntersection, outcome_value};
+    ghost use Rattle.core_operators.specs.Intersection.{Intersection, IsKeptIn, outcome_value};
 
     ghost Value = { Intersection E P };
 
-    ghost view = { λ i. record { result = outcome_value i.outcome i.table.map.kept; seed_hash = i.table.map.seed_hash; policy = i.policy } };
+    ghost view = { λ i. record { result = outcome_value i.outcome (record { entries = i.entries.items; theta = i.theta }); seed_hash = i.seed_hash; policy = i.policy } };
 
-    ghost invariant = { λ i. IsIntersection (record { result = outcome_value i.outcome i.table.map.kept; seed_hash = i.table.map.seed_hash; policy = i.policy }) };
+    ghost invariant = { λ i. IsKeptIn E.key (record { entries = i.entries.items; theta = i.theta }) (record { result = outcome_value i.outcome (record { entries = i.entries.items; theta = i.theta }); seed_hash = i.seed_hash; policy = i.policy }) };
 }
 
 impl<E: SlotEntry + Drop, P: Drop, A: Allocator + Drop> IntersectionState<E, P, A> {
@@ -64,10 +71,11 @@ impl<E: SlotEntry + Drop, P: Drop, A: Allocator + Drop> IntersectionState<E, P, 
         ensures refused { Refuses result (seed_refusal seed) false }
     {
         let seed_hash = compute_seed_hash(seed, ErrorKind::InvalidArgument)?;
-        let table = SketchHashTable::for_set_operation(alloc, 0, 0, MAX_THETA, seed, seed_hash)?;
         Ok(IntersectionState {
             outcome: Outcome::Unbegun,
-            table,
+            entries: Vec::new(alloc),
+            theta: MAX_THETA,
+            seed_hash,
             policy,
         })
     }
@@ -81,9 +89,9 @@ impl<E: SlotEntry, P, A: Allocator> IntersectionState<E, P, A> {
         has_begun(self.outcome)
     }
 
-    /// Bytes taken by the slots of its table, including free ones.
+    /// Bytes taken by its entries.
     pub fn estimated_size(&self) -> usize {
-        self.table.estimated_size()
+        size_of_val(self.entries.as_slice())
     }
 }
 
@@ -111,14 +119,12 @@ impl<
         ensures sound { IsIntersection self.old }
         ensures content { IsRetained E.key (content_of self.old.result) }
     {
-        // Called for its contract: the table's entries keep the laws of a sketch value.
-        let _ = self.table.retention_theta();
         if is_settled(self.outcome) {
             return Ok(());
         }
         match sketch.metadata() {
             ThetaFamilySketchMetadata::Empty { .. } => {
-                self.table.clear();
+                self.entries.clear();
                 self.outcome = Outcome::Nothing;
                 Ok(())
             }
@@ -128,16 +134,28 @@ impl<
                 ordered,
                 num_retained,
             } => {
-                if self.table.seed_hash() != seed_hash {
+                if self.seed_hash != seed_hash {
                     return Err(Error::new(ErrorKind::InvalidArgument));
                 }
                 if !has_begun(self.outcome) {
-                    self.table = copied_table(&self.table, sketch, theta)?;
+                    let alloc = self.entries.allocator().clone()?;
+                    self.entries = ascending_entries(alloc, sketch, theta, ordered, num_retained)?;
+                    self.theta = theta;
                     self.outcome = Outcome::Held;
                     return Ok(());
                 }
-                let table = &mut self.table;
-                let outcome = meet_held(table, sketch, &self.policy, ordered, theta, num_retained)?;
+                let entries = &mut self.entries;
+                let own_theta = &mut self.theta;
+                let policy = &self.policy;
+                let outcome = meet_held(
+                    entries,
+                    own_theta,
+                    sketch,
+                    policy,
+                    ordered,
+                    theta,
+                    num_retained,
+                )?;
                 self.outcome = outcome;
                 Ok(())
             }
@@ -158,21 +176,26 @@ impl<
         match self.outcome {
             Outcome::Unbegun => Ok(None),
             Outcome::Nothing => {
-                let alloc = self.table.allocator().clone()?;
-                Ok(Some(CompactSketchState::empty(alloc, self.table.seed_hash())))
+                let alloc = self.entries.allocator().clone()?;
+                Ok(Some(CompactSketchState::empty(alloc, self.seed_hash)))
             }
-            Outcome::Held => Ok(Some(self.table.to_non_empty_compact_state(ordered)?)),
+            Outcome::Held => {
+                let alloc = self.entries.allocator().clone()?;
+                let entries = Vec::from_clones(alloc, &self.entries)?;
+                Ok(Some(state_of(entries, self.theta, self.seed_hash, false, ordered)))
+            }
         }
     }
 }
 
-/// Keeps only those entries of a table whose hashes a sketch has too, below the lesser theta, and returns the outcome.
-/// The sketch isn't empty, and has this theta and order, and `count` hashes.
+/// Keeps only those ascending entries whose hashes a sketch has too, below the lesser theta, and returns the outcome. The
+/// sketch isn't empty, and has this theta and order, and `count` hashes.
 ///
 /// Refused with `OutOfMemory`, or with `Policy` if the policy refuses the entries of a shared hash below the lesser
-/// theta; then the table is unchanged.
+/// theta; then the entries and their theta are unchanged.
 fn meet_held<S: EntrySketch, P: IntersectionMergePolicy<S::Entry>, A: Allocator + Clone>(
-    table: &mut SketchHashTable<S::Entry, A>,
+    entries: &mut Vec<S::Entry, A>,
+    own_theta: &mut u64,
     sketch: S,
     policy: &P,
     ordered: bool,
@@ -183,30 +206,41 @@ where
     S::Entry: Clone,
     requires clones_equal { ClonesEqual S.Entry.is_clone }
     requires sound { IsShown (S.shown sketch) }
-    requires in_order { ordered ≡ (S.shown sketch).ordered }
+    requires in_order { (S.shown sketch).ordered ≡ ordered }
     requires of_theta { theta ≡ (S.shown sketch).theta }
     requires counted { count ≡ length (S.shown sketch).hashes }
-    requires limited { length table.old.map.kept.entries < 2 ^ 32 }
+    requires retained { IsRetained S.Entry.key (record { entries = entries.old.items; theta = own_theta.old }) }
+    requires limited { length entries.old.items < 2 ^ 32 }
     ensures met { IfOk result (λ o.
-        IsMetMap S.Entry.key (P.merges policy.now) (P.refuses policy.now) table.old.map theta (S.listing sketch)
-        (outcome_value o table.new.map.kept)) }
-    ensures limited { IfOk result (λ o. option_map_or count_of (outcome_value o table.new.map.kept) 0 < 2 ^ 32) }
-    ensures same_seed { IfOk result (λ _. table.new.map.seed_hash ≡ table.old.map.seed_hash) }
-    ensures refused { let kept = table.old.map.kept in
-        IfErr result (λ e.
-        (table.new ≡ table.old)
-        × IsMergeRefusal S.Entry.key (P.refuses policy.now) kept.entries (min kept.theta theta) (S.listing sketch)
-        e) }
+        IsMetMap S.Entry.key (P.merges policy.now) (P.refuses policy.now)
+        (record { entries = entries.old.items; theta = own_theta.old }) theta (S.listing sketch)
+        (outcome_value o (record { entries = entries.new.items; theta = own_theta.new }))) }
+    ensures limited { IfOk result (λ _. length entries.new.items < 2 ^ 32) }
+    ensures retained { IfOk result (λ _. IsRetained S.Entry.key (record { entries = entries.new.items; theta = own_theta.new })) }
+    ensures unchanged { IfErr result (λ _. entries.new.items ≡ entries.old.items) }
+    ensures same_theta { IfErr result (λ _. own_theta.new ≡ own_theta.old) }
+    ensures refused { IfErr result (
+        IsMergeRefusal S.Entry.key (P.refuses policy.now) entries.old.items (min own_theta.old theta) (S.listing sketch)) }
 {
-    let content = table.num_retained();
+    let content = entries.len();
+    let lesser = (*own_theta).min(theta);
     if content == 0 {
-        let lesser = table.retention_theta().min(theta);
-        table.set_retention_theta(lesser);
+        *own_theta = lesser;
         return Ok(Outcome::Held);
     }
-    let next = shared_table(table, sketch, policy, ordered, theta)?;
-    let outcome = outcome_of(next.retention_theta(), content, count, next.num_retained());
-    *table = next;
+    let mut compared = Count::new();
+    let next = shared_with(
+        entries,
+        sketch,
+        policy,
+        ordered,
+        lesser,
+        count,
+        &mut compared,
+    )?;
+    let outcome = outcome_of(lesser, content, count, next.len());
+    *entries = next;
+    *own_theta = lesser;
     Ok(outcome)
 }
 
@@ -230,8 +264,8 @@ fn has_begun(outcome: Outcome) -> bool
     }
 }
 
-/// The outcome if the table had `content` hashes, the sketch `arriving`, and both share `shared` below `theta`: Empty if both
-/// had some, share none, and theta is the greatest.
+/// The outcome if the intersection had `content` hashes, the sketch `arriving`, and both share `shared` below `theta`:
+/// Empty if both had some, share none, and theta is the greatest.
 fn outcome_of(theta: u64, content: usize, arriving: usize, shared: usize) -> Outcome
     ensures { result ≡ if is_nothing_left theta content arriving shared then Nothing else Held }
 {

@@ -5,6 +5,7 @@
 #![tactic(auto)]
 
 pub mod a_not_b;
+mod ascending;
 mod intersection;
 mod iter;
 pub mod laws;

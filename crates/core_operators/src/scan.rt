@@ -1,12 +1,15 @@
-//! A difference of two ascending lists, in one pass over both.
-ghost use Rattle.std.specs.Prelude.{◌≡◌, ◌+◌, ◌<◌, ◌≤◌, ◌==◌, ◌&&◌, ◌||◌, ◌++◌, if◌then◌else◌, true, None, length, map, take, IfOk, OnOk};
+//! A difference of two ascending lists, in one pass over both or by looking up the entries of the one in the other.
+ghost use Rattle.std.specs.Prelude.{◌≡◌, ◌+◌, ◌*◌, ◌<◌, ◌≤◌, ◌==◌, ◌&&◌, ◌||◌, ◌++◌, if◌then◌else◌, true, None, length, map, take, IfOk, OnOk};
 ghost use Rattle.core_laws.specs.Maps.{IsAscending, below};
 ghost use Rattle.core_operators.specs.ANotB.{lacking_below};
+ghost use Rattle.core_operators.specs.Search.{AreFewLookUps, is_much_longer};
 ghost use Rattle.core_laws.specs.Entries.{ClonesEqual};
 ghost use Rattle.core_laws.specs.Operators.{lacking};
 ghost use Rattle.core_laws.specs.Refusal.{Refuses};
 
+use crate::search::{found_by_halves, is_much_longer};
 use core_laws::SketchEntry;
+use core_slots::Count;
 use sketch_base::Error;
 use std::alloc::{AllocError, Allocator};
 
@@ -24,7 +27,7 @@ struct Sifted<'a, 'b, E, F> {
 
 /// 1 if `so` is true, otherwise 0.
 #[inline(always)]
-fn number_if(so: bool) -> usize
+pub(crate) fn number_if(so: bool) -> usize
     ensures value { result ≡ if so then 1 else 0 }
     ensures small { result ≤ 1 }
 {
@@ -33,13 +36,14 @@ fn number_if(so: bool) -> usize
 
 /// Writes the entries below theta whose hashes `others` lacks to the front of `kept`, in their order, until `kept` is
 /// full or one of the lists ends or theta is reached. Both lists ascend. Which of two hashes is less is as good as
-/// random, so there is no branch on it.
+/// random, so there is no branch on it. Counts each comparison of two hashes in `compared`: it skips one entry or two.
 #[inline(always)]
 fn sift<'a, 'b, E: SketchEntry, F: SketchEntry>(
     entries: &'a [E],
     others: &'b [F],
     theta: u64,
     kept: &mut [&'a E; BLOCK],
+    compared: &mut Count,
 ) -> Sifted<'a, 'b, E, F>
     requires ascending { IsAscending E.key entries.now }
     requires others_ascend { IsAscending F.key others.now }
@@ -54,6 +58,10 @@ fn sift<'a, 'b, E: SketchEntry, F: SketchEntry>(
     ensures limited { result.count ≤ 64 }
     ensures room { length kept.new ≡ 64 }
     ensures fewer { result.count + length result.entries.now ≤ length entries.entry.now }
+    ensures compares { length entries.entry.now + length others.entry.now + 2 * compared.old
+        ≤ length result.entries.now + length result.others.now + 2 * compared.new }
+    ensures compared { compared.new + length result.entries.now + length result.others.now
+        ≤ compared.old + length entries.entry.now + length others.entry.now }
 {
     let mut left = entries;
     let mut others_left = others;
@@ -70,6 +78,7 @@ fn sift<'a, 'b, E: SketchEntry, F: SketchEntry>(
         if hash >= theta {
             break;
         }
+        compared.tick();
         kept[count] = entry;
         count += number_if(hash < known);
         left = &left[number_if(hash <= known)..];
@@ -115,25 +124,29 @@ fn push_below<E: SketchEntry + Clone + Drop, A: Allocator>(
     Ok(())
 }
 
-/// The difference of two ascending lists, below theta, in one pass over both.
-pub(crate) fn difference_by_scan<E: SketchEntry + Clone + Drop, F: SketchEntry, A: Allocator>(
+/// The difference of two ascending lists, below theta, in one pass over both. Counts each comparison of two hashes in
+/// `compared`: at most as many as both lists have entries.
+fn difference_by_scan<E: SketchEntry + Clone + Drop, F: SketchEntry, A: Allocator>(
     alloc: A,
     entries: &[E],
     others: &[F],
     theta: u64,
+    compared: &mut Count,
 ) -> Result<Vec<E, A>, Error>
     requires clones_equal { ClonesEqual E.is_clone }
     requires ascending { IsAscending E.key entries.now }
     requires others_ascend { IsAscending F.key others.now }
     ensures ok { IfOk result (λ v. v.items ≡ lacking E.key F.key (below E.key entries.now theta) others.now) }
     ensures refused { Refuses result None true }
+    ensures grows { compared.old ≤ compared.new }
+    ensures compared { compared.new ≤ compared.old + length entries.now + length others.now }
 {
     let mut kept = Vec::new(alloc);
     let mut left = entries;
     let mut others_left = others;
     'sift_blocks: while let Some(first) = left.first() {
         let mut found = [first; BLOCK];
-        let sifted = sift(left, others_left, theta, &mut found);
+        let sifted = sift(left, others_left, theta, &mut found, compared);
         push_clones(&mut kept, &found[..sifted.count])?;
         left = sifted.entries;
         others_left = sifted.others;
@@ -143,4 +156,62 @@ pub(crate) fn difference_by_scan<E: SketchEntry + Clone + Drop, F: SketchEntry, 
     }
     push_below(&mut kept, left, theta)?;
     Ok(kept)
+}
+
+/// The difference of two ascending lists, below theta, by looking up each entry among `others` by halves. Counts each
+/// comparison of two hashes in `compared`: at most k for each entry, if there are fewer than 2^k others.
+fn difference_by_halves<E: SketchEntry + Clone + Drop, F: SketchEntry, A: Allocator>(
+    alloc: A,
+    entries: &[E],
+    others: &[F],
+    theta: u64,
+    compared: &mut Count,
+) -> Result<Vec<E, A>, Error>
+    requires clones_equal { ClonesEqual E.is_clone }
+    requires ascending { IsAscending E.key entries.now }
+    requires others_ascend { IsAscending F.key others.now }
+    ensures ok { IfOk result (λ v. v.items ≡ lacking E.key F.key (below E.key entries.now theta) others.now) }
+    ensures refused { Refuses result None true }
+    ensures grows { compared.old ≤ compared.new }
+    ensures compared { AreFewLookUps compared.old compared.new (length entries.now) (length others.now) }
+{
+    let mut kept = Vec::new(alloc);
+    'look_up_each: for entry in entries {
+        let hash = entry.hash();
+        if hash >= theta {
+            break;
+        }
+        if found_by_halves(others, hash, compared).is_none() {
+            kept.push(entry.clone()?)?;
+        }
+    }
+    Ok(kept)
+}
+
+/// The difference of two ascending lists, below theta. If there are many more others than entries, the entries are
+/// looked up among them; otherwise both are read side by side.
+///
+/// Counts each comparison of two hashes in `compared`: at most as many as both lists have entries. If there are many
+/// more others, but fewer than 2^k, at most k for each entry.
+pub(crate) fn ascending_difference<E: SketchEntry + Clone + Drop, F: SketchEntry, A: Allocator>(
+    alloc: A,
+    entries: &[E],
+    others: &[F],
+    theta: u64,
+    compared: &mut Count,
+) -> Result<Vec<E, A>, Error>
+    requires clones_equal { ClonesEqual E.is_clone }
+    requires ascending { IsAscending E.key entries.now }
+    requires others_ascend { IsAscending F.key others.now }
+    ensures ok { IfOk result (λ v. v.items ≡ lacking E.key F.key (below E.key entries.now theta) others.now) }
+    ensures refused { Refuses result None true }
+    ensures grows { compared.old ≤ compared.new }
+    ensures compared { compared.new ≤ compared.old + length entries.now + length others.now }
+    ensures shorter { is_much_longer (length others.now) (length entries.now) ≡ true
+        → AreFewLookUps compared.old compared.new (length entries.now) (length others.now) }
+{
+    if is_much_longer(others.len(), entries.len()) {
+        return difference_by_halves(alloc, entries, others, theta, compared);
+    }
+    difference_by_scan(alloc, entries, others, theta, compared)
 }

@@ -1,65 +1,24 @@
-//! The entries that a table and a sketch share, and tables built of entries.
-ghost use Rattle.std.specs.Prelude.{◌≡◌, ◌==◌, ◌<◌, ◌≤◌, ◌^◌, ◌⊎◌, [], ◌∷◌, ◌++◌, Some, None, true, if◌then◌else◌, map, min, length, IfOk, IfErr, OnOk};
-ghost use Rattle.std.specs.List.{AllByRecursion};
-ghost use Rattle.std.specs.Option.{option_map_or};
-ghost use Rattle.core_laws.specs.Maps.{IsApart, map_of};
+//! The entries that two ascending lists share, and those that a list shares with a sketch.
+ghost use Rattle.std.specs.Prelude.{◌≡◌, ◌==◌, ◌+◌, ◌<◌, ◌≤◌, ◌^◌, [], ◌∷◌, ◌++◌, None, true, if◌then◌else◌, map, length, IfOk, IfErr, OnOk};
+ghost use Rattle.std.specs.Option.{option_map_or, option_copied};
+ghost use Rattle.core_laws.specs.Maps.{IsAscending, map_of};
+ghost use Rattle.core_laws.specs.Cuts.{IsRetained};
 ghost use Rattle.core_laws.specs.Refusal.{Refuses};
-ghost use Rattle.core_table.specs.HashTable.{IsSeedHash, lg_size_for};
 ghost use Rattle.core_laws.specs.Shown.{IsShown};
 ghost use Rattle.core_laws.specs.Entries.{ClonesEqual};
 ghost use Rattle.core_operators.specs.Union.{IsMergeRefusal};
-ghost use Rattle.core_operators.specs.Intersection.{IsSharedMap, AreSharedFolds, IsSharedFold};
+ghost use Rattle.core_operators.specs.Intersection.{AreSharedFolds, IsSharedFold, IsSharedPair, IsPairRefusal, IsFoundRefusal};
+ghost use Rattle.core_operators.specs.Search.{AreFewLookUps, is_much_longer};
 
-use crate::merge::is_past;
+use crate::ascending::ascending_entries;
+use crate::scan::number_if;
+use crate::search::{found_by_halves, is_much_longer};
 use crate::view::EntrySketch;
-use core_laws::{MAX_THETA, SketchEntry};
+use core_laws::SketchEntry;
 use core_policies::IntersectionMergePolicy;
-use core_slots::{PutStep, SlotEntry, ThetaEntry};
-use core_table::SketchHashTable;
+use core_slots::Count;
 use sketch_base::Error;
 use std::alloc::{AllocError, Allocator};
-
-/// The binary logarithm of the number of slots of a table for `count` entries; 0, for no slots, if `count` is 0.
-fn lg_slots_for(count: usize) -> u8
-    ensures { result ≡ if count == 0 then 0 else lg_size_for count }
-{
-    if count == 0 {
-        return 0;
-    }
-    SketchHashTable::<ThetaEntry>::lg_size_from_count_for_rebuild(count)
-}
-
-/// A table of entries of distinct hashes, with only the slots that they need. Refused with `OutOfMemory` alone.
-pub(crate) fn table_of<E: SlotEntry + Drop, A: Allocator + Clone>(
-    entries: Vec<E, A>,
-    theta: u64,
-    seed: u64,
-    seed_hash: u16,
-) -> Result<SketchHashTable<E, A>, Error>
-    requires apart { IsApart E.key entries.items }
-    requires nonzero { AllByRecursion (λ x. 0 < E.key x) entries.items }
-    requires below_theta { AllByRecursion (λ x. E.key x < theta) entries.items }
-    requires limited { length entries.items < 2 ^ 32 }
-    requires theta_low { 0 < theta }
-    requires theta_high { theta ≤ MAX_THETA }
-    requires of_seed { IsSeedHash seed seed_hash }
-    ensures kept { IfOk result (λ t. t.map.kept ≡ record { entries = map_of E.key entries.items; theta = theta }) }
-    ensures limited { IfOk result (λ t. length t.map.kept.entries < 2 ^ 32) }
-    ensures same_seed { IfOk result (λ t. t.map.seed_hash ≡ seed_hash) }
-    ensures refused { Refuses result None true }
-{
-    let alloc = entries.allocator().clone()?;
-    let lg_cur = lg_slots_for(entries.len());
-    let lg_nom = lg_cur.saturating_sub(1);
-    let mut table = SketchHashTable::for_set_operation(
-        alloc, lg_cur, lg_nom, theta, seed, seed_hash,
-    )?;
-    'put_each: for entry in entries {
-        let hash = entry.hash();
-        table.upsert_entry(hash, PutStep::new(entry))?;
-    }
-    Ok(table)
-}
 
 /// Clones of the entries of a sketch, in its order. Refused with `OutOfMemory` alone.
 pub(crate) fn cloned_entries<S: EntrySketch, A: Allocator>(
@@ -80,51 +39,41 @@ where
     Ok(entries)
 }
 
-/// A table of all entries of a sketch, with its theta, and with the seed of `like`. Refused with `OutOfMemory` alone.
-pub(crate) fn copied_table<S: EntrySketch, A: Allocator + Clone>(
-    like: &SketchHashTable<S::Entry, A>,
-    sketch: S,
-    theta: u64,
-) -> Result<SketchHashTable<S::Entry, A>, Error>
-where
-    S::Entry: Clone,
-    requires clones_equal { ClonesEqual S.Entry.is_clone }
-    requires of_theta { theta ≡ (S.shown sketch).theta }
-    requires sound { IsShown (S.shown sketch) }
-    ensures kept { IfOk result (λ t. t.map.kept ≡ record { entries = map_of S.Entry.key (S.listing sketch); theta = theta }) }
-    ensures limited { IfOk result (λ t. length t.map.kept.entries < 2 ^ 32) }
-    ensures same_seed { IfOk result (λ t. t.map.seed_hash ≡ like.now.map.seed_hash) }
-    ensures refused { Refuses result None true }
-{
-    let _ = like.retention_theta();
-    let alloc = like.allocator().clone()?;
-    let entries = cloned_entries(alloc, sketch)?;
-    table_of(entries, theta, like.seed(), like.seed_hash())
-}
-
-/// Combines the table's entry of the incoming entry's hash with the incoming entry by the policy; `None` if the table
-/// has none or the hash is not below theta.
-fn shared_entry<E: SlotEntry + Clone, P: IntersectionMergePolicy<E>, A: Allocator>(
-    content: &SketchHashTable<E, A>,
+/// Combines two entries of one hash by the policy, the retained one first; `None` if `same_hash` is false.
+fn shared_entry<E: SketchEntry + Clone, P: IntersectionMergePolicy<E>>(
+    existing: &E,
     incoming: &E,
     policy: &P,
-    theta: u64,
+    same_hash: bool,
 ) -> Result<Option<E>, Error>
     requires clones_equal { ClonesEqual E.is_clone }
-    ensures combined { IfOk result (λ o. IsSharedFold E.key (P.merges policy.now) (P.refuses policy.now) content.now.map theta incoming.now o) }
-    ensures refused { IfErr result (IsMergeRefusal E.key (P.refuses policy.now) content.now.map.kept.entries theta (incoming.now ∷ [])) }
+    ensures combined { IfOk result (λ o.
+        IsSharedFold E.key (P.merges policy.now) (P.refuses policy.now) existing.now incoming.now same_hash o) }
+    ensures refused { IfErr result (IsPairRefusal (P.refuses policy.now) existing.now incoming.now same_hash) }
 {
-    let hash = incoming.hash();
-    if hash >= theta {
+    if !same_hash {
         return Ok(None);
     }
-    match content.entry(hash) {
-        None => Ok(None),
-        Some(existing) => {
-            let mut merged = existing.clone()?;
-            policy.merge(&mut merged, incoming)?;
-            Ok(Some(merged))
-        }
+    let mut merged = existing.clone()?;
+    policy.merge(&mut merged, incoming)?;
+    Ok(Some(merged))
+}
+
+/// Combines two entries of one hash by the policy, if there are both.
+fn shared_pair<E: SketchEntry + Clone, P: IntersectionMergePolicy<E>>(
+    existing: Option<&E>,
+    incoming: Option<&E>,
+    policy: &P,
+) -> Result<Option<E>, Error>
+    requires clones_equal { ClonesEqual E.is_clone }
+    ensures combined { IfOk result (λ o.
+        IsSharedPair E.key (P.merges policy.now) (P.refuses policy.now) (option_copied existing.entry) (option_copied incoming.entry) o) }
+    ensures refused { IfErr result (
+        IsFoundRefusal (P.refuses policy.now) (option_copied existing.entry) (option_copied incoming.entry)) }
+{
+    match (existing, incoming) {
+        (Some(own), Some(other)) => shared_entry(own, other, policy, true),
+        _ => Ok(None),
     }
 }
 
@@ -144,70 +93,193 @@ fn push_found<E: Drop, A: Allocator>(
     }
 }
 
-/// The entries that a table and a sketch share below theta, combined by the policy, in the sketch's order. If the
-/// sketch's hashes ascend, it stops at the first that is not below theta.
-fn shared_entries<S: EntrySketch, P: IntersectionMergePolicy<S::Entry>, A: Allocator + Clone>(
-    content: &SketchHashTable<S::Entry, A>,
-    sketch: S,
+/// The entries that two ascending lists share below theta, in one pass over both: each entry of `content`, combined by
+/// the policy with the one of `arriving`. Refused with `OutOfMemory`, or with `Policy` if the policy refuses.
+///
+/// Counts each comparison of two hashes in `compared`: at least one for each shared entry, and at most as many as both
+/// lists have entries.
+fn shared_in_pass<E: SketchEntry + Clone + Drop, P: IntersectionMergePolicy<E>, A: Allocator>(
+    alloc: A,
+    content: &[E],
+    arriving: &[E],
     policy: &P,
-    ordered: bool,
     theta: u64,
-) -> Result<Vec<S::Entry, A>, Error>
-where
-    S::Entry: Clone,
-    requires clones_equal { ClonesEqual S.Entry.is_clone }
-    requires in_order { ordered ≡ (S.shown sketch).ordered }
+    compared: &mut Count,
+) -> Result<Vec<E, A>, Error>
+    requires clones_equal { ClonesEqual E.is_clone }
+    requires ascending { IsAscending E.key content.now }
+    requires arriving_ascend { IsAscending E.key arriving.now }
     ensures all { IfOk result (λ v.
-        AreSharedFolds S.Entry.key (P.merges policy.now) (P.refuses policy.now) content.now.map theta
-        (S.listing sketch) v.items) }
-    ensures listed { map S.Entry.key (S.listing sketch) ≡ (S.shown sketch).hashes }
-    ensures refused { IfErr result (IsMergeRefusal S.Entry.key (P.refuses policy.now) content.now.map.kept.entries theta (S.listing sketch)) }
+        AreSharedFolds E.key (P.merges policy.now) (P.refuses policy.now) content.now theta arriving.now v.items) }
+    ensures refused { IfErr result (IsMergeRefusal E.key (P.refuses policy.now) content.now theta arriving.now) }
+    ensures compares { IfOk result (λ v. compared.old + length v.items ≤ compared.new) }
+    ensures compared { compared.new ≤ compared.old + length content.now + length arriving.now }
 {
-    let items = sketch.entries();
-    let alloc = content.allocator().clone()?;
     let mut entries = Vec::new(alloc);
-    'share_each: for entry in items {
-        let hash = entry.hash();
-        if is_past(ordered, hash, theta) {
+    let mut left = content;
+    let mut arriving_left = arriving;
+    'share_each: while let Some(incoming) = arriving_left.first() {
+        let Some(existing) = left.first() else {
+            break;
+        };
+        let hash = incoming.hash();
+        let known = existing.hash();
+        if hash >= theta {
             break;
         }
-        let found = shared_entry(content, entry, policy, theta)?;
+        compared.tick();
+        let found = shared_entry(existing, incoming, policy, hash == known)?;
+        push_found(&mut entries, found)?;
+        left = &left[number_if(known <= hash)..];
+        arriving_left = &arriving_left[number_if(hash <= known)..];
+    }
+    Ok(entries)
+}
+
+/// The entries that two ascending lists share below theta, by looking up each arriving one in `content` by halves. The
+/// rest is as in `shared_in_pass`.
+///
+/// Counts each comparison of two hashes in `compared`: at most k for each arriving entry, if `content` has fewer than
+/// 2^k.
+fn shared_by_arriving<E: SketchEntry + Clone + Drop, P: IntersectionMergePolicy<E>, A: Allocator>(
+    alloc: A,
+    content: &[E],
+    arriving: &[E],
+    policy: &P,
+    theta: u64,
+    compared: &mut Count,
+) -> Result<Vec<E, A>, Error>
+    requires clones_equal { ClonesEqual E.is_clone }
+    requires ascending { IsAscending E.key content.now }
+    requires arriving_ascend { IsAscending E.key arriving.now }
+    ensures all { IfOk result (λ v.
+        AreSharedFolds E.key (P.merges policy.now) (P.refuses policy.now) content.now theta arriving.now v.items) }
+    ensures refused { IfErr result (IsMergeRefusal E.key (P.refuses policy.now) content.now theta arriving.now) }
+    ensures compares { IfOk result (λ v. compared.old + length v.items ≤ compared.new) }
+    ensures compared { AreFewLookUps compared.old compared.new (length arriving.now) (length content.now) }
+{
+    let mut entries = Vec::new(alloc);
+    'look_up_each: for incoming in arriving {
+        let hash = incoming.hash();
+        if hash >= theta {
+            break;
+        }
+        let existing = found_by_halves(content, hash, compared);
+        let found = shared_pair(existing, Some(incoming), policy)?;
         push_found(&mut entries, found)?;
     }
     Ok(entries)
 }
 
-/// A table of the entries that a table and a sketch of this theta share below the lesser theta. The policy combines
-/// each entry of the table with that of the sketch. Refused with `OutOfMemory`, or with `Policy` if the policy refuses.
-pub(crate) fn shared_table<
+/// The entries that two ascending lists share below theta, by looking up each of `content` among the arriving ones by
+/// halves. The rest is as in `shared_in_pass`.
+///
+/// Counts each comparison of two hashes in `compared`: at most k for each entry of `content`, if fewer than 2^k arrive.
+fn shared_by_content<E: SketchEntry + Clone + Drop, P: IntersectionMergePolicy<E>, A: Allocator>(
+    alloc: A,
+    content: &[E],
+    arriving: &[E],
+    policy: &P,
+    theta: u64,
+    compared: &mut Count,
+) -> Result<Vec<E, A>, Error>
+    requires clones_equal { ClonesEqual E.is_clone }
+    requires ascending { IsAscending E.key content.now }
+    requires arriving_ascend { IsAscending E.key arriving.now }
+    ensures all { IfOk result (λ v.
+        AreSharedFolds E.key (P.merges policy.now) (P.refuses policy.now) content.now theta arriving.now v.items) }
+    ensures refused { IfErr result (IsMergeRefusal E.key (P.refuses policy.now) content.now theta arriving.now) }
+    ensures compares { IfOk result (λ v. compared.old + length v.items ≤ compared.new) }
+    ensures compared { AreFewLookUps compared.old compared.new (length content.now) (length arriving.now) }
+{
+    let mut entries = Vec::new(alloc);
+    'look_up_each: for existing in content {
+        let hash = existing.hash();
+        if hash >= theta {
+            break;
+        }
+        let incoming = found_by_halves(arriving, hash, compared);
+        let found = shared_pair(Some(existing), incoming, policy)?;
+        push_found(&mut entries, found)?;
+    }
+    Ok(entries)
+}
+
+/// The entries that two ascending lists share below theta: each entry of `content`, combined by the policy with the one
+/// of `arriving`. If one list is much longer, the entries of the other are looked up in it. Refused with `OutOfMemory`,
+/// or with `Policy` if the policy refuses.
+///
+/// Counts each comparison of two hashes in `compared`: at least one for each shared entry, and at most as many as both
+/// lists have entries. If one list is much longer and has fewer than 2^k entries, at most k for each of the other.
+fn shared_entries<E: SketchEntry + Clone + Drop, P: IntersectionMergePolicy<E>, A: Allocator>(
+    alloc: A,
+    content: &[E],
+    arriving: &[E],
+    policy: &P,
+    theta: u64,
+    compared: &mut Count,
+) -> Result<Vec<E, A>, Error>
+    requires clones_equal { ClonesEqual E.is_clone }
+    requires ascending { IsAscending E.key content.now }
+    requires arriving_ascend { IsAscending E.key arriving.now }
+    ensures all { IfOk result (λ v.
+        AreSharedFolds E.key (P.merges policy.now) (P.refuses policy.now) content.now theta arriving.now v.items) }
+    ensures refused { IfErr result (IsMergeRefusal E.key (P.refuses policy.now) content.now theta arriving.now) }
+    ensures compares { IfOk result (λ v. compared.old + length v.items ≤ compared.new) }
+    ensures compared { compared.new ≤ compared.old + length content.now + length arriving.now }
+    ensures longer { is_much_longer (length content.now) (length arriving.now) ≡ true
+        → AreFewLookUps compared.old compared.new (length arriving.now) (length content.now) }
+    ensures shorter { is_much_longer (length arriving.now) (length content.now) ≡ true
+        → AreFewLookUps compared.old compared.new (length content.now) (length arriving.now) }
+{
+    if is_much_longer(content.len(), arriving.len()) {
+        return shared_by_arriving(alloc, content, arriving, policy, theta, compared);
+    }
+    if is_much_longer(arriving.len(), content.len()) {
+        return shared_by_content(alloc, content, arriving, policy, theta, compared);
+    }
+    shared_in_pass(alloc, content, arriving, policy, theta, compared)
+}
+
+/// The entries that an ascending list and a sketch share below theta, combined by the policy, in ascending order. If the
+/// sketch isn't known to be ordered, clones of its entries below theta are sorted first. It has `count` entries.
+///
+/// Counts each comparison of two hashes in `compared`, but those of the sort: at most as many as both have entries.
+pub(crate) fn shared_with<
     S: EntrySketch,
     P: IntersectionMergePolicy<S::Entry>,
     A: Allocator + Clone,
 >(
-    content: &SketchHashTable<S::Entry, A>,
+    content: &Vec<S::Entry, A>,
     sketch: S,
     policy: &P,
     ordered: bool,
     theta: u64,
-) -> Result<SketchHashTable<S::Entry, A>, Error>
+    count: usize,
+    compared: &mut Count,
+) -> Result<Vec<S::Entry, A>, Error>
 where
     S::Entry: Clone,
     requires clones_equal { ClonesEqual S.Entry.is_clone }
-    requires in_order { ordered ≡ (S.shown sketch).ordered }
-    requires of_theta { theta ≡ (S.shown sketch).theta }
-    requires sound { IsShown (S.shown sketch) }
-    ensures kept { IfOk result (λ t.
-        IsSharedMap S.Entry.key (P.merges policy.now) (P.refuses policy.now) content.now.map theta (S.listing sketch)
-        t.map) }
-    ensures limited { IfOk result (λ t. length t.map.kept.entries < 2 ^ 32) }
-    ensures same_seed { IfOk result (λ t. t.map.seed_hash ≡ content.now.map.seed_hash) }
-    ensures listed { IfOk result (λ t. map S.Entry.key (S.listing sketch) ≡ (S.shown sketch).hashes) }
-    ensures refused { let kept = content.now.map.kept in
-        IfErr result (
-        IsMergeRefusal S.Entry.key (P.refuses policy.now) kept.entries (min kept.theta theta) (S.listing sketch)) }
+    requires in_order { (S.shown sketch).ordered ≡ ordered }
+    requires ascending { IsAscending S.Entry.key content.now.items }
+    ensures all { IfOk result (λ v.
+        AreSharedFolds S.Entry.key (P.merges policy.now) (P.refuses policy.now) content.now.items theta
+        (map_of S.Entry.key (S.listing sketch)) v.items) }
+    ensures listed { map S.Entry.key (S.listing sketch) ≡ (S.shown sketch).hashes }
+    ensures sound { IsShown (S.shown sketch) }
+    ensures refused { IfErr result (IsMergeRefusal S.Entry.key (P.refuses policy.now) content.now.items theta (S.listing sketch)) }
+    ensures compared { compared.new ≤ compared.old + length content.now.items + length (S.listing sketch) }
 {
-    let lesser = content.retention_theta().min(theta);
-    let entries = shared_entries(content, sketch, policy, ordered, lesser)?;
-    let table = table_of(entries, lesser, content.seed(), content.seed_hash())?;
-    Ok(table)
+    let list = sketch.entries();
+    if ordered {
+        if let Some(arriving) = list.as_slice() {
+            let alloc = content.allocator().clone()?;
+            return shared_entries(alloc, content, arriving, policy, theta, compared);
+        }
+    }
+    let spare = content.allocator().clone()?;
+    let arriving = ascending_entries(spare, sketch, theta, ordered, count)?;
+    let alloc = content.allocator().clone()?;
+    shared_entries(alloc, content, &arriving, policy, theta, compared)
 }

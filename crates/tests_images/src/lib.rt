@@ -2,6 +2,8 @@
 #![tactic(auto)]
 
 #[cfg(test)]
+mod crafted_sets;
+#[cfg(test)]
 mod images;
 #[cfg(test)]
 mod letters;

@@ -86,7 +86,7 @@ impl<A: Allocator> ThetaIntersection<A> {
         self.state.has_result()
     }
 
-    /// Bytes taken by the slots of its table, including free ones: eight per slot, and none before its first sketch.
+    /// Bytes taken by its entries: eight per hash, and none before its first sketch.
     pub fn estimated_size(&self) -> usize {
         self.state.estimated_size()
     }

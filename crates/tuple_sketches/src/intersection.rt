@@ -61,8 +61,7 @@ impl<P: SummaryPolicy, A: Allocator> TupleIntersection<P, A> {
         self.state.has_result()
     }
 
-    /// Bytes taken by the slots of its table, including free ones, without memory that summaries own elsewhere. There
-    /// are no slots before its first sketch.
+    /// Bytes taken by its entries, without memory that summaries own elsewhere. There are none before its first sketch.
     pub fn estimated_size(&self) -> usize {
         self.state.estimated_size()
     }

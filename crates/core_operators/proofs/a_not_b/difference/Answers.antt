@@ -2,15 +2,11 @@ use Rattle.std.proofs.Common.{◌≡◌, ◌<◌, true, false, ◌||◌, [], len
 use Rattle.std.specs.Prelude.{◌&&◌, ◌==◌}
 use Rattle.core_laws.specs.declared.TheConstants.{MAX_THETA}
 use Rattle.core_laws.proofs.maps.MapsOfLists.{each-from_map}
-use Rattle.core_operators.proofs.DifferenceEntries.{kept_of, kept_all, shown_kept, shown_below, lesser, apart_shown, answer_kept, answer_nothing, answer_all}
+use Rattle.core_laws.specs.Maps.{map_of}
+use Rattle.core_operators.proofs.DifferenceEntries.{kept_of, kept_all, shown_kept, shown_below, lesser, apart_shown, answer_kept_sorted, answer_nothing_sorted, answer_all}
 use Rattle.core_operators.proofs.Metadata.{reported_empty, reported_nonempty}
 use Rattle.core_operators.proofs.a_not_b.difference.Goals as goal
-
-pub kept_entries-requires-clause-theta_low : goal.kept_entries-requires-clause-theta_low
-kept_entries-requires-clause-theta_low g c =
-    let b = g.T.KeySketch.shown c.args.b in
-    let reported = reported_nonempty b _ c.in-NonEmpty.b_theta _ _ c.in-NonEmpty.ensures.metadata in
-    omega (arith, c.min-theta.ensures, c.requires.sound.theta_low, c.requires.of_theta, reported.theta_is, c.metadata.ensures.is_sound.theta_low)
+use Rattle.core_operators.proofs.a_not_b.difference.Goals.{then-requested, else-requested}
 
 pub state_of-requires : goal.state_of-requires
 state_of-requires g c =
@@ -38,30 +34,33 @@ state_of-requires-in-NonEmpty g c =
     let kept = c.in_ok-kept-in-NonEmpty.ensures in
     let reported = reported_nonempty b _ c.in-NonEmpty.b_theta _ _ c.in-NonEmpty.ensures.metadata in
     let theta_is = lesser c.min-theta.result c.args.a_theta c.in-NonEmpty.b_theta a b c.min-theta.ensures c.requires.of_theta reported.theta_is in
-    rw (kept.ok, ← c.requires.in_order) (shown_below key a b (g.S.EntrySketch.listing c.args.a) b.hashes c.min-theta.result c.args.seed_hash c.requires.sound c.metadata.ensures.is_sound kept.listed theta_is)
+    rw kept.ok (shown_below key a b (g.S.EntrySketch.listing c.args.a) b.hashes c.min-theta.result c.args.seed_hash c.if-requested.state_of c.requires.sound c.metadata.ensures.is_sound kept.listed theta_is)
 
 pub returns-then-is_empty_result-clause-ok : goal.returns-then-is_empty_result-clause-ok
 returns-then-is_empty_result-clause-ok g c =
     let key = g.S.Entry.SketchEntry.key in
     let a = g.S.KeySketch.shown c.args.a in
     let b = g.T.KeySketch.shown c.args.b in
+    let listing = g.S.EntrySketch.listing c.args.a in
     let kept = c.in_ok-kept-in-NonEmpty.ensures in
     let reported = reported_nonempty b _ c.in-NonEmpty.b_theta _ _ c.in-NonEmpty.ensures.metadata in
     let theta_is = lesser c.min-theta.result c.args.a_theta c.in-NonEmpty.b_theta a b c.min-theta.ensures c.requires.of_theta reported.theta_is in
-    let shown = shown_below key a b (g.S.EntrySketch.listing c.args.a) b.hashes c.min-theta.result c.args.seed_hash c.requires.sound c.metadata.ensures.is_sound kept.listed theta_is in
+    let shown = shown_below key a b listing b.hashes c.min-theta.result c.args.seed_hash false c.requires.sound c.metadata.ensures.is_sound kept.listed theta_is in
     let count : c.len.result ≡ length c.in_ok-kept-in-NonEmpty.kept.items = search rules in
-    let nothing : (length (kept_of key (g.S.EntrySketch.listing c.args.a) b.hashes c.min-theta.result) == 0 && c.min-theta.result == MAX_THETA) ≡ true = rw (← kept.ok, ← count) (sym c.is_empty_result.ensures ∙ c.if-is_empty_result.true) in
-    rw (c.empty.ensures, c.requires.of_seed) (answer_nothing key a b (g.S.EntrySketch.listing c.args.a) b.hashes c.min-theta.result c.args.seed_hash _ c.requires.nonempty reported.nonempty theta_is (apart_shown key c.min-theta.result c.args.seed_hash _ a.ordered shown) nothing)
+    let nothing : (length (kept_of key (map_of key listing) b.hashes c.min-theta.result) == 0 && c.min-theta.result == MAX_THETA) ≡ true = rw (← kept.ok, ← count) (sym c.is_empty_result.ensures ∙ c.if-is_empty_result.true) in
+    rw (c.empty.ensures, c.requires.of_seed) (answer_nothing_sorted key a b listing b.hashes c.min-theta.result c.args.seed_hash _ c.requires.nonempty reported.nonempty theta_is (apart_shown key c.min-theta.result c.args.seed_hash _ false shown) nothing)
 
-pub returns-else-is_empty_result-clause-ok : goal.returns-else-is_empty_result-clause-ok
-returns-else-is_empty_result-clause-ok g c =
+pub returns-after-requested-clause-ok : goal.returns-after-requested-clause-ok
+returns-after-requested-clause-ok g c =
     let key = g.S.Entry.SketchEntry.key in
     let a = g.S.KeySketch.shown c.args.a in
     let b = g.T.KeySketch.shown c.args.b in
+    let listing = g.S.EntrySketch.listing c.args.a in
     let kept = c.in_ok-kept-in-NonEmpty.ensures in
     let reported = reported_nonempty b _ c.in-NonEmpty.b_theta _ _ c.in-NonEmpty.ensures.metadata in
     let theta_is = lesser c.min-theta.result c.args.a_theta c.in-NonEmpty.b_theta a b c.min-theta.ensures c.requires.of_theta reported.theta_is in
-    let shown = shown_below key a b (g.S.EntrySketch.listing c.args.a) b.hashes c.min-theta.result c.args.seed_hash c.requires.sound c.metadata.ensures.is_sound kept.listed theta_is in
+    let shown = shown_below key a b listing b.hashes c.min-theta.result c.args.seed_hash false c.requires.sound c.metadata.ensures.is_sound kept.listed theta_is in
     let count : c.len.result ≡ length c.in_ok-kept-in-NonEmpty.kept.items = search rules in
-    let some : (length (kept_of key (g.S.EntrySketch.listing c.args.a) b.hashes c.min-theta.result) == 0 && c.min-theta.result == MAX_THETA) ≡ false = rw (← kept.ok, ← count) (sym c.is_empty_result.ensures ∙ c.if-is_empty_result.false) in
-    rw (c.requires.of_seed, c.requires.in_order) (answer_kept key a b (g.S.EntrySketch.listing c.args.a) b.hashes c.min-theta.result c.args.seed_hash (c.args.requested || c.args.a_ordered) c.state_of-in-NonEmpty.result c.requires.nonempty reported.nonempty theta_is (apart_shown key c.min-theta.result c.args.seed_hash _ a.ordered shown) some (rw (← kept.ok) c.state_of-in-NonEmpty.ensures))
+    let some : (length (kept_of key (map_of key listing) b.hashes c.min-theta.result) == 0 && c.min-theta.result == MAX_THETA) ≡ false = rw (← kept.ok, ← count) (sym c.is_empty_result.ensures ∙ c.if-is_empty_result.false) in
+    let requested : c.if-requested.state_of ≡ (c.args.requested || c.args.a_ordered) = elim c.if-requested.branch [ then-requested w ↦ rw w.if-requested.true (w.state_of-is ∙ w.if-requested.true) | else-requested w ↦ rw w.if-requested.false w.state_of-is ] in
+    rw (c.requires.of_seed, c.requires.in_order) (answer_kept_sorted key a b listing b.hashes c.min-theta.result c.args.seed_hash (c.args.requested || c.args.a_ordered) c.state_of-in-NonEmpty.result c.requires.nonempty reported.nonempty theta_is (apart_shown key c.min-theta.result c.args.seed_hash _ false shown) some (rw (← kept.ok, ← requested) c.state_of-in-NonEmpty.ensures))

@@ -1,4 +1,4 @@
-use Rattle.std.proofs.Common.{length}
+use Rattle.std.proofs.Common.{◌+◌, ◌≤◌, length}
 use Rattle.core_operators.proofs.DifferenceEntries.{IsSifting, to_keep}
 use Rattle.core_operators.proofs.scan.difference_by_scan.Given as goal
 
@@ -7,7 +7,11 @@ abbrev pub invariant-sift_blocks : goal.invariant-sift_blocks
 invariant-sift_blocks g l =
     let key = g.E.SketchEntry.key in
     let other = g.F.SketchEntry.key in
-    IsSifting key other l.theta (to_keep key other l.theta l.fn.entries l.fn.others) l.left l.others_left l.kept.items
+    record {
+      so_far : IsSifting key other l.theta (to_keep key other l.theta l.fn.entries l.fn.others) l.left l.others_left l.kept.items;
+      grows : l.initial.compared ≤ l.compared;
+      few : l.compared + length l.left + length l.others_left ≤ l.initial.compared + length l.fn.entries + length l.fn.others;
+    }
 
 abbrev pub decreases-sift_blocks : goal.decreases-sift_blocks
 decreases-sift_blocks g l = length l.left

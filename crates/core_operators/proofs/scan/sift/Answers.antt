@@ -1,15 +1,10 @@
-use Rattle.std.specs.List.{slice_get}
-use Rattle.std.specs.Prelude.{option_map}
-use Rattle.std.proofs.Common.{Option, None, Some, [], ◌∷◌, ℕ, ◌≡◌, ◌+◌, ◌<◌, cond, ltb, leb, ◌-◌, ◌≤◌, ◌∙◌, length, take, drop, refl, List, arith}
-use Rattle.std.proofs.lemmas.List.{length-set, length-drop, take_all}
+use Rattle.std.proofs.Common.{ℕ, ◌≡◌, ◌+◌, ◌<◌, cond, ltb, leb, ◌-◌, ◌≤◌, ◌∙◌, length, take, drop, List, arith}
+use Rattle.std.proofs.lemmas.List.{length-set, length-drop}
+use Rattle.core_operators.proofs.ReadPast.{behind, some_first, no_first, counted_few, counted_some}
 use Rattle.core_operators.proofs.DifferenceEntries.{IsSifting, sifted_on, whole_at_end, whole_with_none, whole_past}
 use Rattle.std.proofs.lemmas.Bool.Decides.{nat_tests}
 use Rattle.core_operators.proofs.scan.sift.Goals as goal
 use Rattle.core_operators.proofs.scan.sift.Goals.{else-compare_each-test, then-compare_each-test+in_default, then-compare_each-test+in-Some+in_default-first, then-compare_each-test+in-Some+in-Some-first+then-hash-theta}
-
--- a slice up to the end is all of the rest
-behind : {X : Type 0} (xs : List X) (n : ℕ) → take (length xs - n) (drop n xs) ≡ drop n xs
-behind xs n = take_all (length xs - n) (drop n xs) (omega (arith, length-drop n xs))
 
 in_slices : {X Y : Type 0} (key : X → ℕ) (other : Y → ℕ) (theta : ℕ) (whole left : List X) (others : List Y) (kept : List X) (n m : ℕ) → IsSifting key other theta whole (drop n left) (drop m others) kept → IsSifting key other theta whole (take (length left - n) (drop n left)) (take (length others - m) (drop m others)) kept
 in_slices key other theta whole left others kept n m is = rw (behind left n, behind others m) is
@@ -28,10 +23,6 @@ fewer_left left count more passed total hash other_hash more_is passed_is some w
     let n = length-drop passed left in
     rw (behind left passed) (omega (arith, n, less, one, some, was))
 
-some_first : {X : Type 0} (left : List X) (x : X) → Some x ≡ slice_get left 0 → 0 < length left
-some_first [] x first = absurd (cc)
-some_first (y ∷ left) x first = omega arith
-
 pub compare_each-preserved : goal.compare_each-preserved
 compare_each-preserved g c =
     let key = g.E.SketchEntry.key in
@@ -43,11 +34,9 @@ compare_each-preserved g c =
       room = length-set _ _ _ ∙ c.compare_each.invariant.room;
       limited = omega (arith, c.number_if-count.ensures.small, c.compare_each-test.true);
       fewer = fewer_left c.compare_each.left.now c.compare_each.count c.number_if-count.result c.number_if.result (length c.args.entries.now) c.hash-hash.result c.hash-known.result c.number_if-count.ensures.value c.number_if.ensures.value (some_first c.compare_each.left.now c.in-Some.entry.now c.in-Some.ensures.value) c.compare_each.invariant.fewer;
+      some = counted_some c.compare_each.left.now c.compare_each.others_left.now c.compare_each.compared c.tick.new.self c.hash-hash.result c.hash-known.result c.number_if.result c.number_if-in-compare_each.result c.tick.ensures (some_first c.compare_each.left.now c.in-Some.entry.now c.in-Some.ensures.value) (some_first c.compare_each.others_left.now c.in-Some-first.other.now c.in-Some-first.ensures.value) c.number_if.ensures.value c.number_if-in-compare_each.ensures.value c.number_if.ensures.small c.number_if-in-compare_each.ensures.small _ c.compare_each.invariant.some;
+      few = counted_few c.compare_each.left.now c.compare_each.others_left.now c.compare_each.compared c.tick.new.self c.hash-hash.result c.hash-known.result c.number_if.result c.number_if-in-compare_each.result c.tick.ensures (some_first c.compare_each.left.now c.in-Some.entry.now c.in-Some.ensures.value) (some_first c.compare_each.others_left.now c.in-Some-first.other.now c.in-Some-first.ensures.value) c.number_if.ensures.value c.number_if-in-compare_each.ensures.value c.number_if.ensures.small c.number_if-in-compare_each.ensures.small _ c.compare_each.invariant.few;
     }
-
-no_first : {R X : Type 0} (at : R → X) (o : Option R) (left : List X) → ((r : R) → o ≡ Some r → ⊥) → option_map at o ≡ slice_get left 0 → None ≡ slice_get left 0
-no_first at None left none e = e
-no_first at (Some r) left none e = absurd (none r refl)
 
 pub returns-clause-whole : goal.returns-clause-whole
 returns-clause-whole g c = λ limited.

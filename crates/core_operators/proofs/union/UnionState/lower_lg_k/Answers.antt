@@ -1,7 +1,5 @@
-use Rattle.std.proofs.Common.{◌≡◌, ◌≤◌, ℕ, sym, ap, subst, ◌∙◌, arith}
-use Rattle.core_laws.specs.Cuts.{cut}
-use Rattle.core_laws.specs.Maps.{below}
-use Rattle.core_operators.specs.Union.{Union, union_value, IsUnionBelow}
+use Rattle.std.proofs.Common.{ℕ, sym, ap, subst, ◌∙◌, arith}
+use Rattle.core_operators.specs.Union.{union_value, IsUnionBelow}
 use Rattle.core_laws.proofs.maps.Ascending.{ascending-filter}
 use Rattle.core_laws.proofs.insertions.Cases.{IsRetained-below}
 use Rattle.core_operators.proofs.LoweredUnion.{smaller, value_same, value_fewer, sound_smaller, lowered_is, over, over_smaller, over_theta}

@@ -1,0 +1,49 @@
+use Rattle.std.proofs.Common.{◌≡◌, ◌∙◌, length, sym, ap, arith}
+use Rattle.std.proofs.lemmas.Result.{IfOk-weaker}
+use Rattle.core_laws.specs.Maps.{IsAscending, below, map_of}
+use Rattle.core_laws.specs.Operators.{lacking}
+use Rattle.core_laws.proofs.maps.Ascending.{ascending-filter}
+use Rattle.core_laws.proofs.maps.MapsOfLists.{ascending-from_map, ascending-map_of, apart-distinct}
+use Rattle.core_table.proofs.OtherOrders.{map_of-ascending}
+use Rattle.core_operators.proofs.DifferenceEntries.{below_twice}
+use Rattle.core_operators.proofs.SharedEntries.{few_below}
+use Rattle.core_operators.proofs.a_not_b.kept_beside.Goals as goal
+
+pub ascending_difference-requires-clause-ascending : goal.ascending_difference-requires-clause-ascending
+ascending_difference-requires-clause-ascending g c =
+    let key = g.S.Entry.SketchEntry.key in
+    let listing = g.S.EntrySketch.listing c.args.a in
+    let all : c.in-Some.entries.now ≡ listing = c.in-Some.ensures.left ∙ c.entries-list.ensures.all in
+    rw all (ascending-from_map key listing (rw c.entries-list.ensures.hashes (c.entries-list.ensures.sound.ascending (c.requires.in_order ∙ c.if-ordered.true))))
+
+pub returns-in-Some-clause-ok : goal.returns-in-Some-clause-ok
+returns-in-Some-clause-ok g c =
+    let key = g.S.Entry.SketchEntry.key in
+    let other = g.F.SketchEntry.key in
+    let listing = g.S.EntrySketch.listing c.args.a in
+    let all : c.in-Some.entries.now ≡ listing = c.in-Some.ensures.left ∙ c.entries-list.ensures.all in
+    let up : IsAscending key listing = ascending-from_map key listing (rw c.entries-list.ensures.hashes (c.entries-list.ensures.sound.ascending (c.requires.in_order ∙ c.if-ordered.true))) in
+    let same : c.in-Some.entries.now ≡ map_of key listing = all ∙ sym (map_of-ascending key listing up) in
+    IfOk-weaker c.ascending_difference.result _ _ (λ v e. e ∙ ap (λ zs. lacking key other (below key zs c.args.theta) c.args.others.now) same) c.ascending_difference.ensures.ok
+
+pub ascending_difference-requires-2-clause-ascending : goal.ascending_difference-requires-2-clause-ascending
+ascending_difference-requires-2-clause-ascending g c =
+    let key = g.S.Entry.SketchEntry.key in
+    let listing = g.S.EntrySketch.listing c.args.a in
+    rw (c.deref.ensures.value, c.in_ok-entries.ensures.ok) (ascending-filter key _ (map_of key listing) (ascending-map_of key listing))
+
+pub returns-clause-ok : goal.returns-clause-ok
+returns-clause-ok g c =
+    let key = g.S.Entry.SketchEntry.key in
+    let other = g.F.SketchEntry.key in
+    let whole = map_of key (g.S.EntrySketch.listing c.args.a) in
+    let entries_are : c.deref.result.now ≡ below key whole c.args.theta = c.deref.ensures.value ∙ c.in_ok-entries.ensures.ok in
+    IfOk-weaker c.ascending_difference-2.result _ _ (λ v e. e ∙ ap (λ zs. lacking key other (below key zs c.args.theta) c.args.others.now) entries_are ∙ ap (λ zs. lacking key other zs c.args.others.now) (below_twice key whole c.args.theta)) c.ascending_difference-2.ensures.ok
+
+pub returns-clause-compared : goal.returns-clause-compared
+returns-clause-compared g c =
+    let key = g.S.Entry.SketchEntry.key in
+    let listing = g.S.EntrySketch.listing c.args.a in
+    let entries_are : c.deref.result.now ≡ below key (map_of key listing) c.args.theta = c.deref.ensures.value ∙ c.in_ok-entries.ensures.ok in
+    let few = few_below key listing c.args.theta (apart-distinct key listing (rw c.entries-list.ensures.hashes c.entries-list.ensures.sound.distinct)) in
+    omega (arith, few, ap length entries_are, c.ascending_difference-2.ensures.compared)

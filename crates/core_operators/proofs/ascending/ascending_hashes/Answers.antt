@@ -1,0 +1,16 @@
+use Rattle.std.proofs.Common.{◌∙◌, sym}
+use Rattle.core_laws.specs.Maps.{IsAscending, below}
+use Rattle.core_laws.specs.Entries.{hash_key}
+use Rattle.core_laws.proofs.maps.Ascending.{ascending-filter}
+use Rattle.core_table.proofs.OtherOrders.{map_of-ascending}
+use Rattle.core_operators.proofs.DifferenceEntries.{below_apart}
+use Rattle.core_operators.proofs.ascending.ascending_hashes.Goals as goal
+
+pub returns-then-ordered-clause-ok : goal.returns-then-ordered-clause-ok
+returns-then-ordered-clause-ok g c =
+    let hashes = (g.T.KeySketch.shown c.args.sketch).hashes in
+    let up : IsAscending hash_key (below hash_key hashes c.args.theta) = ascending-filter hash_key _ hashes (c.hashes_below.ensures.sound.ascending (c.requires ∙ c.if-ordered.true)) in
+    c.in_ok-keys.ensures.ok ∙ sym (map_of-ascending hash_key (below hash_key hashes c.args.theta) up)
+
+pub sorted_by_hash-requires : goal.sorted_by_hash-requires
+sorted_by_hash-requires g c = rw c.in_ok-keys.ensures.ok (below_apart (g.T.KeySketch.shown c.args.sketch).hashes c.args.theta c.hashes_below.ensures.sound.distinct)

@@ -1,0 +1,80 @@
+use Rattle.std.proofs.Common.{ℕ, ◌≡◌, ◌+◌, ◌∙◌, ◌∷◌, ◌++◌, [], true, drop, map, sym, ap, refl, inl, inr, arith}
+use Rattle.std.specs.Prelude.{option_copied}
+use Rattle.std.proofs.lemmas.List.{drop_more, drop_all, append-nil}
+use Rattle.std.proofs.lemmas.Result.{err_from_is_err_and}
+use Rattle.core_laws.specs.Folds.{Value}
+use Rattle.core_laws.proofs.maps.MapsOfLists.{ascending-apart}
+use Rattle.core_operators.proofs.SharedEntries.{IsReading, reading-start, reading-next, reading-refused, read_past, more_read, pair_read, pair_refused, unpaired, found_few}
+use Rattle.core_operators.proofs.share.shared_by_arriving.Goals as goal
+use Rattle.core_operators.proofs.share.shared_by_arriving.Goals.{else-look_up_each-test, then-look_up_each-test+then-hash-theta}
+
+pub look_up_each-init : goal.look_up_each-init
+look_up_each-init g c =
+    let key = g.E.SketchEntry.key in
+    let merges = g.P.IntersectionMergePolicy.merges c.args.policy.now in
+    let refuses = g.P.IntersectionMergePolicy.refuses c.args.policy.now in
+    let keeps = g.met.P.IntersectionMergePolicy.keeps_hash c.args.policy.now in
+    rw c.new-entries.ensures.items (record {
+      rest = refl;
+      reading = reading-start key c.args.arriving.now true (ascending-apart key c.args.arriving.now c.requires.arriving_ascend) (λ _. c.requires.arriving_ascend);
+      some = omega arith;
+      few = λ k within. omega arith;
+    })
+
+pub returns-in_err-found-clause-refused : goal.returns-in_err-found-clause-refused
+returns-in_err-found-clause-refused g c =
+    let key = g.E.SketchEntry.key in
+    let merges = g.P.IntersectionMergePolicy.merges c.args.policy.now in
+    let refuses = g.P.IntersectionMergePolicy.refuses c.args.policy.now in
+    let keeps = g.met.P.IntersectionMergePolicy.keeps_hash c.args.policy.now in
+    let i : ℕ = c.look_up_each.incoming-index in
+    let x = c.incoming-item.result in
+    let left = drop (i + 1) c.args.arriving.now in
+    let shape : drop i c.args.arriving.now ≡ x ∷ left = drop_more c.args.arriving.now i x c.look_up_each-test.true ∙ ap (λ y. y ∷ left) (sym c.incoming-item.is) in
+    let p = err_from_is_err_and c.from_residual.result c.from_residual.ensures.1 in
+    let reading : IsReading key c.args.arriving.now (x ∷ left) true = rw shape at c.look_up_each.invariant.reading in
+    rw (p.1, p.2) (elim c.in_err-found.ensures.refused [
+      | inl o ↦ inl o
+      | inr r ↦ inr (r.0, reading-refused key refuses _ c.args.arriving.now left x true reading (pair_refused key merges refuses keeps c.args.content.now x c.args.theta c.hash-hash.result _ c.found_by_halves-existing.ensures.found c.hash-hash.ensures (omega (arith, c.if-hash-theta.false)) r.1))
+    ])
+
+pub look_up_each-preserved : goal.look_up_each-preserved
+look_up_each-preserved g c =
+    let key = g.E.SketchEntry.key in
+    let merges = g.P.IntersectionMergePolicy.merges c.args.policy.now in
+    let refuses = g.P.IntersectionMergePolicy.refuses c.args.policy.now in
+    let keeps = g.met.P.IntersectionMergePolicy.keeps_hash c.args.policy.now in
+    let i : ℕ = c.look_up_each.incoming-index in
+    let x = c.incoming-item.result in
+    let left = drop (i + 1) c.args.arriving.now in
+    let shape : drop i c.args.arriving.now ≡ x ∷ left = drop_more c.args.arriving.now i x c.look_up_each-test.true ∙ ap (λ y. y ∷ left) (sym c.incoming-item.is) in
+    let reading : IsReading key c.args.arriving.now (x ∷ left) true = rw shape at c.look_up_each.invariant.reading in
+    let read = pair_read key merges refuses keeps c.args.content.now x c.args.theta c.hash-hash.result (option_copied c.found_by_halves-existing.result) c.in_ok-found.found c.found_by_halves-existing.ensures.found c.hash-hash.ensures (omega (arith, c.if-hash-theta.false)) c.in_ok-found.ensures.combined in
+    record {
+      rest = rw c.in_ok-push_found.ensures (more_read key merges refuses keeps c.look_up_each.entries.items left c.args.content.now x c.args.theta c.in_ok-found.found _ read (rw shape at c.look_up_each.invariant.rest));
+      reading = reading-next key c.args.arriving.now left x true reading;
+      some = rw c.in_ok-push_found.ensures (found_few c.look_up_each.entries.items c.in_ok-found.found c.found_by_halves-existing.result c.args.compared.now c.look_up_each.compared c.found_by_halves-existing.new.compared (unpaired key merges refuses keeps (λ r. r.now) c.found_by_halves-existing.result x c.in_ok-found.found c.in_ok-found.ensures.combined) c.found_by_halves-existing.ensures.looks c.found_by_halves-existing.ensures.grows c.look_up_each.invariant.some);
+      few = λ k within. let was = c.look_up_each.invariant.few k within in let more = c.found_by_halves-existing.ensures.compared k within in omega (arith, was, more);
+    }
+
+pub returns-clause-all : goal.returns-clause-all
+returns-clause-all g c =
+    let key = g.E.SketchEntry.key in
+    let merges = g.P.IntersectionMergePolicy.merges c.args.policy.now in
+    let refuses = g.P.IntersectionMergePolicy.refuses c.args.policy.now in
+    let keeps = g.met.P.IntersectionMergePolicy.keeps_hash c.args.policy.now in
+    let i : ℕ = c.look_up_each.incoming-index in
+    let so_far = map Value c.look_up_each.entries.items in
+    let was = c.look_up_each.invariant in
+    sym (append-nil so_far) ∙
+    elim c.look_up_each-test.branch [
+      | else-look_up_each-test w ↦
+          let none : drop i c.args.arriving.now ≡ [] = drop_all i c.args.arriving.now (omega (arith, w.look_up_each-test.false)) in
+          rw none at was.rest
+      | then-look_up_each-test+then-hash-theta w ↦
+          let x = w.incoming-item.result in
+          let left = drop (i + 1) c.args.arriving.now in
+          let shape : drop i c.args.arriving.now ≡ x ∷ left = drop_more c.args.arriving.now i x w.look_up_each-test.true ∙ ap (λ y. y ∷ left) (sym w.incoming-item.is) in
+          let reading : IsReading key c.args.arriving.now (x ∷ left) true = rw shape at was.reading in
+          ap (λ us. so_far ++ us) (sym (read_past key merges refuses keeps c.args.arriving.now left c.args.content.now x c.args.theta reading (rw (← w.hash-hash.ensures) (omega (arith, w.if-hash-theta.true))))) ∙ rw shape at was.rest
+    ]

@@ -1,0 +1,120 @@
+//! The entries and the hashes of a sketch below a theta, in ascending order.
+ghost use Rattle.std.specs.Prelude.{◌≡◌, true, None, map, IfOk};
+ghost use Rattle.core_laws.specs.Maps.{below, map_of};
+ghost use Rattle.core_laws.specs.Entries.{hash_key, ClonesEqual};
+ghost use Rattle.core_laws.specs.Refusal.{Refuses};
+ghost use Rattle.core_laws.specs.Shown.{IsShown};
+
+use crate::merge::is_past;
+use crate::view::{EntrySketch, KeySketch};
+use core_laws::SketchEntry;
+use core_slots::ThetaEntry;
+use core_table::sorted_by_hash;
+use sketch_base::Error;
+use std::alloc::{AllocError, Allocator};
+
+/// Clones of the entries of a sketch below theta, in its order. The vector has room for `room` entries from the start.
+/// If the entries ascend, it stops at the first that is not below theta.
+fn entries_below<S: EntrySketch, A: Allocator>(
+    alloc: A,
+    sketch: S,
+    theta: u64,
+    ascending: bool,
+    room: usize,
+) -> Result<Vec<S::Entry, A>, Error>
+where
+    S::Entry: Clone,
+    requires clones_equal { ClonesEqual S.Entry.is_clone }
+    requires in_order { (S.shown sketch).ordered ≡ ascending }
+    ensures ok { IfOk result (λ v. v.items ≡ below S.Entry.key (S.listing sketch) theta) }
+    ensures listed { map S.Entry.key (S.listing sketch) ≡ (S.shown sketch).hashes }
+    ensures sound { IsShown (S.shown sketch) }
+    ensures refused { Refuses result None true }
+{
+    let items = sketch.entries();
+    let mut entries = Vec::with_capacity(alloc, room)?;
+    'clone_each: for entry in items {
+        let hash = entry.hash();
+        if is_past(ascending, hash, theta) {
+            break;
+        }
+        if hash >= theta {
+            continue;
+        }
+        entries.push(entry.clone()?)?;
+    }
+    Ok(entries)
+}
+
+/// Clones of the entries of a sketch below theta, in ascending order. They are sorted if the sketch isn't known to be
+/// ordered. The vector has room for `room` entries from the start. Refused with `OutOfMemory` alone.
+pub(crate) fn ascending_entries<S: EntrySketch, A: Allocator>(
+    alloc: A,
+    sketch: S,
+    theta: u64,
+    ordered: bool,
+    room: usize,
+) -> Result<Vec<S::Entry, A>, Error>
+where
+    S::Entry: Clone,
+    requires clones_equal { ClonesEqual S.Entry.is_clone }
+    requires in_order { (S.shown sketch).ordered ≡ ordered }
+    ensures ok { IfOk result (λ v. v.items ≡ below S.Entry.key (map_of S.Entry.key (S.listing sketch)) theta) }
+    ensures listed { map S.Entry.key (S.listing sketch) ≡ (S.shown sketch).hashes }
+    ensures sound { IsShown (S.shown sketch) }
+    ensures refused { Refuses result None true }
+{
+    let entries = entries_below(alloc, sketch, theta, ordered, room)?;
+    if ordered {
+        return Ok(entries);
+    }
+    Ok(sorted_by_hash(entries))
+}
+
+/// The hashes of a sketch below theta, in their order. The vector has room for `room` hashes from the start. If the
+/// hashes ascend, it stops at the first that is not below theta.
+fn hashes_below<T: KeySketch, A: Allocator>(
+    alloc: A,
+    sketch: T,
+    theta: u64,
+    ascending: bool,
+    room: usize,
+) -> Result<Vec<ThetaEntry, A>, Error>
+    requires { (T.shown sketch).ordered ≡ ascending }
+    ensures ok { IfOk result (λ v. v.items ≡ below hash_key (T.shown sketch).hashes theta) }
+    ensures sound { IsShown (T.shown sketch) }
+    ensures refused { Refuses result None true }
+{
+    let hashes = sketch.hashes();
+    let mut keys = Vec::with_capacity(alloc, room)?;
+    'collect_each: for hash in hashes {
+        if is_past(ascending, hash, theta) {
+            break;
+        }
+        if hash >= theta {
+            continue;
+        }
+        keys.push(ThetaEntry::of_hash(hash))?;
+    }
+    Ok(keys)
+}
+
+/// The hashes of a sketch below theta, in ascending order. They are sorted if the sketch isn't known to be ordered. The
+/// vector has room for `room` hashes from the start. Refused with `OutOfMemory` alone.
+pub(crate) fn ascending_hashes<T: KeySketch, A: Allocator>(
+    alloc: A,
+    sketch: T,
+    theta: u64,
+    ordered: bool,
+    room: usize,
+) -> Result<Vec<ThetaEntry, A>, Error>
+    requires { (T.shown sketch).ordered ≡ ordered }
+    ensures ok { IfOk result (λ v. v.items ≡ map_of hash_key (below hash_key (T.shown sketch).hashes theta)) }
+    ensures refused { Refuses result None true }
+{
+    let keys = hashes_below(alloc, sketch, theta, ordered, room)?;
+    if ordered {
+        return Ok(keys);
+    }
+    Ok(sorted_by_hash(keys))
+}
