@@ -1,5 +1,5 @@
 -- What `count` prints and `sketch` writes of groups of lines.
-use Rattle.std.specs.Prelude.{ℕ, ◌≡◌, ◌++◌, Bool, true, false, List, [], ◌∷◌, Option, Some, None, is_some, codes, flat_map}
+use Rattle.std.specs.Prelude.{ℕ, ◌≡◌, ◌++◌, Bool, true, false, List, [], ◌∷◌, Option, Some, None, is_some, unwrap_or, codes, flat_map}
 use Rattle.std.specs.Str.Lossy.{utf8_lossy}
 use Rattle.core_compact.specs.CompactState.{Compact}
 use Rattle.theta_sketches.specs.Image.{written}
@@ -52,11 +52,14 @@ groups_head false options = head_of options.form
 abbrev pub group_estimate : OptionValues → Grouping → (lines : List (List ℕ)) → (name : List ℕ) → ℕ
 group_estimate options grouping lines name = (report_by options (group_sketch grouping lines name)).estimate
 
--- these names are in the order that is chosen: by their estimates, or as they were, which is the order of their bytes
-abbrev pub AreOrdered : Option Order → (estimate : List ℕ → ℕ) → (names ordered : List (List ℕ)) → Type 0
-AreOrdered (Some Estimate) estimate names ordered = AreRanked estimate names ordered
-AreOrdered (Some Name) estimate names ordered = ordered ≡ names
-AreOrdered None estimate names ordered = ordered ≡ names
+-- the order of groups: by name, if none is chosen
+abbrev pub chosen_order : OptionValues → Order
+chosen_order options = unwrap_or options.sort Name
+
+-- these names are in this order: by their estimates, or as they were, which is the order of their bytes
+abbrev pub AreOrdered : Order → (estimate : List ℕ → ℕ) → (names ordered : List (List ℕ)) → Type 0
+AreOrdered Estimate estimate names ordered = AreRanked estimate names ordered
+AreOrdered Name estimate names ordered = ordered ≡ names
 
 -- what is printed of the lines of texts by groups: a line of each group of these lines, in the order that is chosen, behind the head
 abbrev pub IsGroupedText : (images : Bool) → OptionValues → (seed : ℕ) → (by : Key) → (texts : List (List ℕ)) → List ℕ → Type 0
@@ -65,5 +68,5 @@ IsGroupedText images options seed by texts out =
     let grouping = grouping_of options seed by in
     (names ordered : List (List ℕ))
     × AreGroups by lines names
-    × AreOrdered options.sort (group_estimate options grouping lines) names ordered
+    × AreOrdered (chosen_order options) (group_estimate options grouping lines) names ordered
     × (out ≡ groups_head images options ++ groups_text images options grouping lines ordered)

@@ -8,7 +8,7 @@ ghost use Rattle.distinct_arguments.specs.Faults.{options_of};
 ghost use Rattle.distinct_commands.specs.Failures.{IsOfReading};
 ghost use Rattle.grouped_lines.specs.Ranked.{AreRanked};
 ghost use Rattle.distinct_commands.specs.Groups.{grouping_of, group_text, group_line, groups_text, groups_head, IsGroupedText};
-ghost use Rattle.distinct_commands.specs.Groups.{group_estimate, AreOrdered};
+ghost use Rattle.distinct_commands.specs.Groups.{group_estimate, chosen_order, AreOrdered};
 ghost use Rattle.distinct_commands.specs.Texts.{report_by};
 ghost use Rattle.distinct_commands.specs.declared.failure.Failure.TheVariants as failure;
 
@@ -170,14 +170,13 @@ fn ordered_text(
     ensures printed { (grouping : Grouping) (lines names : List (List ℕ))
         → AreLeft grouping lines names groups.old
         → IfOk result (λ v. (ordered : List (List ℕ))
-        × AreOrdered (options_of options.now).sort (group_estimate (options_of options.now) grouping lines) names ordered
+        × AreOrdered (chosen_order (options_of options.now)) (group_estimate (options_of options.now) grouping lines) names ordered
         × (v.items ≡ groups_text images (options_of options.now) grouping lines ordered)) }
     ensures memory { IfErr result (λ f. f ≡ failure.Memory) }
 {
-    match options.sort {
-        Some(Order::Estimate) => ranked_groups_text(alloc, options, images, groups),
-        Some(Order::Name) => groups_text(alloc, options, images, groups),
-        None => groups_text(alloc, options, images, groups),
+    match options.sort.unwrap_or(Order::Name) {
+        Order::Estimate => ranked_groups_text(alloc, options, images, groups),
+        Order::Name => groups_text(alloc, options, images, groups),
     }
 }
 
