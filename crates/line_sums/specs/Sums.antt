@@ -18,6 +18,8 @@ use Rattle.core_state.specs.Updatable.{Updatable}
 use Rattle.lines.specs.Keys.{line_hash}
 use Rattle.lines.specs.declared.key.Hashing.{Hashing}
 use Rattle.line_sketches.specs.Keys.{value_of_lines}
+use Rattle.line_sums.specs.Amounts.{added_by, AreNumbers}
+use Rattle.line_sums.specs.declared.addends.Amount.{Amount}
 
 -- what each line adds to its key: one, so that a sum is the number of a key's lines
 abbrev pub one_each : (line : List ℕ) → ℕ
@@ -60,3 +62,8 @@ pub record HasSummed (hashing : Hashing) (amount : List ℕ → ℕ) (lg_k : ℕ
   pub same_size : s.map.lg_nom ≡ lg_k
   pub same_seed : s.map.seed_hash ≡ seed_hash hashing.seed
   pub emptiness : s.empty ≡ (length lines == 0)
+
+-- .. and each of them added a number
+pub record HasAdded (hashing : Hashing) (amount : Amount) (lg_k : ℕ) (lines : List (List ℕ)) (s : Updatable (TupleEntry ℕ)) : Type 0 where
+  pub summed : HasSummed hashing (added_by amount) lg_k lines s
+  pub numbers : AreNumbers amount lines
