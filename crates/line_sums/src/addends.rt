@@ -47,7 +47,7 @@ impl OpenNumber {
     /// The digits after a separator: those of the first field are forgotten, if the number is in another one.
     fn kept(self, before: u32) -> Digits
         ensures { (separator : ℕ) (front : List ℕ)
-            → IsOpenNumber (Field before separator) front self.entry
+            → IsOpenNumber (Field before separator) front self
             → IsRead (key_of (Field before separator) (front ++ separator ∷ [])) result }
     {
         if self.passed == 0 && before != 0 {
@@ -60,7 +60,7 @@ impl OpenNumber {
     /// The state after a separator.
     fn pass(self, before: u32) -> OpenNumber
         ensures { (separator : ℕ) (front : List ℕ)
-            → IsOpenNumber (Field before separator) front self.entry
+            → IsOpenNumber (Field before separator) front self
             → IsOpenNumber (Field before separator) (front ++ separator ∷ []) result }
     {
         let passed = if self.passed <= before as u64 {
@@ -78,7 +78,7 @@ impl OpenNumber {
     /// before the number's field.
     fn put(self, before: u32, separator: u8, byte: u8) -> OpenNumber
         ensures { (front : List ℕ)
-            → IsOpenNumber (Field before separator) front self.entry
+            → IsOpenNumber (Field before separator) front self
             → IsOpenNumber (Field before separator) (front ++ byte ∷ []) result }
     {
         if byte == separator {
@@ -97,7 +97,7 @@ impl OpenNumber {
     /// The state after a byte of a line.
     fn with(self, key: Key, byte: u8) -> OpenNumber
         ensures { (front : List ℕ)
-            → IsOpenNumber key front self.entry
+            → IsOpenNumber key front self
             → IsOpenNumber key (front ++ byte ∷ []) result }
     {
         match key {
@@ -112,7 +112,7 @@ impl OpenNumber {
     /// The state after bytes of a line.
     fn extended(self, key: Key, bytes: &[u8]) -> OpenNumber
         ensures { (front : List ℕ)
-            → IsOpenNumber key front self.entry
+            → IsOpenNumber key front self
             → IsOpenNumber key (front ++ bytes.now) result }
     {
         let mut state = self;

@@ -31,7 +31,7 @@ fn with_digit(number: u64, digit: u64) -> Digits
 impl Digits {
     /// The digits with one byte more.
     pub(crate) fn with(self, byte: u8) -> Digits
-        ensures { (bytes : List ℕ) → IsRead bytes self.entry → IsRead (bytes ++ byte ∷ []) result }
+        ensures { (bytes : List ℕ) → IsRead bytes self → IsRead (bytes ++ byte ∷ []) result }
     {
         if !byte.is_ascii_digit() {
             return Digits::Wrong;
@@ -46,7 +46,7 @@ impl Digits {
 
     /// The number that the bytes spell, if they spell one below 2^64.
     pub(crate) fn number(self) -> Option<u64>
-        ensures { (bytes : List ℕ) → IsRead bytes self.entry → result ≡ number_in bytes }
+        ensures { (bytes : List ℕ) → IsRead bytes self → result ≡ number_in bytes }
     {
         match self {
             Digits::Nothing => None,
