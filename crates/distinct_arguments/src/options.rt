@@ -11,6 +11,7 @@ pub enum OptionName {
     Field,
     Separator,
     By,
+    Value,
     Seed,
     SeedFile,
     FileList,
@@ -51,6 +52,8 @@ pub struct Options<'a> {
     pub separator: Option<u8>,
     /// The number of the field that is the name of a line's group, from 1, or `None` if lines are not grouped.
     pub by: Option<u32>,
+    /// The number of the field that has the number of a line, from 1, or `None` if no numbers are read.
+    pub value: Option<u32>,
     pub seed: Seed<'a>,
     /// Whether images are in hexadecimal digits.
     pub hex: bool,
@@ -71,4 +74,5 @@ pub struct Options<'a> {
     ghost high: { lg_k ≤ 26 },
     ghost from_one: { ForSome field (λ number. 0 < number) },
     ghost by_from_one: { ForSome by (λ number. 0 < number) },
+    ghost value_from_one: { ForSome value (λ number. 0 < number) },
 }
