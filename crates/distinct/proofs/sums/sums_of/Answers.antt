@@ -1,0 +1,14 @@
+use Rattle.std.proofs.Common.{◌≡◌, ap, ◌∙◌}
+use Rattle.lines.specs.Lines.{lines_of_all}
+use Rattle.lines.specs.declared.key.Key.{Key}
+use Rattle.line_sketches.proofs.Turns.{if_some}
+use Rattle.line_sums.specs.Amounts.{added_by}
+use Rattle.line_sums.specs.Sums.{sketch_of_sums}
+use Rattle.distinct_arguments.specs.Faults.{options_of}
+use Rattle.distinct.specs.Sums.{sums_of}
+use Rattle.distinct.proofs.sums.sums_of.Goals as goal
+
+pub returns-in-Ok-clause-sums : goal.returns-in-Ok-clause-sums
+returns-in-Ok-clause-sums g c =
+    if_some (g.S.Sources.texts c.args.inputs.sources) (λ texts. c.in-Ok.sums ≡ sketch_of_sums (record { key = c.key.result; seed = c.args.seed }) (added_by c.args.amount) c.args.options.now.lg_k (lines_of_all texts)) (λ texts. c.in-Ok.sums ≡ sums_of (options_of c.args.options.now) c.args.amount c.args.seed texts)
+    (λ texts is. is ∙ ap (λ (k : Key). sketch_of_sums (record { key = k; seed = c.args.seed }) (added_by c.args.amount) c.args.options.now.lg_k (lines_of_all texts)) c.key.ensures) c.in-Ok.ensures.sketch
