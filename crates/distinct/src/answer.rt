@@ -178,7 +178,11 @@ fn in_form(alloc: Global, hex: bool, image: Vec<u8>) -> Result<Vec<u8>, Failure>
 }
 
 /// The image of a sketch as it is written.
-pub fn image_in_form(alloc: Global, hex: bool, sketch: &CompactThetaSketch) -> Result<Vec<u8>, Failure>
+pub fn image_in_form(
+    alloc: Global,
+    hex: bool,
+    sketch: &CompactThetaSketch,
+) -> Result<Vec<u8>, Failure>
     ensures form { IfOk result (λ v. v.items ≡ in_form hex (written sketch.now)) }
     ensures memory { IfErr result (λ f. f ≡ failure.Memory) }
 {

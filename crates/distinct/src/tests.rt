@@ -590,10 +590,7 @@ const LETTERS: [&str; 2] = [
 ];
 
 /// Three keys with amounts, whose total is above 64 bits, and twenty.
-const AMOUNTS: [&str; 2] = [
-    "ann;5\nbob;7",
-    "bob;0\n;1\nann;18446744073709551610",
-];
+const AMOUNTS: [&str; 2] = ["ann;5\nbob;7", "bob;0\n;1\nann;18446744073709551610"];
 
 const SQUARES: [&str; 2] = [
     "a;1\nb;4\nc;9\nd;16\ne;25\nf;36\ng;49\nh;64\ni;81\nj;100\n",
@@ -745,12 +742,29 @@ fn writes_each_answer(rt: HostRuntime) -> Result<(), Fail> {
             "18446744073709551623\n",
         ),
         (
-            &["sum", "--separator=;", "--field=1", "--value=2", "--tsv", "a", "b"],
+            &[
+                "sum",
+                "--separator=;",
+                "--field=1",
+                "--value=2",
+                "--tsv",
+                "a",
+                "b",
+            ],
             AMOUNTS,
             "total\texact\tretained\ttheta\n18446744073709551623\ttrue\t3\t9223372036854775807\n",
         ),
         (
-            &["sum", "--separator=;", "--field=1", "--value=2", "--lg-k=4", "--json", "a", "b"],
+            &[
+                "sum",
+                "--separator=;",
+                "--field=1",
+                "--value=2",
+                "--lg-k=4",
+                "--json",
+                "a",
+                "b",
+            ],
             SQUARES,
             "{\"total\":2970,\"exact\":false,\"retained\":16,\"theta\":8286655706689789920}\n",
         ),
