@@ -3,3 +3,4 @@ pub mod Amounts
 pub mod Exact
 pub mod Adding
 pub mod Pieces
+pub mod Below

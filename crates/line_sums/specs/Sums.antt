@@ -4,6 +4,7 @@ use Rattle.sketch_base.specs.Seed.{seed_hash}
 use Rattle.core_compact.specs.CompactState.{Compact, ordered_sketch}
 use Rattle.core_laws.specs.Cuts.{Retained, none_below}
 use Rattle.core_laws.specs.Folds.{Fold, fold_key, folded_of, unmarked}
+use Rattle.core_laws.specs.Insertion.{is_screened}
 use Rattle.core_laws.specs.Leaf.{leaf_from}
 use Rattle.core_laws.specs.Step.{Step}
 use Rattle.core_laws.specs.Values.{Sketch, Empty, NonEmpty}
@@ -42,6 +43,11 @@ sums_of_lines hashing amount lg_k lines = with_numbers (sum_at hashing amount li
 -- the ordered sketch of the sums of lines
 abbrev pub sketch_of_sums : Hashing → (amount : List ℕ → ℕ) → (lg_k : ℕ) → List (List ℕ) → Compact (TupleEntry ℕ)
 sketch_of_sums hashing amount lg_k lines = ordered_sketch (sums_of_lines hashing amount lg_k lines) (seed_hash hashing.seed)
+
+-- the sum of what the lines add whose hashes aren't screened at a theta
+abbrev pub sum_below : Hashing → (amount : List ℕ → ℕ) → (theta : ℕ) → List (List ℕ) → ℕ
+sum_below hashing amount theta [] = 0
+sum_below hashing amount theta (line ∷ lines) = (if is_screened (line_hash hashing line) theta then 0 else amount line) + sum_below hashing amount theta lines
 
 -- lines, as the steps of a leaf
 abbrev pub sum_steps : Hashing → (amount : List ℕ → ℕ) → List (List ℕ) → List (LeafStep ℕ)

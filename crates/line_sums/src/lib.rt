@@ -16,6 +16,7 @@
 mod addends;
 mod bins;
 mod digits;
+pub mod laws;
 mod sources;
 mod summing;
 

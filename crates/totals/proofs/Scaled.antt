@@ -56,11 +56,16 @@ itself n =
     let below : nearest (n * MAX_THETA) MAX_THETA < n + 1 = div_below (2 * (n * MAX_THETA) + MAX_THETA) (2 * MAX_THETA) (n + 1) (omega arith) (omega arith) in
     omega (arith, above, below)
 
+-- a total is exact at the greatest theta alone, and then the sum
+pub exact_total : (s : Compact (TupleEntry ℕ)) → (total_of s).exact ≡ true → (s.theta ≡ MAX_THETA) × ((total_of s).total ≡ sum_of s.entries)
+unfolding total_of
+exact_total s holds =
+    let greatest : s.theta ≡ MAX_THETA = grind (arith, nat_tests) in
+    (greatest, ap (λ (t : ℕ). nearest (sum_of s.entries * MAX_THETA) t) greatest ∙ itself (sum_of s.entries))
+
 pub total_consistent : (s : Compact (TupleEntry ℕ)) → IsCompact tuple_key s → IsTotalOf s.entries (total_of s)
 unfolding total_of
 total_consistent s laws = record {
   at_least = at_least (sum_of s.entries) s.theta laws.shown.theta_low laws.shown.theta_high;
-  if_exact = λ holds.
-      let greatest : s.theta ≡ MAX_THETA = grind (arith, nat_tests) in
-      ap (λ (t : ℕ). nearest (sum_of s.entries * MAX_THETA) t) greatest ∙ itself (sum_of s.entries);
+  if_exact = λ holds. (exact_total s holds).1;
 }
