@@ -1,6 +1,6 @@
 -- The sum of the sums of a sketch, by the lines whose hashes are below its theta.
 use Rattle.std.proofs.Common.{◌≡◌, ◌≢◌, ℕ, ◌+◌, ◌^◌, ◌<◌, ◌≤◌, true, false, cond, eqb, ltb, List, [], ◌∷◌, map, Some, None, inl, inr, refl, sym, ap, subst, ◌∙◌, arith}
-use Rattle.std.specs.Prelude.{is_some, Option, ◌==◌}
+use Rattle.std.specs.Prelude.{is_some, Option}
 use Rattle.std.specs.List.{AllByRecursion}
 use Rattle.std.specs.Option.{option_map_or}
 use Rattle.std.proofs.lemmas.Bool.{cases_lt}
@@ -15,6 +15,7 @@ use Rattle.core_laws.specs.declared.leaf.LeafStep.TheVariants.{Add}
 use Rattle.core_laws.proofs.cuts.WithinWholeMaps.{found_key}
 use Rattle.core_laws.proofs.maps.Ascending.{ascending-head, ascending-tail}
 use Rattle.core_laws.proofs.maps.LookUps.{entry_at-below, entry_at-with_entry, entry_at_head, entry_at_past, entry_at_rest}
+use Rattle.core_laws.proofs.maps.MapsOfLists.{ascending-from_map, each-from_map}
 use Rattle.core_slots.specs.Entry.{tuple_of}
 use Rattle.lines.specs.Keys.{line_hash}
 use Rattle.lines.specs.declared.key.Hashing.{Hashing}
@@ -82,7 +83,7 @@ module _ (hashing : Hashing) where
 
     sum_of_none : (hashes : List ℕ) → sum_on [] hashes ≡ 0
     sum_of_none [] = refl
-    sum_of_none (h ∷ hashes) = sum_of_none hashes
+    sum_of_none (h ∷ hashes) = omega (arith, sum_of_none hashes)
 
     -- what a line adds there
     abbrev adds_on : List ℕ → List ℕ → ℕ
@@ -147,7 +148,8 @@ module _ (hashing : Hashing) where
     sums_below lg_k (line ∷ lines) small =
         let shown = (compact hashing lg_k (line ∷ lines) small).shown in
         let kept : Retained ℕ = kmin (2 ^ lg_k) (key_set hashing (line ∷ lines)) MAX_THETA in
-        sum_of_some (line ∷ lines) kept.entries kept.theta (sample hashing lg_k (line ∷ lines)).all_below shown.nonzero shown.theta_high (line ∷ lines) (shown.ascending refl) (λ other among. among)
+        sum_of_some (line ∷ lines) kept.entries kept.theta (sample hashing lg_k (line ∷ lines)).all_below
+        (each-from_map hash_key (λ (h : ℕ). 0 < h) kept.entries shown.nonzero) shown.theta_high (line ∷ lines) (ascending-from_map hash_key kept.entries (shown.ascending refl)) (λ other among. among)
 
     -- an exact total
     pub exact_below : (lg_k : ℕ) (lines : List (List ℕ)) → lg_k ≤ 26 → (total_of (sketch_of_sums hashing amount lg_k lines)).exact ≡ true →
