@@ -28,13 +28,14 @@ OPTIONS = {
     "show": "--seed --seed-file --files0-from --hex --bounds --tsv --json",
     "eval": "--lg-k --seed --seed-file --keys --field --separator --bounds --tsv --json --hex --output",
     "visits": "--lg-k --field --separator --seed --seed-file --files0-from --bounds --tsv --json",
+    "sum": "--value --lg-k --field --separator --seed --seed-file --files0-from --tsv --json",
 }
 FAMILIES = (
     "Alpha sketches,update sketches,theta sketches,unions,intersections,differences,HLL sketches,quantiles sketches,"
     "tuple sketches,frequency sketches,reservoirs,unions of reservoirs,VarOpt sketches,unions of VarOpt sketches,KLL sketches,"
     "CPC sketches,REQ sketches,count-min sketches,EBPPS sketches,t-digests,Bloom filters"
 ).split(",")
-RANGES = {"--lg-k": (4, 26), "--field": (1, 2**32 - 1), "--by": (1, 2**32 - 1), "--seed": (0, M64), "--expect": (1, 2**32 - 1)}
+RANGES = {"--lg-k": (4, 26), "--seed": (0, M64)} | {it: (1, 2**32 - 1) for it in ("--field", "--by", "--value", "--expect")}
 
 
 class Fault(Exception):
@@ -128,6 +129,22 @@ def visits_of(texts, options, seed):
     hashes = [murmur(key_of(line, options["--field"], options["--separator"]), seed) >> 1 for line in lines]
     counts = collections.Counter(hashes)
     return sketch, [counts[it] for it in (sketch[0] if sketch else [])]
+
+
+def sums_of(texts, options, seed):
+    """The sketch of the lines of texts, each with its name, and the sum of the values of each of its hashes."""
+    sums = collections.Counter()
+    for name, text in texts:
+        for number, line in enumerate(lines_of(text), 1):
+            value = key_of(line, options["--value"], options["--separator"])
+            if not re.fullmatch(rb"[0-9]+", value) or int(value) > M64:
+                raise Failure(f"{escaped(called(name))}: line {number}: its value is not a whole number up to {M64}")
+            key = murmur(key_of(line, options["--field"], options["--separator"]), seed) >> 1
+            sums[key] += int(value)
+            if sums[key] > M64:
+                raise Failure(f"{escaped(called(name))}: line {number}: the sum of its key is above {M64}")
+    sketch = sketch_of([text for _, text in texts], options, seed)
+    return sketch, [sums[it] for it in (sketch[0] if sketch else [])]
 
 
 def unite(k, parts):
@@ -287,6 +304,16 @@ def printed_ranges(rows, options):
     shown = ["estimate", "lower", "upper"] if options["--bounds"] else ["estimate"]
     names = [" to ".join(str(it) for it in sorted(set(ends.values()))) for ends, _ in rows]
     return "".join(f"{name}: {' '.join(str(row[it]) for it in shown)}\n" for name, (_, row) in zip(names, rows))
+
+
+def printed_total(sketch, sums, options):
+    """The answer of `sum` on a sketch and the sums of its hashes."""
+    hashes, theta = sketch or (set(), MAX_THETA)
+    total = (2 * sum(sums) * MAX_THETA + theta) // (2 * theta)
+    row = dict(total=total, exact=theta == MAX_THETA, retained=len(hashes), theta=theta)
+    if options["form"] == "--tsv":
+        return "\t".join(row) + "\n" + "\t".join(json.dumps(it) for it in row.values()) + "\n"
+    return json.dumps(row, separators=(",", ":")) + "\n" if options["form"] else f"{total}\n"
 
 
 def escaped(name):
@@ -449,15 +476,17 @@ def read_arguments(words):
         raise Fault("not one expression")
     if command == "eval" and "--field" in options and "--keys" not in options:
         raise Fault("--field without --keys")
-    if "--separator" in options and "--field" not in options and "--by" not in options:
-        raise Fault("--separator without --field and without --by")
+    if command == "sum" and "--value" not in options:
+        raise Fault("sum without --value")
+    if "--separator" in options and not {"--field", "--by", "--value"} & options.keys():
+        raise Fault("--separator without --field, --by and --value")
     if command == "sketch" and "--by" in options and "--hex" not in options:
         raise Fault("--by without --hex")
     if "--sort" in options and "--by" not in options:
         raise Fault("--sort without --by")
     if "--files0-from" in options and words:
         raise Fault("a list and files")
-    if command in ("count", "sketch", "visits") and not words and "--files0-from" not in options:
+    if command in ("count", "sketch", "visits", "sum") and not words and "--files0-from" not in options:
         words = ["-"]
     read = set(names_of(steps_of(words[0]))) if command == "eval" else words
     if [options["seed"][1], options.get("--files0-from"), *read].count("-") > 1:
@@ -549,7 +578,7 @@ def run(words, files, messages):
     hex_lines = options["--hex"]
     if command == "minus" and not hex_lines and len(names) != 2:
         raise Fault("not two files")
-    if command not in ("count", "sketch", "eval", "visits") and not names and "--files0-from" not in options:
+    if command not in ("count", "sketch", "eval", "visits", "sum") and not names and "--files0-from" not in options:
         raise Fault("no image")
     seed = seed_of(files, options)
     if "--files0-from" in options:
@@ -560,6 +589,8 @@ def run(words, files, messages):
     if command == "visits":
         sketch, counts = visits_of([text_of(files, name) for name in names], options, seed)
         return printed_ranges(ranges_of(sketch, counts, options["--bounds"] or 2), options).encode()
+    if command == "sum":
+        return printed_total(*sums_of([(name, text_of(files, name)) for name in names], options, seed), options).encode()
     z = options["--bounds"] or 2
     if options["--by"]:
         groups = groups_of([text_of(files, name) for name in names], options)

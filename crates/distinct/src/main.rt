@@ -128,7 +128,8 @@ fn check_terminal(
     options: &Options<'_>,
 ) -> Result<(), Failure> {
     let prints_counts = command == Command::Count || command == Command::Show;
-    let writes_image = !prints_counts && command != Command::Visits;
+    let prints_sums = command == Command::Visits || command == Command::Sum;
+    let writes_image = !prints_counts && !prints_sums;
     if writes_image && !options.hex && options.output.is_none() && rt.stdout().is_terminal() {
         Err(Failure::Terminal)
     } else {
@@ -152,7 +153,8 @@ fn run_request(
         Request::Print(_) => (false, false, None),
         Request::Run(command, options, _) => {
             let makes_sketch = command == Command::Count || command == Command::Sketch;
-            let reads_lines = makes_sketch || command == Command::Visits;
+            let prints_sums = command == Command::Visits || command == Command::Sum;
+            let reads_lines = makes_sketch || prints_sums;
             let from_standard = reads_lines && options.list.is_none();
             (from_standard, options.progress, options.output)
         }

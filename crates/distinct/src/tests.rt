@@ -6,13 +6,14 @@ ghost use Rattle.theta_sketches.specs.Image.{written};
 ghost use Rattle.line_sketches.specs.Unions.{IsUnitedImage};
 ghost use Rattle.distinct_arguments.specs.Arguments.{action_of};
 ghost use Rattle.distinct_arguments.specs.Faults.{options_of};
-ghost use Rattle.distinct_arguments.specs.Settings.{chosen_group};
+ghost use Rattle.distinct_arguments.specs.Settings.{chosen_group, chosen_value};
 ghost use Rattle.distinct_commands.specs.Answers.{names_of, texts_of, sketch_of};
 ghost use Rattle.distinct_commands.specs.Images.{in_form};
 ghost use Rattle.distinct_commands.specs.Answers.{IsIntersectionImage, IsDifferenceImage, IsShownOf, IsCountOf, IsSketchOf, IsCommandAnswer, Performs};
 ghost use Rattle.distinct_commands.specs.Evaluations.{IsEvaluatedOf};
 ghost use Rattle.distinct_commands.specs.Images.{images_of};
 ghost use Rattle.distinct_commands.specs.Texts.{count_text};
+ghost use Rattle.distinct_commands.specs.Sums.{IsTotalText};
 ghost use Rattle.distinct_commands.specs.Visits.{visits_of, visits_text};
 
 use distinct_arguments::{
@@ -54,6 +55,7 @@ enum Kind {
     NoHex,
     NoLine,
     PastGreatest,
+    NotANumber,
     NotWritten,
     NameOfControls,
 }
@@ -83,6 +85,7 @@ fn failure_of(alloc: Global, kind: Kind) -> Result<Failure, AllocError> {
         Kind::NoHex => Failure::NoHex(name, 7),
         Kind::NoLine => Failure::NoLine(name),
         Kind::PastGreatest => Failure::PastGreatest(name, 7),
+        Kind::NotANumber => Failure::NotANumber(name, 7),
         Kind::NotWritten => Failure::NotWritten(name, Error::from(ErrorKind::StorageFull)),
         Kind::NameOfControls => Failure::NoLine(String::from_str(alloc, CONTROLS)?),
     })
@@ -231,6 +234,11 @@ fn prints_each_failure(rt: HostRuntime) -> Result<(), Fail> {
             Kind::PastGreatest,
             1,
             "it: line 7: the sum of its key is above 18446744073709551615",
+        ),
+        (
+            Kind::NotANumber,
+            1,
+            "it: line 7: its value is not a whole number up to 18446744073709551615",
         ),
         (Kind::NotWritten, 1, "it: no storage space"),
         (
@@ -413,6 +421,20 @@ fn visits_of(
     answered(alloc, Command::Visits, options, seed, names, texts)
 }
 
+/// What `sum` writes of texts.
+fn sum_of(
+    alloc: Global,
+    options: &Options<'_>,
+    seed: u64,
+    names: &[String],
+    texts: &[Vec<u8>],
+) -> Result<Vec<u8>, Failure>
+    requires seeded { seed_hash seed ≢ 0 }
+    ensures summed { IfOk result (λ v. IsTotalText (chosen_value (options_of options.now)) (options_of options.now) seed (texts_of texts.now) v.items) }
+{
+    answered(alloc, Command::Sum, options, seed, names, texts)
+}
+
 /// What a command writes, by its helper.
 fn written_by(
     alloc: Global,
@@ -433,6 +455,7 @@ fn written_by(
         Command::Show => show_of(alloc, options, seed, names, texts),
         Command::Eval => eval_of(alloc, options, seed, names, texts),
         Command::Visits => visits_of(alloc, options, seed, names, texts),
+        Command::Sum => sum_of(alloc, options, seed, names, texts),
     }
 }
 
@@ -534,11 +557,11 @@ fn both_written(
     if compute_seed_hash(seed, SketchError::InvalidArgument).is_err() {
         return Err(Failure::NoFiles);
     }
-    let is_visits = command == Command::Visits;
+    let is_sums = command == Command::Visits || command == Command::Sum;
     let reads_lines = command == Command::Count || command == Command::Sketch || options.keys;
     let prints = command == Command::Count || command == Command::Show || command == Command::Eval;
-    let is_image = !options.hex && !is_visits && (!prints || options.output.is_some());
-    let files = two_texts(alloc, !options.hex && !is_visits && !reads_lines, texts)?;
+    let is_image = !options.hex && !is_sums && (!prints || options.output.is_some());
+    let files = two_texts(alloc, !options.hex && !is_sums && !reads_lines, texts)?;
     let written = performed(alloc, words.as_slice(), seed, names, files.as_slice())?;
     let second = written_by_seed(alloc, command, &options, seed, names, files.as_slice())?;
     Ok((
@@ -563,6 +586,14 @@ const LETTERS: [&str; 2] = [
     "k\nl\nm\nn\no\np\nq\nr\ns\nt\n",
 ];
 
+/// Three keys with amounts, whose total is above 64 bits, and twenty.
+const AMOUNTS: [&str; 2] = ["ann;5\nbob;7", "bob;0\n;1\nann;18446744073709551610"];
+
+const SQUARES: [&str; 2] = [
+    "a;1\nb;4\nc;9\nd;16\ne;25\nf;36\ng;49\nh;64\ni;81\nj;100\n",
+    "k;121\nl;144\nm;169\nn;196\no;225\np;256\nq;289\nr;324\ns;361\nt;400\n",
+];
+
 /// The images of `examples/lines/data/both.hex`.
 const EXACT: [&str; 2] = [
     "02030300001acc930500000000000000dc8d24339151380f5f1032909707cc27088534befe436f3f39151d0e0dd45d67fc08309e1c5ed36b",
@@ -575,7 +606,7 @@ const ESTIMATING: [&str; 2] = [
     "03030300001acc9302000000000000000000909dceda82370000c84e676dc11b00002cf61a24a229",
 ];
 
-/// Each command, with options and without. What is to be written of `TEXTS` and `LETTERS` is by a program in Python that knows
+/// Each command, with options and without. What is to be written of `TEXTS`, `LETTERS`, `AMOUNTS` and `SQUARES` is by a program in Python that knows
 /// the public definition of the hash and the formula of bounds, of `EXACT` it is in `examples/lines`, and of `ESTIMATING` it is by
 /// `checks/answers.py`.
 #[test]
@@ -701,6 +732,38 @@ fn writes_each_answer(rt: HostRuntime) -> Result<(), Fail> {
             &["visits", "--tsv", "a", "b"],
             TEXTS,
             "from\tto\testimate\tlower\tupper\texact\tretained\ttheta\n1\t1\t1\t1\t1\ttrue\t1\t9223372036854775807\n2\t2\t2\t2\t2\ttrue\t2\t9223372036854775807\n",
+        ),
+        (
+            &["sum", "--separator=;", "--field=1", "--value=2", "a", "b"],
+            AMOUNTS,
+            "18446744073709551623\n",
+        ),
+        (
+            &[
+                "sum",
+                "--separator=;",
+                "--field=1",
+                "--value=2",
+                "--tsv",
+                "a",
+                "b",
+            ],
+            AMOUNTS,
+            "total\texact\tretained\ttheta\n18446744073709551623\ttrue\t3\t9223372036854775807\n",
+        ),
+        (
+            &[
+                "sum",
+                "--separator=;",
+                "--field=1",
+                "--value=2",
+                "--lg-k=4",
+                "--json",
+                "a",
+                "b",
+            ],
+            SQUARES,
+            "{\"total\":2970,\"exact\":false,\"retained\":16,\"theta\":8286655706689789920}\n",
         ),
         (
             &["eval", "--hex", "--output", "o", "a + b"],

@@ -1,13 +1,13 @@
 -- Laws of whole arguments.
 use Rattle.std.proofs.Common.{◌≡◌, ℕ, Bool, true, false, cond, List, [], ◌∷◌, codes, length, Option, Some, None, Result, Ok, Err, refl, arith}
-use Rattle.std.specs.Prelude.{◌&&◌, ◌==◌, not, nat_lt, is_some, is_none}
+use Rattle.std.specs.Prelude.{◌&&◌, ◌==◌, not, nat_lt, is_some}
 use Rattle.std.specs.Option.{option_map_or}
 use Rattle.std.specs.List.{find}
 use Rattle.std.specs.Str.{bytes_eq}
 use Rattle.std.proofs.lemmas.Bool.Decides.{nat_tests}
 use Rattle.distinct_arguments.specs.Words.{command_of, is_help, is_version, is_option, split_option}
 use Rattle.distinct_arguments.specs.Settings.{OptionValues, default_options, Mistake, behind_file, standard_twice, with_value}
-use Rattle.distinct_arguments.specs.Arguments.{Action, runs, fails, Awaiting, Meaning, help, sets, awaits, wrong, setting_meaning, standard_uses, has_one_expression, has_lone_field, has_lone_groups, run_action, at_meaning, at_value, command_action, action_of, ReadsOnce}
+use Rattle.distinct_arguments.specs.Arguments.{Action, runs, fails, Awaiting, Meaning, help, sets, awaits, wrong, setting_meaning, standard_uses, has_one_expression, has_lone_field, has_lone_sum, is_separator_lone, has_lone_groups, run_action, at_meaning, at_value, command_action, action_of, ReadsOnce}
 use Rattle.distinct_arguments.specs.declared.commands.Command.{Command}
 
 -- what runs at the end of two tests and a third
@@ -16,10 +16,6 @@ at_tests true both a b run first second third = first
 at_tests false true a b run first second third = second
 at_tests false false a b run first second third = third
 
-at_list : (both : Bool) (a run : Action) → ReadsOnce a → ReadsOnce run → ReadsOnce (cond both a run)
-at_list true a run first second = first
-at_list false a run first second = second
-
 run_once : (command : Command) (options : OptionValues) (files : List (List ℕ)) (twice : Bool) → nat_lt 1 (standard_uses command options files) ≡ twice → ReadsOnce (cond twice (fails standard_twice) (runs command options files))
 run_once command options files true is = tt
 run_once command options files false is = grind (arith, nat_tests)
@@ -27,9 +23,10 @@ run_once command options files false is = grind (arith, nat_tests)
 once_run : (command : Command) (options : OptionValues) (files : List (List ℕ)) → ReadsOnce (run_action command options files)
 once_run command options files =
     at_tests (not (has_one_expression command files)) (has_lone_field command options) _ _ _ tt tt
-    (at_tests (is_some options.separator && is_none options.field && is_none options.by) (has_lone_groups command options) _ _ _ tt tt
+    (at_tests (has_lone_sum command options) (is_separator_lone options) _ _ _ tt tt
+    (at_list (has_lone_groups command options) _ _ tt
     (at_list (is_some options.sort && is_none options.by) _ _ tt
-    (at_list (is_some options.list && not (length files == 0)) _ _ tt (run_once command options files (nat_lt 1 (standard_uses command options files)) refl))))
+    (at_list (is_some options.list && not (length files == 0)) _ _ tt (run_once command options files (nat_lt 1 (standard_uses command options files)) refl)))))
 
 at_found : (found : Option (List ℕ)) (run : Action) → ReadsOnce run → ReadsOnce (option_map_or (λ w. fails (behind_file w)) found run)
 at_found None run once = once

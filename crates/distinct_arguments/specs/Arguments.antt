@@ -4,11 +4,11 @@ use Rattle.std.specs.Option.{option_map_or}
 use Rattle.std.specs.List.{find}
 use Rattle.std.specs.Str.{bytes_eq}
 use Rattle.distinct_arguments.specs.Words.{command_of, option_called, has_option, reads_lines, reads_expression, is_help, is_version, is_option, is_standard, Setting, split_option}
-use Rattle.distinct_arguments.specs.Settings.{SeedValue, seed_number, seed_file, OptionValues, default_options, Mistake, no_command, unknown_command, unknown_option, behind_file, no_value, unneeded_value, not_one_expression, lone_field, lone_separator, lone_groups, lone_order, files_and_list, standard_twice, with_flag, with_value}
+use Rattle.distinct_arguments.specs.Settings.{SeedValue, seed_number, seed_file, OptionValues, default_options, Mistake, no_command, unknown_command, unknown_option, behind_file, no_value, unneeded_value, not_one_expression, lone_field, lone_sum, lone_separator, lone_groups, lone_order, files_and_list, standard_twice, with_flag, with_value}
 use Rattle.distinct_arguments.specs.declared.commands.Command.{Command}
 use Rattle.distinct_arguments.specs.declared.commands.Topic.{Topic}
 use Rattle.distinct_arguments.specs.declared.commands.Topic.TheVariants.{Program, Version, Help}
-use Rattle.distinct_arguments.specs.declared.commands.Command.TheVariants.{Sketch}
+use Rattle.distinct_arguments.specs.declared.commands.Command.TheVariants.{Sketch, Sum}
 use Rattle.distinct_arguments.specs.declared.options.OptionName.{OptionName}
 
 -- what the program does: it prints a text, runs a command on files, or fails
@@ -88,6 +88,15 @@ has_one_expression command files = not (reads_expression command) || length file
 abbrev pub has_lone_field : Command → OptionValues → Bool
 has_lone_field command options = reads_expression command && is_some options.field && not options.keys
 
+-- numbers are summed, and no field has them
+abbrev pub has_lone_sum : Command → OptionValues → Bool
+has_lone_sum Sum options = is_none options.value
+has_lone_sum _ options = false
+
+-- a separator is chosen, and no field that it ends
+abbrev pub is_separator_lone : OptionValues → Bool
+is_separator_lone options = is_some options.separator && is_none options.field && is_none options.by && is_none options.value
+
 -- sketches of groups are written only as lines of hexadecimal digits
 abbrev pub has_lone_groups : Command → OptionValues → Bool
 has_lone_groups Sketch options = is_some options.by && not options.hex
@@ -98,7 +107,8 @@ abbrev pub run_action : Command → OptionValues → (files : List (List ℕ)) �
 run_action command options files =
     if not (has_one_expression command files) then fails not_one_expression else
     if has_lone_field command options then fails lone_field else
-    if is_some options.separator && is_none options.field && is_none options.by then fails lone_separator else
+    if has_lone_sum command options then fails lone_sum else
+    if is_separator_lone options then fails lone_separator else
     if has_lone_groups command options then fails lone_groups else
     if is_some options.sort && is_none options.by then fails lone_order else
     if is_some options.list && not (length files == 0) then fails files_and_list else

@@ -10,7 +10,7 @@ use Rattle.distinct_arguments.specs.declared.options.Form.{Form}
 use Rattle.distinct_arguments.specs.declared.options.Order.{Order}
 use Rattle.distinct_arguments.specs.declared.options.Form.TheVariants.{Plain, Tsv as TsvForm, Json as JsonForm}
 use Rattle.distinct_arguments.specs.declared.options.OptionName.{OptionName}
-use Rattle.distinct_arguments.specs.declared.options.OptionName.TheVariants.{LgK, Field, Separator, By, Sort, Seed, SeedFile, FileList, Expect, Progress, Bounds, Tsv, Json, Hex, Output, Keys}
+use Rattle.distinct_arguments.specs.declared.options.OptionName.TheVariants.{LgK, Field, Separator, By, Value, Sort, Seed, SeedFile, FileList, Expect, Progress, Bounds, Tsv, Json, Hex, Output, Keys}
 
 -- the seed of hashes: a number, or the name of the file that has it
 pub data SeedValue : Type 0 where
@@ -24,6 +24,7 @@ pub record OptionValues : Type 0 where
   pub separator : Option ℕ
   pub by : Option ℕ
   pub sort : Option Order
+  pub value : Option ℕ
   pub seed : SeedValue
   pub hex : Bool
   pub keys : Bool
@@ -42,6 +43,7 @@ default_options = record {
   separator = None;
   by = None;
   sort = None;
+  value = None;
   seed = seed_number 9001;
   hex = false;
   keys = false;
@@ -61,6 +63,10 @@ chosen_key options = option_map_or (λ number. FieldKey (number - 1) (unwrap_or 
 abbrev pub chosen_group : OptionValues → Option Key
 chosen_group options = option_map (λ number. FieldKey (number - 1) (unwrap_or options.separator 9)) options.by
 
+-- the part of a line that has its number, if options choose one: the field of its number, the first being 1, with a tab (9) as the default separator
+abbrev pub chosen_value : OptionValues → Option Key
+chosen_value options = option_map (λ number. FieldKey (number - 1) (unwrap_or options.separator 9)) options.value
+
 -- why arguments are wrong
 pub data Mistake : Type 0 where
   no_command : Mistake
@@ -73,12 +79,14 @@ pub data Mistake : Type 0 where
   wrong_field : Mistake
   wrong_group : Mistake
   wrong_order : Mistake
+  wrong_value : Mistake
   wrong_separator : Mistake
   wrong_seed : Mistake
   wrong_deviations : Mistake
   wrong_count : Mistake
   not_one_expression : Mistake
   lone_field : Mistake
+  lone_sum : Mistake
   lone_separator : Mistake
   lone_groups : Mistake
   lone_order : Mistake
@@ -106,6 +114,7 @@ with_value options LgK name value = value_or wrong_size (λ n. record options { 
 with_value options Field name value = value_or wrong_field (λ n. record options { field = Some n }) (number_of 1 4294967295 value)
 with_value options By name value = value_or wrong_group (λ n. record options { by = Some n }) (number_of 1 4294967295 value)
 with_value options Sort name value = value_or wrong_order (λ order. record options { sort = Some order }) (order_of value)
+with_value options Value name value = value_or wrong_value (λ n. record options { value = Some n }) (number_of 1 4294967295 value)
 with_value options Separator name value = value_or wrong_separator (λ byte. record options { separator = Some byte }) (byte_of value)
 with_value options Seed name value = value_or wrong_seed (λ n. record options { seed = seed_number n }) (seed_of value)
 with_value options SeedFile name value = Ok (record options { seed = seed_file value })

@@ -8,12 +8,12 @@ use Rattle.sketch_base.specs.Seed.{seed_hash}
 use Rattle.estimates.specs.declared.bounds.Deviations.{Deviations}
 use Rattle.estimates.specs.declared.bounds.Deviations.TheVariants.{One, Two, Three}
 use Rattle.distinct_arguments.specs.declared.commands.Command.{Command}
-use Rattle.distinct_arguments.specs.declared.commands.Command.TheVariants.{Count, Sketch, Combine, Show, Eval, Visits}
+use Rattle.distinct_arguments.specs.declared.commands.Command.TheVariants.{Count, Sketch, Combine, Show, Eval, Visits, Sum}
 use Rattle.distinct_arguments.specs.declared.commands.Operator.TheVariants.{Union, Meet, Minus}
 use Rattle.distinct_arguments.specs.declared.options.OptionName.{OptionName}
 use Rattle.distinct_arguments.specs.declared.options.Order.{Order}
 use Rattle.distinct_arguments.specs.declared.options.Order.TheVariants.{Name, Estimate}
-use Rattle.distinct_arguments.specs.declared.options.OptionName.TheVariants.{LgK, Field, Separator, By, Sort, Seed, SeedFile, FileList, Expect, Progress, Bounds, Tsv, Json, Hex, Output, Keys}
+use Rattle.distinct_arguments.specs.declared.options.OptionName.TheVariants.{LgK, Field, Separator, By, Sort, Value, Seed, SeedFile, FileList, Expect, Progress, Bounds, Tsv, Json, Hex, Output, Keys}
 
 -- the bytes of words
 abbrev pub words_of : {A : Type 0} → List (String A) → List (List ℕ)
@@ -29,7 +29,8 @@ command_of word =
     if bytes_eq word (codes "minus") then Some (Combine Minus) else
     if bytes_eq word (codes "show") then Some Show else
     if bytes_eq word (codes "eval") then Some Eval else
-    if bytes_eq word (codes "visits") then Some Visits else None
+    if bytes_eq word (codes "visits") then Some Visits else
+    if bytes_eq word (codes "sum") then Some Sum else None
 
 -- requests for help and for the version
 abbrev pub is_help : List ℕ → Bool
@@ -68,6 +69,7 @@ option_called name =
     if bytes_eq name (codes "--separator") then Some Separator else
     if bytes_eq name (codes "--by") then Some By else
     if bytes_eq name (codes "--sort") then Some Sort else
+    if bytes_eq name (codes "--value") then Some Value else
     if bytes_eq name (codes "--seed") then Some Seed else
     if bytes_eq name (codes "--seed-file") then Some SeedFile else
     if bytes_eq name (codes "--files0-from") then Some FileList else
@@ -88,6 +90,7 @@ reads_lines (Combine operator) = false
 reads_lines Show = false
 reads_lines Eval = false
 reads_lines Visits = true
+reads_lines Sum = true
 
 abbrev pub reads_expression : Command → Bool
 reads_expression Eval = true
@@ -100,6 +103,12 @@ prints_counts (Combine operator) = false
 prints_counts Show = true
 prints_counts Eval = true
 prints_counts Visits = true
+prints_counts Sum = false
+
+-- the command that sums numbers of lines, and prints their total
+abbrev pub sums_numbers : Command → Bool
+sums_numbers Sum = true
+sums_numbers _ = false
 
 -- the commands that sketch lines, also in groups
 abbrev pub makes_sketches : Command → Bool
@@ -133,17 +142,19 @@ has_list (Combine Minus) = false
 has_list Eval = false
 has_list _ = true
 
--- every command but `count` and `visits` reads or writes images in hexadecimal, if it is to
+-- every command but `count`, `visits` and `sum` reads or writes images in hexadecimal, if it is to
 abbrev pub has_digits : Command → Bool
 has_digits Count = false
 has_digits Visits = false
+has_digits Sum = false
 has_digits _ = true
 
--- every command but `count`, `show` and `visits` writes an image to a file, if it is to
+-- every command but `count`, `show`, `visits` and `sum` writes an image to a file, if it is to
 abbrev pub has_output : Command → Bool
 has_output Count = false
 has_output Show = false
 has_output Visits = false
+has_output Sum = false
 has_output _ = true
 
 -- the commands that have an option
@@ -153,14 +164,15 @@ has_option command Field = has_field command
 has_option command Separator = has_field command
 has_option command By = makes_sketches command
 has_option command Sort = has_order command
+has_option command Value = sums_numbers command
 has_option command Progress = makes_sketches command
 has_option command Seed = true
 has_option command SeedFile = true
 has_option command FileList = has_list command
 has_option command Expect = has_expected command
 has_option command Bounds = prints_counts command
-has_option command Tsv = prints_counts command
-has_option command Json = prints_counts command
+has_option command Tsv = prints_counts command || sums_numbers command
+has_option command Json = prints_counts command || sums_numbers command
 has_option command Hex = has_digits command
 has_option command Output = has_output command
 has_option command Keys = reads_expression command

@@ -21,6 +21,8 @@ pub enum Command {
     Eval,
     /// Prints how many keys come how often.
     Visits,
+    /// Prints the total of the numbers in a field of lines.
+    Sum,
 }
 
 /// What the program prints without reading a file.

@@ -30,6 +30,8 @@ pub enum Fault {
     WrongGroup,
     /// The value of `--sort` is not `name` or `estimate`.
     WrongOrder,
+    /// The value of `--value` is not a number from 1 to 2^32 - 1.
+    WrongValue,
     /// The value of `--separator` is not one byte.
     WrongSeparator,
     /// The value of `--seed` is not a number from 0 to 2^64 - 1.
@@ -44,6 +46,8 @@ pub enum Fault {
     NotOneExpression,
     /// `eval` has `--field` without `--keys`.
     LoneField,
+    /// `sum` has no `--value`.
+    LoneSum,
     /// There is `--separator` without `--field` and without `--by`.
     LoneSeparator,
     /// `sketch` has `--by` without `--hex`.
@@ -152,11 +156,11 @@ impl fmt::Display for Fault {
         match self {
             Fault::NoCommand => write!(
                 f,
-                "no command: count, sketch, union, meet, minus, show, eval or visits (try --help)"
+                "no command: count, sketch, union, meet, minus, show, eval, visits or sum (try --help)"
             ),
             Fault::UnknownCommand(word) => write!(
                 f,
-                "{}: is not a command (count, sketch, union, meet, minus, show, eval or visits; try --help)",
+                "{}: is not a command (count, sketch, union, meet, minus, show, eval, visits or sum; try --help)",
                 Escaped(word)
             ),
             Fault::UnknownOption(name) => write!(f, "{}: not an option", Escaped(name)),
@@ -172,6 +176,7 @@ impl fmt::Display for Fault {
             Fault::WrongField => write!(f, "--field takes a number from 1 to 4294967295"),
             Fault::WrongGroup => write!(f, "--by takes a number from 1 to 4294967295"),
             Fault::WrongOrder => write!(f, "--sort takes name or estimate"),
+            Fault::WrongValue => write!(f, "--value takes a number from 1 to 4294967295"),
             Fault::WrongSeparator => write!(f, "--separator takes one byte; a tab is the default"),
             Fault::WrongSeed => {
                 write!(f, "--seed takes a number from 0 to 18446744073709551615")
@@ -187,6 +192,7 @@ impl fmt::Display for Fault {
                 "eval takes one expression in quotes, such as 'mon + tue - wed'"
             ),
             Fault::LoneField => write!(f, "--field needs --keys"),
+            Fault::LoneSum => write!(f, "sum needs --value N, the field of its numbers"),
             Fault::LoneSeparator => write!(f, "--separator needs --field or --by"),
             Fault::LoneGroups => write!(f, "--by needs --hex"),
             Fault::LoneOrder => write!(f, "--sort orders groups: pass --by N too"),

@@ -3,7 +3,7 @@ ghost use Rattle.std.specs.Prelude.{◌≡◌, ◌≤◌, ◌+◌, nat_lt, strin
 ghost use Rattle.std.specs.Option.{option_map};
 ghost use Rattle.std.specs.List.{find};
 ghost use Rattle.distinct_arguments.specs.Arguments.{standard_files, standard_uses, is_standard_seed, is_standard_list};
-ghost use Rattle.distinct_arguments.specs.Arguments.{is_standard_default, has_one_expression, has_lone_groups, run_action, files_action};
+ghost use Rattle.distinct_arguments.specs.Arguments.{is_standard_default, has_one_expression, has_lone_sum, is_separator_lone, has_lone_groups, run_action, files_action};
 ghost use Rattle.distinct_arguments.specs.Faults.{options_of, seed_value, ParsesAs};
 ghost use Rattle.distinct_arguments.specs.Words.{is_option, is_standard, reads_lines, reads_expression, words_of};
 
@@ -50,6 +50,7 @@ fn reads_lines(command: Command) -> bool
         Command::Show => false,
         Command::Eval => false,
         Command::Visits => true,
+        Command::Sum => true,
     }
 }
 
@@ -122,6 +123,24 @@ fn has_lone_groups(command: Command, options: &Options<'_>) -> bool
     }
 }
 
+/// Whether a command sums numbers, and no field has them.
+fn has_lone_sum(command: Command, options: &Options<'_>) -> bool
+    ensures { result ≡ has_lone_sum command (options_of options.now) }
+{
+    match command {
+        Command::Sum => options.value.is_none(),
+        _ => false,
+    }
+}
+
+/// Whether there is a separator, and no field that it ends.
+fn is_separator_lone(options: &Options<'_>) -> bool
+    ensures { result ≡ is_separator_lone (options_of options.now) }
+{
+    let has_field = options.field.is_some() || options.by.is_some() || options.value.is_some();
+    options.separator.is_some() && !has_field
+}
+
 /// The request to run a command on files, if its options and the files fit together.
 pub(crate) fn run_request<'a>(
     command: Command,
@@ -136,7 +155,10 @@ pub(crate) fn run_request<'a>(
     if reads_expression(command) && options.field.is_some() && !options.keys {
         return Err(Fault::LoneField);
     }
-    if options.separator.is_some() && options.field.is_none() && options.by.is_none() {
+    if has_lone_sum(command, &options) {
+        return Err(Fault::LoneSum);
+    }
+    if is_separator_lone(&options) {
         return Err(Fault::LoneSeparator);
     }
     if has_lone_groups(command, &options) {

@@ -15,6 +15,7 @@ distinct: counts distinct lines approximately, in little memory
   distinct show IMAGE..            prints one line per image
   distinct eval EXPRESSION         prints one line on a set expression, such as 'mon + tue - wed'
   distinct visits [FILE..]         prints how many lines come once, twice, 3 to 4 times, and so on
+  distinct sum --value N [FILE..]  prints about the total of the numbers in a field of the lines
   distinct COMMAND --help          prints the options of a command; -h does so too
   distinct --help                  prints this text; -h does so too
   distinct --version               prints the version; -V does so too
@@ -22,9 +23,9 @@ distinct: counts distinct lines approximately, in little memory
 Options come before files. A value is the next word, or behind =, as in --field 2 and --field=2. If
 an option is given twice, the last counts. Behind -- every word is a file.
 
-A file named - is standard input. Without a FILE, count, sketch and visits read standard input. With
---files0-from FILE the names of the files are read from FILE, where each ends in a NUL byte, as
-find -print0 writes them.
+A file named - is standard input. Without a FILE, count, sketch, visits and sum read standard input.
+With --files0-from FILE the names of the files are read from FILE, where each ends in a NUL byte,
+as find -print0 writes them.
 
 A line is its bytes up to the LF, compared byte by byte: a CR belongs to it, an empty line is a
 line, and so is a last one without an LF. Lines are hashed as other DataSketches libraries hash
@@ -164,6 +165,23 @@ distinct visits [OPTION..] [FILE..]: how many distinct lines come once in the fi
   --json              print a JSON object per range, each on a line
 ";
 
+const SUM: &str = "\
+distinct sum --value M [OPTION..] [FILE..]: prints about the total of the numbers in field M of all
+lines. It is exact up to 2^N distinct keys, and else estimated from the keys that are retained, each
+with the exact sum of its numbers
+
+  --value M           a line's number is its field M, from 1, as cut has it: decimal digits alone,
+                      below 2^64. A line without such a number is an error
+  --lg-k N            keep 2^N hashes, N from 4 to 26; default 12
+  --field N           a line's key is its field N, from 1, as cut has it; default the whole line
+  --separator C       the byte between fields; default a tab
+  --seed N            the seed of the hashes, from 0 to 2^64 - 1; default 9001
+  --seed-file FILE    the seed is the number in FILE, and not in the process list
+  --files0-from FILE  the names of the files are in FILE, each ended by a NUL byte
+  --tsv               print values separated by tabs, under a line of their names
+  --json              print a JSON object
+";
+
 /// The text on a topic.
 pub fn text_of(topic: Topic) -> &'static str {
     match topic {
@@ -177,5 +195,6 @@ pub fn text_of(topic: Topic) -> &'static str {
         Topic::Help(Command::Show) => SHOW,
         Topic::Help(Command::Eval) => EVAL,
         Topic::Help(Command::Visits) => VISITS,
+        Topic::Help(Command::Sum) => SUM,
     }
 }

@@ -12,6 +12,7 @@ pub enum OptionName {
     Separator,
     By,
     Sort,
+    Value,
     Seed,
     SeedFile,
     FileList,
@@ -63,6 +64,8 @@ pub struct Options<'a> {
     pub by: Option<u32>,
     /// The order in which groups are printed; by name if `None`.
     pub sort: Option<Order>,
+    /// The number of the field that has the number of a line, from 1, or `None` if no numbers are read.
+    pub value: Option<u32>,
     pub seed: Seed<'a>,
     /// Whether images are in hexadecimal digits.
     pub hex: bool,
@@ -83,4 +86,5 @@ pub struct Options<'a> {
     ghost high: { lg_k ≤ 26 },
     ghost from_one: { ForSome field (λ number. 0 < number) },
     ghost by_from_one: { ForSome by (λ number. 0 < number) },
+    ghost value_from_one: { ForSome value (λ number. 0 < number) },
 }

@@ -1,7 +1,7 @@
 //! What options do to the values of options.
 ghost use Rattle.std.specs.Prelude.{◌≡◌};
 ghost use Rattle.std.specs.Option.{option_map};
-ghost use Rattle.distinct_arguments.specs.Settings.{default_options, chosen_key, chosen_group, with_flag, with_value};
+ghost use Rattle.distinct_arguments.specs.Settings.{default_options, chosen_key, chosen_group, chosen_value, with_flag, with_value};
 ghost use Rattle.distinct_arguments.specs.Faults.{options_of, SetsOptions};
 
 use crate::fault::{Fault, unneeded_value, wrong_seed};
@@ -27,6 +27,7 @@ impl<'a> Options<'a> {
             separator: None,
             by: None,
             sort: None,
+            value: None,
             seed: Seed::Number(DEFAULT_UPDATE_SEED),
             hex: false,
             keys: false,
@@ -54,6 +55,16 @@ impl<'a> Options<'a> {
         ensures { result ≡ chosen_group (options_of self.now) }
     {
         match self.by {
+            Some(number) => Some(Key::field(number, self.separator.unwrap_or(TAB))),
+            None => None,
+        }
+    }
+
+    /// Which part of a line is its number; `None` if no numbers are read.
+    pub fn value(&self) -> Option<Key>
+        ensures { result ≡ chosen_value (options_of self.now) }
+    {
+        match self.value {
             Some(number) => Some(Key::field(number, self.separator.unwrap_or(TAB))),
             None => None,
         }
@@ -105,6 +116,10 @@ pub(crate) fn with_value<'a>(
         OptionName::Sort => match order_of(value) {
             Some(order) => changed.sort = Some(order),
             None => return Err(Fault::WrongOrder),
+        },
+        OptionName::Value => match number_of(value, 1, u32::MAX as u64) {
+            Some(number) => changed.value = Some(number as u32),
+            None => return Err(Fault::WrongValue),
         },
         OptionName::Separator => match byte_of(value) {
             Some(byte) => changed.separator = Some(byte),

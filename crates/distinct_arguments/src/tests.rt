@@ -31,6 +31,9 @@ fn push_numbers(text: &mut String, options: &Options<'_>) -> Result<(), AllocErr
     if let Some(number) = options.by {
         write!(text, " by={number}")?;
     }
+    if let Some(number) = options.value {
+        write!(text, " value={number}")?;
+    }
     if let Some(byte) = options.separator {
         write!(text, " separator={byte}")?;
     }
@@ -129,6 +132,7 @@ minus a b => Combine(Minus) | a b
 show a => Show | a
 eval a => Eval | a
 visits => Visits |
+sum --value 1 => Sum value=1 |
 # help
 count --help => Help(Count)
 union -h a => Help(Combine(Union))
@@ -179,6 +183,9 @@ eval --seed-file s --json --output o a+b => Eval seed_file=s output=o Json | a+b
 eval --hex --output=o a => Eval output=o hex | a
 visits --lg-k 5 --field 2 --seed=1 --bounds=3 --json a b => Visits lg_k=5 field=2 seed=1 bounds=Three Json | a b
 visits --tsv --files0-from l => Visits list=l Tsv |
+sum --lg-k 5 --field 2 --value=3 --separator ; --seed=1 --json a b => Sum lg_k=5 field=2 value=3 separator=59 seed=1 Json | a b
+sum --value 2 --value 4294967295 --tsv --files0-from l => Sum value=4294967295 list=l Tsv |
+sum --separator ; --value 1 => Sum value=1 separator=59 |
 # the last of an option counts
 count --lg-k 5 --lg-k=6 a => Count lg_k=6 | a
 count --lg-k=6 --lg-k 12 a => Count | a
@@ -268,6 +275,19 @@ visits --progress a => UnknownOption(\"--progress\")
 visits --hex a => UnknownOption(\"--hex\")
 visits --output o a => UnknownOption(\"--output\")
 visits --keys a => UnknownOption(\"--keys\")
+sum --bounds --value 1 a => UnknownOption(\"--bounds\")
+sum --by 1 --value 1 a => UnknownOption(\"--by\")
+sum --progress --value 1 a => UnknownOption(\"--progress\")
+sum --hex --value 1 a => UnknownOption(\"--hex\")
+sum --output o --value 1 a => UnknownOption(\"--output\")
+sum --value 0 a => WrongValue
+sum --value 4294967296 a => WrongValue
+sum --value= a => WrongValue
+sum --value => NoValue(\"--value\")
+sum a => LoneSum
+sum --separator ; a => LoneSum
+count --value 1 a => UnknownOption(\"--value\")
+visits --value 1 a => UnknownOption(\"--value\")
 count --frob=1 a => UnknownOption(\"--frob\")
 count --=1 a => UnknownOption(\"--\")
 count -x a => UnknownOption(\"-x\")
@@ -353,7 +373,7 @@ fn reads_each_row(rt: HostRuntime) -> Result<(), Fail> {
             count = count.saturating_add(1);
         }
     }
-    assert_eq!(rt; count, 219);
+    assert_eq!(rt; count, 236);
     Ok(())
 }
 
@@ -370,17 +390,17 @@ fn message_of(alloc: Global, text: &str) -> Result<(u8, String), AllocError> {
 const MESSAGES: &[(&str, &str)] = &[
     (
         "",
-        "no command: count, sketch, union, meet, minus, show, eval or visits (try --help)",
+        "no command: count, sketch, union, meet, minus, show, eval, visits or sum (try --help)",
     ),
     (
         "it",
-        "it: is not a command (count, sketch, union, meet, minus, show, eval or visits; try --help)",
+        "it: is not a command (count, sketch, union, meet, minus, show, eval, visits or sum; try --help)",
     ),
     // controls that a terminal obeys: an escape sequence, a bell, a carriage return, a delete, and two of one character
     // that begin an escape sequence
     (
         "a\u{1b}[31mb\u{7}\r\u{7f}\u{9b}2J\u{90}\u{e9}",
-        "a\\u{1b}[31mb\\u{7}\\r\\u{7f}\\u{9b}2J\\u{90}\u{e9}: is not a command (count, sketch, union, meet, minus, show, eval or visits; try --help)",
+        "a\\u{1b}[31mb\\u{7}\\r\\u{7f}\\u{9b}2J\\u{90}\u{e9}: is not a command (count, sketch, union, meet, minus, show, eval, visits or sum; try --help)",
     ),
     ("count -a\nb=c", "-a\\nb: not an option"),
     (
@@ -399,6 +419,11 @@ const MESSAGES: &[(&str, &str)] = &[
         "--field takes a number from 1 to 4294967295",
     ),
     ("count --by 0", "--by takes a number from 1 to 4294967295"),
+    (
+        "sum --value x",
+        "--value takes a number from 1 to 4294967295",
+    ),
+    ("sum a", "sum needs --value N, the field of its numbers"),
     (
         "count --separator ab",
         "--separator takes one byte; a tab is the default",
@@ -474,6 +499,7 @@ fn helps_with_each_option(rt: HostRuntime) {
         (Command::Show, "distinct show [OPTION..] IMAGE..: "),
         (Command::Eval, "distinct eval [OPTION..] EXPRESSION: "),
         (Command::Visits, "distinct visits [OPTION..] [FILE..]: "),
+        (Command::Sum, "distinct sum --value M [OPTION..] [FILE..]: "),
     ] {
         let text = text_of(Topic::Help(command));
         assert!(rt; text.starts_with(begin), "{command:?}");
@@ -483,6 +509,7 @@ fn helps_with_each_option(rt: HostRuntime) {
             "--separator",
             "--by",
             "--sort",
+            "--value",
             "--seed",
             "--seed-file",
             "--files0-from",
@@ -519,6 +546,7 @@ fn helps_in_short_lines(rt: HostRuntime) {
         Topic::Help(Command::Show),
         Topic::Help(Command::Eval),
         Topic::Help(Command::Visits),
+        Topic::Help(Command::Sum),
     ] {
         for line in text_of(topic).lines() {
             assert!(rt; line.len() <= 100, "{line}");

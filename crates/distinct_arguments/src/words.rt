@@ -22,6 +22,7 @@ pub(crate) fn command_of(word: &str) -> Option<Command>
         "show" => Some(Command::Show),
         "eval" => Some(Command::Eval),
         "visits" => Some(Command::Visits),
+        "sum" => Some(Command::Sum),
         _ => None,
     }
 }
@@ -71,6 +72,7 @@ pub fn option_called(name: &str) -> Option<OptionName>
         "--separator" => Some(OptionName::Separator),
         "--by" => Some(OptionName::By),
         "--sort" => Some(OptionName::Sort),
+        "--value" => Some(OptionName::Value),
         "--seed" => Some(OptionName::Seed),
         "--seed-file" => Some(OptionName::SeedFile),
         "--files0-from" => Some(OptionName::FileList),
@@ -91,7 +93,8 @@ pub fn has_option(command: Command, option: OptionName) -> bool
     ensures { result ≡ has_option command option }
 {
     let makes_sketch = command == Command::Count || command == Command::Sketch;
-    let reads_lines = makes_sketch || command == Command::Visits;
+    let is_sum = command == Command::Sum;
+    let reads_lines = makes_sketch || is_sum || command == Command::Visits;
     let shows_counts = command == Command::Count
         || command == Command::Show
         || command == Command::Visits;
@@ -106,6 +109,7 @@ pub fn has_option(command: Command, option: OptionName) -> bool
         OptionName::Separator => reads_lines || is_eval,
         OptionName::By => makes_sketch,
         OptionName::Sort => command == Command::Count,
+        OptionName::Value => is_sum,
         OptionName::Progress => makes_sketch,
         OptionName::Keys => is_eval,
         OptionName::FileList => !is_eval && command != Command::Combine(Operator::Minus),
@@ -114,10 +118,10 @@ pub fn has_option(command: Command, option: OptionName) -> bool
                 || command == Command::Combine(Operator::Meet)
         }
         OptionName::Bounds => shows_counts || is_eval,
-        OptionName::Tsv => shows_counts || is_eval,
-        OptionName::Json => shows_counts || is_eval,
-        OptionName::Hex => command != Command::Count && command != Command::Visits,
-        OptionName::Output => !shows_counts,
+        OptionName::Tsv => shows_counts || is_eval || is_sum,
+        OptionName::Json => shows_counts || is_eval || is_sum,
+        OptionName::Hex => { command != Command::Count && command != Command::Visits && !is_sum }
+        OptionName::Output => !shows_counts && !is_sum,
     }
 }
 

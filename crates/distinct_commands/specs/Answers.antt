@@ -11,7 +11,7 @@ use Rattle.lines.specs.Lines.{lines_of_all}
 use Rattle.line_sketches.specs.Keys.{value_of_lines, sketch_of_value}
 use Rattle.line_sketches.specs.Shards.{values_of_sketches, AreRead}
 use Rattle.line_sketches.specs.Unions.{IsUnitedImage}
-use Rattle.distinct_arguments.specs.Settings.{OptionValues, chosen_group}
+use Rattle.distinct_arguments.specs.Settings.{OptionValues, chosen_group, chosen_value}
 use Rattle.distinct_arguments.specs.Arguments.{Action, prints, runs, fails}
 use Rattle.distinct_commands.specs.Failures.{called, chosen_hashing}
 use Rattle.distinct_commands.specs.Evaluations.{IsEvaluatedOf}
@@ -19,9 +19,10 @@ use Rattle.distinct_commands.specs.Images.{images_of, in_form}
 use Rattle.distinct_commands.specs.Groups.{IsGroupedText}
 use Rattle.lines.specs.declared.key.Key.{Key}
 use Rattle.distinct_commands.specs.Texts.{count_text, shown_text, head_of}
+use Rattle.distinct_commands.specs.Sums.{IsTotalText}
 use Rattle.distinct_commands.specs.Visits.{visits_of, visits_text}
 use Rattle.distinct_arguments.specs.declared.commands.Command.{Command}
-use Rattle.distinct_arguments.specs.declared.commands.Command.TheVariants.{Count, Sketch, Combine, Show, Eval, Visits}
+use Rattle.distinct_arguments.specs.declared.commands.Command.TheVariants.{Count, Sketch, Combine, Show, Eval, Visits, Sum}
 use Rattle.distinct_arguments.specs.declared.commands.Operator.{Operator}
 use Rattle.distinct_arguments.specs.declared.commands.Operator.TheVariants.{Union, Meet, Minus}
 
@@ -111,6 +112,7 @@ IsCommandAnswer (Combine operator) options seed names texts out =
 IsCommandAnswer Show options seed names texts out = IsShownOf options seed names texts out
 IsCommandAnswer Eval options seed names texts out = IsEvaluatedOf options seed names texts out
 IsCommandAnswer Visits options seed names texts out = out ≡ visits_text options (visits_of options seed texts)
+IsCommandAnswer Sum options seed names texts out = IsTotalText (chosen_value options) options seed texts out
 
 -- the command's answer was written, and nothing else
 abbrev pub WritesAnswer : Command → OptionValues → (seed : ℕ) → (names texts : List (List ℕ)) → (old new : Option (List ℕ)) → Type 0

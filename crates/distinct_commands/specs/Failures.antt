@@ -2,20 +2,22 @@
 use Rattle.std.specs.Prelude.{ℕ, ◌≡◌, ◌≢◌, ◌⊎◌, ◌==◌, ◌&&◌, ◌+◌, ◌-◌, ◌^◌, min, ⊤, Bool, true, false, List, [], ◌∷◌, length, Option, Some, None, IfSome, String, codes, string_bytes, if◌then◌else◌}
 use Rattle.std.specs.Str.{bytes_eq}
 use Rattle.lines.specs.declared.key.Hashing.{Hashing}
+use Rattle.line_sums.specs.declared.addends.Amount.{Amount}
+use Rattle.line_sums.specs.declared.addends.Amount.TheVariants.{One}
 use Rattle.expression_text.specs.Grammar.{SpellsNothing}
 use Rattle.distinct_arguments.specs.Faults.{status_of as fault_status}
-use Rattle.distinct_arguments.specs.declared.fault.Fault.TheVariants.{NotOneExpression}
+use Rattle.distinct_arguments.specs.declared.fault.Fault.TheVariants.{NotOneExpression, LoneSum}
 use Rattle.distinct_arguments.specs.Settings.{chosen_key}
 use Rattle.std.specs.declared.io.Error.{Error}
 use Rattle.distinct_arguments.specs.Settings.{OptionValues}
 use Rattle.distinct_commands.specs.Images.{images_of}
 use Rattle.distinct_commands.specs.declared.images.Images.{Images}
 use Rattle.distinct_arguments.specs.declared.commands.Command.{Command}
-use Rattle.distinct_arguments.specs.declared.commands.Command.TheVariants.{Count, Sketch, Combine, Eval, Visits}
+use Rattle.distinct_arguments.specs.declared.commands.Command.TheVariants.{Count, Sketch, Combine, Eval, Visits, Sum}
 use Rattle.distinct_arguments.specs.declared.commands.Operator.{Operator}
 use Rattle.distinct_arguments.specs.declared.commands.Operator.TheVariants.{Minus}
 use Rattle.distinct_commands.specs.declared.failure.Failure.{Failure}
-use Rattle.distinct_commands.specs.declared.failure.Failure.TheVariants.{NotText, Arguments, NoFiles, NotTwo, NoExpression, NoName, Terminal, WrongCount, NotOneEach, Memory, Unreadable, NoSketch, NoHex, NoLine, PastGreatest, NotWritten}
+use Rattle.distinct_commands.specs.declared.failure.Failure.TheVariants.{NotText, Arguments, NoFiles, NotTwo, NoExpression, NoName, Terminal, WrongCount, NotOneEach, Memory, Unreadable, NoSketch, NoHex, NoLine, PastGreatest, NotANumber, NotWritten}
 
 -- the exit status: 2 if the arguments are wrong, else 1
 abbrev pub failure_status : Failure → ℕ
@@ -76,10 +78,18 @@ IsOfImages (NoHex name line) = ⊤
 IsOfImages (NoLine name) = ⊤
 IsOfImages failure = IsOfReading failure
 
--- lines are not summed: memory was refused, a file can't be read, or a sum would be 2^64 or more
-abbrev pub IsOfSums : Failure → Type 0
-IsOfSums (PastGreatest name line) = ⊤
-IsOfSums failure = IsOfReading failure
+-- lines are not summed: memory was refused, a file can't be read, a sum would be 2^64 or more, or a line has no number to add
+abbrev pub IsOfSums : Amount → Failure → Type 0
+IsOfSums amount (PastGreatest name line) = ⊤
+IsOfSums amount (NotANumber name line) = amount ≢ One
+IsOfSums amount failure = IsOfReading failure
+
+-- .. or no field has their numbers
+abbrev pub IsOfTotal : OptionValues → Failure → Type 0
+IsOfTotal options (Arguments LoneSum) = options.value ≡ None
+IsOfTotal options (PastGreatest name line) = ⊤
+IsOfTotal options (NotANumber name line) = ⊤
+IsOfTotal options failure = IsOfReading failure
 
 -- memory was refused, or the output of this name failed
 abbrev pub IsOfWriting : (name : List ℕ) → Failure → Type 0
@@ -121,15 +131,17 @@ IsOfEvaluation count (NoName text number) = ⊤
 IsOfEvaluation count (NotOneEach found names) = found ≢ names
 IsOfEvaluation count failure = IsOfImages failure
 
--- a command fails: what it reads or writes is at fault, it has no image, there are not as many as are expected, `minus` doesn't have two, or
--- `eval` doesn't have one expression
+-- a command fails: what it reads or writes is at fault, it has no image, there are not as many as are expected, `minus` doesn't have two,
+-- `eval` doesn't have one expression, or `sum` doesn't have the field of its numbers
 abbrev pub IsOfCommand : Command → OptionValues → (count : ℕ) → (texts : Option (List (List ℕ))) → Failure → Type 0
-IsOfCommand command options count texts NoFiles = (count ≡ 0) × (command ≡ Count → ⊥) × (command ≡ Sketch → ⊥) × (command ≡ Eval → ⊥) × (command ≡ Visits → ⊥)
+IsOfCommand command options count texts NoFiles = (count ≡ 0) × (command ≡ Count → ⊥) × (command ≡ Sketch → ⊥) × (command ≡ Eval → ⊥) × (command ≡ Visits → ⊥) × (command ≡ Sum → ⊥)
 IsOfCommand command options count texts NotTwo = (command ≡ Combine Minus) × AreNotTwo options.hex count texts
 IsOfCommand command options count texts (WrongCount counted number) = (options.expected ≡ Some number) × (number ≢ counted)
 IsOfCommand command options count texts (NotOneEach found names) = (command ≡ Eval) × (found ≢ names)
 IsOfCommand command options count texts (NoExpression text fault) = command ≡ Eval
 IsOfCommand command options count texts (Arguments NotOneExpression) = (command ≡ Eval) × (count ≢ 1)
+IsOfCommand command options count texts (Arguments LoneSum) = (command ≡ Sum) × (options.value ≡ None)
+IsOfCommand command options count texts (NotANumber name line) = command ≡ Sum
 IsOfCommand command options count texts failure = failure_status failure ≡ 1
 
 -- how lines are hashed: by the field of the number that options choose, the first being 1, or the whole line

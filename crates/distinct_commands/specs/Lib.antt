@@ -5,5 +5,6 @@ pub mod Images
 pub mod Failures
 pub mod Evaluations
 pub mod Visits
+pub mod Sums
 pub mod Groups
 pub mod Answers

@@ -18,6 +18,7 @@ use crate::inputs::Inputs;
 use crate::output::put;
 use crate::remarks::Console;
 use crate::show::{count_text, show_inputs};
+use crate::sums::sum_inputs;
 use crate::visits::visit_inputs;
 use distinct_arguments::{Command, Options, Request, text_of};
 use line_sketches::{Sources, Unread, hex_line, image_of, sketch_sources};
@@ -33,8 +34,9 @@ const STANDARD_OUTPUT: &str = "standard output";
 /// else. For `eval` the only name is the expression. It fails with `NoFiles` only if it needs images and no file is named;
 /// with `NotTwo` only for `minus` and, if contracts know the files' bytes, only if two files aren't named (without `--hex`)
 /// or their images aren't two; with `WrongCount` only if `--expect` names another number than it reports to have found;
-/// and with `NotOneEach`, `NoExpression` or `NotOneExpression` only for `eval`. Any other failure has status 1: memory, a
-/// file, its contents or the writer is at fault.
+/// with `NotOneEach`, `NoExpression` or `NotOneExpression` only for `eval`; and with `NotANumber` only for `sum`, which fails
+/// with `LoneSum` if its options have no field of numbers. Any other failure has status 1: memory, a file, its contents or
+/// the writer is at fault.
 pub fn answer<S: Sources + Drop, C: Console, O: Write>(
     alloc: Global,
     command: Command,
@@ -114,6 +116,7 @@ fn answer_of<S: Sources + Drop, C: Console>(
         }
         Command::Eval => eval_inputs(alloc, options, seed, files, inputs, console),
         Command::Visits => visit_inputs(alloc, options, seed, inputs),
+        Command::Sum => sum_inputs(alloc, options, seed, inputs),
     }
 }
 

@@ -49,6 +49,8 @@ pub enum Failure {
     NoLine(String),
     /// The line of this number, from 1, of a file would make the sum of its key 2^64 or more.
     PastGreatest(String, u64),
+    /// The line of this number, from 1, of a file has no whole number below 2^64 in its field.
+    NotANumber(String, u64),
     /// Writing to standard output, or to the file of this name, failed.
     NotWritten(String, io::Error),
 }
@@ -274,6 +276,12 @@ impl fmt::Display for Failure {
             Failure::PastGreatest(name, line) => write!(
                 f,
                 "{}: line {line}: the sum of its key is above {}",
+                Named(name),
+                u64::MAX
+            ),
+            Failure::NotANumber(name, line) => write!(
+                f,
+                "{}: line {line}: its value is not a whole number up to {}",
                 Named(name),
                 u64::MAX
             ),

@@ -23,6 +23,7 @@ mod output;
 mod remarks;
 mod seeds;
 mod show;
+mod sums;
 mod visits;
 
 pub use commands::{answer, perform};

@@ -1,55 +1,21 @@
 //! What `visits` prints: how many keys come once, twice, 3 to 4 times, and so on.
 ghost use Rattle.std.specs.Prelude.{◌≡◌, ◌≢◌, ◌<◌, ◌++◌, IfOk, IfErr, IfSome, OnOk, string_bytes};
 ghost use Rattle.sketch_base.specs.Seed.{seed_hash};
+ghost use Rattle.line_sums.specs.declared.addends.Amount.TheVariants.{One};
 ghost use Rattle.distinct_arguments.specs.Faults.{options_of};
 ghost use Rattle.distinct_commands.specs.Failures.{IsOfSums};
 ghost use Rattle.distinct_commands.specs.Visits.{visits_of, ranges_head, bin_text, bin_up_to, visits_text};
 
-use crate::failure::{Failure, out_of_memory};
+use crate::failure::Failure;
 use crate::inputs::Inputs;
 use crate::show::chosen_deviations;
+use crate::sums::sums_of;
 use distinct_arguments::{Form, Options};
 use line_sketches::Sources;
-use line_sums::{BINS, Unsummed, count_in, greatest_of, greatest_sum, least_of, sum_sources};
-use lines::Hashing;
+use line_sums::{Amount, BINS, count_in, greatest_of, greatest_sum, least_of};
 use reports::{range_json_line, range_line, range_tsv_head, range_tsv_row, report_of_part};
 use std::alloc::{AllocError, Global};
 use tuple_sketches::CompactTupleSketch;
-
-/// The failure for a line of the source that was opened last.
-fn past_greatest<S: Sources>(alloc: Global, inputs: &Inputs<'_, S>, line: u64) -> Failure
-    ensures { IsOfSums result }
-{
-    match String::from_str(alloc, inputs.name()) {
-        Ok(name) => Failure::PastGreatest(name, line),
-        Err(_) => Failure::Memory,
-    }
-}
-
-/// How often each line of all sources comes. It fails if memory is refused, a source can't be read, or a line comes 2^64
-/// times.
-fn visits_of<S: Sources + Drop>(
-    alloc: Global,
-    options: &Options<'_>,
-    seed: u64,
-    inputs: Inputs<'_, S>,
-) -> Result<CompactTupleSketch<u64>, Failure>
-    requires seeded { seed_hash seed ≢ 0 }
-    ensures visits { IfSome (S.texts inputs.entry.sources) (λ texts. IfOk result (λ s. s ≡ visits_of (options_of options.now) seed texts)) }
-    ensures failed { IfErr result IsOfSums }
-{
-    let mut inputs = inputs;
-    let hashing = Hashing {
-        key: options.key(),
-        seed,
-    };
-    match sum_sources(alloc, hashing, options.lg_k, &mut inputs) {
-        Ok(visits) => Ok(visits),
-        Err(Unsummed::Failed(error)) => Err(inputs.unreadable(alloc, error)),
-        Err(Unsummed::PastGreatest(line)) => Err(past_greatest(alloc, &inputs, line)),
-        Err(Unsummed::Refused(error)) => Err(out_of_memory(error)),
-    }
-}
 
 /// What is printed before all ranges.
 fn ranges_head(alloc: Global, form: Form) -> Result<String, AllocError>
@@ -135,9 +101,9 @@ pub fn visit_inputs<S: Sources + Drop>(
     requires seeded { seed_hash seed ≢ 0 }
     ensures printed { IfSome (S.texts inputs.entry.sources) (λ texts.
         IfOk result (λ v. v.items ≡ visits_text (options_of options.now) (visits_of (options_of options.now) seed texts))) }
-    ensures failed { IfErr result IsOfSums }
+    ensures failed { IfErr result (IsOfSums One) }
 {
-    let visits = visits_of(alloc, options, seed, inputs)?;
+    let visits = sums_of(alloc, options, Amount::One, seed, inputs)?;
     let text = visits_text(alloc, options, &visits)?;
     Ok(text.into_bytes())
 }

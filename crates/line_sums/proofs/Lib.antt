@@ -1,4 +1,6 @@
+pub mod Numerals
 pub mod Amounts
 pub mod Exact
 pub mod Adding
 pub mod Pieces
+pub mod Below

@@ -1,21 +1,22 @@
 -- Lines of a text that is read in pieces.
 use Rattle.std.specs.Prelude.{ℕ, ◌≡◌, List, ◌++◌}
 use Rattle.lines.specs.Lines.{lines_after}
-use Rattle.lines.specs.Open.{IsOpen}
 use Rattle.lines.specs.declared.key.Hashing.{Hashing}
-use Rattle.lines.specs.declared.open_line.OpenLine.{OpenLine}
 use Rattle.core_slots.specs.declared.entry.TupleEntry.{TupleEntry}
 use Rattle.core_state.specs.Updatable.{Updatable}
-use Rattle.line_sums.specs.Sums.{HasSummed}
+use Rattle.line_sums.specs.Amounts.{IsOpenAddend}
+use Rattle.line_sums.specs.Sums.{HasAdded}
+use Rattle.line_sums.specs.declared.addends.Amount.{Amount}
+use Rattle.line_sums.specs.declared.addends.OpenAddend.{OpenAddend}
 
 -- A piece of a text behind an open line ends these lines and leaves another open line, however the text continues.
 abbrev pub Ends : (front piece : List ℕ) → (ended : List (List ℕ)) → (left : List ℕ) → Type 0
 Ends front piece ended left = (more : List ℕ) → lines_after front (piece ++ more) ≡ ended ++ lines_after left more
 
--- a piece of a text was read: the lines that ended are summed, after those before, and the open line has the bytes behind them
-pub record HasTaken (hashing : Hashing) (amount : List ℕ → ℕ) (lg_k : ℕ) (lines : List (List ℕ)) (front piece : List ℕ) (s : Updatable (TupleEntry ℕ)) (last : OpenLine) : Type 0 where
+-- a piece of a text was read: the lines that ended are added, after those before, and the open line has the bytes behind them
+pub record HasTaken (hashing : Hashing) (amount : Amount) (lg_k : ℕ) (lines : List (List ℕ)) (front piece : List ℕ) (s : Updatable (TupleEntry ℕ)) (last : OpenAddend) : Type 0 where
   pub ended : List (List ℕ)
   pub left : List ℕ
   pub ends : Ends front piece ended left
-  pub is_open : IsOpen hashing left last
-  pub summed : HasSummed hashing amount lg_k (lines ++ ended) s
+  pub is_open : IsOpenAddend hashing amount left last
+  pub added : HasAdded hashing amount lg_k (lines ++ ended) s

@@ -1,20 +1,23 @@
 -- Why lines are not summed.
-use Rattle.std.specs.Prelude.{◌≡◌, ◌⊎◌, Option, Some, None, Result, MatchResult}
+use Rattle.std.specs.Prelude.{◌≡◌, ◌≢◌, ◌⊎◌, Option, Some, None, Result, MatchResult}
 use Rattle.sketch_base.specs.declared.error.ErrorKind.{ErrorKind}
 use Rattle.sketch_base.specs.declared.error.ErrorKind.TheVariants.{OutOfMemory, Policy}
+use Rattle.line_sums.specs.declared.addends.Amount.{Amount}
+use Rattle.line_sums.specs.declared.addends.Amount.TheVariants.{One}
 use Rattle.line_sums.specs.declared.summing.Unsummed.{Unsummed}
-use Rattle.line_sums.specs.declared.summing.Unsummed.TheVariants.{Refused, Failed, PastGreatest}
+use Rattle.line_sums.specs.declared.summing.Unsummed.TheVariants.{Refused, Failed, PastGreatest, NotANumber}
 
 -- lines are not added: memory ran out, or a sum would be 2^64 or more
 abbrev pub IsAddRefusal : ErrorKind → Type 0
 IsAddRefusal kind = (kind ≡ OutOfMemory) ⊎ (kind ≡ Policy)
 
 -- an error is the refusal, or that memory ran out, or that of a source or of a line, which are read only if nothing is refused
-abbrev pub IsUnsummed : Option ErrorKind → Unsummed → Type 0
-IsUnsummed refusal (Refused kind) = (refusal ≡ Some kind) ⊎ (kind ≡ OutOfMemory)
-IsUnsummed refusal (Failed error) = refusal ≡ None
-IsUnsummed refusal (PastGreatest line) = refusal ≡ None
+abbrev pub IsUnsummed : Amount → Option ErrorKind → Unsummed → Type 0
+IsUnsummed amount refusal (Refused kind) = (refusal ≡ Some kind) ⊎ (kind ≡ OutOfMemory)
+IsUnsummed amount refusal (Failed error) = refusal ≡ None
+IsUnsummed amount refusal (PastGreatest line) = refusal ≡ None
+IsUnsummed amount refusal (NotANumber line) = (refusal ≡ None) × (amount ≢ One)
 
 -- an Ok comes only if nothing is refused
-abbrev pub RefusesSums : {T : Type 0} → Result T Unsummed → Option ErrorKind → Type 0
-RefusesSums r refusal = MatchResult r (λ _. refusal ≡ None) (IsUnsummed refusal)
+abbrev pub RefusesSums : {T : Type 0} → Amount → Result T Unsummed → Option ErrorKind → Type 0
+RefusesSums amount r refusal = MatchResult r (λ _. refusal ≡ None) (IsUnsummed amount refusal)

@@ -4,6 +4,7 @@ use Rattle.sketch_base.specs.Seed.{seed_hash}
 use Rattle.core_compact.specs.CompactState.{Compact, ordered_sketch}
 use Rattle.core_laws.specs.Cuts.{Retained, none_below}
 use Rattle.core_laws.specs.Folds.{Fold, fold_key, folded_of, unmarked}
+use Rattle.core_laws.specs.Insertion.{is_screened}
 use Rattle.core_laws.specs.Leaf.{leaf_from}
 use Rattle.core_laws.specs.Step.{Step}
 use Rattle.core_laws.specs.Values.{Sketch, Empty, NonEmpty}
@@ -18,6 +19,8 @@ use Rattle.core_state.specs.Updatable.{Updatable}
 use Rattle.lines.specs.Keys.{line_hash}
 use Rattle.lines.specs.declared.key.Hashing.{Hashing}
 use Rattle.line_sketches.specs.Keys.{value_of_lines}
+use Rattle.line_sums.specs.Amounts.{added_by, AreNumbers}
+use Rattle.line_sums.specs.declared.addends.Amount.{Amount}
 
 -- what each line adds to its key: one, so that a sum is the number of a key's lines
 abbrev pub one_each : (line : List ℕ) → ℕ
@@ -41,6 +44,11 @@ sums_of_lines hashing amount lg_k lines = with_numbers (sum_at hashing amount li
 abbrev pub sketch_of_sums : Hashing → (amount : List ℕ → ℕ) → (lg_k : ℕ) → List (List ℕ) → Compact (TupleEntry ℕ)
 sketch_of_sums hashing amount lg_k lines = ordered_sketch (sums_of_lines hashing amount lg_k lines) (seed_hash hashing.seed)
 
+-- the sum of what the lines add whose hashes aren't screened at a theta
+abbrev pub sum_below : Hashing → (amount : List ℕ → ℕ) → (theta : ℕ) → List (List ℕ) → ℕ
+sum_below hashing amount theta [] = 0
+sum_below hashing amount theta (line ∷ lines) = (if is_screened (line_hash hashing line) theta then 0 else amount line) + sum_below hashing amount theta lines
+
 -- lines, as the steps of a leaf
 abbrev pub sum_steps : Hashing → (amount : List ℕ → ℕ) → List (List ℕ) → List (LeafStep ℕ)
 sum_steps hashing amount lines = map (λ line. Add (line_hash hashing line) (amount line)) lines
@@ -60,3 +68,8 @@ pub record HasSummed (hashing : Hashing) (amount : List ℕ → ℕ) (lg_k : ℕ
   pub same_size : s.map.lg_nom ≡ lg_k
   pub same_seed : s.map.seed_hash ≡ seed_hash hashing.seed
   pub emptiness : s.empty ≡ (length lines == 0)
+
+-- .. and each of them added a number
+pub record HasAdded (hashing : Hashing) (amount : Amount) (lg_k : ℕ) (lines : List (List ℕ)) (s : Updatable (TupleEntry ℕ)) : Type 0 where
+  pub summed : HasSummed hashing (added_by amount) lg_k lines s
+  pub numbers : AreNumbers amount lines

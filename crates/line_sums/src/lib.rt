@@ -1,4 +1,5 @@
-//! Sums of lines by their keys: how often each key comes, and how many keys come how often.
+//! Sums of lines by their keys: how often each key comes, and how many keys come how often; or the sum of the numbers in a
+//! field of each key's lines.
 //!
 //! A sketch of sums retains the same hashes as the theta sketch of the same lines, and beside each the sum of what all lines
 //! of that hash add: its number of lines, if each adds one. No line of a retained hash is missed, however large the text.
@@ -7,15 +8,19 @@
 //!
 //! ```
 //! let hashing = Hashing { key: Key::Line, seed: 9001 };
-//! let visits = sum_sources(alloc, hashing, 12, &mut sources)?;
+//! let visits = sum_sources(alloc, hashing, Amount::One, 12, &mut sources)?;
 //! let from_five_to_eight = count_in(&visits, 3);
 //! ```
 #![tactic(auto)]
 
+mod addends;
 mod bins;
+mod digits;
+pub mod laws;
 mod sources;
 mod summing;
 
+pub use addends::{Amount, OpenAddend};
 pub use bins::{BINS, count_in, greatest_of, greatest_sum, least_of};
 pub use sources::sum_sources;
 pub use summing::{SumSketch, Unsummed, add_lines, finished, new_sketch};

@@ -3,9 +3,11 @@ ghost use Rattle.std.specs.Prelude.{◌≡◌, ◌++◌, ℕ, List, [], IfOk, On
 ghost use Rattle.core_laws.specs.Settings.{settings_refusal};
 ghost use Rattle.core_laws.specs.declared.TheConstants.{MAX_THETA};
 ghost use Rattle.lines.specs.Lines.{lines_of, lines_of_all};
-ghost use Rattle.line_sums.specs.Sums.{one_each, HasSummed, sketch_of_sums};
+ghost use Rattle.line_sums.specs.Sums.{HasAdded, sketch_of_sums};
+ghost use Rattle.line_sums.specs.Amounts.{added_by, AreNumbers};
 ghost use Rattle.line_sums.specs.Refusals.{RefusesSums};
 
+use crate::addends::Amount;
 use crate::summing::{SumSketch, Unsummed, add_lines, finished, new_sketch};
 use line_sketches::{BLOCK, Sources};
 use lines::Hashing;
@@ -14,41 +16,43 @@ use std::alloc::{AllocError, Allocator};
 use std::io::Read;
 use tuple_sketches::CompactTupleSketch;
 
-/// Adds one for each line of one text.
+/// Adds what each line of one text adds.
 fn add_source<A: Allocator + Clone, B: Allocator, R: Read>(
     sketch: &mut SumSketch<A>,
     alloc: B,
     hashing: Hashing,
+    amount: Amount,
     reader: &mut R,
 ) -> Result<(), Unsummed>
-    ensures summed { (lg_k : ℕ) (lines : List (List ℕ))
-        → HasSummed hashing one_each lg_k lines sketch.old.state
+    ensures added { (lg_k : ℕ) (lines : List (List ℕ))
+        → HasAdded hashing amount lg_k lines sketch.old.state
         → IfSome (R.remaining reader.old) (λ text.
-        OnOk result (HasSummed hashing one_each lg_k (lines ++ lines_of text) sketch.new.state)) }
-    ensures refused { RefusesSums result None }
+        OnOk result (HasAdded hashing amount lg_k (lines ++ lines_of text) sketch.new.state)) }
+    ensures refused { RefusesSums amount result None }
 {
     let mut block = vec![in alloc; 0u8; BLOCK]?;
-    add_lines(sketch, hashing, reader, &mut block)
+    add_lines(sketch, hashing, amount, reader, &mut block)
 }
 
-/// Adds one for each line of all texts, each cut into lines by itself: a last line without an LF isn't joined to the next
-/// text.
+/// Adds what each line of all texts adds. Each text is cut into lines by itself: a last line without an LF isn't joined to
+/// the next text.
 fn add_sources<A: Allocator + Clone, B: Allocator + Clone + Drop, S: Sources>(
     sketch: &mut SumSketch<A>,
     alloc: B,
     hashing: Hashing,
+    amount: Amount,
     sources: &mut S,
 ) -> Result<(), Unsummed>
-    ensures summed { (lg_k : ℕ)
-        → HasSummed hashing one_each lg_k [] sketch.old.state
+    ensures added { (lg_k : ℕ)
+        → HasAdded hashing amount lg_k [] sketch.old.state
         → IfSome (S.texts sources.old) (λ texts.
-        OnOk result (HasSummed hashing one_each lg_k (lines_of_all texts) sketch.new.state)) }
-    ensures refused { RefusesSums result None }
+        OnOk result (HasAdded hashing amount lg_k (lines_of_all texts) sketch.new.state)) }
+    ensures refused { RefusesSums amount result None }
 {
     for _ in 0..u64::MAX {
         match sources.next_source() {
             Ok(Some(mut source)) => {
-                add_source(sketch, alloc.clone()?, hashing, &mut source)?;
+                add_source(sketch, alloc.clone()?, hashing, amount, &mut source)?;
             }
             Ok(None) => return Ok(()),
             Err(error) => return Err(Unsummed::Failed(error)),
@@ -57,23 +61,26 @@ fn add_sources<A: Allocator + Clone, B: Allocator + Clone + Drop, S: Sources>(
     Err(Unsummed::Refused(Error::from(AllocError)))
 }
 
-/// The sketch of the lines of all texts, in which each retained hash has the number of its lines, in all texts. Each text
-/// is cut into lines by itself.
+/// The sketch of the lines of all texts, in which each retained hash has the sum of what its lines add, in all texts. Each
+/// text is cut into lines by itself. If it is returned, each line of all texts adds a number.
 ///
 /// Refused with `InvalidArgument` only for an `lg_k` that isn't from 4 to 26 or a seed whose seed hash is 0, and with
-/// `OutOfMemory`. A line that would make a number 2^64 is an error that has the line's number in its text. If a source
-/// fails, or can't be opened, its error is returned, and for a wrong `lg_k` or seed nothing is read; no clause says so.
+/// `OutOfMemory`. A line that would make a sum 2^64 or more, or that adds no number, is an error that has the line's number
+/// in its text. If a source fails, or can't be opened, its error is returned, and for a wrong `lg_k` or seed nothing is
+/// read; no clause says so.
 pub fn sum_sources<A: Allocator + Clone + Drop, S: Sources>(
     alloc: A,
     hashing: Hashing,
+    amount: Amount,
     lg_k: u8,
     sources: &mut S,
 ) -> Result<CompactTupleSketch<u64, A>, Unsummed>
     ensures sketch { IfSome (S.texts sources.old) (λ texts.
-        IfOk result (λ s. s ≡ sketch_of_sums hashing one_each lg_k (lines_of_all texts))) }
-    ensures refused { RefusesSums result (settings_refusal lg_k MAX_THETA hashing.seed) }
+        IfOk result (λ s. s ≡ sketch_of_sums hashing (added_by amount) lg_k (lines_of_all texts))) }
+    ensures numbers { IfSome (S.texts sources.old) (λ texts. IfOk result (λ _. AreNumbers amount (lines_of_all texts))) }
+    ensures refused { RefusesSums amount result (settings_refusal lg_k MAX_THETA hashing.seed) }
 {
     let mut sketch = new_sketch(alloc.clone()?, hashing.seed, lg_k)?;
-    add_sources(&mut sketch, alloc, hashing, sources)?;
+    add_sources(&mut sketch, alloc, hashing, amount, sources)?;
     Ok(finished(&mut sketch)?)
 }

@@ -5,13 +5,15 @@ ghost use Rattle.core_laws.specs.Settings.{settings_refusal};
 ghost use Rattle.core_laws.specs.declared.TheConstants.{MAX_THETA};
 ghost use Rattle.lines.specs.Keys.{line_hash};
 ghost use Rattle.lines.specs.Lines.{lines_of, lines_after};
-ghost use Rattle.lines.specs.Open.{IsOpen};
 ghost use Rattle.lines.specs.declared.key.Hashing.{Hashing};
-ghost use Rattle.line_sums.specs.Sums.{one_each, HasSummed, sketch_of_sums};
+ghost use Rattle.line_sums.specs.Amounts.{amount_in, IsOpenAddend};
+ghost use Rattle.line_sums.specs.Sums.{HasAdded, HasSummed, sketch_of_sums};
 ghost use Rattle.line_sums.specs.Reading.{HasTaken};
 ghost use Rattle.line_sums.specs.Refusals.{IsAddRefusal, IsUnsummed, RefusesSums};
+ghost use Rattle.line_sums.specs.declared.addends.Amount.{Amount};
 
-use lines::{Hashing, OpenLine, cut_line};
+use crate::addends::{Amount, OpenAddend};
+use lines::{Hashing, cut_line};
 use sketch_base::{Error, ErrorKind};
 use std::alloc::{AllocError, Allocator, Global};
 use std::io;
@@ -30,6 +32,8 @@ pub enum Unsummed {
     Failed(io::Error),
     /// The sum of a key would be 2^64 or more with the line of this number, from 1, in its source.
     PastGreatest(u64),
+    /// The line of this number, from 1, in its source doesn't add a number: its part is no whole number below 2^64.
+    NotANumber(u64),
 }
 
 impl From<Error> for Unsummed {
@@ -67,26 +71,26 @@ pub fn new_sketch<A: Allocator + Drop>(alloc: A, seed: u64, lg_k: u8) -> Result<
         .build(alloc)
 }
 
-/// Adds to the sum of a line's key. Refused with `OutOfMemory`, and with `Policy` only if a sum would be 2^64 or more.
-fn add_line<A: Allocator + Clone>(
+/// Adds to the sum of a hash. Refused with `OutOfMemory`, and with `Policy` only if a sum would be 2^64 or more.
+fn add_value<A: Allocator + Clone>(
     sketch: &mut SumSketch<A>,
-    last: &OpenLine,
+    hash: u64,
     value: u64,
 ) -> Result<(), Error>
     ensures summed { (hashing : Hashing) (amount : List ℕ → ℕ) (lg_k : ℕ) (lines : List (List ℕ)) (line : List ℕ)
-        → IsOpen hashing line last.now
+        → hash ≡ line_hash hashing line
         → amount line ≡ value
         → HasSummed hashing amount lg_k lines sketch.old.state
         → OnOk result (HasSummed hashing amount lg_k (lines ++ line ∷ []) sketch.new.state) }
     ensures refused { IfErr result IsAddRefusal }
 {
-    sketch.update_hash(last.hash(), value)
+    sketch.update_hash(hash, value)
 }
 
 /// Why the line behind `count` others of its source was not added.
 fn not_added(error: Error, count: u64) -> Unsummed
     requires { IsAddRefusal error }
-    ensures { IsUnsummed None result }
+    ensures { (amount : Amount) → IsUnsummed amount None result }
 {
     if error.kind() == ErrorKind::Policy {
         Unsummed::PastGreatest(count.saturating_add(1))
@@ -95,88 +99,109 @@ fn not_added(error: Error, count: u64) -> Unsummed
     }
 }
 
-/// Adds one for each line that ends in a block, which continues an open line behind `count` lines. The open line is then
-/// the text behind the block's last LF. Returns how many lines of the text have ended so far.
-fn take_block<A: Allocator + Clone>(
+/// Adds what a line behind `count` others of its source adds.
+fn add_line<A: Allocator + Clone>(
     sketch: &mut SumSketch<A>,
-    hashing: Hashing,
-    last: &mut OpenLine,
-    count: u64,
-    block: &[u8],
-) -> Result<u64, Unsummed>
-    ensures taken { (lg_k : ℕ) (lines : List (List ℕ)) (front : List ℕ)
-        → IsOpen hashing front last.old
-        → HasSummed hashing one_each lg_k lines sketch.old.state
-        → OnOk result (HasTaken hashing one_each lg_k lines front block.now sketch.new.state last.new) }
-    ensures refused { RefusesSums result None }
-{
-    let mut rest = block;
-    let mut count = count;
-    'take_each: while let Some((piece, others)) = cut_line(rest) {
-        last.extend(piece);
-        match add_line(sketch, last, 1) {
-            Ok(()) => {}
-            Err(error) => return Err(not_added(error, count)),
-        }
-        *last = OpenLine::new(hashing);
-        count = count.saturating_add(1);
-        rest = others;
-    }
-    last.extend(rest);
-    Ok(count)
-}
-
-/// Adds one for a last line that no LF ends, if it has a byte; `count` lines are before it.
-fn take_last<A: Allocator + Clone>(
-    sketch: &mut SumSketch<A>,
-    last: &OpenLine,
+    amount: Amount,
+    last: &OpenAddend,
     count: u64,
 ) -> Result<(), Unsummed>
-    ensures taken { (hashing : Hashing) (lg_k : ℕ) (lines : List (List ℕ)) (front : List ℕ)
-        → IsOpen hashing front last.now
-        → HasSummed hashing one_each lg_k lines sketch.old.state
-        → OnOk result (HasSummed hashing one_each lg_k (lines ++ lines_after front []) sketch.new.state) }
-    ensures refused { RefusesSums result None }
+    ensures added { (hashing : Hashing) (lg_k : ℕ) (lines : List (List ℕ)) (line : List ℕ)
+        → IsOpenAddend hashing amount line last.now
+        → HasAdded hashing amount lg_k lines sketch.old.state
+        → OnOk result (HasAdded hashing amount lg_k (lines ++ line ∷ []) sketch.new.state) }
+    ensures refused { RefusesSums amount result None }
 {
-    if !last.is_begun() {
-        return Ok(());
-    }
-    match add_line(sketch, last, 1) {
+    let Some(value) = last.value(amount) else {
+        return Err(Unsummed::NotANumber(count.saturating_add(1)));
+    };
+    match add_value(sketch, last.hash(), value) {
         Ok(()) => Ok(()),
         Err(error) => Err(not_added(error, count)),
     }
 }
 
-/// Adds one for each line that a reader has left, block by block, at the line's key. The seed of `hashing` should be the
-/// sketch's, which is not checked. An interrupted read is repeated.
+/// Adds each line that ends in a block, which continues an open line behind `count` lines. The open line is then the text
+/// behind the block's last LF. Returns how many lines of the text have ended so far.
+fn take_block<A: Allocator + Clone>(
+    sketch: &mut SumSketch<A>,
+    hashing: Hashing,
+    amount: Amount,
+    last: &mut OpenAddend,
+    count: u64,
+    block: &[u8],
+) -> Result<u64, Unsummed>
+    ensures taken { (lg_k : ℕ) (lines : List (List ℕ)) (front : List ℕ)
+        → IsOpenAddend hashing amount front last.old
+        → HasAdded hashing amount lg_k lines sketch.old.state
+        → OnOk result (HasTaken hashing amount lg_k lines front block.now sketch.new.state last.new) }
+    ensures refused { RefusesSums amount result None }
+{
+    let mut rest = block;
+    let mut count = count;
+    'take_each: while let Some((piece, others)) = cut_line(rest) {
+        last.extend(amount, piece);
+        add_line(sketch, amount, last, count)?;
+        *last = OpenAddend::new(hashing);
+        count = count.saturating_add(1);
+        rest = others;
+    }
+    last.extend(amount, rest);
+    Ok(count)
+}
+
+/// Adds a last line that no LF ends, if it has a byte; `count` lines are before it.
+fn take_last<A: Allocator + Clone>(
+    sketch: &mut SumSketch<A>,
+    amount: Amount,
+    last: &OpenAddend,
+    count: u64,
+) -> Result<(), Unsummed>
+    ensures taken { (hashing : Hashing) (lg_k : ℕ) (lines : List (List ℕ)) (front : List ℕ)
+        → IsOpenAddend hashing amount front last.now
+        → HasAdded hashing amount lg_k lines sketch.old.state
+        → OnOk result (HasAdded hashing amount lg_k (lines ++ lines_after front []) sketch.new.state) }
+    ensures refused { RefusesSums amount result None }
+{
+    if !last.is_begun() {
+        return Ok(());
+    }
+    add_line(sketch, amount, last, count)
+}
+
+/// Adds what each line that a reader has left adds, block by block, to the sum at the line's key. The seed of `hashing`
+/// should be the sketch's, which is not checked. An interrupted read is repeated.
 ///
-/// Refused only with `OutOfMemory`. A line that would make a sum 2^64 or more is an error that has its number. If the
-/// reader fails, its error is returned. After an error some first part of the lines is added; no clause says so.
+/// Refused only with `OutOfMemory`. A line that would make a sum 2^64 or more, or that adds no number, is an error that
+/// has its number. If the reader fails, its error is returned. After an error some first part of the lines is added; no
+/// clause says so.
 ///
 /// `block` has at least one byte, and its length is the most that one read gets. Its old contents are not used.
 pub fn add_lines<A: Allocator + Clone, R: Read>(
     sketch: &mut SumSketch<A>,
     hashing: Hashing,
+    amount: Amount,
     reader: &mut R,
     block: &mut [u8],
 ) -> Result<(), Unsummed>
     requires room { 0 < length block.old }
-    ensures summed { (lg_k : ℕ) (lines : List (List ℕ))
-        → HasSummed hashing one_each lg_k lines sketch.old.state
+    ensures added { (lg_k : ℕ) (lines : List (List ℕ))
+        → HasAdded hashing amount lg_k lines sketch.old.state
         → IfSome (R.remaining reader.old) (λ text.
-        OnOk result (HasSummed hashing one_each lg_k (lines ++ lines_of text) sketch.new.state)) }
-    ensures refused { RefusesSums result None }
+        OnOk result (HasAdded hashing amount lg_k (lines ++ lines_of text) sketch.new.state)) }
+    ensures refused { RefusesSums amount result None }
 {
-    let mut last = OpenLine::new(hashing);
+    let mut last = OpenAddend::new(hashing);
     let mut count = 0u64;
     for _ in 0..u64::MAX {
         match reader.read(block) {
             Ok(0) => {
-                take_last(sketch, &last, count)?;
+                take_last(sketch, amount, &last, count)?;
                 return Ok(());
             }
             Ok(length) => {
-                count = take_block(sketch, hashing, &mut last, count, &block[..length])?;
+                let bytes = &block[..length];
+                count = take_block(sketch, hashing, amount, &mut last, count, bytes)?;
             }
             Err(error) => {
                 if error.kind() != io::ErrorKind::Interrupted {

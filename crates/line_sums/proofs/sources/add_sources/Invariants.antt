@@ -1,11 +1,11 @@
 use Rattle.std.proofs.Common.{ℕ, []}
 use Rattle.lines.specs.Lines.{lines_of_all}
 use Rattle.line_sketches.specs.Sources.{Continues}
-use Rattle.line_sums.specs.Sums.{one_each, HasSummed}
+use Rattle.line_sums.specs.Sums.{HasAdded}
 use Rattle.line_sums.proofs.sources.add_sources.Given as goal
 
 -- the lines of the texts so far are added
 abbrev pub invariant-loop : goal.invariant-loop
 invariant-loop g l =
-    (lg_k : ℕ) → HasSummed l.hashing one_each lg_k [] l.fn.sketch.state
-    → Continues (g.S.Sources.texts l.fn.sources) (g.S.Sources.texts l.sources) (λ taken. HasSummed l.hashing one_each lg_k (lines_of_all taken) l.sketch.state)
+    (lg_k : ℕ) → HasAdded l.hashing l.amount lg_k [] l.fn.sketch.state
+    → Continues (g.S.Sources.texts l.fn.sources) (g.S.Sources.texts l.sources) (λ taken. HasAdded l.hashing l.amount lg_k (lines_of_all taken) l.sketch.state)

@@ -1,10 +1,15 @@
-use Rattle.line_sums.proofs.Adding.{add_refusal, added_line}
+use Rattle.std.proofs.Common.{◌∙◌, ℕ, sym, ap}
+use Rattle.std.specs.Prelude.{Option, is_some, unwrap_or}
+use Rattle.line_sums.specs.Amounts.{added_by}
+use Rattle.line_sums.proofs.Pieces.{numbers_more}
 use Rattle.line_sums.proofs.summing.add_line.Goals as goal
 
-pub returns-clause-summed : goal.returns-clause-summed
-returns-clause-summed g c = λ hashing amount lg_k lines line is valued has.
-    added_line hashing amount lg_k c.update_hash.result lines line c.args.sketch.now.state c.update_hash.new.self.state c.hash.result c.args.value _ (c.hash.ensures hashing line is) valued has
-    c.update_hash.ensures.after c.update_hash.ensures.nonempty c.update_hash.ensures.refused
+pub returns-in-Ok-clause-added : goal.returns-in-Ok-clause-added
+returns-in-Ok-clause-added g c = λ hashing lg_k lines line is has.
+    let some = sym (c.value.ensures.value hashing line is) ∙ c.in-Some.is in record {
+      summed = c.in-Ok.ensures.summed hashing (added_by c.args.amount) lg_k lines line (c.hash.ensures hashing c.args.amount line is) (ap (λ (o : Option ℕ). unwrap_or o 0) some) has.summed;
+      numbers = numbers_more c.args.amount lines line has.numbers (ap (λ (o : Option ℕ). is_some o) some);
+    }
 
-pub returns-clause-refused : goal.returns-clause-refused
-returns-clause-refused g c = add_refusal c.update_hash.result c.hash.result c.args.value c.args.sketch.now.state.map.kept _ c.update_hash.ensures.refused
+pub returns-in-Err-clause-refused : goal.returns-in-Err-clause-refused
+returns-in-Err-clause-refused g c = c.not_added.ensures c.args.amount

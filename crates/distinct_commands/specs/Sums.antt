@@ -1,0 +1,37 @@
+-- What `sum` prints.
+use Rattle.std.specs.Prelude.{ℕ, ◌≡◌, ◌++◌, List, Option, Some, None}
+use Rattle.core_compact.specs.CompactState.{Compact}
+use Rattle.core_slots.specs.declared.entry.TupleEntry.{TupleEntry}
+use Rattle.lines.specs.Lines.{lines_of_all}
+use Rattle.lines.specs.declared.key.Key.{Key}
+use Rattle.line_sums.specs.Amounts.{added_by, AreNumbers}
+use Rattle.line_sums.specs.Sums.{sketch_of_sums}
+use Rattle.line_sums.specs.declared.addends.Amount.{Amount}
+use Rattle.line_sums.specs.declared.addends.Amount.TheVariants.{Number}
+use Rattle.totals.specs.Forms.{total_json_line, total_line, total_tsv_head, total_tsv_row}
+use Rattle.totals.specs.Totals.{total_of}
+use Rattle.totals.specs.declared.total.Total.{Total}
+use Rattle.distinct_arguments.specs.Settings.{OptionValues}
+use Rattle.distinct_arguments.specs.declared.options.Form.{Form}
+use Rattle.distinct_arguments.specs.declared.options.Form.TheVariants.{Plain, Tsv, Json}
+use Rattle.distinct_commands.specs.Failures.{chosen_hashing}
+
+-- the sketch of the lines of all texts, each retained hash with the sum of what its lines add, with the key and the size that the options set
+abbrev pub sums_of : OptionValues → Amount → (seed : ℕ) → (texts : List (List ℕ)) → Compact (TupleEntry ℕ)
+sums_of options amount seed texts = sketch_of_sums (chosen_hashing options seed) (added_by amount) options.lg_k (lines_of_all texts)
+
+-- what is printed of a total
+abbrev pub totalled_in : Form → Total → List ℕ
+totalled_in Plain total = total_line total
+totalled_in Tsv total = total_tsv_head ++ total_tsv_row total
+totalled_in Json total = total_json_line total
+
+-- what `sum` prints of a sketch of sums
+abbrev pub total_text : Form → Compact (TupleEntry ℕ) → List ℕ
+total_text form s = totalled_in form (total_of s)
+
+-- what `sum` prints of texts, by the part of a line that has its number: each line of all texts has one
+abbrev pub IsTotalText : (value : Option Key) → OptionValues → (seed : ℕ) → (texts : List (List ℕ)) → List ℕ → Type 0
+IsTotalText None options seed texts out = ⊥
+IsTotalText (Some field) options seed texts out =
+    AreNumbers (Number field) (lines_of_all texts) × (out ≡ total_text options.form (sums_of options (Number field) seed texts))

@@ -1,0 +1,111 @@
+//! Sums of lines by their keys, and the totals that `sum` prints of them.
+ghost use Rattle.std.specs.Prelude.{◌≡◌, ◌≢◌, IfOk, IfErr, IfSome, string_bytes};
+ghost use Rattle.sketch_base.specs.Seed.{seed_hash};
+ghost use Rattle.lines.specs.Lines.{lines_of_all};
+ghost use Rattle.line_sums.specs.Amounts.{AreNumbers};
+ghost use Rattle.line_sums.specs.declared.addends.Amount.{Amount};
+ghost use Rattle.line_sums.specs.declared.addends.Amount.TheVariants.{One};
+ghost use Rattle.distinct_arguments.specs.Faults.{options_of};
+ghost use Rattle.distinct_arguments.specs.Settings.{chosen_value};
+ghost use Rattle.distinct_commands.specs.Failures.{IsOfSums, IsOfTotal};
+ghost use Rattle.distinct_commands.specs.Sums.{sums_of, total_text, IsTotalText};
+
+use crate::failure::{Failure, out_of_memory};
+use crate::inputs::Inputs;
+use distinct_arguments::{Fault, Form, Options};
+use line_sketches::Sources;
+use line_sums::{Amount, Unsummed, sum_sources};
+use lines::Hashing;
+use std::alloc::{AllocError, Global};
+use totals::{total_json_line, total_line, total_of, total_tsv_head, total_tsv_row};
+use tuple_sketches::CompactTupleSketch;
+
+/// The failure for a line of the source that was opened last, with which the sum of its key would be 2^64 or more.
+fn past_greatest<S: Sources>(alloc: Global, inputs: &Inputs<'_, S>, line: u64) -> Failure
+    ensures { (amount : Amount) → IsOfSums amount result }
+{
+    match String::from_str(alloc, inputs.name()) {
+        Ok(name) => Failure::PastGreatest(name, line),
+        Err(_) => Failure::Memory,
+    }
+}
+
+/// The failure for a line of the source that was opened last, which has no number to add.
+fn not_a_number<S: Sources>(alloc: Global, inputs: &Inputs<'_, S>, line: u64) -> Failure
+    ensures { (amount : Amount) → amount ≢ One → IsOfSums amount result }
+{
+    match String::from_str(alloc, inputs.name()) {
+        Ok(name) => Failure::NotANumber(name, line),
+        Err(_) => Failure::Memory,
+    }
+}
+
+/// The sketch of the lines of all sources, each key with the sum of what its lines add. It fails if memory is refused, a
+/// source can't be read, a sum would be 2^64 or more, or a line adds no number.
+pub fn sums_of<S: Sources + Drop>(
+    alloc: Global,
+    options: &Options<'_>,
+    amount: Amount,
+    seed: u64,
+    inputs: Inputs<'_, S>,
+) -> Result<CompactTupleSketch<u64>, Failure>
+    requires seeded { seed_hash seed ≢ 0 }
+    ensures sums { IfSome (S.texts inputs.entry.sources) (λ texts. IfOk result (λ s. s ≡ sums_of (options_of options.now) amount seed texts)) }
+    ensures numbers { IfSome (S.texts inputs.entry.sources) (λ texts. IfOk result (λ _. AreNumbers amount (lines_of_all texts))) }
+    ensures failed { IfErr result (IsOfSums amount) }
+{
+    let mut inputs = inputs;
+    let hashing = Hashing {
+        key: options.key(),
+        seed,
+    };
+    match sum_sources(alloc, hashing, amount, options.lg_k, &mut inputs) {
+        Ok(sums) => Ok(sums),
+        Err(Unsummed::Failed(error)) => Err(inputs.unreadable(alloc, error)),
+        Err(Unsummed::PastGreatest(line)) => Err(past_greatest(alloc, &inputs, line)),
+        Err(Unsummed::NotANumber(line)) => Err(not_a_number(alloc, &inputs, line)),
+        Err(Unsummed::Refused(error)) => Err(out_of_memory(error)),
+    }
+}
+
+/// What `sum` prints of a sketch of sums.
+fn total_text(
+    alloc: Global,
+    form: Form,
+    sums: &CompactTupleSketch<u64>,
+) -> Result<String, AllocError>
+    ensures { IfOk result (λ text. string_bytes text ≡ total_text form sums.now) }
+{
+    let total = total_of(sums);
+    match form {
+        Form::Plain => total_line(alloc, total),
+        Form::Tsv => {
+            let mut text = total_tsv_head(alloc)?;
+            let row = total_tsv_row(alloc, total)?;
+            text.push_str(row.as_str())?;
+            Ok(text)
+        }
+        Form::Json => total_json_line(alloc, total),
+    }
+}
+
+/// What `sum` prints of the lines of all sources. It fails if no field has the lines' numbers, memory is refused, a source
+/// can't be read, a sum would be 2^64 or more, or a line has no number.
+pub fn sum_inputs<S: Sources + Drop>(
+    alloc: Global,
+    options: &Options<'_>,
+    seed: u64,
+    inputs: Inputs<'_, S>,
+) -> Result<Vec<u8>, Failure>
+    requires seeded { seed_hash seed ≢ 0 }
+    ensures printed { IfSome (S.texts inputs.entry.sources) (λ texts.
+        IfOk result (λ v. IsTotalText (chosen_value (options_of options.now)) (options_of options.now) seed texts v.items)) }
+    ensures failed { IfErr result (IsOfTotal (options_of options.now)) }
+{
+    let Some(field) = options.value() else {
+        return Err(Failure::Arguments(Fault::LoneSum));
+    };
+    let sums = sums_of(alloc, options, Amount::Number(field), seed, inputs)?;
+    let text = total_text(alloc, options.form, &sums)?;
+    Ok(text.into_bytes())
+}

@@ -1,0 +1,18 @@
+use Rattle.std.proofs.Common.{◌≡◌, ◌≤◌, ◌∙◌, length, ap, refl, arith}
+use Rattle.totals.specs.Totals.{sum_of, total_of}
+use Rattle.totals.proofs.Scaled.{few_below}
+use Rattle.totals.proofs.total.total_of.Goals as goal
+
+pub scaled-requires-clause-small : goal.scaled-requires-clause-small
+scaled-requires-clause-small g c =
+    let shown = c.num_retained-retained.ensures.sound.shown in
+    let es = c.args.sketch.now.entries in
+    let few : length es ≤ c.args.sketch.now.theta = few_below c.args.sketch.now.theta es shown.distinct shown.below_theta in
+    let all : length c.iter.result.rest ≡ length es = ap (λ i. length i.rest) c.iter.ensures in
+    omega (arith, few, all, shown.theta_low, c.theta64-theta.ensures, c.sum_of.ensures.limited)
+
+pub returns : goal.returns
+unfolding total_of
+returns g c =
+    let sum = c.sum_of.ensures.sum ∙ ap (λ i. sum_of i.rest) c.iter.ensures in
+    rw (c.scaled.ensures, sum, c.num_retained-retained.ensures.count, c.theta64-theta.ensures) refl

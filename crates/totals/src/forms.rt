@@ -1,0 +1,56 @@
+//! The lines that are written of a total. Each ends in LF, and fails only if memory is refused.
+ghost use Rattle.std.specs.Prelude.{◌≡◌, IfOk, string_bytes};
+ghost use Rattle.totals.specs.Forms.{total_json_line, total_line, total_tsv_head, total_tsv_row, truth};
+
+use crate::total::Total;
+use std::alloc::{AllocError, Allocator};
+
+/// The line of a total alone.
+pub fn total_line<A: Allocator>(alloc: A, total: Total) -> Result<String<A>, AllocError>
+    ensures { IfOk result (λ text. string_bytes text ≡ total_line total) }
+{
+    let number = total.total;
+    format!(in alloc; "{number}\n")
+}
+
+/// `true` or `false`.
+fn truth(holds: bool) -> &'static str
+    ensures { result.now ≡ truth holds }
+{
+    if holds { "true" } else { "false" }
+}
+
+/// The first line of a table of totals: the names of its columns, separated by tabs.
+pub fn total_tsv_head<A: Allocator>(alloc: A) -> Result<String<A>, AllocError>
+    ensures { IfOk result (λ text. string_bytes text ≡ total_tsv_head) }
+{
+    String::from_str(alloc, "total\texact\tretained\ttheta\n")
+}
+
+/// The row of a total in a table: its values in the order of `total_tsv_head`, separated by tabs.
+pub fn total_tsv_row<A: Allocator>(alloc: A, total: Total) -> Result<String<A>, AllocError>
+    ensures { IfOk result (λ text. string_bytes text ≡ total_tsv_row total) }
+{
+    let number = total.total;
+    let exact = truth(total.exact);
+    let retained = total.retained;
+    let theta = total.theta;
+    format!(in alloc; "{number}\t{exact}\t{retained}\t{theta}\n")
+}
+
+/// A total as a JSON object on a line.
+pub fn total_json_line<A: Allocator>(alloc: A, total: Total) -> Result<String<A>, AllocError>
+    ensures { IfOk result (λ text. string_bytes text ≡ total_json_line total) }
+{
+    let number = total.total;
+    let exact = truth(total.exact);
+    let retained = total.retained;
+    let theta = total.theta;
+    let mut line = String::from_str(alloc, "{\"total\":")?;
+    write!(
+        line,
+        "{number},\"exact\":{exact},\"retained\":{retained},\"theta\":{theta}"
+    )?;
+    line.push_str("}\n")?;
+    Ok(line)
+}

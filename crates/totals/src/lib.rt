@@ -1,0 +1,13 @@
+//! Totals of all values of a stream, by a sketch of sums of it, and the lines that programs print of them.
+//!
+//! A sketch of sums retains some keys of its stream, each with the sum of the key's values. The sum of the sums that it
+//! retains is scaled by the greatest theta over its own theta, and so estimates the total of the values of all keys. If no
+//! key was dropped, theta is the greatest, and the total is exact.
+#![tactic(auto)]
+
+mod forms;
+pub mod laws;
+mod total;
+
+pub use forms::{total_json_line, total_line, total_tsv_head, total_tsv_row};
+pub use total::{Total, total_of};

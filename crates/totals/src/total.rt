@@ -1,0 +1,62 @@
+//! What a sketch of sums says of the total of its stream.
+ghost use Rattle.std.specs.Prelude.{◌≡◌, ◌<◌, ◌≤◌, ◌*◌, ◌-◌, ◌^◌, length};
+ghost use Rattle.core_laws.specs.declared.TheConstants.{MAX_THETA};
+ghost use Rattle.estimates.specs.Bounds.{nearest};
+ghost use Rattle.totals.specs.Totals.{sum_of, total_of};
+
+use core_laws::MAX_THETA;
+use std::alloc::Allocator;
+use tuple_sketches::{CompactTupleSketch, TupleSketchIter};
+
+/// What a sketch of sums says of the total of its stream. `total_of` returns one.
+#[derive(Debug, Clone, Copy, PartialEq, Eq)]
+pub struct Total {
+    /// The estimated total of the values of all keys, rounded to the nearest whole number; a half is rounded up.
+    pub total: u128,
+    /// Whether theta is `MAX_THETA`: then no key was dropped, and the total is the sum of the retained sums.
+    pub exact: bool,
+    /// How many keys the sketch retains, fewer than 2^32.
+    pub retained: usize,
+    /// The theta of the sketch, from 1 to `MAX_THETA`.
+    pub theta: u64,
+}
+
+/// The sum of the sums of entries, of which there are fewer than 2^32.
+fn sum_of(entries: TupleSketchIter<'_, u64>) -> u128
+    requires limited { length entries.rest < 2 ^ 32 }
+    ensures sum { result ≡ sum_of entries.entry.rest }
+    ensures limited { result ≤ (2 ^ 64 - 1) * length entries.entry.rest }
+{
+    let mut sum = 0u128;
+    'add_each: for entry in entries {
+        sum += *entry.summary() as u128;
+    }
+    sum
+}
+
+/// A sum times `MAX_THETA` over theta, rounded to the nearest whole number; a half is rounded up.
+fn scaled(sum: u128, theta: u64) -> u128
+    requires low { 0 < theta }
+    requires high { theta ≤ MAX_THETA }
+    requires small { sum < 2 ^ 64 * theta }
+    ensures { result ≡ nearest (sum * MAX_THETA) theta }
+{
+    let under = theta as u128;
+    let greatest = MAX_THETA as u128;
+    let rest = sum % under * greatest;
+    sum / under * greatest + (2 * rest + under) / (2 * under)
+}
+
+/// What a sketch of sums says of the total of its stream.
+pub fn total_of<A: Allocator>(sketch: &CompactTupleSketch<u64, A>) -> Total
+    ensures { result ≡ total_of sketch.now }
+{
+    let retained = sketch.num_retained();
+    let theta = sketch.theta64();
+    Total {
+        total: scaled(sum_of(sketch.iter()), theta),
+        exact: theta == MAX_THETA,
+        retained,
+        theta,
+    }
+}
