@@ -1,12 +1,12 @@
 //! Operations on images alone.
-ghost use Rattle.std.specs.Prelude.{◌≡◌, true, IfOk, IfErr};
+ghost use Rattle.std.specs.Prelude.{◌≡◌, true, IfOk};
 ghost use Rattle.sketch_c.specs.Bounds.{is_state};
 ghost use Rattle.sketch_c.specs.Buffer.{Writes};
 ghost use Rattle.sketch_c.specs.Images.{IsIntersectionOf, WritesIntersection, WritesDifference};
 ghost use Rattle.sketch_c.specs.Status.{IsMemoryRefusal};
 ghost use Rattle.sketch_c.specs.Thetas.{IsCompactImage, ReadsImageState};
 
-use crate::buffer::put;
+use crate::buffer::put_made;
 use crate::compact::{CompactSketch, read, state};
 use crate::difference::difference;
 use crate::state::State;
@@ -55,10 +55,7 @@ fn intersected(
 fn put_image(sketch: &CompactSketch, out: &mut [u8], length: &mut u64) -> u32
     ensures { Writes (IsCompactImage sketch.now) IsMemoryRefusal out.old length.old result out.new length.new }
 {
-    match sketch.sketch.serialize() {
-        Ok(image) => put(image.as_slice(), out, length),
-        Err(_) => OUT_OF_MEMORY,
-    }
+    put_made(sketch.sketch.serialize(), out, length)
 }
 
 /// Writes the image of the intersection of the sketches that two images begin with to the front of a buffer, and its
