@@ -1,5 +1,7 @@
--- A `&mut` to a struct of one pointer as a `&mut` to another one that has the same bytes and owns the same. Assumes `Logic`.
-use Rattle.std.proofs.Common.{◌≡◌, ℕ, List, [], ◌∷◌, ◌++◌, refl, sym, subst, ap}
+-- A `&mut` to a struct as a `&mut` to another one that has the same bytes and owns the same: what `owned` of each handle passes on.
+-- Assumes `Logic`.
+pub use Rattle.std.proofs.Common.{refl}
+use Rattle.std.proofs.Common.{◌≡◌, ℕ, List, [], ◌∷◌, ◌++◌, sym, subst}
 use seplogic.Ra.Ura.{Ura}
 use base.Fraction.{full_share}
 use mir.Syntax.{Fn, Body, Ty, Callee, named, erased, mut, ty_ptr, ty_ref, local, value_local, place, deref, copy, rv_opd, addr_of, seq, assign, block, return}
@@ -32,7 +34,8 @@ use Rattle.std.proofs.raw_atomic.Walks.{proved_at}
 abbrev last : Body
 last = seq (assign (place 0 []) (rv_opd (copy (place 3 [])))) return
 
--- the code: an address that passes through a raw pointer, at the two types and what they are in memory
+-- the code: an address is passed on through a raw pointer; `given` and `made` are the two types, and `given_at` and `made_at` what they
+-- are in memory
 abbrev pub function : (given made given_at made_at : Ty) → Fn
 function given made given_at made_at = record {
   lifetimes = 1;
@@ -48,7 +51,7 @@ module _ (H O : RattleType) (to : H.Denot → O.Denot) (back : O.Denot → H.Den
     (bytes : raw_all H.mir ≡ raw_all O.mir)
     (out : (d : H.Denot) (vs : List Val) → H.own_val d vs ≡ O.own_val (to d) vs)
     (into : (w : O.Denot) (vs : List Val) → O.own_val w vs ≡ H.own_val (back w) vs) where
-  -- in memory either is the other
+  -- in memory each is the other
   part_to : (d : H.Denot) (b o : ℕ) → part_at H full_share d b o ≡ part_at O full_share (to d) b o
   unfolding part_of
   part_to d b o = λ i. fex (List Val) (λ vs. fsep (cell_raw full_share (bytes i) vs b o) (out d vs i))

@@ -5,7 +5,13 @@ ghost use Rattle.std.specs.Prelude.{◌≡◌};
 ghost use Rattle.std.specs.Borrow.{sem, Lends};
 ghost use Rattle.sketch_c.specs.contracts.compact.CompactSketch as compact;
 ghost use Rattle.sketch_c.specs.contracts.compact_sums.CompactSums as compact_sums;
-ghost use Rattle.sketch_c.specs.contracts.handles as handles;
+ghost use Rattle.sketch_c.specs.contracts.handles.CompactHandle as compact_handle;
+ghost use Rattle.sketch_c.specs.contracts.handles.CompactSumsHandle as compact_sums_handle;
+ghost use Rattle.sketch_c.specs.contracts.handles.IntersectionHandle as intersection_handle;
+ghost use Rattle.sketch_c.specs.contracts.handles.SumsHandle as sums_handle;
+ghost use Rattle.sketch_c.specs.contracts.handles.SumsUnionHandle as sums_union_handle;
+ghost use Rattle.sketch_c.specs.contracts.handles.ThetaHandle as theta_handle;
+ghost use Rattle.sketch_c.specs.contracts.handles.UnionHandle as union_handle;
 ghost use Rattle.sketch_c.specs.contracts.intersection.SeededIntersection as intersection;
 ghost use Rattle.sketch_c.specs.contracts.owned.Owned as owned;
 ghost use Rattle.sketch_c.specs.contracts.sums.SeededSums as sums;
@@ -30,7 +36,7 @@ impl ThetaHandle {
     /// The pointer of the handle.
     #[inline(always)]
     pub(crate) fn owned(&mut self) -> &mut Owned<SeededSketch>
-        ensures* writes_back { sem 𝓛 (Lends handles.ThetaHandle.the_row (owned.the_row theta.the_row) self.entry result (λ w. record { at = w.at; value = w.value })) }
+        ensures* writes_back { sem 𝓛 (Lends theta_handle.the_row (owned.the_row theta.the_row) self.entry result (λ w. record { at = w.at; value = w.value })) }
         ensures same { result.now ≡ record { at = self.old.at; value = self.old.value } }
     {
         let at = &raw mut *self as *mut Owned<SeededSketch>;
@@ -42,7 +48,7 @@ impl CompactHandle {
     /// The pointer of the handle.
     #[inline(always)]
     pub(crate) fn owned(&mut self) -> &mut Owned<CompactSketch>
-        ensures* writes_back { sem 𝓛 (Lends handles.CompactHandle.the_row (owned.the_row compact.the_row) self.entry result (λ w. record { at = w.at; value = w.value })) }
+        ensures* writes_back { sem 𝓛 (Lends compact_handle.the_row (owned.the_row compact.the_row) self.entry result (λ w. record { at = w.at; value = w.value })) }
         ensures same { result.now ≡ record { at = self.old.at; value = self.old.value } }
     {
         let at = &raw mut *self as *mut Owned<CompactSketch>;
@@ -54,7 +60,7 @@ impl UnionHandle {
     /// The pointer of the handle.
     #[inline(always)]
     pub(crate) fn owned(&mut self) -> &mut Owned<SeededUnion>
-        ensures* writes_back { sem 𝓛 (Lends handles.UnionHandle.the_row (owned.the_row union.the_row) self.entry result (λ w. record { at = w.at; value = w.value })) }
+        ensures* writes_back { sem 𝓛 (Lends union_handle.the_row (owned.the_row union.the_row) self.entry result (λ w. record { at = w.at; value = w.value })) }
         ensures same { result.now ≡ record { at = self.old.at; value = self.old.value } }
     {
         let at = &raw mut *self as *mut Owned<SeededUnion>;
@@ -66,7 +72,7 @@ impl IntersectionHandle {
     /// The pointer of the handle.
     #[inline(always)]
     pub(crate) fn owned(&mut self) -> &mut Owned<SeededIntersection>
-        ensures* writes_back { sem 𝓛 (Lends handles.IntersectionHandle.the_row (owned.the_row intersection.the_row) self.entry result (λ w. record { at = w.at; value = w.value })) }
+        ensures* writes_back { sem 𝓛 (Lends intersection_handle.the_row (owned.the_row intersection.the_row) self.entry result (λ w. record { at = w.at; value = w.value })) }
         ensures same { result.now ≡ record { at = self.old.at; value = self.old.value } }
     {
         let at = &raw mut *self as *mut Owned<SeededIntersection>;
@@ -78,7 +84,7 @@ impl SumsHandle {
     /// The pointer of the handle.
     #[inline(always)]
     pub(crate) fn owned(&mut self) -> &mut Owned<SeededSums>
-        ensures* writes_back { sem 𝓛 (Lends handles.SumsHandle.the_row (owned.the_row sums.the_row) self.entry result (λ w. record { at = w.at; value = w.value })) }
+        ensures* writes_back { sem 𝓛 (Lends sums_handle.the_row (owned.the_row sums.the_row) self.entry result (λ w. record { at = w.at; value = w.value })) }
         ensures same { result.now ≡ record { at = self.old.at; value = self.old.value } }
     {
         let at = &raw mut *self as *mut Owned<SeededSums>;
@@ -90,7 +96,7 @@ impl CompactSumsHandle {
     /// The pointer of the handle.
     #[inline(always)]
     pub(crate) fn owned(&mut self) -> &mut Owned<CompactSums>
-        ensures* writes_back { sem 𝓛 (Lends handles.CompactSumsHandle.the_row (owned.the_row compact_sums.the_row) self.entry result (λ w. record { at = w.at; value = w.value })) }
+        ensures* writes_back { sem 𝓛 (Lends compact_sums_handle.the_row (owned.the_row compact_sums.the_row) self.entry result (λ w. record { at = w.at; value = w.value })) }
         ensures same { result.now ≡ record { at = self.old.at; value = self.old.value } }
     {
         let at = &raw mut *self as *mut Owned<CompactSums>;
@@ -102,7 +108,7 @@ impl SumsUnionHandle {
     /// The pointer of the handle.
     #[inline(always)]
     pub(crate) fn owned(&mut self) -> &mut Owned<SeededSumsUnion>
-        ensures* writes_back { sem 𝓛 (Lends handles.SumsUnionHandle.the_row (owned.the_row sums_union.the_row) self.entry result (λ w. record { at = w.at; value = w.value })) }
+        ensures* writes_back { sem 𝓛 (Lends sums_union_handle.the_row (owned.the_row sums_union.the_row) self.entry result (λ w. record { at = w.at; value = w.value })) }
         ensures same { result.now ≡ record { at = self.old.at; value = self.old.value } }
     {
         let at = &raw mut *self as *mut Owned<SeededSumsUnion>;
