@@ -8,7 +8,7 @@ ghost use Rattle.sketch_c.specs.Buffer.{WritesOf};
 ghost use Rattle.sketch_c.specs.Calls.{OnObject, Fills, FillsFrom, WritesValue};
 ghost use Rattle.sketch_c.specs.Settings.{IsSettingsRefusal, IsNewRefusal};
 ghost use Rattle.sketch_c.specs.Status.{IsMemoryRefusal};
-ghost use Rattle.sketch_c.specs.Sums.{IsNewSums, AddsValue, AddsAtBytes, AddsAtNumber, TrimsSums, ResetsSums, sums_state, sums_total, IsImageOfSums, IsCompactFormOfSums};
+ghost use Rattle.sketch_c.specs.Sums.{IsNewSums, IsSameSums, AddsValue, AddsAtBytes, AddsAtNumber, TrimsSums, ResetsSums, sums_state, sums_total, IsImageOfSums, IsCompactFormOfSums};
 ghost use Rattle.sketch_c.specs.declared.sums.SeededSums.{SeededSums};
 
 use crate::bounds::{Wide, split};
@@ -122,6 +122,18 @@ fn compact_form(sums: &SeededSums) -> Result<CompactSums, Error>
     Ok(CompactSums { sketch })
 }
 
+/// A copy of a sketch.
+fn copied(sums: &SeededSums) -> Result<SeededSums, Error>
+    ensures copied { IfOk result (λ t. IsSameSums sums.now t) }
+    ensures refused { Refuses result None true }
+{
+    let sketch = sums.sketch.clone()?;
+    Ok(SeededSums {
+        sketch,
+        seed: sums.seed,
+    })
+}
+
 /// The sum of all sums of a sketch.
 fn total(sums: &SeededSums) -> Wide
     ensures { result ≡ wide (sums_total sums.now) }
@@ -158,6 +170,18 @@ pub extern "C" fn kcp_sums_new_with(
         Some(factor) => sums
             .owned()
             .put(alloc, built(alloc, lg_k, factor, starting_theta, seed)),
+        None => INVALID_ARGUMENT,
+    }
+}
+
+/// Copies a sketch of sums into another handle, as `kcp_theta_clone` does: its sums too.
+#[unsafe(no_mangle)]
+pub extern "C" fn kcp_sums_clone(alloc: Global, sums: &mut SumsHandle, out: &mut SumsHandle) -> u32
+    ensures copied { FillsFrom IsSameSums (λ _. IsMemoryRefusal) sums.old.value out.old.value result out.new.value }
+    ensures unchanged { sums.new.value ≡ sums.old.value }
+{
+    match sums.owned().get() {
+        Some(object) => out.owned().put(alloc, copied(object)),
         None => INVALID_ARGUMENT,
     }
 }
