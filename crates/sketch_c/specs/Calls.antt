@@ -1,5 +1,5 @@
 -- The shapes of calls on handles: by the object before, the status and the object after.
-use Rattle.std.specs.Prelude.{◌≡◌, ◌⊎◌, ℕ, Option, Some, None, Result, MatchResult}
+use Rattle.std.specs.Prelude.{◌≡◌, ℕ, Option, Some, None, Result, MatchResult}
 use Rattle.sketch_base.specs.declared.error.ErrorKind.{ErrorKind}
 use Rattle.sketch_c.specs.Status.{status_of}
 
@@ -19,13 +19,13 @@ Fills IsMade IsRefused None status (Some new) = (status ≡ 0) × IsMade new
 abbrev pub IsMadeBy : {T E : Type 0} → Result T E → T → Type 0
 IsMadeBy made x = MatchResult made (λ y. x ≡ y) (λ _. ⊥)
 
--- the status of a refusal: memory for what was made, with 3, or the refusal of the call that makes it
+-- the status of a refusal: memory for what a call made, with 3, or the call's own status
 abbrev pub IsRefusedBy : {T : Type 0} → Result T ℕ → (status : ℕ) → Type 0
-IsRefusedBy made status = (status ≡ 3) ⊎ MatchResult made (λ _. ⊥) (λ s. status ≡ s)
+IsRefusedBy made status = MatchResult made (λ _. status ≡ 3) (λ s. status ≡ s)
 
--- the same if the refusal is an error
+-- the same if the call's refusal is an error
 abbrev pub IsRefusedWith : {T : Type 0} → Result T ErrorKind → (status : ℕ) → Type 0
-IsRefusedWith made status = (status ≡ 3) ⊎ MatchResult made (λ _. ⊥) (λ e. status ≡ status_of e)
+IsRefusedWith made status = MatchResult made (λ _. status ≡ 3) (λ e. status ≡ status_of e)
 
 -- a call that fills a handle from an object: without one it is refused with 1, and the handle is as before
 abbrev pub FillsFrom : {S T : Type 0} → (IsMade : S → T → Type 0) → (IsRefused : S → ℕ → Type 0) → Option S → Option T → (status : ℕ) → Option T → Type 0

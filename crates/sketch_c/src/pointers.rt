@@ -36,7 +36,8 @@ impl ThetaHandle {
     /// The pointer of the handle.
     #[inline(always)]
     pub(crate) fn owned(&mut self) -> &mut Owned<SeededSketch>
-        ensures* writes_back { sem 𝓛 (Lends theta_handle.the_row (owned.the_row theta.the_row) self.entry result (λ w. record { at = w.at; value = w.value })) }
+        ensures* writes_back { sem 𝓛 (Lends theta_handle.the_row (owned.the_row theta.the_row)
+            self.entry result (λ w. record { at = w.at; value = w.value })) }
         ensures same { result.now ≡ record { at = self.old.at; value = self.old.value } }
     {
         let at = &raw mut *self as *mut Owned<SeededSketch>;
@@ -48,7 +49,8 @@ impl CompactHandle {
     /// The pointer of the handle.
     #[inline(always)]
     pub(crate) fn owned(&mut self) -> &mut Owned<CompactSketch>
-        ensures* writes_back { sem 𝓛 (Lends compact_handle.the_row (owned.the_row compact.the_row) self.entry result (λ w. record { at = w.at; value = w.value })) }
+        ensures* writes_back { sem 𝓛 (Lends compact_handle.the_row (owned.the_row compact.the_row)
+            self.entry result (λ w. record { at = w.at; value = w.value })) }
         ensures same { result.now ≡ record { at = self.old.at; value = self.old.value } }
     {
         let at = &raw mut *self as *mut Owned<CompactSketch>;
@@ -60,7 +62,8 @@ impl UnionHandle {
     /// The pointer of the handle.
     #[inline(always)]
     pub(crate) fn owned(&mut self) -> &mut Owned<SeededUnion>
-        ensures* writes_back { sem 𝓛 (Lends union_handle.the_row (owned.the_row union.the_row) self.entry result (λ w. record { at = w.at; value = w.value })) }
+        ensures* writes_back { sem 𝓛 (Lends union_handle.the_row (owned.the_row union.the_row)
+            self.entry result (λ w. record { at = w.at; value = w.value })) }
         ensures same { result.now ≡ record { at = self.old.at; value = self.old.value } }
     {
         let at = &raw mut *self as *mut Owned<SeededUnion>;
@@ -72,7 +75,8 @@ impl IntersectionHandle {
     /// The pointer of the handle.
     #[inline(always)]
     pub(crate) fn owned(&mut self) -> &mut Owned<SeededIntersection>
-        ensures* writes_back { sem 𝓛 (Lends intersection_handle.the_row (owned.the_row intersection.the_row) self.entry result (λ w. record { at = w.at; value = w.value })) }
+        ensures* writes_back { sem 𝓛 (Lends intersection_handle.the_row (owned.the_row intersection.the_row)
+            self.entry result (λ w. record { at = w.at; value = w.value })) }
         ensures same { result.now ≡ record { at = self.old.at; value = self.old.value } }
     {
         let at = &raw mut *self as *mut Owned<SeededIntersection>;
@@ -84,7 +88,8 @@ impl SumsHandle {
     /// The pointer of the handle.
     #[inline(always)]
     pub(crate) fn owned(&mut self) -> &mut Owned<SeededSums>
-        ensures* writes_back { sem 𝓛 (Lends sums_handle.the_row (owned.the_row sums.the_row) self.entry result (λ w. record { at = w.at; value = w.value })) }
+        ensures* writes_back { sem 𝓛 (Lends sums_handle.the_row (owned.the_row sums.the_row)
+            self.entry result (λ w. record { at = w.at; value = w.value })) }
         ensures same { result.now ≡ record { at = self.old.at; value = self.old.value } }
     {
         let at = &raw mut *self as *mut Owned<SeededSums>;
@@ -96,7 +101,8 @@ impl CompactSumsHandle {
     /// The pointer of the handle.
     #[inline(always)]
     pub(crate) fn owned(&mut self) -> &mut Owned<CompactSums>
-        ensures* writes_back { sem 𝓛 (Lends compact_sums_handle.the_row (owned.the_row compact_sums.the_row) self.entry result (λ w. record { at = w.at; value = w.value })) }
+        ensures* writes_back { sem 𝓛 (Lends compact_sums_handle.the_row (owned.the_row compact_sums.the_row)
+            self.entry result (λ w. record { at = w.at; value = w.value })) }
         ensures same { result.now ≡ record { at = self.old.at; value = self.old.value } }
     {
         let at = &raw mut *self as *mut Owned<CompactSums>;
@@ -108,7 +114,8 @@ impl SumsUnionHandle {
     /// The pointer of the handle.
     #[inline(always)]
     pub(crate) fn owned(&mut self) -> &mut Owned<SeededSumsUnion>
-        ensures* writes_back { sem 𝓛 (Lends sums_union_handle.the_row (owned.the_row sums_union.the_row) self.entry result (λ w. record { at = w.at; value = w.value })) }
+        ensures* writes_back { sem 𝓛 (Lends sums_union_handle.the_row (owned.the_row sums_union.the_row)
+            self.entry result (λ w. record { at = w.at; value = w.value })) }
         ensures same { result.now ≡ record { at = self.old.at; value = self.old.value } }
     {
         let at = &raw mut *self as *mut Owned<SeededSumsUnion>;
