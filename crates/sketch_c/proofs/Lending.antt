@@ -8,16 +8,14 @@ use mir.Syntax.{Fn, Body, Ty, Callee, named, erased, mut, ty_ptr, ty_ref, local,
 use mir.Val.{Val, vptr}
 use base.Logic.{SProp, ent, sep, emp, via, fst∗, id⊢}
 use base.Fml.{GName, Fml, ftrue, fsep, fex, flft}
-use prog.Memory.{Memory}
 use prog.Model.{Model}
-use prog.Routine.{Routine}
 use prog.Wp.{WpFn, Closed}
 use types.Logic.{Logic, sem}
-use types.Kit.{‵, raw, ◌⊛◌, some, later, at_ret, ◌$◌, ◌∵◌, !, qed, done, move, keep, drop, use1, split, split3, join, fsplit, fsplit3, fjoin, pick, await, suffices, frame, group}
+use types.Kit.{‵, raw, ◌⊛◌, some, later, at_ret, ◌$◌, ◌∵◌, !, qed, done, move, keep, use1, split, split3, join, fsplit, fsplit3, fjoin, pick, await, suffices, frame, group}
 use types.Run.{stop, addr, of_opd, first, blocks, exec, returns, enter}
 use types.ByLocal.{alloc_all, pass_all, free_all, look_at, get, through, sets, sets_last, env}
 use types.Mut.{open_ref}
-use contract.Monad.{Fun, fact}
+use contract.Monad.{fact}
 use contract.Running.{Running, tables}
 use denote.Exit.{no}
 use denote.Follow.{follows, lends_Part}

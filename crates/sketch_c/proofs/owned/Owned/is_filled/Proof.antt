@@ -1,5 +1,5 @@
 -- `is_filled` tests the pointer for null, and leaves it.
-use Rattle.std.proofs.Common.{◌≡◌, ℕ, List, [], ◌∷◌, ◌++◌, refl, sym, ap, ◌∙◌, subst, Some, None, true, false, Option, is_some}
+use Rattle.std.proofs.Common.{ℕ, List, [], ◌∷◌, ◌++◌, refl, sym, ap, ◌∙◌, subst, Some, true, false, Option, is_some}
 use base.Fraction.{full_share}
 use mir.Syntax.{a_type}
 use mir.Val.{Val, vptr, vbool}
@@ -7,19 +7,18 @@ use mir.MapTy.{inst_fn}
 use base.Logic.{SProp, ent, id⊢}
 use base.Fml.{ftrue, flft}
 use prog.Wp.{WpFn}
-use types.Kit.{Sq, Item, prop, ‵, raw, ◌⊛◌, ◌$◌, ◌∵◌, !, qed, done, move, keep, split, split3, join, fsplit, fsplit3, fjoin, fjoin3, feq_i, suffices, rewrite}
+use types.Kit.{‵, raw, ◌⊛◌, ◌$◌, ◌∵◌, !, qed, done, move, keep, split, split3, join, fsplit, fsplit3, fjoin, fjoin3, feq_i, suffices, rewrite}
 use types.Run.{stop, fld, load, lit, of_opd, bin, un, returns, enter}
 use types.ByLocal.{alloc_all, pass_all, free_all, look_at, get, through, sets}
 use types.Part.{look_in, sub, whole}
 use contract.Running.{tables}
-use denote.Exit.{yes}
 use denote.Memory.{cell_at}
 use denote.Param.{param, layouts}
 use denote.RattleType.{RattleType, owns}
 use denote.RawPtr.{Ptr, block_ptr, null_ptr, tests_null}
-use denote.Signature.{types_at, plain, mut_ref_to}
+use denote.Signature.{types_at, plain}
 use denote.Steps.{nothing, opens, closes}
-use denote.Triple.Walked.{says, Stays, stay_ref, walk_of, ends_at, Goes-ref}
+use denote.Triple.Walked.{Stays, stay_ref, walk_of, ends_at, Goes-ref}
 use Rattle.std.proofs.mem.Facts.{says_two}
 use Rattle.std.proofs.raw_atomic.Walks.{proved_at}
 use Rattle.sketch_c.specs.Handle.{handle_owns}

@@ -1,5 +1,5 @@
 -- `object` passes on the object that the pointer owns.
-use Rattle.std.proofs.Common.{◌≡◌, ℕ, List, [], ◌∷◌, ◌++◌, refl, sym, ap, ◌∙◌, subst, Some, None, IsSome}
+use Rattle.std.proofs.Common.{ℕ, List, [], ◌∷◌, ◌++◌, refl, sym, ap, ◌∙◌, subst, Some, IsSome}
 use base.Fraction.{full_share}
 use lib.Dec as D
 use mir.Syntax.{Body, a_type, named, place, assign, rv_opd, copy, seq, return}
@@ -9,7 +9,7 @@ use base.Logic.{SProp, ent, id⊢}
 use base.Fml.{GName, ftrue, flft}
 use prog.Wp.{WpFn}
 use types.Logic.{sem}
-use types.Kit.{‵, raw, ◌⊛◌, some, later, at_ret, ◌$◌, ◌∵◌, !, qed, done, move, keep, use1, split, split3, join, fsplit, fsplit3, fjoin, pick, await, suffices, frame, group, rewrite, drop}
+use types.Kit.{‵, raw, ◌⊛◌, some, later, at_ret, ◌$◌, ◌∵◌, !, qed, done, move, keep, use1, split, split3, join, fsplit, fsplit3, fjoin, pick, await, suffices, frame, group, rewrite}
 use types.Run.{stop, fld, load, addr, of_opd, first, blocks, exec, returns, enter}
 use types.ByLocal.{alloc_all, pass_all, free_all, look_at, get, through, sets, sets_last, env}
 use types.Part.{look_in, sub, whole}
@@ -18,10 +18,10 @@ use contract.Monad.{fact}
 use contract.Running.{tables}
 use denote.Exit.{no}
 use denote.Follow.{follows, lends_Part}
-use denote.Memory.{cell_at, part_at}
+use denote.Memory.{cell_at}
 use denote.Param.{param, layouts}
 use denote.RattleType.{RattleType, owns}
-use denote.RawPtr.{Ptr, block_ptr}
+use denote.RawPtr.{Ptr}
 use denote.Ref.{MutRef}
 use denote.Signature.{types_at, plain, mut_ref_to}
 use denote.Steps.{nothing, opens, heard}
