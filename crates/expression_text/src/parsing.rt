@@ -123,10 +123,7 @@ fn index_of<A: Allocator + Clone + Drop>(
 impl<A: Allocator + Clone + Drop> Reading<A> {
     /// Reads a name.
     fn put_name(&mut self, alloc: A, word: &[u8]) -> Result<(), Reason>
-        ensures reads { (tokens : List Lexeme)
-            → HasTokens tokens self.old
-            → OnOk result (
-            HasTokens (tokens ++ name word.now ∷ []) self.new) }
+        ensures reads { (tokens : List Lexeme) → HasTokens tokens self.old → OnOk result (HasTokens (tokens ++ name word.now ∷ []) self.new) }
         ensures refused { IfErr result (λ reason.
             reason ≢ Memory → CanFollow self.old.levels self.old.after_operand (name word.now) → ⊥) }
     {
@@ -141,10 +138,7 @@ impl<A: Allocator + Clone + Drop> Reading<A> {
 
     /// Reads an operator.
     fn put_sign(&mut self, operator: Operator) -> Result<(), Reason>
-        ensures reads { (tokens : List Lexeme)
-            → HasTokens tokens self.old
-            → OnOk result (
-            HasTokens (tokens ++ sign operator ∷ []) self.new) }
+        ensures reads { (tokens : List Lexeme) → HasTokens tokens self.old → OnOk result (HasTokens (tokens ++ sign operator ∷ []) self.new) }
         ensures refused { IfErr result (λ reason.
             reason ≢ Memory → CanFollow self.old.levels self.old.after_operand (sign operator) → ⊥) }
     {
@@ -159,10 +153,7 @@ impl<A: Allocator + Clone + Drop> Reading<A> {
 
     /// Reads an opening parenthesis.
     fn open(&mut self) -> Result<(), Reason>
-        ensures reads { (tokens : List Lexeme)
-            → HasTokens tokens self.old
-            → OnOk result (
-            HasTokens (tokens ++ opening ∷ []) self.new) }
+        ensures reads { (tokens : List Lexeme) → HasTokens tokens self.old → OnOk result (HasTokens (tokens ++ opening ∷ []) self.new) }
         ensures refused { IfErr result (λ reason.
             reason ≢ Memory → CanFollow self.old.levels self.old.after_operand opening → ⊥) }
     {
@@ -179,14 +170,9 @@ impl<A: Allocator + Clone + Drop> Reading<A> {
 
     /// Reads a closing parenthesis.
     fn close(&mut self) -> Result<(), Reason>
-        ensures reads { (tokens : List Lexeme)
-            → HasTokens tokens self.old
-            → OnOk result (
-            HasTokens (tokens ++ closing ∷ []) self.new) }
-        ensures refused { (tokens : List Lexeme)
-            → HasTokens tokens self.old
-            → IfErr result (λ reason.
-            reason ≢ Memory → CanFollow self.old.levels self.old.after_operand closing → ⊥) }
+        ensures reads { (tokens : List Lexeme) → HasTokens tokens self.old → OnOk result (HasTokens (tokens ++ closing ∷ []) self.new) }
+        ensures refused { (tokens : List Lexeme) → HasTokens tokens self.old
+            → IfErr result (λ reason. reason ≢ Memory → CanFollow self.old.levels self.old.after_operand closing → ⊥) }
     {
         if self.levels == 0 {
             return Err(Reason::UnexpectedClosing);
@@ -204,14 +190,9 @@ impl<A: Allocator + Clone + Drop> Reading<A> {
 
     /// Reads a token.
     fn put(&mut self, alloc: A, token: Token<'_>) -> Result<(), Reason>
-        ensures reads { (tokens : List Lexeme)
-            → HasTokens tokens self.old
-            → OnOk result (
-            HasTokens (tokens ++ lexeme_of token.entry ∷ []) self.new) }
-        ensures refused { (tokens : List Lexeme)
-            → HasTokens tokens self.old
-            → IfErr result (λ reason.
-            reason ≢ Memory → CanFollow self.old.levels self.old.after_operand (lexeme_of token.entry) → ⊥) }
+        ensures reads { (tokens : List Lexeme) → HasTokens tokens self.old → OnOk result (HasTokens (tokens ++ lexeme_of token.entry ∷ []) self.new) }
+        ensures refused { (tokens : List Lexeme) → HasTokens tokens self.old
+            → IfErr result (λ reason. reason ≢ Memory → CanFollow self.old.levels self.old.after_operand (lexeme_of token.entry) → ⊥) }
     {
         match token {
             Token::Name(word) => self.put_name(alloc, word),
@@ -231,9 +212,7 @@ impl<A: Allocator + Clone + Drop> Reading<A> {
             HasTokens (tokens ++ t ∷ []) self.new)) }
         ensures shorter { IfOk result (λ o. IfSome o (λ rest. length rest.now < length text.now)) }
         ensures some { IfErr result (λ reason. reason ≢ Memory → text.now ≢ []) }
-        ensures refused { (tokens : List Lexeme)
-            → HasTokens tokens self.old
-            → NoBlankFirst text.now
+        ensures refused { (tokens : List Lexeme) → HasTokens tokens self.old → NoBlankFirst text.now
             → IfErr result (λ reason. reason ≢ Memory → CannotGoOn self.old.levels self.old.after_operand text.now) }
     {
         match first_token(text)? {
@@ -247,12 +226,9 @@ impl<A: Allocator + Clone + Drop> Reading<A> {
 
     /// Reads all tokens of a text.
     fn put_all(&mut self, alloc: &A, text: &[u8]) -> Result<(), SyntaxFault>
-        ensures tokens { HasTokens [] self.old
-            → OnOk result ((tokens : List Lexeme) × IsText tokens text.now ×
-            HasTokens tokens self.new) }
+        ensures tokens { HasTokens [] self.old → OnOk result ((tokens : List Lexeme) × IsText tokens text.now × HasTokens tokens self.new) }
         ensures fault { IfErr result (λ f. f.offset ≤ length text.now) }
-        ensures unspelled { HasTokens [] self.old
-            → IfErr result (λ f. f.reason ≢ Memory → SpellsNothing text.now) }
+        ensures unspelled { HasTokens [] self.old → IfErr result (λ f. f.reason ≢ Memory → SpellsNothing text.now) }
     {
         let mut rest = skip_blanks(text);
         'each: loop {
@@ -267,12 +243,9 @@ impl<A: Allocator + Clone + Drop> Reading<A> {
 
     /// Ends the expression.
     fn finish(mut self) -> Result<Parsed<A>, Reason>
-        ensures spelled { (tokens : List Lexeme) (text : List ℕ)
-            → IsText tokens text
-            → HasTokens tokens self
+        ensures spelled { (tokens : List Lexeme) (text : List ℕ) → IsText tokens text → HasTokens tokens self
             → IfOk result (λ x. IsSpelled text (map (λ v. v.items) x.names.items) x.steps.items) }
-        ensures refused { (tokens : List Lexeme)
-            → HasTokens tokens self
+        ensures refused { (tokens : List Lexeme) → HasTokens tokens self
             → IfErr result (λ reason. reason ≢ Memory → CanEnd self.levels self.after_operand → ⊥) }
     {
         if !self.after_operand {
