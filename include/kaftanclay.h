@@ -187,6 +187,8 @@ kc_status kc_sums_state(kc_sums *sketch, kc_state *out);
 kc_status kc_sums_image(kc_sums *sketch, void *out, size_t room, uint64_t *length);
 /* Makes the sketch's ordered compact form, of the same value, untrimmed. */
 kc_status kc_sums_compact(kc_sums *sketch, kc_compact_sums *out);
+/* Copies a sketch, with its sums, its theta and settings, into another handle. */
+kc_status kc_sums_clone(kc_sums *sketch, kc_sums *out);
 /* Writes the total of a sketch, the sum of its sums, below 2^96. The estimate of the total of all values that were added is
  * this total * KC_MAX_THETA / theta (kc_total, kc_total_decimal, kc_total_text). */
 kc_status kc_sums_total(kc_sums *sketch, kc_wide *out);

@@ -37,8 +37,13 @@ int main(void) {
         for (uint64_t n = 0; n < COUNT; n++) kc_theta_update_u64(&s, n);
         report("numbers", began, &s);
         kc_theta_new(&s, (uint8_t)lg_k, KC_DEFAULT_SEED), began = seconds();
-        for (uint64_t n = 0; n < COUNT; n++) kc_theta_update_hash(&s, hashes[n % 4000]);
+        for (uint64_t n = 0; n < COUNT; n += 4000)
+            for (uint64_t m = 0; m < 4000; m++) kc_theta_update_hash(&s, hashes[m]);
         report("4000 hashes again and again", began, &s);
+        kc_theta_new(&s, (uint8_t)lg_k, KC_DEFAULT_SEED), began = seconds();
+        for (uint64_t n = 0; n < COUNT; n += 4000)
+            for (uint64_t m = 0; m < 4000; m += 250) kc_theta_update_hashes(&s, hashes + m, 250);
+        report("the same, 250 a call", began, &s);
     }
     return 0;
 }

@@ -136,6 +136,7 @@ kc_status kc_sums_new_with(kc_sums *h, uint8_t lg_k, uint64_t seed, uint32_t res
 }
 
 kc_status kc_sums_compact(kc_sums *h, kc_compact_sums *out) { REFUSE_UNLESS(h && out); return kcp_sums_compact(h, out); }
+kc_status kc_sums_clone(kc_sums *h, kc_sums *out) { REFUSE_UNLESS(h && out && h != out); return kcp_sums_clone(h, out); }
 kc_status kc_sums_total(kc_sums *h, kc_wide *out) { REFUSE_UNLESS(h && out); return kcp_sums_total(h, out); }
 kc_status kc_sums_trim(kc_sums *h) { REFUSE_UNLESS(h); return kcp_sums_trim(h); }
 kc_status kc_sums_reset(kc_sums *h) { REFUSE_UNLESS(h); return kcp_sums_reset(h); }

@@ -76,7 +76,7 @@ static void run(long request, uint64_t updates, uint64_t image_length) {
     kc_compact c = {0}, d = {0}, r = {0};
     kc_union u = {0};
     kc_intersection i = {0};
-    kc_sums m = {0};
+    kc_sums m = {0}, m_copy = {0};
     kc_state before, after;
     uint64_t length = 7;
     kc_status status = kc_theta_new(&s, 10, SEED);
@@ -140,6 +140,12 @@ static void run(long request, uint64_t updates, uint64_t image_length) {
         WANT(kc_hash_u64(SEED, n, &hash) == KC_OK && kc_sums_state(&m, &before) == KC_OK);
         status = kc_sums_add_hash(&m, hash, 1);
         WANT(IS(status) && kc_sums_state(&m, &after) == KC_OK && (status == KC_OK || same(&before, &after)));
+    }
+    if (m.object != NULL) {
+        WANT(kc_sums_state(&m, &before) == KC_OK);
+        status = kc_sums_clone(&m, &m_copy);
+        WANT(IS(status) && (status == KC_OK) == (m_copy.object != NULL) && kc_sums_state(&m, &after) == KC_OK && same(&before, &after));
+        if (status == KC_OK) WANT(kc_sums_state(&m_copy, &after) == KC_OK && same(&before, &after) && kc_sums_free(&m_copy) == KC_OK);
     }
     armed = 0;
     kc_theta_free(&s), kc_compact_free(&c), kc_compact_free(&d), kc_union_free(&u), kc_intersection_free(&i), kc_sums_free(&m);

@@ -57,6 +57,7 @@ kc_status kcp_sums_reset(kc_sums *);
 kc_status kcp_sums_state(kc_sums *, kc_state *);
 kc_status kcp_sums_image(kc_sums *, uint8_t *, size_t, uint64_t *);
 kc_status kcp_sums_compact(kc_sums *, kc_compact_sums *);
+kc_status kcp_sums_clone(kc_sums *, kc_sums *);
 kc_status kcp_sums_total(kc_sums *, kc_wide *);
 
 kc_status kcp_compact_sums_read(kc_compact_sums *, const uint8_t *, size_t, uint64_t seed);

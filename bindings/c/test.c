@@ -219,7 +219,7 @@ static void values(kc_sums *sketch, uint64_t first, uint64_t count) {
 static uint64_t hashes[8192], counted[8192];
 
 static void compact_sums(void) {
-    kc_sums s = {0}, none = {0};
+    kc_sums s = {0}, none = {0}, copy = {0};
     kc_compact_sums c = {0}, d = {0};
     kc_state st, same;
     kc_wide total = {7, 7};
@@ -252,6 +252,12 @@ static void compact_sums(void) {
     WANT(kc_compact_sums_entries(&d, hashes, counted, 8192, &count) == KC_INVALID_ARGUMENT && count == 9);
     WANT(kc_compact_sums_total(&d, &total) == KC_INVALID_ARGUMENT && kc_sums_total(&none, &total) == KC_INVALID_ARGUMENT && total.low == 7);
     WANT(kc_sums_compact(&none, &d) == KC_INVALID_ARGUMENT && kc_sums_add_u64(&none, 1, 1) == KC_INVALID_ARGUMENT && kc_compact_sums_image(&d, out, 1, &length) == KC_INVALID_ARGUMENT);
+    /* a copy has the same image, and what is added to one is not in the other */
+    WANT(kc_sums_clone(&s, &copy) == KC_OK && kc_sums_clone(&s, &copy) == KC_INVALID_ARGUMENT && kc_sums_clone(&s, &s) == KC_INVALID_ARGUMENT);
+    WANT(kc_sums_clone(&none, &s) == KC_INVALID_ARGUMENT && kc_sums_clone(&s, NULL) == KC_INVALID_ARGUMENT);
+    WANT(kc_sums_image(&copy, out, sizeof out, &length) == KC_OK && length == a_length && memcmp(a_image, out, length) == 0);
+    WANT(kc_sums_add_u64(&copy, 5, 1) == KC_OK && kc_sums_total(&copy, &total) == KC_OK && total.low == 999 * 1000 / 2 + 1 && total.high == 0);
+    WANT(kc_sums_total(&s, &total) == KC_OK && total.low == 999 * 1000 / 2 && kc_sums_free(&copy) == KC_OK && copy.object == NULL);
     /* sums of 2^64 - 1 add up past 64 bits */
     WANT(kc_sums_reset(&s) == KC_OK && kc_sums_add_u64(&s, 1, UINT64_MAX) == KC_OK && kc_sums_add_u64(&s, 2, UINT64_MAX) == KC_OK);
     WANT(kc_sums_total(&s, &total) == KC_OK && total.low == UINT64_MAX - 1 && total.high == 1);

@@ -151,6 +151,7 @@ sums_trim = _declared(_long, "sums_trim", _sums)
 sums_state = _declared(_short, "sums_state", _sums, POINTER(State))
 sums_image = _declared(_long, "sums_image", _sums, *_output)
 sums_compact = _declared(_long, "sums_compact", _sums, _compact_sums)
+sums_clone = _declared(_long, "sums_clone", _sums, _sums)
 sums_total = _declared(_long, "sums_total", _sums, POINTER(Wide))
 
 compact_sums_read = _declared(_long, "compact_sums_read", _compact_sums, *_input, c_uint64)

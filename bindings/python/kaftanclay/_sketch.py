@@ -168,6 +168,7 @@ class UpdatableSketch(Sketch):
     _handle: Any
     _kind: Any
     _new: Any
+    _clone: Any
     _trim: Any
     _read_state: Any
     _write_image: Any
@@ -225,6 +226,17 @@ class UpdatableSketch(Sketch):
         with self._lock:
             check(self._read_state(self._handle, state))
         return state
+
+    def __copy__(self: Made) -> Made:
+        made = type(self)(self.lg_k, self.seed, resize_factor=self._resize_factor, starting_theta=self._starting_theta)
+        copied = self._kind()
+        with self._lock:
+            check(self._clone(self._handle, copied))
+        made._handle = copied
+        return made
+
+    def __deepcopy__(self: Made, memo: Any) -> Made:
+        return self.__copy__()
 
     def __getstate__(self) -> Any:
         return self.compact(), self._resize_factor, self._starting_theta

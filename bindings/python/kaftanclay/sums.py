@@ -101,7 +101,7 @@ class TupleSums(UpdatableSketch, SumsValue):
     """
 
     __slots__ = ()
-    _kind, _new, _trim = SumsHandle, library.sums_new, library.sums_trim
+    _kind, _new, _clone, _trim = SumsHandle, library.sums_new, library.sums_clone, library.sums_trim
     _read_state, _write_image, _entry_size = library.sums_state, library.sums_image, 16
 
     @classmethod

@@ -94,7 +94,7 @@ class ThetaSketch(UpdatableSketch, ThetaValue):
     """
 
     __slots__ = ()
-    _kind, _new, _trim = ThetaHandle, library.theta_new, library.theta_trim
+    _kind, _new, _clone, _trim = ThetaHandle, library.theta_new, library.theta_clone, library.theta_trim
     _read_state, _write_image, _entry_size = library.theta_state, library.theta_image, 8
 
     @classmethod
@@ -133,17 +133,6 @@ class ThetaSketch(UpdatableSketch, ThetaValue):
     def compact(self) -> CompactThetaSketch:
         """Its value as a compact sketch, untrimmed."""
         return CompactThetaSketch._of(self.to_bytes(), self.seed, self.lg_k)
-
-    def __copy__(self) -> ThetaSketch:
-        made = ThetaSketch(self.lg_k, self.seed, resize_factor=self._resize_factor, starting_theta=self._starting_theta)
-        copied = ThetaHandle()
-        with self._lock:
-            check(library.theta_clone(self._handle, copied))
-        made._handle = copied
-        return made
-
-    def __deepcopy__(self, memo: Any) -> ThetaSketch:
-        return self.__copy__()
 
     def _fill(self, value: CompactSketch, handle: Any) -> None:
         hashes = array("Q", entries_of(value.to_bytes()))

@@ -1,9 +1,10 @@
 -- The state between two tokens: what is pending, and the operand after it.
-use Rattle.std.specs.Prelude.{ℕ, ◌≡◌, ◌<◌, ◌≤◌, ◌+◌, Bool, true, false, List, [], ◌∷◌, ◌++◌, length, get_or}
+use Rattle.std.specs.Prelude.{ℕ, ◌≡◌, ◌<◌, ◌≤◌, ◌+◌, Bool, true, false, List, [], ◌∷◌, ◌++◌, length, get_or, map}
 use Rattle.expression_text.specs.declared.operator.Operator.{Operator}
 use Rattle.expression_text.specs.declared.operator.Step.{Step}
 use Rattle.expression_text.specs.declared.parsing.Pending.{Pending}
 use Rattle.expression_text.specs.declared.parsing.Pending.TheVariants.{Group, Sign}
+use Rattle.expression_text.specs.declared.parsing.Reading.{Reading}
 use Rattle.expression_text.specs.Expressions.{Expression, postfix, IsWithin}
 use Rattle.expression_text.specs.Grammar.{tokens_of, strength, level, IsBound, depth, most_levels}
 use Rattle.expression_text.specs.Tokens.{Lexeme, name, sign, opening, closing, IsAfterBlanks, IsText, IsToken, NoBlankFirst}
@@ -104,6 +105,10 @@ pub record IsSettled (least : ℕ) (tokens : List Lexeme) (names : List (List �
 abbrev pub IsReading : (tokens : List Lexeme) → (names : List (List ℕ)) → (pending : List Pending) → (steps : List Step) → (levels : ℕ) → (after_operand : Bool) → Type 0
 IsReading tokens names pending steps levels true = HasOperand 3 tokens names pending steps levels
 IsReading tokens names pending steps levels false = WantsOperand tokens names pending steps levels
+
+-- these tokens were read
+abbrev pub HasTokens : {A : Type 0} → (tokens : List Lexeme) → Reading A → Type 0
+HasTokens tokens r = IsReading tokens (map (λ v. v.items) r.names.items) r.pending.items r.steps.items r.levels r.after_operand
 
 -- a token may follow, after this many open parentheses and perhaps an operand
 abbrev pub CanFollow : (levels : ℕ) → (after_operand : Bool) → Lexeme → Type 0

@@ -2,7 +2,7 @@
 ghost use Rattle.std.specs.Prelude.{◌≡◌, ◌≢◌, ◌++◌, ◌∷◌, ◌<◌, ◌≤◌, ℕ, [], List, map, length, IfOk, IfErr, IfSome, OnOk, MatchOption};
 ghost use Rattle.expression_text.specs.Grammar.{strength, IsSpelled, SpellsNothing};
 ghost use Rattle.expression_text.specs.Tokens.{Lexeme, name, sign, opening, closing, lexeme_of, IsText, IsToken, NoBlankFirst};
-ghost use Rattle.expression_text.specs.Reading.{HasName, IsIndexed, HasOperand, IsSettled, LacksSign, IsReading, CanFollow, CannotGoOn, CanEnd};
+ghost use Rattle.expression_text.specs.Reading.{HasName, IsIndexed, HasOperand, IsSettled, LacksSign, HasTokens, CanFollow, CannotGoOn, CanEnd};
 ghost use Rattle.expression_text.specs.declared.parsing.Pending.TheVariants.{Sign};
 ghost use Rattle.expression_text.specs.declared.fault.Reason.TheVariants.{Memory};
 
@@ -123,11 +123,7 @@ fn index_of<A: Allocator + Clone + Drop>(
 impl<A: Allocator + Clone + Drop> Reading<A> {
     /// Reads a name.
     fn put_name(&mut self, alloc: A, word: &[u8]) -> Result<(), Reason>
-        ensures reads { (tokens : List Lexeme)
-            → IsReading tokens (map (λ v. v.items) self.old.names.items) self.old.pending.items self.old.steps.items self.old.levels self.old.after_operand
-            → OnOk result (
-            IsReading (tokens ++ name word.now ∷ []) (map (λ v. v.items) self.new.names.items)
-            self.new.pending.items self.new.steps.items self.new.levels self.new.after_operand) }
+        ensures reads { (tokens : List Lexeme) → HasTokens tokens self.old → OnOk result (HasTokens (tokens ++ name word.now ∷ []) self.new) }
         ensures refused { IfErr result (λ reason.
             reason ≢ Memory → CanFollow self.old.levels self.old.after_operand (name word.now) → ⊥) }
     {
@@ -142,11 +138,7 @@ impl<A: Allocator + Clone + Drop> Reading<A> {
 
     /// Reads an operator.
     fn put_sign(&mut self, operator: Operator) -> Result<(), Reason>
-        ensures reads { (tokens : List Lexeme)
-            → IsReading tokens (map (λ v. v.items) self.old.names.items) self.old.pending.items self.old.steps.items self.old.levels self.old.after_operand
-            → OnOk result (
-            IsReading (tokens ++ sign operator ∷ []) (map (λ v. v.items) self.new.names.items)
-            self.new.pending.items self.new.steps.items self.new.levels self.new.after_operand) }
+        ensures reads { (tokens : List Lexeme) → HasTokens tokens self.old → OnOk result (HasTokens (tokens ++ sign operator ∷ []) self.new) }
         ensures refused { IfErr result (λ reason.
             reason ≢ Memory → CanFollow self.old.levels self.old.after_operand (sign operator) → ⊥) }
     {
@@ -161,11 +153,7 @@ impl<A: Allocator + Clone + Drop> Reading<A> {
 
     /// Reads an opening parenthesis.
     fn open(&mut self) -> Result<(), Reason>
-        ensures reads { (tokens : List Lexeme)
-            → IsReading tokens (map (λ v. v.items) self.old.names.items) self.old.pending.items self.old.steps.items self.old.levels self.old.after_operand
-            → OnOk result (
-            IsReading (tokens ++ opening ∷ []) (map (λ v. v.items) self.new.names.items)
-            self.new.pending.items self.new.steps.items self.new.levels self.new.after_operand) }
+        ensures reads { (tokens : List Lexeme) → HasTokens tokens self.old → OnOk result (HasTokens (tokens ++ opening ∷ []) self.new) }
         ensures refused { IfErr result (λ reason.
             reason ≢ Memory → CanFollow self.old.levels self.old.after_operand opening → ⊥) }
     {
@@ -182,15 +170,9 @@ impl<A: Allocator + Clone + Drop> Reading<A> {
 
     /// Reads a closing parenthesis.
     fn close(&mut self) -> Result<(), Reason>
-        ensures reads { (tokens : List Lexeme)
-            → IsReading tokens (map (λ v. v.items) self.old.names.items) self.old.pending.items self.old.steps.items self.old.levels self.old.after_operand
-            → OnOk result (
-            IsReading (tokens ++ closing ∷ []) (map (λ v. v.items) self.new.names.items)
-            self.new.pending.items self.new.steps.items self.new.levels self.new.after_operand) }
-        ensures refused { (tokens : List Lexeme)
-            → IsReading tokens (map (λ v. v.items) self.old.names.items) self.old.pending.items self.old.steps.items self.old.levels self.old.after_operand
-            → IfErr result (λ reason.
-            reason ≢ Memory → CanFollow self.old.levels self.old.after_operand closing → ⊥) }
+        ensures reads { (tokens : List Lexeme) → HasTokens tokens self.old → OnOk result (HasTokens (tokens ++ closing ∷ []) self.new) }
+        ensures refused { (tokens : List Lexeme) → HasTokens tokens self.old
+            → IfErr result (λ reason. reason ≢ Memory → CanFollow self.old.levels self.old.after_operand closing → ⊥) }
     {
         if self.levels == 0 {
             return Err(Reason::UnexpectedClosing);
@@ -208,15 +190,9 @@ impl<A: Allocator + Clone + Drop> Reading<A> {
 
     /// Reads a token.
     fn put(&mut self, alloc: A, token: Token<'_>) -> Result<(), Reason>
-        ensures reads { (tokens : List Lexeme)
-            → IsReading tokens (map (λ v. v.items) self.old.names.items) self.old.pending.items self.old.steps.items self.old.levels self.old.after_operand
-            → OnOk result (
-            IsReading (tokens ++ lexeme_of token.entry ∷ []) (map (λ v. v.items) self.new.names.items)
-            self.new.pending.items self.new.steps.items self.new.levels self.new.after_operand) }
-        ensures refused { (tokens : List Lexeme)
-            → IsReading tokens (map (λ v. v.items) self.old.names.items) self.old.pending.items self.old.steps.items self.old.levels self.old.after_operand
-            → IfErr result (λ reason.
-            reason ≢ Memory → CanFollow self.old.levels self.old.after_operand (lexeme_of token.entry) → ⊥) }
+        ensures reads { (tokens : List Lexeme) → HasTokens tokens self.old → OnOk result (HasTokens (tokens ++ lexeme_of token.entry ∷ []) self.new) }
+        ensures refused { (tokens : List Lexeme) → HasTokens tokens self.old
+            → IfErr result (λ reason. reason ≢ Memory → CanFollow self.old.levels self.old.after_operand (lexeme_of token.entry) → ⊥) }
     {
         match token {
             Token::Name(word) => self.put_name(alloc, word),
@@ -230,15 +206,13 @@ impl<A: Allocator + Clone + Drop> Reading<A> {
     /// the text is empty.
     fn put_first<'a>(&mut self, alloc: &A, text: &'a [u8]) -> Result<Option<&'a [u8]>, Reason>
         ensures token { (tokens : List Lexeme)
-            → IsReading tokens (map (λ v. v.items) self.old.names.items) self.old.pending.items self.old.steps.items self.old.levels self.old.after_operand
-            → IfOk result (λ o. MatchOption o ((text.now ≡ []) × IsReading tokens (map (λ v. v.items) self.new.names.items) self.new.pending.items self.new.steps.items self.new.levels self.new.after_operand) (λ rest.
+            → HasTokens tokens self.old
+            → IfOk result (λ o. MatchOption o ((text.now ≡ []) × HasTokens tokens self.new) (λ rest.
             (t : Lexeme) × IsToken t text.now rest.now ×
-            IsReading (tokens ++ t ∷ []) (map (λ v. v.items) self.new.names.items) self.new.pending.items self.new.steps.items self.new.levels self.new.after_operand)) }
+            HasTokens (tokens ++ t ∷ []) self.new)) }
         ensures shorter { IfOk result (λ o. IfSome o (λ rest. length rest.now < length text.now)) }
         ensures some { IfErr result (λ reason. reason ≢ Memory → text.now ≢ []) }
-        ensures refused { (tokens : List Lexeme)
-            → IsReading tokens (map (λ v. v.items) self.old.names.items) self.old.pending.items self.old.steps.items self.old.levels self.old.after_operand
-            → NoBlankFirst text.now
+        ensures refused { (tokens : List Lexeme) → HasTokens tokens self.old → NoBlankFirst text.now
             → IfErr result (λ reason. reason ≢ Memory → CannotGoOn self.old.levels self.old.after_operand text.now) }
     {
         match first_token(text)? {
@@ -252,12 +226,9 @@ impl<A: Allocator + Clone + Drop> Reading<A> {
 
     /// Reads all tokens of a text.
     fn put_all(&mut self, alloc: &A, text: &[u8]) -> Result<(), SyntaxFault>
-        ensures tokens { IsReading [] (map (λ v. v.items) self.old.names.items) self.old.pending.items self.old.steps.items self.old.levels self.old.after_operand
-            → OnOk result ((tokens : List Lexeme) × IsText tokens text.now ×
-            IsReading tokens (map (λ v. v.items) self.new.names.items) self.new.pending.items self.new.steps.items self.new.levels self.new.after_operand) }
+        ensures tokens { HasTokens [] self.old → OnOk result ((tokens : List Lexeme) × IsText tokens text.now × HasTokens tokens self.new) }
         ensures fault { IfErr result (λ f. f.offset ≤ length text.now) }
-        ensures unspelled { IsReading [] (map (λ v. v.items) self.old.names.items) self.old.pending.items self.old.steps.items self.old.levels self.old.after_operand
-            → IfErr result (λ f. f.reason ≢ Memory → SpellsNothing text.now) }
+        ensures unspelled { HasTokens [] self.old → IfErr result (λ f. f.reason ≢ Memory → SpellsNothing text.now) }
     {
         let mut rest = skip_blanks(text);
         'each: loop {
@@ -272,12 +243,9 @@ impl<A: Allocator + Clone + Drop> Reading<A> {
 
     /// Ends the expression.
     fn finish(mut self) -> Result<Parsed<A>, Reason>
-        ensures spelled { (tokens : List Lexeme) (text : List ℕ)
-            → IsText tokens text
-            → IsReading tokens (map (λ v. v.items) self.names.items) self.pending.items self.steps.items self.levels self.after_operand
+        ensures spelled { (tokens : List Lexeme) (text : List ℕ) → IsText tokens text → HasTokens tokens self
             → IfOk result (λ x. IsSpelled text (map (λ v. v.items) x.names.items) x.steps.items) }
-        ensures refused { (tokens : List Lexeme)
-            → IsReading tokens (map (λ v. v.items) self.names.items) self.pending.items self.steps.items self.levels self.after_operand
+        ensures refused { (tokens : List Lexeme) → HasTokens tokens self
             → IfErr result (λ reason. reason ≢ Memory → CanEnd self.levels self.after_operand → ⊥) }
     {
         if !self.after_operand {
@@ -294,7 +262,7 @@ impl<A: Allocator + Clone + Drop> Reading<A> {
 
 /// The state before the first token.
 fn new_reading<A: Allocator + Clone + Drop>(alloc: &A) -> Result<Reading<A>, Reason>
-    ensures nothing { IfOk result (λ r. IsReading [] (map (λ v. v.items) r.names.items) r.pending.items r.steps.items r.levels r.after_operand) }
+    ensures nothing { IfOk result (λ r. HasTokens [] r) }
     ensures memory { IfErr result (λ reason. reason ≡ Memory) }
 {
     let pending = Vec::new(alloc.clone()?);

@@ -1,5 +1,9 @@
 -- Bytes that are written into a buffer of the caller.
-use Rattle.std.specs.Prelude.{◌≡◌, ◌⊎◌, ◌≤◌, ◌<◌, ◌++◌, ℕ, List, length, drop, Option, Some, None}
+use Rattle.std.specs.Prelude.{◌≡◌, ◌⊎◌, ◌≤◌, ◌<◌, ◌++◌, ℕ, List, length, drop, Option, Some, None, Result, MatchResult}
+use Rattle.std.specs.declared.vec.Vec.{Vec}
+use Rattle.std.specs.declared.alloc.Global.{Global}
+use Rattle.sketch_base.specs.declared.error.ErrorKind.{ErrorKind}
+use Rattle.sketch_c.specs.Status.{status_of}
 
 -- bytes are written to the front of a buffer that has room for them, with status 0; a buffer that is too small is left as it
 -- was, with status 6; their number is written in both cases
@@ -13,6 +17,13 @@ IsPut bytes before status after count =
 abbrev pub Writes : (IsImage : List ℕ → Type 0) → (IsRefused : ℕ → Type 0) → (before : List ℕ) → (count_before status : ℕ) → (after : List ℕ) → (count : ℕ) → Type 0
 Writes IsImage IsRefused before count_before status after count =
     ((image : List ℕ) × IsImage image × IsPut image before status after count) ⊎ (IsRefused status × (after ≡ before) × (count ≡ count_before))
+
+-- an image that a call made, and the status of its refusal
+abbrev pub IsImageMade : Result (Vec ℕ Global) ErrorKind → (image : List ℕ) → Type 0
+IsImageMade made image = MatchResult made (λ v. image ≡ v.items) (λ _. ⊥)
+
+abbrev pub IsImageRefused : Result (Vec ℕ Global) ErrorKind → (status : ℕ) → Type 0
+IsImageRefused made status = MatchResult made (λ _. ⊥) (λ e. status ≡ status_of e)
 
 -- the image of an object is put into a buffer; a handle without one is refused with 1
 abbrev pub WritesOf : {T : Type 0} → (IsImage : T → List ℕ → Type 0) → (IsRefused : T → ℕ → Type 0) → Option T → (before : List ℕ) → (count_before status : ℕ) → (after : List ℕ) → (count : ℕ) → Type 0

@@ -1,5 +1,7 @@
 -- The shapes of calls on handles: by the object before, the status and the object after.
-use Rattle.std.specs.Prelude.{◌≡◌, ℕ, Option, Some, None}
+use Rattle.std.specs.Prelude.{◌≡◌, ℕ, Option, Some, None, Result, MatchResult}
+use Rattle.sketch_base.specs.declared.error.ErrorKind.{ErrorKind}
+use Rattle.sketch_c.specs.Status.{status_of}
 
 -- a call on an object: a handle without one is refused with 1 and keeps none
 abbrev pub OnObject : {T : Type 0} → (Does : T → ℕ → T → Type 0) → Option T → (status : ℕ) → Option T → Type 0
@@ -12,6 +14,18 @@ abbrev pub Fills : {T : Type 0} → (IsMade : T → Type 0) → (IsRefused : ℕ
 Fills IsMade IsRefused (Some old) status new = (status ≡ 1) × (new ≡ Some old)
 Fills IsMade IsRefused None status None = IsRefused status
 Fills IsMade IsRefused None status (Some new) = (status ≡ 0) × IsMade new
+
+-- what a call made
+abbrev pub IsMadeBy : {T E : Type 0} → Result T E → T → Type 0
+IsMadeBy made x = MatchResult made (λ y. x ≡ y) (λ _. ⊥)
+
+-- the status of a refusal: memory for what a call made, with 3, or the call's own status
+abbrev pub IsRefusedBy : {T : Type 0} → Result T ℕ → (status : ℕ) → Type 0
+IsRefusedBy made status = MatchResult made (λ _. status ≡ 3) (λ s. status ≡ s)
+
+-- the same if the call's refusal is an error
+abbrev pub IsRefusedWith : {T : Type 0} → Result T ErrorKind → (status : ℕ) → Type 0
+IsRefusedWith made status = MatchResult made (λ _. status ≡ 3) (λ e. status ≡ status_of e)
 
 -- a call that fills a handle from an object: without one it is refused with 1, and the handle is as before
 abbrev pub FillsFrom : {S T : Type 0} → (IsMade : S → T → Type 0) → (IsRefused : S → ℕ → Type 0) → Option S → Option T → (status : ℕ) → Option T → Type 0

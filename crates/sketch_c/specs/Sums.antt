@@ -28,6 +28,10 @@ sums_of t = sketch_state t.sketch
 abbrev pub IsNewSums : (lg_k start seed : ℕ) → SeededSums → Type 0
 IsNewSums lg_k start seed t = (t.seed ≡ seed) × ((sums_of t).empty ≡ true) × ((sums_of t).map ≡ empty_table lg_k start seed)
 
+-- a copy of a sketch: the same entries, theta and settings
+abbrev pub IsSameSums : (old new : SeededSums) → Type 0
+IsSameSums old new = (new.seed ≡ old.seed) × ((sums_of new).empty ≡ (sums_of old).empty) × ((sums_of new).map ≡ (sums_of old).map)
+
 -- the step that adds a value to the sum at a hash, which is 0 at first; a sum of 2^64 or more is refused
 abbrev pub adds : (hash value : ℕ) → Step (TupleEntry ℕ)
 adds hash value = update_step (Some 0) (unsigned_sum 64) hash value

@@ -1,7 +1,8 @@
 //! Buffers of the caller.
-ghost use Rattle.sketch_c.specs.Buffer.{IsPut};
+ghost use Rattle.sketch_c.specs.Buffer.{IsPut, Writes, IsImageMade, IsImageRefused};
 
-use crate::status::{OK, TOO_SMALL};
+use crate::status::{OK, TOO_SMALL, status_of};
+use sketch_base::Error;
 
 /// Copies bytes to the front of a buffer if it has room for them, and writes how many they are. The status is `OK`, or
 /// `TOO_SMALL` if they don't fit.
@@ -15,4 +16,14 @@ pub(crate) fn put(bytes: &[u8], out: &mut [u8], length: &mut u64) -> u32
     }
     out[..count].copy_from_slice(bytes);
     OK
+}
+
+/// Puts an image into a buffer, as `put` does, or returns the status of the error with which the image was refused.
+pub(crate) fn put_made(made: Result<Vec<u8>, Error>, out: &mut [u8], length: &mut u64) -> u32
+    ensures { Writes (IsImageMade made) (IsImageRefused made) out.old length.old result out.new length.new }
+{
+    match made {
+        Ok(image) => put(image.as_slice(), out, length),
+        Err(error) => status_of(error.kind()),
+    }
 }

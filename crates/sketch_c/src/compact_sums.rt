@@ -1,97 +1,27 @@
 //! Compact tuple sketches whose summaries are sums of 64 bits.
-ghost use Rattle.std.specs.Prelude.{◌≡◌, ◌≤◌, ◌++◌, true, None, Option, IfOk, IfErr, is_some, option_map, length, drop, map};
-ghost use Rattle.std.specs.Coded.{coded_option};
+ghost use Rattle.std.specs.Prelude.{◌≡◌, ◌≤◌, ◌++◌, true, None, IfOk, IfErr, option_map, length, drop, map};
 ghost use Rattle.core_slots.specs.Entry.{tuple_key};
 ghost use Rattle.sketch_c.specs.Bounds.{is_state, wide};
 ghost use Rattle.sketch_c.specs.Buffer.{WritesOf};
 ghost use Rattle.sketch_c.specs.Calls.{Fills, WritesValue};
 ghost use Rattle.sketch_c.specs.CompactSums.{IsSumsReadFrom, IsSumsReadRefusal, compact_sums_state, IsCompactSumsImage, compact_total, PutsEntries, CopiesEntries};
-ghost use Rattle.sketch_c.specs.Handle.{handle_owns};
 ghost use Rattle.sketch_c.specs.Status.{IsMemoryRefusal};
 ghost use Rattle.sketch_c.specs.Totals.{sum_of};
-ghost use Rattle.sketch_c.specs.contracts.compact_sums.CompactSums.{the_row};
 ghost use Rattle.sketch_c.specs.declared.compact_sums.CompactSums.{CompactSums};
 
 use crate::bounds::{Wide, split};
-use crate::buffer::put;
-use crate::opaque::Opaque;
-use crate::owned::Owned;
+use crate::buffer::put_made;
+use crate::handles::CompactSumsHandle;
 use crate::state::State;
-use crate::status::{INVALID_ARGUMENT, OK, OUT_OF_MEMORY, TOO_SMALL, status_of};
+use crate::status::{INVALID_ARGUMENT, OK, TOO_SMALL, status_of};
 use crate::totals::total_of;
 use std::alloc::Global;
-use std::marker::Model;
 use tuple_sketches::{CompactTupleSketch, TupleEntry};
 
 /// A compact sketch of sums.
 #[derive(Drop)]
 pub struct CompactSums {
     pub(crate) sketch: CompactTupleSketch<u64>,
-}
-
-/// A handle of C: a compact tuple sketch of sums, or none.
-#[repr(C)]
-pub struct CompactSumsHandle {
-    at: *mut Opaque,
-    ghost value: { Option CompactSums } by { coded_option the_row.coded },
-}
-
-impl Model for CompactSumsHandle {
-    ghost also_owns = { λ h. handle_owns the_row h.at h.value };
-}
-
-impl CompactSumsHandle {
-    /// The handle of a pointer.
-    #[inline(always)]
-    fn of(owned: Owned<CompactSums>) -> CompactSumsHandle
-        ensures { result.value ≡ owned.value }
-    {
-        let Owned { at } = owned;
-        CompactSumsHandle {
-            at: at as *mut Opaque,
-        }
-    }
-
-    /// The pointer of the handle.
-    #[inline(always)]
-    fn into_owned(self) -> Owned<CompactSums>
-        ensures { result.value ≡ self.value }
-    {
-        let CompactSumsHandle { at } = self;
-        Owned {
-            at: at as *mut CompactSums,
-        }
-    }
-}
-
-/// The sketch of a handle, taken out of it.
-#[inline(always)]
-pub(crate) fn take(alloc: Global, handle: &mut CompactSumsHandle) -> Option<Box<CompactSums>>
-    ensures taken { handle.old.value ≡ option_map (λ b. b.value) result }
-    ensures none_left { handle.new.value ≡ None }
-{
-    let handle = std::mem::replace(handle, CompactSumsHandle::of(Owned::none()));
-    handle.into_owned().into_box(alloc)
-}
-
-/// Puts a sketch into a handle. One that it has is freed.
-#[inline(always)]
-pub(crate) fn fill(alloc: Global, handle: &mut CompactSumsHandle, value: Option<Box<CompactSums>>)
-    ensures { handle.new.value ≡ option_map (λ b. b.value) value }
-{
-    let handle = std::mem::replace(handle, CompactSumsHandle::of(Owned::of_box(value)));
-    let _ = handle.into_owned().into_box(alloc);
-}
-
-/// Whether a handle has a sketch.
-pub(crate) fn is_filled(alloc: Global, handle: &mut CompactSumsHandle) -> bool
-    ensures filled { result ≡ is_some handle.old.value }
-    ensures unchanged { handle.new.value ≡ handle.old.value }
-{
-    let value = take(alloc, handle);
-    let filled = value.is_some();
-    fill(alloc, handle, value);
-    filled
 }
 
 /// The sketch of an image, or the status of the refusal: 2 if the bytes are read as no sketch, 3 if memory was refused.
@@ -105,28 +35,15 @@ pub(crate) fn read(alloc: Global, image: &[u8], seed: u64) -> Result<CompactSums
     }
 }
 
-fn read_boxed(alloc: Global, image: &[u8], seed: u64) -> Result<Box<CompactSums>, u32>
-    ensures read { IfOk result (λ s. IsSumsReadFrom image.now seed s.value) }
-    ensures refused { IfErr result (λ status. IsSumsReadRefusal image.now seed status) }
-{
-    match read(alloc, image, seed) {
-        Ok(sketch) => match Box::new(alloc, sketch) {
-            Ok(sketch) => Ok(sketch),
-            Err(_) => Err(OUT_OF_MEMORY),
-        },
-        Err(status) => Err(status),
-    }
-}
-
 fn state(sketch: &CompactSums) -> State
     ensures state { result ≡ compact_sums_state sketch.now }
     ensures usable { is_state result.retained result.theta ≡ true }
 {
-    State {
-        retained: sketch.sketch.num_retained() as u64,
-        theta: sketch.sketch.theta64(),
-        empty: if sketch.sketch.is_empty() { 1 } else { 0 },
-    }
+    State::of(
+        sketch.sketch.num_retained(),
+        sketch.sketch.theta64(),
+        sketch.sketch.is_empty(),
+    )
 }
 
 /// The sum of all sums of a sketch.
@@ -188,16 +105,7 @@ pub extern "C" fn kcp_compact_sums_read(
 ) -> u32
     ensures { Fills (IsSumsReadFrom image.now seed) (IsSumsReadRefusal image.now seed) sums.old.value result sums.new.value }
 {
-    if is_filled(alloc, sums) {
-        return INVALID_ARGUMENT;
-    }
-    match read_boxed(alloc, image, seed) {
-        Ok(made) => {
-            fill(alloc, sums, Some(made));
-            OK
-        }
-        Err(status) => status,
-    }
+    sums.owned().put_or(alloc, read(alloc, image, seed))
 }
 
 /// Frees the sketch of a handle, which has none afterwards. A handle without one stays as it is.
@@ -205,34 +113,30 @@ pub extern "C" fn kcp_compact_sums_read(
 pub extern "C" fn kcp_compact_sums_free(alloc: Global, sums: &mut CompactSumsHandle)
     ensures { sums.new.value ≡ None }
 {
-    let _ = take(alloc, sums);
+    sums.owned().free(alloc);
 }
 
 /// Writes the state of a sketch: how many sums it retains, its theta, and whether it is empty. The sketch doesn't change.
 /// Refused with `INVALID_ARGUMENT` if the handle has no sketch; then nothing is written.
 #[unsafe(no_mangle)]
-pub extern "C" fn kcp_compact_sums_state(
-    alloc: Global,
-    sums: &mut CompactSumsHandle,
-    out: &mut State,
-) -> u32
+pub extern "C" fn kcp_compact_sums_state(sums: &mut CompactSumsHandle, out: &mut State) -> u32
     ensures state { WritesValue (option_map compact_sums_state sums.old.value) out.old result out.new }
     ensures usable { result ≡ 0 → is_state out.new.retained out.new.theta ≡ true }
     ensures unchanged { sums.new.value ≡ sums.old.value }
 {
-    let Some(object) = take(alloc, sums) else {
-        return INVALID_ARGUMENT;
-    };
-    *out = state(&object);
-    fill(alloc, sums, Some(object));
-    OK
+    match sums.owned().get() {
+        Some(object) => {
+            *out = state(object);
+            OK
+        }
+        None => INVALID_ARGUMENT,
+    }
 }
 
 /// Writes the image of a sketch to the front of a buffer, and its length, as `kcp_compact_image` does. Behind each hash it
 /// has the eight bytes of its sum, the lowest first.
 #[unsafe(no_mangle)]
 pub extern "C" fn kcp_compact_sums_image(
-    alloc: Global,
     sums: &mut CompactSumsHandle,
     out: &mut [u8],
     length: &mut u64,
@@ -240,15 +144,10 @@ pub extern "C" fn kcp_compact_sums_image(
     ensures image { WritesOf IsCompactSumsImage (λ _. IsMemoryRefusal) sums.old.value out.old length.old result out.new length.new }
     ensures unchanged { sums.new.value ≡ sums.old.value }
 {
-    let Some(object) = take(alloc, sums) else {
-        return INVALID_ARGUMENT;
-    };
-    let status = match object.sketch.serialize() {
-        Ok(image) => put(image.as_slice(), out, length),
-        Err(_) => OUT_OF_MEMORY,
-    };
-    fill(alloc, sums, Some(object));
-    status
+    match sums.owned().get() {
+        Some(object) => put_made(object.sketch.serialize(), out, length),
+        None => INVALID_ARGUMENT,
+    }
 }
 
 /// Writes the hashes of a sketch and their sums to the fronts of two arrays, in the order of its image, and how many they
@@ -258,7 +157,6 @@ pub extern "C" fn kcp_compact_sums_image(
 /// `INVALID_ARGUMENT` if the handle has no sketch; then nothing is written.
 #[unsafe(no_mangle)]
 pub extern "C" fn kcp_compact_sums_entries(
-    alloc: Global,
     sums: &mut CompactSumsHandle,
     hashes: &mut [u64],
     values: &mut [u64],
@@ -267,28 +165,23 @@ pub extern "C" fn kcp_compact_sums_entries(
     ensures entries { CopiesEntries sums.old.value hashes.old values.old count.old result hashes.new values.new count.new }
     ensures unchanged { sums.new.value ≡ sums.old.value }
 {
-    let Some(object) = take(alloc, sums) else {
-        return INVALID_ARGUMENT;
-    };
-    let status = put_entries(&object, hashes, values, count);
-    fill(alloc, sums, Some(object));
-    status
+    match sums.owned().get() {
+        Some(object) => put_entries(object, hashes, values, count),
+        None => INVALID_ARGUMENT,
+    }
 }
 
 /// Writes the total of a sketch, the sum of its sums, as `kcp_sums_total` does.
 #[unsafe(no_mangle)]
-pub extern "C" fn kcp_compact_sums_total(
-    alloc: Global,
-    sums: &mut CompactSumsHandle,
-    out: &mut Wide,
-) -> u32
+pub extern "C" fn kcp_compact_sums_total(sums: &mut CompactSumsHandle, out: &mut Wide) -> u32
     ensures total { WritesValue (option_map (λ s. wide (compact_total s)) sums.old.value) out.old result out.new }
     ensures unchanged { sums.new.value ≡ sums.old.value }
 {
-    let Some(object) = take(alloc, sums) else {
-        return INVALID_ARGUMENT;
-    };
-    *out = total(&object);
-    fill(alloc, sums, Some(object));
-    OK
+    match sums.owned().get() {
+        Some(object) => {
+            *out = total(object);
+            OK
+        }
+        None => INVALID_ARGUMENT,
+    }
 }

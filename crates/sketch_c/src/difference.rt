@@ -1,10 +1,10 @@
 //! Differences of theta sketches.
 ghost use Rattle.std.specs.Prelude.{◌≡◌, IfOk, IfErr};
-ghost use Rattle.sketch_c.specs.Calls.{Fills, FillsFrom};
 ghost use Rattle.sketch_c.specs.Intersections.{IsDifferenceOf, IsDifferenceRefusal, FillsDifference};
 
-use crate::compact::{CompactHandle, CompactSketch, boxed, fill, is_filled, take};
-use crate::status::{INVALID_ARGUMENT, OK, status_of};
+use crate::compact::CompactSketch;
+use crate::handles::CompactHandle;
+use crate::status::{INVALID_ARGUMENT, status_of};
 use std::alloc::Global;
 use theta_sketches::ThetaANotB;
 
@@ -28,42 +28,6 @@ pub(crate) fn difference(
     }
 }
 
-fn made(
-    alloc: Global,
-    seed: u64,
-    first: &CompactSketch,
-    second: &CompactSketch,
-) -> Result<Box<CompactSketch>, u32>
-    ensures made { IfOk result (λ s. IsDifferenceOf first.now second.now s.value) }
-    ensures refused { IfErr result (λ status. IsDifferenceRefusal seed first.now second.now status) }
-{
-    match difference(alloc, seed, first, second) {
-        Ok(sketch) => boxed(alloc, sketch),
-        Err(status) => Err(status),
-    }
-}
-
-fn fill_difference(
-    alloc: Global,
-    seed: u64,
-    first: &CompactSketch,
-    second: &CompactSketch,
-    out: &mut CompactHandle,
-) -> u32
-    ensures { Fills (IsDifferenceOf first.now second.now) (IsDifferenceRefusal seed first.now second.now) out.old.value result out.new.value }
-{
-    if is_filled(alloc, out) {
-        return INVALID_ARGUMENT;
-    }
-    match made(alloc, seed, first, second) {
-        Ok(made) => {
-            fill(alloc, out, Some(made));
-            OK
-        }
-        Err(status) => status,
-    }
-}
-
 /// Puts the hashes of the first sketch that the second lacks into a handle, below the lesser theta, as an ordered compact
 /// sketch. The sketches don't change.
 ///
@@ -82,17 +46,11 @@ pub extern "C" fn kcp_difference(
     ensures same_first { first.new.value ≡ first.old.value }
     ensures same_second { second.new.value ≡ second.old.value }
 {
-    let Some(a) = take(alloc, first) else {
-        return INVALID_ARGUMENT;
-    };
-    let status = match take(alloc, second) {
-        Some(b) => {
-            let status = fill_difference(alloc, seed, &a, &b, out);
-            fill(alloc, second, Some(b));
-            status
-        }
+    match first.owned().get() {
+        Some(a) => match second.owned().get() {
+            Some(b) => out.owned().put_or(alloc, difference(alloc, seed, a, b)),
+            None => INVALID_ARGUMENT,
+        },
         None => INVALID_ARGUMENT,
-    };
-    fill(alloc, first, Some(a));
-    status
+    }
 }

@@ -2,11 +2,11 @@
 ghost use Rattle.std.specs.Prelude.{◌≡◌, true, IfOk, IfErr};
 ghost use Rattle.sketch_c.specs.Bounds.{is_state};
 ghost use Rattle.sketch_c.specs.Buffer.{Writes};
-ghost use Rattle.sketch_c.specs.Images.{IsIntersectionOf, WritesIntersection, WritesDifference};
+ghost use Rattle.sketch_c.specs.Images.{IsRefusalOfEither, IsIntersectionOf, WritesIntersection, WritesDifference};
 ghost use Rattle.sketch_c.specs.Status.{IsMemoryRefusal};
-ghost use Rattle.sketch_c.specs.Thetas.{IsCompactImage, ReadsImageState};
+ghost use Rattle.sketch_c.specs.Thetas.{IsCompactImage, IsReadFrom, ReadsImageState};
 
-use crate::buffer::put;
+use crate::buffer::put_made;
 use crate::compact::{CompactSketch, read, state};
 use crate::difference::difference;
 use crate::state::State;
@@ -33,6 +33,27 @@ pub extern "C" fn kcp_image_state(alloc: Global, image: &[u8], seed: u64, out: &
     }
 }
 
+/// The sketches that two images begin with, or the status of the first refusal.
+fn read_both(
+    alloc: Global,
+    first: &[u8],
+    second: &[u8],
+    seed: u64,
+) -> Result<(CompactSketch, CompactSketch), u32>
+    ensures first { IfOk result (λ both. IsReadFrom first.now seed both.0) }
+    ensures second { IfOk result (λ both. IsReadFrom second.now seed both.1) }
+    ensures refused { IfErr result (λ status. IsRefusalOfEither seed first.now second.now status) }
+{
+    let a = match read(alloc, first, seed) {
+        Ok(sketch) => sketch,
+        Err(status) => return Err(status),
+    };
+    match read(alloc, second, seed) {
+        Ok(b) => Ok((a, b)),
+        Err(status) => Err(status),
+    }
+}
+
 /// The hashes that two sketches have in common. Refused memory alone, as both are of this seed.
 fn intersected(
     alloc: Global,
@@ -55,10 +76,7 @@ fn intersected(
 fn put_image(sketch: &CompactSketch, out: &mut [u8], length: &mut u64) -> u32
     ensures { Writes (IsCompactImage sketch.now) IsMemoryRefusal out.old length.old result out.new length.new }
 {
-    match sketch.sketch.serialize() {
-        Ok(image) => put(image.as_slice(), out, length),
-        Err(_) => OUT_OF_MEMORY,
-    }
+    put_made(sketch.sketch.serialize(), out, length)
 }
 
 /// Writes the image of the intersection of the sketches that two images begin with to the front of a buffer, and its
@@ -77,17 +95,12 @@ pub extern "C" fn kcp_images_intersect(
 ) -> u32
     ensures { WritesIntersection seed first.now second.now out.old length.old result out.new length.new }
 {
-    let a = match read(alloc, first, seed) {
-        Ok(sketch) => sketch,
-        Err(status) => return status,
-    };
-    let b = match read(alloc, second, seed) {
-        Ok(sketch) => sketch,
-        Err(status) => return status,
-    };
-    match intersected(alloc, seed, &a, &b) {
-        Ok(sketch) => put_image(&sketch, out, length),
-        Err(_) => OUT_OF_MEMORY,
+    match read_both(alloc, first, second, seed) {
+        Ok((a, b)) => match intersected(alloc, seed, &a, &b) {
+            Ok(sketch) => put_image(&sketch, out, length),
+            Err(_) => OUT_OF_MEMORY,
+        },
+        Err(status) => status,
     }
 }
 
@@ -104,17 +117,12 @@ pub extern "C" fn kcp_images_difference(
 ) -> u32
     ensures { WritesDifference seed first.now second.now out.old length.old result out.new length.new }
 {
-    let a = match read(alloc, first, seed) {
-        Ok(sketch) => sketch,
-        Err(status) => return status,
-    };
-    let b = match read(alloc, second, seed) {
-        Ok(sketch) => sketch,
-        Err(status) => return status,
-    };
-    match difference(alloc, seed, &a, &b) {
-        Ok(sketch) => put_image(&sketch, out, length),
-        // Both are of this seed, so only memory is refused.
-        Err(_) => OUT_OF_MEMORY,
+    match read_both(alloc, first, second, seed) {
+        Ok((a, b)) => match difference(alloc, seed, &a, &b) {
+            Ok(sketch) => put_image(&sketch, out, length),
+            // Both are of this seed, so only memory is refused.
+            Err(_) => OUT_OF_MEMORY,
+        },
+        Err(status) => status,
     }
 }

@@ -1,4 +1,5 @@
 //! What C reads of a sketch.
+ghost use Rattle.std.specs.Prelude.{◌≡◌, if◌then◌else◌};
 
 /// The state of a sketch.
 #[repr(C)]
@@ -10,4 +11,17 @@ pub struct State {
     pub theta: u64,
     /// 1 if it is empty, which no estimate of 0 shows; else 0.
     pub empty: u64,
+}
+
+impl State {
+    /// The state of these facts.
+    pub(crate) fn of(retained: usize, theta: u64, empty: bool) -> State
+        ensures { result ≡ record { retained = retained; theta = theta; empty = (if empty then 1 else 0) } }
+    {
+        State {
+            retained: retained as u64,
+            theta,
+            empty: if empty { 1 } else { 0 },
+        }
+    }
 }

@@ -3,9 +3,10 @@ ghost use Rattle.std.specs.Prelude.{◌≡◌, ◌⊎◌, true, false, length, I
 ghost use Rattle.sketch_c.specs.Calls.{OnObject};
 ghost use Rattle.sketch_c.specs.Strings.{are_ends, string_hashes, UpdatesStrings};
 
+use crate::handles::ThetaHandle;
 use crate::hashes::hash_of_bytes;
 use crate::status::{INVALID_ARGUMENT, OUT_OF_MEMORY};
-use crate::theta::{SeededSketch, ThetaHandle, fill, take, update_hashes};
+use crate::theta::{SeededSketch, update_hashes};
 use std::alloc::Global;
 
 /// The hashes of strings that lie one after another in `bytes`, by where each ends. Refused with `OUT_OF_MEMORY`, and with
@@ -55,10 +56,8 @@ pub extern "C" fn kcp_theta_update_strings(
 ) -> u32
     ensures { OnObject (UpdatesStrings bytes.now ends.now) sketch.old.value result sketch.new.value }
 {
-    let Some(mut theta) = take(alloc, sketch) else {
-        return INVALID_ARGUMENT;
-    };
-    let status = update_strings(alloc, &mut theta, bytes, ends);
-    fill(alloc, sketch, Some(theta));
-    status
+    match sketch.owned().get() {
+        Some(theta) => update_strings(alloc, theta, bytes, ends),
+        None => INVALID_ARGUMENT,
+    }
 }

@@ -1,32 +1,27 @@
 //! Tuple sketches whose summaries are sums of 64 bits.
-ghost use Rattle.std.specs.Prelude.{◌≡◌, true, None, Option, IfOk, is_some, option_map};
-ghost use Rattle.std.specs.Coded.{coded_option};
+ghost use Rattle.std.specs.Prelude.{◌≡◌, true, None, IfOk, option_map};
 ghost use Rattle.core_laws.specs.Refusal.{Refuses};
 ghost use Rattle.core_laws.specs.Settings.{settings_refusal};
 ghost use Rattle.core_laws.specs.declared.TheConstants.{MAX_THETA};
 ghost use Rattle.sketch_c.specs.Bounds.{is_state, wide};
 ghost use Rattle.sketch_c.specs.Buffer.{WritesOf};
 ghost use Rattle.sketch_c.specs.Calls.{OnObject, Fills, FillsFrom, WritesValue};
-ghost use Rattle.sketch_c.specs.Handle.{handle_owns};
 ghost use Rattle.sketch_c.specs.Settings.{IsSettingsRefusal, IsNewRefusal};
-ghost use Rattle.sketch_c.specs.Status.{IsRefusal, IsMemoryRefusal};
-ghost use Rattle.sketch_c.specs.Sums.{IsNewSums, AddsValue, AddsAtBytes, AddsAtNumber, TrimsSums, ResetsSums, sums_state, sums_total, IsImageOfSums, IsCompactFormOfSums};
-ghost use Rattle.sketch_c.specs.contracts.sums.SeededSums.{the_row};
+ghost use Rattle.sketch_c.specs.Status.{IsMemoryRefusal};
+ghost use Rattle.sketch_c.specs.Sums.{IsNewSums, IsSameSums, AddsValue, AddsAtBytes, AddsAtNumber, TrimsSums, ResetsSums, sums_state, sums_total, IsImageOfSums, IsCompactFormOfSums};
 ghost use Rattle.sketch_c.specs.declared.sums.SeededSums.{SeededSums};
 
 use crate::bounds::{Wide, split};
-use crate::buffer::put;
-use crate::compact_sums::{self, CompactSums, CompactSumsHandle};
+use crate::buffer::put_made;
+use crate::compact_sums::CompactSums;
+use crate::handles::{CompactSumsHandle, SumsHandle};
 use crate::hashes::{hash_of_bytes, hash_of_number};
-use crate::opaque::Opaque;
-use crate::owned::Owned;
 use crate::settings::factor_of;
 use crate::state::State;
 use crate::status::{INVALID_ARGUMENT, OK, OUT_OF_MEMORY, status_of};
 use crate::totals::total_of;
 use sketch_base::Error;
 use std::alloc::Global;
-use std::marker::Model;
 use tuple_sketches::{
     DefaultUpdatePolicy, MAX_THETA, ResizeFactor, TupleSketch, TupleSketchBuilder,
 };
@@ -38,79 +33,14 @@ pub struct SeededSums {
     seed: u64,
 }
 
-/// A handle of C: a tuple sketch of sums, or none.
-#[repr(C)]
-pub struct SumsHandle {
-    at: *mut Opaque,
-    ghost value: { Option SeededSums } by { coded_option the_row.coded },
-}
-
-impl Model for SumsHandle {
-    ghost also_owns = { λ h. handle_owns the_row h.at h.value };
-}
-
-impl SumsHandle {
-    /// The handle of a pointer.
-    #[inline(always)]
-    fn of(owned: Owned<SeededSums>) -> SumsHandle
-        ensures { result.value ≡ owned.value }
-    {
-        let Owned { at } = owned;
-        SumsHandle {
-            at: at as *mut Opaque,
-        }
-    }
-
-    /// The pointer of the handle.
-    #[inline(always)]
-    fn into_owned(self) -> Owned<SeededSums>
-        ensures { result.value ≡ self.value }
-    {
-        let SumsHandle { at } = self;
-        Owned {
-            at: at as *mut SeededSums,
-        }
-    }
-}
-
-/// The sketch of a handle, taken out of it.
-#[inline(always)]
-pub(crate) fn take(alloc: Global, handle: &mut SumsHandle) -> Option<Box<SeededSums>>
-    ensures taken { handle.old.value ≡ option_map (λ b. b.value) result }
-    ensures none_left { handle.new.value ≡ None }
-{
-    let handle = std::mem::replace(handle, SumsHandle::of(Owned::none()));
-    handle.into_owned().into_box(alloc)
-}
-
-/// Puts a sketch into a handle. One that it has is freed.
-#[inline(always)]
-pub(crate) fn fill(alloc: Global, handle: &mut SumsHandle, value: Option<Box<SeededSums>>)
-    ensures { handle.new.value ≡ option_map (λ b. b.value) value }
-{
-    let handle = std::mem::replace(handle, SumsHandle::of(Owned::of_box(value)));
-    let _ = handle.into_owned().into_box(alloc);
-}
-
-/// Whether a handle has a sketch.
-pub(crate) fn is_filled(alloc: Global, handle: &mut SumsHandle) -> bool
-    ensures filled { result ≡ is_some handle.old.value }
-    ensures unchanged { handle.new.value ≡ handle.old.value }
-{
-    let value = take(alloc, handle);
-    let filled = value.is_some();
-    fill(alloc, handle, value);
-    filled
-}
-
 fn built(
     alloc: Global,
     lg_k: u8,
     factor: ResizeFactor,
     start: u64,
     seed: u64,
-) -> Result<Box<SeededSums>, Error>
-    ensures made { IfOk result (λ t. IsNewSums lg_k start seed t.value) }
+) -> Result<SeededSums, Error>
+    ensures made { IfOk result (λ t. IsNewSums lg_k start seed t) }
     ensures refused { Refuses result (settings_refusal lg_k start seed) true }
 {
     let sketch = TupleSketchBuilder::new(DefaultUpdatePolicy::<u64>::default())
@@ -119,30 +49,7 @@ fn built(
         .starting_theta(start)
         .seed(seed)
         .build(alloc)?;
-    Ok(Box::new(alloc, SeededSums { sketch, seed })?)
-}
-
-/// Puts a new sketch into a handle.
-fn fill_new(
-    alloc: Global,
-    sums: &mut SumsHandle,
-    lg_k: u8,
-    factor: ResizeFactor,
-    start: u64,
-    seed: u64,
-) -> u32
-    ensures { Fills (IsNewSums lg_k start seed) (IsRefusal (settings_refusal lg_k start seed) true) sums.old.value result sums.new.value }
-{
-    if is_filled(alloc, sums) {
-        return INVALID_ARGUMENT;
-    }
-    match built(alloc, lg_k, factor, start, seed) {
-        Ok(made) => {
-            fill(alloc, sums, Some(made));
-            OK
-        }
-        Err(error) => status_of(error.kind()),
-    }
+    Ok(SeededSums { sketch, seed })
 }
 
 #[inline(always)]
@@ -191,11 +98,11 @@ fn state(sums: &SeededSums) -> State
     ensures state { result ≡ sums_state sums.now }
     ensures usable { is_state result.retained result.theta ≡ true }
 {
-    State {
-        retained: sums.sketch.num_retained() as u64,
-        theta: sums.sketch.theta64(),
-        empty: if sums.sketch.is_empty() { 1 } else { 0 },
-    }
+    State::of(
+        sums.sketch.num_retained(),
+        sums.sketch.theta64(),
+        sums.sketch.is_empty(),
+    )
 }
 
 /// The image of the sketch's ordered compact form.
@@ -207,27 +114,24 @@ fn image(sums: &SeededSums) -> Result<Vec<u8>, Error>
 }
 
 /// The sketch's ordered compact form.
-fn compact_form(alloc: Global, sums: &SeededSums) -> Result<Box<CompactSums>, Error>
-    ensures made { IfOk result (λ s. IsCompactFormOfSums sums.now s.value) }
+fn compact_form(sums: &SeededSums) -> Result<CompactSums, Error>
+    ensures made { IfOk result (λ s. IsCompactFormOfSums sums.now s) }
     ensures refused { Refuses result None true }
 {
     let sketch = sums.sketch.compact(true)?;
-    Ok(Box::new(alloc, CompactSums { sketch })?)
+    Ok(CompactSums { sketch })
 }
 
-fn fill_compact(alloc: Global, sums: &SeededSums, out: &mut CompactSumsHandle) -> u32
-    ensures { Fills (IsCompactFormOfSums sums.now) IsMemoryRefusal out.old.value result out.new.value }
+/// A copy of a sketch.
+fn copied(sums: &SeededSums) -> Result<SeededSums, Error>
+    ensures copied { IfOk result (λ t. IsSameSums sums.now t) }
+    ensures refused { Refuses result None true }
 {
-    if compact_sums::is_filled(alloc, out) {
-        return INVALID_ARGUMENT;
-    }
-    match compact_form(alloc, sums) {
-        Ok(made) => {
-            compact_sums::fill(alloc, out, Some(made));
-            OK
-        }
-        Err(_) => OUT_OF_MEMORY,
-    }
+    let sketch = sums.sketch.clone()?;
+    Ok(SeededSums {
+        sketch,
+        seed: sums.seed,
+    })
 }
 
 /// The sum of all sums of a sketch.
@@ -247,7 +151,7 @@ fn total(sums: &SeededSums) -> Wide
 pub extern "C" fn kcp_sums_new(alloc: Global, sums: &mut SumsHandle, lg_k: u8, seed: u64) -> u32
     ensures { Fills (IsNewSums lg_k MAX_THETA seed) (IsSettingsRefusal lg_k seed) sums.old.value result sums.new.value }
 {
-    fill_new(alloc, sums, lg_k, ResizeFactor::X8, MAX_THETA, seed)
+    sums.owned().put(alloc, built(alloc, lg_k, ResizeFactor::X8, MAX_THETA, seed))
 }
 
 /// Makes a sketch of sums with a resize factor and a starting theta, as `kcp_theta_new_with` does.
@@ -263,7 +167,21 @@ pub extern "C" fn kcp_sums_new_with(
     ensures { Fills (IsNewSums lg_k starting_theta seed) (IsNewRefusal lg_k resize_factor starting_theta seed) sums.old.value result sums.new.value }
 {
     match factor_of(resize_factor) {
-        Some(factor) => fill_new(alloc, sums, lg_k, factor, starting_theta, seed),
+        Some(factor) => sums
+            .owned()
+            .put(alloc, built(alloc, lg_k, factor, starting_theta, seed)),
+        None => INVALID_ARGUMENT,
+    }
+}
+
+/// Copies a sketch of sums into another handle, as `kcp_theta_clone` does: its sums too.
+#[unsafe(no_mangle)]
+pub extern "C" fn kcp_sums_clone(alloc: Global, sums: &mut SumsHandle, out: &mut SumsHandle) -> u32
+    ensures copied { FillsFrom IsSameSums (λ _. IsMemoryRefusal) sums.old.value out.old.value result out.new.value }
+    ensures unchanged { sums.new.value ≡ sums.old.value }
+{
+    match sums.owned().get() {
+        Some(object) => out.owned().put(alloc, copied(object)),
         None => INVALID_ARGUMENT,
     }
 }
@@ -273,7 +191,7 @@ pub extern "C" fn kcp_sums_new_with(
 pub extern "C" fn kcp_sums_free(alloc: Global, sums: &mut SumsHandle)
     ensures { sums.new.value ≡ None }
 {
-    let _ = take(alloc, sums);
+    sums.owned().free(alloc);
 }
 
 /// Adds a value to the sum of a hash, which is 0 at first. A hash that is 0 or at least theta is not retained, but the
@@ -282,121 +200,87 @@ pub extern "C" fn kcp_sums_free(alloc: Global, sums: &mut SumsHandle)
 /// Refused with `INVALID_ARGUMENT` if the handle has no sketch, with `POLICY` if the sum would be 2^64 or more, and with
 /// `OUT_OF_MEMORY`, only for a new hash below theta; then nothing has changed.
 #[unsafe(no_mangle)]
-pub extern "C" fn kcp_sums_add_hash(
-    alloc: Global,
-    sums: &mut SumsHandle,
-    hash: u64,
-    value: u64,
-) -> u32
+pub extern "C" fn kcp_sums_add_hash(sums: &mut SumsHandle, hash: u64, value: u64) -> u32
     ensures { OnObject (AddsValue hash value) sums.old.value result sums.new.value }
 {
-    let Some(mut object) = take(alloc, sums) else {
-        return INVALID_ARGUMENT;
-    };
-    let status = add_at_hash(&mut object, hash, value);
-    fill(alloc, sums, Some(object));
-    status
+    match sums.owned().get() {
+        Some(object) => add_at_hash(object, hash, value),
+        None => INVALID_ARGUMENT,
+    }
 }
 
 /// Adds a value to the sum of a number, by the hash of its eight bytes, the lowest first. Refused as `kcp_sums_add_hash` is.
 #[unsafe(no_mangle)]
-pub extern "C" fn kcp_sums_add_u64(
-    alloc: Global,
-    sums: &mut SumsHandle,
-    number: u64,
-    value: u64,
-) -> u32
+pub extern "C" fn kcp_sums_add_u64(sums: &mut SumsHandle, number: u64, value: u64) -> u32
     ensures { OnObject (AddsAtNumber number value) sums.old.value result sums.new.value }
 {
-    let Some(mut object) = take(alloc, sums) else {
-        return INVALID_ARGUMENT;
-    };
-    let status = add_at_number(&mut object, number, value);
-    fill(alloc, sums, Some(object));
-    status
+    match sums.owned().get() {
+        Some(object) => add_at_number(object, number, value),
+        None => INVALID_ARGUMENT,
+    }
 }
 
 /// Adds a value to the sum of bytes, by their hash. Refused as `kcp_sums_add_hash` is.
 #[unsafe(no_mangle)]
-pub extern "C" fn kcp_sums_add_bytes(
-    alloc: Global,
-    sums: &mut SumsHandle,
-    bytes: &[u8],
-    value: u64,
-) -> u32
+pub extern "C" fn kcp_sums_add_bytes(sums: &mut SumsHandle, bytes: &[u8], value: u64) -> u32
     ensures { OnObject (AddsAtBytes bytes.now value) sums.old.value result sums.new.value }
 {
-    let Some(mut object) = take(alloc, sums) else {
-        return INVALID_ARGUMENT;
-    };
-    let status = add_at_bytes(&mut object, bytes, value);
-    fill(alloc, sums, Some(object));
-    status
+    match sums.owned().get() {
+        Some(object) => add_at_bytes(object, bytes, value),
+        None => INVALID_ARGUMENT,
+    }
 }
 
 /// Cuts a sketch to its nominal entries, as `kcp_theta_trim` does.
 #[unsafe(no_mangle)]
-pub extern "C" fn kcp_sums_trim(alloc: Global, sums: &mut SumsHandle) -> u32
+pub extern "C" fn kcp_sums_trim(sums: &mut SumsHandle) -> u32
     ensures { OnObject TrimsSums sums.old.value result sums.new.value }
 {
-    let Some(mut object) = take(alloc, sums) else {
-        return INVALID_ARGUMENT;
-    };
-    let status = trim(&mut object);
-    fill(alloc, sums, Some(object));
-    status
+    match sums.owned().get() {
+        Some(object) => trim(object),
+        None => INVALID_ARGUMENT,
+    }
 }
 
 /// Makes a sketch empty again, as when it was new. Refused with `INVALID_ARGUMENT` if the handle has no sketch.
 #[unsafe(no_mangle)]
-pub extern "C" fn kcp_sums_reset(alloc: Global, sums: &mut SumsHandle) -> u32
+pub extern "C" fn kcp_sums_reset(sums: &mut SumsHandle) -> u32
     ensures { OnObject ResetsSums sums.old.value result sums.new.value }
 {
-    let Some(mut object) = take(alloc, sums) else {
-        return INVALID_ARGUMENT;
-    };
-    let status = reset(&mut object);
-    fill(alloc, sums, Some(object));
-    status
+    match sums.owned().get() {
+        Some(object) => reset(object),
+        None => INVALID_ARGUMENT,
+    }
 }
 
 /// Writes the state of a sketch: how many sums it retains, its theta, and whether it is empty. The sketch doesn't change.
 /// Refused with `INVALID_ARGUMENT` if the handle has no sketch; then nothing is written.
 #[unsafe(no_mangle)]
-pub extern "C" fn kcp_sums_state(alloc: Global, sums: &mut SumsHandle, out: &mut State) -> u32
+pub extern "C" fn kcp_sums_state(sums: &mut SumsHandle, out: &mut State) -> u32
     ensures state { WritesValue (option_map sums_state sums.old.value) out.old result out.new }
     ensures usable { result ≡ 0 → is_state out.new.retained out.new.theta ≡ true }
     ensures unchanged { sums.new.value ≡ sums.old.value }
 {
-    let Some(object) = take(alloc, sums) else {
-        return INVALID_ARGUMENT;
-    };
-    *out = state(&object);
-    fill(alloc, sums, Some(object));
-    OK
+    match sums.owned().get() {
+        Some(object) => {
+            *out = state(object);
+            OK
+        }
+        None => INVALID_ARGUMENT,
+    }
 }
 
 /// Writes the image of a sketch, ordered, to the front of a buffer, and its length, as `kcp_theta_image` does. Behind each
 /// hash it has the eight bytes of its sum, the lowest first.
 #[unsafe(no_mangle)]
-pub extern "C" fn kcp_sums_image(
-    alloc: Global,
-    sums: &mut SumsHandle,
-    out: &mut [u8],
-    length: &mut u64,
-) -> u32
+pub extern "C" fn kcp_sums_image(sums: &mut SumsHandle, out: &mut [u8], length: &mut u64) -> u32
     ensures image { WritesOf IsImageOfSums (λ _. IsMemoryRefusal) sums.old.value out.old length.old result out.new length.new }
     ensures unchanged { sums.new.value ≡ sums.old.value }
 {
-    let Some(object) = take(alloc, sums) else {
-        return INVALID_ARGUMENT;
-    };
-    let status = match image(&object) {
-        Ok(image) => put(image.as_slice(), out, length),
-        Err(_) => OUT_OF_MEMORY,
-    };
-    fill(alloc, sums, Some(object));
-    status
+    match sums.owned().get() {
+        Some(object) => put_made(image(object), out, length),
+        None => INVALID_ARGUMENT,
+    }
 }
 
 /// Makes the ordered compact form of a sketch, and puts it into a handle. The sketch doesn't change.
@@ -412,12 +296,10 @@ pub extern "C" fn kcp_sums_compact(
     ensures made { FillsFrom IsCompactFormOfSums (λ _. IsMemoryRefusal) sums.old.value out.old.value result out.new.value }
     ensures unchanged { sums.new.value ≡ sums.old.value }
 {
-    let Some(object) = take(alloc, sums) else {
-        return INVALID_ARGUMENT;
-    };
-    let status = fill_compact(alloc, &object, out);
-    fill(alloc, sums, Some(object));
-    status
+    match sums.owned().get() {
+        Some(object) => out.owned().put(alloc, compact_form(object)),
+        None => INVALID_ARGUMENT,
+    }
 }
 
 /// Writes the total of a sketch, the sum of its sums, below 2^96. The estimate of the total of all values that were added
@@ -425,14 +307,15 @@ pub extern "C" fn kcp_sums_compact(
 ///
 /// Refused with `INVALID_ARGUMENT` if the handle has no sketch; then nothing is written.
 #[unsafe(no_mangle)]
-pub extern "C" fn kcp_sums_total(alloc: Global, sums: &mut SumsHandle, out: &mut Wide) -> u32
+pub extern "C" fn kcp_sums_total(sums: &mut SumsHandle, out: &mut Wide) -> u32
     ensures total { WritesValue (option_map (λ t. wide (sums_total t)) sums.old.value) out.old result out.new }
     ensures unchanged { sums.new.value ≡ sums.old.value }
 {
-    let Some(object) = take(alloc, sums) else {
-        return INVALID_ARGUMENT;
-    };
-    *out = total(&object);
-    fill(alloc, sums, Some(object));
-    OK
+    match sums.owned().get() {
+        Some(object) => {
+            *out = total(object);
+            OK
+        }
+        None => INVALID_ARGUMENT,
+    }
 }

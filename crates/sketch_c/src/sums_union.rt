@@ -1,29 +1,24 @@
 //! Unions of tuple sketches of sums.
-ghost use Rattle.std.specs.Prelude.{◌≡◌, true, not, None, Option, IfOk, is_some, option_map};
-ghost use Rattle.std.specs.Coded.{coded_option};
+ghost use Rattle.std.specs.Prelude.{◌≡◌, true, not, None, IfOk};
 ghost use Rattle.core_laws.specs.Refusal.{Refuses};
 ghost use Rattle.core_laws.specs.Settings.{settings_refusal};
 ghost use Rattle.core_laws.specs.declared.TheConstants.{MAX_THETA};
 ghost use Rattle.core_operators.specs.Union.{failure};
 ghost use Rattle.core_slots.specs.Entry.{tuple_key};
 ghost use Rattle.core_state.specs.View.{shows, sequence};
-ghost use Rattle.sketch_c.specs.Buffer.{Writes, WritesOf};
+ghost use Rattle.sketch_c.specs.Buffer.{WritesOf};
 ghost use Rattle.sketch_c.specs.Calls.{OnObject, OnObjectWith, Fills, FillsFrom};
-ghost use Rattle.sketch_c.specs.Handle.{handle_owns};
 ghost use Rattle.sketch_c.specs.Settings.{IsSettingsRefusal};
 ghost use Rattle.sketch_c.specs.SumsUnions.{sums_union_of, IsNewSumsUnion, AddsShownSums, AddsSums, AddsCompactSums, AddsSumsImage, IsSumsUnionResult, IsSumsUnionImage, IsSumsResultRefusal, ResetsSumsUnion};
-ghost use Rattle.sketch_c.specs.contracts.sums_union.SeededSumsUnion.{the_row};
 ghost use Rattle.sketch_c.specs.declared.sums_union.SeededSumsUnion.{SeededSumsUnion};
 
-use crate::buffer::put;
-use crate::compact_sums::{self, CompactSums, CompactSumsHandle, read};
-use crate::opaque::Opaque;
-use crate::owned::Owned;
+use crate::buffer::put_made;
+use crate::compact_sums::{CompactSums, read};
+use crate::handles::{CompactSumsHandle, SumsHandle, SumsUnionHandle};
 use crate::status::{INVALID_ARGUMENT, OK, status_of};
-use crate::sums::{self, SeededSums, SumsHandle};
+use crate::sums::SeededSums;
 use sketch_base::Error;
 use std::alloc::Global;
-use std::marker::Model;
 use tuple_sketches::{DefaultUnionPolicy, TupleSketchView, TupleUnion, TupleUnionBuilder};
 
 /// A union of sketches of sums, and the seed of its sketches.
@@ -33,80 +28,15 @@ pub struct SeededSumsUnion {
     seed: u64,
 }
 
-/// A handle of C: a union of sketches of sums, or none.
-#[repr(C)]
-pub struct SumsUnionHandle {
-    at: *mut Opaque,
-    ghost value: { Option SeededSumsUnion } by { coded_option the_row.coded },
-}
-
-impl Model for SumsUnionHandle {
-    ghost also_owns = { λ h. handle_owns the_row h.at h.value };
-}
-
-impl SumsUnionHandle {
-    /// The handle of a pointer.
-    #[inline(always)]
-    fn of(owned: Owned<SeededSumsUnion>) -> SumsUnionHandle
-        ensures { result.value ≡ owned.value }
-    {
-        let Owned { at } = owned;
-        SumsUnionHandle {
-            at: at as *mut Opaque,
-        }
-    }
-
-    /// The pointer of the handle.
-    #[inline(always)]
-    fn into_owned(self) -> Owned<SeededSumsUnion>
-        ensures { result.value ≡ self.value }
-    {
-        let SumsUnionHandle { at } = self;
-        Owned {
-            at: at as *mut SeededSumsUnion,
-        }
-    }
-}
-
-/// The union of a handle, taken out of it.
-#[inline(always)]
-pub(crate) fn take(alloc: Global, handle: &mut SumsUnionHandle) -> Option<Box<SeededSumsUnion>>
-    ensures taken { handle.old.value ≡ option_map (λ b. b.value) result }
-    ensures none_left { handle.new.value ≡ None }
-{
-    let handle = std::mem::replace(handle, SumsUnionHandle::of(Owned::none()));
-    handle.into_owned().into_box(alloc)
-}
-
-/// Puts a union into a handle. One that it has is freed.
-#[inline(always)]
-pub(crate) fn fill(alloc: Global, handle: &mut SumsUnionHandle, value: Option<Box<SeededSumsUnion>>)
-    ensures { handle.new.value ≡ option_map (λ b. b.value) value }
-{
-    let handle = std::mem::replace(handle, SumsUnionHandle::of(Owned::of_box(value)));
-    let _ = handle.into_owned().into_box(alloc);
-}
-
-/// Whether a handle has a union.
-pub(crate) fn is_filled(alloc: Global, handle: &mut SumsUnionHandle) -> bool
-    ensures filled { result ≡ is_some handle.old.value }
-    ensures unchanged { handle.new.value ≡ handle.old.value }
-{
-    let value = take(alloc, handle);
-    let filled = value.is_some();
-    fill(alloc, handle, value);
-    filled
-}
-
-fn built(alloc: Global, lg_k: u8, seed: u64) -> Result<Box<SeededSumsUnion>, Error>
-    ensures made { IfOk result (λ u. IsNewSumsUnion lg_k seed u.value) }
+fn built(alloc: Global, lg_k: u8, seed: u64) -> Result<SeededSumsUnion, Error>
+    ensures made { IfOk result (λ u. IsNewSumsUnion lg_k seed u) }
     ensures refused { Refuses result (settings_refusal lg_k MAX_THETA seed) true }
 {
     let union = TupleUnionBuilder::new(DefaultUnionPolicy::<u64>::default())
         .lg_k(lg_k)
         .seed(seed)
         .build(alloc)?;
-    Ok(Box::new(alloc, SeededSumsUnion { union, seed })?)
+    Ok(SeededSumsUnion { union, seed })
 }
 
 #[tactic(auto, unfolding(crate::specs::SumsUnions::AddsShownSums))]
@@ -140,27 +70,12 @@ fn add_image(alloc: Global, union: &mut SeededSumsUnion, image: &[u8]) -> u32
     }
 }
 
-fn result(alloc: Global, union: &SeededSumsUnion) -> Result<Box<CompactSums>, Error>
-    ensures made { IfOk result (λ s. IsSumsUnionResult union.now s.value) }
+fn result(union: &SeededSumsUnion) -> Result<CompactSums, Error>
+    ensures made { IfOk result (λ s. IsSumsUnionResult union.now s) }
     ensures refused { Refuses result (failure (sums_union_of union.now).failed) (not (sums_union_of union.now).failed) }
 {
     let sketch = union.union.to_sketch(true)?;
-    Ok(Box::new(alloc, CompactSums { sketch })?)
-}
-
-fn fill_result(alloc: Global, union: &SeededSumsUnion, out: &mut CompactSumsHandle) -> u32
-    ensures { Fills (IsSumsUnionResult union.now) (IsSumsResultRefusal union.now) out.old.value result out.new.value }
-{
-    if compact_sums::is_filled(alloc, out) {
-        return INVALID_ARGUMENT;
-    }
-    match result(alloc, union) {
-        Ok(made) => {
-            compact_sums::fill(alloc, out, Some(made));
-            OK
-        }
-        Err(error) => status_of(error.kind()),
-    }
+    Ok(CompactSums { sketch })
 }
 
 /// The image of the union's value, ordered.
@@ -169,15 +84,6 @@ fn image(union: &SeededSumsUnion) -> Result<Vec<u8>, Error>
     ensures refused { Refuses result (failure (sums_union_of union.now).failed) (not (sums_union_of union.now).failed) }
 {
     union.union.to_sketch(true)?.serialize()
-}
-
-fn put_image(union: &SeededSumsUnion, out: &mut [u8], length: &mut u64) -> u32
-    ensures { Writes (IsSumsUnionImage union.now) (IsSumsResultRefusal union.now) out.old length.old result out.new length.new }
-{
-    match image(union) {
-        Ok(image) => put(image.as_slice(), out, length),
-        Err(error) => status_of(error.kind()),
-    }
 }
 
 fn reset(union: &mut SeededSumsUnion) -> u32
@@ -200,16 +106,7 @@ pub extern "C" fn kcp_sums_union_new(
 ) -> u32
     ensures { Fills (IsNewSumsUnion lg_k seed) (IsSettingsRefusal lg_k seed) union.old.value result union.new.value }
 {
-    if is_filled(alloc, union) {
-        return INVALID_ARGUMENT;
-    }
-    match built(alloc, lg_k, seed) {
-        Ok(made) => {
-            fill(alloc, union, Some(made));
-            OK
-        }
-        Err(error) => status_of(error.kind()),
-    }
+    union.owned().put(alloc, built(alloc, lg_k, seed))
 }
 
 /// Frees the union of a handle, which has none afterwards. A handle without one stays as it is.
@@ -217,7 +114,7 @@ pub extern "C" fn kcp_sums_union_new(
 pub extern "C" fn kcp_sums_union_free(alloc: Global, union: &mut SumsUnionHandle)
     ensures { union.new.value ≡ None }
 {
-    let _ = take(alloc, union);
+    union.owned().free(alloc);
 }
 
 /// Merges a sketch that takes updates into a union. The sketch doesn't change. An empty sketch changes nothing, and its
@@ -227,52 +124,35 @@ pub extern "C" fn kcp_sums_union_free(alloc: Global, union: &mut SumsUnionHandle
 /// union has failed, whatever the sketch; then nothing has changed. Refused with `POLICY` if two sums of one hash are 2^64 or
 /// more together, and with `OUT_OF_MEMORY`; then the union has failed until it is reset.
 #[unsafe(no_mangle)]
-pub extern "C" fn kcp_sums_union_add(
-    alloc: Global,
-    union: &mut SumsUnionHandle,
-    sketch: &mut SumsHandle,
-) -> u32
+pub extern "C" fn kcp_sums_union_add(union: &mut SumsUnionHandle, sketch: &mut SumsHandle) -> u32
     ensures added { OnObjectWith AddsSums sketch.old.value union.old.value result union.new.value }
     ensures unchanged { sketch.new.value ≡ sketch.old.value }
 {
-    let Some(sums) = sums::take(alloc, sketch) else {
-        return INVALID_ARGUMENT;
-    };
-    let status = match take(alloc, union) {
-        Some(mut object) => {
-            let status = add_sums(&mut object, &sums);
-            fill(alloc, union, Some(object));
-            status
-        }
+    match sketch.owned().get() {
+        Some(sums) => match union.owned().get() {
+            Some(object) => add_sums(object, sums),
+            None => INVALID_ARGUMENT,
+        },
         None => INVALID_ARGUMENT,
-    };
-    sums::fill(alloc, sketch, Some(sums));
-    status
+    }
 }
 
 /// Merges a compact sketch into a union, as `kcp_sums_union_add` does.
 #[unsafe(no_mangle)]
 pub extern "C" fn kcp_sums_union_add_compact(
-    alloc: Global,
     union: &mut SumsUnionHandle,
     sketch: &mut CompactSumsHandle,
 ) -> u32
     ensures added { OnObjectWith AddsCompactSums sketch.old.value union.old.value result union.new.value }
     ensures unchanged { sketch.new.value ≡ sketch.old.value }
 {
-    let Some(compact) = compact_sums::take(alloc, sketch) else {
-        return INVALID_ARGUMENT;
-    };
-    let status = match take(alloc, union) {
-        Some(mut object) => {
-            let status = add_compact(&mut object, &compact);
-            fill(alloc, union, Some(object));
-            status
-        }
+    match sketch.owned().get() {
+        Some(compact) => match union.owned().get() {
+            Some(object) => add_compact(object, compact),
+            None => INVALID_ARGUMENT,
+        },
         None => INVALID_ARGUMENT,
-    };
-    compact_sums::fill(alloc, sketch, Some(compact));
-    status
+    }
 }
 
 /// Merges the sketch that the bytes begin with into a union, read under the union's seed.
@@ -287,12 +167,10 @@ pub extern "C" fn kcp_sums_union_add_image(
 ) -> u32
     ensures { OnObject (AddsSumsImage image.now) union.old.value result union.new.value }
 {
-    let Some(mut object) = take(alloc, union) else {
-        return INVALID_ARGUMENT;
-    };
-    let status = add_image(alloc, &mut object, image);
-    fill(alloc, union, Some(object));
-    status
+    match union.owned().get() {
+        Some(object) => add_image(alloc, object, image),
+        None => INVALID_ARGUMENT,
+    }
 }
 
 /// Puts the union's value into a handle, as an ordered compact sketch. The union doesn't change.
@@ -308,12 +186,10 @@ pub extern "C" fn kcp_sums_union_result(
     ensures made { FillsFrom IsSumsUnionResult IsSumsResultRefusal union.old.value out.old.value result out.new.value }
     ensures unchanged { union.new.value ≡ union.old.value }
 {
-    let Some(object) = take(alloc, union) else {
-        return INVALID_ARGUMENT;
-    };
-    let status = fill_result(alloc, &object, out);
-    fill(alloc, union, Some(object));
-    status
+    match union.owned().get() {
+        Some(object) => out.owned().put(alloc, result(object)),
+        None => INVALID_ARGUMENT,
+    }
 }
 
 /// Writes the image of the union's value, ordered, to the front of a buffer, and its length. The union doesn't change.
@@ -323,7 +199,6 @@ pub extern "C" fn kcp_sums_union_result(
 /// nothing is written.
 #[unsafe(no_mangle)]
 pub extern "C" fn kcp_sums_union_image(
-    alloc: Global,
     union: &mut SumsUnionHandle,
     out: &mut [u8],
     length: &mut u64,
@@ -331,24 +206,20 @@ pub extern "C" fn kcp_sums_union_image(
     ensures image { WritesOf IsSumsUnionImage IsSumsResultRefusal union.old.value out.old length.old result out.new length.new }
     ensures unchanged { union.new.value ≡ union.old.value }
 {
-    let Some(object) = take(alloc, union) else {
-        return INVALID_ARGUMENT;
-    };
-    let status = put_image(&object, out, length);
-    fill(alloc, union, Some(object));
-    status
+    match union.owned().get() {
+        Some(object) => put_made(image(object), out, length),
+        None => INVALID_ARGUMENT,
+    }
 }
 
 /// Makes a union empty again, as when it was new, and ends a failure. Refused with `INVALID_ARGUMENT` if the handle has no
 /// union.
 #[unsafe(no_mangle)]
-pub extern "C" fn kcp_sums_union_reset(alloc: Global, union: &mut SumsUnionHandle) -> u32
+pub extern "C" fn kcp_sums_union_reset(union: &mut SumsUnionHandle) -> u32
     ensures { OnObject ResetsSumsUnion union.old.value result union.new.value }
 {
-    let Some(mut object) = take(alloc, union) else {
-        return INVALID_ARGUMENT;
-    };
-    let status = reset(&mut object);
-    fill(alloc, union, Some(object));
-    status
+    match union.owned().get() {
+        Some(object) => reset(object),
+        None => INVALID_ARGUMENT,
+    }
 }

@@ -1,30 +1,25 @@
 //! Theta sketches that take updates.
-ghost use Rattle.std.specs.Prelude.{◌≡◌, true, None, Some, Option, IfOk, is_some, option_map};
-ghost use Rattle.std.specs.Coded.{coded_option};
+ghost use Rattle.std.specs.Prelude.{◌≡◌, true, None, Some, IfOk, option_map};
 ghost use Rattle.core_laws.specs.Refusal.{Refuses};
 ghost use Rattle.core_laws.specs.Settings.{settings_refusal};
 ghost use Rattle.core_laws.specs.declared.TheConstants.{MAX_THETA};
 ghost use Rattle.sketch_c.specs.Bounds.{is_state};
 ghost use Rattle.sketch_c.specs.Buffer.{WritesOf};
 ghost use Rattle.sketch_c.specs.Calls.{OnObject, Fills, FillsFrom, WritesValue};
-ghost use Rattle.sketch_c.specs.Handle.{handle_owns};
 ghost use Rattle.sketch_c.specs.Settings.{IsSettingsRefusal, IsNewRefusal};
-ghost use Rattle.sketch_c.specs.Status.{IsRefusal, IsMemoryRefusal};
+ghost use Rattle.sketch_c.specs.Status.{IsMemoryRefusal};
 ghost use Rattle.sketch_c.specs.Thetas.{IsNewSketch, IsSameSketch, UpdatesHash, UpdatesNumber, UpdatesBytes, UpdatesHashes, Trims, Resets, theta_state, IsImageOf, IsCompactForm};
-ghost use Rattle.sketch_c.specs.contracts.theta.SeededSketch.{the_row};
 ghost use Rattle.sketch_c.specs.declared.theta.SeededSketch.{SeededSketch};
 
-use crate::buffer::put;
-use crate::compact::{self, CompactHandle, CompactSketch};
+use crate::buffer::put_made;
+use crate::compact::CompactSketch;
+use crate::handles::{CompactHandle, ThetaHandle};
 use crate::hashes::{hash_of_bytes, hash_of_number};
-use crate::opaque::Opaque;
-use crate::owned::Owned;
 use crate::settings::factor_of;
 use crate::state::State;
-use crate::status::{INVALID_ARGUMENT, OK, OUT_OF_MEMORY, status_of};
+use crate::status::{INVALID_ARGUMENT, OK, OUT_OF_MEMORY};
 use sketch_base::Error;
 use std::alloc::Global;
-use std::marker::Model;
 use theta_sketches::{MAX_THETA, ResizeFactor, ThetaSketch, ThetaSketchBuilder};
 
 /// A sketch that takes updates, and the seed of its hashes.
@@ -34,79 +29,14 @@ pub struct SeededSketch {
     pub(crate) seed: u64,
 }
 
-/// A handle of C: a theta sketch that takes updates, or none.
-#[repr(C)]
-pub struct ThetaHandle {
-    at: *mut Opaque,
-    ghost value: { Option SeededSketch } by { coded_option the_row.coded },
-}
-
-impl Model for ThetaHandle {
-    ghost also_owns = { λ h. handle_owns the_row h.at h.value };
-}
-
-impl ThetaHandle {
-    /// The handle of a pointer.
-    #[inline(always)]
-    fn of(owned: Owned<SeededSketch>) -> ThetaHandle
-        ensures { result.value ≡ owned.value }
-    {
-        let Owned { at } = owned;
-        ThetaHandle {
-            at: at as *mut Opaque,
-        }
-    }
-
-    /// The pointer of the handle.
-    #[inline(always)]
-    fn into_owned(self) -> Owned<SeededSketch>
-        ensures { result.value ≡ self.value }
-    {
-        let ThetaHandle { at } = self;
-        Owned {
-            at: at as *mut SeededSketch,
-        }
-    }
-}
-
-/// The sketch of a handle, taken out of it.
-#[inline(always)]
-pub(crate) fn take(alloc: Global, handle: &mut ThetaHandle) -> Option<Box<SeededSketch>>
-    ensures taken { handle.old.value ≡ option_map (λ b. b.value) result }
-    ensures none_left { handle.new.value ≡ None }
-{
-    let handle = std::mem::replace(handle, ThetaHandle::of(Owned::none()));
-    handle.into_owned().into_box(alloc)
-}
-
-/// Puts a sketch into a handle. One that it has is freed.
-#[inline(always)]
-pub(crate) fn fill(alloc: Global, handle: &mut ThetaHandle, value: Option<Box<SeededSketch>>)
-    ensures { handle.new.value ≡ option_map (λ b. b.value) value }
-{
-    let handle = std::mem::replace(handle, ThetaHandle::of(Owned::of_box(value)));
-    let _ = handle.into_owned().into_box(alloc);
-}
-
-/// Whether a handle has a sketch.
-pub(crate) fn is_filled(alloc: Global, handle: &mut ThetaHandle) -> bool
-    ensures filled { result ≡ is_some handle.old.value }
-    ensures unchanged { handle.new.value ≡ handle.old.value }
-{
-    let value = take(alloc, handle);
-    let filled = value.is_some();
-    fill(alloc, handle, value);
-    filled
-}
-
 fn built(
     alloc: Global,
     lg_k: u8,
     factor: ResizeFactor,
     start: u64,
     seed: u64,
-) -> Result<Box<SeededSketch>, Error>
-    ensures made { IfOk result (λ t. IsNewSketch lg_k start seed t.value) }
+) -> Result<SeededSketch, Error>
+    ensures made { IfOk result (λ t. IsNewSketch lg_k start seed t) }
     ensures refused { Refuses result (settings_refusal lg_k start seed) true }
 {
     let sketch = ThetaSketchBuilder::default()
@@ -115,30 +45,7 @@ fn built(
         .starting_theta(start)
         .seed(seed)
         .build(alloc)?;
-    Ok(Box::new(alloc, SeededSketch { sketch, seed })?)
-}
-
-/// Puts a new sketch into a handle.
-fn fill_new(
-    alloc: Global,
-    sketch: &mut ThetaHandle,
-    lg_k: u8,
-    factor: ResizeFactor,
-    start: u64,
-    seed: u64,
-) -> u32
-    ensures { Fills (IsNewSketch lg_k start seed) (IsRefusal (settings_refusal lg_k start seed) true) sketch.old.value result sketch.new.value }
-{
-    if is_filled(alloc, sketch) {
-        return INVALID_ARGUMENT;
-    }
-    match built(alloc, lg_k, factor, start, seed) {
-        Ok(theta) => {
-            fill(alloc, sketch, Some(theta));
-            OK
-        }
-        Err(error) => status_of(error.kind()),
-    }
+    Ok(SeededSketch { sketch, seed })
 }
 
 #[inline(always)]
@@ -197,11 +104,11 @@ fn state(theta: &SeededSketch) -> State
     ensures state { result ≡ theta_state theta.now }
     ensures usable { is_state result.retained result.theta ≡ true }
 {
-    State {
-        retained: theta.sketch.num_retained() as u64,
-        theta: theta.sketch.theta64(),
-        empty: if theta.sketch.is_empty() { 1 } else { 0 },
-    }
+    State::of(
+        theta.sketch.num_retained(),
+        theta.sketch.theta64(),
+        theta.sketch.is_empty(),
+    )
 }
 
 /// The image of the sketch's ordered compact form.
@@ -213,54 +120,24 @@ fn image(theta: &SeededSketch) -> Result<Vec<u8>, Error>
 }
 
 /// The sketch's ordered compact form.
-fn compact_form(alloc: Global, theta: &SeededSketch) -> Result<Box<CompactSketch>, Error>
-    ensures made { IfOk result (λ s. IsCompactForm theta.now s.value) }
+fn compact_form(theta: &SeededSketch) -> Result<CompactSketch, Error>
+    ensures made { IfOk result (λ s. IsCompactForm theta.now s) }
     ensures refused { Refuses result None true }
 {
     let sketch = theta.sketch.compact(true)?;
-    Ok(Box::new(alloc, CompactSketch { sketch })?)
+    Ok(CompactSketch { sketch })
 }
 
 /// A copy of a sketch.
-fn copied(alloc: Global, theta: &SeededSketch) -> Result<Box<SeededSketch>, Error>
-    ensures copied { IfOk result (λ t. IsSameSketch theta.now t.value) }
+fn copied(theta: &SeededSketch) -> Result<SeededSketch, Error>
+    ensures copied { IfOk result (λ t. IsSameSketch theta.now t) }
     ensures refused { Refuses result None true }
 {
-    let copy = SeededSketch {
-        sketch: theta.sketch.clone()?,
+    let sketch = theta.sketch.clone()?;
+    Ok(SeededSketch {
+        sketch,
         seed: theta.seed,
-    };
-    Ok(Box::new(alloc, copy)?)
-}
-
-fn fill_copy(alloc: Global, theta: &SeededSketch, out: &mut ThetaHandle) -> u32
-    ensures { Fills (IsSameSketch theta.now) IsMemoryRefusal out.old.value result out.new.value }
-{
-    if is_filled(alloc, out) {
-        return INVALID_ARGUMENT;
-    }
-    match copied(alloc, theta) {
-        Ok(made) => {
-            fill(alloc, out, Some(made));
-            OK
-        }
-        Err(_) => OUT_OF_MEMORY,
-    }
-}
-
-fn fill_compact(alloc: Global, theta: &SeededSketch, out: &mut CompactHandle) -> u32
-    ensures { Fills (IsCompactForm theta.now) IsMemoryRefusal out.old.value result out.new.value }
-{
-    if compact::is_filled(alloc, out) {
-        return INVALID_ARGUMENT;
-    }
-    match compact_form(alloc, theta) {
-        Ok(made) => {
-            compact::fill(alloc, out, Some(made));
-            OK
-        }
-        Err(_) => OUT_OF_MEMORY,
-    }
+    })
 }
 
 /// Makes a theta sketch of 2^`lg_k` nominal entries, `lg_k` from 4 to 26, and puts it into a handle.
@@ -271,7 +148,7 @@ fn fill_compact(alloc: Global, theta: &SeededSketch, out: &mut CompactHandle) ->
 pub extern "C" fn kcp_theta_new(alloc: Global, sketch: &mut ThetaHandle, lg_k: u8, seed: u64) -> u32
     ensures { Fills (IsNewSketch lg_k MAX_THETA seed) (IsSettingsRefusal lg_k seed) sketch.old.value result sketch.new.value }
 {
-    fill_new(alloc, sketch, lg_k, ResizeFactor::X8, MAX_THETA, seed)
+    sketch.owned().put(alloc, built(alloc, lg_k, ResizeFactor::X8, MAX_THETA, seed))
 }
 
 /// Makes a theta sketch, as `kcp_theta_new` does, whose slots grow by the resize factor, 1, 2, 4 or 8, and which begins at
@@ -291,7 +168,9 @@ pub extern "C" fn kcp_theta_new_with(
     ensures { Fills (IsNewSketch lg_k starting_theta seed) (IsNewRefusal lg_k resize_factor starting_theta seed) sketch.old.value result sketch.new.value }
 {
     match factor_of(resize_factor) {
-        Some(factor) => fill_new(alloc, sketch, lg_k, factor, starting_theta, seed),
+        Some(factor) => sketch
+            .owned()
+            .put(alloc, built(alloc, lg_k, factor, starting_theta, seed)),
         None => INVALID_ARGUMENT,
     }
 }
@@ -309,12 +188,10 @@ pub extern "C" fn kcp_theta_clone(
     ensures copied { FillsFrom IsSameSketch (λ _. IsMemoryRefusal) sketch.old.value out.old.value result out.new.value }
     ensures unchanged { sketch.new.value ≡ sketch.old.value }
 {
-    let Some(theta) = take(alloc, sketch) else {
-        return INVALID_ARGUMENT;
-    };
-    let status = fill_copy(alloc, &theta, out);
-    fill(alloc, sketch, Some(theta));
-    status
+    match sketch.owned().get() {
+        Some(theta) => out.owned().put(alloc, copied(theta)),
+        None => INVALID_ARGUMENT,
+    }
 }
 
 /// Frees the sketch of a handle, which has none afterwards. A handle without one stays as it is.
@@ -322,7 +199,7 @@ pub extern "C" fn kcp_theta_clone(
 pub extern "C" fn kcp_theta_free(alloc: Global, sketch: &mut ThetaHandle)
     ensures { sketch.new.value ≡ None }
 {
-    let _ = take(alloc, sketch);
+    sketch.owned().free(alloc);
 }
 
 /// Updates a sketch with a hash of 63 bits. A hash that is 0 or at least theta is not retained, but the sketch becomes
@@ -331,45 +208,35 @@ pub extern "C" fn kcp_theta_free(alloc: Global, sketch: &mut ThetaHandle)
 /// Refused with `INVALID_ARGUMENT` if the handle has no sketch, and with `OUT_OF_MEMORY`, only for a new hash below theta;
 /// then nothing has changed.
 #[unsafe(no_mangle)]
-pub extern "C" fn kcp_theta_update_hash(alloc: Global, sketch: &mut ThetaHandle, hash: u64) -> u32
+pub extern "C" fn kcp_theta_update_hash(sketch: &mut ThetaHandle, hash: u64) -> u32
     ensures { OnObject (UpdatesHash hash) sketch.old.value result sketch.new.value }
 {
-    let Some(mut theta) = take(alloc, sketch) else {
-        return INVALID_ARGUMENT;
-    };
-    let status = update_hash(&mut theta, hash);
-    fill(alloc, sketch, Some(theta));
-    status
+    match sketch.owned().get() {
+        Some(theta) => update_hash(theta, hash),
+        None => INVALID_ARGUMENT,
+    }
 }
 
 /// Updates a sketch with a number, by the hash of its eight bytes, the lowest first. Refused as `kcp_theta_update_hash` is.
 #[unsafe(no_mangle)]
-pub extern "C" fn kcp_theta_update_u64(alloc: Global, sketch: &mut ThetaHandle, number: u64) -> u32
+pub extern "C" fn kcp_theta_update_u64(sketch: &mut ThetaHandle, number: u64) -> u32
     ensures { OnObject (UpdatesNumber number) sketch.old.value result sketch.new.value }
 {
-    let Some(mut theta) = take(alloc, sketch) else {
-        return INVALID_ARGUMENT;
-    };
-    let status = update_number(&mut theta, number);
-    fill(alloc, sketch, Some(theta));
-    status
+    match sketch.owned().get() {
+        Some(theta) => update_number(theta, number),
+        None => INVALID_ARGUMENT,
+    }
 }
 
 /// Updates a sketch with bytes, by their hash. Refused as `kcp_theta_update_hash` is.
 #[unsafe(no_mangle)]
-pub extern "C" fn kcp_theta_update_bytes(
-    alloc: Global,
-    sketch: &mut ThetaHandle,
-    bytes: &[u8],
-) -> u32
+pub extern "C" fn kcp_theta_update_bytes(sketch: &mut ThetaHandle, bytes: &[u8]) -> u32
     ensures { OnObject (UpdatesBytes bytes.now) sketch.old.value result sketch.new.value }
 {
-    let Some(mut theta) = take(alloc, sketch) else {
-        return INVALID_ARGUMENT;
-    };
-    let status = update_bytes(&mut theta, bytes);
-    fill(alloc, sketch, Some(theta));
-    status
+    match sketch.owned().get() {
+        Some(theta) => update_bytes(theta, bytes),
+        None => INVALID_ARGUMENT,
+    }
 }
 
 /// Updates a sketch with hashes in their order, each as `kcp_theta_update_hash` does. Without hashes nothing changes.
@@ -377,19 +244,13 @@ pub extern "C" fn kcp_theta_update_bytes(
 /// Refused with `INVALID_ARGUMENT` if the handle has no sketch. Refused with `OUT_OF_MEMORY` at a new hash below theta;
 /// then exactly the hashes before it have been inserted, and the same call may be repeated.
 #[unsafe(no_mangle)]
-pub extern "C" fn kcp_theta_update_hashes(
-    alloc: Global,
-    sketch: &mut ThetaHandle,
-    hashes: &[u64],
-) -> u32
+pub extern "C" fn kcp_theta_update_hashes(sketch: &mut ThetaHandle, hashes: &[u64]) -> u32
     ensures { OnObject (UpdatesHashes hashes.now) sketch.old.value result sketch.new.value }
 {
-    let Some(mut theta) = take(alloc, sketch) else {
-        return INVALID_ARGUMENT;
-    };
-    let status = update_hashes(&mut theta, hashes);
-    fill(alloc, sketch, Some(theta));
-    status
+    match sketch.owned().get() {
+        Some(theta) => update_hashes(theta, hashes),
+        None => INVALID_ARGUMENT,
+    }
 }
 
 /// Cuts a sketch to its nominal entries: if it retains more, theta becomes the (k+1)th smallest hash, and the k hashes
@@ -398,44 +259,41 @@ pub extern "C" fn kcp_theta_update_hashes(
 /// Refused with `INVALID_ARGUMENT` if the handle has no sketch, and with `OUT_OF_MEMORY`, only if it retains more; then
 /// nothing has changed.
 #[unsafe(no_mangle)]
-pub extern "C" fn kcp_theta_trim(alloc: Global, sketch: &mut ThetaHandle) -> u32
+pub extern "C" fn kcp_theta_trim(sketch: &mut ThetaHandle) -> u32
     ensures { OnObject Trims sketch.old.value result sketch.new.value }
 {
-    let Some(mut theta) = take(alloc, sketch) else {
-        return INVALID_ARGUMENT;
-    };
-    let status = trim(&mut theta);
-    fill(alloc, sketch, Some(theta));
-    status
+    match sketch.owned().get() {
+        Some(theta) => trim(theta),
+        None => INVALID_ARGUMENT,
+    }
 }
 
 /// Makes a sketch empty again, as when it was new. Refused with `INVALID_ARGUMENT` if the handle has no sketch.
 #[unsafe(no_mangle)]
-pub extern "C" fn kcp_theta_reset(alloc: Global, sketch: &mut ThetaHandle) -> u32
+pub extern "C" fn kcp_theta_reset(sketch: &mut ThetaHandle) -> u32
     ensures { OnObject Resets sketch.old.value result sketch.new.value }
 {
-    let Some(mut theta) = take(alloc, sketch) else {
-        return INVALID_ARGUMENT;
-    };
-    let status = reset(&mut theta);
-    fill(alloc, sketch, Some(theta));
-    status
+    match sketch.owned().get() {
+        Some(theta) => reset(theta),
+        None => INVALID_ARGUMENT,
+    }
 }
 
 /// Writes the state of a sketch: how many hashes it retains, its theta, and whether it is empty. The sketch doesn't change.
 /// Refused with `INVALID_ARGUMENT` if the handle has no sketch; then nothing is written.
 #[unsafe(no_mangle)]
-pub extern "C" fn kcp_theta_state(alloc: Global, sketch: &mut ThetaHandle, out: &mut State) -> u32
+pub extern "C" fn kcp_theta_state(sketch: &mut ThetaHandle, out: &mut State) -> u32
     ensures state { WritesValue (option_map theta_state sketch.old.value) out.old result out.new }
     ensures usable { result ≡ 0 → is_state out.new.retained out.new.theta ≡ true }
     ensures unchanged { sketch.new.value ≡ sketch.old.value }
 {
-    let Some(theta) = take(alloc, sketch) else {
-        return INVALID_ARGUMENT;
-    };
-    *out = state(&theta);
-    fill(alloc, sketch, Some(theta));
-    OK
+    match sketch.owned().get() {
+        Some(theta) => {
+            *out = state(theta);
+            OK
+        }
+        None => INVALID_ARGUMENT,
+    }
 }
 
 /// Writes the image of a sketch, ordered, to the front of a buffer, and its length. The sketch doesn't change.
@@ -443,24 +301,14 @@ pub extern "C" fn kcp_theta_state(alloc: Global, sketch: &mut ThetaHandle, out: 
 /// If the buffer is too small, the status is `TOO_SMALL`, the length is written, and the buffer is as before. Refused with
 /// `INVALID_ARGUMENT` if the handle has no sketch, and with `OUT_OF_MEMORY`; then nothing is written.
 #[unsafe(no_mangle)]
-pub extern "C" fn kcp_theta_image(
-    alloc: Global,
-    sketch: &mut ThetaHandle,
-    out: &mut [u8],
-    length: &mut u64,
-) -> u32
+pub extern "C" fn kcp_theta_image(sketch: &mut ThetaHandle, out: &mut [u8], length: &mut u64) -> u32
     ensures image { WritesOf IsImageOf (λ _. IsMemoryRefusal) sketch.old.value out.old length.old result out.new length.new }
     ensures unchanged { sketch.new.value ≡ sketch.old.value }
 {
-    let Some(theta) = take(alloc, sketch) else {
-        return INVALID_ARGUMENT;
-    };
-    let status = match image(&theta) {
-        Ok(image) => put(image.as_slice(), out, length),
-        Err(_) => OUT_OF_MEMORY,
-    };
-    fill(alloc, sketch, Some(theta));
-    status
+    match sketch.owned().get() {
+        Some(theta) => put_made(image(theta), out, length),
+        None => INVALID_ARGUMENT,
+    }
 }
 
 /// Makes the ordered compact form of a sketch, and puts it into a handle. The sketch doesn't change.
@@ -476,10 +324,8 @@ pub extern "C" fn kcp_theta_compact(
     ensures made { FillsFrom IsCompactForm (λ _. IsMemoryRefusal) sketch.old.value out.old.value result out.new.value }
     ensures unchanged { sketch.new.value ≡ sketch.old.value }
 {
-    let Some(theta) = take(alloc, sketch) else {
-        return INVALID_ARGUMENT;
-    };
-    let status = fill_compact(alloc, &theta, out);
-    fill(alloc, sketch, Some(theta));
-    status
+    match sketch.owned().get() {
+        Some(theta) => out.owned().put(alloc, compact_form(theta)),
+        None => INVALID_ARGUMENT,
+    }
 }

@@ -1,28 +1,23 @@
 //! Unions of theta sketches.
-ghost use Rattle.std.specs.Prelude.{◌≡◌, true, not, None, Option, IfOk, is_some, option_map};
-ghost use Rattle.std.specs.Coded.{coded_option};
+ghost use Rattle.std.specs.Prelude.{◌≡◌, true, not, None, IfOk};
 ghost use Rattle.core_laws.specs.Refusal.{Refuses};
 ghost use Rattle.core_laws.specs.Settings.{settings_refusal};
 ghost use Rattle.core_laws.specs.declared.TheConstants.{MAX_THETA};
 ghost use Rattle.core_operators.specs.Union.{failure};
 ghost use Rattle.theta_sketches.specs.View.{view_shows, view_sequence};
-ghost use Rattle.sketch_c.specs.Buffer.{Writes, WritesOf};
+ghost use Rattle.sketch_c.specs.Buffer.{WritesOf};
 ghost use Rattle.sketch_c.specs.Calls.{OnObject, OnObjectWith, Fills, FillsFrom};
-ghost use Rattle.sketch_c.specs.Handle.{handle_owns};
 ghost use Rattle.sketch_c.specs.Settings.{IsSettingsRefusal};
 ghost use Rattle.sketch_c.specs.Unions.{IsNewUnion, AddsShown, AddsSketch, AddsCompact, AddsImage, IsUnionResult, IsUnionImage, IsResultRefusal, ResetsUnion};
-ghost use Rattle.sketch_c.specs.contracts.union.SeededUnion.{the_row};
 ghost use Rattle.sketch_c.specs.declared.union.SeededUnion.{SeededUnion};
 
-use crate::buffer::put;
-use crate::compact::{self, CompactHandle, CompactSketch, read};
-use crate::opaque::Opaque;
-use crate::owned::Owned;
+use crate::buffer::put_made;
+use crate::compact::{CompactSketch, read};
+use crate::handles::{CompactHandle, ThetaHandle, UnionHandle};
 use crate::status::{INVALID_ARGUMENT, OK, status_of};
-use crate::theta::{self, SeededSketch, ThetaHandle};
+use crate::theta::SeededSketch;
 use sketch_base::Error;
 use std::alloc::Global;
-use std::marker::Model;
 use theta_sketches::{ThetaSketchView, ThetaUnion, ThetaUnionBuilder};
 
 /// A union, and the seed of its sketches.
@@ -32,80 +27,15 @@ pub struct SeededUnion {
     seed: u64,
 }
 
-/// A handle of C: a union, or none.
-#[repr(C)]
-pub struct UnionHandle {
-    at: *mut Opaque,
-    ghost value: { Option SeededUnion } by { coded_option the_row.coded },
-}
-
-impl Model for UnionHandle {
-    ghost also_owns = { λ h. handle_owns the_row h.at h.value };
-}
-
-impl UnionHandle {
-    /// The handle of a pointer.
-    #[inline(always)]
-    fn of(owned: Owned<SeededUnion>) -> UnionHandle
-        ensures { result.value ≡ owned.value }
-    {
-        let Owned { at } = owned;
-        UnionHandle {
-            at: at as *mut Opaque,
-        }
-    }
-
-    /// The pointer of the handle.
-    #[inline(always)]
-    fn into_owned(self) -> Owned<SeededUnion>
-        ensures { result.value ≡ self.value }
-    {
-        let UnionHandle { at } = self;
-        Owned {
-            at: at as *mut SeededUnion,
-        }
-    }
-}
-
-/// The union of a handle, taken out of it.
-#[inline(always)]
-pub(crate) fn take(alloc: Global, handle: &mut UnionHandle) -> Option<Box<SeededUnion>>
-    ensures taken { handle.old.value ≡ option_map (λ b. b.value) result }
-    ensures none_left { handle.new.value ≡ None }
-{
-    let handle = std::mem::replace(handle, UnionHandle::of(Owned::none()));
-    handle.into_owned().into_box(alloc)
-}
-
-/// Puts a union into a handle. One that it has is freed.
-#[inline(always)]
-pub(crate) fn fill(alloc: Global, handle: &mut UnionHandle, value: Option<Box<SeededUnion>>)
-    ensures { handle.new.value ≡ option_map (λ b. b.value) value }
-{
-    let handle = std::mem::replace(handle, UnionHandle::of(Owned::of_box(value)));
-    let _ = handle.into_owned().into_box(alloc);
-}
-
-/// Whether a handle has a union.
-pub(crate) fn is_filled(alloc: Global, handle: &mut UnionHandle) -> bool
-    ensures filled { result ≡ is_some handle.old.value }
-    ensures unchanged { handle.new.value ≡ handle.old.value }
-{
-    let value = take(alloc, handle);
-    let filled = value.is_some();
-    fill(alloc, handle, value);
-    filled
-}
-
-fn built(alloc: Global, lg_k: u8, seed: u64) -> Result<Box<SeededUnion>, Error>
-    ensures made { IfOk result (λ u. IsNewUnion lg_k seed u.value) }
+fn built(alloc: Global, lg_k: u8, seed: u64) -> Result<SeededUnion, Error>
+    ensures made { IfOk result (λ u. IsNewUnion lg_k seed u) }
     ensures refused { Refuses result (settings_refusal lg_k MAX_THETA seed) true }
 {
     let union = ThetaUnionBuilder::default()
         .lg_k(lg_k)
         .seed(seed)
         .build(alloc)?;
-    Ok(Box::new(alloc, SeededUnion { union, seed })?)
+    Ok(SeededUnion { union, seed })
 }
 
 fn add(union: &mut SeededUnion, view: ThetaSketchView<'_, Global>) -> u32
@@ -138,27 +68,12 @@ fn add_image(alloc: Global, union: &mut SeededUnion, image: &[u8]) -> u32
     }
 }
 
-fn result(alloc: Global, union: &SeededUnion) -> Result<Box<CompactSketch>, Error>
-    ensures made { IfOk result (λ s. IsUnionResult union.now s.value) }
+fn result(union: &SeededUnion) -> Result<CompactSketch, Error>
+    ensures made { IfOk result (λ s. IsUnionResult union.now s) }
     ensures refused { Refuses result (failure union.now.union.failed) (not union.now.union.failed) }
 {
     let sketch = union.union.to_sketch(true)?;
-    Ok(Box::new(alloc, CompactSketch { sketch })?)
-}
-
-fn fill_result(alloc: Global, union: &SeededUnion, out: &mut CompactHandle) -> u32
-    ensures { Fills (IsUnionResult union.now) (IsResultRefusal union.now) out.old.value result out.new.value }
-{
-    if compact::is_filled(alloc, out) {
-        return INVALID_ARGUMENT;
-    }
-    match result(alloc, union) {
-        Ok(made) => {
-            compact::fill(alloc, out, Some(made));
-            OK
-        }
-        Err(error) => status_of(error.kind()),
-    }
+    Ok(CompactSketch { sketch })
 }
 
 /// The image of the union's value, ordered.
@@ -167,15 +82,6 @@ fn image(union: &SeededUnion) -> Result<Vec<u8>, Error>
     ensures refused { Refuses result (failure union.now.union.failed) (not union.now.union.failed) }
 {
     union.union.to_sketch(true)?.serialize()
-}
-
-fn put_image(union: &SeededUnion, out: &mut [u8], length: &mut u64) -> u32
-    ensures { Writes (IsUnionImage union.now) (IsResultRefusal union.now) out.old length.old result out.new length.new }
-{
-    match image(union) {
-        Ok(image) => put(image.as_slice(), out, length),
-        Err(error) => status_of(error.kind()),
-    }
 }
 
 fn reset(union: &mut SeededUnion) -> u32
@@ -193,16 +99,7 @@ fn reset(union: &mut SeededUnion) -> u32
 pub extern "C" fn kcp_union_new(alloc: Global, union: &mut UnionHandle, lg_k: u8, seed: u64) -> u32
     ensures { Fills (IsNewUnion lg_k seed) (IsSettingsRefusal lg_k seed) union.old.value result union.new.value }
 {
-    if is_filled(alloc, union) {
-        return INVALID_ARGUMENT;
-    }
-    match built(alloc, lg_k, seed) {
-        Ok(made) => {
-            fill(alloc, union, Some(made));
-            OK
-        }
-        Err(error) => status_of(error.kind()),
-    }
+    union.owned().put(alloc, built(alloc, lg_k, seed))
 }
 
 /// Frees the union of a handle, which has none afterwards. A handle without one stays as it is.
@@ -210,7 +107,7 @@ pub extern "C" fn kcp_union_new(alloc: Global, union: &mut UnionHandle, lg_k: u8
 pub extern "C" fn kcp_union_free(alloc: Global, union: &mut UnionHandle)
     ensures { union.new.value ≡ None }
 {
-    let _ = take(alloc, union);
+    union.owned().free(alloc);
 }
 
 /// Merges a sketch that takes updates into a union. The sketch doesn't change. An empty sketch changes nothing, and its
@@ -220,52 +117,32 @@ pub extern "C" fn kcp_union_free(alloc: Global, union: &mut UnionHandle)
 /// union has failed, whatever the sketch; then nothing has changed. Refused with `OUT_OF_MEMORY`; then the union has
 /// failed until it is reset.
 #[unsafe(no_mangle)]
-pub extern "C" fn kcp_union_add(
-    alloc: Global,
-    union: &mut UnionHandle,
-    sketch: &mut ThetaHandle,
-) -> u32
+pub extern "C" fn kcp_union_add(union: &mut UnionHandle, sketch: &mut ThetaHandle) -> u32
     ensures added { OnObjectWith AddsSketch sketch.old.value union.old.value result union.new.value }
     ensures unchanged { sketch.new.value ≡ sketch.old.value }
 {
-    let Some(theta) = theta::take(alloc, sketch) else {
-        return INVALID_ARGUMENT;
-    };
-    let status = match take(alloc, union) {
-        Some(mut object) => {
-            let status = add_sketch(&mut object, &theta);
-            fill(alloc, union, Some(object));
-            status
-        }
+    match sketch.owned().get() {
+        Some(theta) => match union.owned().get() {
+            Some(object) => add_sketch(object, theta),
+            None => INVALID_ARGUMENT,
+        },
         None => INVALID_ARGUMENT,
-    };
-    theta::fill(alloc, sketch, Some(theta));
-    status
+    }
 }
 
 /// Merges a compact sketch into a union, as `kcp_union_add` does.
 #[unsafe(no_mangle)]
-pub extern "C" fn kcp_union_add_compact(
-    alloc: Global,
-    union: &mut UnionHandle,
-    sketch: &mut CompactHandle,
-) -> u32
+pub extern "C" fn kcp_union_add_compact(union: &mut UnionHandle, sketch: &mut CompactHandle) -> u32
     ensures added { OnObjectWith AddsCompact sketch.old.value union.old.value result union.new.value }
     ensures unchanged { sketch.new.value ≡ sketch.old.value }
 {
-    let Some(compact) = compact::take(alloc, sketch) else {
-        return INVALID_ARGUMENT;
-    };
-    let status = match take(alloc, union) {
-        Some(mut object) => {
-            let status = add_compact(&mut object, &compact);
-            fill(alloc, union, Some(object));
-            status
-        }
+    match sketch.owned().get() {
+        Some(compact) => match union.owned().get() {
+            Some(object) => add_compact(object, compact),
+            None => INVALID_ARGUMENT,
+        },
         None => INVALID_ARGUMENT,
-    };
-    compact::fill(alloc, sketch, Some(compact));
-    status
+    }
 }
 
 /// Merges the sketch that the bytes begin with into a union, read under the union's seed.
@@ -276,12 +153,10 @@ pub extern "C" fn kcp_union_add_compact(
 pub extern "C" fn kcp_union_add_image(alloc: Global, union: &mut UnionHandle, image: &[u8]) -> u32
     ensures { OnObject (AddsImage image.now) union.old.value result union.new.value }
 {
-    let Some(mut object) = take(alloc, union) else {
-        return INVALID_ARGUMENT;
-    };
-    let status = add_image(alloc, &mut object, image);
-    fill(alloc, union, Some(object));
-    status
+    match union.owned().get() {
+        Some(object) => add_image(alloc, object, image),
+        None => INVALID_ARGUMENT,
+    }
 }
 
 /// Puts the union's value into a handle, as an ordered compact sketch. The union doesn't change.
@@ -297,12 +172,10 @@ pub extern "C" fn kcp_union_result(
     ensures made { FillsFrom IsUnionResult IsResultRefusal union.old.value out.old.value result out.new.value }
     ensures unchanged { union.new.value ≡ union.old.value }
 {
-    let Some(object) = take(alloc, union) else {
-        return INVALID_ARGUMENT;
-    };
-    let status = fill_result(alloc, &object, out);
-    fill(alloc, union, Some(object));
-    status
+    match union.owned().get() {
+        Some(object) => out.owned().put(alloc, result(object)),
+        None => INVALID_ARGUMENT,
+    }
 }
 
 /// Writes the image of the union's value, ordered, to the front of a buffer, and its length. The union doesn't change.
@@ -311,33 +184,24 @@ pub extern "C" fn kcp_union_result(
 /// `INVALID_ARGUMENT` if the handle has no union, with `FAILED` if the union has failed, and with `OUT_OF_MEMORY`; then
 /// nothing is written.
 #[unsafe(no_mangle)]
-pub extern "C" fn kcp_union_image(
-    alloc: Global,
-    union: &mut UnionHandle,
-    out: &mut [u8],
-    length: &mut u64,
-) -> u32
+pub extern "C" fn kcp_union_image(union: &mut UnionHandle, out: &mut [u8], length: &mut u64) -> u32
     ensures image { WritesOf IsUnionImage IsResultRefusal union.old.value out.old length.old result out.new length.new }
     ensures unchanged { union.new.value ≡ union.old.value }
 {
-    let Some(object) = take(alloc, union) else {
-        return INVALID_ARGUMENT;
-    };
-    let status = put_image(&object, out, length);
-    fill(alloc, union, Some(object));
-    status
+    match union.owned().get() {
+        Some(object) => put_made(image(object), out, length),
+        None => INVALID_ARGUMENT,
+    }
 }
 
 /// Makes a union empty again, as when it was new, and ends a failure. Refused with `INVALID_ARGUMENT` if the handle has no
 /// union.
 #[unsafe(no_mangle)]
-pub extern "C" fn kcp_union_reset(alloc: Global, union: &mut UnionHandle) -> u32
+pub extern "C" fn kcp_union_reset(union: &mut UnionHandle) -> u32
     ensures { OnObject ResetsUnion union.old.value result union.new.value }
 {
-    let Some(mut object) = take(alloc, union) else {
-        return INVALID_ARGUMENT;
-    };
-    let status = reset(&mut object);
-    fill(alloc, union, Some(object));
-    status
+    match union.owned().get() {
+        Some(object) => reset(object),
+        None => INVALID_ARGUMENT,
+    }
 }

@@ -225,3 +225,22 @@ impl<P: SummaryPolicy, A: Allocator + Clone> TupleSketch<P, A> {
         Ok(CompactTupleSketch::of_state(state))
     }
 }
+
+impl<P: SummaryPolicy + Copy, A: Allocator + Clone> TupleSketch<P, A> {
+    /// Returns a copy of the sketch, in memory of clones of its allocator: with the same entries, theta, settings and
+    /// policy, but perhaps in another order. Refused with `OutOfMemory` alone. Clones of summaries must equal their
+    /// originals.
+    pub fn clone(&self) -> Result<Self, Error>
+    where
+        P::Summary: Clone,
+        requires clones_equal { ClonesEqual P.Summary.is_clone }
+        ensures empty { IfOk result (λ s. s.state.empty ≡ self.now.state.empty) }
+        ensures copied { IfOk result (λ s. s.state.map ≡ self.now.state.map) }
+        ensures same_policy { IfOk result (λ s. s.policy ≡ self.now.policy) }
+        ensures refused { Refuses result None true }
+    {
+        let state = self.state.clone()?;
+        let policy = self.policy;
+        Ok(TupleSketch { state, policy })
+    }
+}

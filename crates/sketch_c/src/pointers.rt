@@ -1,0 +1,124 @@
+//! The pointers of handles, by the types of their objects.
+//!
+//! A handle and its `Owned` are the same bytes and own the same, so a `&mut` to the one is a `&mut` to the other.
+ghost use Rattle.std.specs.Prelude.{◌≡◌};
+ghost use Rattle.std.specs.Borrow.{sem, Lends};
+ghost use Rattle.sketch_c.specs.contracts.compact.CompactSketch as compact;
+ghost use Rattle.sketch_c.specs.contracts.compact_sums.CompactSums as compact_sums;
+ghost use Rattle.sketch_c.specs.contracts.handles.CompactHandle as compact_handle;
+ghost use Rattle.sketch_c.specs.contracts.handles.CompactSumsHandle as compact_sums_handle;
+ghost use Rattle.sketch_c.specs.contracts.handles.IntersectionHandle as intersection_handle;
+ghost use Rattle.sketch_c.specs.contracts.handles.SumsHandle as sums_handle;
+ghost use Rattle.sketch_c.specs.contracts.handles.SumsUnionHandle as sums_union_handle;
+ghost use Rattle.sketch_c.specs.contracts.handles.ThetaHandle as theta_handle;
+ghost use Rattle.sketch_c.specs.contracts.handles.UnionHandle as union_handle;
+ghost use Rattle.sketch_c.specs.contracts.intersection.SeededIntersection as intersection;
+ghost use Rattle.sketch_c.specs.contracts.owned.Owned as owned;
+ghost use Rattle.sketch_c.specs.contracts.sums.SeededSums as sums;
+ghost use Rattle.sketch_c.specs.contracts.sums_union.SeededSumsUnion as sums_union;
+ghost use Rattle.sketch_c.specs.contracts.theta.SeededSketch as theta;
+ghost use Rattle.sketch_c.specs.contracts.union.SeededUnion as union;
+
+use crate::compact::CompactSketch;
+use crate::compact_sums::CompactSums;
+use crate::handles::{
+    CompactHandle, CompactSumsHandle, IntersectionHandle, SumsHandle, SumsUnionHandle, ThetaHandle,
+    UnionHandle,
+};
+use crate::intersection::SeededIntersection;
+use crate::owned::Owned;
+use crate::sums::SeededSums;
+use crate::sums_union::SeededSumsUnion;
+use crate::theta::SeededSketch;
+use crate::union::SeededUnion;
+
+impl ThetaHandle {
+    /// The pointer of the handle.
+    #[inline(always)]
+    pub(crate) fn owned(&mut self) -> &mut Owned<SeededSketch>
+        ensures* writes_back { sem 𝓛 (Lends theta_handle.the_row (owned.the_row theta.the_row)
+            self.entry result (λ w. record { at = w.at; value = w.value })) }
+        ensures same { result.now ≡ record { at = self.old.at; value = self.old.value } }
+    {
+        let at = &raw mut *self as *mut Owned<SeededSketch>;
+        unsafe { &mut *at }
+    }
+}
+
+impl CompactHandle {
+    /// The pointer of the handle.
+    #[inline(always)]
+    pub(crate) fn owned(&mut self) -> &mut Owned<CompactSketch>
+        ensures* writes_back { sem 𝓛 (Lends compact_handle.the_row (owned.the_row compact.the_row)
+            self.entry result (λ w. record { at = w.at; value = w.value })) }
+        ensures same { result.now ≡ record { at = self.old.at; value = self.old.value } }
+    {
+        let at = &raw mut *self as *mut Owned<CompactSketch>;
+        unsafe { &mut *at }
+    }
+}
+
+impl UnionHandle {
+    /// The pointer of the handle.
+    #[inline(always)]
+    pub(crate) fn owned(&mut self) -> &mut Owned<SeededUnion>
+        ensures* writes_back { sem 𝓛 (Lends union_handle.the_row (owned.the_row union.the_row)
+            self.entry result (λ w. record { at = w.at; value = w.value })) }
+        ensures same { result.now ≡ record { at = self.old.at; value = self.old.value } }
+    {
+        let at = &raw mut *self as *mut Owned<SeededUnion>;
+        unsafe { &mut *at }
+    }
+}
+
+impl IntersectionHandle {
+    /// The pointer of the handle.
+    #[inline(always)]
+    pub(crate) fn owned(&mut self) -> &mut Owned<SeededIntersection>
+        ensures* writes_back { sem 𝓛 (Lends intersection_handle.the_row (owned.the_row intersection.the_row)
+            self.entry result (λ w. record { at = w.at; value = w.value })) }
+        ensures same { result.now ≡ record { at = self.old.at; value = self.old.value } }
+    {
+        let at = &raw mut *self as *mut Owned<SeededIntersection>;
+        unsafe { &mut *at }
+    }
+}
+
+impl SumsHandle {
+    /// The pointer of the handle.
+    #[inline(always)]
+    pub(crate) fn owned(&mut self) -> &mut Owned<SeededSums>
+        ensures* writes_back { sem 𝓛 (Lends sums_handle.the_row (owned.the_row sums.the_row)
+            self.entry result (λ w. record { at = w.at; value = w.value })) }
+        ensures same { result.now ≡ record { at = self.old.at; value = self.old.value } }
+    {
+        let at = &raw mut *self as *mut Owned<SeededSums>;
+        unsafe { &mut *at }
+    }
+}
+
+impl CompactSumsHandle {
+    /// The pointer of the handle.
+    #[inline(always)]
+    pub(crate) fn owned(&mut self) -> &mut Owned<CompactSums>
+        ensures* writes_back { sem 𝓛 (Lends compact_sums_handle.the_row (owned.the_row compact_sums.the_row)
+            self.entry result (λ w. record { at = w.at; value = w.value })) }
+        ensures same { result.now ≡ record { at = self.old.at; value = self.old.value } }
+    {
+        let at = &raw mut *self as *mut Owned<CompactSums>;
+        unsafe { &mut *at }
+    }
+}
+
+impl SumsUnionHandle {
+    /// The pointer of the handle.
+    #[inline(always)]
+    pub(crate) fn owned(&mut self) -> &mut Owned<SeededSumsUnion>
+        ensures* writes_back { sem 𝓛 (Lends sums_union_handle.the_row (owned.the_row sums_union.the_row)
+            self.entry result (λ w. record { at = w.at; value = w.value })) }
+        ensures same { result.now ≡ record { at = self.old.at; value = self.old.value } }
+    {
+        let at = &raw mut *self as *mut Owned<SeededSumsUnion>;
+        unsafe { &mut *at }
+    }
+}
