@@ -4,6 +4,7 @@ ghost use Rattle.std.specs.Borrow.{sem, Lends, LendsIf};
 ghost use Rattle.sketch_c.specs.Calls.{Fills, IsMadeBy, IsRefusedBy, IsRefusedWith};
 ghost use Rattle.sketch_c.specs.contracts.owned.Owned.{the_row};
 
+use crate::loose::Loose;
 use crate::owned::Owned;
 use crate::status::{INVALID_ARGUMENT, OK, OUT_OF_MEMORY, status_of};
 use sketch_base::Error;
@@ -61,7 +62,7 @@ impl<T: Drop> Owned<T> {
         match made {
             Ok(value) => match Box::new(alloc, value) {
                 Ok(boxed) => {
-                    let _ = std::mem::replace(self, Owned::of_box(Some(boxed))).into_box(alloc);
+                    let _ = std::mem::replace(self, Owned::of(Loose::of(boxed))).into_box(alloc);
                     OK
                 }
                 Err(_) => OUT_OF_MEMORY,

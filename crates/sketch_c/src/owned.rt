@@ -53,17 +53,6 @@ impl<T> Owned<T> {
 }
 
 impl<T: Drop> Owned<T> {
-    /// The pointer of a box, or null.
-    #[inline(always)]
-    pub(crate) fn of_box(value: Option<Box<T>>) -> Owned<T>
-        ensures { result.value ≡ option_map (λ b. b.value) value }
-    {
-        match value {
-            Some(value) => Owned::of(Loose::of(value)),
-            None => Owned::none(),
-        }
-    }
-
     /// The box, if there is one.
     #[inline(always)]
     pub(crate) fn into_box(self, alloc: Global) -> Option<Box<T>>
