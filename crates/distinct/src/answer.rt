@@ -18,6 +18,7 @@ use crate::inputs::Inputs;
 use crate::output::put;
 use crate::remarks::Console;
 use crate::show::{count_text, show_inputs};
+use crate::united::{unite_inputs, unites_groups};
 use crate::visits::visit_inputs;
 use distinct_arguments::{Command, Options, Request, text_of};
 use line_sketches::{Sources, Unread, hex_line, image_of, sketch_sources};
@@ -102,6 +103,9 @@ fn answer_of<S: Sources + Drop, C: Console>(
             if files.is_empty() {
                 return Err(Failure::NoFiles);
             }
+            if unites_groups(operator, options) {
+                return unite_inputs(alloc, options, seed, inputs, console);
+            }
             let count = files.len();
             let combined = combine_inputs(alloc, options, seed, count, inputs, operator, console)?;
             in_form(alloc, options.hex, combined)
@@ -175,7 +179,11 @@ fn in_form(alloc: Global, hex: bool, image: Vec<u8>) -> Result<Vec<u8>, Failure>
 }
 
 /// The image of a sketch as it is written.
-pub fn image_in_form(alloc: Global, hex: bool, sketch: &CompactThetaSketch) -> Result<Vec<u8>, Failure>
+pub fn image_in_form(
+    alloc: Global,
+    hex: bool,
+    sketch: &CompactThetaSketch,
+) -> Result<Vec<u8>, Failure>
     ensures form { IfOk result (λ v. v.items ≡ in_form hex (written sketch.now)) }
     ensures memory { IfErr result (λ f. f ≡ failure.Memory) }
 {

@@ -4,6 +4,7 @@ ghost use Rattle.std.specs.Io.KnownBytes.{Appends};
 ghost use Rattle.distinct.specs.Failures.{IsOfWriting, ReportsNotWritten};
 
 use crate::failure::Failure;
+use grouped_lines::GroupFile;
 use std::alloc::Global;
 use std::fs::{File, Files};
 use std::io::{ErrorKind, Write};
@@ -28,6 +29,39 @@ pub fn put_file(rt: &HostRuntime, name: &str, bytes: &[u8]) -> Result<(), Failur
         Ok(()) => Ok(()),
         Err(error) => Err(not_written(rt.alloc(), name, error)),
     }
+}
+
+/// The longest name of a file of a group, in bytes: most systems have names of at most 255, and the new file beside it has
+/// up to 9 more.
+const LONGEST_FILE: usize = 246;
+
+/// Writes the files of groups into a folder, which is made if it is missing. If a name is too long, nothing is written; each
+/// file is written all or nothing, and if one fails, those before it stay.
+pub fn put_files(rt: &HostRuntime, folder: &str, files: &[GroupFile]) -> Result<(), Failure> {
+    let alloc = rt.alloc();
+    for file in files {
+        if LONGEST_FILE < file.name.len() {
+            let path = path_of(alloc, folder, file)?;
+            let error = io::Error::from(ErrorKind::InvalidFilename);
+            return Err(not_written(alloc, path.as_str(), error));
+        }
+    }
+    if let Err(error) = fs::create_dir_all(rt, folder) {
+        return Err(not_written(alloc, folder, error));
+    }
+    for file in files {
+        let path = path_of(alloc, folder, file)?;
+        put_file(rt, path.as_str(), file.bytes.as_slice())?;
+    }
+    Ok(())
+}
+
+/// The path of the file of a group.
+fn path_of(alloc: Global, folder: &str, file: &GroupFile) -> Result<String, Failure> {
+    let Ok(name) = str::from_utf8(file.name.as_slice()) else {
+        return Err(Failure::Memory);
+    };
+    Ok(format!(in alloc; "{folder}/{name}")?)
 }
 
 /// Whether the name is that of something other than a file or a folder, such as a device or a pipe.

@@ -12,6 +12,7 @@ pub enum OptionName {
     Separator,
     By,
     Sort,
+    Groups,
     Seed,
     SeedFile,
     FileList,
@@ -22,6 +23,7 @@ pub enum OptionName {
     Json,
     Hex,
     Output,
+    OutputDir,
     Keys,
 }
 
@@ -63,6 +65,8 @@ pub struct Options<'a> {
     pub by: Option<u32>,
     /// The order in which groups are printed; by name if `None`.
     pub sort: Option<Order>,
+    /// Whether images are united by the groups of their lines.
+    pub groups: bool,
     pub seed: Seed<'a>,
     /// Whether images are in hexadecimal digits.
     pub hex: bool,
@@ -72,6 +76,8 @@ pub struct Options<'a> {
     pub progress: bool,
     /// The file to which the image is written, or `None` for standard output.
     pub output: Option<&'a str>,
+    /// The folder to which the image of each group is written, if there is one.
+    pub folder: Option<&'a str>,
     /// The file that has the names of the files, each ended by a NUL byte.
     pub list: Option<&'a str>,
     /// The number of images that are expected, from 1 to 2^32 - 1 if it was read from arguments.

@@ -71,6 +71,7 @@ pub fn option_called(name: &str) -> Option<OptionName>
         "--separator" => Some(OptionName::Separator),
         "--by" => Some(OptionName::By),
         "--sort" => Some(OptionName::Sort),
+        "--groups" => Some(OptionName::Groups),
         "--seed" => Some(OptionName::Seed),
         "--seed-file" => Some(OptionName::SeedFile),
         "--files0-from" => Some(OptionName::FileList),
@@ -81,6 +82,7 @@ pub fn option_called(name: &str) -> Option<OptionName>
         "--json" => Some(OptionName::Json),
         "--hex" => Some(OptionName::Hex),
         "--output" => Some(OptionName::Output),
+        "--output-dir" => Some(OptionName::OutputDir),
         "--keys" => Some(OptionName::Keys),
         _ => None,
     }
@@ -106,6 +108,7 @@ pub fn has_option(command: Command, option: OptionName) -> bool
         OptionName::Separator => reads_lines || is_eval,
         OptionName::By => makes_sketch,
         OptionName::Sort => command == Command::Count,
+        OptionName::Groups => command == Command::Combine(Operator::Union),
         OptionName::Progress => makes_sketch,
         OptionName::Keys => is_eval,
         OptionName::FileList => !is_eval && command != Command::Combine(Operator::Minus),
@@ -118,6 +121,7 @@ pub fn has_option(command: Command, option: OptionName) -> bool
         OptionName::Json => shows_counts || is_eval,
         OptionName::Hex => command != Command::Count && command != Command::Visits,
         OptionName::Output => !shows_counts,
+        OptionName::OutputDir => command == Command::Sketch,
     }
 }
 

@@ -27,7 +27,7 @@ use theta_sketches::laws::{one_reading, read_again};
 
 /// Adds an image to a union of sketches of this seed. Refused with `InvalidData` if the bytes aren't an image of a theta
 /// sketch of this seed, and with `OutOfMemory`.
-fn add_image<A: Allocator + Clone, B: Allocator + Clone + Drop>(
+pub fn add_image<A: Allocator + Clone, B: Allocator + Clone + Drop>(
     union: &mut ThetaUnion<A>,
     alloc: B,
     seed: u64,
@@ -92,7 +92,7 @@ fn add_images<A: Allocator + Clone, B: Allocator + Clone + Drop, S: Sources>(
 }
 
 /// The image of the result of a union, ordered.
-fn united_image<A: Allocator + Clone + Drop>(union: &ThetaUnion<A>) -> Result<Vec<u8, A>, Error>
+pub fn united_image<A: Allocator + Clone + Drop>(union: &ThetaUnion<A>) -> Result<Vec<u8, A>, Error>
     ensures image { (seed lg_k : ℕ) (images : List (List ℕ))
         → HasUnited seed lg_k images union.now
         → IfOk result (λ v. IsUnitedImage seed lg_k images v.items) }
