@@ -1,5 +1,5 @@
 //! Lines of readers, each with a group and its image, united by groups.
-ghost use Rattle.std.specs.Prelude.{◌≡◌, ◌++◌, ℕ, List, Option, true, None, IfOk, IfErr, IfSome, OnOk};
+ghost use Rattle.std.specs.Prelude.{◌≡◌, ◌++◌, ℕ, List, Option, flat_map, true, None, IfOk, IfErr, IfSome, OnOk};
 ghost use Rattle.std.specs.Option.{option_map};
 ghost use Rattle.core_laws.specs.Refusal.{Refuses};
 ghost use Rattle.core_laws.specs.Settings.{settings_refusal};
@@ -7,7 +7,10 @@ ghost use Rattle.core_laws.specs.declared.TheConstants.{MAX_THETA};
 ghost use Rattle.lines.specs.Lines.{lines_of, lines_of_all};
 ghost use Rattle.line_sketches.specs.Keys.{IsAmong};
 ghost use Rattle.grouped_lines.specs.United.{IsNotAdded, IsUniting, AreReady, HasUnions, AreSound, AreUnited, AreUnitedLines, IsUnunited};
+ghost use Rattle.grouped_lines.specs.United.{AreSketchedTexts, IsSketchedText};
+ghost use Rattle.grouped_lines.specs.declared.groups.Grouping.{Grouping};
 
+use crate::laws::groups_unite;
 use crate::reading::{next_line, without_lf};
 use crate::united::{LineFlaw, NotAdded, UnitedGroups, check_union, image_line};
 use line_sketches::{BLOCK, Sources};
@@ -122,15 +125,22 @@ pub fn unite_groups<S: Sources>(
     Err(Ununited::Refused(Error::from(AllocError)))
 }
 
-/// The lines of groups, one after another: the name of each, a tab, and the image of its union in hexadecimal digits.
-/// Refused only with `OutOfMemory`.
+/// The lines of groups, one after another: the name of each, a tab, and the image of its union in hexadecimal digits. If
+/// the images are those of groups that were sketched in parts, these are the lines of the groups of all parts, byte for
+/// byte. Refused only with `OutOfMemory`.
 pub fn united_text(alloc: Global, groups: &mut UnitedGroups) -> Result<Vec<u8>, Error>
     requires sound { AreSound groups.old }
     ensures text { (seed lg_k : ℕ) (lines names : List (List ℕ))
         → AreUnited seed lg_k lines names groups.old.map.entries
         → IfOk result (λ v. AreUnitedLines seed lg_k lines names v.items) }
+    ensures whole { (grouping : Grouping) (sources : List (List (List ℕ))) (texts : List (List ℕ))
+        → settings_refusal grouping.lg_k MAX_THETA grouping.hashing.seed ≡ None
+        → AreSketchedTexts grouping sources texts
+        → HasUnions grouping.hashing.seed grouping.lg_k (lines_of_all texts) groups.old
+        → IfOk result (λ v. IsSketchedText grouping (lines_of_all (flat_map (λ part. part) sources)) v.items) }
     ensures refused { Refuses result None true }
 {
+    groups_unite();
     let mut text = Vec::new(alloc);
     'each_group: for _ in 0..u64::MAX {
         let Some(group) = groups.next_group()? else {

@@ -1,4 +1,5 @@
 use Rattle.std.proofs.Common.{ℕ, ◌≡◌, ◌++◌, List, refl, sym, ap, subst, ◌∙◌}
+use Rattle.lines.specs.Lines.{lines_of_all}
 use Rattle.grouped_lines.specs.United.{image_line, AreUnitedLines, IsNextUnited}
 use Rattle.grouped_lines.proofs.UnitedInTurn.{Completes, line_written, all_written}
 use Rattle.grouped_lines.proofs.uniting.united_text.Goals as goal
@@ -30,3 +31,8 @@ returns-in_default-clause-text c = λ seed lg_k lines names united.
     let so_far = c.each_group.invariant.written seed lg_k lines names united in
     let none = subst (IsNextUnited seed lg_k lines so_far.0 c.next_group.new.self) c.in_default.is (c.in_ok-group.ensures.next seed lg_k lines so_far.0 so_far.1) in
     all_written seed lg_k lines names so_far.0 c.each_group.text.items so_far.2 none
+
+pub returns-in_default-clause-whole : goal.returns-in_default-clause-whole
+returns-in_default-clause-whole c = λ grouping sources texts settled sketched has.
+    c.groups_unite.ensures grouping sources texts c.each_group.text.items settled sketched
+    (has.0, has.1, returns-in_default-clause-text c grouping.hashing.seed grouping.lg_k (lines_of_all texts) has.0 has.2)
