@@ -21,8 +21,8 @@ M64 = 2**64 - 1
 LINES = "--lg-k --field --separator --seed --seed-file --files0-from --progress "
 OPTIONS = {
     "count": LINES + "--by --sort --bounds --tsv --json",
-    "sketch": LINES + "--by --hex --output",
-    "union": "--lg-k --seed --seed-file --files0-from --expect --hex --output",
+    "sketch": LINES + "--by --hex --output --output-dir",
+    "union": "--lg-k --seed --seed-file --files0-from --expect --hex --groups --output",
     "meet": "--seed --seed-file --files0-from --expect --hex --output",
     "minus": "--seed --seed-file --hex --output",
     "show": "--seed --seed-file --files0-from --hex --bounds --tsv --json",
@@ -369,13 +369,13 @@ def set_option(command, options, words):
     option, has_value, value = words.pop(0).partition("=")
     if option not in OPTIONS[command].split():
         raise Fault(f"no option {option}")
-    if option in ("--hex", "--progress", "--keys", "--tsv", "--json", "--bounds"):
+    if option in ("--hex", "--groups", "--progress", "--keys", "--tsv", "--json", "--bounds"):
         if has_value and (option != "--bounds" or value not in "1 2 3".split()):
             raise Fault(f"a value of {option}")
         if option == "--bounds":
             options[option] = int(value or 2)
         else:
-            options[option if option in ("--hex", "--progress", "--keys") else "form"] = option
+            options[option if option in ("--hex", "--groups", "--progress", "--keys") else "form"] = option
         return
     if not has_value and not words:
         raise Fault(f"no value of {option}")
@@ -480,10 +480,14 @@ def read_arguments(words):
         raise Fault("sum without --value")
     if "--separator" in options and not {"--field", "--by", "--value"} & options.keys():
         raise Fault("--separator without --field, --by and --value")
-    if command == "sketch" and "--by" in options and "--hex" not in options:
-        raise Fault("--by without --hex")
+    if command == "sketch" and "--by" in options and "--hex" not in options and "--output-dir" not in options:
+        raise Fault("--by without --hex and without --output-dir")
     if "--sort" in options and "--by" not in options:
         raise Fault("--sort without --by")
+    if "--groups" in options and ("--hex" not in options or "--expect" in options):
+        raise Fault("--groups without --hex or with --expect")
+    if "--output-dir" in options and ("--by" not in options or "--output" in options):
+        raise Fault("--output-dir without --by or with --output")
     if "--files0-from" in options and words:
         raise Fault("a list and files")
     if command in ("count", "sketch", "visits", "sum") and not words and "--files0-from" not in options:
@@ -491,7 +495,7 @@ def read_arguments(words):
     read = set(names_of(steps_of(words[0]))) if command == "eval" else words
     if [options["seed"][1], options.get("--files0-from"), *read].count("-") > 1:
         raise Fault("standard input twice")
-    for option in ("--field", "--by", "--sort", "--bounds", "--hex", "--keys", "--output", "--expect"):
+    for option in ("--field", "--by", "--sort", "--bounds", "--hex", "--groups", "--keys", "--output", "--output-dir", "--expect"):
         options.setdefault(option)
     options["--separator"] = options.get("--separator", "\t").encode()
     return command, options, words
@@ -572,8 +576,49 @@ def combined(command, sketches, options, messages):
     return meet(parts) if command == "meet" else minus(*parts)
 
 
+def group_line(name, image):
+    return name + b"\t" + image.hex().encode() + b"\n"
+
+
+def file_of(folder, name):
+    """The path of the file of a group."""
+    plain = b"abcdefghijklmnopqrstuvwxyzABCDEFGHIJKLMNOPQRSTUVWXYZ0123456789-._"
+    return f"{folder}/" + ("".join(chr(it) if it in plain else f"%{it:02x}" for it in name) or "%") + ".theta"
+
+
+def united_groups(files, names, options, own_hash, messages):
+    """The name and the union of the images of each group, in ascending order."""
+    groups, most, lg_k = {}, 0, options["--lg-k"]
+    for name in names:
+        for number, line in enumerate(lines_of(text_of(files, name)), 1):
+            place = f"{escaped(called(name))}: line {number}"
+            group, tab, digits = line.rpartition(b"\t")
+            if not tab:
+                raise Failure(f"{place} has no tab between the name of a group and its image")
+            if not re.fullmatch(rb"([0-9a-fA-F]{2})*", digits):
+                raise Failure(f"{place} is not hexadecimal")
+            try:
+                sketch = sketch_of_image(bytes.fromhex(digits.decode()), own_hash)
+            except Failure as flaw:
+                raise Failure(f"{place} {flaw}") from None
+            groups.setdefault(group, []).append(sketch)
+            most = max(most, len(sketch[0]) if sketch else 0)
+    if most > 2**lg_k:
+        less = "the union is less exact than its images"
+        messages.append(f"warning: an image retains {most} hashes, and --lg-k {lg_k} keeps {2**lg_k}: {less}")
+    return [(name, unite(2**lg_k, groups[name])) for name in sorted(groups)]
+
+
+def written(answer, files, options):
+    """The answer, or nothing if it is written to the file that `--output` names."""
+    if options["--output"] is None:
+        return answer
+    files[options["--output"]] = answer
+    return b""
+
+
 def run(words, files, messages):
-    """What the program writes to standard output. It changes the file that `--output` names."""
+    """What the program writes to standard output. It changes the files that `--output` and `--output-dir` name."""
     command, options, names = read_arguments(words)
     hex_lines = options["--hex"]
     if command == "minus" and not hex_lines and len(names) != 2:
@@ -591,6 +636,9 @@ def run(words, files, messages):
         return printed_ranges(ranges_of(sketch, counts, options["--bounds"] or 2), options).encode()
     if command == "sum":
         return printed_total(*sums_of([(name, text_of(files, name)) for name in names], options, seed), options).encode()
+    if options["--groups"]:
+        groups = united_groups(files, names, options, seed_hash(seed), messages)
+        return written(b"".join(group_line(name, image_of(it, seed_hash(seed))) for name, it in groups), files, options)
     z = options["--bounds"] or 2
     if options["--by"]:
         groups = groups_of([text_of(files, name) for name in names], options)
@@ -600,11 +648,12 @@ def run(words, files, messages):
             if options["--sort"] == "estimate":
                 reports.sort(key=lambda row: -row[1]["estimate"])
             return printed_groups(reports, options)
-        answer = b"".join(name + b"\t" + image_of(it, seed_hash(seed)).hex().encode() + b"\n" for name, it in rows)
-        if options["--output"] is None:
-            return answer
-        files[options["--output"]] = answer
-        return b""
+        images = [(name, image_of(it, seed_hash(seed))) for name, it in rows]
+        if options["--output-dir"]:
+            for name, image in images:
+                files[file_of(options["--output-dir"], name)] = image.hex().encode() + b"\n" if hex_lines else image
+            return b""
+        return written(b"".join(group_line(name, image) for name, image in images), files, options)
     if command in ("count", "sketch"):
         sketch = sketch_of([text_of(files, name) for name in names], options, seed)
         rows = [(None, sketch)]
@@ -628,11 +677,7 @@ def run(words, files, messages):
     if command not in ("sketch", "eval"):
         sketch = combined(command, rows, options, messages)
     image = image_of(sketch, seed_hash(seed))
-    answer = image.hex().encode() + b"\n" if hex_lines else image
-    if options["--output"] is None:
-        return answer
-    files[options["--output"]] = answer
-    return b""
+    return written(image.hex().encode() + b"\n" if hex_lines else image, files, options)
 
 
 # The cases of a folder.
@@ -648,7 +693,8 @@ def bytes_of(path):
 def files_of(folder, mark=""):
     if not os.path.isdir(folder):
         return {}
-    return {mark + it: bytes_of(f"{folder}/{it}") for it in os.listdir(folder) if os.path.isfile(f"{folder}/{it}")}
+    paths = [os.path.relpath(f"{place}/{it}", folder) for place, _, names in os.walk(folder) for it in names]
+    return {mark + it: bytes_of(f"{folder}/{it}") for it in paths}
 
 
 def wrong_in(case):
@@ -665,7 +711,7 @@ def wrong_in(case):
         status, messages = 2, None
     except Failure as failure:
         status, messages = 1, [str(failure)]
-    if any("/" in it for it in files):
+    if any("/" in it for it in files if not it.startswith("@")):
         raise Uncomputed("a file in another folder")
     if status != int(bytes_of(case + ".status") or 0):
         return "status"

@@ -15,7 +15,10 @@ mod tests;
 use crate::hints::Hint;
 use crate::progress::Progress;
 use distinct_arguments::{Command, Fault, Options, Request, Seed, read_arguments};
-use distinct_commands::{Failure, Files, expression_in, files_in_list, perform, seed_of};
+use distinct_commands::{
+    Failure, Files, Inputs, expression_in, files_in_list, group_files, perform, seed_of,
+};
+use lines::Key;
 use sketch_base::DEFAULT_UPDATE_SEED;
 use std::env;
 use std::env::Env;
@@ -121,6 +124,24 @@ fn has_standard(names: &[String]) -> bool {
     false
 }
 
+/// Writes the sketch of each group of the lines of files of these names, or of standard input, to a file in a folder.
+fn run_folder(
+    rt: &HostRuntime,
+    options: &Options<'_>,
+    seed: u64,
+    by: Key,
+    folder: &str,
+    files: &[String],
+) -> Result<(), Failure>
+    requires seeded { seed_hash seed ≢ 0 }
+{
+    let sources = Files::named(rt, files, options.list.is_none());
+    let mut console = Progress::new(rt, options.progress);
+    let inputs = Inputs::new(sources, files);
+    let made = group_files(rt.alloc(), options, seed, by, inputs, &mut console)?;
+    output::put_files(rt, folder, made.as_slice())
+}
+
 /// Fails if the bytes of an image would go to a terminal.
 fn check_terminal(
     rt: &HostRuntime,
@@ -130,7 +151,8 @@ fn check_terminal(
     let prints_counts = command == Command::Count || command == Command::Show;
     let prints_sums = command == Command::Visits || command == Command::Sum;
     let writes_image = !prints_counts && !prints_sums;
-    if writes_image && !options.hex && options.output.is_none() && rt.stdout().is_terminal() {
+    let is_printed = options.output.is_none() && options.folder.is_none();
+    if writes_image && !options.hex && is_printed && rt.stdout().is_terminal() {
         Err(Failure::Terminal)
     } else {
         Ok(())
@@ -148,6 +170,11 @@ fn run_request(
 ) -> Result<(), Failure>
     requires seeded { seed_hash seed ≢ 0 }
 {
+    if let Request::Run(Command::Sketch, options, _) = request {
+        if let (Some(folder), Some(by)) = (options.folder, options.group()) {
+            return run_folder(rt, &options, seed, by, folder, opened);
+        }
+    }
     let alloc = rt.alloc();
     let (from_standard, progress, output) = match request {
         Request::Print(_) => (false, false, None),

@@ -3,11 +3,13 @@ ghost use Rattle.std.specs.Prelude.{IfErr};
 ghost use Rattle.distinct_commands.specs.Failures.{IsOfWriting};
 
 use distinct_commands::{Failure, not_written};
+use grouped_lines::GroupFile;
+use std::alloc::Global;
 use std::fs::{File, Files};
 use std::io::{ErrorKind, Write};
 use std::{fs, io};
 
-/// WritesAnswer a file of this name, or writes to the device or pipe of this name.
+/// Writes a file of this name, or writes to the device or pipe of this name.
 pub fn put_file(rt: &HostRuntime, name: &str, bytes: &[u8]) -> Result<(), Failure>
     ensures { IfErr result (IsOfWriting name.now) }
 {
@@ -15,6 +17,39 @@ pub fn put_file(rt: &HostRuntime, name: &str, bytes: &[u8]) -> Result<(), Failur
         Ok(()) => Ok(()),
         Err(error) => Err(not_written(rt.alloc(), name, error)),
     }
+}
+
+/// The longest name of a file of a group, in bytes: most systems have names of at most 255, and the new file beside it has
+/// up to 9 more.
+const LONGEST_FILE: usize = 246;
+
+/// Writes the files of groups into a folder, which is made if it is missing. If a name is too long, nothing is written; each
+/// file is written all or nothing, and if one fails, those before it stay.
+pub fn put_files(rt: &HostRuntime, folder: &str, files: &[GroupFile]) -> Result<(), Failure> {
+    let alloc = rt.alloc();
+    for file in files {
+        if LONGEST_FILE < file.name.len() {
+            let path = path_of(alloc, folder, file)?;
+            let error = io::Error::from(ErrorKind::InvalidFilename);
+            return Err(not_written(alloc, path.as_str(), error));
+        }
+    }
+    if let Err(error) = fs::create_dir_all(rt, folder) {
+        return Err(not_written(alloc, folder, error));
+    }
+    for file in files {
+        let path = path_of(alloc, folder, file)?;
+        put_file(rt, path.as_str(), file.bytes.as_slice())?;
+    }
+    Ok(())
+}
+
+/// The path of the file of a group.
+fn path_of(alloc: Global, folder: &str, file: &GroupFile) -> Result<String, Failure> {
+    let Ok(name) = str::from_utf8(file.name.as_slice()) else {
+        return Err(Failure::Memory);
+    };
+    Ok(format!(in alloc; "{folder}/{name}")?)
 }
 
 /// Whether the name is that of something other than a file or a folder, such as a device or a pipe.
@@ -41,7 +76,7 @@ fn is_link(rt: &HostRuntime, name: &str) -> bool {
     }
 }
 
-/// WritesAnswer a file, all or nothing. Through a symbolic link it writes the file that the link leads to.
+/// Writes a file, all or nothing. Through a symbolic link it writes the file that the link leads to.
 fn write_file(rt: &HostRuntime, name: &str, bytes: &[u8]) -> io::Result<()> {
     if is_special(rt, name) {
         return fs::write(rt, name, bytes);
@@ -58,7 +93,7 @@ fn write_file(rt: &HostRuntime, name: &str, bytes: &[u8]) -> io::Result<()> {
     }
 }
 
-/// WritesAnswer a file, all or nothing: it writes a new file beside it and then renames that. An existing file's permissions
+/// Writes a file, all or nothing: it writes a new file beside it and then renames that. An existing file's permissions
 /// are kept.
 fn replace_file(rt: &HostRuntime, name: &str, bytes: &[u8]) -> io::Result<()> {
     let (beside, file) = new_beside(rt, name)?;

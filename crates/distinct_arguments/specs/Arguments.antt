@@ -4,7 +4,7 @@ use Rattle.std.specs.Option.{option_map_or}
 use Rattle.std.specs.List.{find}
 use Rattle.std.specs.Str.{bytes_eq}
 use Rattle.distinct_arguments.specs.Words.{command_of, option_called, has_option, reads_lines, reads_expression, is_help, is_version, is_option, is_standard, Setting, split_option}
-use Rattle.distinct_arguments.specs.Settings.{SeedValue, seed_number, seed_file, OptionValues, default_options, Mistake, no_command, unknown_command, unknown_option, behind_file, no_value, unneeded_value, not_one_expression, lone_field, lone_sum, lone_separator, lone_groups, lone_order, files_and_list, standard_twice, with_flag, with_value}
+use Rattle.distinct_arguments.specs.Settings.{SeedValue, seed_number, seed_file, OptionValues, default_options, Mistake, no_command, unknown_command, unknown_option, behind_file, no_value, unneeded_value, not_one_expression, lone_field, lone_sum, lone_separator, lone_groups, lone_order, lone_unions, counted_groups, lone_folder, two_outputs, files_and_list, standard_twice, with_flag, with_value}
 use Rattle.distinct_arguments.specs.declared.commands.Command.{Command}
 use Rattle.distinct_arguments.specs.declared.commands.Topic.{Topic}
 use Rattle.distinct_arguments.specs.declared.commands.Topic.TheVariants.{Program, Version, Help}
@@ -97,10 +97,28 @@ has_lone_sum _ options = false
 abbrev pub is_separator_lone : OptionValues → Bool
 is_separator_lone options = is_some options.separator && is_none options.field && is_none options.by && is_none options.value
 
--- sketches of groups are written only as lines of hexadecimal digits
+-- sketches of groups are written only as lines of hexadecimal digits, or to files of their own
 abbrev pub has_lone_groups : Command → OptionValues → Bool
-has_lone_groups Sketch options = is_some options.by && not options.hex
+has_lone_groups Sketch options = is_some options.by && not options.hex && is_none options.folder
 has_lone_groups _ options = false
+
+-- what a command does with its files, unless they don't fit to a list of files, or standard input would be read twice
+abbrev pub listed_action : Command → OptionValues → (files : List (List ℕ)) → Action
+listed_action command options files =
+    if is_some options.list && not (length files == 0) then fails files_and_list else
+    if nat_lt 1 (standard_uses command options files) then fails standard_twice else
+    runs command options files
+
+-- .. unless its options for groups don't fit together
+abbrev pub grouped_action : Command → OptionValues → (files : List (List ℕ)) → Action
+grouped_action command options files =
+    if has_lone_groups command options then fails lone_groups else
+    if is_some options.sort && is_none options.by then fails lone_order else
+    if options.groups && not options.hex then fails lone_unions else
+    if options.groups && is_some options.expected then fails counted_groups else
+    if is_some options.folder && is_none options.by then fails lone_folder else
+    if is_some options.folder && is_some options.output then fails two_outputs else
+    listed_action command options files
 
 -- what a command does with its options and files, unless they don't fit together
 abbrev pub run_action : Command → OptionValues → (files : List (List ℕ)) → Action
@@ -109,11 +127,7 @@ run_action command options files =
     if has_lone_field command options then fails lone_field else
     if has_lone_sum command options then fails lone_sum else
     if is_separator_lone options then fails lone_separator else
-    if has_lone_groups command options then fails lone_groups else
-    if is_some options.sort && is_none options.by then fails lone_order else
-    if is_some options.list && not (length files == 0) then fails files_and_list else
-    if nat_lt 1 (standard_uses command options files) then fails standard_twice else
-    runs command options files
+    grouped_action command options files
 
 -- .. if no file looks like an option
 abbrev pub files_action : Command → OptionValues → (files : List (List ℕ)) → Action

@@ -10,7 +10,7 @@ use Rattle.distinct_arguments.specs.declared.options.Form.{Form}
 use Rattle.distinct_arguments.specs.declared.options.Order.{Order}
 use Rattle.distinct_arguments.specs.declared.options.Form.TheVariants.{Plain, Tsv as TsvForm, Json as JsonForm}
 use Rattle.distinct_arguments.specs.declared.options.OptionName.{OptionName}
-use Rattle.distinct_arguments.specs.declared.options.OptionName.TheVariants.{LgK, Field, Separator, By, Value, Sort, Seed, SeedFile, FileList, Expect, Progress, Bounds, Tsv, Json, Hex, Output, Keys}
+use Rattle.distinct_arguments.specs.declared.options.OptionName.TheVariants.{LgK, Field, Separator, By, Value, Sort, Groups, Seed, SeedFile, FileList, Expect, Progress, Bounds, Tsv, Json, Hex, Output, OutputDir, Keys}
 
 -- the seed of hashes: a number, or the name of the file that has it
 pub data SeedValue : Type 0 where
@@ -25,11 +25,13 @@ pub record OptionValues : Type 0 where
   pub by : Option ℕ
   pub sort : Option Order
   pub value : Option ℕ
+  pub groups : Bool
   pub seed : SeedValue
   pub hex : Bool
   pub keys : Bool
   pub progress : Bool
   pub output : Option (List ℕ)
+  pub folder : Option (List ℕ)
   pub list : Option (List ℕ)
   pub expected : Option ℕ
   pub bounds : Option Deviations
@@ -44,11 +46,13 @@ default_options = record {
   by = None;
   sort = None;
   value = None;
+  groups = false;
   seed = seed_number 9001;
   hex = false;
   keys = false;
   progress = false;
   output = None;
+  folder = None;
   list = None;
   expected = None;
   bounds = None;
@@ -90,6 +94,10 @@ pub data Mistake : Type 0 where
   lone_separator : Mistake
   lone_groups : Mistake
   lone_order : Mistake
+  lone_unions : Mistake
+  counted_groups : Mistake
+  lone_folder : Mistake
+  two_outputs : Mistake
   files_and_list : Mistake
   standard_twice : Mistake
 
@@ -98,6 +106,7 @@ abbrev pub with_flag : OptionValues → OptionName → Option OptionValues
 with_flag options Progress = Some (record options { progress = true })
 with_flag options Hex = Some (record options { hex = true })
 with_flag options Keys = Some (record options { keys = true })
+with_flag options Groups = Some (record options { groups = true })
 with_flag options Tsv = Some (record options { form = TsvForm })
 with_flag options Json = Some (record options { form = JsonForm })
 with_flag options Bounds = Some (record options { bounds = Some Two })
@@ -122,4 +131,5 @@ with_value options FileList name value = Ok (record options { list = Some value 
 with_value options Expect name value = value_or wrong_count (λ n. record options { expected = Some n }) (number_of 1 4294967295 value)
 with_value options Bounds name value = value_or wrong_deviations (λ d. record options { bounds = Some d }) (deviations_of value)
 with_value options Output name value = Ok (record options { output = Some value })
+with_value options OutputDir name value = Ok (record options { folder = Some value })
 with_value options _ name value = Err (unneeded_value name)

@@ -13,7 +13,7 @@ use Rattle.distinct_arguments.specs.declared.commands.Operator.TheVariants.{Unio
 use Rattle.distinct_arguments.specs.declared.options.OptionName.{OptionName}
 use Rattle.distinct_arguments.specs.declared.options.Order.{Order}
 use Rattle.distinct_arguments.specs.declared.options.Order.TheVariants.{Name, Estimate}
-use Rattle.distinct_arguments.specs.declared.options.OptionName.TheVariants.{LgK, Field, Separator, By, Sort, Value, Seed, SeedFile, FileList, Expect, Progress, Bounds, Tsv, Json, Hex, Output, Keys}
+use Rattle.distinct_arguments.specs.declared.options.OptionName.TheVariants.{LgK, Field, Separator, By, Sort, Groups, Value, Seed, SeedFile, FileList, Expect, Progress, Bounds, Tsv, Json, Hex, Output, OutputDir, Keys}
 
 -- the bytes of words
 abbrev pub words_of : {A : Type 0} → List (String A) → List (List ℕ)
@@ -70,6 +70,7 @@ option_called name =
     if bytes_eq name (codes "--by") then Some By else
     if bytes_eq name (codes "--sort") then Some Sort else
     if bytes_eq name (codes "--value") then Some Value else
+    if bytes_eq name (codes "--groups") then Some Groups else
     if bytes_eq name (codes "--seed") then Some Seed else
     if bytes_eq name (codes "--seed-file") then Some SeedFile else
     if bytes_eq name (codes "--files0-from") then Some FileList else
@@ -80,6 +81,7 @@ option_called name =
     if bytes_eq name (codes "--json") then Some Json else
     if bytes_eq name (codes "--hex") then Some Hex else
     if bytes_eq name (codes "--output") then Some Output else
+    if bytes_eq name (codes "--output-dir") then Some OutputDir else
     if bytes_eq name (codes "--keys") then Some Keys else None
 
 -- the commands that read lines from any files or standard input, those that read an expression, and those that print counts
@@ -116,10 +118,18 @@ makes_sketches Count = true
 makes_sketches Sketch = true
 makes_sketches _ = false
 
--- the command that prints groups, in an order
+-- the command that prints groups, in an order; the one that unites the images of groups; and the one that writes a file for each group
 abbrev pub has_order : Command → Bool
 has_order Count = true
 has_order _ = false
+
+abbrev pub has_united_groups : Command → Bool
+has_united_groups (Combine Union) = true
+has_united_groups _ = false
+
+abbrev pub has_folder : Command → Bool
+has_folder Sketch = true
+has_folder _ = false
 
 -- the commands that have `--field`, those that have `--lg-k`, and those that have `--expect`
 abbrev pub has_field : Command → Bool
@@ -165,6 +175,7 @@ has_option command Separator = has_field command
 has_option command By = makes_sketches command
 has_option command Sort = has_order command
 has_option command Value = sums_numbers command
+has_option command Groups = has_united_groups command
 has_option command Progress = makes_sketches command
 has_option command Seed = true
 has_option command SeedFile = true
@@ -175,6 +186,7 @@ has_option command Tsv = prints_counts command || sums_numbers command
 has_option command Json = prints_counts command || sums_numbers command
 has_option command Hex = has_digits command
 has_option command Output = has_output command
+has_option command OutputDir = has_folder command
 has_option command Keys = reads_expression command
 
 -- the number that a word spells in decimal digits, if it is from the least to the greatest

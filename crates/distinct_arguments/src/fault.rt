@@ -50,10 +50,18 @@ pub enum Fault {
     LoneSum,
     /// There is `--separator` without `--field` and without `--by`.
     LoneSeparator,
-    /// `sketch` has `--by` without `--hex`.
+    /// `sketch` has `--by` without `--hex` and without `--output-dir`.
     LoneGroups,
     /// There is `--sort` without `--by`.
     LoneOrder,
+    /// There is `--groups` without `--hex`.
+    LoneUnions,
+    /// There are `--groups` and `--expect`.
+    CountedGroups,
+    /// There is `--output-dir` without `--by`.
+    LoneFolder,
+    /// There are `--output` and `--output-dir`.
+    TwoOutputs,
     /// There are `--files0-from` and a file.
     FilesAndList,
     /// Standard input would be read twice.
@@ -194,8 +202,12 @@ impl fmt::Display for Fault {
             Fault::LoneField => write!(f, "--field needs --keys"),
             Fault::LoneSum => write!(f, "sum needs --value N, the field of its numbers"),
             Fault::LoneSeparator => write!(f, "--separator needs --field or --by"),
-            Fault::LoneGroups => write!(f, "--by needs --hex"),
+            Fault::LoneGroups => write!(f, "--by needs --hex or --output-dir"),
             Fault::LoneOrder => write!(f, "--sort orders groups: pass --by N too"),
+            Fault::LoneUnions => write!(f, "--groups needs --hex"),
+            Fault::CountedGroups => write!(f, "--expect counts images without --groups"),
+            Fault::LoneFolder => write!(f, "--output-dir needs --by"),
+            Fault::TwoOutputs => write!(f, "--output and --output-dir exclude each other"),
             Fault::FilesAndList => write!(f, "files are named by arguments and by --files0-from"),
             Fault::StandardTwice => write!(f, "standard input would be read twice"),
             Fault::Memory => write!(f, "out of memory"),

@@ -3,7 +3,7 @@ ghost use Rattle.std.specs.Prelude.{◌≡◌, ◌≤◌, ◌+◌, nat_lt, strin
 ghost use Rattle.std.specs.Option.{option_map};
 ghost use Rattle.std.specs.List.{find};
 ghost use Rattle.distinct_arguments.specs.Arguments.{standard_files, standard_uses, is_standard_seed, is_standard_list};
-ghost use Rattle.distinct_arguments.specs.Arguments.{is_standard_default, has_one_expression, has_lone_sum, is_separator_lone, has_lone_groups, run_action, files_action};
+ghost use Rattle.distinct_arguments.specs.Arguments.{is_standard_default, has_one_expression, has_lone_sum, is_separator_lone, has_lone_groups, run_action, grouped_action, listed_action, files_action};
 ghost use Rattle.distinct_arguments.specs.Faults.{options_of, seed_value, ParsesAs};
 ghost use Rattle.distinct_arguments.specs.Words.{is_option, is_standard, reads_lines, reads_expression, words_of};
 
@@ -113,12 +113,12 @@ fn is_read_twice(command: Command, options: &Options<'_>, files: &[String]) -> b
     is_repeated(seed + list + default, files)
 }
 
-/// Whether a command would write sketches of groups as bytes.
+/// Whether a command would write sketches of groups as bytes one after another.
 fn has_lone_groups(command: Command, options: &Options<'_>) -> bool
     ensures { result ≡ has_lone_groups command (options_of options.now) }
 {
     match command {
-        Command::Sketch => options.by.is_some() && !options.hex,
+        Command::Sketch => { options.by.is_some() && !options.hex && options.folder.is_none() }
         _ => false,
     }
 }
@@ -141,6 +141,52 @@ fn is_separator_lone(options: &Options<'_>) -> bool
     options.separator.is_some() && !has_field
 }
 
+/// The request to run a command on files, if these fit to a list of files, and standard input is read once.
+fn listed_request<'a>(
+    command: Command,
+    options: Options<'a>,
+    files: &'a [String],
+) -> Result<Request<'a>, Fault>
+    ensures { ParsesAs result (listed_action command (options_of options.entry) (words_of files.now)) }
+{
+    if options.list.is_some() && !files.is_empty() {
+        return Err(Fault::FilesAndList);
+    }
+    if is_read_twice(command, &options, files) {
+        return Err(Fault::StandardTwice);
+    }
+    Ok(Request::Run(command, options, files))
+}
+
+/// The request to run a command on files, if its options for groups fit together, and the files fit to them.
+fn grouped_request<'a>(
+    command: Command,
+    options: Options<'a>,
+    files: &'a [String],
+) -> Result<Request<'a>, Fault>
+    ensures { ParsesAs result (grouped_action command (options_of options.entry) (words_of files.now)) }
+{
+    if has_lone_groups(command, &options) {
+        return Err(Fault::LoneGroups);
+    }
+    if options.sort.is_some() && options.by.is_none() {
+        return Err(Fault::LoneOrder);
+    }
+    if options.groups && !options.hex {
+        return Err(Fault::LoneUnions);
+    }
+    if options.groups && options.expected.is_some() {
+        return Err(Fault::CountedGroups);
+    }
+    if options.folder.is_some() && options.by.is_none() {
+        return Err(Fault::LoneFolder);
+    }
+    if options.folder.is_some() && options.output.is_some() {
+        return Err(Fault::TwoOutputs);
+    }
+    listed_request(command, options, files)
+}
+
 /// The request to run a command on files, if its options and the files fit together.
 pub(crate) fn run_request<'a>(
     command: Command,
@@ -161,19 +207,7 @@ pub(crate) fn run_request<'a>(
     if is_separator_lone(&options) {
         return Err(Fault::LoneSeparator);
     }
-    if has_lone_groups(command, &options) {
-        return Err(Fault::LoneGroups);
-    }
-    if options.sort.is_some() && options.by.is_none() {
-        return Err(Fault::LoneOrder);
-    }
-    if options.list.is_some() && !files.is_empty() {
-        return Err(Fault::FilesAndList);
-    }
-    if is_read_twice(command, &options, files) {
-        return Err(Fault::StandardTwice);
-    }
-    Ok(Request::Run(command, options, files))
+    grouped_request(command, options, files)
 }
 
 /// The first file that looks like an option.

@@ -67,6 +67,8 @@ distinct sketch [OPTION..] [FILE..]: writes the sketch of the files' lines as an
   --field N           a line's key is its field N, from 1, as cut has it
   --by N              with --hex: sketch the lines of each group, which have the same field N, and
                       write a line per group: its name, a tab, its image; in ascending order
+  --output-dir DIR    with --by: write the image of each group to a file of its own in DIR, which is
+                      made if it is missing: DIR/GROUP.theta
   --separator C       the byte between fields, with --field or --by; default a tab
   --seed N            the seed of the hashes, from 0 to 2^64 - 1; default 9001
   --seed-file FILE    the seed is the number in FILE, and not in the process list
@@ -87,6 +89,8 @@ distinct union [OPTION..] IMAGE..: writes the sketch of the lines that any of th
   --files0-from FILE  the names of the files are in FILE, each ended by a NUL byte
   --expect N          fail if there are not N images; N from 1 to 2^32 - 1
   --hex               images in hexadecimal, one per line, in and out
+  --groups            with --hex: a line has the name of a group, a tab and an image, as those that
+                      sketch writes of groups; unite them by group, and write such a line per group
   --output FILE       write to FILE, all or nothing, instead of standard output
 ";
 

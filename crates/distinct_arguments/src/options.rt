@@ -13,6 +13,7 @@ pub enum OptionName {
     By,
     Sort,
     Value,
+    Groups,
     Seed,
     SeedFile,
     FileList,
@@ -23,6 +24,7 @@ pub enum OptionName {
     Json,
     Hex,
     Output,
+    OutputDir,
     Keys,
 }
 
@@ -66,6 +68,8 @@ pub struct Options<'a> {
     pub sort: Option<Order>,
     /// The number of the field that has the number of a line, from 1, or `None` if no numbers are read.
     pub value: Option<u32>,
+    /// Whether images are united by the groups of their lines.
+    pub groups: bool,
     pub seed: Seed<'a>,
     /// Whether images are in hexadecimal digits.
     pub hex: bool,
@@ -75,6 +79,8 @@ pub struct Options<'a> {
     pub progress: bool,
     /// The file to which the image is written, or `None` for standard output.
     pub output: Option<&'a str>,
+    /// The folder to which the image of each group is written, if there is one.
+    pub folder: Option<&'a str>,
     /// The file that has the names of the files, each ended by a NUL byte.
     pub list: Option<&'a str>,
     /// The number of images that are expected, from 1 to 2^32 - 1 if it was read from arguments.

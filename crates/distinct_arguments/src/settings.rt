@@ -28,11 +28,13 @@ impl<'a> Options<'a> {
             by: None,
             sort: None,
             value: None,
+            groups: false,
             seed: Seed::Number(DEFAULT_UPDATE_SEED),
             hex: false,
             keys: false,
             progress: false,
             output: None,
+            folder: None,
             list: None,
             expected: None,
             bounds: None,
@@ -82,6 +84,7 @@ pub(crate) fn with_flag<'a>(options: Options<'a>, option: OptionName) -> Option<
         OptionName::Json => changed.form = Form::Json,
         OptionName::Hex => changed.hex = true,
         OptionName::Keys => changed.keys = true,
+        OptionName::Groups => changed.groups = true,
         OptionName::Bounds => changed.bounds = Some(Deviations::Two),
         _ => return None,
     }
@@ -140,6 +143,7 @@ pub(crate) fn with_value<'a>(
         OptionName::SeedFile => changed.seed = Seed::File(value),
         OptionName::FileList => changed.list = Some(value),
         OptionName::Output => changed.output = Some(value),
+        OptionName::OutputDir => changed.folder = Some(value),
         _ => return Err(unneeded_value(alloc, name)),
     }
     Ok(changed)

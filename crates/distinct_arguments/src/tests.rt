@@ -56,6 +56,9 @@ fn push_names(text: &mut String, options: &Options<'_>) -> Result<(), AllocError
     if let Some(name) = options.output {
         write!(text, " output={name}")?;
     }
+    if let Some(name) = options.folder {
+        write!(text, " folder={name}")?;
+    }
     Ok(())
 }
 
@@ -63,6 +66,9 @@ fn push_names(text: &mut String, options: &Options<'_>) -> Result<(), AllocError
 fn push_flags(text: &mut String, options: &Options<'_>) -> Result<(), AllocError> {
     if options.hex {
         text.push_str(" hex")?;
+    }
+    if options.groups {
+        text.push_str(" groups")?;
     }
     if options.keys {
         text.push_str(" keys")?;
@@ -153,6 +159,8 @@ count --field 1 a => Count field=1 | a
 sketch --field=4294967295 a => Sketch field=4294967295 | a
 count --field 2 --separator ; a => Count field=2 separator=59 | a
 count --by 4 --separator ; a => Count by=4 separator=59 | a
+union --hex --groups a => Combine(Union) hex groups | a
+sketch --by 1 --output-dir=d a => Sketch by=1 folder=d | a
 count --by 1 --sort estimate a => Count by=1 sort=Estimate | a
 count --sort=estimate --sort=name --by=1 a => Count by=1 sort=Name | a
 count --separator== --field=2 a => Count field=2 separator=61 | a
@@ -264,6 +272,8 @@ minus --expect 2 a b => UnknownOption(\"--expect\")
 show --progress a => UnknownOption(\"--progress\")
 show --output o a => UnknownOption(\"--output\")
 show --by 1 => UnknownOption(\"--by\")
+meet --hex --groups a => UnknownOption(\"--groups\")
+union --output-dir d a => UnknownOption(\"--output-dir\")
 sketch --by 1 --hex --sort name => UnknownOption(\"--sort\")
 show --separator => UnknownOption(\"--separator\")
 count --keys a => UnknownOption(\"--keys\")
@@ -311,6 +321,11 @@ sketch --by 1 a => LoneGroups
 sketch --by 1 --hex a => Sketch by=1 hex | a
 count --sort estimate a => LoneOrder
 count --sort name --field 1 a => LoneOrder
+union --groups a => LoneUnions
+union --groups --hex --expect 2 a => CountedGroups
+sketch --output-dir d a => LoneFolder
+sketch --by 1 --output-dir d --output o a => TwoOutputs
+sketch --by 1 --output-dir d --hex a => Sketch by=1 folder=d hex | a
 sketch --separator=; => LoneSeparator
 count --files0-from l a => FilesAndList
 union --files0-from l -- a => FilesAndList
@@ -373,7 +388,7 @@ fn reads_each_row(rt: HostRuntime) -> Result<(), Fail> {
             count = count.saturating_add(1);
         }
     }
-    assert_eq!(rt; count, 236);
+    assert_eq!(rt; count, 245);
     Ok(())
 }
 
@@ -445,7 +460,17 @@ const MESSAGES: &[(&str, &str)] = &[
         "--expect takes a number from 1 to 4294967295",
     ),
     ("count --separator ;", "--separator needs --field or --by"),
-    ("sketch --by 1", "--by needs --hex"),
+    ("sketch --by 1", "--by needs --hex or --output-dir"),
+    ("union --groups", "--groups needs --hex"),
+    (
+        "union --groups --hex --expect 2",
+        "--expect counts images without --groups",
+    ),
+    ("sketch --output-dir d", "--output-dir needs --by"),
+    (
+        "sketch --by 1 --output-dir d --output o",
+        "--output and --output-dir exclude each other",
+    ),
     ("count --by 1 --sort size", "--sort takes name or estimate"),
     ("count --sort name", "--sort orders groups: pass --by N too"),
     (
@@ -510,6 +535,7 @@ fn helps_with_each_option(rt: HostRuntime) {
             "--by",
             "--sort",
             "--value",
+            "--groups",
             "--seed",
             "--seed-file",
             "--files0-from",
@@ -520,6 +546,7 @@ fn helps_with_each_option(rt: HostRuntime) {
             "--json",
             "--hex",
             "--output",
+            "--output-dir",
             "--keys",
         ] {
             let has = match option_called(name) {

@@ -73,6 +73,7 @@ pub fn option_called(name: &str) -> Option<OptionName>
         "--by" => Some(OptionName::By),
         "--sort" => Some(OptionName::Sort),
         "--value" => Some(OptionName::Value),
+        "--groups" => Some(OptionName::Groups),
         "--seed" => Some(OptionName::Seed),
         "--seed-file" => Some(OptionName::SeedFile),
         "--files0-from" => Some(OptionName::FileList),
@@ -83,6 +84,7 @@ pub fn option_called(name: &str) -> Option<OptionName>
         "--json" => Some(OptionName::Json),
         "--hex" => Some(OptionName::Hex),
         "--output" => Some(OptionName::Output),
+        "--output-dir" => Some(OptionName::OutputDir),
         "--keys" => Some(OptionName::Keys),
         _ => None,
     }
@@ -110,6 +112,7 @@ pub fn has_option(command: Command, option: OptionName) -> bool
         OptionName::By => makes_sketch,
         OptionName::Sort => command == Command::Count,
         OptionName::Value => is_sum,
+        OptionName::Groups => command == Command::Combine(Operator::Union),
         OptionName::Progress => makes_sketch,
         OptionName::Keys => is_eval,
         OptionName::FileList => !is_eval && command != Command::Combine(Operator::Minus),
@@ -122,6 +125,7 @@ pub fn has_option(command: Command, option: OptionName) -> bool
         OptionName::Json => shows_counts || is_eval || is_sum,
         OptionName::Hex => { command != Command::Count && command != Command::Visits && !is_sum }
         OptionName::Output => !shows_counts && !is_sum,
+        OptionName::OutputDir => command == Command::Sketch,
     }
 }
 

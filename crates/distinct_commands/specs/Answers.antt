@@ -12,6 +12,7 @@ use Rattle.line_sketches.specs.Keys.{value_of_lines, sketch_of_value}
 use Rattle.line_sketches.specs.Shards.{values_of_sketches, AreRead}
 use Rattle.line_sketches.specs.Unions.{IsUnitedImage}
 use Rattle.distinct_arguments.specs.Settings.{OptionValues, chosen_group, chosen_value}
+use Rattle.grouped_lines.specs.United.{IsUnitedText}
 use Rattle.distinct_arguments.specs.Arguments.{Action, prints, runs, fails}
 use Rattle.distinct_commands.specs.Failures.{called, chosen_hashing}
 use Rattle.distinct_commands.specs.Evaluations.{IsEvaluatedOf}
@@ -103,12 +104,23 @@ abbrev pub IsSketchOf : (by : Option Key) → OptionValues → (seed : ℕ) → 
 IsSketchOf None options seed texts out = out ≡ in_form options.hex (written (sketch_of options seed texts))
 IsSketchOf (Some by) options seed texts out = IsGroupedText true options seed by texts out
 
+-- images are united by the groups of their lines
+abbrev pub unites_groups : Operator → OptionValues → Bool
+unites_groups Union options = options.groups
+unites_groups Meet options = false
+unites_groups Minus options = false
+
+-- what an operator writes of the images in files: an image, or a line for each group with its image
+abbrev pub IsCombinedText : (by_groups : Bool) → Operator → OptionValues → (seed : ℕ) → (texts : List (List ℕ)) → List ℕ → Type 0
+IsCombinedText false operator options seed texts out =
+    (image : List ℕ) × IsCombinedOf operator options seed texts image × (out ≡ in_form options.hex image)
+IsCombinedText true operator options seed texts out = IsUnitedText seed options.lg_k (lines_of_all texts) out
+
 -- what a command writes for files of these names and texts; the only name of `eval` is its expression
 abbrev pub IsCommandAnswer : Command → OptionValues → (seed : ℕ) → (names texts : List (List ℕ)) → List ℕ → Type 0
 IsCommandAnswer Count options seed names texts out = IsCountOf (chosen_group options) options seed texts out
 IsCommandAnswer Sketch options seed names texts out = IsSketchOf (chosen_group options) options seed texts out
-IsCommandAnswer (Combine operator) options seed names texts out =
-    (image : List ℕ) × IsCombinedOf operator options seed texts image × (out ≡ in_form options.hex image)
+IsCommandAnswer (Combine operator) options seed names texts out = IsCombinedText (unites_groups operator options) operator options seed texts out
 IsCommandAnswer Show options seed names texts out = IsShownOf options seed names texts out
 IsCommandAnswer Eval options seed names texts out = IsEvaluatedOf options seed names texts out
 IsCommandAnswer Visits options seed names texts out = out ≡ visits_text options (visits_of options seed texts)

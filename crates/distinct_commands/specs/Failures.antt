@@ -16,8 +16,10 @@ use Rattle.distinct_arguments.specs.declared.commands.Command.{Command}
 use Rattle.distinct_arguments.specs.declared.commands.Command.TheVariants.{Count, Sketch, Combine, Eval, Visits, Sum}
 use Rattle.distinct_arguments.specs.declared.commands.Operator.{Operator}
 use Rattle.distinct_arguments.specs.declared.commands.Operator.TheVariants.{Minus}
+use Rattle.grouped_lines.specs.declared.united.LineFlaw.{LineFlaw}
+use Rattle.grouped_lines.specs.declared.united.LineFlaw.TheVariants.{NoTab as NoTabAtAll, NoHex as NoDigits, NoImage}
 use Rattle.distinct_commands.specs.declared.failure.Failure.{Failure}
-use Rattle.distinct_commands.specs.declared.failure.Failure.TheVariants.{NotText, Arguments, NoFiles, NotTwo, NoExpression, NoName, Terminal, WrongCount, NotOneEach, Memory, Unreadable, NoSketch, NoHex, NoLine, PastGreatest, NotANumber, NotWritten}
+use Rattle.distinct_commands.specs.declared.failure.Failure.TheVariants.{NotText, Arguments, NoFiles, NotTwo, NoExpression, NoName, Terminal, WrongCount, NotOneEach, Memory, Unreadable, NoSketch, NoHex, NoTab, NoLine, PastGreatest, NotANumber, NotWritten}
 
 -- the exit status: 2 if the arguments are wrong, else 1
 abbrev pub failure_status : Failure → ℕ
@@ -59,6 +61,14 @@ ReportsNoSketch images (NoHex file number) =
 ReportsNoSketch images (NoLine file) = (string_bytes file ≡ called images.inputs.current.now) × ((images.hex && images.line == 0) ≡ true)
 ReportsNoSketch images _ = ⊥
 
+-- memory was refused, or the line of this number of the file of this name has this flaw
+abbrev pub ReportsFlawed : (name : List ℕ) → (number : ℕ) → LineFlaw → Failure → Type 0
+ReportsFlawed name number flaw Memory = ⊤
+ReportsFlawed name number flaw (NoTab file line) = (string_bytes file ≡ name) × (line ≡ number) × (flaw ≡ NoTabAtAll)
+ReportsFlawed name number flaw (NoHex file line) = (string_bytes file ≡ name) × (line ≡ number) × (flaw ≡ NoDigits)
+ReportsFlawed name number flaw (NoSketch file line kind) = (string_bytes file ≡ name) × (line ≡ number) × (flaw ≡ NoImage kind)
+ReportsFlawed name number flaw _ = ⊥
+
 -- memory was refused, or the output of this name failed, for this reason
 abbrev pub ReportsNotWritten : (name : List ℕ) → Error → Failure → Type 0
 ReportsNotWritten name error Memory = ⊤
@@ -75,6 +85,7 @@ IsOfReading _ = ⊥
 abbrev pub IsOfImages : Failure → Type 0
 IsOfImages (NoSketch name line flaw) = ⊤
 IsOfImages (NoHex name line) = ⊤
+IsOfImages (NoTab name line) = ⊤
 IsOfImages (NoLine name) = ⊤
 IsOfImages failure = IsOfReading failure
 

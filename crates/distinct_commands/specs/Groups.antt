@@ -3,13 +3,13 @@ use Rattle.std.specs.Prelude.{ℕ, ◌≡◌, ◌++◌, Bool, true, false, List,
 use Rattle.std.specs.Str.Lossy.{utf8_lossy}
 use Rattle.core_compact.specs.CompactState.{Compact}
 use Rattle.theta_sketches.specs.Image.{written}
-use Rattle.line_sketches.specs.Hex.{hex_of}
 use Rattle.reports.specs.declared.report.Report.{Report}
 use Rattle.reports.specs.Forms.{count_line, json_line, tsv_row}
 use Rattle.lines.specs.Lines.{lines_of_all}
 use Rattle.lines.specs.declared.key.Key.{Key}
 use Rattle.grouped_lines.specs.Groups.{AreGroups, group_sketch}
 use Rattle.grouped_lines.specs.Ranked.{AreRanked}
+use Rattle.grouped_lines.specs.United.{image_line}
 use Rattle.grouped_lines.specs.declared.groups.Grouping.{Grouping}
 use Rattle.distinct_arguments.specs.Settings.{OptionValues}
 use Rattle.distinct_arguments.specs.declared.options.Order.{Order}
@@ -37,7 +37,7 @@ group_text options name s = grouped_in options.form (is_some options.bounds) nam
 -- the line of a group: its count, or its image as a line has it, behind its name as it is and a tab
 abbrev pub group_line : (images : Bool) → OptionValues → (name : List ℕ) → Compact ℕ → List ℕ
 group_line false options name s = group_text options name s
-group_line true options name s = name ++ codes "\t" ++ hex_of (written s) ++ codes "\n"
+group_line true options name s = image_line name (written s)
 
 -- the lines of the groups of lines that have these names, each with the sketch of its own lines
 abbrev pub groups_text : (images : Bool) → OptionValues → Grouping → (lines names : List (List ℕ)) → List ℕ

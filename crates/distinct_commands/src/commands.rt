@@ -19,6 +19,7 @@ use crate::output::put;
 use crate::remarks::Console;
 use crate::show::{count_text, show_inputs};
 use crate::sums::sum_inputs;
+use crate::united::{unite_inputs, unites_groups};
 use crate::visits::visit_inputs;
 use distinct_arguments::{Command, Options, Request, text_of};
 use line_sketches::{Sources, Unread, hex_line, image_of, sketch_sources};
@@ -103,6 +104,9 @@ fn answer_of<S: Sources + Drop, C: Console>(
         Command::Combine(operator) => {
             if files.is_empty() {
                 return Err(Failure::NoFiles);
+            }
+            if unites_groups(operator, options) {
+                return unite_inputs(alloc, options, seed, inputs, console);
             }
             let count = files.len();
             let combined = combine_inputs(alloc, options, seed, count, inputs, operator, console)?;

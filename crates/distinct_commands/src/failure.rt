@@ -45,6 +45,8 @@ pub enum Failure {
     NoSketch(String, u64, Flaw),
     /// A line of this number, from 1, is not hexadecimal.
     NoHex(String, u64),
+    /// A line of this number, from 1, has no tab, and so no image of a group.
+    NoTab(String, u64),
     /// A file that should have an image in each line has no line.
     NoLine(String),
     /// The line of this number, from 1, of a file would make the sum of its key 2^64 or more.
@@ -270,6 +272,11 @@ impl fmt::Display for Failure {
             Failure::NoHex(name, line) => write!(
                 f,
                 "{}: line {line} is not hexadecimal",
+                Named(name)
+            ),
+            Failure::NoTab(name, line) => write!(
+                f,
+                "{}: line {line} has no tab between the name of a group and its image",
                 Named(name)
             ),
             Failure::NoLine(name) => write!(f, "{}: has no line, and so no image", Named(name)),

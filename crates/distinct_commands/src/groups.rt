@@ -7,6 +7,7 @@ ghost use Rattle.grouped_lines.specs.declared.groups.Grouping.{Grouping};
 ghost use Rattle.distinct_arguments.specs.Faults.{options_of};
 ghost use Rattle.distinct_commands.specs.Failures.{IsOfReading};
 ghost use Rattle.grouped_lines.specs.Ranked.{AreRanked};
+ghost use Rattle.grouped_lines.specs.Files.{AreFilesOf};
 ghost use Rattle.distinct_commands.specs.Groups.{grouping_of, group_text, group_line, groups_text, groups_head, IsGroupedText};
 ghost use Rattle.distinct_commands.specs.Groups.{group_estimate, chosen_order, AreOrdered};
 ghost use Rattle.distinct_commands.specs.Texts.{report_by};
@@ -18,8 +19,10 @@ use crate::inputs::Inputs;
 use crate::remarks::Console;
 use crate::show::{chosen_deviations, head_of};
 use distinct_arguments::{Form, Options, Order};
-use grouped_lines::{Group, Grouping, Groups, Ranked, group_sources, ranked_text};
-use line_sketches::{Sources, Unread, hex_line};
+use grouped_lines::{
+    Group, GroupFile, Grouping, Groups, Ranked, files_of, group_sources, image_line, ranked_text,
+};
+use line_sketches::{Sources, Unread};
 use lines::{Hashing, Key};
 use reports::{count_line, json_line, report_of, tsv_row};
 use std::alloc::{AllocError, Global};
@@ -71,11 +74,7 @@ fn group_line(
         return Ok(group_text(alloc, options, name, sketch)?);
     }
     let image = image_to_put(sketch)?;
-    let digits = hex_line(alloc, image.as_slice())?;
-    let mut text = Vec::from_slice(alloc, name)?;
-    text.push(b'\t')?;
-    text.extend_from_slice(digits.as_slice())?;
-    Ok(text)
+    Ok(image_line(alloc, name, image.as_slice())?)
 }
 
 /// The lines of groups, one after another. It fails if memory is refused.
@@ -213,6 +212,28 @@ pub fn print_groups<S: Sources + Drop, C: Console>(
     let mut printed = head.into_bytes();
     printed.extend_from_slice(lines.as_slice())?;
     Ok(printed)
+}
+
+/// The file of each group of the lines of all sources in turn, by this key. It fails if memory is refused or a source can't
+/// be read.
+pub fn group_files<S: Sources + Drop, C: Console>(
+    alloc: Global,
+    options: &Options<'_>,
+    seed: u64,
+    by: Key,
+    inputs: Inputs<'_, S>,
+    console: &mut C,
+) -> Result<Vec<GroupFile>, Failure>
+    requires seeded { seed_hash seed ≢ 0 }
+    ensures files { IfSome (S.texts inputs.entry.sources) (λ texts.
+        IfOk result (λ v. AreFilesOf options.now.hex (grouping_of (options_of options.now) seed by) (lines_of_all texts) v.items)) }
+    ensures failed { IfErr result IsOfReading }
+{
+    let mut groups = read_groups(alloc, options, seed, by, inputs, console)?;
+    match files_of(alloc, options.hex, &mut groups) {
+        Ok(files) => Ok(files),
+        Err(error) => Err(out_of_memory(error)),
+    }
 }
 
 /// The groups of the lines of all sources in turn, by this key. It fails if memory is refused or a source can't be read.

@@ -24,12 +24,14 @@ mod remarks;
 mod seeds;
 mod show;
 mod sums;
+mod united;
 mod visits;
 
 pub use commands::{answer, perform};
 pub use eval::{Expression, expression_in};
 pub use failure::{Failure, family_name};
-pub use inputs::{Files, Input, files_in_list};
+pub use groups::group_files;
+pub use inputs::{Files, Input, Inputs, files_in_list};
 pub use lists::{Unlisted, names_in};
 pub use output::{not_written, put};
 pub use remarks::{Coarser, Console, Remark};

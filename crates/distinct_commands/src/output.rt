@@ -4,11 +4,12 @@ ghost use Rattle.std.specs.Io.KnownBytes.{Appends};
 ghost use Rattle.distinct_commands.specs.Failures.{IsOfWriting, ReportsNotWritten};
 
 use crate::failure::Failure;
+use grouped_lines::GroupFile;
 use std::alloc::Global;
 use std::io;
 use std::io::Write;
 
-/// WritesAnswer bytes to a writer, which has this name in messages.
+/// Writes bytes to a writer, which has this name in messages.
 pub fn put<W: Write>(alloc: Global, writer: &mut W, name: &str, bytes: &[u8]) -> Result<(), Failure>
     ensures written { OnOk result (Appends (W.contents writer.old) (W.contents writer.new) bytes.now) }
     ensures failed { IfErr result (IsOfWriting name.now) }

@@ -4,3 +4,10 @@ pub mod LinesInGroups
 pub mod Entries
 pub mod ReadInTurn
 pub mod Ranking
+pub mod LastTabs
+pub mod ImagesInGroups
+pub mod UnitedInTurn
+pub mod WrittenImages
+pub mod PartsUnite
+pub mod FileNames
+pub mod GroupFiles

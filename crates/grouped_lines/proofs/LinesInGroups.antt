@@ -25,7 +25,7 @@ pub lines_of_more : (texts : List (List ℕ)) (text : List ℕ) → lines_of_all
 lines_of_more [] text = append-nil (lines_of text)
 lines_of_more (first ∷ texts) text = ap (λ ls. lines_of first ++ ls) (lines_of_more texts text) ∙ sym (append_assoc (lines_of first) (lines_of_all texts) (lines_of text))
 
-filter_more : (test : List ℕ → Bool) (lines : List (List ℕ)) (line : List ℕ) → filter test (lines ++ line ∷ []) ≡ cond (test line) (filter test lines ++ line ∷ []) (filter test lines)
+pub filter_more : (test : List ℕ → Bool) (lines : List (List ℕ)) (line : List ℕ) → filter test (lines ++ line ∷ []) ≡ cond (test line) (filter test lines ++ line ∷ []) (filter test lines)
 filter_more test [] line = refl
 filter_more test (first ∷ lines) line =
     ap (λ ls. cond (test first) (first ∷ ls) ls) (filter_more test lines line)

@@ -16,10 +16,18 @@
 #![tactic(auto)]
 
 mod fields;
+mod files;
 mod groups;
+pub mod laws;
 mod ranked;
 mod reading;
+mod tabs;
+mod united;
+mod uniting;
 
+pub use files::{GroupFile, file_name, files_of};
 pub use groups::{Group, Grouping, Groups};
 pub use ranked::{Ranked, ranked_text};
 pub use reading::{GroupWatch, group_sources};
+pub use united::{LineFlaw, UnitedGroup, UnitedGroups, image_line};
+pub use uniting::{Ununited, unite_groups, united_text};

@@ -24,7 +24,7 @@ pub trait GroupWatch {
 }
 
 /// A text without the LF at its end, if it has one.
-fn without_lf(text: &[u8]) -> &[u8]
+pub(crate) fn without_lf(text: &[u8]) -> &[u8]
     ensures { result.now ≡ without_lf text.now }
 {
     match text.split_last() {
@@ -35,7 +35,7 @@ fn without_lf(text: &[u8]) -> &[u8]
 
 /// Reads the next line, with the LF that ends it, into `line`, whose old bytes are dropped. Returns whether there was
 /// one. If the reader fails, its error is returned.
-fn next_line<R: Read>(reader: &mut BufReader<R>, line: &mut Vec<u8>) -> io::Result<bool>
+pub(crate) fn next_line<R: Read>(reader: &mut BufReader<R>, line: &mut Vec<u8>) -> io::Result<bool>
     ensures { IfOk result (ReadsLine
         (reader_remaining R.remaining reader.old)
         (reader_remaining R.remaining reader.new)

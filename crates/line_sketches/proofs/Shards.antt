@@ -55,7 +55,7 @@ module _ (hashing : Hashing) where
   whole-append _ more (ended text) = ap lines_of (append_assoc text (10 ∷ []) more) ∙ ended-append text more
 
   -- the lines of all parts
-  abbrev all_lines : List (List (List ℕ)) → List (List ℕ)
+  abbrev pub all_lines : List (List (List ℕ)) → List (List ℕ)
   all_lines [] = []
   all_lines (part ∷ parts) = part ++ all_lines parts
 

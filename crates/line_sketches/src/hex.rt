@@ -12,8 +12,8 @@ fn digit_letter(digit: u8) -> u8
     if digit < 10 { 48 + digit } else { 87 + digit }
 }
 
-/// Appends the two digits of a byte.
-fn put_byte<A: Allocator>(line: &mut Vec<u8, A>, byte: u8) -> Result<(), AllocError>
+/// Appends the two hexadecimal digits of a byte, in lowercase. The only error is `AllocError`.
+pub fn put_byte<A: Allocator>(line: &mut Vec<u8, A>, byte: u8) -> Result<(), AllocError>
     ensures { OnOk result (line.new.items ≡ line.old.items ++ hex_of (byte ∷ [])) }
 {
     line.push(digit_letter(byte / 16))?;

@@ -23,8 +23,8 @@ mod sources;
 mod uniting;
 
 pub use header::{Flaw, entry_count, flaw_of, image_length};
-pub use hex::{hex_line, read_hex};
+pub use hex::{hex_line, put_byte, read_hex};
 pub use images::{difference, image_of, intersection, read_image};
 pub use sketching::{Unread, Watch, add_lines, finished, new_sketch, sketch_lines};
 pub use sources::{BLOCK, Sources, Texts, add_sources, sketch_sources};
-pub use uniting::{United, image_of_texts, unite_images};
+pub use uniting::{United, add_image, image_of_texts, unite_images, united_image};

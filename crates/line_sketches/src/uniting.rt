@@ -25,9 +25,10 @@ use std::io::Read;
 use theta_sketches::ThetaUnion;
 use theta_sketches::laws::{one_reading, read_again};
 
-/// Adds an image to a union of sketches of this seed. Refused with `InvalidData` if the bytes aren't an image of a theta
-/// sketch of this seed, and with `OutOfMemory`.
-fn add_image<A: Allocator + Clone, B: Allocator + Clone + Drop>(
+/// Adds an image to a union of sketches of this seed. If the union has not failed, it is refused only with `InvalidData`,
+/// if the bytes aren't an image of a theta sketch of this seed, and with `OutOfMemory`. What the union has after a refusal
+/// is unspecified.
+pub fn add_image<A: Allocator + Clone, B: Allocator + Clone + Drop>(
     union: &mut ThetaUnion<A>,
     alloc: B,
     seed: u64,
@@ -91,8 +92,8 @@ fn add_images<A: Allocator + Clone, B: Allocator + Clone + Drop, S: Sources>(
     Err(Unread::Refused(Error::from(AllocError)))
 }
 
-/// The image of the result of a union, ordered.
-fn united_image<A: Allocator + Clone + Drop>(union: &ThetaUnion<A>) -> Result<Vec<u8, A>, Error>
+/// The image of the result of a union, ordered. If the union has not failed, it is refused only with `OutOfMemory`.
+pub fn united_image<A: Allocator + Clone + Drop>(union: &ThetaUnion<A>) -> Result<Vec<u8, A>, Error>
     ensures image { (seed lg_k : ℕ) (images : List (List ℕ))
         → HasUnited seed lg_k images union.now
         → IfOk result (λ v. IsUnitedImage seed lg_k images v.items) }

@@ -1,0 +1,79 @@
+//! What `union` writes of images by groups.
+ghost use Rattle.std.specs.Prelude.{◌≡◌, ◌≢◌, IfOk, IfErr, IfSome};
+ghost use Rattle.sketch_base.specs.Seed.{seed_hash};
+ghost use Rattle.lines.specs.Lines.{lines_of_all};
+ghost use Rattle.grouped_lines.specs.United.{IsUnitedText};
+ghost use Rattle.distinct_arguments.specs.Faults.{options_of};
+ghost use Rattle.distinct_commands.specs.Answers.{unites_groups};
+ghost use Rattle.distinct_commands.specs.Failures.{IsOfImages, ReportsFlawed};
+
+use crate::failure::{Failure, out_of_memory};
+use crate::inputs::Inputs;
+use crate::remarks::{Coarser, Console, Remark};
+use distinct_arguments::{Operator, Options};
+use grouped_lines::{LineFlaw, Ununited, unite_groups, united_text};
+use line_sketches::Sources;
+use std::alloc::Global;
+
+/// Whether images are united by the groups of their lines.
+pub fn unites_groups(operator: Operator, options: &Options<'_>) -> bool
+    ensures { result ≡ unites_groups operator (options_of options.now) }
+{
+    operator == Operator::Union && options.groups
+}
+
+/// The failure for a line of this number, from 1, of the file of this name in messages, which has this flaw.
+fn flawed(alloc: Global, name: &str, line: u64, flaw: LineFlaw) -> Failure
+    ensures reports { ReportsFlawed name.now line flaw result }
+    ensures of_images { IsOfImages result }
+{
+    let Ok(name) = String::from_str(alloc, name) else {
+        return Failure::Memory;
+    };
+    match flaw {
+        LineFlaw::NoTab => Failure::NoTab(name, line),
+        LineFlaw::NoHex => Failure::NoHex(name, line),
+        LineFlaw::NoImage(flaw) => Failure::NoSketch(name, line, flaw),
+    }
+}
+
+/// Remarks that an image retains more hashes than 2^`lg_k`, if one does.
+fn remark_coarser<C: Console>(retained: u64, lg_k: u8, console: &mut C) {
+    if lg_k < 64 && 1u64 << lg_k < retained {
+        console.remark(Remark::Coarser(Coarser {
+            name: "an image",
+            retained,
+            lg_k,
+        }));
+    }
+}
+
+/// A line for each group of all lines, with the image of the union of its images. It fails if memory is refused, a file
+/// can't be read, or a line isn't that of a group with an image.
+pub fn unite_inputs<S: Sources + Drop, C: Console>(
+    alloc: Global,
+    options: &Options<'_>,
+    seed: u64,
+    inputs: Inputs<'_, S>,
+    console: &mut C,
+) -> Result<Vec<u8>, Failure>
+    requires seeded { seed_hash seed ≢ 0 }
+    ensures united { IfSome (S.texts inputs.entry.sources) (λ texts.
+        IfOk result (λ v. IsUnitedText seed options.now.lg_k (lines_of_all texts) v.items)) }
+    ensures failed { IfErr result IsOfImages }
+{
+    let mut inputs = inputs;
+    match unite_groups(alloc, seed, options.lg_k, &mut inputs) {
+        Ok(groups) => {
+            let mut groups = groups;
+            remark_coarser(groups.most_retained(), options.lg_k, console);
+            match united_text(alloc, &mut groups) {
+                Ok(text) => Ok(text),
+                Err(error) => Err(out_of_memory(error)),
+            }
+        }
+        Err(Ununited::Failed(error)) => Err(inputs.unreadable(alloc, error)),
+        Err(Ununited::Flawed(line, flaw)) => Err(flawed(alloc, inputs.name(), line, flaw)),
+        Err(Ununited::Refused(error)) => Err(out_of_memory(error)),
+    }
+}

@@ -1,0 +1,167 @@
+-- Groups of images in lines, and their unions.
+use Rattle.std.specs.Prelude.{ℕ, ◌≡◌, ◌⊎◌, ◌<◌, ⊤, Bool, true, false, List, [], ◌∷◌, ◌++◌, map, Option, Some, None, IfSome, Vec, length, flat_map, unwrap_or, if◌then◌else◌}
+use Rattle.std.specs.List.{filter, AllByRecursion}
+use Rattle.std.specs.List.Sorted.{IsStrictlySortedBy}
+use Rattle.std.specs.BTreeMap.{BTreeMap, get_by}
+use Rattle.std.specs.Ordering.{nat_cmp}
+use Rattle.std.specs.Cmp.Lexicographic.{slice_cmp}
+use Rattle.std.specs.Str.{bytes_eq}
+use Rattle.sketch_base.specs.Seed.{seed_hash}
+use Rattle.sketch_base.specs.declared.error.ErrorKind.{ErrorKind}
+use Rattle.sketch_base.specs.declared.error.ErrorKind.TheVariants.{OutOfMemory}
+use Rattle.core_operators.specs.Union.{Union}
+use Rattle.theta_sketches.specs.Image.{IsReadable, written}
+use Rattle.lines.specs.Lines.{lines_of_all}
+use Rattle.line_sketches.specs.Keys.{HaveSameLines, IsAmong}
+use Rattle.line_sketches.specs.Header.{flaw_of, image_length}
+use Rattle.line_sketches.specs.Hex.{hex_of, bytes_of_hex}
+use Rattle.line_sketches.specs.Unions.{IsReady, HasUnited, IsUnitedImage}
+use Rattle.grouped_lines.specs.Tabs.{has_tab, before_tab, behind_tab}
+use Rattle.grouped_lines.specs.Groups.{AreGroups, group_sketch}
+use Rattle.grouped_lines.specs.declared.groups.Grouping.{Grouping}
+use Rattle.grouped_lines.specs.declared.united.UnitedGroup.{UnitedGroup}
+use Rattle.grouped_lines.specs.declared.united.UnitedGroups.{UnitedGroups}
+use Rattle.grouped_lines.specs.declared.united.LineFlaw.{LineFlaw}
+use Rattle.grouped_lines.specs.declared.united.LineFlaw.TheVariants.{NoTab, NoHex, NoImage}
+use Rattle.grouped_lines.specs.declared.united.NotAdded.{NotAdded}
+use Rattle.grouped_lines.specs.declared.united.NotAdded.TheVariants.{Memory, Flawed as FlawedLine}
+use Rattle.grouped_lines.specs.declared.uniting.Ununited.{Ununited}
+use Rattle.grouped_lines.specs.declared.uniting.Ununited.TheVariants.{Refused, Failed, Flawed}
+
+-- ---- lines with an image
+
+-- the line of a group: its name, a tab (9), its image in hexadecimal digits, and an LF (10)
+abbrev pub image_line : (name image : List ℕ) → List ℕ
+image_line name image = name ++ 9 ∷ hex_of image ++ 10 ∷ []
+
+-- The bytes that the digits behind the last tab of a line spell. A line that spells none gives no bytes, which can't be read as a sketch.
+abbrev pub image_in : List ℕ → List ℕ
+image_in line = unwrap_or (bytes_of_hex (behind_tab line)) []
+
+-- the images in the lines of the group of this name
+abbrev pub images_in : (name : List ℕ) → (lines : List (List ℕ)) → List (List ℕ)
+images_in name lines = map image_in (filter (λ line. bytes_eq (before_tab line) name) lines)
+
+-- the names of the groups of these lines: each once, in the ascending order of their bytes, and no others
+pub record AreNames (lines names : List (List ℕ)) : Type 0 where
+  pub ascending : IsStrictlySortedBy (slice_cmp nat_cmp) names
+  pub same : HaveSameLines names (map before_tab lines)
+
+-- a line for each name, with the image of the union of the images of its group
+abbrev pub AreUnitedLines : (seed lg_k : ℕ) → (lines names : List (List ℕ)) → List ℕ → Type 0
+AreUnitedLines seed lg_k lines [] out = out ≡ []
+AreUnitedLines seed lg_k lines (name ∷ names) out =
+    (image rest : List ℕ) × IsUnitedImage seed lg_k (images_in name lines) image × (out ≡ image_line name image ++ rest)
+    × AreUnitedLines seed lg_k lines names rest
+
+-- a line for each group of these lines, in ascending order, with the image of the union of its own images
+abbrev pub IsUnitedText : (seed lg_k : ℕ) → (lines : List (List ℕ)) → List ℕ → Type 0
+IsUnitedText seed lg_k lines out = (names : List (List ℕ)) × AreNames lines names × AreUnitedLines seed lg_k lines names out
+
+-- a line for each group of these lines, in ascending order, with the image of the sketch of its own lines
+abbrev pub IsSketchedText : Grouping → (lines : List (List ℕ)) → List ℕ → Type 0
+IsSketchedText grouping lines out =
+    (names : List (List ℕ)) × AreGroups grouping.by lines names
+    × (out ≡ flat_map (λ name. image_line name (written (group_sketch grouping lines name))) names)
+
+-- each text has the groups of the lines of its sources, each source cut into lines by itself
+abbrev pub AreSketchedTexts : Grouping → (sources : List (List (List ℕ))) → (texts : List (List ℕ)) → Type 0
+AreSketchedTexts grouping [] [] = ⊤
+AreSketchedTexts grouping (part ∷ parts) (text ∷ texts) = IsSketchedText grouping (lines_of_all part) text × AreSketchedTexts grouping parts texts
+AreSketchedTexts grouping [] (text ∷ texts) = ⊥
+AreSketchedTexts grouping (part ∷ parts) [] = ⊥
+
+-- ---- groups while images are united
+
+-- the union of the group of this name, if there is one
+abbrev pub union_at : {A P : Type 0} → BTreeMap (Vec ℕ A) (Union ℕ P) → (name : List ℕ) → Option (Union ℕ P)
+union_at groups name = get_by (λ key. slice_cmp nat_cmp name key.items) groups
+
+-- a group with these images has their union, and a group without images is none
+abbrev pub IsUnionOf : {P : Type 0} → (seed lg_k : ℕ) → (images : List (List ℕ)) → Option (Union ℕ P) → Type 0
+IsUnionOf seed lg_k images None = images ≡ []
+IsUnionOf seed lg_k images (Some u) = (images ≡ [] → ⊥) × HasUnited seed lg_k images u
+
+-- each group of these lines has the union of its own images
+abbrev pub IsUniting : {A P : Type 0} → (seed lg_k : ℕ) → (lines : List (List ℕ)) → BTreeMap (Vec ℕ A) (Union ℕ P) → Type 0
+IsUniting seed lg_k lines groups = (name : List ℕ) → IsUnionOf seed lg_k (images_in name lines) (union_at groups name)
+
+-- each group is ready for images of this seed
+abbrev pub AreReady : {A P : Type 0} → (seed : ℕ) → BTreeMap (Vec ℕ A) (Union ℕ P) → Type 0
+AreReady seed groups = (name : List ℕ) → IfSome (union_at groups name) (IsReady seed)
+
+-- the group of this name has this union now, and the others are as they were
+abbrev pub SetsUnion : {A P : Type 0} → (name : List ℕ) → Union ℕ P → (old new : BTreeMap (Vec ℕ A) (Union ℕ P)) → Type 0
+SetsUnion name u old new = (other : List ℕ) → union_at new other ≡ (if bytes_eq name other then Some u else union_at old other)
+
+-- a union has united one image more, and is still ready
+abbrev pub Unites : {P : Type 0} → (seed : ℕ) → (image : List ℕ) → (old new : Union ℕ P) → Type 0
+Unites seed image old new =
+    ((lg_k : ℕ) (images : List (List ℕ)) → HasUnited seed lg_k images old → HasUnited seed lg_k (images ++ image ∷ []) new)
+    × IsReady seed new
+
+-- the image was united into the group of this name, or there is none and nothing has changed
+abbrev pub UpdatesUnion : {A P : Type 0} → (seed : ℕ) → (name image : List ℕ) → (old new : BTreeMap (Vec ℕ A) (Union ℕ P)) → (found : Bool) → Type 0
+UpdatesUnion {A} {P} seed name image old new true =
+    (u w : Union ℕ P) × (union_at old name ≡ Some u) × Unites seed image u w × SetsUnion name w old new
+UpdatesUnion seed name image old new false = (new ≡ old) × (union_at old name ≡ None)
+
+-- the group of this name has this image alone now
+abbrev pub BeginsUnion : {A P : Type 0} → (seed lg_k : ℕ) → (name image : List ℕ) → (old new : BTreeMap (Vec ℕ A) (Union ℕ P)) → Type 0
+BeginsUnion {A} {P} seed lg_k name image old new =
+    (w : Union ℕ P) × HasUnited seed lg_k (image ∷ []) w × IsReady seed w × SetsUnion name w old new
+
+-- ---- groups once all images are united
+
+-- entries are groups of these names, each with the union of its own images
+abbrev pub AreUnited : {A P : Type 0} → (seed lg_k : ℕ) → (lines names : List (List ℕ)) → List (Vec ℕ A × Union ℕ P) → Type 0
+AreUnited seed lg_k lines [] [] = ⊤
+AreUnited seed lg_k lines (name ∷ names) (entry ∷ entries) =
+    (name ≡ entry.0.items) × HasUnited seed lg_k (images_in name lines) entry.1 × AreUnited seed lg_k lines names entries
+AreUnited seed lg_k lines [] (entry ∷ entries) = ⊥
+AreUnited seed lg_k lines (name ∷ names) [] = ⊥
+
+-- these are the groups of lines, each with the union of its own images
+abbrev pub HasUnions : (seed lg_k : ℕ) → (lines : List (List ℕ)) → UnitedGroups → Type 0
+HasUnions seed lg_k lines groups =
+    (names : List (List ℕ)) × AreNames lines names × AreUnited seed lg_k lines names groups.map.entries
+
+-- the unions can be answered: they are of some seed, and none has failed
+abbrev pub AreSound : UnitedGroups → Type 0
+AreSound groups = (seed : ℕ) × AllByRecursion (λ entry. IsReady seed entry.1) groups.map.entries
+
+-- the first group that was left, and the others are left now; there is none only if none was left
+abbrev pub IsNextUnited : (seed lg_k : ℕ) → (lines names : List (List ℕ)) → (new : UnitedGroups) → Option UnitedGroup → Type 0
+IsNextUnited seed lg_k lines names new None = names ≡ []
+IsNextUnited seed lg_k lines names new (Some group) =
+    (others : List (List ℕ))
+    × (names ≡ group.name.items ∷ others)
+    × IsUnitedImage seed lg_k (images_in group.name.items lines) group.image.items
+    × AreUnited seed lg_k lines others new.map.entries
+
+-- ---- lines that can't be united
+
+-- bytes are not read as one sketch of this seed, or something follows its image
+abbrev pub IsNotOneImage : (seed : ℕ) → List ℕ → Type 0
+IsNotOneImage seed image = (IsReadable image (seed_hash seed) → ⊥) ⊎ IfSome (image_length image) (λ size. size < length image)
+
+-- a line has this flaw
+abbrev pub IsFlawed : (seed : ℕ) → (line : List ℕ) → LineFlaw → Type 0
+IsFlawed seed line NoTab = has_tab line ≡ false
+IsFlawed seed line NoHex = bytes_of_hex (behind_tab line) ≡ None
+IsFlawed seed line (NoImage flaw) = (flaw ≡ flaw_of (seed_hash seed) (image_in line)) × IsNotOneImage seed (image_in line)
+
+-- a line is not added: memory was refused, or it has this flaw
+abbrev pub IsNotAdded : (seed : ℕ) → (line : List ℕ) → NotAdded → Type 0
+IsNotAdded seed line Memory = ⊤
+IsNotAdded seed line (FlawedLine flaw) = IsFlawed seed line flaw
+
+-- one of these lines has this flaw
+abbrev pub HasFlawed : (seed : ℕ) → LineFlaw → (lines : List (List ℕ)) → Type 0
+HasFlawed seed flaw lines = (line : List ℕ) × IsAmong line lines × IsFlawed seed line flaw
+
+-- images are not united: by a refusal before any is read, or by refused memory, or because a source failed or a line has a flaw
+abbrev pub IsUnunited : (seed : ℕ) → Option ErrorKind → (lines : Option (List (List ℕ))) → Ununited → Type 0
+IsUnunited seed refusal lines (Refused kind) = (refusal ≡ Some kind) ⊎ (kind ≡ OutOfMemory)
+IsUnunited seed refusal lines (Failed error) = refusal ≡ None
+IsUnunited seed refusal lines (Flawed number flaw) = (refusal ≡ None) × IfSome lines (HasFlawed seed flaw)
