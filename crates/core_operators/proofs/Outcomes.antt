@@ -14,7 +14,6 @@ use Rattle.core_laws.specs.Operators.{meet_next, shared, is_disjoint}
 use Rattle.core_laws.specs.Values.{Empty, NonEmpty}
 use Rattle.core_laws.specs.Folds.{Fold, Value, fold_key, fold_merges, unmarked, unmarked_value}
 use Rattle.core_laws.proofs.maps.Ascending.{ascending-nil}
-use Rattle.core_table.proofs.FilledTables.{none_left}
 
 pub not_begun : (o : Outcome) → is_begun o ≡ false → o ≡ Unbegun
 not_begun Unbegun e = refl
@@ -36,10 +35,6 @@ module _ {X : Type 0} where
   held_retained key Unbegun v kept = none_retained key
   held_retained key Nothing v kept = none_retained key
   held_retained key Held v kept = kept
-
-never_both : (b : Bool) → (b && false) ≡ false
-never_both true = refl
-never_both false = refl
 
 module _ {X : Type 0} (key : X → ℕ) where
   none_listed : (xs : List X) → eqb (length xs) 0 ≡ eqb (length (map_of key xs)) 0
@@ -77,10 +72,3 @@ module _ {X : Type 0} (key : X → ℕ) (merges : X → X → X) (refuses : X �
         | true ↦ refl
         | false ↦ ap (λ u. Some (NonEmpty u)) is_shared
       ]
-
-  -- if no entries are retained, none are shared, and theta is the lesser
-  pub met_nothing : (old : Retained X) (listing : List X) (theta : ℕ) → length old.entries ≡ 0 →
-      option_map unmarked_value (Some (NonEmpty (record { entries = old.entries; theta = min old.theta theta }))) ≡ Some (meet_next (fold_key key) (fold_merges key merges refuses) (Some (NonEmpty (unmarked old))) (NonEmpty (unmarked (record { entries = map_of key listing; theta = theta }))))
-  met_nothing old listing theta none =
-      let left = none_left old.entries none in
-      rw left (rw (never_both (eqb (min old.theta theta) MAX_THETA)) refl)

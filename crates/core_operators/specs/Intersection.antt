@@ -91,11 +91,6 @@ pub record IsCutShort {X : Type 0} (key : X → ℕ) (refuses : X → X → Bool
 abbrev pub IsIntersectError : {X P : Type 0} → (key : X → ℕ) → (refuses : X → X → Bool) → (old new : Intersection X P) → Shown → List X → ErrorKind → Type 0
 IsIntersectError key refuses old new s listing e = (new ≡ old) × MatchOption (intersect_refusal old s) (IsCutShort key refuses old.result s listing e) (λ kind. e ≡ kind)
 
--- new entries below a theta are what old ones and an input of this theta share, in folds
-abbrev pub IsSharedMap : {X : Type 0} → (key : X → ℕ) → (merges : X → X → X) → (refuses : X → X → Bool) → (content : Retained X) → (theta : ℕ) → (listing : List X) → (new : Retained X) → Type 0
-IsSharedMap key merges refuses content theta listing new =
-    unmarked new ≡ shared (fold_key key) (fold_merges key merges refuses) (unmarked content) (unmarked (record { entries = map_of key listing; theta = theta }))
-
 -- a value is that of retained entries met with an input that isn't Empty, in folds
 abbrev pub IsMetMap : {X : Type 0} → (key : X → ℕ) → (merges : X → X → X) → (refuses : X → X → Bool) → (content : Retained X) → (theta : ℕ) → (listing : List X) → Option (Sketch X) → Type 0
 IsMetMap key merges refuses content theta listing value =

@@ -2,7 +2,6 @@
 ghost use Rattle.std.specs.Prelude.{◌≡◌, ◌==◌, ◌+◌, ◌<◌, ◌≤◌, ◌^◌, [], ◌∷◌, ◌++◌, None, true, if◌then◌else◌, map, length, IfOk, IfErr, OnOk};
 ghost use Rattle.std.specs.Option.{option_map_or, option_copied};
 ghost use Rattle.core_laws.specs.Maps.{IsAscending, map_of};
-ghost use Rattle.core_laws.specs.Cuts.{IsRetained};
 ghost use Rattle.core_laws.specs.Refusal.{Refuses};
 ghost use Rattle.core_laws.specs.Shown.{IsShown};
 ghost use Rattle.core_laws.specs.Entries.{ClonesEqual};
