@@ -9,7 +9,7 @@ use tuple_sketches::{
 };
 
 /// The number of keys of a sketch, and the sum of all their summaries.
-fn total(sketch: &CompactTupleSketch<u64>) -> (usize, u64) {
+pub fn total(sketch: &CompactTupleSketch<u64>) -> (usize, u64) {
     let sums = sketch.iter().map(|entry| *entry.summary());
     let total = sums.fold(0, |total: u64, sum| total.saturating_add(sum));
     (sketch.num_retained(), total)
