@@ -127,7 +127,7 @@ impl OpenNumber {
 
 /// A line that has begun, which is to be added: the hash of its key, and the number in its part, so far.
 #[derive(Clone, Copy)]
-pub struct OpenAddend {
+pub(crate) struct OpenAddend {
     line: OpenLine,
     number: OpenNumber,
 }

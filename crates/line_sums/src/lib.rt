@@ -20,7 +20,7 @@ pub mod laws;
 mod sources;
 mod summing;
 
-pub use addends::{Amount, OpenAddend};
+pub use addends::Amount;
 pub use bins::{BINS, count_in, greatest_of, greatest_sum, least_of};
 pub use sources::sum_sources;
 pub use summing::{SumSketch, Unsummed, add_lines, finished, new_sketch};
