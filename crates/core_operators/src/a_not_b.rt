@@ -192,6 +192,7 @@ where
     ensures listed { IfOk result (λ _. map S.Entry.key (S.listing a) ≡ (S.shown a).hashes) }
     ensures ok { IfOk result (λ v. v.items ≡ lacking S.Entry.key hash_key (below S.Entry.key (map_of S.Entry.key (S.listing a)) theta) (T.shown b).hashes) }
     ensures refused { Refuses result None true }
+    ensures grows { compared.old ≤ compared.new }
     ensures compared { compared.new ≤ compared.old + length (S.listing a) + length (T.shown b).hashes }
 {
     if b_ordered {
@@ -223,6 +224,7 @@ where
     ensures listed { map S.Entry.key (S.listing a) ≡ (S.shown a).hashes }
     ensures ok { IfOk result (λ v. v.items ≡ lacking S.Entry.key F.key (below S.Entry.key (map_of S.Entry.key (S.listing a)) theta) others.now) }
     ensures refused { Refuses result None true }
+    ensures grows { compared.old ≤ compared.new }
     ensures compared { compared.new ≤ compared.old + length (S.listing a) + length others.now }
 {
     let list = a.entries();

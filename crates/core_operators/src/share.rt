@@ -243,7 +243,8 @@ fn shared_entries<E: SketchEntry + Clone + Drop, P: IntersectionMergePolicy<E>, 
 /// The entries that an ascending list and a sketch share below theta, combined by the policy, in ascending order. If the
 /// sketch isn't known to be ordered, clones of its entries below theta are sorted first. It has `count` entries.
 ///
-/// Counts each comparison of two hashes in `compared`, but those of the sort: at most as many as both have entries.
+/// Counts each comparison of two hashes in `compared`, but those of the sort: at least one for each shared entry, and at
+/// most as many as both have entries.
 pub(crate) fn shared_with<
     S: EntrySketch,
     P: IntersectionMergePolicy<S::Entry>,
@@ -268,6 +269,7 @@ where
     ensures listed { map S.Entry.key (S.listing sketch) ≡ (S.shown sketch).hashes }
     ensures sound { IsShown (S.shown sketch) }
     ensures refused { IfErr result (IsMergeRefusal S.Entry.key (P.refuses policy.now) content.now.items theta (S.listing sketch)) }
+    ensures compares { IfOk result (λ v. compared.old + length v.items ≤ compared.new) }
     ensures compared { compared.new ≤ compared.old + length content.now.items + length (S.listing sketch) }
 {
     let list = sketch.entries();
