@@ -20,9 +20,9 @@ fn image_from(alloc: Global, first: u64, ordered: bool) -> Result<Vec<u8>, Alloc
     bytes.extend_from_slice(&COUNT.to_le_bytes())?;
     for place in 0..COUNT {
         let number = if ordered {
-            first + place
+            first.saturating_add(place)
         } else {
-            first + COUNT - 1 - place
+            first.saturating_add(COUNT - 1).saturating_sub(place)
         };
         bytes.extend_from_slice(&number.wrapping_mul(1 << 40).to_le_bytes())?;
     }
