@@ -1,6 +1,6 @@
 -- Laws of whole arguments.
 use Rattle.std.proofs.Common.{◌≡◌, ℕ, Bool, true, false, cond, List, [], ◌∷◌, codes, length, Option, Some, None, Result, Ok, Err, refl, arith}
-use Rattle.std.specs.Prelude.{◌&&◌, ◌==◌, not, nat_lt, is_some}
+use Rattle.std.specs.Prelude.{◌&&◌, ◌==◌, not, nat_lt, is_some, is_none}
 use Rattle.std.specs.Option.{option_map_or}
 use Rattle.std.specs.List.{find}
 use Rattle.std.specs.Str.{bytes_eq}
@@ -15,6 +15,10 @@ at_tests : (lone both : Bool) (a b run : Action) → ReadsOnce a → ReadsOnce b
 at_tests true both a b run first second third = first
 at_tests false true a b run first second third = second
 at_tests false false a b run first second third = third
+
+at_list : (both : Bool) (a run : Action) → ReadsOnce a → ReadsOnce run → ReadsOnce (cond both a run)
+at_list true a run first second = first
+at_list false a run first second = second
 
 run_once : (command : Command) (options : OptionValues) (files : List (List ℕ)) (twice : Bool) → nat_lt 1 (standard_uses command options files) ≡ twice → ReadsOnce (cond twice (fails standard_twice) (runs command options files))
 run_once command options files true is = tt
