@@ -37,21 +37,21 @@ fn asked(alloc: Global, text: &str) -> Result<Option<(u64, usize)>, Error> {
     }
 }
 
-// A leaf requests its slots. An intersection of one requests a list of the entries, a table for them, and its answer. A
-// node `via` requests the compact form of its leaf, its image, and the entries of a reading.
+// A leaf requests its slots. An intersection of one requests a list of the entries, and its answer. A node `via` requests
+// the compact form of its leaf, its image, and the entries of a reading.
 #[test]
 fn requests_memory_for_each_image(rt: HostRuntime) -> Result<(), Fail> {
     // A plan, and the number of its requests and of its entries.
     let rows = [
-        ("theta show\nmeet 1\nleaf 5 max 2\nadd 9\nadd 7\n", 4),
+        ("theta show\nmeet 1\nleaf 5 max 2\nadd 9\nadd 7\n", 3),
         (
             "theta show\nmeet 1\nvia ordered\nleaf 5 max 2\nadd 9\nadd 7\n",
-            7,
+            6,
         ),
-        ("tuple show\nmeet 1\nleaf 5 max 2\nadd 9 1\nadd 7 2\n", 4),
+        ("tuple show\nmeet 1\nleaf 5 max 2\nadd 9 1\nadd 7 2\n", 3),
         (
             "tuple show\nmeet 1\nvia ordered\nleaf 5 max 2\nadd 9 1\nadd 7 2\n",
-            7,
+            6,
         ),
     ];
     for (text, requests) in rows {
