@@ -3,13 +3,13 @@
 ghost use Rattle.std.specs.Prelude.{◌≡◌, ◌≢◌, ℕ, List, [], Some, IfOk, map, string_bytes};
 ghost use Rattle.sketch_base.specs.Seed.{seed_hash};
 ghost use Rattle.theta_sketches.specs.Image.{written};
-ghost use Rattle.line_sketches.specs.Unions.{IsUnitedImage};
 ghost use Rattle.distinct_arguments.specs.Arguments.{action_of};
+ghost use Rattle.distinct_arguments.specs.declared.commands.Operator.TheVariants.{Union};
 ghost use Rattle.distinct_arguments.specs.Faults.{options_of};
 ghost use Rattle.distinct_arguments.specs.Settings.{chosen_group, chosen_value};
 ghost use Rattle.distinct_commands.specs.Answers.{names_of, texts_of, sketch_of};
 ghost use Rattle.distinct_commands.specs.Images.{in_form};
-ghost use Rattle.distinct_commands.specs.Answers.{IsIntersectionImage, IsDifferenceImage, IsShownOf, IsCountOf, IsSketchOf, IsCommandAnswer, Performs};
+ghost use Rattle.distinct_commands.specs.Answers.{IsIntersectionImage, IsDifferenceImage, IsShownOf, IsCountOf, IsSketchOf, IsCommandAnswer, IsCombinedText, Performs};
 ghost use Rattle.distinct_commands.specs.Evaluations.{IsEvaluatedOf};
 ghost use Rattle.distinct_commands.specs.Images.{images_of};
 ghost use Rattle.distinct_commands.specs.Texts.{count_text};
@@ -328,7 +328,7 @@ fn sketch_of(
     answered(alloc, Command::Sketch, options, seed, names, texts)
 }
 
-/// What `union` writes of files of images.
+/// What `union` writes of files of images, by groups or not.
 fn union_of(
     alloc: Global,
     options: &Options<'_>,
@@ -337,9 +337,7 @@ fn union_of(
     texts: &[Vec<u8>],
 ) -> Result<Vec<u8>, Failure>
     requires seeded { seed_hash seed ≢ 0 }
-    ensures united { IfOk result (λ v. (image : List ℕ)
-        × IsUnitedImage seed options.now.lg_k (images_of options.now.hex (texts_of texts.now)) image
-        × (v.items ≡ in_form options.now.hex image)) }
+    ensures united { IfOk result (λ v. IsCombinedText options.now.groups Union (options_of options.now) seed (texts_of texts.now) v.items) }
 {
     let union = Command::Combine(Operator::Union);
     answered(alloc, union, options, seed, names, texts)
