@@ -21,15 +21,16 @@ M64 = 2**64 - 1
 LINES = "--lg-k --field --separator --seed --seed-file --files0-from --progress "
 OPTIONS = {
     "count": LINES + "--by --sort --bounds --tsv --json",
-    "sketch": LINES + "--by --hex --output --output-dir",
-    "union": "--lg-k --seed --seed-file --files0-from --expect --hex --groups --output",
+    "sketch": LINES + "--by --value --hex --output --output-dir",
+    "union": "--lg-k --seed --seed-file --files0-from --expect --hex --groups --sums --output",
     "meet": "--seed --seed-file --files0-from --expect --hex --output",
     "minus": "--seed --seed-file --hex --output",
     "show": "--seed --seed-file --files0-from --hex --bounds --tsv --json",
-    "eval": "--lg-k --seed --seed-file --keys --field --separator --bounds --tsv --json --hex --output",
+    "eval": "--lg-k --seed --seed-file --keys --sums --field --separator --bounds --tsv --json --hex --output",
     "visits": "--lg-k --field --separator --seed --seed-file --files0-from --bounds --tsv --json",
     "sum": "--value --lg-k --field --separator --seed --seed-file --files0-from --tsv --json",
 }
+FLAGS = ("--hex", "--groups", "--sums", "--progress", "--keys")
 FAMILIES = (
     "Alpha sketches,update sketches,theta sketches,unions,intersections,differences,HLL sketches,quantiles sketches,"
     "tuple sketches,frequency sketches,reservoirs,unions of reservoirs,VarOpt sketches,unions of VarOpt sketches,KLL sketches,"
@@ -50,7 +51,7 @@ class Uncomputed(Exception):
     """What is not known here: a text of help, or what the system says."""
 
 
-# The hash, and sketches as None, if empty, or their hashes and their theta.
+# The hash, and sketches as None, if empty, or their hashes and their theta. Sketches of sums have the sum of each hash.
 
 
 def rotl(x, n):
@@ -132,7 +133,7 @@ def visits_of(texts, options, seed):
 
 
 def sums_of(texts, options, seed):
-    """The sketch of the lines of texts, each with its name, and the sum of the values of each of its hashes."""
+    """The sketch of the lines of texts, each with its name, with the sum of the values of each of its hashes."""
     sums = collections.Counter()
     for name, text in texts:
         for number, line in enumerate(lines_of(text), 1):
@@ -144,7 +145,22 @@ def sums_of(texts, options, seed):
             if sums[key] > M64:
                 raise Failure(f"{escaped(called(name))}: line {number}: the sum of its key is above {M64}")
     sketch = sketch_of([text for _, text in texts], options, seed)
-    return sketch, [sums[it] for it in (sketch[0] if sketch else [])]
+    return sketch and ({it: sums[it] for it in sketch[0]}, sketch[1])
+
+
+def unite_sums(k, parts):
+    """The union of sketches of sums, and the first part with which a sum is above 64 bits; one of the two is None."""
+    theta, sums = MAX_THETA, {}
+    for place, part in enumerate(parts):
+        part_sums, part_theta = part or ({}, MAX_THETA)
+        theta = min(theta, part_theta)
+        for it, number in part_sums.items():
+            sums[it] = sums.get(it, 0) + number
+        hashes, theta = cut(k, sums, theta)
+        sums = {it: sums[it] for it in hashes}
+        if any(it > M64 for it in sums.values()):
+            return None, place
+    return ((sums, theta) if any(parts) else None), None
 
 
 def unite(k, parts):
@@ -178,15 +194,66 @@ def minus(first, second):
 # Images.
 
 
-def image_of(sketch, own_hash):
-    """The image of an ordered sketch."""
+def image_of(sketch, own_hash, of_sums=False):
+    """The image of an ordered sketch, a theta sketch or one of sums."""
     if not sketch:
-        return bytes.fromhex("010303 0000 1e 0000")
+        return bytes.fromhex("010309 0100 1e 0000" if of_sums else "010303 0000 1e 0000")
     hashes, theta = sketch
     longs = 3 if theta < MAX_THETA else 1 if len(hashes) == 1 else 2
-    head = struct.pack("<BBBHBH", longs, 3, 3, 0, 0x1A, own_hash)
+    head = struct.pack("<BBBHBH", longs, 3, 9 if of_sums else 3, 1 if of_sums else 0, 0x1A, own_hash)
     head += struct.pack("<II", len(hashes), 0) * (longs > 1) + struct.pack("<Q", theta) * (longs > 2)
+    if of_sums:
+        return head + b"".join(struct.pack("<QQ", it, hashes[it]) for it in sorted(hashes))
     return head + b"".join(struct.pack("<Q", h) for h in sorted(hashes))
+
+
+def sums_length(image):
+    """The length of the image of sums that the bytes begin, or None if its preamble isn't known or isn't whole."""
+    if len(image) < 8 or not 1 <= image[0] <= 3 or image[1] not in (1, 3):
+        return None
+    start = 8 if image[5] & 4 else 8 * image[0]
+    if len(image) < start:
+        return None
+    return start + 16 * (0 if image[5] & 4 else 1 if image[0] == 1 else struct.unpack_from("<I", image, 8)[0])
+
+
+def sums_flaw_of(image, own_hash):
+    """Why bytes are not one image of sums that is read: the first reason."""
+    length = sums_length(image)
+    if len(image) >= 16 and re.fullmatch(rb"[0-9a-fA-F]{16}", image[:16]):
+        return "is hexadecimal text: pass --hex"
+    if len(image) < 8:
+        return "is not an image of sums"
+    if image[2] != 9:
+        named = f", the family of {FAMILIES[image[2] - 1]}" if 1 <= image[2] <= len(FAMILIES) else ""
+        return f"is not an image of sums (byte 3 is {image[2]}{named}, not 9)"
+    if image[1] not in (1, 3):
+        return f"is of version {image[1]}; versions 1 and 3 are read"
+    if image[5] & 1:
+        return "is in big-endian order, which is not read"
+    if not image[5] & 4 and struct.unpack_from("<H", image, 6)[0] != own_hash:
+        return "is a sketch under another seed than this command's: pass the --seed it was made with"
+    if not 1 <= image[0] <= 3 or image[3] not in (1, 5) or length == len(image):
+        return "is damaged: its hashes, its theta or its sketch type are not those of an image of sums"
+    if length is None or length > len(image):
+        return "is cut short"
+    return "is longer than one image; with --hex a file may have many"
+
+
+def sums_of_image(image, own_hash):
+    """The sketch of sums that one image is read as."""
+    if sums_length(image) != len(image) or image[2] != 9 or image[3] not in (1, 5):
+        raise Failure(sums_flaw_of(image, own_hash))
+    if image[5] & 4:
+        return None
+    theta = struct.unpack_from("<Q", image, 16)[0] if image[0] == 3 else MAX_THETA
+    entries = list(struct.iter_unpack("<QQ", image[8 * image[0] :]))
+    hashes = [it for it, _ in entries]
+    has_theta = 1 <= theta <= MAX_THETA and all(0 < it < theta for it in hashes)
+    has_order = len(set(hashes)) == len(hashes) and (not image[5] & 16 or hashes == sorted(hashes))
+    if not (has_theta and has_order and struct.unpack_from("<H", image, 6)[0] == own_hash):
+        raise Failure(sums_flaw_of(image, own_hash))
+    return dict(entries), theta
 
 
 def is_flagged_empty(image):
@@ -306,11 +373,11 @@ def printed_ranges(rows, options):
     return "".join(f"{name}: {' '.join(str(row[it]) for it in shown)}\n" for name, (_, row) in zip(names, rows))
 
 
-def printed_total(sketch, sums, options):
-    """The answer of `sum` on a sketch and the sums of its hashes."""
-    hashes, theta = sketch or (set(), MAX_THETA)
-    total = (2 * sum(sums) * MAX_THETA + theta) // (2 * theta)
-    row = dict(total=total, exact=theta == MAX_THETA, retained=len(hashes), theta=theta)
+def printed_total(sketch, options):
+    """The answer of `sum` on a sketch of sums."""
+    sums, theta = sketch or ({}, MAX_THETA)
+    total = (2 * sum(sums.values()) * MAX_THETA + theta) // (2 * theta)
+    row = dict(total=total, exact=theta == MAX_THETA, retained=len(sums), theta=theta)
     if options["form"] == "--tsv":
         return "\t".join(row) + "\n" + "\t".join(json.dumps(it) for it in row.values()) + "\n"
     return json.dumps(row, separators=(",", ":")) + "\n" if options["form"] else f"{total}\n"
@@ -369,13 +436,13 @@ def set_option(command, options, words):
     option, has_value, value = words.pop(0).partition("=")
     if option not in OPTIONS[command].split():
         raise Fault(f"no option {option}")
-    if option in ("--hex", "--groups", "--progress", "--keys", "--tsv", "--json", "--bounds"):
+    if option in FLAGS or option in ("--tsv", "--json", "--bounds"):
         if has_value and (option != "--bounds" or value not in "1 2 3".split()):
             raise Fault(f"a value of {option}")
         if option == "--bounds":
             options[option] = int(value or 2)
         else:
-            options[option if option in ("--hex", "--groups", "--progress", "--keys") else "form"] = option
+            options[option if option in FLAGS else "form"] = option
         return
     if not has_value and not words:
         raise Fault(f"no value of {option}")
@@ -442,7 +509,17 @@ def names_of(steps):
     return list(dict.fromkeys(name for kind, name in steps if kind == "name"))
 
 
-def evaluated(steps, sketches, k):
+def two_sums(kind, first, second, k):
+    """Two sketches of sums combined. A sum above 64 bits is an error, if the key is below both thetas."""
+    (sums, theta), (more, other) = first or ({}, MAX_THETA), second or ({}, MAX_THETA)
+    if kind != "-" and any(it in more and sums[it] + more[it] > M64 for it in sums if it < min(theta, other)):
+        raise Failure("above 64 bits")
+    parts = [part and (set(part[0]), part[1]) for part in (first, second)]
+    met = meet(parts) if kind == "&" else minus(*parts) if kind == "-" else unite(k, parts)
+    return met and ({it: sums.get(it, 0) + (more.get(it, 0) if kind != "-" else 0) for it in met[0]}, met[1])
+
+
+def evaluated(steps, sketches, k, of_sums=False):
     """The sketch of an expression over the sketches of its names."""
     stack = []
     for kind, name in steps:
@@ -450,6 +527,9 @@ def evaluated(steps, sketches, k):
             stack.append(sketches[name])
             continue
         second, first = stack.pop(), stack.pop()
+        if of_sums:
+            stack.append(two_sums(kind, first, second, k))
+            continue
         stack.append(meet([first, second]) if kind == "&" else minus(first, second) if kind == "-" else unite(k, [first, second]))
     return stack.pop()
 
@@ -480,6 +560,12 @@ def read_arguments(words):
         raise Fault("sum without --value")
     if "--separator" in options and not {"--field", "--by", "--value"} & options.keys():
         raise Fault("--separator without --field, --by and --value")
+    if {"--sums", "--keys"} <= options.keys():
+        raise Fault("--sums and --keys")
+    if command == "sketch" and "--value" in options and {"--by", "--progress"} & options.keys():
+        raise Fault("--value with --by or --progress")
+    if "--sums" in options and {"--groups", "--bounds"} & options.keys():
+        raise Fault("--sums with --groups or --bounds")
     if command == "sketch" and "--by" in options and "--hex" not in options and "--output-dir" not in options:
         raise Fault("--by without --hex and without --output-dir")
     if "--sort" in options and "--by" not in options:
@@ -495,7 +581,7 @@ def read_arguments(words):
     read = set(names_of(steps_of(words[0]))) if command == "eval" else words
     if [options["seed"][1], options.get("--files0-from"), *read].count("-") > 1:
         raise Fault("standard input twice")
-    for option in ("--field", "--by", "--sort", "--bounds", "--hex", "--groups", "--keys", "--output", "--output-dir", "--expect"):
+    for option in ("--field", "--by", "--sort", "--bounds", "--hex", "--groups", "--sums", "--keys", "--output", "--output-dir", "--expect"):
         options.setdefault(option)
     options["--separator"] = options.get("--separator", "\t").encode()
     return command, options, words
@@ -531,20 +617,28 @@ def images_in(files, names, hex_lines):
             yield f"{shown}: line {number} ", called(name), bytes.fromhex(digits.decode())
 
 
-def advice(command, image):
+def advice(command, image, of_sums):
     """What a message adds for a file that may be one of lines: short, or its third byte is no family, or a tab, an LF, a CR or of gzip."""
-    if len(image) >= 8 and image[2] not in (8, 9, 10, 13) and 1 <= image[2] <= len(FAMILIES):
+    own = 9 if of_sums else 3
+    if len(image) >= 8 and (image[2] == own or image[2] not in (8, 9, 10, 13) and 1 <= image[2] <= len(FAMILIES)):
         return ""
+    if len(image) >= 8 and image[2] == 9:
+        read = "; union --sums and eval --sums read images of sums, count and sketch lines"
+        return "; pass --sums for images of sums, --keys for lines" if command == "eval" else read
+    if of_sums:
+        return "; sketch --value reads lines"
     return "; pass --keys if its files have lines" if command == "eval" else "; count or sketch reads lines"
 
 
-def sketches_in(command, files, names, hex_lines, own_hash):
-    """The name and the sketch of each image."""
+def sketches_in(command, files, names, hex_lines, own_hash, of_sums=False, places=None):
+    """The name and the sketch of each image. Where it is goes to places."""
     for place, name, image in images_in(files, names, hex_lines):
         try:
-            yield name, sketch_of_image(image, own_hash)
+            if places is not None:
+                places.append(place)
+            yield name, (sums_of_image if of_sums else sketch_of_image)(image, own_hash)
         except Failure as flaw:
-            added = "" if hex_lines or "hexadecimal" in str(flaw) else advice(command, image)
+            added = "" if hex_lines or "hexadecimal" in str(flaw) else advice(command, image, of_sums)
             raise Failure(f"{place}{flaw}{added}") from None
 
 
@@ -572,7 +666,9 @@ def combined(command, sketches, options, messages):
         if most > 2**lg_k:
             less = "the union is less exact than its images"
             messages.append(f"warning: {name} retains {most} hashes, and --lg-k {lg_k} keeps {2**lg_k}: {less}")
-        return unite(2**lg_k, parts)
+        if not options["--sums"]:
+            return unite(2**lg_k, parts)
+        return unite_sums(2**lg_k, parts)[0]
     return meet(parts) if command == "meet" else minus(*parts)
 
 
@@ -635,7 +731,10 @@ def run(words, files, messages):
         sketch, counts = visits_of([text_of(files, name) for name in names], options, seed)
         return printed_ranges(ranges_of(sketch, counts, options["--bounds"] or 2), options).encode()
     if command == "sum":
-        return printed_total(*sums_of([(name, text_of(files, name)) for name in names], options, seed), options).encode()
+        return printed_total(sums_of([(name, text_of(files, name)) for name in names], options, seed), options).encode()
+    if command == "sketch" and options.get("--value"):
+        image = image_of(sums_of([(name, text_of(files, name)) for name in names], options, seed), seed_hash(seed), True)
+        return written(image.hex().encode() + b"\n" if hex_lines else image, files, options)
     if options["--groups"]:
         groups = united_groups(files, names, options, seed_hash(seed), messages)
         return written(b"".join(group_line(name, image_of(it, seed_hash(seed))) for name, it in groups), files, options)
@@ -659,24 +758,35 @@ def run(words, files, messages):
         rows = [(None, sketch)]
     elif command == "eval":
         steps = steps_of(names[0])
+        of_sums = bool(options["--sums"])
         if options["--keys"]:
             sketches = {it: sketch_of([text_of(files, it)], options, seed) for it in names_of(steps)}
         else:
-            found = [it for _, it in sketches_in(command, files, names_of(steps), hex_lines, seed_hash(seed))]
+            found = [it for _, it in sketches_in(command, files, names_of(steps), hex_lines, seed_hash(seed), of_sums)]
             if len(found) != len(names_of(steps)):
                 raise Failure(f"{len(found)} images found, {len(names_of(steps))} expected: with eval --hex each file has one line")
             sketches = dict(zip(names_of(steps), found))
-        sketch = evaluated(steps, sketches, 2 ** options["--lg-k"])
+        try:
+            sketch = evaluated(steps, sketches, 2 ** options["--lg-k"], of_sums)
+        except Failure:
+            raise Failure(f"eval: '{escaped(names[0])}': the sum of a key is above {M64}") from None
+        if of_sums and options["--output"] is None:
+            return printed_total(sketch, options).encode()
         rows = [(names[0], sketch)]
     else:
-        rows = list(sketches_in(command, files, names, hex_lines, seed_hash(seed)))
+        of_sums, places, rows = bool(options["--sums"]), [], []
+        for row in sketches_in(command, files, names, hex_lines, seed_hash(seed), of_sums, places):
+            rows.append(row)
+            if of_sums and unite_sums(2 ** options["--lg-k"], [part for _, part in rows])[1] is not None:
+                place = places[-1].rstrip(": ") if hex_lines else places[-1][:-2]
+                raise Failure(f"{place}: the sum of a key is above {M64} with this image")
         if not rows:
             raise Fault("no image")
     if command in ("count", "show") or command == "eval" and options["--output"] is None:
         return printed([(name, report_of(it, z)) for name, it in rows], options, command).encode()
     if command not in ("sketch", "eval"):
         sketch = combined(command, rows, options, messages)
-    image = image_of(sketch, seed_hash(seed))
+    image = image_of(sketch, seed_hash(seed), bool(options["--sums"]))
     return written(image.hex().encode() + b"\n" if hex_lines else image, files, options)
 
 
@@ -726,6 +836,17 @@ def wrong_in(case):
     return None
 
 
+def wrong_help(case):
+    """What is wrong with the text of help on a command: it names its options and no others, in lines of at most 100 bytes."""
+    command = case.rpartition("help_on_")[2]
+    text = bytes_of(case + ".stdout").decode()
+    named = set(re.findall(r"--[a-z0-9-]+", text)) - {"--help"}
+    options = set(OPTIONS.get(command, "").split())
+    long = [line for line in text.split("\n") if len(line.encode()) > 100]
+    differ = sorted(named ^ options) if command in OPTIONS else []
+    return [f"{case}: {it}" for it in long + differ]
+
+
 def check(folder):
     wrong, uncomputed, number = [], [], 0
     for it in sorted(os.listdir(folder)):
@@ -737,6 +858,7 @@ def check(folder):
             number += 1
             wrong += [f"{case}: another {differs}"] * (differs is not None)
         except Uncomputed as reason:
+            wrong += wrong_help(case)
             is_text = str(reason).endswith(("--help", "-h", "--version", "-V"))
             kind = wrong if not is_text and not bytes_of(case + ".status") else uncomputed
             kind.append(f"{case}: not computed: {reason}")

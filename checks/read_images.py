@@ -1,7 +1,8 @@
 """A second reader of images, written from docs/FORMATS.md, and images that are damaged by chance for it.
 
 `answer(kind, image)` is the line that crates/readings prints for an image: kind is `theta`, or the type of a tuple sketch's
-summaries. `damaged(chance)` is a kind and an image; `chance` is a random.Random.
+summaries; `sketch_line(kind, image)` is the same without the image that the sketch is written as. `damaged(chance)` is a
+kind and an image; `chance` is a random.Random.
 """
 import struct
 
@@ -24,17 +25,27 @@ def number(image, place, size):
 
 
 def entries_at(kind, image, place, count):
-    """So many entries from a place on: a hash, and a summary as text, which a theta sketch lacks."""
+    """So many entries from a place on: the hash, the entry as text, and its bytes."""
     size = 8 if kind == "theta" else 8 + struct.calcsize(SUMMARIES[kind])
     if len(image) < place + size * count:
         raise Refused
     for start in range(place, place + size * count, size):
         hash = number(image, start, 8)
+        spelled = image[start : start + size]
         if kind == "theta":
-            yield hash, str(hash)
+            yield hash, str(hash), spelled
         else:
             (summary,) = struct.unpack_from(SUMMARIES[kind], image, start + 8)
-            yield hash, f"{hash}:{summary}"
+            yield hash, f"{hash}:{summary}", spelled
+
+
+def written_as(kind, theta, ordered, entries):
+    """The image that a sketch is written as, if it isn't empty. The entries are in bytes."""
+    longs = 3 if theta < MAX_THETA else 1 if len(entries) == 1 else 2
+    family, sketch_type = (3, 0) if kind == "theta" else (9, 1)
+    head = struct.pack("<BBBBBBH", longs, 3, family, sketch_type, 0, 10 + ORDERED * ordered, SEED_HASH)
+    head += struct.pack("<II", len(entries), 0) * (longs > 1) + struct.pack("<Q", theta) * (longs > 2)
+    return head + b"".join(entries)
 
 
 def shown(held, theta, ordered, texts):
@@ -42,24 +53,31 @@ def shown(held, theta, ordered, texts):
     return " ".join([held, str(theta), str(SEED_HASH), "ordered" if ordered else "unordered", *texts])
 
 
+def empty(kind):
+    """The line of the empty sketch."""
+    image = "01030300001e0000" if kind == "theta" else "01030901001e0000"
+    return f"{shown('empty', MAX_THETA, True, [])} image {image}"
+
+
 def sketch(kind, image, place, count, theta, ordered):
     """The line of a sketch that isn't empty, whose entries begin at a place."""
     if not 1 <= theta <= MAX_THETA:
         raise Refused
     entries = list(entries_at(kind, image, place, count))
-    hashes = [hash for hash, _ in entries]
+    hashes = [hash for hash, _, _ in entries]
     if any(not 1 <= hash < theta for hash in hashes) or len(set(hashes)) < count:
         raise Refused
     if ordered and hashes != sorted(hashes):
         raise Refused
-    return shown("filled", theta, ordered, [text for _, text in entries])
+    image = written_as(kind, theta, ordered, [spelled for _, _, spelled in entries])
+    return f"{shown('filled', theta, ordered, [text for _, text, _ in entries])} image {image.hex()}"
 
 
 def flagged(kind, image, longs):
     """What version 3 of theta sketches is read as, and both versions of tuple sketches."""
     flags = number(image, 5, 1)
     if flags & EMPTY:
-        return shown("empty", MAX_THETA, True, [])
+        return empty(kind)
     if number(image, 6, 2) != SEED_HASH:
         raise Refused
     count = 1 if longs == 1 else number(image, 8, 4)
@@ -76,7 +94,7 @@ def unflagged(image, version, longs):
     count = 0 if longs == 1 else number(image, 8, 4)
     theta = number(image, 16, 8) if longs == 3 else MAX_THETA
     if count == 0 and theta == MAX_THETA:
-        return shown("empty", MAX_THETA, True, [])
+        return empty("theta")
     if version == 2 and number(image, 6, 2) != SEED_HASH:
         raise Refused
     return sketch("theta", image, 8 * longs, count, theta, True)
@@ -104,6 +122,11 @@ def answer(kind, image):
         return read(kind, image)
     except Refused:
         return REFUSED
+
+
+def sketch_line(kind, image):
+    """The sketch that an image is read as, without the image that it is written as."""
+    return answer(kind, image).partition(" image ")[0]
 
 
 def written(chance, kind):

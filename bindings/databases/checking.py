@@ -88,18 +88,18 @@ def length_of(kind, image):
 
 def is_read(image, kind="theta"):
     """Whether the second reader reads bytes as one sketch of a kind, with nothing behind it."""
-    return read_images.answer(kind, image) != read_images.REFUSED and length_of(kind, image) == len(image)
+    return read_images.sketch_line(kind, image) != read_images.REFUSED and length_of(kind, image) == len(image)
 
 
 def state_read(image):
     """The number of hashes and the theta that the second reader reads in an image of a theta sketch."""
-    _, theta, _, _, *hashes = read_images.answer("theta", image).split(" ")
+    _, theta, _, _, *hashes = read_images.sketch_line("theta", image).split(" ")
     return len(hashes), int(theta)
 
 
 def sums_read(image):
     """The hashes and their sums that the second reader reads in an image of a tuple sketch, and its theta."""
-    _, theta, _, _, *entries = read_images.answer("u64", image).split(" ")
+    _, theta, _, _, *entries = read_images.sketch_line("u64", image).split(" ")
     return {int(hash): int(value) for hash, value in (entry.split(":") for entry in entries)}, int(theta)
 
 

@@ -2,7 +2,7 @@
 import random
 
 from kaftanclay import CompactThetaSketch, CompactTupleSums, InvalidDataError, ThetaUnion
-from read_images import answer, damaged
+from read_images import damaged, sketch_line
 
 COUNT = 10000
 
@@ -30,7 +30,7 @@ def test_damaged_images():
     for _ in range(COUNT):
         kind, image = damaged(chance)
         for read in ("theta", "u64"):
-            wanted = ordered(answer(read, image))
+            wanted = ordered(sketch_line(read, image))
             assert line_of(read, image) == wanted, (kind, image.hex())
             refused += wanted == "refused data"
             if read == "theta" and wanted != "refused data":
@@ -43,4 +43,4 @@ def test_random_bytes():
     for _ in range(COUNT):
         image = chance.randbytes(chance.randrange(64))
         for read in ("theta", "u64"):
-            assert line_of(read, image) == ordered(answer(read, image))
+            assert line_of(read, image) == ordered(sketch_line(read, image))

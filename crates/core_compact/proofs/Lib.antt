@@ -1,2 +1,3 @@
 pub mod LawsOfShown
 pub mod Answered
+pub mod Exchanges

@@ -5,5 +5,7 @@
 #![tactic(auto)]
 
 mod compact_state;
+mod order;
 
 pub use compact_state::{CompactSketchState, is_answer_ordered};
+pub use order::sort_by_hash;

@@ -30,6 +30,26 @@ flagged_estimating : (bytes : List ℕ) (longs h : ℕ) → is_empty bytes ≡ f
 unfolding flagged_layout admitted
 flagged_estimating bytes longs h e s l w low high = grind (arith, nat_tests)
 
+-- the parts of `flagged_layout`: a preamble of one word, of two and of three, the choices among them, and the test before
+module _ (bytes : List ℕ) where
+  abbrev one_word : Option Layout
+  one_word = Some (Filled (announced 1 1 MAX_THETA (is_ordered bytes)))
+
+  abbrev two_words : Option Layout
+  two_words = Some (Filled (announced 2 (count_at bytes) MAX_THETA (is_ordered bytes)))
+
+  abbrev three_words : Preamble
+  three_words = announced 3 (count_at bytes) (theta_at bytes) (is_ordered bytes)
+
+  abbrev from_two : (longs : ℕ) → Option Layout
+  from_two longs = cond (eqb longs 2) two_words (admitted three_words)
+
+  abbrev from_one : (longs : ℕ) → Option Layout
+  from_one longs = cond (eqb longs 1) one_word (from_two longs)
+
+  abbrev is_unfit : (h longs : ℕ) → Bool
+  is_unfit h longs = not (eqb (seed_hash_at bytes) h) || ltb (length bytes) (8 * longs)
+
 module _ {X : Type 0} (key : X → ℕ) (Spells : List ℕ → X → Type 0) (bytes : List ℕ) (h : ℕ) where
   abbrev pub Comes : Option Layout → Compact X → Type 0
   Comes l s = LeavesOpen key Spells bytes h l s
@@ -63,24 +83,18 @@ module _ {X : Type 0} (key : X → ℕ) (Spells : List ℕ → X → Type 0) (by
   pub flagged_to : (longs : ℕ) (s : Compact X) → 1 ≤ longs → longs ≤ 3 → Comes (flagged_layout bytes longs h) s → ReadsFlagged key Spells bytes longs h s
   unfolding flagged_layout
   flagged_to longs s low high q =
-      let one = announced 1 1 MAX_THETA (is_ordered bytes) in
-      let two = announced 2 (count_at bytes) MAX_THETA (is_ordered bytes) in
-      let three = announced 3 (count_at bytes) (theta_at bytes) (is_ordered bytes) in
-      let tail_2 = cond (eqb longs 2) (Some (Filled two)) (admitted three) in
-      let tail_1 = cond (eqb longs 1) (Some (Filled one)) tail_2 in
-      let unfit = not (eqb (seed_hash_at bytes) h) || ltb (length bytes) (8 * longs) in
-      elim (chosen (is_empty bytes) (Some Empty) (cond unfit None tail_1) s q) [
+      elim (chosen (is_empty bytes) (Some Empty) (cond (is_unfit bytes h longs) None (from_one bytes longs)) s q) [
         | inl a ↦ rw a.1 (empty_image a.0)
-        | inr a ↦ elim (chosen unfit None tail_1 s a.1) [
+        | inr a ↦ elim (chosen (is_unfit bytes h longs) None (from_one bytes longs) s a.1) [
           | inl b ↦ absurd b.1
           | inr b ↦
               let same : seed_hash_at bytes ≡ h = grind (arith, nat_tests, b.0) in
-              elim (chosen (eqb longs 1) (Some (Filled one)) tail_2 s b.1) [
+              elim (chosen (eqb longs 1) (one_word bytes) (from_two bytes longs) s b.1) [
                 | inl c ↦ rw c.1.1 (single_image c.1.0 a.0 same (eqb-true _ _ c.0) c.1.2)
-                | inr c ↦ elim (chosen (eqb longs 2) (Some (Filled two)) (admitted three) s c.1) [
+                | inr c ↦ elim (chosen (eqb longs 2) (two_words bytes) (admitted (three_words bytes)) s c.1) [
                   | inl d ↦ rw d.1.1 (exact_image d.1.0 a.0 same (eqb-true _ _ d.0) d.1.2)
                   | inr d ↦
-                      let found = admitted_to three s d.1 in
+                      let found = admitted_to (three_words bytes) s d.1 in
                       let last : longs ≡ 3 = grind (arith, nat_tests, c.0, d.0) in
                       rw found.1 (estimating_image found.0 a.0 same last found.2)
                 ]
@@ -100,15 +114,9 @@ module _ (bytes : List ℕ) (h : ℕ) where
   pub flagged_whole : (longs : ℕ) → 1 ≤ longs → longs ≤ 3 → IsWholeLayout bytes (flagged_layout bytes longs h)
   unfolding flagged_layout
   flagged_whole longs low high =
-      let one = announced 1 1 MAX_THETA (is_ordered bytes) in
-      let two = announced 2 (count_at bytes) MAX_THETA (is_ordered bytes) in
-      let three = announced 3 (count_at bytes) (theta_at bytes) (is_ordered bytes) in
-      let tail_2 = cond (eqb longs 2) (Some (Filled two)) (admitted three) in
-      let tail_1 = cond (eqb longs 1) (Some (Filled one)) tail_2 in
-      let unfit = not (eqb (seed_hash_at bytes) h) || ltb (length bytes) (8 * longs) in
-      either_whole (is_empty bytes) (Some Empty) (cond unfit None tail_1) (λ e. tt) (λ e. either_whole unfit None tail_1 (λ f. tt) (λ f.
+      either_whole (is_empty bytes) (Some Empty) (cond (is_unfit bytes h longs) None (from_one bytes longs)) (λ e. tt) (λ e. either_whole (is_unfit bytes h longs) None (from_one bytes longs) (λ f. tt) (λ f.
       let whole : 8 * longs ≤ length bytes = grind (arith, nat_tests, f) in
-      either_whole (eqb longs 1) (Some (Filled one)) tail_2 (λ a. (omega arith, omega arith, omega arith)) (λ a.
-      either_whole (eqb longs 2) (Some (Filled two)) (admitted three) (λ b. let two_is = eqb-true longs 2 b in (omega arith, omega arith, omega arith)) (λ b.
+      either_whole (eqb longs 1) (one_word bytes) (from_two bytes longs) (λ a. (omega arith, omega arith, omega arith)) (λ a.
+      either_whole (eqb longs 2) (two_words bytes) (admitted (three_words bytes)) (λ b. let two_is = eqb-true longs 2 b in (omega arith, omega arith, omega arith)) (λ b.
       let last : longs ≡ 3 = grind (arith, nat_tests, a, b) in
-      admitted_whole three (omega arith)))))
+      admitted_whole (three_words bytes) (omega arith)))))

@@ -4,4 +4,4 @@ pub mod ReadEntries
 pub mod ReadSummaries
 pub mod ImageLayouts
 pub mod ReadAgain
-mod HashWords
+mod Chunks

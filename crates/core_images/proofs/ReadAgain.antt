@@ -1,5 +1,5 @@
 -- A written image is read as its state.
-use Rattle.std.proofs.Common.{◌≡◌, ℕ, ◌^◌, ◌<◌, ◌≤◌, Bool, true, false, cond, not, List, [], ◌∷◌, ◌++◌, length, map, refl, sym, ap, subst, inl, inr, arith, lt-ltb, le-ltb, eq-eqb, eqb, bit_and}
+use Rattle.std.proofs.Common.{◌≡◌, ℕ, ◌*◌, ◌^◌, ◌<◌, ◌≤◌, Bool, true, false, cond, not, List, [], ◌∷◌, ◌++◌, length, map, drop, refl, sym, ap, subst, inl, inr, arith, lt-ltb, le-ltb, eq-eqb, eqb, bit_and}
 use Rattle.std.specs.Int.{w16, w64, to_le_bytes}
 use Rattle.std.specs.List.{AllByRecursion, flat_map}
 use Rattle.std.proofs.lemmas.Bool.{cases_lt, cases_eq, ne_eqb}
@@ -66,27 +66,31 @@ module _ {X : Type 0} (key : X → ℕ) (Spells : List ℕ → X → Type 0) (te
     lawful : (start : ℕ) → IsShown (shown_of key (state_after_preamble (record { start = start; count = length s.entries; theta = s.theta; ordered = s.ordered }) s.seed_hash s.entries))
     lawful start = let P : Compact X → Type 0 = λ t. IsShown (shown_of key t) in subst P (sym (is_listing key s start e)) w.shown
 
+    -- bytes whose preamble says what the state says, and that have the spellings of its entries behind it
+    flagged_by : (bytes : List ℕ) (longs count theta : ℕ) (ordered : Bool) → count ≡ length s.entries → theta ≡ s.theta → ordered ≡ s.ordered → 8 * longs ≤ length bytes → drop (8 * longs) bytes ≡ flat_map text s.entries ++ rest
+        → (HasEntries key Spells bytes (announced longs count theta ordered) s.seed_hash s.entries → ReadsFlagged key Spells bytes longs s.seed_hash (state_after_preamble (announced longs count theta ordered) s.seed_hash s.entries))
+        → ReadsFlagged key Spells bytes longs s.seed_hash s
+    flagged_by bytes longs count theta ordered of_count of_theta of_order whole there reads =
+        let same : announced longs count theta ordered ≡ announced longs (length s.entries) s.theta s.ordered = λ i. announced longs (of_count i) (of_theta i) (of_order i) in
+        let lists : HasEntries key Spells bytes (announced longs (length s.entries) s.theta s.ordered) s.seed_hash s.entries = record {
+          whole = whole;
+          content = record { text = flat_map text s.entries; after = rest; there = there; spelled = spelled; counted = refl };
+          lawful = lawful (8 * longs);
+        } in
+        let P : Preamble → Type 0 = λ p. HasEntries key Spells bytes p s.seed_hash s.entries → ReadsFlagged key Spells bytes longs s.seed_hash (state_after_preamble p s.seed_hash s.entries) in
+        let Q : Compact X → Type 0 = λ t. ReadsFlagged key Spells bytes longs s.seed_hash t in
+        subst Q (is_listing key s (8 * longs) e) (subst P same reads lists)
+
     three : List ℕ
     three = ((head 3 family kind (cond s.ordered 0x1a 0x0a) s.seed_hash ++ (counted s ++ to_le_bytes w64 s.theta)) ++ flat_map text s.entries) ++ rest
 
     reads_three : Back three s
     unfolding three
     reads_three =
-        let whole : 24 ≤ length three = omega arith in
         let begins : Begins three 3 3 family = record { whole = omega arith; longs_are = refl; longs_low = omega arith; longs_high = omega arith; version_is = refl; family_is = refl } in
         let count : count_at three ≡ length s.entries = number-four (length s.entries) limited in
         let theta : theta_at three ≡ s.theta = let high = w.shown.theta_high in number-eight s.theta (omega arith) in
-        let order : is_ordered three ≡ s.ordered = flag_ordered s.ordered in
-        let same : announced 3 (count_at three) (theta_at three) (is_ordered three) ≡ announced 3 (length s.entries) s.theta s.ordered = λ i. announced 3 (count i) (theta i) (order i) in
-        let lists : HasEntries key Spells three (announced 3 (length s.entries) s.theta s.ordered) s.seed_hash s.entries = record {
-          whole = whole;
-          content = record { text = flat_map text s.entries; after = rest; there = refl; spelled = spelled; counted = refl };
-          lawful = lawful 24;
-        } in
-        let P : Preamble → Type 0 = λ p. HasEntries key Spells three p s.seed_hash s.entries → ReadsFlagged key Spells three 3 s.seed_hash (state_after_preamble p s.seed_hash s.entries) in
-        let Q : Compact X → Type 0 = λ t. ReadsFlagged key Spells three 3 s.seed_hash t in
-        let reads = subst P same (λ f. estimating_image s.entries (flag_empty s.ordered) (number-two s.seed_hash small) refl f) lists in
-        (3, begins, refl, subst Q (is_listing key s 24 e) reads)
+        (3, begins, refl, flagged_by three 3 (count_at three) (theta_at three) (is_ordered three) count theta (flag_ordered s.ordered) (omega arith) refl (estimating_image s.entries (flag_empty s.ordered) (number-two s.seed_hash small) refl))
 
     two : List ℕ
     two = ((head 2 family kind (cond s.ordered 0x1a 0x0a) s.seed_hash ++ counted s) ++ flat_map text s.entries) ++ rest
@@ -94,20 +98,9 @@ module _ {X : Type 0} (key : X → ℕ) (Spells : List ℕ → X → Type 0) (te
     reads_two : s.theta ≡ MAX_THETA → Back two s
     unfolding two
     reads_two top =
-        let whole : 16 ≤ length two = omega arith in
         let begins : Begins two 2 3 family = record { whole = omega arith; longs_are = refl; longs_low = omega arith; longs_high = omega arith; version_is = refl; family_is = refl } in
         let count : count_at two ≡ length s.entries = number-four (length s.entries) limited in
-        let order : is_ordered two ≡ s.ordered = flag_ordered s.ordered in
-        let same : announced 2 (count_at two) MAX_THETA (is_ordered two) ≡ announced 2 (length s.entries) s.theta s.ordered = λ i. announced 2 (count i) (sym top i) (order i) in
-        let lists : HasEntries key Spells two (announced 2 (length s.entries) s.theta s.ordered) s.seed_hash s.entries = record {
-          whole = whole;
-          content = record { text = flat_map text s.entries; after = rest; there = refl; spelled = spelled; counted = refl };
-          lawful = lawful 16;
-        } in
-        let P : Preamble → Type 0 = λ p. HasEntries key Spells two p s.seed_hash s.entries → ReadsFlagged key Spells two 2 s.seed_hash (state_after_preamble p s.seed_hash s.entries) in
-        let Q : Compact X → Type 0 = λ t. ReadsFlagged key Spells two 2 s.seed_hash t in
-        let reads = subst P same (λ f. exact_image s.entries (flag_empty s.ordered) (number-two s.seed_hash small) refl f) lists in
-        (2, begins, refl, subst Q (is_listing key s 16 e) reads)
+        (2, begins, refl, flagged_by two 2 (count_at two) MAX_THETA (is_ordered two) count (sym top) (flag_ordered s.ordered) (omega arith) refl (exact_image s.entries (flag_empty s.ordered) (number-two s.seed_hash small) refl))
 
     alone : List ℕ
     alone = ((head 1 family kind (cond s.ordered 0x1a 0x0a) s.seed_hash ++ []) ++ flat_map text s.entries) ++ rest
@@ -115,19 +108,8 @@ module _ {X : Type 0} (key : X → ℕ) (Spells : List ℕ → X → Type 0) (te
     reads_alone : s.theta ≡ MAX_THETA → length s.entries ≡ 1 → Back alone s
     unfolding alone
     reads_alone top one_entry =
-        let whole : 8 ≤ length alone = omega arith in
         let begins : Begins alone 1 3 family = record { whole = omega arith; longs_are = refl; longs_low = omega arith; longs_high = omega arith; version_is = refl; family_is = refl } in
-        let order : is_ordered alone ≡ s.ordered = flag_ordered s.ordered in
-        let same : announced 1 1 MAX_THETA (is_ordered alone) ≡ announced 1 (length s.entries) s.theta s.ordered = λ i. announced 1 (sym one_entry i) (sym top i) (order i) in
-        let lists : HasEntries key Spells alone (announced 1 (length s.entries) s.theta s.ordered) s.seed_hash s.entries = record {
-          whole = whole;
-          content = record { text = flat_map text s.entries; after = rest; there = refl; spelled = spelled; counted = refl };
-          lawful = lawful 8;
-        } in
-        let P : Preamble → Type 0 = λ p. HasEntries key Spells alone p s.seed_hash s.entries → ReadsFlagged key Spells alone 1 s.seed_hash (state_after_preamble p s.seed_hash s.entries) in
-        let Q : Compact X → Type 0 = λ t. ReadsFlagged key Spells alone 1 s.seed_hash t in
-        let reads = subst P same (λ f. single_image s.entries (flag_empty s.ordered) (number-two s.seed_hash small) refl f) lists in
-        (1, begins, refl, subst Q (is_listing key s 8 e) reads)
+        (1, begins, refl, flagged_by alone 1 1 MAX_THETA (is_ordered alone) (sym one_entry) (sym top) (flag_ordered s.ordered) (omega arith) refl (single_image s.entries (flag_empty s.ordered) (number-two s.seed_hash small) refl))
 
     as_three : s.theta < MAX_THETA → written_image text family kind s ++ rest ≡ three
     unfolding three

@@ -1,5 +1,6 @@
 -- The entries that a reader found, and those that it didn't find.
 use Rattle.std.proofs.Common.{◌≡◌, ℕ, ◌+◌, ◌*◌, ◌/◌, ◌<◌, ◌≤◌, ◌^◌, List, [], ◌∷◌, ◌++◌, length, drop, map, Some, Result, Ok, Err, refl, sym, ap, ◌∙◌, subst, inl, inr, arith, append_assoc, length-append}
+use Rattle.std.proofs.lemmas.Nat.{le-div}
 use Rattle.sketch_base.specs.declared.error.ErrorKind.{ErrorKind}
 use Rattle.core_compact.specs.CompactState.{Compact, shown_of}
 use Rattle.core_images.specs.Read.{IsRefused, ReadsState, LeavesOpen}
@@ -19,20 +20,22 @@ pub finds_along : {X : Type 0} (P Q : X → Type 0) (r : Result X ErrorKind) →
 finds_along P Q (Ok x) f g found = f x found
 finds_along P Q (Err e) f g found = refused_weaker e (λ q. (q.0, g q.0 q.1)) found
 
-module _ {X : Type 0} (Spells : List ℕ → X → Type 0) (has_hash : (a : List ℕ) (x : X) → Spells a x → 8 ≤ length a) where
-  each_long : (xs : List X) (text : List ℕ) → SpellsEach Spells text xs → 8 * length xs ≤ length text
+module _ {X : Type 0} (Spells : List ℕ → X → Type 0) (least : ℕ) (is_long : (a : List ℕ) (x : X) → Spells a x → least ≤ length a) where
+  each_long : (xs : List X) (text : List ℕ) → SpellsEach Spells text xs → length xs * least ≤ length text
   each_long [] text s = omega arith
   each_long (x ∷ xs) text s =
       let joined = ap length s.2 ∙ length-append s.0 s.1 in
-      let first = has_hash s.0 x s.3 in
+      let sum : length (x ∷ xs) * least ≡ least + length xs * least = omega arith in
+      let first = is_long s.0 x s.3 in
       let others = each_long xs s.1 s.4 in
       omega arith
 
   -- bytes with room for fewer than `count` entries don't spell `count` entries
-  pub too_many : (bytes : List ℕ) (count : ℕ) → length bytes / 8 < count → (xs : List X) × Holds Spells bytes count xs → ⊥
-  too_many bytes count limited found =
+  pub too_many : (bytes : List ℕ) (count : ℕ) → 0 < least → length bytes / least < count → (xs : List X) × Holds Spells bytes count xs → ⊥
+  too_many bytes count some limited found =
       let long = each_long found.0 found.1.text found.1.spelled in
       let joined = ap length found.1.there ∙ length-append found.1.text found.1.after in
+      let fitting = le-div (length found.0) (length bytes) least some (omega arith) in
       let counted = found.1.counted in
       omega arith
 

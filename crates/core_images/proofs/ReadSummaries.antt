@@ -1,10 +1,11 @@
 -- Reading a summary, and the entry with it.
-use Rattle.std.proofs.Common.{◌≡◌, ℕ, List, ◌++◌, take, drop, refl, sym, ap, ◌∙◌, append_assoc, take-append-drop}
+use Rattle.std.proofs.Common.{◌≡◌, ℕ, ◌<◌, List, ◌++◌, length, take, drop, refl, sym, ap, ◌∙◌, arith, append_assoc, length-append, take-append-drop}
 use Rattle.std.proofs.Math.Seq.{drop-append_seam}
 use Rattle.std.proofs.lemmas.List.{length-take-le}
 use Rattle.sketch_base.specs.Cursor.{ReadsBytes}
 use Rattle.core_slots.specs.declared.entry.TupleEntry.{TupleEntry}
 use Rattle.core_images.specs.Summary.{SpellsTuple}
+use Rattle.core_images.specs.SummarySpelling.{tuple_long}
 
 module _ {S : Type 0} (Spells : List ℕ → S → Type 0) where
   -- if an entry is spelled, its summary is spelled after its hash
@@ -28,3 +29,10 @@ module _ {S : Type 0} (Spells : List ℕ → S → Type 0) where
         (front, first, refl, (length-take-le 8 before r.enough, r.value), found.1),
         sym (take-append-drop 8 before) ∙ ap (λ l. front ++ l) (sym r.rest ∙ found.2) ∙ sym (append_assoc front first left),
       )
+
+  -- if fewer than eight bytes are left, they spell no entry
+  pub none_short : (before : List ℕ) → length before < 8 → (x : TupleEntry S) × (rest : List ℕ) × ((first : List ℕ) × SpellsTuple Spells first x × (before ≡ first ++ rest)) → ⊥
+  none_short before limited found =
+      let long = tuple_long Spells found.2.0 found.0 found.2.1 in
+      let joined = ap length found.2.2 ∙ length-append found.2.0 found.1 in
+      omega arith

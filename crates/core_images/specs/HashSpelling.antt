@@ -1,8 +1,8 @@
 -- A hash has one spelling, the bytes that are written of it; and lemmas on spellings of fixed length.
-use Rattle.std.proofs.Common.{◌≡◌, ℕ, ◌^◌, ◌<◌, ◌≤◌, List, ◌++◌, length, take, refl, sym, ap, ◌∙◌, arith, take_all}
+use Rattle.std.proofs.Common.{◌≡◌, ℕ, ◌^◌, ◌<◌, ◌≤◌, List, [], ◌∷◌, ◌++◌, length, take, refl, sym, ap, ◌∙◌, arith, take_all}
 use Rattle.std.proofs.lemmas.List.{take-append-le}
 use Rattle.std.proofs.lemmas.Nat.{from_le_bytes-to_le_bytes_4, from_le_bytes-to_le_bytes_8}
-use Rattle.std.specs.Int.{w32, w64, to_le_bytes}
+use Rattle.std.specs.Int.{w32, w64, to_le_bytes, from_le_bytes}
 use Rattle.sketch_base.specs.Bytes.{number}
 use Rattle.core_images.specs.Entry.{SpellsHash}
 
@@ -33,3 +33,20 @@ hash_written x h = (refl, sym (number-eight x h))
 
 pub hash_long : (a : List ℕ) (x : ℕ) → SpellsHash a x → 8 ≤ length a
 hash_long a x s = let eight = s.0 in omega arith
+
+-- eight bytes as a number
+pub word_number : (w : List ℕ) → length w ≡ 8 → from_le_bytes w64 w ≡ number w
+word_number [] e = absurd (omega arith)
+word_number (a ∷ []) e = absurd (omega arith)
+word_number (a ∷ b ∷ []) e = absurd (omega arith)
+word_number (a ∷ b ∷ c ∷ []) e = absurd (omega arith)
+word_number (a ∷ b ∷ c ∷ d ∷ []) e = absurd (omega arith)
+word_number (a ∷ b ∷ c ∷ d ∷ f ∷ []) e = absurd (omega arith)
+word_number (a ∷ b ∷ c ∷ d ∷ f ∷ g ∷ []) e = absurd (omega arith)
+word_number (a ∷ b ∷ c ∷ d ∷ f ∷ g ∷ h ∷ []) e = absurd (omega arith)
+word_number (a ∷ b ∷ c ∷ d ∷ f ∷ g ∷ h ∷ i ∷ []) e = omega arith
+word_number (a ∷ b ∷ c ∷ d ∷ f ∷ g ∷ h ∷ i ∷ j ∷ w) e = absurd (omega arith)
+
+-- any eight bytes spell the hash that is read of them
+pub hash_spelled : (a : List ℕ) → length a ≡ 8 → SpellsHash a (from_le_bytes w64 a)
+hash_spelled a e = (e, word_number a e)

@@ -1,7 +1,7 @@
 -- How images spell tuples: a hash, then its summary, whose spelling is a parameter. Whole numbers are spelled by their
 -- bytes.
-use Rattle.std.specs.Prelude.{ℕ, ℤ, ◌≡◌, List, length, ◌++◌}
-use Rattle.std.specs.Int.{Width, w64, to_le_bytes, cast_signed}
+use Rattle.std.specs.Prelude.{ℕ, ℤ, ◌≡◌, List, length, take, drop, ◌++◌}
+use Rattle.std.specs.Int.{Width, w64, to_le_bytes, from_le_bytes, cast_signed}
 use Rattle.sketch_base.specs.Bytes.{number}
 use Rattle.core_slots.specs.declared.entry.TupleEntry.{TupleEntry}
 use Rattle.core_images.specs.Entry.{SpellsHash}
@@ -25,3 +25,7 @@ SpellsNumber n bytes x = (length bytes ≡ n) × (x ≡ number bytes)
 -- these n bytes spell the number in two's complement, the lowest byte first
 abbrev pub SpellsSigned : Width → (n : ℕ) → List ℕ → ℤ → Type 0
 SpellsSigned w n bytes x = (length bytes ≡ n) × (x ≡ cast_signed w (number bytes))
+
+-- the entry that these bytes spell, if the bytes behind its hash are read so
+abbrev pub tuple_of : {S : Type 0} → (List ℕ → S) → List ℕ → TupleEntry S
+tuple_of summary_of bytes = record { hash = from_le_bytes w64 (take 8 bytes); summary = summary_of (drop 8 bytes) }

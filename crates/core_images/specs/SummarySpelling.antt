@@ -1,13 +1,13 @@
 -- A tuple has one spelling, the bytes that are written of it; and so has a whole number.
-use Rattle.std.proofs.Common.{◌≡◌, ℕ, ℤ, ◌^◌, ◌<◌, ◌≤◌, List, ◌++◌, length, refl, sym, ap, ◌∙◌, arith, append_assoc, length-append, to_z-of_z}
-use Rattle.std.proofs.lemmas.List.{append_cancel_left}
+use Rattle.std.proofs.Common.{◌≡◌, ℕ, ℤ, ◌+◌, ◌^◌, ◌<◌, ◌≤◌, List, [], ◌∷◌, ◌++◌, length, take, drop, refl, sym, ap, ◌∙◌, arith, append_assoc, length-append, take-append-drop, to_z-of_z}
+use Rattle.std.proofs.lemmas.List.{append_cancel_left, length-take-le, length-drop}
 use mir.ValLaws.{of_z_fits}
 use Rattle.std.specs.Prelude.{FitsSigned}
-use Rattle.std.specs.Int.{Width, w32, w64, to_le_bytes, cast_signed, cast_unsigned}
+use Rattle.std.specs.Int.{Width, w32, w64, to_le_bytes, from_le_bytes, cast_signed, cast_unsigned}
 use Rattle.sketch_base.specs.Bytes.{number}
 use Rattle.core_slots.specs.declared.entry.TupleEntry.{TupleEntry}
-use Rattle.core_images.specs.HashSpelling.{one_hash, hash_written, number-four, number-eight, same_front}
-use Rattle.core_images.specs.Summary.{SpellsTuple, SpellsNumber, SpellsSigned, tuple_text}
+use Rattle.core_images.specs.HashSpelling.{one_hash, hash_written, hash_spelled, word_number, number-four, number-eight, same_front}
+use Rattle.core_images.specs.Summary.{SpellsTuple, SpellsNumber, SpellsSigned, tuple_text, tuple_of}
 
 -- no spelling is a prefix of another, and each spells one number
 pub one_number : (n : ℕ) (a b u v : List ℕ) (x y : ℕ) → SpellsNumber n a x → SpellsNumber n b y → a ++ u ≡ b ++ v → (a ≡ b) × (x ≡ y)
@@ -26,6 +26,28 @@ four_written x h = (refl, sym (number-four x h))
 
 pub eight_written : (x : ℕ) → x < 2 ^ 64 → SpellsNumber 8 (to_le_bytes w64 x) x
 eight_written x h = hash_written x h
+
+-- four bytes as a number
+half_number : (w : List ℕ) → length w ≡ 4 → from_le_bytes w32 w ≡ number w
+half_number [] e = absurd (omega arith)
+half_number (a ∷ []) e = absurd (omega arith)
+half_number (a ∷ b ∷ []) e = absurd (omega arith)
+half_number (a ∷ b ∷ c ∷ []) e = absurd (omega arith)
+half_number (a ∷ b ∷ c ∷ d ∷ []) e = omega arith
+half_number (a ∷ b ∷ c ∷ d ∷ f ∷ w) e = absurd (omega arith)
+
+-- any bytes of a number's size spell the number that is read of them
+pub four_read : (a : List ℕ) → length a ≡ 4 → SpellsNumber 4 a (from_le_bytes w32 a)
+four_read a e = (e, half_number a e)
+
+pub eight_read : (a : List ℕ) → length a ≡ 8 → SpellsNumber 8 a (from_le_bytes w64 a)
+eight_read a e = (e, word_number a e)
+
+pub signed_four_read : (a : List ℕ) → length a ≡ 4 → SpellsSigned w32 4 a (cast_signed w32 (from_le_bytes w32 a))
+signed_four_read a e = (e, ap (cast_signed w32) (half_number a e))
+
+pub signed_eight_read : (a : List ℕ) → length a ≡ 8 → SpellsSigned w64 8 a (cast_signed w64 (from_le_bytes w64 a))
+signed_eight_read a e = (e, ap (cast_signed w64) (word_number a e))
 
 pub signed_four_written : (x : ℤ) → FitsSigned w32 x → SpellsSigned w32 4 (to_le_bytes w32 (cast_unsigned w32 x)) x
 signed_four_written x h =
@@ -56,3 +78,19 @@ module _ {S : Type 0} (Spells : List ℕ → S → Type 0) where
   -- a spelling has at least eight bytes
   pub tuple_long : (a : List ℕ) (x : TupleEntry S) → SpellsTuple Spells a x → 8 ≤ length a
   tuple_long a x p = let e = ap length p.2 ∙ length-append p.0 p.1 in let eight = p.3.0 in omega arith
+
+  module _ (n : ℕ) where
+    -- any bytes of this size spell the entry that is read of them, if those behind the hash spell its summary
+    pub tuple_spelled : (summary_of : List ℕ → S) → ((a : List ℕ) → length a ≡ n → Spells a (summary_of a)) → (a : List ℕ) → length a ≡ 8 + n → SpellsTuple Spells a (tuple_of summary_of a)
+    tuple_spelled summary_of any a e =
+        let front : length (take 8 a) ≡ 8 = length-take-le 8 a (omega arith) in
+        let behind : length (drop 8 a) ≡ n = let left = length-drop 8 a in omega arith in
+        (take 8 a, drop 8 a, sym (take-append-drop 8 a), hash_spelled (take 8 a) front, any (drop 8 a) behind)
+
+    -- a spelling has this size
+    pub tuple_size : ((a : List ℕ) (x : S) → Spells a x → length a ≡ n) → (a : List ℕ) (x : TupleEntry S) → SpellsTuple Spells a x → 8 + n ≤ length a
+    tuple_size size a x p =
+        let e = ap length p.2 ∙ length-append p.0 p.1 in
+        let front = p.3.0 in
+        let behind = size p.1 x.summary p.4 in
+        omega arith

@@ -5,7 +5,7 @@ ghost use Rattle.core_images.specs.Entry.{Holds};
 ghost use Rattle.core_images.specs.Read.{ReadsPrefix, IsRefused};
 ghost use Rattle.core_laws.specs.Refusal.{Refuses};
 
-use crate::hashes::{read_hashes, write_hashes};
+use crate::blocks::{FixedEntry, read_in_blocks, write_in_blocks};
 use core_laws::SketchEntry;
 use core_slots::ThetaEntry;
 use sketch_base::{Error, SketchBytes, SketchSlice};
@@ -20,17 +20,6 @@ pub trait ImageEntry<A: Allocator>: SketchEntry {
     ghost is_value: { Self → Type 0 };
     /// The bytes written of an entry.
     ghost text: { Self → List ℕ };
-
-    /// Appends the entry's bytes. It refuses with `OutOfMemory` alone; then the contents of `bytes` are unspecified.
-    fn write<B: Allocator>(&self, bytes: &mut SketchBytes<B>) -> Result<(), Error>
-        ensures ok { OnOk result (bytes.new.bytes ≡ bytes.old.bytes ++ text self.now) }
-        ensures value { OnOk result (is_value self.now) }
-        ensures refused { Refuses result None true };
-
-    /// Reads the entry that a prefix of the bytes spells, and moves past that prefix. It refuses with `InvalidData`
-    /// exactly if no prefix spells one, or with `OutOfMemory`; afterwards the cursor is unspecified.
-    fn read(alloc: &A, slice: &mut SketchSlice<'_>) -> Result<Self, Error>
-        ensures { ReadsPrefix (λ x. λ rest. (first : List ℕ) × spells first x × (slice.old ≡ first ++ rest)) slice.new result };
 
     /// Appends the bytes of each entry, in their order. It refuses with `OutOfMemory` alone; then the contents of
     /// `bytes` are unspecified.
@@ -59,6 +48,35 @@ pub trait ImageEntry<A: Allocator>: SketchEntry {
     ghost has_hash: { (a : List ℕ) (x : Self) → spells a x → 8 ≤ length a };
 }
 
+impl FixedEntry<8> for ThetaEntry {
+    ghost use Rattle.std.specs.Prelude.{⊤};
+    ghost use Rattle.std.specs.Int.{w64, to_le_bytes, from_le_bytes};
+    ghost use Rattle.core_images.specs.Entry.{SpellsHash};
+    ghost use Rattle.core_images.specs.HashSpelling.{hash_spelled, hash_long};
+
+    ghost spells = { SpellsHash };
+
+    ghost is_value = { λ _. ⊤ };
+
+    ghost text = { λ h. to_le_bytes w64 h };
+
+    ghost entry_of = { from_le_bytes w64 };
+
+    #[inline(always)]
+    fn to_text(&self) -> [u8; 8] {
+        u64::to_le_bytes(self.hash())
+    }
+
+    #[inline(always)]
+    fn of_text(spelling: &[u8; 8]) -> ThetaEntry {
+        ThetaEntry::of_hash(u64::from_le_bytes(*spelling))
+    }
+
+    ghost spelled = { hash_spelled };
+
+    ghost is_long = { hash_long };
+}
+
 impl<A: Allocator> ImageEntry<A> for ThetaEntry {
     ghost use Rattle.std.specs.Prelude.{⊤};
     ghost use Rattle.std.specs.Int.{w64, to_le_bytes};
@@ -72,21 +90,11 @@ impl<A: Allocator> ImageEntry<A> for ThetaEntry {
     ghost text = { λ h. to_le_bytes w64 h };
 
     #[inline(always)]
-    fn write<B: Allocator>(&self, bytes: &mut SketchBytes<B>) -> Result<(), Error> {
-        bytes.write_u64_le(self.hash())
-    }
-
-    #[inline(always)]
-    fn read(_alloc: &A, slice: &mut SketchSlice<'_>) -> Result<Self, Error> {
-        Ok(ThetaEntry::of_hash(slice.read_u64_le()?))
-    }
-
-    #[inline(always)]
     fn write_each<B: Allocator>(
         entries: &[ThetaEntry],
         bytes: &mut SketchBytes<B>,
     ) -> Result<(), Error> {
-        write_hashes(entries, bytes)
+        write_in_blocks::<ThetaEntry, 8, B>(entries, bytes)
     }
 
     #[inline(always)]
@@ -94,7 +102,7 @@ impl<A: Allocator> ImageEntry<A> for ThetaEntry {
     where
         A: Drop,
     {
-        read_hashes(alloc, bytes, count)
+        read_in_blocks::<ThetaEntry, 8, A>(alloc, bytes, count)
     }
 
     ghost one_spelling = { one_hash };

@@ -5,10 +5,11 @@
 //! entries and theta. The entries follow, each by its own spelling. Bytes after an image are ignored.
 #![tactic(auto)]
 
+mod blocks;
 mod check;
 mod entry;
-mod hashes;
 pub mod laws;
+mod numbers;
 mod preamble;
 mod read;
 mod summary;

@@ -1,8 +1,13 @@
 //! Summaries of tuple sketches, and how images spell them.
-ghost use Rattle.std.specs.Prelude.{◌≡◌, ℕ, ◌++◌, List, length, None, true, OnOk};
-ghost use Rattle.core_images.specs.Read.{ReadsPrefix};
+ghost use Rattle.std.specs.Prelude.{◌≡◌, ℕ, ◌++◌, List, length, None, true, IfOk, IfErr, OnOk};
+ghost use Rattle.std.specs.List.{AllByRecursion, flat_map};
+ghost use Rattle.core_images.specs.Entry.{Holds};
+ghost use Rattle.core_images.specs.Read.{ReadsPrefix, IsRefused};
+ghost use Rattle.core_images.specs.Summary.{SpellsTuple, is_tuple_value, tuple_text};
+ghost use Rattle.core_slots.specs.declared.entry.TupleEntry.{TupleEntry};
 ghost use Rattle.core_laws.specs.Refusal.{Refuses};
 
+use crate::blocks::{read_in_blocks, write_in_blocks};
 use crate::entry::ImageEntry;
 use core_slots::TupleEntry;
 use sketch_base::{Error, ErrorKind, SketchBytes, SketchSlice};
@@ -32,10 +37,56 @@ pub trait TupleSummaryValue<A: Allocator> {
         ensures value { OnOk result (is_value self.now) }
         ensures refused { Refuses result None true };
 
+    /// Appends the bytes of each entry, in their order: those of its hash, and then those of its summary. A type whose
+    /// summaries have one size may write many at once; the bytes are the same. It refuses with `OutOfMemory` alone; then
+    /// the contents of `bytes` are unspecified.
+    fn serialize_entries<B: Allocator>(
+        entries: &[TupleEntry<Self>],
+        bytes: &mut SketchBytes<B>,
+    ) -> Result<(), Error>
+        ensures ok { OnOk result (bytes.new.bytes ≡ bytes.old.bytes ++ flat_map (tuple_text text) entries.now) }
+        ensures values { OnOk result (AllByRecursion (is_tuple_value is_value) entries.now) }
+        ensures refused { Refuses result None true }
+    {
+        'write_each: for entry in entries {
+            bytes.write_u64_le(entry.hash())?;
+            entry.summary().serialize_value(bytes)?;
+        }
+        Ok(())
+    }
+
     /// Reads the summary that a prefix of the bytes spells, and moves past that prefix. It refuses with `InvalidData`
     /// exactly if no prefix spells one, or with `OutOfMemory`; afterwards the cursor is unspecified.
     fn deserialize_value(alloc: &A, slice: &mut SketchSlice<'_>) -> Result<Self, Error>
         ensures { ReadsPrefix (λ x. λ rest. (first : List ℕ) × spells first x × (slice.old ≡ first ++ rest)) slice.new result };
+
+    /// Reads `count` entries from the front of the bytes, each the eight bytes of its hash and then a summary, in memory of
+    /// the allocator. It refuses with `InvalidData` exactly if the bytes don't begin with `count` entries, or with
+    /// `OutOfMemory`. It allocates room for at most one entry per eight bytes.
+    fn deserialize_entries(
+        alloc: A,
+        bytes: &[u8],
+        count: u32,
+    ) -> Result<Vec<TupleEntry<Self>, A>, Error>
+    where
+        Self: Drop,
+        A: Drop,
+        ensures ok { IfOk result (λ v. Holds (SpellsTuple spells) bytes.now count v.items) }
+        ensures refused { IfErr result (λ e. IsRefused e ((xs : List (TupleEntry Self)) × Holds (SpellsTuple spells) bytes.now count xs)) }
+    {
+        // Each entry takes at least eight bytes: never allocate room for more entries than the bytes can have.
+        if bytes.len() / 8 < count as usize {
+            return Err(Error::new(ErrorKind::InvalidData));
+        }
+        let mut entries = Vec::with_capacity(alloc, count as usize)?;
+        let mut slice = SketchSlice::new(bytes);
+        'read_each: for _i in 0..count {
+            let hash = slice.read_u64_le()?;
+            let summary = Self::deserialize_value(entries.allocator(), &mut slice)?;
+            entries.push(TupleEntry::of_hash(hash, summary))?;
+        }
+        Ok(entries)
+    }
 
     /// No spelling is a prefix of another, and each spells one summary.
     ghost one_spelling: { (a b u v : List ℕ) (x y : Self) → spells a x → spells b y → a ++ u ≡ b ++ v → (a ≡ b) × (x ≡ y) };
@@ -55,44 +106,18 @@ impl<S: TupleSummaryValue<A> + Drop, A: Allocator> ImageEntry<A> for TupleEntry<
 
     ghost text = { tuple_text S.text };
 
-    #[inline(always)]
-    fn write<B: Allocator>(&self, bytes: &mut SketchBytes<B>) -> Result<(), Error> {
-        bytes.write_u64_le(self.hash())?;
-        self.summary().serialize_value(bytes)
-    }
-
-    #[inline(always)]
-    fn read(alloc: &A, slice: &mut SketchSlice<'_>) -> Result<Self, Error> {
-        let hash = slice.read_u64_le()?;
-        let summary = S::deserialize_value(alloc, slice)?;
-        Ok(TupleEntry::of_hash(hash, summary))
-    }
-
     fn write_each<B: Allocator>(
         entries: &[TupleEntry<S>],
         bytes: &mut SketchBytes<B>,
     ) -> Result<(), Error> {
-        'write_each: for entry in entries {
-            <TupleEntry<S> as ImageEntry<A>>::write(entry, bytes)?;
-        }
-        Ok(())
+        S::serialize_entries(entries, bytes)
     }
 
     fn read_each(alloc: A, bytes: &[u8], count: u32) -> Result<Vec<TupleEntry<S>, A>, Error>
     where
         A: Drop,
     {
-        // Each entry takes at least eight bytes: never allocate room for more entries than the bytes can have.
-        if bytes.len() / 8 < count as usize {
-            return Err(Error::new(ErrorKind::InvalidData));
-        }
-        let mut entries = Vec::with_capacity(alloc, count as usize)?;
-        let mut slice = SketchSlice::new(bytes);
-        'read_each: for _i in 0..count {
-            let entry = <TupleEntry<S> as ImageEntry<A>>::read(entries.allocator(), &mut slice)?;
-            entries.push(entry)?;
-        }
-        Ok(entries)
+        S::deserialize_entries(alloc, bytes, count)
     }
 
     ghost one_spelling = { one_tuple S.spells S.one_spelling };
@@ -129,6 +154,24 @@ impl<A: Allocator> TupleSummaryValue<A> for u32 {
         slice.read_u32_le()
     }
 
+    fn serialize_entries<B: Allocator>(
+        entries: &[TupleEntry<u32>],
+        bytes: &mut SketchBytes<B>,
+    ) -> Result<(), Error> {
+        write_in_blocks::<TupleEntry<u32>, 12, B>(entries, bytes)
+    }
+
+    fn deserialize_entries(
+        alloc: A,
+        bytes: &[u8],
+        count: u32,
+    ) -> Result<Vec<TupleEntry<u32>, A>, Error>
+    where
+        A: Drop,
+    {
+        read_in_blocks::<TupleEntry<u32>, 12, A>(alloc, bytes, count)
+    }
+
     ghost one_spelling = { one_number 4 };
 
     ghost text_spells = { four_written };
@@ -159,6 +202,24 @@ impl<A: Allocator> TupleSummaryValue<A> for u64 {
     #[inline(always)]
     fn deserialize_value(_alloc: &A, slice: &mut SketchSlice<'_>) -> Result<Self, Error> {
         slice.read_u64_le()
+    }
+
+    fn serialize_entries<B: Allocator>(
+        entries: &[TupleEntry<u64>],
+        bytes: &mut SketchBytes<B>,
+    ) -> Result<(), Error> {
+        write_in_blocks::<TupleEntry<u64>, 16, B>(entries, bytes)
+    }
+
+    fn deserialize_entries(
+        alloc: A,
+        bytes: &[u8],
+        count: u32,
+    ) -> Result<Vec<TupleEntry<u64>, A>, Error>
+    where
+        A: Drop,
+    {
+        read_in_blocks::<TupleEntry<u64>, 16, A>(alloc, bytes, count)
     }
 
     ghost one_spelling = { one_number 8 };
@@ -194,6 +255,24 @@ impl<A: Allocator> TupleSummaryValue<A> for i32 {
         Ok(bits.cast_signed())
     }
 
+    fn serialize_entries<B: Allocator>(
+        entries: &[TupleEntry<i32>],
+        bytes: &mut SketchBytes<B>,
+    ) -> Result<(), Error> {
+        write_in_blocks::<TupleEntry<i32>, 12, B>(entries, bytes)
+    }
+
+    fn deserialize_entries(
+        alloc: A,
+        bytes: &[u8],
+        count: u32,
+    ) -> Result<Vec<TupleEntry<i32>, A>, Error>
+    where
+        A: Drop,
+    {
+        read_in_blocks::<TupleEntry<i32>, 12, A>(alloc, bytes, count)
+    }
+
     ghost one_spelling = { one_signed w32 4 };
 
     ghost text_spells = { signed_four_written };
@@ -225,6 +304,24 @@ impl<A: Allocator> TupleSummaryValue<A> for i64 {
     fn deserialize_value(_alloc: &A, slice: &mut SketchSlice<'_>) -> Result<Self, Error> {
         let bits = slice.read_u64_le()?;
         Ok(bits.cast_signed())
+    }
+
+    fn serialize_entries<B: Allocator>(
+        entries: &[TupleEntry<i64>],
+        bytes: &mut SketchBytes<B>,
+    ) -> Result<(), Error> {
+        write_in_blocks::<TupleEntry<i64>, 16, B>(entries, bytes)
+    }
+
+    fn deserialize_entries(
+        alloc: A,
+        bytes: &[u8],
+        count: u32,
+    ) -> Result<Vec<TupleEntry<i64>, A>, Error>
+    where
+        A: Drop,
+    {
+        read_in_blocks::<TupleEntry<i64>, 16, A>(alloc, bytes, count)
     }
 
     ghost one_spelling = { one_signed w64 8 };

@@ -405,9 +405,26 @@ module _ {X : Type 0} (key : X → ℕ) where
   answer_all a b listing hs seed_hash requested s first second shown hashes is =
       rw (first, second) (rw (kept_all key listing a.theta (each-from_map key (λ h. h < a.theta) listing (rw hashes shown.below_theta))) at is)
 
-  pub shown_below : (a b : Shown) (listing : List X) (hs : List ℕ) (theta seed_hash : ℕ) (ordered : Bool) → IsShown a → IsShown b → map key listing ≡ a.hashes → theta ≡ min a.theta b.theta → IsShown (shown_of key (listed key theta seed_hash (kept_of key (map_of key listing) hs theta) ordered))
+  shown_below : (a b : Shown) (listing : List X) (hs : List ℕ) (theta seed_hash : ℕ) (ordered : Bool) → IsShown a → IsShown b → map key listing ≡ a.hashes → theta ≡ min a.theta b.theta → IsShown (shown_of key (listed key theta seed_hash (kept_of key (map_of key listing) hs theta) ordered))
   shown_below a b listing hs theta seed_hash ordered shown_a shown_b hashes theta_is =
       shown_ascending key a listing hs theta seed_hash ordered shown_a hashes (omega (arith, theta_is, shown_a.theta_low, shown_b.theta_low)) (omega (arith, theta_is))
 
-pub lesser : (theta first second : ℕ) (a b : Shown) → theta ≡ min first second → a.theta ≡ first → b.theta ≡ second → theta ≡ min a.theta b.theta
+lesser : (theta first second : ℕ) (a b : Shown) → theta ≡ min first second → a.theta ≡ first → b.theta ≡ second → theta ≡ min a.theta b.theta
 lesser theta first second a b is first_is second_is = rw (first_is, second_is) is
+
+module _ {X : Type 0} (key : X → ℕ) where
+  -- the entries that one sketch has below the lesser of two thetas, and another lacks
+  pub record IsKeptBelow (a b : Shown) (listing : List X) (theta seed_hash : ℕ) : Type 0 where
+    pub theta_is : theta ≡ min a.theta b.theta
+    pub shown : (ordered : Bool) → IsShown (shown_of key (listed key theta seed_hash (kept_of key (map_of key listing) b.hashes theta) ordered))
+    pub apart : IsApart key (kept_of key (map_of key listing) b.hashes theta)
+
+  pub kept_below : (a b : Shown) (listing : List X) (theta first second seed_hash : ℕ) → IsShown a → IsShown b → map key listing ≡ a.hashes → theta ≡ min first second → a.theta ≡ first → b.theta ≡ second → IsKeptBelow a b listing theta seed_hash
+  kept_below a b listing theta first second seed_hash shown_a shown_b hashes is first_is second_is =
+      let theta_is = lesser theta first second a b is first_is second_is in
+      let shown = shown_below key a b listing b.hashes theta seed_hash in
+      record {
+        theta_is = theta_is;
+        shown = λ ordered. shown ordered shown_a shown_b hashes theta_is;
+        apart = apart_shown key theta seed_hash _ false (shown false shown_a shown_b hashes theta_is);
+      }

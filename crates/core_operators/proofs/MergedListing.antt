@@ -164,9 +164,22 @@ module _ {X : Type 0} (key : X → ℕ) (merges : X → X → X) (refuses : X �
         | false ↦ from_below_merging listing first now t xs ordered (merging-passed listing first xs now x ordered so_far)
       ]
 
-  pub still_merging : (listing first now : List X) (t : ℕ) (xs : List X) (ordered : Bool) → IsMerging key listing first xs now ordered → IsMerging key listing first (still_read key ordered t xs) now ordered
+  still_merging : (listing first now : List X) (t : ℕ) (xs : List X) (ordered : Bool) → IsMerging key listing first xs now ordered → IsMerging key listing first (still_read key ordered t xs) now ordered
   still_merging listing first now t xs true so_far = so_far
   still_merging listing first now t xs false so_far = from_below_merging listing first now t xs false so_far
+
+  -- the entry that was read next, in front of those left: what the steps for them all result in, and that it is merged
+  pub record IsNextEntry (k theta : ℕ) (listing first left : List X) (x : X) (v : Retained X) (ordered : Bool) (all : Retained (Fold X)) : Type 0 where
+    pub folds : after_upserts (fold_key key) k (merge_step (fold_merges key merges refuses) never) (map Value (below key (x ∷ left) theta)) (unmarked v) ≡ all
+    pub merging : IsMerging key listing first (x ∷ left) v.entries ordered
+
+  pub next_entry : (k theta lesser : ℕ) (listing first rest left : List X) (x : X) (v : Retained X) (ordered : Bool) (all : Retained (Fold X)) → lesser ≡ min theta v.theta → still_read key ordered lesser rest ≡ x ∷ left
+      → after_upserts (fold_key key) k (merge_step (fold_merges key merges refuses) never) (map Value (below key rest theta)) (unmarked v) ≡ all → IsMerging key listing first rest v.entries ordered → IsNextEntry k theta listing first left x v ordered all
+  next_entry k theta lesser listing first rest left x v ordered all lesser_is read folded merging =
+      let is : still_read key ordered (min theta v.theta) rest ≡ x ∷ left = rw (← lesser_is) read in
+      let folds = still_folds k theta v ordered rest ∙ folded in
+      let merged = still_merging listing first v.entries (min theta v.theta) rest ordered merging in
+      record { folds = rw is at folds; merging = rw (← is) merged }
 
   pub folds_stop : (k theta : ℕ) (listing first left : List X) (x : X) (v : Retained X) → IsMerging key listing first (x ∷ left) v.entries true → min theta v.theta ≤ key x →
       after_upserts (fold_key key) k (merge_step (fold_merges key merges refuses) never) (map Value (below key (x ∷ left) theta)) (unmarked v) ≡ unmarked v

@@ -1,14 +1,18 @@
 -- Lists that are read from the front: the rest of a slice, and its first entry.
 use Rattle.std.specs.List.{slice_get}
 use Rattle.std.specs.Prelude.{option_map}
-use Rattle.std.proofs.Common.{Option, None, Some, ℕ, List, [], ◌∷◌, ◌≡◌, ◌+◌, ◌*◌, ◌-◌, ◌<◌, ◌≤◌, cond, leb, length, take, drop, refl, arith}
+use Rattle.std.proofs.Common.{Option, None, Some, ℕ, List, [], ◌∷◌, ◌≡◌, ◌+◌, ◌*◌, ◌-◌, ◌<◌, ◌≤◌, cond, leb, length, take, drop, get_or, refl, sym, ap, ◌∙◌, arith}
 use Rattle.std.proofs.lemmas.Bool.Decides.{nat_tests}
-use Rattle.std.proofs.lemmas.List.{length-drop, take_all}
+use Rattle.std.proofs.lemmas.List.{length-drop, take_all, drop_more}
 
 module _ {X : Type 0} where
   -- a slice up to the end is all of the rest
   pub behind : (xs : List X) (n : ℕ) → take (length xs - n) (drop n xs) ≡ drop n xs
   behind xs n = take_all (length xs - n) (drop n xs) (omega (arith, length-drop n xs))
+
+  -- what is left from a place on, by the entry there
+  pub left_at : (xs : List X) (i : ℕ) (x : X) → i < length xs → x ≡ get_or xs i x → drop i xs ≡ x ∷ drop (i + 1) xs
+  left_at xs i x inside is = drop_more xs i x inside ∙ ap (λ y. y ∷ drop (i + 1) xs) (sym is)
 
   pub some_first : (left : List X) (x : X) → Some x ≡ slice_get left 0 → 0 < length left
   some_first [] x first = absurd (cc)

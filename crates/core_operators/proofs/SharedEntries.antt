@@ -18,7 +18,7 @@ use Rattle.core_laws.proofs.maps.Ascending.{ascending-filter, ascending-tail, as
 use Rattle.core_laws.proofs.operators.CommonMaps.{entry_at-common, each-common, ascending-common, common-nil}
 use Rattle.core_laws.proofs.maps.LookUps.{entry_at-below, entry_at_head, entry_at_rest, past, same_map}
 use Rattle.core_laws.proofs.insertions.Unmarked.{fold_keeps, ascending-marked, each-marked}
-use Rattle.core_laws.proofs.maps.MapsOfLists.{entry_at-map_of, ascending-map_of, ascending-apart, apart-distinct, each-from_map}
+use Rattle.core_laws.proofs.maps.MapsOfLists.{entry_at-map_of, ascending-map_of, ascending-from_map, ascending-apart, apart-distinct, each-from_map}
 use Rattle.core_laws.proofs.cuts.Cuts.{below_all}
 use Rattle.core_table.proofs.OtherOrders.{map_of-ascending, each-map_of}
 use Rattle.core_operators.proofs.DifferenceEntries.{count_sorted, fewer, stops}
@@ -394,15 +394,13 @@ module _ {X : Type 0} (key : X → ℕ) (merges : X → X → X) (refuses : X �
               let a : leb (key y) (key x) ≡ false = grind (arith, nat_tests) in
               let b : leb (key x) (key y) ≡ true = grind (arith, nat_tests) in
               let c : eqb (key x) (key y) ≡ false = grind (arith, nat_tests) in
-              let none : o ≡ None = no_entry o (rw c at folded) in
-              rw (a, b, none) (shared_less less)
+              rw (a, b, no_entry o (rw c at folded)) (shared_less less)
           | inr no_less ↦ elim (cases_lt (key y) (key x)) [
             | inl greater ↦
                 let a : leb (key y) (key x) ≡ true = grind (arith, nat_tests) in
                 let b : leb (key x) (key y) ≡ false = grind (arith, nat_tests) in
                 let c : eqb (key x) (key y) ≡ false = grind (arith, nat_tests) in
-                let none : o ≡ None = no_entry o (rw c at folded) in
-                rw (a, b, none) (shared_greater greater)
+                rw (a, b, no_entry o (rw c at folded)) (shared_greater greater)
             | inr no_greater ↦
                 let a : leb (key y) (key x) ≡ true = grind (arith, nat_tests) in
                 let b : leb (key x) (key y) ≡ true = grind (arith, nat_tests) in
@@ -454,28 +452,16 @@ module _ {X : Type 0} (key : X → ℕ) (merges : X → X → X) (refuses : X �
       read_past key merges refuses keeps arriving right left z t reading (rw z_is le)
 
   -- an arriving entry is looked up among the retained ones
-  paired : (x : X) (e : Option X) → both (fold_merges key merges refuses) (option_map Value e) (Some (Value x)) ≡ option_map (λ w. fold_merges key merges refuses (Value w) (Value x)) e
-  paired x None = refl
-  paired x (Some y) = refl
-
-  pub pair_read : (content : List X) (x : X) (t hash : ℕ) (e o : Option X) → e ≡ entry_at key content hash → hash ≡ key x → hash < t → IsSharedPair key merges refuses e (Some x) o → option_map Value o ≡ read_one key merges refuses content t x
+  pair_read : (content : List X) (x : X) (t hash : ℕ) (e o : Option X) → e ≡ entry_at key content hash → hash ≡ key x → hash < t → IsSharedPair key merges refuses true x e o → option_map Value o ≡ read_one key merges refuses content t x
   pair_read content x t hash e o is hash_is lt pair =
       let low : key x < t = rw (← hash_is) lt in
       let there : e ≡ entry_at key (below key content t) (key x) = is ∙ ap (λ (h : ℕ). entry_at key content h) hash_is ∙ sym (one_low key merges refuses content t x low) in
-      pair ∙ paired x e ∙ ap (option_map (λ w. fold_merges key merges refuses (Value w) (Value x))) there
-
-  pub pair_refused : (content : List X) (x : X) (t hash : ℕ) (e : Option X) → e ≡ entry_at key content hash → hash ≡ key x → hash < t → IsRefusedPair refuses e (Some x) → IsMergeRefused key refuses (below key content t) (x ∷ [])
-  pair_refused content x t hash None is hash_is lt refused = absurd refused
-  pair_refused content x t hash (Some y) is hash_is lt refused = one_refused key merges refuses content t x y (rw (← hash_is) lt) (ap (λ (h : ℕ). entry_at key content h) (sym hash_is) ∙ sym is) refused
+      pair ∙ ap (option_map (λ w. fold_merges key merges refuses (Value w) (Value x))) there
 
   -- without the one entry there is no pair
-  pub unpaired : {R : Type 0} (at : R → X) (r : Option R) (x : X) (o : Option X) → IsSharedPair key merges refuses (option_map at r) (Some x) o → r ≡ None → o ≡ None
-  unpaired at None x o pair e = some_is_none key o pair
-  unpaired at (Some r) x o pair e = absurd (cc)
-
-  pub unmatched : {R : Type 0} (at : R → X) (r : Option R) (y : X) (o : Option X) → IsSharedPair key merges refuses (Some y) (option_map at r) o → r ≡ None → o ≡ None
-  unmatched at None y o pair e = some_is_none key o pair
-  unmatched at (Some r) y o pair e = absurd (cc)
+  pub unpaired : {R : Type 0} (at : R → X) (r : Option R) (arrives : Bool) (x : X) (o : Option X) → IsSharedPair key merges refuses arrives x (option_map at r) o → r ≡ None → o ≡ None
+  unpaired at None arrives x o pair e = some_is_none key o pair
+  unpaired at (Some r) arrives x o pair e = absurd (cc)
 
   -- the folds that retained entries below a theta share with arriving ones, in the order of the retained ones
   abbrev pub held_from : (content arriving : List X) (t : ℕ) → List (Fold X)
@@ -500,31 +486,66 @@ module _ {X : Type 0} (key : X → ℕ) (merges : X → X → X) (refuses : X �
   more_items items None rest = refl
   more_items items (Some z) rest = ap (λ ys. ys ++ rest) (map-append Value items (z ∷ [])) ∙ append_assoc (map Value items) (Value z ∷ []) rest
 
-  matched : (y : X) (e : Option X) → both (fold_merges key merges refuses) (Some (Value y)) (option_map Value e) ≡ option_map (λ v. fold_merges key merges refuses (Value y) v) (option_map Value e)
+  matched : (y : X) (e : Option X) → option_map (λ v. fold_merges key merges refuses (Value y) v) (option_map Value e) ≡ option_map (λ x. fold_merges key merges refuses (Value y) (Value x)) e
   matched y None = refl
   matched y (Some x) = refl
 
   -- one more retained entry is looked up among the arriving ones
-  pub held_more : (items left arriving : List X) (y : X) (t hash : ℕ) (e o : Option X) (all : List (Fold X)) → e ≡ entry_at key arriving hash → hash ≡ key y → hash < t → IsSharedPair key merges refuses (Some y) e o
+  held_more : (items left arriving : List X) (y : X) (t hash : ℕ) (e o : Option X) (all : List (Fold X)) → e ≡ entry_at key arriving hash → hash ≡ key y → hash < t → IsSharedPair key merges refuses false y e o
       → map Value items ++ held_from (y ∷ left) arriving t ≡ all → map Value (option_map_or (λ z. items ++ z ∷ []) o items) ++ held_from left arriving t ≡ all
   held_more items left arriving y t hash e o all is hash_is lt pair was =
       let low : ltb (key y) t ≡ true = grind (arith, nat_tests, hash_is, lt) in
       let seen : entry_at (fold_key key) (map Value arriving) (key y) ≡ option_map Value e = entry_at-map Value key (fold_key key) (λ z. refl) arriving (key y) ∙ ap (option_map Value) (ap (λ (h : ℕ). entry_at key arriving h) (sym hash_is) ∙ sym is) in
-      let one : option_map (λ v. fold_merges key merges refuses (Value y) v) (entry_at (fold_key key) (map Value arriving) (key y)) ≡ option_map Value o = ap (option_map (λ v. fold_merges key merges refuses (Value y) v)) seen ∙ sym (matched y e) ∙ sym pair in
+      let one : option_map (λ v. fold_merges key merges refuses (Value y) v) (entry_at (fold_key key) (map Value arriving) (key y)) ≡ option_map Value o = ap (option_map (λ v. fold_merges key merges refuses (Value y) v)) seen ∙ matched y e ∙ sym pair in
       let first : held_from (y ∷ left) arriving t ≡ common (fold_key key) (fold_merges key merges refuses) (Value y ∷ map Value (below key left t)) (map Value arriving) = rw low refl in
       more_items items o (held_from left arriving t) ∙ ap (λ us. map Value items ++ us) (sym (held_one y (below key left t) (map Value arriving) (option_map Value o) one) ∙ sym first) ∙ was
 
-  pub held_past : (y : X) (left arriving : List X) (t : ℕ) → IsAscending key (y ∷ left) → t ≤ key y → held_from (y ∷ left) arriving t ≡ []
+  held_past : (y : X) (left arriving : List X) (t : ℕ) → IsAscending key (y ∷ left) → t ≤ key y → held_from (y ∷ left) arriving t ≡ []
   held_past y left arriving t up le = ap (λ ys. common (fold_key key) (fold_merges key merges refuses) (map Value ys) (map Value arriving)) (stops key y left t up le)
 
-  pub held_refused : (content left arriving : List X) (y : X) (t hash : ℕ) (e : Option X) → IsReading key content (y ∷ left) true → e ≡ entry_at key arriving hash → hash ≡ key y → hash < t → IsRefusedPair refuses (Some y) e → IsMergeRefused key refuses (below key content t) arriving
-  held_refused content left arriving y t hash None reading is hash_is lt refused = absurd refused
-  held_refused content left arriving y t hash (Some x) reading is hash_is lt refused = record {
+  -- the folds that the entries of a short list share with those of a long one below a theta; the short one arrives, or
+  -- the long one does
+  pub found_from : (arrives : Bool) (short long : List X) (t : ℕ) → List (Fold X)
+  found_from true short long t = read_from key merges refuses short long t
+  found_from false short long t = held_from short long t
+
+  pub found_none : (arrives : Bool) (long : List X) (t : ℕ) → found_from arrives [] long t ≡ []
+  unfolding found_from
+  found_none true long t = refl
+  found_none false long t = refl
+
+  -- one more entry of the short list is looked up
+  pub found_more : (arrives : Bool) (items left long : List X) (x : X) (t hash : ℕ) (e o : Option X) (all : List (Fold X)) → e ≡ entry_at key long hash → hash ≡ key x → hash < t → IsSharedPair key merges refuses arrives x e o
+      → map Value items ++ found_from arrives (x ∷ left) long t ≡ all → map Value (option_map_or (λ z. items ++ z ∷ []) o items) ++ found_from arrives left long t ≡ all
+  unfolding found_from
+  found_more true items left long x t hash e o all is hash_is lt pair was = more_read key merges refuses keeps items left long x t o all (pair_read long x t hash e o is hash_is lt pair) was
+  found_more false items left long x t hash e o all is hash_is lt pair was = held_more items left long x t hash e o all is hash_is lt pair was
+
+  -- the rest of the short list, past a theta, is not looked up
+  pub found_past : (arrives : Bool) (short left long : List X) (x : X) (t : ℕ) → IsReading key short (x ∷ left) true → t ≤ key x → found_from arrives (x ∷ left) long t ≡ []
+  unfolding found_from
+  found_past true short left long x t reading le = read_past key merges refuses keeps short left long x t reading le
+  found_past false short left long x t reading le = held_past x left long t (reading.in_order refl) le
+
+  -- for ascending lists the order of either list is the same
+  pub found_in_all : (arrives : Bool) (short long : List X) (t : ℕ) → IsAscending key short → IsAscending key long
+      → found_from arrives short long t ≡ read_from key merges refuses (cond arrives short long) (cond arrives long short) t
+  unfolding found_from
+  found_in_all true short long t up long_up = refl
+  found_in_all false short long t up long_up = held_is_read short long t up long_up
+
+  -- a refused pair is one of both lists
+  pub found_refused : (arrives : Bool) (short left long : List X) (x : X) (t hash : ℕ) (e : Option X) → IsReading key short (x ∷ left) true → e ≡ entry_at key long hash → hash ≡ key x → hash < t → IsRefusedPair refuses arrives x e
+      → IsMergeRefused key refuses (below key (cond arrives long short) t) (cond arrives short long)
+  found_refused arrives short left long x t hash None reading is hash_is lt refused = absurd refused
+  found_refused true short left long x t hash (Some y) reading is hash_is lt refused =
+      reading-refused key refuses _ short left x true reading (one_refused key merges refuses long t x y (rw (← hash_is) lt) (ap (λ (h : ℕ). entry_at key long h) (sym hash_is) ∙ sym is) refused)
+  found_refused false short left long y t hash (Some x) reading is hash_is lt refused = record {
     at = key y;
     held_entry = y;
     new_entry = x;
-    is_held = one_low key merges refuses content t y (rw (← hash_is) lt) ∙ reading.among (key y) y (entry_at_head key y left (key y) refl);
-    comes = ap (λ (h : ℕ). entry_at key arriving h) (sym hash_is) ∙ sym is;
+    is_held = one_low key merges refuses short t y (rw (← hash_is) lt) ∙ reading.among (key y) y (entry_at_head key y left (key y) refl);
+    comes = ap (λ (h : ℕ). entry_at key long h) (sym hash_is) ∙ sym is;
     refused = refused;
   }
 
@@ -534,7 +555,7 @@ module _ {X : Type 0} (key : X → ℕ) (merges : X → X → X) (refuses : X �
     pub retained : IsRetained key (record { entries = items; theta = t })
     pub fewer : length items ≤ length listing
 
-  pub new_content : (content : Retained X) (listing items : List X) (theta t : ℕ) → IsRetained key content → t ≡ min content.theta theta → map Value items ≡ read_from key merges refuses (map_of key listing) content.entries t
+  new_content : (content : Retained X) (listing items : List X) (theta t : ℕ) → IsRetained key content → t ≡ min content.theta theta → map Value items ≡ read_from key merges refuses (map_of key listing) content.entries t
       → IsApart key listing → AllByRecursion (λ x. 0 < key x) listing → 0 < theta → IsNewContent content listing items theta t
   new_content content listing items theta t kept t_is all apart nonzero low =
       let fk = fold_key key in
@@ -556,6 +577,14 @@ module _ {X : Type 0} (key : X → ℕ) (merges : X → X → X) (refuses : X �
         };
         fewer = omega (arith, read.limited, ap length (sym again), count_sorted key t 0 listing apart);
       }
+
+  -- the same for the listing of a sketch
+  pub shown_content : (s : Shown) (content : Retained X) (listing items : List X) (theta t : ℕ) → IsRetained key content → t ≡ min content.theta theta → map Value items ≡ read_from key merges refuses (map_of key listing) content.entries t
+      → map key listing ≡ s.hashes → IsShown s → theta ≡ s.theta → IsNewContent content listing items theta t
+  shown_content s content listing items theta t kept t_is all hashes shown theta_is =
+      let apart : IsApart key listing = apart-distinct key listing (rw hashes shown.distinct) in
+      let nonzero : AllByRecursion (λ x. 0 < key x) listing = each-from_map key (λ h. 0 < h) listing (rw hashes shown.nonzero) in
+      new_content content listing items theta t kept t_is all apart nonzero (omega (arith, theta_is, shown.theta_low))
 
 module _ {X : Type 0} (key : X → ℕ) where
   -- an entry at a key of a sorted listing below a theta is one of the listing
@@ -589,6 +618,10 @@ module _ {X : Type 0} (key : X → ℕ) where
         };
         limited = omega (arith, count_sorted key 1 0 listing (apart-distinct key listing (rw hashes shown.distinct)), length-map listing key, ap length hashes, shown.limited);
       }
+
+  -- the entries of an ordered sketch ascend
+  pub ascending_listed : (s : Shown) (listing xs : List X) → xs ≡ listing → map key listing ≡ s.hashes → IsShown s → s.ordered ≡ true → IsAscending key xs
+  ascending_listed s listing xs all hashes shown ordered = rw all (ascending-from_map key listing (rw hashes (shown.ascending ordered)))
 
   -- how many entries of a listing are below a theta
   pub few_below : (listing : List X) (t : ℕ) → IsApart key listing → length (below key (map_of key listing) t) ≤ length listing

@@ -14,7 +14,7 @@ use Rattle.core_laws.specs.Values.{Sketch, Empty, NonEmpty, count_of}
 use Rattle.core_laws.specs.Folds.{Value, fold_key, fold_merges, unmarked, unmarked_value}
 use Rattle.core_operators.specs.Union.{IsMergeRefused}
 use Rattle.core_laws.specs.Shown.{Shown, shown_value}
-use Rattle.core_laws.specs.Operators.{both, common, meet_next, shared}
+use Rattle.core_laws.specs.Operators.{common, meet_next, shared}
 
 -- an intersection: its value, if there was an input, its seed hash and its policy
 pub record Intersection (X P : Type 0) : Type 0 where
@@ -110,20 +110,21 @@ IsSharedFold key merges refuses existing incoming same_hash entry =
 abbrev pub IsPairRefusal : {X : Type 0} → (refuses : X → X → Bool) → (existing incoming : X) → (same_hash : Bool) → ErrorKind → Type 0
 IsPairRefusal refuses existing incoming same_hash kind = (kind ≡ OutOfMemory) ⊎ ((kind ≡ Policy) × (same_hash ≡ true) × (refuses existing incoming ≡ true))
 
--- an existing entry merged with an incoming one, if there are both
-abbrev pub IsSharedPair : {X : Type 0} → (key : X → ℕ) → (merges : X → X → X) → (refuses : X → X → Bool) → (existing incoming : Option X) → Option X → Type 0
-IsSharedPair key merges refuses existing incoming entry =
-    option_map Value entry ≡ both (fold_merges key merges refuses) (option_map Value existing) (option_map Value incoming)
+-- an entry merged with the one that was found beside it, if there is one; it is the incoming entry if it arrives, and
+-- otherwise the existing one
+abbrev pub IsSharedPair : {X : Type 0} → (key : X → ℕ) → (merges : X → X → X) → (refuses : X → X → Bool) → (arrives : Bool) → (entry : X) → (found : Option X) → Option X → Type 0
+IsSharedPair key merges refuses arrives entry found result =
+    let folds = fold_merges key merges refuses in
+    option_map Value result ≡ option_map (λ other. if arrives then folds (Value other) (Value entry) else folds (Value entry) (Value other)) found
 
--- the policy refuses these two entries
-abbrev pub IsRefusedPair : {X : Type 0} → (refuses : X → X → Bool) → (existing incoming : Option X) → Type 0
-IsRefusedPair refuses None incoming = ⊥
-IsRefusedPair refuses (Some y) None = ⊥
-IsRefusedPair refuses (Some y) (Some x) = refuses y x ≡ true
+-- the policy refuses an entry and the one that was found beside it
+abbrev pub IsRefusedPair : {X : Type 0} → (refuses : X → X → Bool) → (arrives : Bool) → (entry : X) → (found : Option X) → Type 0
+IsRefusedPair refuses arrives entry None = ⊥
+IsRefusedPair refuses arrives entry (Some other) = (if arrives then refuses other entry else refuses entry other) ≡ true
 
 -- why two entries weren't merged: memory ran out, or the policy refuses them
-abbrev pub IsFoundRefusal : {X : Type 0} → (refuses : X → X → Bool) → (existing incoming : Option X) → ErrorKind → Type 0
-IsFoundRefusal refuses existing incoming kind = (kind ≡ OutOfMemory) ⊎ ((kind ≡ Policy) × IsRefusedPair refuses existing incoming)
+abbrev pub IsFoundRefusal : {X : Type 0} → (refuses : X → X → Bool) → (arrives : Bool) → (entry : X) → (found : Option X) → ErrorKind → Type 0
+IsFoundRefusal refuses arrives entry found kind = (kind ≡ OutOfMemory) ⊎ ((kind ≡ Policy) × IsRefusedPair refuses arrives entry found)
 
 -- whether two maps share no keys, though both have some and theta is the greatest
 abbrev pub is_nothing_left : (theta content arriving shared : ℕ) → Bool

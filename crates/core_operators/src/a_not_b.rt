@@ -126,7 +126,8 @@ where
 {
     match b.metadata() {
         ThetaFamilySketchMetadata::Empty { .. } => {
-            let kept = cloned_entries(alloc, a)?;
+            let items = a.entries();
+            let kept = cloned_entries(alloc, items)?;
             Ok(state_of(kept, a_theta, seed_hash, requested, a_ordered))
         }
         ThetaFamilySketchMetadata::NonEmpty {

@@ -1,37 +1,33 @@
 //! The entries and the hashes of a sketch below a theta, in ascending order.
 ghost use Rattle.std.specs.Prelude.{◌≡◌, true, None, map, IfOk};
-ghost use Rattle.core_laws.specs.Maps.{below, map_of};
+ghost use Rattle.core_laws.specs.Maps.{IsAscending, below, map_of};
 ghost use Rattle.core_laws.specs.Entries.{hash_key, ClonesEqual};
 ghost use Rattle.core_laws.specs.Refusal.{Refuses};
 ghost use Rattle.core_laws.specs.Shown.{IsShown};
 
+use crate::iter::EntryIter;
 use crate::merge::is_past;
 use crate::view::{EntrySketch, KeySketch};
 use core_laws::SketchEntry;
-use core_slots::ThetaEntry;
+use core_slots::{SlotEntry, ThetaEntry};
 use core_table::sorted_by_hash;
 use sketch_base::Error;
 use std::alloc::{AllocError, Allocator};
 
-/// Clones of the entries of a sketch below theta, in its order. The vector has room for `room` entries from the start.
-/// If the entries ascend, it stops at the first that is not below theta.
-fn entries_below<S: EntrySketch, A: Allocator>(
+/// Clones of the entries below theta that an iterator has left, in its order. The vector has room for `room` entries from
+/// the start. If the entries ascend, it stops at the first that is not below theta.
+fn entries_below<E: SlotEntry + Clone, A: Allocator>(
     alloc: A,
-    sketch: S,
+    items: EntryIter<'_, E>,
     theta: u64,
     ascending: bool,
     room: usize,
-) -> Result<Vec<S::Entry, A>, Error>
-where
-    S::Entry: Clone,
-    requires clones_equal { ClonesEqual S.Entry.is_clone }
-    requires in_order { (S.shown sketch).ordered ≡ ascending }
-    ensures ok { IfOk result (λ v. v.items ≡ below S.Entry.key (S.listing sketch) theta) }
-    ensures listed { map S.Entry.key (S.listing sketch) ≡ (S.shown sketch).hashes }
-    ensures sound { IsShown (S.shown sketch) }
+) -> Result<Vec<E, A>, Error>
+    requires clones_equal { ClonesEqual E.is_clone }
+    requires in_order { ascending ≡ true → IsAscending E.key items.rest }
+    ensures ok { IfOk result (λ v. v.items ≡ below E.key items.entry.rest theta) }
     ensures refused { Refuses result None true }
 {
-    let items = sketch.entries();
     let mut entries = Vec::with_capacity(alloc, room)?;
     'clone_each: for entry in items {
         let hash = entry.hash();
@@ -64,28 +60,27 @@ where
     ensures sound { IsShown (S.shown sketch) }
     ensures refused { Refuses result None true }
 {
-    let entries = entries_below(alloc, sketch, theta, ordered, room)?;
+    let items = sketch.entries();
+    let entries = entries_below(alloc, items, theta, ordered, room)?;
     if ordered {
         return Ok(entries);
     }
     Ok(sorted_by_hash(entries))
 }
 
-/// The hashes of a sketch below theta, in their order. The vector has room for `room` hashes from the start. If the
-/// hashes ascend, it stops at the first that is not below theta.
+/// The hashes below theta that an iterator has left, in its order. The vector has room for `room` hashes from the start.
+/// If the hashes ascend, it stops at the first that is not below theta.
 fn hashes_below<T: KeySketch, A: Allocator>(
     alloc: A,
-    sketch: T,
+    hashes: T::Hashes,
     theta: u64,
     ascending: bool,
     room: usize,
 ) -> Result<Vec<ThetaEntry, A>, Error>
-    requires { (T.shown sketch).ordered ≡ ascending }
-    ensures ok { IfOk result (λ v. v.items ≡ below hash_key (T.shown sketch).hashes theta) }
-    ensures sound { IsShown (T.shown sketch) }
+    requires in_order { ascending ≡ true → IsAscending hash_key (T.rest hashes) }
+    ensures ok { IfOk result (λ v. v.items ≡ below hash_key (T.rest hashes) theta) }
     ensures refused { Refuses result None true }
 {
-    let hashes = sketch.hashes();
     let mut keys = Vec::with_capacity(alloc, room)?;
     'collect_each: for hash in hashes {
         if is_past(ascending, hash, theta) {
@@ -112,7 +107,8 @@ pub(crate) fn ascending_hashes<T: KeySketch, A: Allocator>(
     ensures ok { IfOk result (λ v. v.items ≡ map_of hash_key (below hash_key (T.shown sketch).hashes theta)) }
     ensures refused { Refuses result None true }
 {
-    let keys = hashes_below(alloc, sketch, theta, ordered, room)?;
+    let hashes = sketch.hashes();
+    let keys = hashes_below::<T, A>(alloc, hashes, theta, ordered, room)?;
     if ordered {
         return Ok(keys);
     }

@@ -1,5 +1,5 @@
 //! Merging the entries of a sketch into a table.
-ghost use Rattle.std.specs.Prelude.{◌≡◌, ◌^◌, ◌⊎◌, Some, [], ◌∷◌, true, map, MatchOption, OnOk, IfErr, IsTrue, ◌↔◌, ◌≤◌, min};
+ghost use Rattle.std.specs.Prelude.{◌≡◌, ◌^◌, ◌⊎◌, Some, [], ◌∷◌, true, map, MatchOption, OnOk, IfErr, IfSome, IsSome, IsTrue, ◌↔◌, ◌≤◌, min};
 ghost use Rattle.core_laws.specs.Step.{merge_step};
 ghost use Rattle.core_laws.specs.Maps.{IsAscending};
 ghost use Rattle.core_laws.specs.Folds.{never};
@@ -107,45 +107,13 @@ fn merge_ascending<E: SlotEntry + Clone, P: UnionMergePolicy<E>, A: Allocator + 
     Ok(())
 }
 
-/// Merges the entries of a sketch below theta into the table of a union, one by one, in their order; the policy never
-/// sees the others. If they ascend, it stops at the first that is not below theta or that the table screens.
-fn merge_listed<S: EntrySketch, P: UnionMergePolicy<S::Entry>, A: Allocator + Clone>(
-    table: &mut SketchHashTable<S::Entry, A>,
-    sketch: S,
-    policy: &P,
-    ordered: bool,
-    theta: u64,
-) -> Result<(), Error>
-where
-    S::Entry: Clone,
-    requires clones_equal { ClonesEqual S.Entry.is_clone }
-    requires in_order { ordered ≡ (S.shown sketch).ordered }
-    requires of_sketch { MIN_LG_K ≤ table.old.map.lg_nom }
-    ensures listed { map S.Entry.key (S.listing sketch) ≡ (S.shown sketch).hashes }
-    ensures after { OnOk result (
-        HasMerged S.Entry.key (P.merges policy.now) (P.refuses policy.now) (S.listing sketch) theta table.old.map
-        table.new.map) }
-    ensures made_with { table.new.map ≡ record table.old.map { kept = table.new.map.kept } }
-    ensures refused { IfErr result (IsMergeRefusal S.Entry.key (P.refuses policy.now) table.old.map.kept.entries theta (S.listing sketch)) }
+/// The entries that are left, if they ascend and are in a slice.
+#[inline(always)]
+fn ascending_slice<'a, E: SlotEntry>(entries: &EntryIter<'a, E>, ordered: bool) -> Option<&'a [E]>
+    ensures left { IfSome result (λ s. s.now ≡ entries.now.rest) }
+    ensures ascending { IsSome result → ordered ≡ true }
 {
-    let mut entries = sketch.entries();
-    let mut lesser = theta.min(table.retention_theta());
-    'merge_each: while let Some(entry) = next_entry(&mut entries, ordered, lesser) {
-        let hash = entry.hash();
-        if is_past(ordered, hash, lesser) {
-            break;
-        }
-        if hash >= theta {
-            continue;
-        }
-        let step = MergeStep {
-            policy,
-            incoming: entry,
-        };
-        table.upsert_entry(hash, step)?;
-        lesser = theta.min(table.retention_theta());
-    }
-    Ok(())
+    if ordered { entries.as_slice() } else { None }
 }
 
 /// Merges the entries of a sketch below theta into the table of a union, in their order; the policy never sees the
@@ -169,11 +137,25 @@ where
     ensures made_with { table.new.map ≡ record table.old.map { kept = table.new.map.kept } }
     ensures refused { IfErr result (IsMergeRefusal S.Entry.key (P.refuses policy.now) table.old.map.kept.entries theta (S.listing sketch)) }
 {
-    let list = sketch.entries();
-    if ordered {
-        if let Some(ascending) = list.as_slice() {
-            return merge_ascending(table, ascending, policy, theta);
-        }
+    let mut entries = sketch.entries();
+    if let Some(ascending) = ascending_slice(&entries, ordered) {
+        return merge_ascending(table, ascending, policy, theta);
     }
-    merge_listed(table, sketch, policy, ordered, theta)
+    let mut lesser = theta.min(table.retention_theta());
+    'merge_each: while let Some(entry) = next_entry(&mut entries, ordered, lesser) {
+        let hash = entry.hash();
+        if is_past(ordered, hash, lesser) {
+            break;
+        }
+        if hash >= theta {
+            continue;
+        }
+        let step = MergeStep {
+            policy,
+            incoming: entry,
+        };
+        table.upsert_entry(hash, step)?;
+        lesser = theta.min(table.retention_theta());
+    }
+    Ok(())
 }

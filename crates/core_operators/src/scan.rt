@@ -124,58 +124,23 @@ fn push_below<E: SketchEntry + Clone + Drop, A: Allocator>(
     Ok(())
 }
 
-/// The difference of two ascending lists, below theta, in one pass over both. Counts each comparison of two hashes in
-/// `compared`: at most as many as both lists have entries.
-fn difference_by_scan<E: SketchEntry + Clone + Drop, F: SketchEntry, A: Allocator>(
-    alloc: A,
+/// Appends clones of the entries below theta whose hashes `others` lacks, by looking up each entry among them by halves.
+/// Both lists ascend. Counts each comparison of two hashes in `compared`: at most k for each entry, if there are fewer
+/// than 2^k others.
+fn push_lacking<E: SketchEntry + Clone + Drop, F: SketchEntry, A: Allocator>(
+    kept: &mut Vec<E, A>,
     entries: &[E],
     others: &[F],
     theta: u64,
     compared: &mut Count,
-) -> Result<Vec<E, A>, Error>
+) -> Result<(), AllocError>
     requires clones_equal { ClonesEqual E.is_clone }
     requires ascending { IsAscending E.key entries.now }
     requires others_ascend { IsAscending F.key others.now }
-    ensures ok { IfOk result (λ v. v.items ≡ lacking E.key F.key (below E.key entries.now theta) others.now) }
-    ensures refused { Refuses result None true }
-    ensures grows { compared.old ≤ compared.new }
-    ensures compared { compared.new ≤ compared.old + length entries.now + length others.now }
-{
-    let mut kept = Vec::new(alloc);
-    let mut left = entries;
-    let mut others_left = others;
-    'sift_blocks: while let Some(first) = left.first() {
-        let mut found = [first; BLOCK];
-        let sifted = sift(left, others_left, theta, &mut found, compared);
-        push_clones(&mut kept, &found[..sifted.count])?;
-        left = sifted.entries;
-        others_left = sifted.others;
-        if sifted.count < BLOCK {
-            break;
-        }
-    }
-    push_below(&mut kept, left, theta)?;
-    Ok(kept)
-}
-
-/// The difference of two ascending lists, below theta, by looking up each entry among `others` by halves. Counts each
-/// comparison of two hashes in `compared`: at most k for each entry, if there are fewer than 2^k others.
-fn difference_by_halves<E: SketchEntry + Clone + Drop, F: SketchEntry, A: Allocator>(
-    alloc: A,
-    entries: &[E],
-    others: &[F],
-    theta: u64,
-    compared: &mut Count,
-) -> Result<Vec<E, A>, Error>
-    requires clones_equal { ClonesEqual E.is_clone }
-    requires ascending { IsAscending E.key entries.now }
-    requires others_ascend { IsAscending F.key others.now }
-    ensures ok { IfOk result (λ v. v.items ≡ lacking E.key F.key (below E.key entries.now theta) others.now) }
-    ensures refused { Refuses result None true }
+    ensures kept { OnOk result (kept.new.items ≡ kept.old.items ++ lacking E.key F.key (below E.key entries.now theta) others.now) }
     ensures grows { compared.old ≤ compared.new }
     ensures compared { AreFewLookUps compared.old compared.new (length entries.now) (length others.now) }
 {
-    let mut kept = Vec::new(alloc);
     'look_up_each: for entry in entries {
         let hash = entry.hash();
         if hash >= theta {
@@ -185,7 +150,7 @@ fn difference_by_halves<E: SketchEntry + Clone + Drop, F: SketchEntry, A: Alloca
             kept.push(entry.clone()?)?;
         }
     }
-    Ok(kept)
+    Ok(())
 }
 
 /// The difference of two ascending lists, below theta. If there are many more others than entries, the entries are
@@ -210,8 +175,23 @@ pub(crate) fn ascending_difference<E: SketchEntry + Clone + Drop, F: SketchEntry
     ensures shorter { is_much_longer (length others.now) (length entries.now) ≡ true
         → AreFewLookUps compared.old compared.new (length entries.now) (length others.now) }
 {
+    let mut kept = Vec::new(alloc);
     if is_much_longer(others.len(), entries.len()) {
-        return difference_by_halves(alloc, entries, others, theta, compared);
+        push_lacking(&mut kept, entries, others, theta, compared)?;
+        return Ok(kept);
     }
-    difference_by_scan(alloc, entries, others, theta, compared)
+    let mut left = entries;
+    let mut others_left = others;
+    'sift_blocks: while let Some(first) = left.first() {
+        let mut found = [first; BLOCK];
+        let sifted = sift(left, others_left, theta, &mut found, compared);
+        push_clones(&mut kept, &found[..sifted.count])?;
+        left = sifted.entries;
+        others_left = sifted.others;
+        if sifted.count < BLOCK {
+            break;
+        }
+    }
+    push_below(&mut kept, left, theta)?;
+    Ok(kept)
 }

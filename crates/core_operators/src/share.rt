@@ -10,29 +10,27 @@ ghost use Rattle.core_operators.specs.Intersection.{AreSharedFolds, IsSharedFold
 ghost use Rattle.core_operators.specs.Search.{AreFewLookUps, is_much_longer};
 
 use crate::ascending::ascending_entries;
+use crate::iter::EntryIter;
 use crate::scan::number_if;
 use crate::search::{found_by_halves, is_much_longer};
 use crate::view::EntrySketch;
 use core_laws::SketchEntry;
 use core_policies::IntersectionMergePolicy;
-use core_slots::Count;
+use core_slots::{Count, SlotEntry};
 use sketch_base::Error;
 use std::alloc::{AllocError, Allocator};
 
-/// Clones of the entries of a sketch, in its order. Refused with `OutOfMemory` alone.
-pub(crate) fn cloned_entries<S: EntrySketch, A: Allocator>(
+/// Clones of the entries that an iterator has left, in its order. Refused with `OutOfMemory` alone.
+pub(crate) fn cloned_entries<E: SlotEntry + Clone, A: Allocator>(
     alloc: A,
-    sketch: S,
-) -> Result<Vec<S::Entry, A>, Error>
-where
-    S::Entry: Clone,
-    requires clones_equal { ClonesEqual S.Entry.is_clone }
-    ensures all { IfOk result (λ v. v.items ≡ S.listing sketch) }
-    ensures listed { IfOk result (λ v. map S.Entry.key (S.listing sketch) ≡ (S.shown sketch).hashes) }
+    items: EntryIter<'_, E>,
+) -> Result<Vec<E, A>, Error>
+    requires clones_equal { ClonesEqual E.is_clone }
+    ensures all { IfOk result (λ v. v.items ≡ items.entry.rest) }
     ensures refused { Refuses result None true }
 {
     let mut entries = Vec::new(alloc);
-    'clone_each: for entry in sketch.entries() {
+    'clone_each: for entry in items {
         entries.push(entry.clone()?)?;
     }
     Ok(entries)
@@ -58,21 +56,28 @@ fn shared_entry<E: SketchEntry + Clone, P: IntersectionMergePolicy<E>>(
     Ok(Some(merged))
 }
 
-/// Combines two entries of one hash by the policy, if there are both.
+/// Combines an entry with one of its hash by the policy, if one was found. The entry is the incoming one if `arrives` is
+/// true; otherwise it is the retained one.
 fn shared_pair<E: SketchEntry + Clone, P: IntersectionMergePolicy<E>>(
-    existing: Option<&E>,
-    incoming: Option<&E>,
+    entry: &E,
+    found: Option<&E>,
+    arrives: bool,
     policy: &P,
 ) -> Result<Option<E>, Error>
     requires clones_equal { ClonesEqual E.is_clone }
     ensures combined { IfOk result (λ o.
-        IsSharedPair E.key (P.merges policy.now) (P.refuses policy.now) (option_copied existing.entry) (option_copied incoming.entry) o) }
+        IsSharedPair E.key (P.merges policy.now) (P.refuses policy.now) arrives entry.now (option_copied found.entry) o) }
     ensures refused { IfErr result (
-        IsFoundRefusal (P.refuses policy.now) (option_copied existing.entry) (option_copied incoming.entry)) }
+        IsFoundRefusal (P.refuses policy.now) arrives entry.now (option_copied found.entry)) }
 {
-    match (existing, incoming) {
-        (Some(own), Some(other)) => shared_entry(own, other, policy, true),
-        _ => Ok(None),
+    match found {
+        None => Ok(None),
+        Some(other) => {
+            if arrives {
+                return shared_entry(other, entry, policy, true);
+            }
+            shared_entry(entry, other, policy, true)
+        }
     }
 }
 
@@ -135,70 +140,39 @@ fn shared_in_pass<E: SketchEntry + Clone + Drop, P: IntersectionMergePolicy<E>, 
     Ok(entries)
 }
 
-/// The entries that two ascending lists share below theta, by looking up each arriving one in `content` by halves. The
-/// rest is as in `shared_in_pass`.
+/// The entries that two ascending lists share below theta, by looking up each entry of `short` in `long` by halves. The
+/// entries of `short` arrive if `arrives` is true; otherwise those of `long` do. The rest is as in `shared_in_pass`.
 ///
-/// Counts each comparison of two hashes in `compared`: at most k for each arriving entry, if `content` has fewer than
-/// 2^k.
-fn shared_by_arriving<E: SketchEntry + Clone + Drop, P: IntersectionMergePolicy<E>, A: Allocator>(
+/// Counts each comparison of two hashes in `compared`: at most k for each entry of `short`, if `long` has fewer than 2^k.
+fn shared_by_halves<E: SketchEntry + Clone + Drop, P: IntersectionMergePolicy<E>, A: Allocator>(
     alloc: A,
-    content: &[E],
-    arriving: &[E],
+    short: &[E],
+    long: &[E],
+    arrives: bool,
     policy: &P,
     theta: u64,
     compared: &mut Count,
 ) -> Result<Vec<E, A>, Error>
     requires clones_equal { ClonesEqual E.is_clone }
-    requires ascending { IsAscending E.key content.now }
-    requires arriving_ascend { IsAscending E.key arriving.now }
+    requires ascending { IsAscending E.key short.now }
+    requires long_ascends { IsAscending E.key long.now }
     ensures all { IfOk result (λ v.
-        AreSharedFolds E.key (P.merges policy.now) (P.refuses policy.now) content.now theta arriving.now v.items) }
-    ensures refused { IfErr result (IsMergeRefusal E.key (P.refuses policy.now) content.now theta arriving.now) }
+        AreSharedFolds E.key (P.merges policy.now) (P.refuses policy.now)
+        (if arrives then long.now else short.now) theta (if arrives then short.now else long.now) v.items) }
+    ensures refused { IfErr result (
+        IsMergeRefusal E.key (P.refuses policy.now)
+        (if arrives then long.now else short.now) theta (if arrives then short.now else long.now)) }
     ensures compares { IfOk result (λ v. compared.old + length v.items ≤ compared.new) }
-    ensures compared { AreFewLookUps compared.old compared.new (length arriving.now) (length content.now) }
+    ensures compared { AreFewLookUps compared.old compared.new (length short.now) (length long.now) }
 {
     let mut entries = Vec::new(alloc);
-    'look_up_each: for incoming in arriving {
-        let hash = incoming.hash();
+    'look_up_each: for entry in short {
+        let hash = entry.hash();
         if hash >= theta {
             break;
         }
-        let existing = found_by_halves(content, hash, compared);
-        let found = shared_pair(existing, Some(incoming), policy)?;
-        push_found(&mut entries, found)?;
-    }
-    Ok(entries)
-}
-
-/// The entries that two ascending lists share below theta, by looking up each of `content` among the arriving ones by
-/// halves. The rest is as in `shared_in_pass`.
-///
-/// Counts each comparison of two hashes in `compared`: at most k for each entry of `content`, if fewer than 2^k arrive.
-fn shared_by_content<E: SketchEntry + Clone + Drop, P: IntersectionMergePolicy<E>, A: Allocator>(
-    alloc: A,
-    content: &[E],
-    arriving: &[E],
-    policy: &P,
-    theta: u64,
-    compared: &mut Count,
-) -> Result<Vec<E, A>, Error>
-    requires clones_equal { ClonesEqual E.is_clone }
-    requires ascending { IsAscending E.key content.now }
-    requires arriving_ascend { IsAscending E.key arriving.now }
-    ensures all { IfOk result (λ v.
-        AreSharedFolds E.key (P.merges policy.now) (P.refuses policy.now) content.now theta arriving.now v.items) }
-    ensures refused { IfErr result (IsMergeRefusal E.key (P.refuses policy.now) content.now theta arriving.now) }
-    ensures compares { IfOk result (λ v. compared.old + length v.items ≤ compared.new) }
-    ensures compared { AreFewLookUps compared.old compared.new (length content.now) (length arriving.now) }
-{
-    let mut entries = Vec::new(alloc);
-    'look_up_each: for existing in content {
-        let hash = existing.hash();
-        if hash >= theta {
-            break;
-        }
-        let incoming = found_by_halves(arriving, hash, compared);
-        let found = shared_pair(Some(existing), incoming, policy)?;
+        let other = found_by_halves(long, hash, compared);
+        let found = shared_pair(entry, other, arrives, policy)?;
         push_found(&mut entries, found)?;
     }
     Ok(entries)
@@ -232,10 +206,10 @@ fn shared_entries<E: SketchEntry + Clone + Drop, P: IntersectionMergePolicy<E>, 
         → AreFewLookUps compared.old compared.new (length content.now) (length arriving.now) }
 {
     if is_much_longer(content.len(), arriving.len()) {
-        return shared_by_arriving(alloc, content, arriving, policy, theta, compared);
+        return shared_by_halves(alloc, arriving, content, true, policy, theta, compared);
     }
     if is_much_longer(arriving.len(), content.len()) {
-        return shared_by_content(alloc, content, arriving, policy, theta, compared);
+        return shared_by_halves(alloc, content, arriving, false, policy, theta, compared);
     }
     shared_in_pass(alloc, content, arriving, policy, theta, compared)
 }

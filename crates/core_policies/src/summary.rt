@@ -48,6 +48,9 @@ pub trait SummaryCombinePolicy: SummaryPolicy {
         ensures refused { Refuses result (policy_refusal (is_none (combines self.now summary.old incoming.now))) true };
 }
 
+/// The entries whose summaries a policy combines.
+type EntryOf<P> = TupleEntry<<P as SummaryPolicy>::Summary>;
+
 impl<P: SummaryCombinePolicy> UnionMergePolicy<TupleEntry<P::Summary>> for P {
     ghost use Rattle.core_policies.specs.Summaries.{combined, combine_refused, combined-keeps};
 
@@ -55,11 +58,7 @@ impl<P: SummaryCombinePolicy> UnionMergePolicy<TupleEntry<P::Summary>> for P {
 
     ghost refuses = { λ p x y. combine_refused (P.combines p) x y };
 
-    fn merge(
-        &self,
-        entry: &mut TupleEntry<P::Summary>,
-        incoming: &TupleEntry<P::Summary>,
-    ) -> Result<(), Error> {
+    fn merge(&self, entry: &mut EntryOf<P>, incoming: &EntryOf<P>) -> Result<(), Error> {
         self.combine(entry.summary_mut(), incoming.summary())
     }
 
@@ -73,11 +72,7 @@ impl<P: SummaryCombinePolicy> IntersectionMergePolicy<TupleEntry<P::Summary>> fo
 
     ghost refuses = { λ p x y. combine_refused (P.combines p) x y };
 
-    fn merge(
-        &self,
-        entry: &mut TupleEntry<P::Summary>,
-        incoming: &TupleEntry<P::Summary>,
-    ) -> Result<(), Error> {
+    fn merge(&self, entry: &mut EntryOf<P>, incoming: &EntryOf<P>) -> Result<(), Error> {
         UnionMergePolicy::merge(self, entry, incoming)
     }
 

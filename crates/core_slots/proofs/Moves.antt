@@ -1,5 +1,5 @@
 -- Moving entries from one array of slots to another.
-use Rattle.std.proofs.Common.{◌≡◌, ℕ, ◌+◌, ◌*◌, ◌^◌, ◌<◌, ◌≤◌, Bool, true, false, cond, eqb, ltb, List, [], ◌∷◌, ◌++◌, length, set, length-append, append_assoc, append-nil, Option, Some, None, refl, sym, ap, ◌∙◌, arith}
+use Rattle.std.proofs.Common.{◌≡◌, ℕ, ◌+◌, ◌*◌, ◌^◌, ◌<◌, ◌≤◌, Bool, true, false, cond, eqb, ltb, List, [], ◌∷◌, ◌++◌, length, map, set, length-append, append_assoc, append-nil, Option, Some, None, refl, sym, ap, ◌∙◌, arith}
 use Rattle.std.specs.List.{count_by, AllByRecursion}
 use Rattle.std.specs.Option.{option_map_or}
 use Rattle.std.proofs.lemmas.List.Sums.{sum_by-append}
@@ -11,7 +11,8 @@ use Rattle.core_laws.proofs.maps.Ascending.{ascending-filter, each-with_entry}
 use Rattle.core_laws.proofs.maps.LookUps.{entry_at-append, entry_at-below, same_map}
 use Rattle.core_laws.proofs.cuts.Cuts.{length-below}
 use Rattle.core_laws.proofs.maps.MapsOfLists.{entry_at-map_of, ascending-map_of}
-use Rattle.core_slots.proofs.SlotLayouts.{rank-map_of, length-map_of, filled-append, laid_out_empty, put_joins}
+use Rattle.core_slots.proofs.Held.{map-set, length-content}
+use Rattle.core_slots.proofs.SlotLayouts.{rank-map_of, length-map_of, filled-append, laid_out_empty, laid_out_new, put_joins}
 
 pub count-append : {X : Type 0} (p : X → Bool) (xs ys : List X) → count_by p (xs ++ ys) ≡ count_by p xs + count_by p ys
 count-append p xs ys = sum_by-append (λ x. cond (p x) 1 0) xs ys
@@ -79,9 +80,8 @@ module _ {X : Type 0} (key : X → ℕ) (lg theta : ℕ) where
           counted =
               let counts = count-append (λ y. ltb (key y) theta) (filled rest) (x ∷ []) in
               let none : count_by (λ y. ltb (key y) theta) (x ∷ []) ≡ 0 = rw fails refl in
-              let all = is.counted in
               let there = ap (count_by (λ y. ltb (key y) theta)) one in
-              omega (arith, counts, none, all, there);
+              omega (arith, counts, none, is.counted, there);
           room = omega (arith, is.room, longer);
           limited = is.limited;
           looked_few = is.looked_few;
@@ -100,9 +100,8 @@ module _ {X : Type 0} (key : X → ℕ) (lg theta : ℕ) where
           counted =
               let counts = count-append (λ y. ltb (key y) theta) (filled rest) (x ∷ []) in
               let one_more : count_by (λ y. ltb (key y) theta) (x ∷ []) ≡ 1 = rw passes refl in
-              let all = is.counted in
               let there = ap (count_by (λ y. ltb (key y) theta)) one in
-              omega (arith, counts, one_more, all, there);
+              omega (arith, counts, one_more, is.counted, there);
           room = omega (arith, is.room, longer, more);
           limited = omega (arith, is.limited, more);
           looked_few = looked_more put looked looked' (length (filled slots)) is.looked_few looks is.limited;
@@ -154,3 +153,35 @@ module _ {X : Type 0} (key : X → ℕ) where
       → count_by (λ x. ltb (key x) theta) (filled whole) ≡ length (filled after)
   moved_count lg new_lg theta whole after is laid moved =
       sym (rank-map_of key lg whole theta is) ∙ sym (length-below key (map_of key (filled whole)) theta) ∙ ap length (sym moved) ∙ length-map_of key new_lg after laid
+
+-- a new entry, written into a free slot before the slots are laid out anew
+module _ {S X : Type 0} (key : X → ℕ) (content : S → Option X) (lg at : ℕ) (x : X) (items : List S) (s : S) (laid : IsLaidOut key lg (map content items)) (inside : at < length items)
+    (free : slot (map content items) at ≡ None) (on : IsOnPath key lg (map content items) (key x) at) (is : content s ≡ Some x) where
+  inside_content : at < length (map content items)
+  inside_content = omega (arith, inside, length-content content items)
+
+  put_written : map content (set items at s) ≡ set (map content items) at (Some x)
+  put_written = map-set content items at s ∙ ap (λ o. set (map content items) at o) is
+
+  pub put_laid_out : (slots : List S) → slots ≡ set items at s → IsLaidOut key lg (map content slots)
+  put_laid_out slots same = rw (same, put_written) (laid_out_new key lg (map content items) at x laid inside_content free on)
+
+  put_map : (slots : List S) → slots ≡ set items at s → map_of key (filled (map content slots)) ≡ with_entry key (map_of key (filled (map content items))) x
+  put_map slots same = rw (same, put_written) (put_joins key lg at x (map content items) laid inside_content on (ap (is_other key (key x)) free))
+
+  -- as many entries are below a theta as the map has there
+  pub put_below : (theta : ℕ) (slots : List S) → slots ≡ set items at s → length (below key (filled (map content slots)) theta) ≡ length (below key (with_entry key (map_of key (filled (map content items))) x) theta)
+  put_below theta slots same =
+      let whole = map content slots in
+      length-below key (filled whole) theta ∙ sym (rank-map_of key lg whole theta (put_laid_out slots same)) ∙ sym (length-below key (map_of key (filled whole)) theta) ∙ ap (λ xs. length (below key xs theta)) (put_map slots same)
+
+  -- the map that was laid out anew, in the vector that has the slots afterwards
+  pub kept_map : (theta : ℕ) (slots after back : List S) → back ≡ after → slots ≡ set items at s → map_of key (filled (map content after)) ≡ below key (map_of key (filled (map content slots))) theta
+      → map_of key (filled (map content back)) ≡ below key (with_entry key (map_of key (filled (map content items))) x) theta
+  kept_map theta slots after back whole same moved = rw whole (moved ∙ ap (λ xs. below key xs theta) (put_map slots same))
+
+  -- as many entries were put as there are afterwards
+  pub kept_count : (new_lg theta before now : ℕ) (slots after back : List S) → back ≡ after → slots ≡ set items at s → IsLaidOut key new_lg (map content after)
+      → map_of key (filled (map content after)) ≡ below key (map_of key (filled (map content slots))) theta → now ≡ before + count_by (λ y. ltb (key y) theta) (filled (map content slots)) → now ≡ before + length (filled (map content back))
+  kept_count new_lg theta before now slots after back whole same done moved counted =
+      rw whole (counted ∙ ap (λ (n : ℕ). before + n) (moved_count key lg new_lg theta (map content slots) (map content after) (put_laid_out slots same) done moved))

@@ -22,19 +22,14 @@ none_marked (false ∷ marks) none = let rest = none_marked marks (λ p is. none
 
 -- ---- marks
 module _ {X : Type 0} where
-  waiting_put : (marks : List Bool) (slots : List (Option X)) (p : ℕ) (o : Option X) → waiting_in (set marks p true) (set slots p o) ≡ set (waiting_in marks slots) p None
-  waiting_put [] slots p o = refl
-  waiting_put (m ∷ marks) [] zero o = refl
-  waiting_put (m ∷ marks) [] (suc p) o = refl
-  waiting_put (m ∷ marks) (u ∷ slots) zero o = refl
-  waiting_put (m ∷ marks) (u ∷ slots) (suc p) o = ap (λ xs. cond m None u ∷ xs) (waiting_put marks slots p o)
-
-  placed_put : (marks : List Bool) (slots : List (Option X)) (p : ℕ) (o : Option X) → placed_in (set marks p true) (set slots p o) ≡ set (placed_in marks slots) p o
-  placed_put [] slots p o = refl
-  placed_put (m ∷ marks) [] zero o = refl
-  placed_put (m ∷ marks) [] (suc p) o = refl
-  placed_put (m ∷ marks) (u ∷ slots) zero o = refl
-  placed_put (m ∷ marks) (u ∷ slots) (suc p) o = ap (λ xs. cond m u None ∷ xs) (placed_put marks slots p o)
+  -- a slot that is marked and written: what waited there is gone, what is placed there is the new content
+  both_put : (marks : List Bool) (slots : List (Option X)) (p : ℕ) (o : Option X)
+      → (waiting_in (set marks p true) (set slots p o) ≡ set (waiting_in marks slots) p None) × (placed_in (set marks p true) (set slots p o) ≡ set (placed_in marks slots) p o)
+  both_put [] slots p o = (refl, refl)
+  both_put (m ∷ marks) [] zero o = (refl, refl)
+  both_put (m ∷ marks) [] (suc p) o = (refl, refl)
+  both_put (m ∷ marks) (u ∷ slots) zero o = (refl, refl)
+  both_put (m ∷ marks) (u ∷ slots) (suc p) o = let rest = both_put marks slots p o in (ap (λ xs. cond m None u ∷ xs) rest.0, ap (λ xs. cond m u None ∷ xs) rest.1)
 
   waiting_took : (marks : List Bool) (slots : List (Option X)) (p : ℕ) → get_or marks p false ≡ false → waiting_in marks (set slots p None) ≡ set (waiting_in marks slots) p None
   waiting_took [] slots p un = refl
@@ -319,7 +314,7 @@ module _ {X : Type 0} where
 
   -- placing an entry keeps the passed slots passed
   pub passed_put : (marks : List Bool) (slots : List (Option X)) (n at : ℕ) (o : Option X) → IsPassed marks slots n → IsPassed (set marks at true) (set slots at o) n
-  passed_put marks slots n at o passed p lt = rw (waiting_put marks slots at o) (stays_free (waiting_in marks slots) at p (passed p lt))
+  passed_put marks slots n at o passed p lt = rw (both_put marks slots at o).0 (stays_free (waiting_in marks slots) at p (passed p lt))
 
 -- ---- one step after another
 module _ {X : Type 0} (key : X → ℕ) (lg theta : ℕ) (whole : List (Option X)) where
@@ -435,9 +430,9 @@ module _ {X : Type 0} (key : X → ℕ) (lg theta : ℕ) (whole : List (Option X
               let before = count_last key (λ y. eqb (key y) q) (waiting_in marks slots) x in
               let after = count_lifted (λ y. eqb (key y) q) (waiting_in marks slots) at in
               let present = count_put key (λ y. eqb (key y) q) (placed_in marks slots) at x in_d free in
-              rw (waiting_put marks slots at (Some x), placed_put marks slots at (Some x), ← there) (omega (arith, before, after, present, is.once q));
+              rw ((both_put marks slots at (Some x)).0, (both_put marks slots at (Some x)).1, ← there) (omega (arith, before, after, present, is.once q));
           moving =
-              rw (waiting_put marks slots at (Some x), placed_put marks slots at (Some x)) (takes_out (waiting_in marks slots) (set (placed_in marks slots) at (Some x)) (slot slots at) (put + 1) looked' at there one moved);
+              rw ((both_put marks slots at (Some x)).0, (both_put marks slots at (Some x)).1) (takes_out (waiting_in marks slots) (set (placed_in marks slots) at (Some x)) (slot slots at) (put + 1) looked' at there one moved);
         }
 
     -- one fewer is then left
@@ -445,7 +440,7 @@ module _ {X : Type 0} (key : X → ℕ) (lg theta : ℕ) (whole : List (Option X
     fewer_left at x lt un =
         let there = waiting_there marks slots at lt un in
         let before = ap length (filled-append (waiting_in marks slots) (Some x ∷ [])) ∙ length-append (filled (waiting_in marks slots)) (x ∷ []) in
-        rw (waiting_put marks slots at (Some x), ← there) (omega (arith, before, length_lifted (waiting_in marks slots) at))
+        rw ((both_put marks slots at (Some x)).0, ← there) (omega (arith, before, length_lifted (waiting_in marks slots) at))
 
     -- not all slots are marked while an entry is carried
     pub room_left : (x : X) → length (filled whole) ≤ 2 ^ lg → IsRelaying key lg theta whole (Some x) marks slots put looked → marked marks < 2 ^ lg

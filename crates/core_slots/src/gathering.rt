@@ -1,15 +1,15 @@
 //! Slots laid out anew by way of others, into which the entries below a theta are gathered first. No branch depends on
 //! a hash while they are gathered.
-ghost use Rattle.std.specs.Prelude.{◌≡◌, ◌+◌, ◌-◌, ◌<◌, ◌≤◌, ◌^◌, ◌*◌, [], None, nat_lt, OnOk, OnErr, length, map, take};
+ghost use Rattle.std.specs.Prelude.{◌≡◌, ◌+◌, ◌-◌, ◌<◌, ◌≤◌, ◌^◌, ◌*◌, [], nat_lt, length, map, take};
 ghost use Rattle.std.specs.List.{count_by};
-ghost use Rattle.core_laws.specs.Maps.{below, with_entry};
-ghost use Rattle.core_slots.specs.SlotLayout.{filled, slot, IsOnPath, IsLaidOut, entries_in, slot_map};
+ghost use Rattle.core_laws.specs.Maps.{below};
+ghost use Rattle.core_slots.specs.SlotLayout.{filled, IsLaidOut, entries_in, slot_map};
 
 use crate::count::Count;
 use crate::rounds::settle_all;
 use crate::slot_entry::SlotEntry;
 use crate::slots::{number_below, spread};
-use std::alloc::{AllocError, Allocator};
+use std::alloc::Allocator;
 use std::mem;
 
 /// Moves the entries below theta to the front of `others`, which has at least one slot more than these entries, and
@@ -45,7 +45,7 @@ pub(crate) fn are_words<T>(slots: &[T]) -> bool {
 /// Lays the slots out anew with the entries below theta and drops the rest. They are gathered in `others` first, which
 /// has at least one slot more than these entries. Slots of one word are filled in rounds, larger ones one by one.
 /// Counts the placed entries in `placed` and the looks at slots in `looks`.
-fn gather<E: SlotEntry, A: Allocator>(
+pub(crate) fn gather<E: SlotEntry, A: Allocator>(
     slots: &mut [E::Slot],
     others: Vec<E::Slot, A>,
     lg: u8,
@@ -72,42 +72,4 @@ where
         return;
     }
     spread::<E, A>(&mut gathered, theta, slots, lg, placed, looks);
-}
-
-/// Puts a new entry into the free slot `at`, where a search for it ends, and lays the slots out anew with the entries
-/// below theta, at most `kept` of them. Counts the entries placed anew in `placed` and the looks at slots in `looks`.
-///
-/// It requests memory for `kept` + 1 more slots, and fails only if that memory runs out; then nothing has changed.
-pub(crate) fn put_gathered<E: SlotEntry + Drop, A: Allocator + Clone>(
-    slots: &mut Vec<E::Slot, A>,
-    lg: u8,
-    theta: u64,
-    kept: usize,
-    at: usize,
-    entry: E,
-    placed: &mut Count,
-    looks: &mut Count,
-) -> Result<(), AllocError>
-    requires small { lg < 40 }
-    requires laid_out { IsLaidOut E.key lg (map E.content slots.old.items) }
-    requires inside { at < length slots.old.items }
-    requires free { slot (map E.content slots.old.items) at ≡ None }
-    requires on_path { IsOnPath E.key lg (map E.content slots.old.items) (E.key entry) at }
-    requires nonzero { 0 < E.key entry }
-    requires kept { length (below E.key (with_entry E.key (slot_map E.key E.content slots.old.items) entry) theta) ≤ kept }
-    requires limited { kept < 2 ^ 40 }
-    ensures laid_out { OnOk result (IsLaidOut E.key lg (map E.content slots.new.items)) }
-    ensures map { OnOk result (
-        slot_map E.key E.content slots.new.items
-        ≡ below E.key (with_entry E.key (slot_map E.key E.content slots.old.items) entry) theta) }
-    ensures placed { OnOk result (placed.new ≡ placed.old + length (entries_in E.content slots.new.items)) }
-    ensures err { OnErr result (slots.new.items ≡ slots.old.items) }
-    ensures placed_err { OnErr result (placed.new ≡ placed.old) }
-    ensures looked { looks.old + (placed.new - placed.old) ≤ looks.new }
-    ensures looks { 2 * looks.new ≤ 2 * looks.old + (placed.new - placed.old) * (placed.new - placed.old + 1) }
-{
-    let others = E::free_slots(slots.allocator().clone()?, kept + 1)?;
-    slots[at] = entry.into_slot();
-    gather::<E, A>(slots, others, lg, theta, placed, looks);
-    Ok(())
 }

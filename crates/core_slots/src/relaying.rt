@@ -10,7 +10,7 @@ ghost use Rattle.core_slots.specs.SlotLayout.{slot, IsOnPath, IsLaidOut, entries
 ghost use Rattle.core_slots.specs.Relaying.{marked, IsFirstUnmarked};
 
 use crate::count::Count;
-use crate::gathering::{are_words, put_gathered};
+use crate::gathering::{are_words, gather};
 use crate::slot_entry::SlotEntry;
 use crate::slots::{hash_or_zero, power_of_two, slot_of, stride_of};
 use std::alloc::{AllocError, Allocator};
@@ -169,7 +169,10 @@ pub fn put_kept<E: SlotEntry + Drop, A: Allocator + Clone>(
     ensures looks { 2 * looks.new ≤ 2 * looks.old + (placed.new - placed.old) * (placed.new - placed.old + 1) }
 {
     if lg <= GATHERED_LG || are_words(slots) {
-        return put_gathered::<E, A>(slots, lg, theta, kept, at, entry, placed, looks);
+        let others = E::free_slots(slots.allocator().clone()?, kept + 1)?;
+        slots[at] = entry.into_slot();
+        gather::<E, A>(slots, others, lg, theta, placed, looks);
+        return Ok(());
     }
     let mut unmarked = no_marks(slots.allocator().clone()?, lg)?;
     slots[at] = entry.into_slot();

@@ -83,7 +83,9 @@ fn settle<E: SlotEntry>(
     ensures found { (q : ℕ)
         → entry_at E.key (entries_in E.content slots.new) q
         ≡ entry_at E.key (entries_in E.content left.old ++ entries_in E.content slots.old) q }
-    ensures all { (q : ℕ) → entry_count_in E.key E.content q slots.new ≡ entry_count_in E.key E.content q left.old + entry_count_in E.key E.content q slots.old }
+    ensures all { (q : ℕ)
+        → entry_count_in E.key E.content q slots.new
+        ≡ entry_count_in E.key E.content q left.old + entry_count_in E.key E.content q slots.old }
     ensures count { length (entries_in E.content slots.new) ≡ length (entries_in E.content left.old) + length (entries_in E.content slots.old) }
     ensures placed { placed.new ≡ placed.old + length (entries_in E.content left.old) }
     ensures looked { looks.old + (placed.new - placed.old) ≤ looks.new }

@@ -5,6 +5,7 @@ use Rattle.std.proofs.lemmas.Bool.Decides.{nat_tests}
 use Rattle.core_slots.specs.SlotLayout.{filled}
 use Rattle.core_slots.proofs.Gathers.{apart-below, map_of-below}
 use Rattle.core_table.specs.Gathering.{from_below}
+use Rattle.core_table.specs.Filling.{IsFill}
 use Rattle.std.proofs.lemmas.List.Sorted.{length_permutation}
 use Rattle.core_compact.specs.CompactState.{Compact, IsCompactOf, shown_of, is_answer_ordered}
 use Rattle.core_laws.specs.Maps.{IsApart, below, map_of, rank}
@@ -63,10 +64,7 @@ module _ {X : Type 0} (key : X → ℕ) where
 
 -- entries that may be inserted into a table of k nominal entries with this theta, and make this cut there
 pub record MakeCut {X : Type 0} (key : X → ℕ) (k theta : ℕ) (xs : List X) (made : Retained X) : Type 0 where
-  pub apart : IsApart key xs
-  pub nonzero : AllByRecursion (λ x. 0 < key x) xs
-  pub below_theta : AllByRecursion (λ x. key x < theta) xs
-  pub limited : length xs ≤ k
+  pub fill : IsFill key k theta xs
   pub made_is : record { entries = map_of key xs; theta = theta } ≡ made
 
 module _ {X : Type 0} (key : X → ℕ) (xs : List X) (each : IsApart key xs) where
@@ -78,10 +76,12 @@ module _ {X : Type 0} (key : X → ℕ) (xs : List X) (each : IsApart key xs) wh
       let limited : length (below key (map_of key xs) lesser) ≤ k = omega (arith, within, ap (λ v. length v.entries) is_cut) in
       let shown = shown_listed key xs lesser 0 each (IsRetained-below key (map_of key xs) own lesser kept low high) (omega (arith, limited, small)) in
       record {
-        apart = apart-below key xs lesser each;
-        nonzero = each-from_map key (λ h. 0 < h) _ shown.nonzero;
-        below_theta = each-from_map key (λ (h : ℕ). h < lesser) _ shown.below_theta;
-        limited = omega (arith, limited, count key xs lesser 0 each);
+        fill = record {
+          apart = apart-below key xs lesser each;
+          nonzero = each-from_map key (λ h. 0 < h) _ shown.nonzero;
+          below_theta = each-from_map key (λ (h : ℕ). h < lesser) _ shown.below_theta;
+          limited = omega (arith, limited, count key xs lesser 0 each);
+        };
         made_is = ap (λ ys. record { entries = ys; theta = lesser }) (map_of-below key xs lesser) ∙ sym is_cut;
       }
 
@@ -94,10 +94,7 @@ module _ {X : Type 0} (key : X → ℕ) (xs : List X) (each : IsApart key xs) wh
       let is_cut : cut key k (map_of key xs) own ≡ retained key (map_of key xs) own = cut_few key k (map_of key xs) own kept.ascending ranked in
       let made = makes_cut k own own own kept kept.theta_low (omega arith) small is_cut in
       record {
-        apart = made.apart;
-        nonzero = made.nonzero;
-        below_theta = made.below_theta;
-        limited = made.limited;
+        fill = made.fill;
         made_is = made.made_is ∙ is_cut ∙ ap (λ ys. record { entries = ys; theta = own }) all;
       }
 

@@ -1,5 +1,5 @@
 -- The value of a hash table, its laws and its sizes.
-use Rattle.std.specs.Prelude.{ℕ, ◌<◌, ◌≤◌, ◌≡◌, ◌==◌, ◌+◌, ◌-◌, ◌*◌, ◌/◌, ◌%◌, ◌^◌, ◌&&◌, ◌||◌, ◌⊎◌, not, true, false, List, [], nat_lt, nat_le, min, Bool, if◌then◌else◌, Option, Some, None, length, is_some, IsTrue, Result}
+use Rattle.std.specs.Prelude.{ℕ, ◌<◌, ◌≤◌, ◌≡◌, ◌==◌, ◌+◌, ◌-◌, ◌*◌, ◌/◌, ◌%◌, ◌^◌, ◌&&◌, ◌||◌, ◌⊎◌, true, false, List, [], nat_lt, nat_le, min, Bool, if◌then◌else◌, Option, length, is_some, IsTrue, Result}
 use Rattle.std.specs.Int.Count.{count_leading_zeros}
 use Rattle.std.specs.List.{concat}
 use Rattle.sketch_base.specs.Seed.{seed_hash, hash_of}

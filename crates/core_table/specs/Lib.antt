@@ -1,5 +1,6 @@
 pub mod HashTable
 mod Insertion
+pub mod Filling
 pub mod ResizeFactor
 pub mod Gathering
 pub mod Marks

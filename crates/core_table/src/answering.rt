@@ -10,7 +10,7 @@ ghost use Rattle.core_laws.specs.Cuts.{IsRetained};
 ghost use Rattle.core_slots.specs.SlotLayout.{entries_in, slot_map};
 
 use crate::iter::{Marked, first_in};
-use core_compact::{CompactSketchState, is_answer_ordered};
+use core_compact::{CompactSketchState, is_answer_ordered, sort_by_hash};
 use core_laws::SketchEntry;
 use core_slots::{SlotEntry, hash_of_rank};
 use sketch_base::Error;
@@ -45,7 +45,7 @@ pub fn sorted_by_hash<E: SketchEntry + Drop, A: Allocator>(mut entries: Vec<E, A
     requires { IsApart E.key entries.items }
     ensures { result.items ≡ map_of E.key entries.items }
 {
-    entries.sort_unstable_by_key(|entry| entry.hash());
+    sort_by_hash(&mut entries);
     entries
 }
 

@@ -1,8 +1,8 @@
 //! Tables that are filled with the entries of another.
-ghost use Rattle.std.specs.Prelude.{◌≡◌, ◌*◌, ◌/◌, ◌<◌, ◌≤◌, ◌^◌, [], true, length, None, IfOk};
-ghost use Rattle.std.specs.List.{AllByRecursion};
-ghost use Rattle.core_laws.specs.Maps.{IsApart, map_of};
+ghost use Rattle.std.specs.Prelude.{◌≡◌, ◌*◌, ◌/◌, ◌≤◌, ◌^◌, [], true, None, IfOk};
+ghost use Rattle.core_laws.specs.Maps.{map_of};
 ghost use Rattle.core_laws.specs.Refusal.{Refuses};
+ghost use Rattle.core_table.specs.Filling.{IsFill};
 
 use crate::hash_table::SketchHashTable;
 use core_slots::{PutStep, SlotEntry};
@@ -17,10 +17,7 @@ pub(crate) fn filled<E: SlotEntry + Drop, A: Allocator + Clone>(
 ) -> Result<SketchHashTable<E, A>, Error>
     requires of_sketch { 3 ≤ table.map.lg_nom }
     requires nothing_held { table.map.kept.entries ≡ [] }
-    requires apart { IsApart E.key entries.items }
-    requires nonzero { AllByRecursion (λ x. 0 < E.key x) entries.items }
-    requires below_theta { AllByRecursion (λ x. E.key x < table.map.kept.theta) entries.items }
-    requires limited { length entries.items ≤ 15 * 2 ^ table.map.lg_nom / 8 }
+    requires fill { IsFill E.key (15 * 2 ^ table.map.lg_nom / 8) table.map.kept.theta entries.items }
     ensures after { IfOk result (λ t.
         t.map
         ≡ record table.map

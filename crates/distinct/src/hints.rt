@@ -80,6 +80,19 @@ impl fmt::Display for Hint<'_> {
                 write!(f, " of {command} (try distinct {command} --help)")
             }
             Failure::NoFiles => write!(f, " (try distinct {command} --help)"),
+            Failure::NoSketch(_, 0, Flaw::Family(9)) => {
+                if command == "eval" {
+                    write!(f, "; pass --sums for images of sums, --keys for lines")
+                } else {
+                    write!(
+                        f,
+                        "; union --sums and eval --sums read images of sums, count and sketch lines"
+                    )
+                }
+            }
+            Failure::NoSums(_, 0, flaw) if may_have_lines(*flaw) => {
+                write!(f, "; sketch --value reads lines")
+            }
             Failure::NoSketch(_, 0, flaw) if may_have_lines(*flaw) => {
                 if command == "eval" {
                     write!(f, "; pass --keys if its files have lines")

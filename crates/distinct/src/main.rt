@@ -188,27 +188,15 @@ fn run_request(
     };
     let sources = Files::named(rt, opened, from_standard);
     let mut console = Progress::new(rt, progress);
+    let watched = &mut console;
     match output {
-        None => perform(
-            alloc,
-            request,
-            seed,
-            files,
-            sources,
-            &mut console,
-            &mut rt.stdout(),
-        ),
+        None => {
+            let mut out = rt.stdout();
+            perform(alloc, request, seed, files, sources, watched, &mut out)
+        }
         Some(name) => {
             let mut bytes = Vec::new(alloc);
-            perform(
-                alloc,
-                request,
-                seed,
-                files,
-                sources,
-                &mut console,
-                &mut bytes,
-            )?;
+            perform(alloc, request, seed, files, sources, watched, &mut bytes)?;
             output::put_file(rt, name, bytes.as_slice())
         }
     }

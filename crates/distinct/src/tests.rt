@@ -9,7 +9,7 @@ ghost use Rattle.distinct_arguments.specs.Faults.{options_of};
 ghost use Rattle.distinct_arguments.specs.Settings.{chosen_group, chosen_value};
 ghost use Rattle.distinct_commands.specs.Answers.{names_of, texts_of, sketch_of};
 ghost use Rattle.distinct_commands.specs.Images.{in_form};
-ghost use Rattle.distinct_commands.specs.Answers.{IsIntersectionImage, IsDifferenceImage, IsShownOf, IsCountOf, IsSketchOf, IsCommandAnswer, IsCombinedText, Performs};
+ghost use Rattle.distinct_commands.specs.Answers.{IsIntersectionImage, IsDifferenceImage, IsShownOf, IsCountOf, IsSketchText, IsCommandAnswer, IsCombinedText, Performs};
 ghost use Rattle.distinct_commands.specs.Evaluations.{IsEvaluatedOf};
 ghost use Rattle.distinct_commands.specs.Images.{images_of};
 ghost use Rattle.distinct_commands.specs.Texts.{count_text};
@@ -323,7 +323,9 @@ fn sketch_of(
     texts: &[Vec<u8>],
 ) -> Result<Vec<u8>, Failure>
     requires seeded { seed_hash seed ≢ 0 }
-    ensures sketched { IfOk result (λ v. IsSketchOf (chosen_group (options_of options.now)) (options_of options.now) seed (texts_of texts.now) v.items) }
+    ensures sketched { IfOk result (λ v.
+        IsSketchText (chosen_value (options_of options.now)) (chosen_group (options_of options.now))
+        (options_of options.now) seed (texts_of texts.now) v.items) }
 {
     answered(alloc, Command::Sketch, options, seed, names, texts)
 }
@@ -604,9 +606,26 @@ const ESTIMATING: [&str; 2] = [
     "03030300001acc9302000000000000000000909dceda82370000c84e676dc11b00002cf61a24a229",
 ];
 
-/// Each command, with options and without. What is to be written of `TEXTS`, `LETTERS`, `AMOUNTS` and `SQUARES` is by a program in Python that knows
-/// the public definition of the hash and the formula of bounds, of `EXACT` it is in `examples/lines`, and of `ESTIMATING` it is by
-/// `checks/answers.py`.
+/// The images of the sums of `AMOUNTS`, of each text and of both, and those of `SQUARES` with 16 hashes, of the second with 32.
+const SUMS: [&str; 2] = [
+    "02030901001acc9302000000000000005f1032909707cc270700000000000000fc08309e1c5ed36b0500000000000000",
+    "02030901001acc930300000000000000dc8d24339151380f01000000000000005f1032909707cc270000000000000000fc08309e1c5ed36bfaffffffffffffff",
+];
+
+const BOTH_SUMS: &str =
+    "02030901001acc930300000000000000dc8d24339151380f01000000000000005f1032909707cc270700000000000000fc08309e1c5ed36bffffffffffffffff\n";
+
+const SQUARE_SUMS: [&str; 2] = [
+    "02030901001acc930a00000000000000b70c6ee5a8af40080900000000000000c3b370468965392064000000000000004e3de85b082bc12e1900000000000000ff7c64f774b0f2312400000000000000376aa7ffdc8e1a325100000000000000857f40b689c7e534040000000000000097eb8adc8b618f713100000000000000e05f35ed751d00731000000000000000de01633c6898f679400000000000000017c11d528507017b0100000000000000",
+    "02030901001acc930a00000000000000fbec962b9734d903e10000000000000096d5fa806ee6911469010000000000003033787f99eb9716440100000000000031b1af2ba470ae16900000000000000047ea9f2c54fc0b22c400000000000000f9e6878dc231044090010000000000008dfc2f788b524447a900000000000000e98357d8e06d3a4e210100000000000082e327d71c4b49500001000000000000c5d15b82799ce5787900000000000000",
+];
+
+const BOTH_SQUARE_SUMS: &str =
+    "03030901001acc931000000000000000e05f35ed751d0073fbec962b9734d903e100000000000000b70c6ee5a8af4008090000000000000096d5fa806ee6911469010000000000003033787f99eb9716440100000000000031b1af2ba470ae169000000000000000c3b3704689653920640000000000000047ea9f2c54fc0b22c4000000000000004e3de85b082bc12e1900000000000000ff7c64f774b0f2312400000000000000376aa7ffdc8e1a325100000000000000857f40b689c7e5340400000000000000f9e6878dc231044090010000000000008dfc2f788b524447a900000000000000e98357d8e06d3a4e210100000000000082e327d71c4b4950000100000000000097eb8adc8b618f713100000000000000\n";
+
+/// Each command, with options and without. What is to be written of `TEXTS`, `LETTERS`, `AMOUNTS`, `SQUARES`, `SUMS` and
+/// `SQUARE_SUMS` is by a program in Python that knows the public definition of the hash and the formula of bounds, of `EXACT`
+/// it is in `examples/lines`, and of `ESTIMATING` it is by `checks/answers.py`.
 #[test]
 fn writes_each_answer(rt: HostRuntime) -> Result<(), Fail> {
     for (arguments, texts, line) in [
@@ -632,6 +651,38 @@ fn writes_each_answer(rt: HostRuntime) -> Result<(), Fail> {
             &["count", "--lg-k=4", "--json", "--bounds=1", "a", "b"],
             LETTERS,
             "{\"estimate\":18,\"lower\":16,\"upper\":20,\"exact\":false,\"retained\":16,\"theta\":8286655706689789920}\n",
+        ),
+        (
+            &[
+                "sketch",
+                "--field=1",
+                "--value=2",
+                "--separator=;",
+                "a",
+                "b",
+            ],
+            AMOUNTS,
+            BOTH_SUMS,
+        ),
+        (
+            &[
+                "sketch",
+                "--lg-k=4",
+                "--field=1",
+                "--value=2",
+                "--separator=;",
+                "--hex",
+                "a",
+                "b",
+            ],
+            SQUARES,
+            BOTH_SQUARE_SUMS,
+        ),
+        (&["union", "--sums", "a", "b"], SUMS, BOTH_SUMS),
+        (
+            &["union", "--sums", "--hex", "--lg-k=4", "a", "b"],
+            SQUARE_SUMS,
+            BOTH_SQUARE_SUMS,
         ),
         (
             &["count", "--by", "1", "--separator", "n", "a", "b"],

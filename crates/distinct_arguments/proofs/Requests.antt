@@ -7,7 +7,7 @@ use Rattle.std.specs.Str.{bytes_eq}
 use Rattle.std.proofs.lemmas.Bool.Decides.{nat_tests}
 use Rattle.distinct_arguments.specs.Words.{command_of, is_help, is_version, is_option, split_option}
 use Rattle.distinct_arguments.specs.Settings.{OptionValues, default_options, Mistake, behind_file, standard_twice, with_value}
-use Rattle.distinct_arguments.specs.Arguments.{Action, runs, fails, Awaiting, Meaning, help, sets, awaits, wrong, setting_meaning, standard_uses, has_one_expression, has_lone_field, has_lone_sum, is_separator_lone, has_lone_groups, listed_action, grouped_action, run_action, at_meaning, at_value, command_action, action_of, ReadsOnce}
+use Rattle.distinct_arguments.specs.Arguments.{Action, runs, fails, Awaiting, Meaning, help, sets, awaits, wrong, setting_meaning, standard_uses, has_one_expression, has_lone_field, has_lone_sum, is_separator_lone, has_lone_groups, has_plain_sums, listed_action, grouped_action, summed_action, run_action, at_meaning, at_value, command_action, action_of, ReadsOnce}
 use Rattle.distinct_arguments.specs.declared.commands.Command.{Command}
 
 -- what runs at the end of two tests and a third
@@ -34,10 +34,15 @@ once_grouped command options files =
     (at_tests (options.groups && not options.hex) (options.groups && is_some options.expected) _ _ _ tt tt
     (at_tests (is_some options.folder && is_none options.by) (is_some options.folder && is_some options.output) _ _ _ tt tt (once_listed command options files)))
 
+once_summed : (command : Command) (options : OptionValues) (files : List (List ℕ)) → ReadsOnce (summed_action command options files)
+once_summed command options files =
+    at_tests (options.sums && options.keys) (has_plain_sums command options) _ _ _ tt tt
+    (at_tests (options.sums && options.groups) (options.sums && is_some options.bounds) _ _ _ tt tt (once_grouped command options files))
+
 once_run : (command : Command) (options : OptionValues) (files : List (List ℕ)) → ReadsOnce (run_action command options files)
 once_run command options files =
     at_tests (not (has_one_expression command files)) (has_lone_field command options) _ _ _ tt tt
-    (at_tests (has_lone_sum command options) (is_separator_lone options) _ _ _ tt tt (once_grouped command options files))
+    (at_tests (has_lone_sum command options) (is_separator_lone options) _ _ _ tt tt (once_summed command options files))
 
 at_found : (found : Option (List ℕ)) (run : Action) → ReadsOnce run → ReadsOnce (option_map_or (λ w. fails (behind_file w)) found run)
 at_found None run once = once

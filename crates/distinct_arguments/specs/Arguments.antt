@@ -4,7 +4,7 @@ use Rattle.std.specs.Option.{option_map_or}
 use Rattle.std.specs.List.{find}
 use Rattle.std.specs.Str.{bytes_eq}
 use Rattle.distinct_arguments.specs.Words.{command_of, option_called, has_option, reads_lines, reads_expression, is_help, is_version, is_option, is_standard, Setting, split_option}
-use Rattle.distinct_arguments.specs.Settings.{SeedValue, seed_number, seed_file, OptionValues, default_options, Mistake, no_command, unknown_command, unknown_option, behind_file, no_value, unneeded_value, not_one_expression, lone_field, lone_sum, lone_separator, lone_groups, lone_order, lone_unions, counted_groups, lone_folder, two_outputs, files_and_list, standard_twice, with_flag, with_value}
+use Rattle.distinct_arguments.specs.Settings.{SeedValue, seed_number, seed_file, OptionValues, default_options, Mistake, no_command, unknown_command, unknown_option, behind_file, no_value, unneeded_value, not_one_expression, lone_field, lone_sum, lone_separator, summed_keys, plain_sums, summed_groups, summed_bounds, lone_groups, lone_order, lone_unions, counted_groups, lone_folder, two_outputs, files_and_list, standard_twice, with_flag, with_value}
 use Rattle.distinct_arguments.specs.declared.commands.Command.{Command}
 use Rattle.distinct_arguments.specs.declared.commands.Topic.{Topic}
 use Rattle.distinct_arguments.specs.declared.commands.Topic.TheVariants.{Program, Version, Help}
@@ -102,6 +102,11 @@ abbrev pub has_lone_groups : Command → OptionValues → Bool
 has_lone_groups Sketch options = is_some options.by && not options.hex && is_none options.folder
 has_lone_groups _ options = false
 
+-- sketches of sums are neither grouped nor watched
+abbrev pub has_plain_sums : Command → OptionValues → Bool
+has_plain_sums Sketch options = is_some options.value && (is_some options.by || options.progress)
+has_plain_sums _ options = false
+
 -- what a command does with its files, unless they don't fit to a list of files, or standard input would be read twice
 abbrev pub listed_action : Command → OptionValues → (files : List (List ℕ)) → Action
 listed_action command options files =
@@ -120,6 +125,15 @@ grouped_action command options files =
     if is_some options.folder && is_some options.output then fails two_outputs else
     listed_action command options files
 
+-- .. and those for sums neither
+abbrev pub summed_action : Command → OptionValues → (files : List (List ℕ)) → Action
+summed_action command options files =
+    if options.sums && options.keys then fails summed_keys else
+    if has_plain_sums command options then fails plain_sums else
+    if options.sums && options.groups then fails summed_groups else
+    if options.sums && is_some options.bounds then fails summed_bounds else
+    grouped_action command options files
+
 -- what a command does with its options and files, unless they don't fit together
 abbrev pub run_action : Command → OptionValues → (files : List (List ℕ)) → Action
 run_action command options files =
@@ -127,7 +141,7 @@ run_action command options files =
     if has_lone_field command options then fails lone_field else
     if has_lone_sum command options then fails lone_sum else
     if is_separator_lone options then fails lone_separator else
-    grouped_action command options files
+    summed_action command options files
 
 -- .. if no file looks like an option
 abbrev pub files_action : Command → OptionValues → (files : List (List ℕ)) → Action

@@ -10,7 +10,7 @@ use Rattle.distinct_arguments.specs.declared.options.Form.{Form}
 use Rattle.distinct_arguments.specs.declared.options.Order.{Order}
 use Rattle.distinct_arguments.specs.declared.options.Form.TheVariants.{Plain, Tsv as TsvForm, Json as JsonForm}
 use Rattle.distinct_arguments.specs.declared.options.OptionName.{OptionName}
-use Rattle.distinct_arguments.specs.declared.options.OptionName.TheVariants.{LgK, Field, Separator, By, Value, Sort, Groups, Seed, SeedFile, FileList, Expect, Progress, Bounds, Tsv, Json, Hex, Output, OutputDir, Keys}
+use Rattle.distinct_arguments.specs.declared.options.OptionName.TheVariants.{LgK, Field, Separator, By, Value, Sort, Groups, Sums, Seed, SeedFile, FileList, Expect, Progress, Bounds, Tsv, Json, Hex, Output, OutputDir, Keys}
 
 -- the seed of hashes: a number, or the name of the file that has it
 pub data SeedValue : Type 0 where
@@ -26,6 +26,7 @@ pub record OptionValues : Type 0 where
   pub sort : Option Order
   pub value : Option ℕ
   pub groups : Bool
+  pub sums : Bool
   pub seed : SeedValue
   pub hex : Bool
   pub keys : Bool
@@ -47,6 +48,7 @@ default_options = record {
   sort = None;
   value = None;
   groups = false;
+  sums = false;
   seed = seed_number 9001;
   hex = false;
   keys = false;
@@ -92,6 +94,10 @@ pub data Mistake : Type 0 where
   lone_field : Mistake
   lone_sum : Mistake
   lone_separator : Mistake
+  summed_keys : Mistake
+  plain_sums : Mistake
+  summed_groups : Mistake
+  summed_bounds : Mistake
   lone_groups : Mistake
   lone_order : Mistake
   lone_unions : Mistake
@@ -107,6 +113,7 @@ with_flag options Progress = Some (record options { progress = true })
 with_flag options Hex = Some (record options { hex = true })
 with_flag options Keys = Some (record options { keys = true })
 with_flag options Groups = Some (record options { groups = true })
+with_flag options Sums = Some (record options { sums = true })
 with_flag options Tsv = Some (record options { form = TsvForm })
 with_flag options Json = Some (record options { form = JsonForm })
 with_flag options Bounds = Some (record options { bounds = Some Two })

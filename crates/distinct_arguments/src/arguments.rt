@@ -168,8 +168,8 @@ fn read_command<'a>(
 }
 
 /// What the arguments request, without the program's name. If they are wrong, it fails with the first fault of a word from
-/// the left, else with the first of `NotOneExpression`, `LoneField`, `LoneSum`, `LoneSeparator`, `LoneGroups`,
-/// `FilesAndList` and `StandardTwice` that applies, or with `Memory` if memory for the text of a fault is refused.
+/// the left, else with the first of `NotOneExpression`, `LoneField`, `LoneSum`, `LoneSeparator`, those of sums and of
+/// groups, `FilesAndList` and `StandardTwice` that applies, or with `Memory` if memory for the text of a fault is refused.
 pub fn read_arguments(words: &[String]) -> Result<Request<'_>, Fault>
     ensures { ParsesAs result (action_of (words_of words.now)) }
 {

@@ -50,6 +50,14 @@ pub enum Fault {
     LoneSum,
     /// There is `--separator` without `--field` and without `--by`.
     LoneSeparator,
+    /// There are `--sums` and `--keys`.
+    SummedKeys,
+    /// `sketch` has `--value`, and `--by` or `--progress`.
+    PlainSums,
+    /// There are `--sums` and `--groups`.
+    SummedGroups,
+    /// There are `--sums` and `--bounds`.
+    SummedBounds,
     /// `sketch` has `--by` without `--hex` and without `--output-dir`.
     LoneGroups,
     /// There is `--sort` without `--by`.
@@ -202,6 +210,22 @@ impl fmt::Display for Fault {
             Fault::LoneField => write!(f, "--field needs --keys"),
             Fault::LoneSum => write!(f, "sum needs --value N, the field of its numbers"),
             Fault::LoneSeparator => write!(f, "--separator needs --field or --by"),
+            Fault::SummedKeys => write!(
+                f,
+                "--sums reads images, without --keys: make them of lines by sketch --value N"
+            ),
+            Fault::PlainSums => write!(
+                f,
+                "--value sums all lines, without --by and --progress: sketch the lines of each group by themselves"
+            ),
+            Fault::SummedGroups => write!(
+                f,
+                "--sums and --groups exclude each other: unite the images of each group by themselves"
+            ),
+            Fault::SummedBounds => write!(
+                f,
+                "--sums prints a total without bounds: leave --bounds out"
+            ),
             Fault::LoneGroups => write!(f, "--by needs --hex or --output-dir"),
             Fault::LoneOrder => write!(f, "--sort orders groups: pass --by N too"),
             Fault::LoneUnions => write!(f, "--groups needs --hex"),

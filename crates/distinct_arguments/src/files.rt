@@ -3,7 +3,8 @@ ghost use Rattle.std.specs.Prelude.{◌≡◌, ◌≤◌, ◌+◌, nat_lt, strin
 ghost use Rattle.std.specs.Option.{option_map};
 ghost use Rattle.std.specs.List.{find};
 ghost use Rattle.distinct_arguments.specs.Arguments.{standard_files, standard_uses, is_standard_seed, is_standard_list};
-ghost use Rattle.distinct_arguments.specs.Arguments.{is_standard_default, has_one_expression, has_lone_sum, is_separator_lone, has_lone_groups, run_action, grouped_action, listed_action, files_action};
+ghost use Rattle.distinct_arguments.specs.Arguments.{is_standard_default, has_one_expression, has_lone_sum, is_separator_lone, has_lone_groups, has_plain_sums};
+ghost use Rattle.distinct_arguments.specs.Arguments.{run_action, summed_action, grouped_action, listed_action, files_action};
 ghost use Rattle.distinct_arguments.specs.Faults.{options_of, seed_value, ParsesAs};
 ghost use Rattle.distinct_arguments.specs.Words.{is_option, is_standard, reads_lines, reads_expression, words_of};
 
@@ -133,6 +134,16 @@ fn has_lone_sum(command: Command, options: &Options<'_>) -> bool
     }
 }
 
+/// Whether a sketch of sums would be grouped or watched.
+fn has_plain_sums(command: Command, options: &Options<'_>) -> bool
+    ensures { result ≡ has_plain_sums command (options_of options.now) }
+{
+    match command {
+        Command::Sketch => { options.value.is_some() && (options.by.is_some() || options.progress) }
+        _ => false,
+    }
+}
+
 /// Whether there is a separator, and no field that it ends.
 fn is_separator_lone(options: &Options<'_>) -> bool
     ensures { result ≡ is_separator_lone (options_of options.now) }
@@ -187,6 +198,29 @@ fn grouped_request<'a>(
     listed_request(command, options, files)
 }
 
+/// The request to run a command on files, if its options for sums fit together, and the files fit to them.
+fn summed_request<'a>(
+    command: Command,
+    options: Options<'a>,
+    files: &'a [String],
+) -> Result<Request<'a>, Fault>
+    ensures { ParsesAs result (summed_action command (options_of options.entry) (words_of files.now)) }
+{
+    if options.sums && options.keys {
+        return Err(Fault::SummedKeys);
+    }
+    if has_plain_sums(command, &options) {
+        return Err(Fault::PlainSums);
+    }
+    if options.sums && options.groups {
+        return Err(Fault::SummedGroups);
+    }
+    if options.sums && options.bounds.is_some() {
+        return Err(Fault::SummedBounds);
+    }
+    grouped_request(command, options, files)
+}
+
 /// The request to run a command on files, if its options and the files fit together.
 pub(crate) fn run_request<'a>(
     command: Command,
@@ -207,7 +241,7 @@ pub(crate) fn run_request<'a>(
     if is_separator_lone(&options) {
         return Err(Fault::LoneSeparator);
     }
-    grouped_request(command, options, files)
+    summed_request(command, options, files)
 }
 
 /// The first file that looks like an option.

@@ -69,7 +69,9 @@ distinct sketch [OPTION..] [FILE..]: writes the sketch of the files' lines as an
                       write a line per group: its name, a tab, its image; in ascending order
   --output-dir DIR    with --by: write the image of each group to a file of its own in DIR, which is
                       made if it is missing: DIR/GROUP.theta
-  --separator C       the byte between fields, with --field or --by; default a tab
+  --value M           write an image of sums: of each key the sum of the numbers in field M of its
+                      lines, as sum has them. Without --by and --progress
+  --separator C       the byte between fields, with --field, --by or --value; default a tab
   --seed N            the seed of the hashes, from 0 to 2^64 - 1; default 9001
   --seed-file FILE    the seed is the number in FILE, and not in the process list
   --files0-from FILE  the names of the files are in FILE, each ended by a NUL byte
@@ -91,6 +93,7 @@ distinct union [OPTION..] IMAGE..: writes the sketch of the lines that any of th
   --hex               images in hexadecimal, one per line, in and out
   --groups            with --hex: a line has the name of a group, a tab and an image, as those that
                       sketch writes of groups; unite them by group, and write such a line per group
+  --sums              the images are of sums: the sums of a key are added. Without --groups
   --output FILE       write to FILE, all or nothing, instead of standard output
 ";
 
@@ -143,6 +146,9 @@ distinct lines it has, exactly or estimated, how many hashes it retains, and its
   --seed-file FILE    the seed is the number in FILE, and not in the process list
   --keys              the files have lines, not images; each is sketched with 2^N hashes
   --field N           with --keys: a line's key is its field N, from 1, as cut has it
+  --sums              the images are of sums: + and & add the sums of a key, and a difference keeps
+                      those of its first part. Prints the total, as sum does, without --bounds and
+                      without --keys
   --separator C       the byte between fields, with --field; default a tab
   --bounds=Z          the bounds of an estimate are for Z standard deviations; Z is 1, 2 or 3,
                       default 2

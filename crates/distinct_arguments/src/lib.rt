@@ -11,8 +11,6 @@ mod help;
 pub mod laws;
 mod options;
 mod settings;
-#[cfg(test)]
-mod tests;
 mod words;
 
 pub use arguments::read_arguments;

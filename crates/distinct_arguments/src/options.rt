@@ -14,6 +14,7 @@ pub enum OptionName {
     Sort,
     Value,
     Groups,
+    Sums,
     Seed,
     SeedFile,
     FileList,
@@ -70,6 +71,8 @@ pub struct Options<'a> {
     pub value: Option<u32>,
     /// Whether images are united by the groups of their lines.
     pub groups: bool,
+    /// Whether images are of sums.
+    pub sums: bool,
     pub seed: Seed<'a>,
     /// Whether images are in hexadecimal digits.
     pub hex: bool,

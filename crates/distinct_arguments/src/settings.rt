@@ -29,6 +29,7 @@ impl<'a> Options<'a> {
             sort: None,
             value: None,
             groups: false,
+            sums: false,
             seed: Seed::Number(DEFAULT_UPDATE_SEED),
             hex: false,
             keys: false,
@@ -85,6 +86,7 @@ pub(crate) fn with_flag<'a>(options: Options<'a>, option: OptionName) -> Option<
         OptionName::Hex => changed.hex = true,
         OptionName::Keys => changed.keys = true,
         OptionName::Groups => changed.groups = true,
+        OptionName::Sums => changed.sums = true,
         OptionName::Bounds => changed.bounds = Some(Deviations::Two),
         _ => return None,
     }

@@ -1,18 +1,67 @@
 -- What a command answers.
-use Rattle.std.proofs.Common.{◌≡◌, ℕ, List, Option, Some, None, sym, ap, subst, ◌∙◌}
+use Rattle.std.proofs.Common.{◌≡◌, ◌++◌, ℕ, Bool, true, false, List, Option, Some, None, refl, sym, ap, subst, ◌∙◌}
 use Rattle.std.specs.Prelude.{IfSome, IfOk, Result, Ok, Err}
-use Rattle.core_compact.specs.CompactState.{Compact}
+use Rattle.core_compact.specs.CompactState.{Compact, ordered_sketch}
 use Rattle.theta_sketches.specs.Image.{written}
+use Rattle.sketch_base.specs.Seed.{seed_hash}
+use Rattle.core_laws.specs.Values.{Sketch, Empty, NonEmpty}
+use Rattle.core_slots.specs.declared.entry.TupleEntry.{TupleEntry}
+use Rattle.lines.specs.Lines.{lines_of_all}
 use Rattle.lines.specs.declared.key.Key.{Key}
-use Rattle.distinct_commands.specs.Answers.{sketch_of, IsSketchOf}
+use Rattle.line_sums.specs.Amounts.{AreNumbers}
+use Rattle.line_sums.specs.Images.{written_sums, ReadsSums}
+use Rattle.line_sums.specs.declared.addends.Amount.TheVariants.{Number}
+use Rattle.distinct_commands.specs.Sums.{sums_of, IsSumsText}
+use Rattle.distinct_commands.specs.Answers.{sketch_of, lines_text, IsLinesText}
+use Rattle.distinct_commands.specs.Groups.{grouping_of, group_estimate, chosen_order, AreOrdered, groups_head, groups_text, IsGroupedText}
+use Rattle.distinct_commands.specs.Texts.{count_text}
+use Rattle.grouped_lines.specs.Groups.{AreGroups}
 use Rattle.distinct_commands.specs.Images.{in_form}
 use Rattle.distinct_arguments.specs.Settings.{OptionValues}
 
--- the sketch of lines that are in no groups, as it is written
-pub sketched : {V E : Type 0} (r : Result V E) (items : V → List ℕ) (known : Option (List (List ℕ))) (by : Option Key) (options : OptionValues) (seed : ℕ) (s : Compact ℕ) →
-    by ≡ None → IfSome known (λ texts. s ≡ sketch_of options seed texts) → IfOk r (λ v. items v ≡ in_form options.hex (written s)) →
-    IfSome known (λ texts. IfOk r (λ v. IsSketchOf by options seed texts (items v)))
-sketched r items None by options seed s ungrouped is form = tt
-sketched (Err e) items (Some texts) by options seed s ungrouped is form = tt
-sketched (Ok v) items (Some texts) by options seed s ungrouped is form =
-    subst (λ (b : Option Key). IsSketchOf b options seed texts (items v)) (sym ungrouped) (form ∙ ap (λ (t : Compact ℕ). in_form options.hex (written t)) is)
+-- the sketch of lines that are in no groups, or their groups, as they are printed or written
+ungrouped : (images : Bool) (options : OptionValues) (seed : ℕ) (texts : List (List ℕ)) (s : Compact ℕ) (out : List ℕ) → s ≡ sketch_of options seed texts → out ≡ lines_text images options s → IsLinesText images None options seed texts out
+ungrouped false options seed texts s out is text = text ∙ ap (count_text options) is
+ungrouped true options seed texts s out is text = text ∙ ap (λ (t : Compact ℕ). in_form options.hex (written t)) is
+
+pub sketched : {V E : Type 0} (r : Result V E) (items : V → List ℕ) (known : Option (List (List ℕ))) (images : Bool) (by : Option Key) (options : OptionValues) (seed : ℕ) (s : Compact ℕ) →
+    by ≡ None → IfSome known (λ texts. s ≡ sketch_of options seed texts) → IfOk r (λ v. items v ≡ lines_text images options s) →
+    IfSome known (λ texts. IfOk r (λ v. IsLinesText images by options seed texts (items v)))
+sketched r items None images by options seed s none is text = tt
+sketched (Err e) items (Some texts) images by options seed s none is text = tt
+sketched (Ok v) items (Some texts) images by options seed s none is text =
+    subst (λ (b : Option Key). IsLinesText images b options seed texts (items v)) (sym none) (ungrouped images options seed texts s (items v) is text)
+
+by_groups : (images : Bool) (options : OptionValues) (seed : ℕ) (texts : List (List ℕ)) (by : Key) (out : List ℕ) → IsGroupedText images options seed by texts out → IsLinesText images (Some by) options seed texts out
+by_groups false options seed texts by out is = is
+by_groups true options seed texts by out is = is
+
+pub grouped : {V E : Type 0} (r : Result V E) (items : V → List ℕ) (images : Bool) (chosen : Option Key) (by : Key) (options : OptionValues) (seed : ℕ) (texts names : List (List ℕ)) →
+    chosen ≡ Some by → AreGroups by (lines_of_all texts) names →
+    IfOk r (λ v. (ordered : List (List ℕ)) × AreOrdered (chosen_order options) (group_estimate options (grouping_of options seed by) (lines_of_all texts)) names ordered
+    × (items v ≡ groups_head images options ++ groups_text images options (grouping_of options seed by) (lines_of_all texts) ordered)) →
+    IfOk r (λ v. IsLinesText images chosen options seed texts (items v))
+grouped (Err e) items images chosen by options seed texts names is has printed = tt
+grouped (Ok v) items images chosen by options seed texts names is has printed =
+    subst (λ (b : Option Key). IsLinesText images b options seed texts (items v)) (sym is) (by_groups images options seed texts by (items v) (names, printed.0, has, printed.1, printed.2))
+
+-- an ordered sketch has its seed hash
+ordered_seed : {X : Type 0} (v : Sketch X) (h : ℕ) → (ordered_sketch v h).seed_hash ≡ h
+ordered_seed Empty h = refl
+ordered_seed (NonEmpty v) h = refl
+
+-- the sketch of sums of lines, as its image is written
+pub summed : {V E : Type 0} (r : Result V E) (items : V → List ℕ) (known : Option (List (List ℕ))) (field : Key) (options : OptionValues) (seed : ℕ) (s : Compact (TupleEntry ℕ)) (image : List ℕ) →
+    IfSome known (λ texts. s ≡ sums_of options (Number field) seed texts) → IfSome known (λ texts. AreNumbers (Number field) (lines_of_all texts)) → image ≡ written_sums s → (s.seed_hash ≡ seed_hash seed → ReadsSums image (seed_hash seed) s) →
+    IfOk r (λ v. items v ≡ in_form options.hex image) → IfSome known (λ texts. IfOk r (λ v. IsSumsText field options seed texts (items v)))
+summed r items None field options seed s image is numbers written reads form = tt
+summed (Err e) items (Some texts) field options seed s image is numbers written reads form = tt
+summed (Ok v) items (Some texts) field options seed s image is numbers written reads form = (
+  image,
+  record {
+    numbers = numbers;
+    written = written ∙ ap (λ (t : Compact (TupleEntry ℕ)). written_sums t) is;
+    reads = subst (λ (t : Compact (TupleEntry ℕ)). ReadsSums image (seed_hash seed) t) is (reads (ap (λ (t : Compact (TupleEntry ℕ)). t.seed_hash) is ∙ ordered_seed _ (seed_hash seed)));
+  },
+  form,
+)

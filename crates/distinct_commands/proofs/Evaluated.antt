@@ -1,5 +1,6 @@
 -- Lines of texts sketched one after another, and the result of an expression.
-use Rattle.std.proofs.Common.{◌≡◌, ℕ, Bool, true, false, List, [], ◌∷◌, ◌++◌, length, map, Option, Some, None, refl, sym, ap, subst, ◌∙◌, append_assoc, append-nil, ◌≤◌, ◌<◌, arith}
+use Rattle.std.proofs.Common.{◌≡◌, ℕ, Bool, List, [], ◌∷◌, ◌++◌, length, map, Option, String, string_bytes, Some, None, refl, sym, ap, subst, ◌∙◌, append_assoc, append-nil, ◌≤◌, ◌<◌, arith}
+use Rattle.std.proofs.lemmas.List.{length-map}
 use Rattle.std.specs.Prelude.{IfSome, IfOk, Result, Ok, Err, get_or}
 use Rattle.sketch_base.specs.Seed.{seed_hash}
 use Rattle.core_compact.specs.CompactState.{Compact, ordered_sketch}
@@ -7,22 +8,32 @@ use Rattle.line_sketches.specs.Sources.{GivesNext, Continues}
 use Rattle.line_sketches.specs.Shards.{sketches_of_texts}
 use Rattle.expression_text.specs.declared.operator.Step.{Step}
 use Rattle.expression_text.specs.Grammar.{IsSpelled}
-use Rattle.set_expressions.specs.Values.{value_of}
-use Rattle.set_expressions.specs.Running.{values_of}
+use Rattle.core_slots.specs.declared.entry.TupleEntry.{TupleEntry}
+use Rattle.line_sums.specs.Images.{AreReadSums}
+use Rattle.set_expressions.specs.Values.{value_of, sum_rules, sums_value}
+use Rattle.set_expressions.specs.Running.{values_of, sums_values}
+use Rattle.set_expressions.proofs.WholeSets.{expression_sample}
 use Rattle.distinct_arguments.specs.Settings.{OptionValues}
 use Rattle.distinct_commands.proofs.WholeStreams.{whole_result}
+use Rattle.distinct_commands.specs.Answers.{names_of}
 use Rattle.distinct_commands.specs.Failures.{chosen_hashing}
-use Rattle.distinct_commands.specs.Evaluations.{sketch_of_text, SketchesFirst, SketchesNext, AreSketchesOfTexts, AreOperands, IsEvaluated, IsEvaluatedOf, evaluated_text}
+use Rattle.distinct_commands.specs.Evaluations.{sketch_of_text, SketchesFirst, SketchesNext, AreSketchesOfTexts, AreOperands, IsEvaluated, IsEvaluatedBy, IsEvaluatedOf, evaluated_text}
+use Rattle.distinct_commands.specs.EvaluatedSums.{IsSumsEvaluated, evaluated_sums_text}
+use Rattle.distinct_commands.specs.Images.{images_of}
 
 mapped-more : {X Y : Type 0} (f : X → Y) (xs : List X) (x : X) → map f (xs ++ x ∷ []) ≡ map f xs ++ f x ∷ []
 mapped-more f [] x = refl
 mapped-more f (y ∷ ys) x = ap (λ zs. f y ∷ zs) (mapped-more f ys x)
 
 -- a list of one
-pub only_one : {T : Type 0} (xs : List T) (x : T) → 1 ≤ length xs → length xs < 2 → x ≡ get_or xs 0 x → xs ≡ x ∷ []
+only_one : {T : Type 0} (xs : List T) (x : T) → 1 ≤ length xs → length xs < 2 → x ≡ get_or xs 0 x → xs ≡ x ∷ []
 only_one [] x some limited is = absurd (omega arith)
 only_one (y ∷ []) x some limited is = ap (λ z. z ∷ []) (sym is)
 only_one (y ∷ z ∷ ys) x some limited is = absurd (omega arith)
+
+-- .. and its name
+pub only_named : {A : Type 0} (files : List (String A)) (file : String A) (text : List ℕ) → 1 ≤ length files → length files < 2 → file ≡ get_or files 0 file → text ≡ string_bytes file → names_of files ≡ text ∷ []
+only_named files file text some limited is text_is = ap (map (λ name. string_bytes name)) (only_one files file some limited is) ∙ ap (λ t. t ∷ []) (sym text_is)
 
 module _ (options : OptionValues) (seed : ℕ) where
   sketched-more : (texts : List (List ℕ)) (sketches : List (Compact ℕ)) (text : List ℕ) (s : Compact ℕ) → AreSketchesOfTexts options seed texts sketches → s ≡ sketch_of_text options seed text → AreSketchesOfTexts options seed (texts ++ text ∷ []) (sketches ++ s ∷ [])
@@ -61,21 +72,45 @@ module _ (options : OptionValues) (seed : ℕ) where
     leaves = gives.leaves;
   }
 
-  -- the result of the only expression
-  pub evaluated : {V E : Type 0} (r : Result V E) (items : V → List ℕ) (known : Option (List (List ℕ))) (expressions : List (List ℕ)) (text : List ℕ) (names : List (List ℕ)) (steps : List Step) (sketches : List (Compact ℕ)) (s : Compact ℕ) →
-      expressions ≡ text ∷ [] → (spelled : IsSpelled text names steps) → IfSome known (λ texts. AreOperands options.keys options seed texts sketches) → length names ≡ length sketches →
+  -- the result of an expression
+  pub evaluated : {V E A : Type 0} (r : Result V E) (items : V → List ℕ) (known : Option (List (List ℕ))) (text : List ℕ) (names : List (String A)) (steps : List Step) (sketches : List (Compact ℕ)) (s : Compact ℕ) →
+      (spelled : IsSpelled text (names_of names) steps) → IfSome known (λ texts. AreOperands options.keys options seed texts sketches) → length names ≡ length sketches →
       s ≡ ordered_sketch (value_of options.lg_k (values_of sketches) spelled.tree) (seed_hash seed) → IfOk r (λ v. items v ≡ evaluated_text options text s) →
-      IfSome known (λ texts. IfOk r (λ v. IsEvaluatedOf options seed expressions texts (items v)))
-  evaluated r items None expressions text names steps sketches s only spelled operands counted value put = tt
-  evaluated (Err e) items (Some texts) expressions text names steps sketches s only spelled operands counted value put = tt
-  evaluated (Ok v) items (Some texts) expressions text names steps sketches s only spelled operands counted value put =
-      subst (λ (es : List (List ℕ)). IsEvaluatedOf options seed es texts (items v)) (sym only) (record {
-        names = names;
-        steps = steps;
-        spelled = spelled;
-        sketches = sketches;
-        operands = operands;
-        counted = counted;
-        result = put ∙ ap (evaluated_text options text) value;
-        whole = whole_result options seed texts sketches spelled.tree operands;
-      })
+      IfSome known (λ texts. IfOk r (λ v. IsEvaluated options seed text texts (items v)))
+  evaluated r items None text names steps sketches s spelled operands counted value put = tt
+  evaluated (Err e) items (Some texts) text names steps sketches s spelled operands counted value put = tt
+  evaluated (Ok v) items (Some texts) text names steps sketches s spelled operands counted value put = record {
+    names = names_of names;
+    steps = steps;
+    spelled = spelled;
+    sketches = sketches;
+    operands = operands;
+    counted = length-map names (λ name. string_bytes name) ∙ counted;
+    result = put ∙ ap (evaluated_text options text) value;
+    whole = whole_result options seed texts sketches spelled.tree operands;
+  }
+
+  -- .. over sketches of sums
+  pub sums_evaluated : {V E A : Type 0} (r : Result V E) (items : V → List ℕ) (known : Option (List (List ℕ))) (text : List ℕ) (names : List (String A)) (steps : List Step) (sketches : List (Compact (TupleEntry ℕ))) (s : Compact (TupleEntry ℕ)) →
+      (spelled : IsSpelled text (names_of names) steps) → IfSome known (λ texts. AreReadSums seed (images_of options.hex texts) sketches) → length names ≡ length sketches →
+      s ≡ ordered_sketch (sums_value options.lg_k (sums_values sketches) spelled.tree) (seed_hash seed) → IfOk r (λ v. items v ≡ evaluated_sums_text options s) →
+      IfSome known (λ texts. IfOk r (λ v. IsSumsEvaluated options seed text texts (items v)))
+  sums_evaluated r items None text names steps sketches s spelled operands counted value put = tt
+  sums_evaluated (Err e) items (Some texts) text names steps sketches s spelled operands counted value put = tt
+  sums_evaluated (Ok v) items (Some texts) text names steps sketches s spelled operands counted value put = record {
+    names = names_of names;
+    steps = steps;
+    spelled = spelled;
+    sketches = sketches;
+    operands = operands;
+    counted = length-map names (λ name. string_bytes name) ∙ counted;
+    result = put ∙ ap (evaluated_sums_text options) value;
+    whole = λ wholes samples. expression_sample sum_rules (λ x y same. same) options.lg_k (sums_values sketches) wholes spelled.tree samples;
+  }
+
+  -- the result of the only expression
+  pub only_evaluated : {V E : Type 0} (r : Result V E) (items : V → List ℕ) (known : Option (List (List ℕ))) (expressions : List (List ℕ)) (text : List ℕ) (sums : Bool) → expressions ≡ text ∷ [] → options.sums ≡ sums →
+      IfSome known (λ texts. IfOk r (λ v. IsEvaluatedBy sums options seed text texts (items v))) → IfSome known (λ texts. IfOk r (λ v. IsEvaluatedOf options seed expressions texts (items v)))
+  only_evaluated r items known expressions text sums only is holds =
+      subst (λ (es : List (List ℕ)). IfSome known (λ texts. IfOk r (λ v. IsEvaluatedOf options seed es texts (items v)))) (sym only)
+      (subst (λ (b : Bool). IfSome known (λ texts. IfOk r (λ v. IsEvaluatedBy b options seed text texts (items v)))) (sym is) holds)

@@ -164,7 +164,19 @@ module _ (seed : ℕ) where
 
   -- ---- the sketches of all images, before a file is opened
 
+  -- what holds of all images that are left holds of those in the texts
+  pub all_hold : {R A : Type 0} (remaining : R → Option (List ℕ)) (hex : Bool) (line : ℕ) (texts : Option (List (List ℕ))) (reader : Option (BufReader R A)) (P : List (List ℕ) → Type 0) → reader ≡ None →
+      IfSome (images_left hex (open_text remaining reader) line texts) P → IfSome texts (λ known. P (images_of hex known))
+  all_hold remaining hex line texts (Some reader) P closed holds = absurd (cc)
+  all_hold remaining hex line texts None P closed holds = all_left hex line texts P holds
+
   pub all_read : {R A V E : Type 0} (remaining : R → Option (List ℕ)) (hex : Bool) (line : ℕ) (texts : Option (List (List ℕ))) (reader : Option (BufReader R A)) (r : Result V E) (items : V → List (Compact ℕ)) → reader ≡ None →
       IfSome (images_left hex (open_text remaining reader) line texts) (λ all. IfOk r (λ v. AreRead seed all (items v))) → IfSome texts (λ known. IfOk r (λ v. AreRead seed (images_of hex known) (items v)))
   all_read remaining hex line texts (Some reader) r items closed read = absurd (cc)
   all_read remaining hex line texts None r items closed read = all_left hex line texts (λ all. IfOk r (λ v. AreRead seed all (items v))) read
+
+-- two facts on what is known
+pub both_known : {T V E : Type 0} (known : Option T) (r : Result V E) (P Q : T → V → Type 0) → IfSome known (λ t. IfOk r (P t)) → IfSome known (λ t. IfOk r (Q t)) → IfSome known (λ t. IfOk r (λ v. P t v × Q t v))
+both_known None r P Q first second = tt
+both_known (Some t) (Ok v) P Q first second = (first, second)
+both_known (Some t) (Err e) P Q first second = tt

@@ -1,10 +1,10 @@
 -- For sketches of one seed whose hash is not 0, and sizes in range, the only error is refused memory.
 use Rattle.std.proofs.Common.{◌≡◌, ℕ, ◌≤◌, Bool, true, false, cond, List, [], ◌∷◌, ◌++◌, Option, Some, None, refl, sym, ap, subst, ◌∙◌, arith, inl, inr}
-use Rattle.std.specs.Prelude.{◌⊎◌, ◌==◌, ◌||◌, ◌≢◌}
+use Rattle.std.specs.Prelude.{Result, Ok, Err, IfErr, ◌==◌, ◌||◌, ◌≢◌}
 use Rattle.std.proofs.lemmas.Bool.Decides.{nat_tests}
 use Rattle.sketch_base.specs.Seed.{seed_hash}
 use Rattle.sketch_base.specs.declared.error.ErrorKind.{ErrorKind}
-use Rattle.sketch_base.specs.declared.error.ErrorKind.TheVariants.{OutOfMemory, InvalidArgument, InvalidData}
+use Rattle.sketch_base.specs.declared.error.ErrorKind.TheVariants.{OutOfMemory, InvalidArgument, InvalidData, Policy}
 use Rattle.core_compact.specs.CompactState.{Compact, compact_value}
 use Rattle.core_laws.specs.Entries.{hash_key, first_hash}
 use Rattle.core_laws.specs.Operators.{meet_next}
@@ -14,8 +14,10 @@ use Rattle.core_operators.specs.Intersection.{is_settled, seed_refusal}
 use Rattle.core_laws.specs.Settings.{settings_refusal}
 use Rattle.line_sketches.specs.Meeting.{first_refusal, meet_refusal, refusal_of_intersection}
 use Rattle.line_sketches.specs.Refusals.{IsUnread, IsUniteRefusal}
+use Rattle.line_sums.specs.Unions.{IsUniteSumsRefusal}
 use Rattle.line_sketches.specs.declared.sketching.Unread.{Unread}
-use Rattle.line_sketches.specs.declared.sketching.Unread.TheVariants.{Refused}
+use Rattle.line_sketches.specs.declared.sketching.Unread.TheVariants.{Refused, Failed}
+use Rattle.distinct_commands.specs.Failures.{IsOfUniting}
 use Rattle.distinct_commands.specs.Seeds.{AreSeeded}
 
 -- a size in range
@@ -29,13 +31,35 @@ read_of refusal e none (inr memory) = memory
 pub read_kind : (refusal : Option ErrorKind) (u : Unread) (e : ErrorKind) → refusal ≡ None → u ≡ Refused e → IsUnread refusal u → e ≡ OutOfMemory
 read_kind refusal u e none is refused = read_of refusal e none (subst (IsUnread refusal) is refused)
 
-unite_of : (seed : ℕ) (refusal : Option ErrorKind) (images : Option (List (List ℕ))) (e : ErrorKind) → refusal ≡ None → IsUniteRefusal seed refusal images (Refused e) → (e ≡ OutOfMemory) ⊎ (e ≡ InvalidData)
-unite_of seed refusal images e none (inl is) = let both : None ≡ Some e = sym none ∙ is in absurd (cc)
-unite_of seed refusal images e none (inr (inl memory)) = inl memory
-unite_of seed refusal images e none (inr (inr faulty)) = inr faulty.0
+-- unions of images, and of images of sums, before which nothing is refused
+united_kind : (seed : ℕ) (refusal : Option ErrorKind) (images : Option (List (List ℕ))) (u : Unread) → refusal ≡ None → IsUniteRefusal seed refusal images u → IsOfUniting false u
+united_kind seed refusal images (Failed error) none refused = tt
+united_kind seed refusal images (Refused e) none (inl is) = let both : None ≡ Some e = sym none ∙ is in absurd (cc)
+united_kind seed refusal images (Refused e) none (inr (inl memory)) = inl memory
+united_kind seed refusal images (Refused e) none (inr (inr faulty)) = inr (inr faulty.0)
 
-pub unite_kind : (seed : ℕ) (refusal : Option ErrorKind) (images : Option (List (List ℕ))) (u : Unread) (e : ErrorKind) → refusal ≡ None → u ≡ Refused e → IsUniteRefusal seed refusal images u → (e ≡ OutOfMemory) ⊎ (e ≡ InvalidData)
-unite_kind seed refusal images u e none is refused = unite_of seed refusal images e none (subst (IsUniteRefusal seed refusal images) is refused)
+sums_kind : (seed : ℕ) (refusal : Option ErrorKind) (images : Option (List (List ℕ))) (u : Unread) → refusal ≡ None → IsUniteSumsRefusal seed refusal images u → IsOfUniting true u
+sums_kind seed refusal images (Failed error) none refused = tt
+sums_kind seed refusal images (Refused e) none (inl is) = let both : None ≡ Some e = sym none ∙ is in absurd (cc)
+sums_kind seed refusal images (Refused e) none (inr (inl memory)) = inl memory
+sums_kind seed refusal images (Refused e) none (inr (inr (inl policy))) = inr (inl (policy, refl))
+sums_kind seed refusal images (Refused e) none (inr (inr (inr faulty))) = inr (inr faulty.0)
+
+pub uniting_refused : {V : Type 0} (r : Result V Unread) (sums : Bool) (seed : ℕ) (refusal : Option ErrorKind) (images : Option (List (List ℕ))) → sums ≡ false → refusal ≡ None → IfErr r (IsUniteRefusal seed refusal images) → IfErr r (IsOfUniting sums)
+uniting_refused (Ok v) sums seed refusal images is none refused = tt
+uniting_refused (Err u) sums seed refusal images is none refused = subst (λ b. IsOfUniting b u) (sym is) (united_kind seed refusal images u none refused)
+
+pub sums_refused : {V : Type 0} (r : Result V Unread) (sums : Bool) (seed : ℕ) (refusal : Option ErrorKind) (images : Option (List (List ℕ))) → sums ≡ true → refusal ≡ None → IfErr r (IsUniteSumsRefusal seed refusal images) → IfErr r (IsOfUniting sums)
+sums_refused (Ok v) sums seed refusal images is none refused = tt
+sums_refused (Err u) sums seed refusal images is none refused = subst (λ b. IsOfUniting b u) (sym is) (sums_kind seed refusal images u none refused)
+
+-- only unions of sums are refused for a sum of 2^64 or more
+pub policy_of_sums : (sums : Bool) (u : Unread) (e : ErrorKind) → u ≡ Refused e → IsOfUniting sums u → e ≡ Policy → sums ≡ true
+policy_of_sums sums u e is refused policy = elim (subst (IsOfUniting sums) is refused) [
+  | inl memory ↦ let both : OutOfMemory ≡ Policy = sym memory ∙ policy in absurd (cc)
+  | inr (inl other) ↦ other.1
+  | inr (inr faulty) ↦ let both : InvalidData ≡ Policy = sym faulty ∙ policy in absurd (cc)
+]
 
 -- sketches of one seed
 one_accepted : (settled empty : Bool) (x y : ℕ) → y ≡ x → cond (settled || empty) None (cond (x == y) None (Some InvalidArgument)) ≡ None

@@ -1,6 +1,8 @@
 -- The sketches of an expression's names against their whole streams, and that nothing but memory refuses its evaluation.
-use Rattle.std.proofs.Common.{◌≡◌, ℕ, Bool, true, false, List, [], ◌∷◌, length, map, Option, Some, None, refl, sym, ap, subst, ◌∙◌, arith}
-use Rattle.std.specs.Prelude.{◌&&◌, ◌||◌, ◌==◌}
+use Rattle.std.proofs.Common.{◌≡◌, ℕ, Bool, true, false, List, [], ◌∷◌, length, map, Option, Some, None, refl, sym, ap, subst, ◌∙◌, arith, inl, inr}
+use Rattle.std.specs.Prelude.{◌&&◌, ◌||◌, ◌==◌, ◌⊎◌}
+use Rattle.sketch_base.specs.declared.error.ErrorKind.{ErrorKind}
+use Rattle.sketch_base.specs.declared.error.ErrorKind.TheVariants.{OutOfMemory, Policy}
 use Rattle.std.proofs.lemmas.Bool.Decides.{nat_tests}
 use Rattle.std.proofs.lemmas.List.{length-map}
 use Rattle.sketch_base.specs.Seed.{seed_hash}
@@ -11,14 +13,14 @@ use Rattle.core_laws.specs.Settings.{settings_refusal}
 use Rattle.core_laws.specs.Values.{Sketch}
 use Rattle.core_laws.specs.declared.TheConstants.{MAX_THETA}
 use Rattle.lines.specs.Lines.{lines_of}
-use Rattle.line_sketches.specs.Keys.{key_set, value_of_lines}
+use Rattle.line_sketches.specs.Keys.{key_set}
 use Rattle.line_sketches.specs.Shards.{sketches_of_texts}
 use Rattle.line_sketches.proofs.Shards.{sample}
 use Rattle.line_sketches.proofs.Rereads.{value_again}
 use Rattle.expression_text.specs.declared.operator.Step.{Step}
 use Rattle.expression_text.specs.Expressions.{Expression, postfix, IsWithin}
-use Rattle.set_expressions.specs.Values.{value_of, set_of}
-use Rattle.set_expressions.specs.Running.{values_of, after_steps, only_value, is_accepted, are_accepted, evaluation_refusal}
+use Rattle.set_expressions.specs.Values.{Rules, hash_rules, value_in, value_of, set_of}
+use Rattle.set_expressions.specs.Running.{values_of, values_by, after_steps, only_value, are_accepted, refusal_by, IsEvaluationError}
 use Rattle.set_expressions.proofs.RunSteps.{expression_result, one_result}
 use Rattle.set_expressions.proofs.WholeSets.{expression_sample}
 use Rattle.distinct_arguments.specs.Settings.{OptionValues}
@@ -45,7 +47,7 @@ module _ (options : OptionValues) (seed : ℕ) where
   -- the result is a sample of the expression of the whole streams
   pub whole_result : (texts : List (List ℕ)) (sketches : List (Compact ℕ)) (e : Expression) → AreOperands options.keys options seed texts sketches → (sets : List (List ℕ)) → AreWholeSets options.keys options seed texts sketches sets →
       IsSample hash_key (value_of options.lg_k (values_of sketches) e) (set_of sets e)
-  whole_result texts sketches e operands sets are = expression_sample options.lg_k (values_of sketches) sets e (operand_samples options.keys texts sketches sets operands are)
+  whole_result texts sketches e operands sets are = expression_sample hash_rules (λ x y same. same) options.lg_k (values_of sketches) sets e (operand_samples options.keys texts sketches sets operands are)
 
 -- ---- sketches of one seed are accepted
 
@@ -53,16 +55,23 @@ one_seed : (h x : ℕ) (empty : Bool) → x ≡ h → (empty || h == x) ≡ true
 one_seed h x true same = refl
 one_seed h x false same = grind (arith, nat_tests)
 
-seeds_accepted : (seed : ℕ) (sketches : List (Compact ℕ)) → AreSeeded seed sketches → are_accepted (seed_hash seed) sketches ≡ true
-seeds_accepted seed [] seeded = refl
-seeds_accepted seed (s ∷ sketches) seeded =
-    ap (λ b. b && are_accepted (seed_hash seed) sketches) (one_seed (seed_hash seed) s.seed_hash s.empty seeded.0) ∙ seeds_accepted seed sketches seeded.1
+module _ {X : Type 0} (rules : Rules X) where
+  seeds_accepted : (seed : ℕ) (sketches : List (Compact X)) → AreSeeded seed sketches → are_accepted (λ s. s) (seed_hash seed) sketches ≡ true
+  seeds_accepted seed [] seeded = refl
+  seeds_accepted seed (s ∷ sketches) seeded =
+      ap (λ b. b && are_accepted (λ r. r) (seed_hash seed) sketches) (one_seed (seed_hash seed) s.seed_hash s.empty seeded.0) ∙ seeds_accepted seed sketches seeded.1
 
--- the evaluation of an expression over them is refused for memory alone
-pub evaluation_accepted : (seed lg_k : ℕ) (steps : List Step) (sketches : List (Compact ℕ)) (e : Expression) → settings_refusal lg_k MAX_THETA seed ≡ None → AreSeeded seed sketches → IsWithin (length sketches) e → steps ≡ postfix e →
-    evaluation_refusal seed lg_k steps sketches ≡ None
-evaluation_accepted seed lg_k steps sketches e settings seeded within is =
-    let values = values_of sketches in
-    let inside : IsWithin (length values) e = subst (λ (n : ℕ). IsWithin n e) (sym (length-map sketches (λ s. compact_value hash_key s))) within in
-    one_result seed lg_k steps sketches (value_of lg_k values e) settings (seeds_accepted seed sketches seeded)
-    (ap (λ ss. only_value (after_steps lg_k values ss (Some []))) is ∙ ap only_value (expression_result lg_k values e inside))
+  -- the evaluation of an expression over them is refused for memory, or by a merge, alone
+  pub evaluation_accepted : (seed lg_k : ℕ) (steps : List Step) (sketches : List (Compact X)) (e : Expression) → settings_refusal lg_k MAX_THETA seed ≡ None → AreSeeded seed sketches → IsWithin (length sketches) e → steps ≡ postfix e →
+      refusal_by rules (λ s. s) seed lg_k steps sketches ≡ None
+  evaluation_accepted seed lg_k steps sketches e settings seeded within is =
+      let values = values_by rules (λ s. s) sketches in
+      let inside : IsWithin (length values) e = subst (λ (n : ℕ). IsWithin n e) (sym (length-map sketches (λ s. compact_value rules.key s))) within in
+      one_result rules (λ s. s) seed lg_k steps sketches (value_in rules lg_k values e) settings (seeds_accepted seed sketches seeded)
+      (ap (λ ss. only_value (after_steps rules lg_k values ss (Some []))) is ∙ ap only_value (expression_result rules lg_k values e inside))
+
+-- .. so the error is one of these
+pub merge_alone : (refusal : Option ErrorKind) (may : Type 0) (e : ErrorKind) → refusal ≡ None → IsEvaluationError refusal may e → (e ≡ OutOfMemory) ⊎ (e ≡ Policy)
+merge_alone refusal may e none (inl is) = let both : None ≡ Some e = sym none ∙ is in absurd (cc)
+merge_alone refusal may e none (inr (inl memory)) = inl memory
+merge_alone refusal may e none (inr (inr policy)) = inr policy.0

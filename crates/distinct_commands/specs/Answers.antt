@@ -1,8 +1,7 @@
 -- What a command writes, by the texts of its files.
-use Rattle.std.specs.Prelude.{ℕ, ◌≡◌, ◌++◌, Bool, true, false, List, [], ◌∷◌, length, map, Option, Some, None, IfSome, String, Vec, string_bytes, decimal, codes, if◌then◌else◌}
+use Rattle.std.specs.Prelude.{ℕ, ◌≡◌, ◌++◌, Bool, true, false, List, [], ◌∷◌, length, map, Option, Some, None, IfSome, String, Vec, string_bytes}
 use Rattle.std.specs.Io.KnownBytes.{Appends}
 use Rattle.core_compact.specs.CompactState.{Compact, compact_value}
-use Rattle.core_state.specs.Fraction.{compact_fraction}
 use Rattle.core_laws.specs.Entries.{hash_key, first_hash}
 use Rattle.core_laws.specs.Operators.{meet, minus}
 use Rattle.theta_sketches.specs.Image.{Reads, written}
@@ -11,6 +10,7 @@ use Rattle.lines.specs.Lines.{lines_of_all}
 use Rattle.line_sketches.specs.Keys.{value_of_lines, sketch_of_value}
 use Rattle.line_sketches.specs.Shards.{values_of_sketches, AreRead}
 use Rattle.line_sketches.specs.Unions.{IsUnitedImage}
+use Rattle.line_sums.specs.Unions.{IsUnitedSumsImage, UnitesSumsOfTexts}
 use Rattle.distinct_arguments.specs.Settings.{OptionValues, chosen_group, chosen_value}
 use Rattle.grouped_lines.specs.United.{IsUnitedText}
 use Rattle.distinct_arguments.specs.Arguments.{Action, prints, runs, fails}
@@ -20,7 +20,7 @@ use Rattle.distinct_commands.specs.Images.{images_of, in_form}
 use Rattle.distinct_commands.specs.Groups.{IsGroupedText}
 use Rattle.lines.specs.declared.key.Key.{Key}
 use Rattle.distinct_commands.specs.Texts.{count_text, shown_text, head_of}
-use Rattle.distinct_commands.specs.Sums.{IsTotalText}
+use Rattle.distinct_commands.specs.Sums.{IsSumsText, IsTotalText}
 use Rattle.distinct_commands.specs.Visits.{visits_of, visits_text}
 use Rattle.distinct_arguments.specs.declared.commands.Command.{Command}
 use Rattle.distinct_arguments.specs.declared.commands.Command.TheVariants.{Count, Sketch, Combine, Show, Eval, Visits, Sum}
@@ -59,9 +59,15 @@ IsDifferenceImage seed images out =
 abbrev pub IsExpected : (expected : Option ℕ) → (count : ℕ) → Type 0
 IsExpected expected count = IfSome expected (λ number. number ≡ count)
 
+-- the image of the union of the sketches in images, which are theta sketches, or sketches of sums; images of the sums of texts that were
+-- sketched apart are united to the image of the sums of all their lines
+abbrev pub IsUnionOf : (sums : Bool) → (seed lg_k : ℕ) → (images : List (List ℕ)) → List ℕ → Type 0
+IsUnionOf false seed lg_k images out = IsUnitedImage seed lg_k images out
+IsUnionOf true seed lg_k images out = IsUnitedSumsImage seed lg_k images out × UnitesSumsOfTexts seed lg_k images out
+
 -- the image that an operator makes of the sketches in images
 abbrev pub IsCombined : Operator → OptionValues → (seed : ℕ) → (images : List (List ℕ)) → List ℕ → Type 0
-IsCombined Union options seed images out = IsUnitedImage seed options.lg_k images out × IsExpected options.expected (length images)
+IsCombined Union options seed images out = IsUnionOf options.sums seed options.lg_k images out × IsExpected options.expected (length images)
 IsCombined Meet options seed images out = IsIntersectionImage seed images out × IsExpected options.expected (length images)
 IsCombined Minus options seed images out = IsDifferenceImage seed images out
 
@@ -104,6 +110,21 @@ abbrev pub IsSketchOf : (by : Option Key) → OptionValues → (seed : ℕ) → 
 IsSketchOf None options seed texts out = out ≡ in_form options.hex (written (sketch_of options seed texts))
 IsSketchOf (Some by) options seed texts out = IsGroupedText true options seed by texts out
 
+-- what `count` prints of a sketch of lines, or its image, as `sketch` writes it
+abbrev pub lines_text : (images : Bool) → OptionValues → Compact ℕ → List ℕ
+lines_text false options s = count_text options s
+lines_text true options s = in_form options.hex (written s)
+
+-- what `count` prints of texts, or `sketch` writes of them
+abbrev pub IsLinesText : (images : Bool) → (by : Option Key) → OptionValues → (seed : ℕ) → (texts : List (List ℕ)) → List ℕ → Type 0
+IsLinesText false by options seed texts out = IsCountOf by options seed texts out
+IsLinesText true by options seed texts out = IsSketchOf by options seed texts out
+
+-- what `sketch` writes of texts: of the numbers of their lines, if a part of the lines has them
+abbrev pub IsSketchText : (value by : Option Key) → OptionValues → (seed : ℕ) → (texts : List (List ℕ)) → List ℕ → Type 0
+IsSketchText None by options seed texts out = IsSketchOf by options seed texts out
+IsSketchText (Some field) by options seed texts out = IsSumsText field options seed texts out
+
 -- images are united by the groups of their lines
 abbrev pub unites_groups : Operator → OptionValues → Bool
 unites_groups Union options = options.groups
@@ -119,7 +140,7 @@ IsCombinedText true operator options seed texts out = IsUnitedText seed options.
 -- what a command writes for files of these names and texts; the only name of `eval` is its expression
 abbrev pub IsCommandAnswer : Command → OptionValues → (seed : ℕ) → (names texts : List (List ℕ)) → List ℕ → Type 0
 IsCommandAnswer Count options seed names texts out = IsCountOf (chosen_group options) options seed texts out
-IsCommandAnswer Sketch options seed names texts out = IsSketchOf (chosen_group options) options seed texts out
+IsCommandAnswer Sketch options seed names texts out = IsSketchText (chosen_value options) (chosen_group options) options seed texts out
 IsCommandAnswer (Combine operator) options seed names texts out = IsCombinedText (unites_groups operator options) operator options seed texts out
 IsCommandAnswer Show options seed names texts out = IsShownOf options seed names texts out
 IsCommandAnswer Eval options seed names texts out = IsEvaluatedOf options seed names texts out

@@ -13,6 +13,7 @@ use Rattle.expression_text.specs.Grammar.{IsSpelled}
 use Rattle.set_expressions.specs.Values.{value_of, set_of}
 use Rattle.set_expressions.specs.Running.{values_of}
 use Rattle.distinct_arguments.specs.Settings.{OptionValues}
+use Rattle.distinct_commands.specs.EvaluatedSums.{IsSumsEvaluated}
 use Rattle.distinct_commands.specs.Failures.{chosen_hashing}
 use Rattle.distinct_commands.specs.Images.{images_of, in_form}
 use Rattle.distinct_commands.specs.Texts.{shown_text, head_of}
@@ -66,8 +67,13 @@ pub record IsEvaluated (options : OptionValues) (seed : ℕ) (expression : List 
   pub whole : (sets : List (List ℕ)) → AreWholeSets options.keys options seed texts sketches sets →
       IsSample hash_key (value_of options.lg_k (values_of sketches) spelled.tree) (set_of sets spelled.tree)
 
+-- .. over theta sketches, or over sketches of sums
+abbrev pub IsEvaluatedBy : (sums : Bool) → OptionValues → (seed : ℕ) → (expression : List ℕ) → (texts : List (List ℕ)) → List ℕ → Type 0
+IsEvaluatedBy false options seed expression texts out = IsEvaluated options seed expression texts out
+IsEvaluatedBy true options seed expression texts out = IsSumsEvaluated options seed expression texts out
+
 -- .. if there is one expression
 abbrev pub IsEvaluatedOf : OptionValues → (seed : ℕ) → (expressions texts : List (List ℕ)) → List ℕ → Type 0
 IsEvaluatedOf options seed [] texts out = ⊥
-IsEvaluatedOf options seed (expression ∷ []) texts out = IsEvaluated options seed expression texts out
+IsEvaluatedOf options seed (expression ∷ []) texts out = IsEvaluatedBy options.sums options seed expression texts out
 IsEvaluatedOf options seed (expression ∷ other ∷ expressions) texts out = ⊥

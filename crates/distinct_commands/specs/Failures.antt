@@ -1,13 +1,16 @@
 -- When each failure occurs.
 use Rattle.std.specs.Prelude.{ℕ, ◌≡◌, ◌≢◌, ◌⊎◌, ◌==◌, ◌&&◌, ◌+◌, ◌-◌, ◌^◌, min, ⊤, Bool, true, false, List, [], ◌∷◌, length, Option, Some, None, IfSome, String, codes, string_bytes, if◌then◌else◌}
 use Rattle.std.specs.Str.{bytes_eq}
+use Rattle.sketch_base.specs.declared.error.ErrorKind.TheVariants.{OutOfMemory, InvalidData, Policy}
 use Rattle.lines.specs.declared.key.Hashing.{Hashing}
+use Rattle.line_sketches.specs.declared.sketching.Unread.{Unread}
+use Rattle.line_sketches.specs.declared.sketching.Unread.TheVariants.{Refused, Failed}
 use Rattle.line_sums.specs.declared.addends.Amount.{Amount}
 use Rattle.line_sums.specs.declared.addends.Amount.TheVariants.{One}
 use Rattle.expression_text.specs.Grammar.{SpellsNothing}
 use Rattle.distinct_arguments.specs.Faults.{status_of as fault_status}
 use Rattle.distinct_arguments.specs.declared.fault.Fault.TheVariants.{NotOneExpression, LoneSum}
-use Rattle.distinct_arguments.specs.Settings.{chosen_key}
+use Rattle.distinct_arguments.specs.Settings.{chosen_key, chosen_value}
 use Rattle.std.specs.declared.io.Error.{Error}
 use Rattle.distinct_arguments.specs.Settings.{OptionValues}
 use Rattle.distinct_commands.specs.Images.{images_of}
@@ -19,7 +22,7 @@ use Rattle.distinct_arguments.specs.declared.commands.Operator.TheVariants.{Minu
 use Rattle.grouped_lines.specs.declared.united.LineFlaw.{LineFlaw}
 use Rattle.grouped_lines.specs.declared.united.LineFlaw.TheVariants.{NoTab as NoTabAtAll, NoHex as NoDigits, NoImage}
 use Rattle.distinct_commands.specs.declared.failure.Failure.{Failure}
-use Rattle.distinct_commands.specs.declared.failure.Failure.TheVariants.{NotText, Arguments, NoFiles, NotTwo, NoExpression, NoName, Terminal, WrongCount, NotOneEach, Memory, Unreadable, NoSketch, NoHex, NoTab, NoLine, PastGreatest, NotANumber, NotWritten}
+use Rattle.distinct_commands.specs.declared.failure.Failure.TheVariants.{NotText, Arguments, NoFiles, NotTwo, NoExpression, NoName, Terminal, WrongCount, NotOneEach, Memory, Unreadable, NoSketch, NoSums, NoHex, NoTab, NoLine, PastGreatest, PastUnion, PastResult, NotANumber, NotWritten}
 
 -- the exit status: 2 if the arguments are wrong, else 1
 abbrev pub failure_status : Failure → ℕ
@@ -55,11 +58,19 @@ ReportsUnreadable name error _ = ⊥
 abbrev pub ReportsNoSketch : {S R : Type 0} → Images S R → Failure → Type 0
 ReportsNoSketch images Memory = ⊤
 ReportsNoSketch images (NoSketch file number flaw) =
-    (string_bytes file ≡ called images.inputs.current.now) × (number ≡ images.line) × (images.flaw ≡ Some flaw) × ((images.hex && images.line == 0) ≡ false)
+    (string_bytes file ≡ called images.inputs.current.now) × (number ≡ images.line) × (images.flaw ≡ Some flaw) × (images.sums ≡ false) × ((images.hex && images.line == 0) ≡ false)
+ReportsNoSketch images (NoSums file number flaw) =
+    (string_bytes file ≡ called images.inputs.current.now) × (number ≡ images.line) × (images.flaw ≡ Some flaw) × (images.sums ≡ true) × ((images.hex && images.line == 0) ≡ false)
 ReportsNoSketch images (NoHex file number) =
     (string_bytes file ≡ called images.inputs.current.now) × (number ≡ images.line) × (images.flaw ≡ None) × ((images.hex && images.line == 0) ≡ false)
 ReportsNoSketch images (NoLine file) = (string_bytes file ≡ called images.inputs.current.now) × ((images.hex && images.line == 0) ≡ true)
 ReportsNoSketch images _ = ⊥
+
+-- memory was refused, or the sum of a key is 2^64 or more with the file that was opened last, or its line that was read last
+abbrev pub ReportsPastUnion : {S R : Type 0} → Images S R → Failure → Type 0
+ReportsPastUnion images Memory = ⊤
+ReportsPastUnion images (PastUnion file number) = (string_bytes file ≡ called images.inputs.current.now) × (number ≡ images.line)
+ReportsPastUnion images _ = ⊥
 
 -- memory was refused, or the line of this number of the file of this name has this flaw
 abbrev pub ReportsFlawed : (name : List ℕ) → (number : ℕ) → LineFlaw → Failure → Type 0
@@ -84,6 +95,7 @@ IsOfReading _ = ⊥
 -- .. or it is not an image
 abbrev pub IsOfImages : Failure → Type 0
 IsOfImages (NoSketch name line flaw) = ⊤
+IsOfImages (NoSums name line flaw) = ⊤
 IsOfImages (NoHex name line) = ⊤
 IsOfImages (NoTab name line) = ⊤
 IsOfImages (NoLine name) = ⊤
@@ -95,7 +107,13 @@ IsOfSums amount (PastGreatest name line) = ⊤
 IsOfSums amount (NotANumber name line) = amount ≢ One
 IsOfSums amount failure = IsOfReading failure
 
--- .. or no field has their numbers
+-- .. or a line has no number, if numbers of lines are read
+abbrev pub IsOfSketch : OptionValues → Failure → Type 0
+IsOfSketch options (PastGreatest name line) = chosen_value options ≢ None
+IsOfSketch options (NotANumber name line) = chosen_value options ≢ None
+IsOfSketch options failure = IsOfReading failure
+
+-- lines are not summed, or no field has their numbers
 abbrev pub IsOfTotal : OptionValues → Failure → Type 0
 IsOfTotal options (Arguments LoneSum) = options.value ≡ None
 IsOfTotal options (PastGreatest name line) = ⊤
@@ -122,9 +140,20 @@ abbrev pub IsOfUnion : (expected : Option ℕ) → Failure → Type 0
 IsOfUnion expected (WrongCount counted number) = (expected ≡ Some number) × (number ≢ counted)
 IsOfUnion expected failure = IsOfImages failure
 
+-- images of sums, or of theta sketches, can't be united
+abbrev pub IsOfEitherUnion : OptionValues → Failure → Type 0
+IsOfEitherUnion options (PastUnion name line) = options.sums ≡ true
+IsOfEitherUnion options failure = IsOfUnion options.expected failure
+
+-- a union of images, of sums or of theta sketches, is refused for memory, for an image, or, if they are of sums, for a sum of 2^64 or more
+abbrev pub IsOfUniting : (sums : Bool) → Unread → Type 0
+IsOfUniting sums (Failed error) = ⊤
+IsOfUniting sums (Refused error) = (error ≡ OutOfMemory) ⊎ (((error ≡ Policy) × (sums ≡ true)) ⊎ (error ≡ InvalidData))
+
 -- images can't be combined: memory, a file or its contents is at fault, there are not as many as are expected, or `minus` doesn't have two
 abbrev pub IsOfCombining : Operator → OptionValues → (count : ℕ) → (texts : Option (List (List ℕ))) → Failure → Type 0
 IsOfCombining operator options count texts NotTwo = (operator ≡ Minus) × AreNotTwo options.hex count texts
+IsOfCombining operator options count texts (PastUnion name line) = options.sums ≡ true
 IsOfCombining operator options count texts failure = IsOfUnion options.expected failure
 
 -- a text is not read as an expression: memory was refused, it spells none, or it has a name that can't be one
@@ -134,13 +163,32 @@ IsOfExpression text (NoExpression copy fault) = SpellsNothing text
 IsOfExpression text (NoName copy number) = ⊤
 IsOfExpression text _ = ⊥
 
+-- an expression has no result: memory was refused, or the sum of a key is 2^64 or more
+abbrev pub IsOfResult : Failure → Type 0
+IsOfResult Memory = ⊤
+IsOfResult (PastResult text) = ⊤
+IsOfResult _ = ⊥
+
+-- .. or there are not as many sketches as names, or a file is at fault
+abbrev pub IsOfOperands : Failure → Type 0
+IsOfOperands (NotOneEach found names) = found ≢ names
+IsOfOperands (PastResult text) = ⊤
+IsOfOperands failure = IsOfImages failure
+
 -- an evaluation fails: there is not one expression, it is not read, there are not as many sketches as names, or a file is at fault
 abbrev pub IsOfEvaluation : (count : ℕ) → Failure → Type 0
 IsOfEvaluation count (Arguments NotOneExpression) = count ≢ 1
 IsOfEvaluation count (NoExpression text fault) = ⊤
 IsOfEvaluation count (NoName text number) = ⊤
 IsOfEvaluation count (NotOneEach found names) = found ≢ names
+IsOfEvaluation count (PastResult text) = ⊤
 IsOfEvaluation count failure = IsOfImages failure
+
+-- a command reads numbers of lines
+abbrev pub ReadsNumbers : Command → OptionValues → Type 0
+ReadsNumbers Sum options = ⊤
+ReadsNumbers Sketch options = chosen_value options ≢ None
+ReadsNumbers _ options = ⊥
 
 -- a command fails: what it reads or writes is at fault, it has no image, there are not as many as are expected, `minus` doesn't have two,
 -- `eval` doesn't have one expression, or `sum` doesn't have the field of its numbers
@@ -152,7 +200,8 @@ IsOfCommand command options count texts (NotOneEach found names) = (command ≡ 
 IsOfCommand command options count texts (NoExpression text fault) = command ≡ Eval
 IsOfCommand command options count texts (Arguments NotOneExpression) = (command ≡ Eval) × (count ≢ 1)
 IsOfCommand command options count texts (Arguments LoneSum) = (command ≡ Sum) × (options.value ≡ None)
-IsOfCommand command options count texts (NotANumber name line) = command ≡ Sum
+IsOfCommand command options count texts (NotANumber name line) = ReadsNumbers command options
+IsOfCommand command options count texts (PastUnion name line) = options.sums ≡ true
 IsOfCommand command options count texts failure = failure_status failure ≡ 1
 
 -- how lines are hashed: by the field of the number that options choose, the first being 1, or the whole line

@@ -1,5 +1,5 @@
 -- What `count` prints and `sketch` writes of groups of lines.
-use Rattle.std.specs.Prelude.{ℕ, ◌≡◌, ◌++◌, Bool, true, false, List, [], ◌∷◌, Option, Some, None, is_some, unwrap_or, codes, flat_map}
+use Rattle.std.specs.Prelude.{ℕ, ◌≡◌, ◌++◌, Bool, true, false, List, [], Some, is_some, unwrap_or, codes, flat_map}
 use Rattle.std.specs.Str.Lossy.{utf8_lossy}
 use Rattle.core_compact.specs.CompactState.{Compact}
 use Rattle.theta_sketches.specs.Image.{written}

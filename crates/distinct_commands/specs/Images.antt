@@ -7,7 +7,10 @@ use Rattle.std.specs.List.{onto_first, prefix_len, suffix_len}
 use Rattle.std.specs.Char.{is_ascii_whitespace}
 use Rattle.sketch_base.specs.Seed.{seed_hash}
 use Rattle.line_sketches.specs.Hex.{hex_of, bytes_of_hex}
+use Rattle.line_sketches.specs.Header.{image_length, flaw_of}
 use Rattle.line_sketches.specs.Sources.{GivesNext}
+use Rattle.line_sketches.specs.SumsHeader.{sums_length, sums_flaw_of}
+use Rattle.line_sketches.specs.declared.header.Flaw.{Flaw}
 use Rattle.distinct_commands.specs.declared.images.Images.{Images}
 use Rattle.core_compact.specs.CompactState.{Compact}
 use Rattle.theta_sketches.specs.Image.{Reads}
@@ -97,7 +100,14 @@ ReadsNext seed None new next = ⊤
 ReadsNext seed (Some images) new None = images ≡ []
 ReadsNext seed (Some images) new (Some s) = ReadsFirst seed images s new
 
+-- why bytes are not one image, the length of the image that bytes begin, and its number of hashes: of a sketch of sums, or of a theta sketch
+abbrev pub image_flaw : (sums : Bool) → (h : ℕ) → List ℕ → Flaw
+image_flaw sums h bytes = if sums then sums_flaw_of h bytes else flaw_of h bytes
+
+abbrev pub length_of : (sums : Bool) → List ℕ → Option ℕ
+length_of sums bytes = if sums then sums_length bytes else image_length bytes
+
 -- the reader of images is where it was
 abbrev pub IsSameReader : {S R : Type 0} → (old new : Images S R) → Type 0
 IsSameReader old new =
-    (new.inputs ≡ old.inputs) × (new.hex ≡ old.hex) × (new.«open» ≡ old.«open») × (new.line ≡ old.line) × (new.seed ≡ old.seed)
+    (new.inputs ≡ old.inputs) × (new.sums ≡ old.sums) × (new.hex ≡ old.hex) × (new.«open» ≡ old.«open») × (new.line ≡ old.line) × (new.seed ≡ old.seed)

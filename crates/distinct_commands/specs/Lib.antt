@@ -3,6 +3,7 @@ pub mod Texts
 pub mod Lists
 pub mod Images
 pub mod Failures
+pub mod EvaluatedSums
 pub mod Evaluations
 pub mod Visits
 pub mod Sums

@@ -1,10 +1,12 @@
 -- What `sum` prints.
 use Rattle.std.specs.Prelude.{ℕ, ◌≡◌, ◌++◌, List, Option, Some, None}
+use Rattle.sketch_base.specs.Seed.{seed_hash}
 use Rattle.core_compact.specs.CompactState.{Compact}
 use Rattle.core_slots.specs.declared.entry.TupleEntry.{TupleEntry}
 use Rattle.lines.specs.Lines.{lines_of_all}
 use Rattle.lines.specs.declared.key.Key.{Key}
 use Rattle.line_sums.specs.Amounts.{added_by, AreNumbers}
+use Rattle.line_sums.specs.Images.{written_sums, ReadsSums}
 use Rattle.line_sums.specs.Sums.{sketch_of_sums}
 use Rattle.line_sums.specs.declared.addends.Amount.{Amount}
 use Rattle.line_sums.specs.declared.addends.Amount.TheVariants.{Number}
@@ -15,10 +17,21 @@ use Rattle.distinct_arguments.specs.Settings.{OptionValues}
 use Rattle.distinct_arguments.specs.declared.options.Form.{Form}
 use Rattle.distinct_arguments.specs.declared.options.Form.TheVariants.{Plain, Tsv, Json}
 use Rattle.distinct_commands.specs.Failures.{chosen_hashing}
+use Rattle.distinct_commands.specs.Images.{in_form}
 
 -- the sketch of the lines of all texts, each retained hash with the sum of what its lines add, with the key and the size that the options set
 abbrev pub sums_of : OptionValues → Amount → (seed : ℕ) → (texts : List (List ℕ)) → Compact (TupleEntry ℕ)
 sums_of options amount seed texts = sketch_of_sums (chosen_hashing options seed) (added_by amount) options.lg_k (lines_of_all texts)
+
+-- the image of the sums of numbers in a part of the lines of texts, which is read again; each line of all texts has such a number
+pub record IsSumsImageOf (field : Key) (options : OptionValues) (seed : ℕ) (texts : List (List ℕ)) (image : List ℕ) : Type 0 where
+  pub numbers : AreNumbers (Number field) (lines_of_all texts)
+  pub written : image ≡ written_sums (sums_of options (Number field) seed texts)
+  pub reads : ReadsSums image (seed_hash seed) (sums_of options (Number field) seed texts)
+
+-- what `sketch` writes of these numbers
+abbrev pub IsSumsText : (field : Key) → OptionValues → (seed : ℕ) → (texts : List (List ℕ)) → List ℕ → Type 0
+IsSumsText field options seed texts out = (image : List ℕ) × IsSumsImageOf field options seed texts image × (out ≡ in_form options.hex image)
 
 -- what is printed of a total
 abbrev pub totalled_in : Form → Total → List ℕ

@@ -1,5 +1,5 @@
 -- What `count` and `show` print of sketches, by the options.
-use Rattle.std.specs.Prelude.{ℕ, ◌++◌, Bool, true, false, List, [], Option, None, Some, unwrap_or, is_some}
+use Rattle.std.specs.Prelude.{ℕ, ◌++◌, Bool, true, false, List, [], None, Some, unwrap_or, is_some}
 use Rattle.core_compact.specs.CompactState.{Compact}
 use Rattle.estimates.specs.Bounds.{deviation_count}
 use Rattle.estimates.specs.declared.bounds.Deviations.{Deviations}

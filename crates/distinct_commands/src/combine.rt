@@ -1,32 +1,36 @@
 //! What `union`, `meet` and `minus` write.
-ghost use Rattle.std.specs.Prelude.{◌≡◌, ◌≢◌, ◌≤◌, ◌⊎◌, ℕ, List, [], ◌∷◌, length, None, IfOk, IfErr, IfSome, IfNone, OnOk};
+ghost use Rattle.std.specs.Prelude.{◌≡◌, ◌≢◌, ◌≤◌, ◌⊎◌, ℕ, List, [], ◌∷◌, length, Option, None, IfOk, IfErr, IfSome, IfNone, OnOk, true};
 ghost use Rattle.sketch_base.specs.Seed.{seed_hash};
-ghost use Rattle.sketch_base.specs.declared.error.ErrorKind.TheVariants.{OutOfMemory, InvalidData};
+ghost use Rattle.sketch_base.specs.declared.error.ErrorKind.TheVariants.{OutOfMemory, InvalidData, Policy};
 ghost use Rattle.theta_sketches.specs.Image.{written};
 ghost use Rattle.line_sketches.specs.Shards.{AreRead};
 ghost use Rattle.line_sketches.specs.Unions.{IsUnitedImage};
 ghost use Rattle.distinct_arguments.specs.Faults.{options_of};
-ghost use Rattle.distinct_commands.specs.Answers.{intersection_of, difference_of, IsCombinedOf, IsExpected};
+ghost use Rattle.distinct_arguments.specs.Settings.{OptionValues};
+ghost use Rattle.distinct_commands.specs.Answers.{intersection_of, difference_of, IsCombinedOf, IsExpected, IsUnionOf};
 ghost use Rattle.distinct_commands.specs.Images.{remaining_images, ReadsNext};
-ghost use Rattle.distinct_commands.specs.Failures.{IsOfImages, IsOfCombining, IsOfCount, IsOfUnion, ReportsNoSketch};
+ghost use Rattle.distinct_commands.specs.Failures.{IsOfImages, IsOfCombining, IsOfCount, IsOfEitherUnion, IsOfUniting};
+ghost use Rattle.distinct_commands.specs.Failures.{ReportsNoSketch, ReportsPastUnion};
+ghost use Rattle.distinct_arguments.specs.declared.commands.Operator.TheVariants.{Union};
 ghost use Rattle.distinct_commands.specs.Seeds.{AreSeeded};
 ghost use Rattle.distinct_commands.specs.declared.failure.Failure.TheVariants as failure;
 
 use crate::commands::image_to_put;
 use crate::failure::{Failure, out_of_memory};
 use crate::images::Images;
-use crate::inputs::Inputs;
+use crate::job::Job;
 use crate::remarks::{Console, Remark};
 use distinct_arguments::{Operator, Options};
 use estimates::Deviations;
-use line_sketches::{Sources, Unread, difference, intersection, read_image, unite_images};
+use line_sketches::{Sources, United, Unread, difference, intersection, read_image, unite_images};
+use line_sums::unite_sums;
 use reports::report_of;
 use sketch_base::{Error, ErrorKind};
 use std::alloc::Global;
 use theta_sketches::CompactThetaSketch;
 
 /// The failure for an image that was not read.
-fn refused<S: Sources>(images: &Images<'_, S>, error: Error) -> Failure
+pub fn refused<S: Sources>(images: &Images<'_, S>, error: Error) -> Failure
     requires { (error ≡ OutOfMemory) ⊎ (error ≡ InvalidData) }
     ensures memory { error ≡ OutOfMemory → result ≡ failure.Memory }
     ensures data { error ≡ InvalidData → ReportsNoSketch images.now result }
@@ -62,42 +66,6 @@ pub fn next_sketch<S: Sources>(
     }
 }
 
-/// The image that an operator makes of the images of `count` files.
-pub fn combine_inputs<S: Sources + Drop, C: Console>(
-    alloc: Global,
-    options: &Options<'_>,
-    seed: u64,
-    count: usize,
-    inputs: Inputs<'_, S>,
-    operator: Operator,
-    console: &mut C,
-) -> Result<Vec<u8>, Failure>
-    requires seeded { seed_hash seed ≢ 0 }
-    ensures combined { IfSome (S.texts inputs.entry.sources) (λ texts.
-        IfOk result (λ v. IsCombinedOf operator (options_of options.now) seed texts v.items)) }
-    ensures failed { IfErr result (IsOfCombining operator (options_of options.now) count (S.texts inputs.entry.sources)) }
-{
-    let mut images = Images::new(alloc, inputs, options.hex, seed);
-    match operator {
-        Operator::Union => union_image(alloc, options, seed, &mut images, console),
-        Operator::Meet => {
-            let sketches = all_sketches(alloc, seed, &mut images)?;
-            check_count(options.expected, sketches.len() as u64)?;
-            meet_image(alloc, seed, sketches.as_slice(), console)
-        }
-        Operator::Minus => {
-            if !options.hex && count != 2 {
-                return Err(Failure::NotTwo);
-            }
-            let sketches = all_sketches(alloc, seed, &mut images)?;
-            match two_of(sketches.as_slice()) {
-                Some((first, second)) => minus_image(alloc, seed, first, second, console),
-                None => Err(Failure::NotTwo),
-            }
-        }
-    }
-}
-
 /// Fails if a number of images is expected, and another was found.
 fn check_count(expected: Option<u64>, found: u64) -> Result<(), Failure>
     ensures counted { OnOk result (IsExpected expected found) }
@@ -123,30 +91,101 @@ fn two_of(sketches: &[CompactThetaSketch]) -> Option<(&CompactThetaSketch, &Comp
     }
 }
 
-/// The image of the union of images. It fails if memory is refused, a file can't be read, the bytes aren't an image, or there
-/// aren't as many images as are expected.
-fn union_image<S: Sources, C: Console>(
+/// The union of images, of sums if the options say so. If it is refused, the failure is that of `not_added`.
+fn united<S: Sources>(
     alloc: Global,
     options: &Options<'_>,
     seed: u64,
     images: &mut Images<'_, S>,
-    console: &mut C,
-) -> Result<Vec<u8>, Failure>
+) -> Result<United, Unread>
     requires seeded { seed_hash seed ≢ 0 }
     ensures united { IfSome (remaining_images S.Source.remaining S.texts images.old) (λ all.
-        IfOk result (λ v. IsUnitedImage seed options.now.lg_k all v.items × IsExpected options.now.expected (length all))) }
-    ensures failed { IfErr result (IsOfUnion options.now.expected) }
+        IfOk result (λ u. IsUnionOf options.now.sums seed options.now.lg_k all u.image.items)) }
+    ensures counted { IfSome (remaining_images S.Source.remaining S.texts images.old) (λ all. IfOk result (λ u. u.count ≡ length all)) }
+    ensures refused { IfErr result (IsOfUniting options.now.sums) }
 {
-    match unite_images(alloc, seed, options.lg_k, images) {
-        Ok(united) => {
-            check_count(options.expected, united.count)?;
-            if let Some(coarser) = images.coarser(options.lg_k) {
-                console.remark(Remark::Coarser(coarser));
+    if options.sums {
+        unite_sums(alloc, seed, options.lg_k, images)
+    } else {
+        unite_images(alloc, seed, options.lg_k, images)
+    }
+}
+
+/// Remarks that an image retains more hashes than a union of 2^`lg_k` keeps, if one does.
+fn remark_coarser<S: Sources, C: Console>(images: &Images<'_, S>, lg_k: u8, console: &mut C) {
+    if let Some(coarser) = images.coarser(lg_k) {
+        console.remark(Remark::Coarser(coarser));
+    }
+}
+
+/// The failure for an image that was not added to a union; only for one of sums is it that the sum of a key is 2^64 or more.
+fn not_added<S: Sources>(images: &Images<'_, S>, error: Error) -> Failure
+    requires { (error ≡ OutOfMemory) ⊎ ((error ≡ Policy) ⊎ (error ≡ InvalidData)) }
+    ensures policy { error ≡ Policy → ReportsPastUnion images.now result }
+    ensures data { error ≡ InvalidData → ReportsNoSketch images.now result }
+    ensures of_union { (options : OptionValues) → (error ≡ Policy → options.sums ≡ true) → IsOfEitherUnion options result }
+{
+    match error.kind() {
+        ErrorKind::Policy => images.past_union(),
+        ErrorKind::InvalidData => images.no_sketch(),
+        _ => Failure::Memory,
+    }
+}
+
+impl<'a, S: Sources + Drop> Job<'a, S> {
+    /// The image that an operator makes of the images of `count` files.
+    pub fn combine_inputs<C: Console>(
+        self,
+        count: usize,
+        operator: Operator,
+        console: &mut C,
+    ) -> Result<Vec<u8>, Failure>
+        requires seeded { seed_hash self.seed ≢ 0 }
+        ensures combined { IfSome (S.texts self.entry.inputs.sources) (λ texts.
+            IfOk result (λ v. IsCombinedOf operator (options_of self.entry.options.now) self.entry.seed texts v.items)) }
+        ensures failed { IfErr result (IsOfCombining operator (options_of self.entry.options.now) count (S.texts self.entry.inputs.sources)) }
+    {
+        let (alloc, options, seed) = (self.alloc, self.options, self.seed);
+        match operator {
+            Operator::Union => self.union_of_inputs(console),
+            Operator::Meet => {
+                let mut images = Images::new(alloc, self.inputs, options.hex, seed);
+                let sketches = all_sketches(alloc, seed, &mut images)?;
+                check_count(options.expected, sketches.len() as u64)?;
+                meet_image(alloc, seed, sketches.as_slice(), console)
             }
-            Ok(united.image)
+            Operator::Minus => {
+                if !options.hex && count != 2 {
+                    return Err(Failure::NotTwo);
+                }
+                let mut images = Images::new(alloc, self.inputs, options.hex, seed);
+                let sketches = all_sketches(alloc, seed, &mut images)?;
+                match two_of(sketches.as_slice()) {
+                    Some((first, second)) => minus_image(alloc, seed, first, second, console),
+                    None => Err(Failure::NotTwo),
+                }
+            }
         }
-        Err(Unread::Failed(error)) => Err(images.unreadable(error)),
-        Err(Unread::Refused(error)) => Err(refused(images, error)),
+    }
+
+    /// The image of the union of the images in files, which are of sums if the options say so.
+    fn union_of_inputs<C: Console>(self, console: &mut C) -> Result<Vec<u8>, Failure>
+        requires seeded { seed_hash self.seed ≢ 0 }
+        ensures combined { IfSome (S.texts self.entry.inputs.sources) (λ texts.
+            IfOk result (λ v. IsCombinedOf Union (options_of self.entry.options.now) self.entry.seed texts v.items)) }
+        ensures failed { IfErr result (IsOfEitherUnion (options_of self.entry.options.now)) }
+    {
+        let (alloc, options, seed) = (self.alloc, self.options, self.seed);
+        let mut images = Images::of(alloc, self.inputs, options.sums, options.hex, seed);
+        match united(alloc, options, seed, &mut images) {
+            Ok(united) => {
+                check_count(options.expected, united.count)?;
+                remark_coarser(&images, options.lg_k, console);
+                Ok(united.image)
+            }
+            Err(Unread::Failed(error)) => Err(images.unreadable(error)),
+            Err(Unread::Refused(error)) => Err(not_added(&images, error)),
+        }
     }
 }
 

@@ -3,24 +3,20 @@ ghost use Rattle.std.specs.Prelude.{◌≡◌, ◌≢◌, ℕ, OnOk, IfOk, IfErr
 ghost use Rattle.sketch_base.specs.Seed.{seed_hash};
 ghost use Rattle.theta_sketches.specs.Image.{written};
 ghost use Rattle.distinct_arguments.specs.Faults.{options_of, request_action};
-ghost use Rattle.distinct_arguments.specs.Settings.{chosen_group};
-ghost use Rattle.distinct_commands.specs.Answers.{names_of, sketch_of, IsCountOf, IsSketchOf, IsCommandAnswer, WritesAnswer, Performs};
+ghost use Rattle.distinct_arguments.specs.Settings.{chosen_group, chosen_value};
+ghost use Rattle.distinct_commands.specs.Answers.{names_of, sketch_of, lines_text, IsLinesText, IsSketchText, IsCommandAnswer, WritesAnswer, Performs};
 ghost use Rattle.distinct_commands.specs.Images.{in_form};
-ghost use Rattle.distinct_commands.specs.Texts.{count_text};
-ghost use Rattle.distinct_commands.specs.Failures.{IsOfReading, IsOfCommand};
+ghost use Rattle.distinct_commands.specs.Failures.{IsOfReading, IsOfSketch, IsOfCommand};
 ghost use Rattle.distinct_commands.specs.declared.failure.Failure.TheVariants as failure;
 
-use crate::combine::combine_inputs;
-use crate::eval::eval_inputs;
 use crate::failure::{Failure, out_of_memory};
-use crate::groups::print_groups;
+use crate::groups::GroupPrinter;
 use crate::inputs::Inputs;
+use crate::job::Job;
 use crate::output::put;
 use crate::remarks::Console;
-use crate::show::{count_text, show_inputs};
-use crate::sums::sum_inputs;
-use crate::united::{unite_inputs, unites_groups};
-use crate::visits::visit_inputs;
+use crate::show::count_text;
+use crate::united::unites_groups;
 use distinct_arguments::{Command, Options, Request, text_of};
 use line_sketches::{Sources, Unread, hex_line, image_of, sketch_sources};
 use lines::Hashing;
@@ -35,9 +31,9 @@ const STANDARD_OUTPUT: &str = "standard output";
 /// else. For `eval` the only name is the expression. It fails with `NoFiles` only if it needs images and no file is named;
 /// with `NotTwo` only for `minus` and, if contracts know the files' bytes, only if two files aren't named (without `--hex`)
 /// or their images aren't two; with `WrongCount` only if `--expect` names another number than it reports to have found;
-/// with `NotOneEach`, `NoExpression` or `NotOneExpression` only for `eval`; and with `NotANumber` only for `sum`, which fails
-/// with `LoneSum` if its options have no field of numbers. Any other failure has status 1: memory, a file, its contents or
-/// the writer is at fault.
+/// with `NotOneEach`, `NoExpression` or `NotOneExpression` only for `eval`; with `PastUnion` only for images of sums; and with
+/// `NotANumber` only for `sum`, which fails with `LoneSum` if its options have no field of numbers, and for `sketch` if they
+/// have one. Any other failure has status 1: memory, a file, its contents or the writer is at fault.
 pub fn answer<S: Sources + Drop, C: Console, O: Write>(
     alloc: Global,
     command: Command,
@@ -53,7 +49,14 @@ pub fn answer<S: Sources + Drop, C: Console, O: Write>(
         OnOk result (WritesAnswer command (options_of options.now) seed (names_of files.now) texts (O.contents writer.old) (O.contents writer.new))) }
     ensures failed { IfErr result (IsOfCommand command (options_of options.now) (length files.now) (S.texts sources)) }
 {
-    let bytes = answer_of(alloc, command, options, seed, files, sources, console)?;
+    let inputs = Inputs::new(sources, files);
+    let job = Job {
+        alloc,
+        options,
+        seed,
+        inputs,
+    };
+    let bytes = job.answer(command, files, console)?;
     put(alloc, writer, STANDARD_OUTPUT, bytes.as_slice())
 }
 
@@ -82,95 +85,127 @@ pub fn perform<S: Sources + Drop, C: Console, O: Write>(
     }
 }
 
-/// The bytes that a command writes.
-fn answer_of<S: Sources + Drop, C: Console>(
+/// What `count` prints of a sketch of lines, or its image as it is written.
+fn lines_text(
     alloc: Global,
-    command: Command,
     options: &Options<'_>,
-    seed: u64,
-    files: &[String],
-    sources: S,
-    console: &mut C,
+    images: bool,
+    sketch: &CompactThetaSketch,
 ) -> Result<Vec<u8>, Failure>
-    requires seeded { seed_hash seed ≢ 0 }
-    ensures answer { IfSome (S.texts sources) (λ texts.
-        IfOk result (λ v. IsCommandAnswer command (options_of options.now) seed (names_of files.now) texts v.items)) }
-    ensures failed { IfErr result (IsOfCommand command (options_of options.now) (length files.now) (S.texts sources)) }
+    ensures text { IfOk result (λ v. v.items ≡ lines_text images (options_of options.now) sketch.now) }
+    ensures memory { IfErr result (λ f. f ≡ failure.Memory) }
 {
-    let inputs = Inputs::new(sources, files);
-    match command {
-        Command::Count => { count_inputs(alloc, options, seed, inputs, console) }
-        Command::Sketch => { write_sketch(alloc, options, seed, inputs, console) }
-        Command::Combine(operator) => {
-            if files.is_empty() {
-                return Err(Failure::NoFiles);
-            }
-            if unites_groups(operator, options) {
-                return unite_inputs(alloc, options, seed, inputs, console);
-            }
-            let count = files.len();
-            let combined = combine_inputs(alloc, options, seed, count, inputs, operator, console)?;
-            in_form(alloc, options.hex, combined)
-        }
-        Command::Show => {
-            if files.is_empty() {
-                return Err(Failure::NoFiles);
-            }
-            show_inputs(alloc, options, seed, files, inputs)
-        }
-        Command::Eval => eval_inputs(alloc, options, seed, files, inputs, console),
-        Command::Visits => visit_inputs(alloc, options, seed, inputs),
-        Command::Sum => sum_inputs(alloc, options, seed, inputs),
+    if images {
+        return image_in_form(alloc, options.hex, sketch);
     }
+    let text = count_text(alloc, options, sketch)?;
+    Ok(text.into_bytes())
 }
 
-/// What `count` prints of the lines of all sources in turn, by groups if the options say so.
-fn count_inputs<S: Sources + Drop, C: Console>(
-    alloc: Global,
-    options: &Options<'_>,
-    seed: u64,
-    inputs: Inputs<'_, S>,
-    console: &mut C,
-) -> Result<Vec<u8>, Failure>
-    requires seeded { seed_hash seed ≢ 0 }
-    ensures counted { IfSome (S.texts inputs.entry.sources) (λ texts.
-        IfOk result (λ v. IsCountOf (chosen_group (options_of options.now)) (options_of options.now) seed texts v.items)) }
-    ensures failed { IfErr result IsOfReading }
-{
-    match options.group() {
-        Some(by) => print_groups(alloc, options, seed, false, by, inputs, console),
-        None => {
-            let counted = sketch_inputs(alloc, options, seed, inputs, console)?;
-            let text = count_text(alloc, options, &counted)?;
-            Ok(text.into_bytes())
+impl<'a, S: Sources + Drop> Job<'a, S> {
+    /// The bytes that a command writes of the files of these names, which are those of the sources; for `eval` the only name
+    /// is the expression.
+    fn answer<C: Console>(
+        self,
+        command: Command,
+        files: &[String],
+        console: &mut C,
+    ) -> Result<Vec<u8>, Failure>
+        requires seeded { seed_hash self.seed ≢ 0 }
+        ensures answer { IfSome (S.texts self.entry.inputs.sources) (λ texts. IfOk result (λ v.
+            IsCommandAnswer command (options_of self.entry.options.now) self.entry.seed (names_of files.now) texts v.items)) }
+        ensures failed { IfErr result (IsOfCommand command (options_of self.entry.options.now) (length files.now) (S.texts self.entry.inputs.sources)) }
+    {
+        let (alloc, options) = (self.alloc, self.options);
+        match command {
+            Command::Count => self.print_lines(false, console),
+            Command::Sketch => self.write_sketch(console),
+            Command::Combine(operator) => {
+                if files.is_empty() {
+                    return Err(Failure::NoFiles);
+                }
+                if unites_groups(operator, options) {
+                    return self.unite_inputs(console);
+                }
+                let combined = self.combine_inputs(files.len(), operator, console)?;
+                in_form(alloc, options.hex, combined)
+            }
+            Command::Show => {
+                if files.is_empty() {
+                    return Err(Failure::NoFiles);
+                }
+                self.show_inputs(files)
+            }
+            Command::Eval => self.eval_inputs(files, console),
+            Command::Visits => self.visit_inputs(),
+            Command::Sum => self.sum_inputs(),
         }
     }
-}
 
-/// What `sketch` writes of the lines of all sources in turn, by groups if the options say so.
-fn write_sketch<S: Sources + Drop, C: Console>(
-    alloc: Global,
-    options: &Options<'_>,
-    seed: u64,
-    inputs: Inputs<'_, S>,
-    console: &mut C,
-) -> Result<Vec<u8>, Failure>
-    requires seeded { seed_hash seed ≢ 0 }
-    ensures sketched { IfSome (S.texts inputs.entry.sources) (λ texts.
-        IfOk result (λ v. IsSketchOf (chosen_group (options_of options.now)) (options_of options.now) seed texts v.items)) }
-    ensures failed { IfErr result IsOfReading }
-{
-    match options.group() {
-        Some(by) => print_groups(alloc, options, seed, true, by, inputs, console),
-        None => {
-            let sketch = sketch_inputs(alloc, options, seed, inputs, console)?;
-            image_in_form(alloc, options.hex, &sketch)
+    /// What `count` prints, or `sketch` writes, of the lines of all sources in turn, by groups if the options say so.
+    fn print_lines<C: Console>(self, images: bool, console: &mut C) -> Result<Vec<u8>, Failure>
+        requires seeded { seed_hash self.seed ≢ 0 }
+        ensures printed { IfSome (S.texts self.entry.inputs.sources) (λ texts.
+            IfOk result (λ v.
+            IsLinesText images (chosen_group (options_of self.entry.options.now)) (options_of self.entry.options.now) self.entry.seed texts v.items)) }
+        ensures failed { IfErr result IsOfReading }
+    {
+        let (alloc, options) = (self.alloc, self.options);
+        match options.group() {
+            Some(by) => {
+                let mut groups = self.read_groups(by, console)?;
+                let printer = GroupPrinter {
+                    alloc,
+                    options,
+                    images,
+                };
+                printer.table(&mut groups)
+            }
+            None => {
+                let sketch = self.sketch_inputs(console)?;
+                lines_text(alloc, options, images, &sketch)
+            }
+        }
+    }
+
+    /// What `sketch` writes of the lines of all sources in turn: of their numbers if a field has them.
+    fn write_sketch<C: Console>(self, console: &mut C) -> Result<Vec<u8>, Failure>
+        requires seeded { seed_hash self.seed ≢ 0 }
+        ensures sketched { IfSome (S.texts self.entry.inputs.sources) (λ texts.
+            IfOk result (λ v.
+            IsSketchText (chosen_value (options_of self.entry.options.now)) (chosen_group (options_of self.entry.options.now))
+            (options_of self.entry.options.now) self.entry.seed texts v.items)) }
+        ensures failed { IfErr result (IsOfSketch (options_of self.entry.options.now)) }
+    {
+        match self.options.value() {
+            Some(field) => self.write_sums(field),
+            None => self.print_lines(true, console),
+        }
+    }
+
+    /// The sketch of the lines of all sources in turn. It fails if memory is refused or a source can't be read.
+    fn sketch_inputs<C: Console>(self, console: &mut C) -> Result<CompactThetaSketch, Failure>
+        requires seeded { seed_hash self.seed ≢ 0 }
+        ensures sketch { IfSome (S.texts self.entry.inputs.sources) (λ texts.
+            IfOk result (λ s. s ≡ sketch_of (options_of self.entry.options.now) self.entry.seed texts)) }
+        ensures failed { IfErr result IsOfReading }
+    {
+        let (alloc, options, seed) = (self.alloc, self.options, self.seed);
+        let mut inputs = self.inputs;
+        let hashing = Hashing {
+            key: options.key(),
+            seed,
+        };
+        match sketch_sources(alloc, hashing, options.lg_k, &mut inputs, console) {
+            Ok(sketch) => Ok(sketch),
+            Err(Unread::Failed(error)) => Err(inputs.unreadable(alloc, error)),
+            Err(Unread::Refused(error)) => Err(out_of_memory(error)),
         }
     }
 }
 
 /// An image as it is written: its bytes, or a line of their hexadecimal digits.
-fn in_form(alloc: Global, hex: bool, image: Vec<u8>) -> Result<Vec<u8>, Failure>
+pub fn in_form(alloc: Global, hex: bool, image: Vec<u8>) -> Result<Vec<u8>, Failure>
     ensures form { IfOk result (λ v. v.items ≡ in_form hex image.items) }
     ensures memory { IfErr result (λ f. f ≡ failure.Memory) }
 {
@@ -192,30 +227,6 @@ pub fn image_in_form(
 {
     let image = image_to_put(sketch)?;
     in_form(alloc, hex, image)
-}
-
-/// The sketch of the lines of all sources in turn. It fails if memory is refused or a source can't be read.
-fn sketch_inputs<S: Sources + Drop, C: Console>(
-    alloc: Global,
-    options: &Options<'_>,
-    seed: u64,
-    inputs: Inputs<'_, S>,
-    console: &mut C,
-) -> Result<CompactThetaSketch, Failure>
-    requires seeded { seed_hash seed ≢ 0 }
-    ensures sketch { IfSome (S.texts inputs.entry.sources) (λ texts. IfOk result (λ s. s ≡ sketch_of (options_of options.now) seed texts)) }
-    ensures failed { IfErr result IsOfReading }
-{
-    let mut inputs = inputs;
-    let hashing = Hashing {
-        key: options.key(),
-        seed,
-    };
-    match sketch_sources(alloc, hashing, options.lg_k, &mut inputs, console) {
-        Ok(sketch) => Ok(sketch),
-        Err(Unread::Failed(error)) => Err(inputs.unreadable(alloc, error)),
-        Err(Unread::Refused(error)) => Err(out_of_memory(error)),
-    }
 }
 
 /// The image of a sketch. It fails if memory is refused.

@@ -11,9 +11,9 @@ ghost use Rattle.core_compact.specs.CompactState.{ordered_sketch};
 ghost use Rattle.set_expressions.specs.Running.{values_of};
 ghost use Rattle.distinct_arguments.specs.Faults.{options_of};
 ghost use Rattle.distinct_commands.specs.Answers.{names_of};
-ghost use Rattle.distinct_commands.specs.Evaluations.{sketch_of_text, SketchesNext, AreSketchesOfTexts, AreOperands, IsEvaluatedOf, evaluated_text};
+ghost use Rattle.distinct_commands.specs.Evaluations.{sketch_of_text, SketchesNext, AreSketchesOfTexts, AreOperands, IsEvaluated, IsEvaluatedOf, evaluated_text};
 ghost use Rattle.distinct_commands.specs.Seeds.{AreSeeded};
-ghost use Rattle.distinct_commands.specs.Failures.{IsOfReading, IsOfImages, IsOfExpression, IsOfEvaluation};
+ghost use Rattle.distinct_commands.specs.Failures.{IsOfReading, IsOfImages, IsOfExpression, IsOfOperands, IsOfEvaluation};
 ghost use Rattle.distinct_commands.specs.declared.failure.Failure.TheVariants as failure;
 
 use crate::combine::all_sketches;
@@ -21,6 +21,7 @@ use crate::commands::image_in_form;
 use crate::failure::{Failure, out_of_memory};
 use crate::images::Images;
 use crate::inputs::Inputs;
+use crate::job::Job;
 use crate::lists::{Unlisted, texts_of};
 use crate::remarks::Console;
 use crate::show::{head_of, shown_text};
@@ -133,51 +134,6 @@ fn next_lines<S: Sources, C: Console>(
     }
 }
 
-/// The sketches of the lines of all sources, one for each source, each of this seed. It fails if memory is refused or a source can't be read.
-fn all_lines<S: Sources, C: Console>(
-    alloc: Global,
-    options: &Options<'_>,
-    seed: u64,
-    inputs: &mut Inputs<'_, S>,
-    console: &mut C,
-) -> Result<Vec<CompactThetaSketch>, Failure>
-    requires seeded { seed_hash seed ≢ 0 }
-    ensures seeded { IfOk result (λ v. AreSeeded seed v.items) }
-    ensures sketched { IfSome (S.texts inputs.old.sources) (λ texts. IfOk result (λ v. AreSketchesOfTexts (options_of options.now) seed texts v.items)) }
-    ensures failed { IfErr result IsOfReading }
-{
-    let mut sketches = Vec::new(alloc);
-    'sketch_each: for _ in 0..u64::MAX {
-        match next_lines(alloc, options, seed, inputs, console)? {
-            Some(sketch) => sketches.push(sketch)?,
-            None => return Ok(sketches),
-        }
-    }
-    Err(Failure::Memory)
-}
-
-/// The sketches of all sources, each of this seed: those of their lines with `--keys`, else those that they have as images.
-fn operands<S: Sources + Drop, C: Console>(
-    alloc: Global,
-    options: &Options<'_>,
-    seed: u64,
-    inputs: Inputs<'_, S>,
-    console: &mut C,
-) -> Result<Vec<CompactThetaSketch>, Failure>
-    requires seeded { seed_hash seed ≢ 0 }
-    ensures seeded { IfOk result (λ v. AreSeeded seed v.items) }
-    ensures operands { IfSome (S.texts inputs.entry.sources) (λ texts.
-        IfOk result (λ v. AreOperands options.now.keys (options_of options.now) seed texts v.items)) }
-    ensures failed { IfErr result IsOfImages }
-{
-    if options.keys {
-        let mut inputs = inputs;
-        return all_lines(alloc, options, seed, &mut inputs, console);
-    }
-    let mut images = Images::new(alloc, inputs, options.hex, seed);
-    all_sketches(alloc, seed, &mut images)
-}
-
 /// The result of an expression over one sketch per name, each of this seed. It fails if memory is refused.
 fn result_of(
     alloc: Global,
@@ -222,33 +178,97 @@ fn put_result(
     Ok(shown)
 }
 
-/// The result of the expression that is the only one of `files`, over the sketches of the sources, which have the
-/// expression's names in their order.
-pub fn eval_inputs<S: Sources + Drop, C: Console>(
-    alloc: Global,
-    options: &Options<'_>,
-    seed: u64,
-    files: &[String],
-    inputs: Inputs<'_, S>,
-    console: &mut C,
-) -> Result<Vec<u8>, Failure>
-    requires seeded { seed_hash seed ≢ 0 }
-    ensures evaluated { IfSome (S.texts inputs.entry.sources) (λ texts.
-        IfOk result (λ v. IsEvaluatedOf (options_of options.now) seed (names_of files.now) texts v.items)) }
-    ensures failed { IfErr result (IsOfEvaluation (length files.now)) }
-{
-    let [file] = files else {
-        return Err(Failure::Arguments(Fault::NotOneExpression));
-    };
-    let text = file.as_str();
-    let expression = expression_in(alloc, text)?;
-    let renamed = inputs.renamed(expression.names.as_slice());
-    let sketches = operands(alloc, options, seed, renamed, console)?;
-    let found = sketches.len();
-    let wanted = expression.names.len();
-    if found != wanted {
-        return Err(Failure::NotOneEach(found as u64, wanted as u64));
+impl<'a, S: Sources + Drop> Job<'a, S> {
+    /// The sketches of the lines of all sources, one for each source, each of this seed. It fails if memory is refused or a
+    /// source can't be read.
+    fn all_lines<C: Console>(self, console: &mut C) -> Result<Vec<CompactThetaSketch>, Failure>
+        requires seeded { seed_hash self.seed ≢ 0 }
+        ensures seeded { IfOk result (λ v. AreSeeded self.entry.seed v.items) }
+        ensures sketched { IfSome (S.texts self.entry.inputs.sources) (λ texts.
+            IfOk result (λ v. AreSketchesOfTexts (options_of self.entry.options.now) self.entry.seed texts v.items)) }
+        ensures failed { IfErr result IsOfReading }
+    {
+        let (alloc, options, seed) = (self.alloc, self.options, self.seed);
+        let mut inputs = self.inputs;
+        let mut sketches = Vec::new(alloc);
+        'sketch_each: for _ in 0..u64::MAX {
+            match next_lines(alloc, options, seed, &mut inputs, console)? {
+                Some(sketch) => sketches.push(sketch)?,
+                None => return Ok(sketches),
+            }
+        }
+        Err(Failure::Memory)
     }
-    let result = result_of(alloc, options, seed, &expression, sketches.as_slice())?;
-    put_result(alloc, options, text, &result)
+
+    /// The sketches of all sources, each of this seed: those of their lines with `--keys`, else those that they have as
+    /// images.
+    fn operands<C: Console>(self, console: &mut C) -> Result<Vec<CompactThetaSketch>, Failure>
+        requires seeded { seed_hash self.seed ≢ 0 }
+        ensures seeded { IfOk result (λ v. AreSeeded self.entry.seed v.items) }
+        ensures operands { IfSome (S.texts self.entry.inputs.sources) (λ texts. IfOk result (λ v.
+            AreOperands self.entry.options.now.keys (options_of self.entry.options.now) self.entry.seed texts v.items)) }
+        ensures failed { IfErr result IsOfImages }
+    {
+        if self.options.keys {
+            return self.all_lines(console);
+        }
+        let (alloc, options, seed) = (self.alloc, self.options, self.seed);
+        let mut images = Images::new(alloc, self.inputs, options.hex, seed);
+        all_sketches(alloc, seed, &mut images)
+    }
+
+    /// The result of an expression over the sketches of the sources, which have the expression's names in their order.
+    fn evaluated<C: Console>(
+        self,
+        text: &str,
+        expression: &Expression,
+        console: &mut C,
+    ) -> Result<Vec<u8>, Failure>
+        requires seeded { seed_hash self.seed ≢ 0 }
+        requires spelled { IsSpelled text.now (names_of expression.now.names.items) expression.now.steps.items }
+        ensures evaluated { IfSome (S.texts self.entry.inputs.sources) (λ texts.
+            IfOk result (λ v. IsEvaluated (options_of self.entry.options.now) self.entry.seed text.now texts v.items)) }
+        ensures failed { IfErr result IsOfOperands }
+    {
+        let (alloc, options, seed) = (self.alloc, self.options, self.seed);
+        let sketches = self.operands(console)?;
+        let found = sketches.len();
+        let wanted = expression.names.len();
+        if found != wanted {
+            return Err(Failure::NotOneEach(found as u64, wanted as u64));
+        }
+        let result = result_of(alloc, options, seed, expression, sketches.as_slice())?;
+        put_result(alloc, options, text, &result)
+    }
+
+    /// The result of the expression that is the only one of `files`, over the sketches of the sources, which have the
+    /// expression's names in their order.
+    pub fn eval_inputs<C: Console>(
+        self,
+        files: &[String],
+        console: &mut C,
+    ) -> Result<Vec<u8>, Failure>
+        requires seeded { seed_hash self.seed ≢ 0 }
+        ensures evaluated { IfSome (S.texts self.entry.inputs.sources) (λ texts. IfOk result (λ v.
+            IsEvaluatedOf (options_of self.entry.options.now) self.entry.seed (names_of files.now) texts v.items)) }
+        ensures failed { IfErr result (IsOfEvaluation (length files.now)) }
+    {
+        let [file] = files else {
+            return Err(Failure::Arguments(Fault::NotOneExpression));
+        };
+        let text = file.as_str();
+        let (alloc, options, seed) = (self.alloc, self.options, self.seed);
+        let expression = expression_in(alloc, text)?;
+        let inputs = self.inputs.renamed(expression.names.as_slice());
+        let renamed = Job {
+            alloc,
+            options,
+            seed,
+            inputs,
+        };
+        if options.sums {
+            return renamed.sums_evaluated(text, &expression);
+        }
+        renamed.evaluated(text, &expression, console)
+    }
 }

@@ -43,6 +43,8 @@ pub enum Failure {
     Unreadable(String, io::Error),
     /// A file is not an image, or its line of this number, from 1, is not; 0 if the whole file is meant.
     NoSketch(String, u64, Flaw),
+    /// A file is not an image of sums, or its line of this number, from 1, is not; 0 if the whole file is meant.
+    NoSums(String, u64, Flaw),
     /// A line of this number, from 1, is not hexadecimal.
     NoHex(String, u64),
     /// A line of this number, from 1, has no tab, and so no image of a group.
@@ -51,6 +53,11 @@ pub enum Failure {
     NoLine(String),
     /// The line of this number, from 1, of a file would make the sum of its key 2^64 or more.
     PastGreatest(String, u64),
+    /// With the image in a file, or in its line of this number, from 1, the sum of a key would be 2^64 or more; 0 if the
+    /// whole file is meant.
+    PastUnion(String, u64),
+    /// The sum of a key in the result of this expression, or of a part of it, would be 2^64 or more.
+    PastResult(String),
     /// The line of this number, from 1, of a file has no whole number below 2^64 in its field.
     NotANumber(String, u64),
     /// Writing to standard output, or to the file of this name, failed.
@@ -188,6 +195,34 @@ impl fmt::Display for Defect<'_> {
     }
 }
 
+/// Why a file, or a line of it, is not an image of sums, as messages say it.
+#[derive(Drop)]
+struct SumsDefect<'a>(&'a Flaw);
+
+impl fmt::Display for SumsDefect<'_> {
+    fn fmt<W: fmt::Write>(&self, f: &mut fmt::Formatter<W>) -> fmt::Result {
+        match self.0 {
+            Flaw::Short => write!(f, "is not an image of sums"),
+            Flaw::Family(family) => match family_name(*family) {
+                Some(sketches) => write!(
+                    f,
+                    "is not an image of sums (byte 3 is {family}, the family of {sketches}, not 9)"
+                ),
+                None => write!(f, "is not an image of sums (byte 3 is {family}, not 9)"),
+            },
+            Flaw::Version(version) => write!(
+                f,
+                "is of version {version}; versions 1 and 3 are read"
+            ),
+            Flaw::Damaged => write!(
+                f,
+                "is damaged: its hashes, its theta or its sketch type are not those of an image of sums"
+            ),
+            flaw => write!(f, "{}", Defect(flaw)),
+        }
+    }
+}
+
 /// Why a text is not an expression, as messages say it.
 #[derive(Drop)]
 struct Misspelling(SyntaxFault);
@@ -269,6 +304,13 @@ impl fmt::Display for Failure {
                 Named(name),
                 Defect(flaw)
             ),
+            Failure::NoSums(name, 0, flaw) => { write!(f, "{}: {}", Named(name), SumsDefect(flaw)) }
+            Failure::NoSums(name, line, flaw) => write!(
+                f,
+                "{}: line {line} {}",
+                Named(name),
+                SumsDefect(flaw)
+            ),
             Failure::NoHex(name, line) => write!(
                 f,
                 "{}: line {line} is not hexadecimal",
@@ -284,6 +326,24 @@ impl fmt::Display for Failure {
                 f,
                 "{}: line {line}: the sum of its key is above {}",
                 Named(name),
+                u64::MAX
+            ),
+            Failure::PastUnion(name, 0) => write!(
+                f,
+                "{}: the sum of a key is above {} with this image",
+                Named(name),
+                u64::MAX
+            ),
+            Failure::PastUnion(name, line) => write!(
+                f,
+                "{}: line {line}: the sum of a key is above {} with this image",
+                Named(name),
+                u64::MAX
+            ),
+            Failure::PastResult(text) => write!(
+                f,
+                "eval: '{}': the sum of a key is above {}",
+                Escaped(text),
                 u64::MAX
             ),
             Failure::NotANumber(name, line) => write!(

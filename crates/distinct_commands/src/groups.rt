@@ -1,5 +1,5 @@
 //! What `count` prints and `sketch` writes of groups of lines.
-ghost use Rattle.std.specs.Prelude.{◌≡◌, ◌≢◌, ℕ, List, IfOk, IfErr, IfSome, string_bytes};
+ghost use Rattle.std.specs.Prelude.{◌≡◌, ◌≢◌, ◌++◌, ℕ, List, IfOk, IfErr, IfSome, string_bytes};
 ghost use Rattle.sketch_base.specs.Seed.{seed_hash};
 ghost use Rattle.lines.specs.Lines.{lines_of_all};
 ghost use Rattle.grouped_lines.specs.Groups.{HasGroups, AreLeft};
@@ -8,7 +8,7 @@ ghost use Rattle.distinct_arguments.specs.Faults.{options_of};
 ghost use Rattle.distinct_commands.specs.Failures.{IsOfReading};
 ghost use Rattle.grouped_lines.specs.Ranked.{AreRanked};
 ghost use Rattle.grouped_lines.specs.Files.{AreFilesOf};
-ghost use Rattle.distinct_commands.specs.Groups.{grouping_of, group_text, group_line, groups_text, groups_head, IsGroupedText};
+ghost use Rattle.distinct_commands.specs.Groups.{grouping_of, group_text, group_line, groups_text, groups_head};
 ghost use Rattle.distinct_commands.specs.Groups.{group_estimate, chosen_order, AreOrdered};
 ghost use Rattle.distinct_commands.specs.Texts.{report_by};
 ghost use Rattle.distinct_commands.specs.declared.failure.Failure.TheVariants as failure;
@@ -16,6 +16,7 @@ ghost use Rattle.distinct_commands.specs.declared.failure.Failure.TheVariants as
 use crate::commands::image_to_put;
 use crate::failure::{Failure, out_of_memory};
 use crate::inputs::Inputs;
+use crate::job::Job;
 use crate::remarks::Console;
 use crate::show::{chosen_deviations, head_of};
 use distinct_arguments::{Form, Options, Order};
@@ -59,159 +60,130 @@ fn group_text(
     }
 }
 
-/// The line of a group of this name: its image, or its count. It fails if memory is refused.
-fn group_line(
-    alloc: Global,
-    options: &Options<'_>,
-    images: bool,
-    name: &[u8],
-    sketch: &CompactThetaSketch,
-) -> Result<Vec<u8>, Failure>
-    ensures line { IfOk result (λ text. text.items ≡ group_line images (options_of options.now) name.now sketch.now) }
-    ensures memory { IfErr result (λ f. f ≡ failure.Memory) }
-{
-    if !images {
-        return Ok(group_text(alloc, options, name, sketch)?);
-    }
-    let image = image_to_put(sketch)?;
-    Ok(image_line(alloc, name, image.as_slice())?)
+/// How groups are printed: each by its image, or by its count in the form that options choose.
+#[derive(Clone, Copy)]
+pub struct GroupPrinter<'a> {
+    pub alloc: Global,
+    pub options: &'a Options<'a>,
+    pub images: bool,
 }
 
-/// The lines of groups, one after another. It fails if memory is refused.
-fn groups_text(
-    alloc: Global,
-    options: &Options<'_>,
-    images: bool,
-    groups: &mut Groups,
-) -> Result<Vec<u8>, Failure>
-    ensures printed { (grouping : Grouping) (lines names : List (List ℕ))
-        → AreLeft grouping lines names groups.old
-        → IfOk result (λ v. v.items ≡ groups_text images (options_of options.now) grouping lines names) }
-    ensures memory { IfErr result (λ f. f ≡ failure.Memory) }
-{
-    let mut printed = Vec::new(alloc);
-    'each_group: for _ in 0..u64::MAX {
-        match groups.next_group() {
-            Ok(Some(group)) => {
-                let line = group_line(
-                    alloc,
-                    options,
-                    images,
-                    group.name.as_slice(),
-                    &group.sketch,
-                )?;
-                printed.extend_from_slice(line.as_slice())?;
+impl<'a> GroupPrinter<'a> {
+    /// The line of a group of this name: its image, or its count. It fails if memory is refused.
+    fn line(self, name: &[u8], sketch: &CompactThetaSketch) -> Result<Vec<u8>, Failure>
+        ensures line { IfOk result (λ text. text.items ≡ group_line self.entry.images (options_of self.entry.options.now) name.now sketch.now) }
+        ensures memory { IfErr result (λ f. f ≡ failure.Memory) }
+    {
+        if !self.images {
+            return Ok(group_text(self.alloc, self.options, name, sketch)?);
+        }
+        let image = image_to_put(sketch)?;
+        Ok(image_line(self.alloc, name, image.as_slice())?)
+    }
+
+    /// The lines of groups, one after another. It fails if memory is refused.
+    fn groups_text(self, groups: &mut Groups) -> Result<Vec<u8>, Failure>
+        ensures printed { (grouping : Grouping) (lines names : List (List ℕ))
+            → AreLeft grouping lines names groups.old
+            → IfOk result (λ v. v.items ≡ groups_text self.entry.images (options_of self.entry.options.now) grouping lines names) }
+        ensures memory { IfErr result (λ f. f ≡ failure.Memory) }
+    {
+        let mut printed = Vec::new(self.alloc);
+        'each_group: for _ in 0..u64::MAX {
+            match groups.next_group() {
+                Ok(Some(group)) => {
+                    let line = self.line(group.name.as_slice(), &group.sketch)?;
+                    printed.extend_from_slice(line.as_slice())?;
+                }
+                Ok(None) => return Ok(printed),
+                Err(error) => return Err(out_of_memory(error)),
             }
-            Ok(None) => return Ok(printed),
-            Err(error) => return Err(out_of_memory(error)),
+        }
+        Err(Failure::Memory)
+    }
+
+    /// A group with its line, to be ordered by its estimate. It fails if memory is refused.
+    fn ranked(self, group: Group) -> Result<Ranked, Failure>
+        ensures name { IfOk result (λ r. r.name.items ≡ group.name.items) }
+        ensures estimate { IfOk result (λ r. r.estimate ≡ (report_by (options_of self.entry.options.now) group.sketch).estimate) }
+        ensures text { IfOk result (λ r. r.text.items ≡ group_line self.entry.images (options_of self.entry.options.now) group.name.items group.sketch) }
+        ensures memory { IfErr result (λ f. f ≡ failure.Memory) }
+    {
+        let Group { name, sketch } = group;
+        let report = report_of(&sketch, chosen_deviations(self.options));
+        let text = self.line(name.as_slice(), &sketch)?;
+        Ok(Ranked {
+            estimate: report.estimate,
+            name,
+            text,
+        })
+    }
+
+    /// The lines of groups, one after another, in the order of their estimates. It fails if memory is refused.
+    fn ranked_groups_text(self, groups: &mut Groups) -> Result<Vec<u8>, Failure>
+        ensures printed { (grouping : Grouping) (lines names : List (List ℕ))
+            → AreLeft grouping lines names groups.old
+            → IfOk result (λ v. (ordered : List (List ℕ))
+            × AreRanked (group_estimate (options_of self.entry.options.now) grouping lines) names ordered
+            × (v.items ≡ groups_text self.entry.images (options_of self.entry.options.now) grouping lines ordered)) }
+        ensures memory { IfErr result (λ f. f ≡ failure.Memory) }
+    {
+        let mut ranked = Vec::new(self.alloc);
+        'each_group: for _ in 0..u64::MAX {
+            match groups.next_group() {
+                Ok(Some(group)) => {
+                    let one = self.ranked(group)?;
+                    ranked.push(one)?;
+                }
+                Ok(None) => return Ok(ranked_text(self.alloc, ranked)?),
+                Err(error) => return Err(out_of_memory(error)),
+            }
+        }
+        Err(Failure::Memory)
+    }
+
+    /// The lines of groups, one after another, in the order that options choose. It fails if memory is refused.
+    fn ordered_text(self, groups: &mut Groups) -> Result<Vec<u8>, Failure>
+        ensures printed { (grouping : Grouping) (lines names : List (List ℕ))
+            → AreLeft grouping lines names groups.old
+            → IfOk result (λ v. (ordered : List (List ℕ))
+            × AreOrdered (chosen_order (options_of self.entry.options.now)) (group_estimate (options_of self.entry.options.now) grouping lines) names ordered
+            × (v.items ≡ groups_text self.entry.images (options_of self.entry.options.now) grouping lines ordered)) }
+        ensures memory { IfErr result (λ f. f ≡ failure.Memory) }
+    {
+        match self.options.sort.unwrap_or(Order::Name) {
+            Order::Estimate => self.ranked_groups_text(groups),
+            Order::Name => self.groups_text(groups),
         }
     }
-    Err(Failure::Memory)
-}
 
-/// A group with its line, to be ordered by its estimate. It fails if memory is refused.
-fn ranked_group(
-    alloc: Global,
-    options: &Options<'_>,
-    images: bool,
-    group: Group,
-) -> Result<Ranked, Failure>
-    ensures name { IfOk result (λ r. r.name.items ≡ group.name.items) }
-    ensures estimate { IfOk result (λ r. r.estimate ≡ (report_by (options_of options.now) group.sketch).estimate) }
-    ensures text { IfOk result (λ r. r.text.items ≡ group_line images (options_of options.now) group.name.items group.sketch) }
-    ensures memory { IfErr result (λ f. f ≡ failure.Memory) }
-{
-    let Group { name, sketch } = group;
-    let report = report_of(&sketch, chosen_deviations(options));
-    let text = group_line(alloc, options, images, name.as_slice(), &sketch)?;
-    Ok(Ranked {
-        estimate: report.estimate,
-        name,
-        text,
-    })
-}
-
-/// The lines of groups, one after another, in the order of their estimates. It fails if memory is refused.
-fn ranked_groups_text(
-    alloc: Global,
-    options: &Options<'_>,
-    images: bool,
-    groups: &mut Groups,
-) -> Result<Vec<u8>, Failure>
-    ensures printed { (grouping : Grouping) (lines names : List (List ℕ))
-        → AreLeft grouping lines names groups.old
-        → IfOk result (λ v. (ordered : List (List ℕ))
-        × AreRanked (group_estimate (options_of options.now) grouping lines) names ordered
-        × (v.items ≡ groups_text images (options_of options.now) grouping lines ordered)) }
-    ensures memory { IfErr result (λ f. f ≡ failure.Memory) }
-{
-    let mut ranked = Vec::new(alloc);
-    'each_group: for _ in 0..u64::MAX {
-        match groups.next_group() {
-            Ok(Some(group)) => {
-                let one = ranked_group(alloc, options, images, group)?;
-                ranked.push(one)?;
-            }
-            Ok(None) => return Ok(ranked_text(alloc, ranked)?),
-            Err(error) => return Err(out_of_memory(error)),
+    /// The head of a table of groups, if there is to be one.
+    fn head(self) -> Result<String, AllocError>
+        ensures { IfOk result (λ text. string_bytes text ≡ groups_head self.entry.images (options_of self.entry.options.now)) }
+    {
+        if self.images {
+            Ok(String::new(self.alloc))
+        } else {
+            head_of(self.alloc, self.options.form)
         }
     }
-    Err(Failure::Memory)
-}
 
-/// The lines of groups, one after another, in the order that options choose. It fails if memory is refused.
-fn ordered_text(
-    alloc: Global,
-    options: &Options<'_>,
-    images: bool,
-    groups: &mut Groups,
-) -> Result<Vec<u8>, Failure>
-    ensures printed { (grouping : Grouping) (lines names : List (List ℕ))
-        → AreLeft grouping lines names groups.old
-        → IfOk result (λ v. (ordered : List (List ℕ))
-        × AreOrdered (chosen_order (options_of options.now)) (group_estimate (options_of options.now) grouping lines) names ordered
-        × (v.items ≡ groups_text images (options_of options.now) grouping lines ordered)) }
-    ensures memory { IfErr result (λ f. f ≡ failure.Memory) }
-{
-    match options.sort.unwrap_or(Order::Name) {
-        Order::Estimate => ranked_groups_text(alloc, options, images, groups),
-        Order::Name => groups_text(alloc, options, images, groups),
+    /// The lines of groups, in the order that options choose, behind the head of a table if there is to be one. It fails if
+    /// memory is refused.
+    pub fn table(self, groups: &mut Groups) -> Result<Vec<u8>, Failure>
+        ensures printed { (grouping : Grouping) (lines names : List (List ℕ))
+            → AreLeft grouping lines names groups.old
+            → IfOk result (λ v. (ordered : List (List ℕ))
+            × AreOrdered (chosen_order (options_of self.entry.options.now)) (group_estimate (options_of self.entry.options.now) grouping lines) names ordered
+            × (v.items ≡ groups_head self.entry.images (options_of self.entry.options.now) ++ groups_text self.entry.images (options_of self.entry.options.now) grouping lines ordered)) }
+        ensures memory { IfErr result (λ f. f ≡ failure.Memory) }
+    {
+        let head = self.head()?;
+        let lines = self.ordered_text(groups)?;
+        let mut printed = head.into_bytes();
+        printed.extend_from_slice(lines.as_slice())?;
+        Ok(printed)
     }
-}
-
-/// The head of a table of groups, if there is to be one.
-fn groups_head(alloc: Global, options: &Options<'_>, images: bool) -> Result<String, AllocError>
-    ensures { IfOk result (λ text. string_bytes text ≡ groups_head images (options_of options.now)) }
-{
-    if images {
-        Ok(String::new(alloc))
-    } else {
-        head_of(alloc, options.form)
-    }
-}
-
-/// What is printed of the lines of all sources in turn by groups, which have this key: the image of each group, or its count.
-/// It fails if memory is refused or a source can't be read.
-pub fn print_groups<S: Sources + Drop, C: Console>(
-    alloc: Global,
-    options: &Options<'_>,
-    seed: u64,
-    images: bool,
-    by: Key,
-    inputs: Inputs<'_, S>,
-    console: &mut C,
-) -> Result<Vec<u8>, Failure>
-    requires seeded { seed_hash seed ≢ 0 }
-    ensures grouped { IfSome (S.texts inputs.entry.sources) (λ texts.
-        IfOk result (λ v. IsGroupedText images (options_of options.now) seed by texts v.items)) }
-    ensures failed { IfErr result IsOfReading }
-{
-    let mut groups = read_groups(alloc, options, seed, by, inputs, console)?;
-    let head = groups_head(alloc, options, images)?;
-    let lines = ordered_text(alloc, options, images, &mut groups)?;
-    let mut printed = head.into_bytes();
-    printed.extend_from_slice(lines.as_slice())?;
-    Ok(printed)
 }
 
 /// The file of each group of the lines of all sources in turn, by this key. It fails if memory is refused or a source can't
@@ -229,40 +201,41 @@ pub fn group_files<S: Sources + Drop, C: Console>(
         IfOk result (λ v. AreFilesOf options.now.hex (grouping_of (options_of options.now) seed by) (lines_of_all texts) v.items)) }
     ensures failed { IfErr result IsOfReading }
 {
-    let mut groups = read_groups(alloc, options, seed, by, inputs, console)?;
+    let job = Job {
+        alloc,
+        options,
+        seed,
+        inputs,
+    };
+    let mut groups = job.read_groups(by, console)?;
     match files_of(alloc, options.hex, &mut groups) {
         Ok(files) => Ok(files),
         Err(error) => Err(out_of_memory(error)),
     }
 }
 
-/// The groups of the lines of all sources in turn, by this key. It fails if memory is refused or a source can't be read.
-fn read_groups<S: Sources + Drop, C: Console>(
-    alloc: Global,
-    options: &Options<'_>,
-    seed: u64,
-    by: Key,
-    inputs: Inputs<'_, S>,
-    console: &mut C,
-) -> Result<Groups, Failure>
-    requires seeded { seed_hash seed ≢ 0 }
-    ensures grouped { IfSome (S.texts inputs.entry.sources) (λ texts.
-        IfOk result (HasGroups (grouping_of (options_of options.now) seed by) (lines_of_all texts))) }
-    ensures failed { IfErr result IsOfReading }
-{
-    let mut inputs = inputs;
-    let hashing = Hashing {
-        key: options.key(),
-        seed,
-    };
-    let grouping = Grouping {
-        by,
-        hashing,
-        lg_k: options.lg_k,
-    };
-    match group_sources(alloc, grouping, &mut inputs, console) {
-        Ok(groups) => Ok(groups),
-        Err(Unread::Failed(error)) => Err(inputs.unreadable(alloc, error)),
-        Err(Unread::Refused(error)) => Err(out_of_memory(error)),
+impl<'a, S: Sources + Drop> Job<'a, S> {
+    /// The groups of the lines of all sources in turn, by this key. It fails if memory is refused or a source can't be read.
+    pub fn read_groups<C: Console>(self, by: Key, console: &mut C) -> Result<Groups, Failure>
+        requires seeded { seed_hash self.seed ≢ 0 }
+        ensures grouped { IfSome (S.texts self.entry.inputs.sources) (λ texts.
+            IfOk result (HasGroups (grouping_of (options_of self.entry.options.now) self.entry.seed by) (lines_of_all texts))) }
+        ensures failed { IfErr result IsOfReading }
+    {
+        let (alloc, options, seed) = (self.alloc, self.options, self.seed);
+        let mut inputs = self.inputs;
+        let grouping = Grouping {
+            by,
+            hashing: Hashing {
+                key: options.key(),
+                seed,
+            },
+            lg_k: options.lg_k,
+        };
+        match group_sources(alloc, grouping, &mut inputs, console) {
+            Ok(groups) => Ok(groups),
+            Err(Unread::Failed(error)) => Err(inputs.unreadable(alloc, error)),
+            Err(Unread::Refused(error)) => Err(out_of_memory(error)),
+        }
     }
 }

@@ -5,15 +5,17 @@ ghost use Rattle.std.specs.IoError.{error_kind};
 ghost use Rattle.std.specs.declared.io.ErrorKind.TheVariants.{InvalidData};
 ghost use Rattle.std.specs.Io.Buffered.{reader_remaining};
 ghost use Rattle.sketch_base.specs.Seed.{seed_hash};
-ghost use Rattle.line_sketches.specs.Header.{image_length, flaw_of};
 ghost use Rattle.line_sketches.specs.Sources.{GivesNext};
-ghost use Rattle.distinct_commands.specs.Images.{remaining_images, GivesOrCloses, IsSameReader};
-ghost use Rattle.distinct_commands.specs.Failures.{called, next_number, IsOfImages, NotesNext, ReportsUnreadable, ReportsNoSketch};
+ghost use Rattle.distinct_commands.specs.Images.{remaining_images, image_flaw, length_of, GivesOrCloses, IsSameReader};
+ghost use Rattle.distinct_commands.specs.Failures.{called, next_number, IsOfImages, NotesNext, ReportsUnreadable, ReportsNoSketch, ReportsPastUnion};
 
 use crate::failure::Failure;
 use crate::inputs::Inputs;
 use crate::remarks::Coarser;
-use line_sketches::{Flaw, Sources, entry_count, flaw_of, image_length, read_hex};
+use line_sketches::{
+    Flaw, Sources, entry_count, flaw_of, image_length, read_hex, sums_count, sums_flaw_of,
+    sums_length,
+};
 use sketch_base::{ErrorKind as KindOfError, compute_seed_hash};
 use std::alloc::Global;
 use std::io;
@@ -26,11 +28,34 @@ fn hash_of_seed(seed: u64) -> u16
     compute_seed_hash(seed, KindOfError::InvalidArgument).unwrap_or(0)
 }
 
-/// Refuses bytes that have something after an image, since a second image there would be ignored.
-fn check_alone(bytes: &[u8]) -> io::Result<()>
-    ensures { OnOk result (IfSome (image_length bytes.now) (λ n. length bytes.now ≤ n)) }
+/// Why the bytes are not one image that is read under this seed: of a sketch of sums, or of a theta sketch.
+fn flaw_in(sums: bool, bytes: &[u8], seed: u64) -> Flaw
+    ensures { result ≡ image_flaw sums (seed_hash seed) bytes.now }
 {
-    match image_length(bytes) {
+    let hash = hash_of_seed(seed);
+    if sums {
+        sums_flaw_of(bytes, hash)
+    } else {
+        flaw_of(bytes, hash)
+    }
+}
+
+/// The length of the image that bytes begin, by its preamble.
+fn length_of(sums: bool, bytes: &[u8]) -> Option<u64>
+    ensures { result ≡ length_of sums bytes.now }
+{
+    if sums {
+        sums_length(bytes)
+    } else {
+        image_length(bytes)
+    }
+}
+
+/// Refuses bytes that have something after an image, since a second image there would be ignored.
+fn check_alone(sums: bool, bytes: &[u8]) -> io::Result<()>
+    ensures { OnOk result (IfSome (length_of sums bytes.now) (λ n. length bytes.now ≤ n)) }
+{
+    match length_of(sums, bytes) {
         Some(image) if image < bytes.len() as u64 => Err(io::Error::from(ErrorKind::InvalidData)),
         _ => Ok(()),
     }
@@ -41,6 +66,8 @@ fn check_alone(bytes: &[u8]) -> io::Result<()>
 pub struct Images<'a, S: Sources> {
     alloc: Global,
     inputs: Inputs<'a, S>,
+    /// Whether they are images of sums, and not of theta sketches.
+    sums: bool,
     hex: bool,
     open: Option<BufReader<S::Source>>,
     line: u64,
@@ -53,8 +80,23 @@ pub struct Images<'a, S: Sources> {
 }
 
 impl<'a, S: Sources> Images<'a, S> {
-    /// The images of these files, to be read under this seed.
+    /// The images of theta sketches in these files, to be read under this seed.
     pub fn new(alloc: Global, inputs: Inputs<'a, S>, hex: bool, seed: u64) -> Images<'a, S>
+        ensures inputs { result.inputs ≡ inputs.entry }
+        ensures hex { result.hex ≡ hex }
+        ensures closed { result.«open» ≡ None }
+    {
+        Images::of(alloc, inputs, false, hex, seed)
+    }
+
+    /// The images in these files, to be read under this seed: of sums, or of theta sketches.
+    pub fn of(
+        alloc: Global,
+        inputs: Inputs<'a, S>,
+        sums: bool,
+        hex: bool,
+        seed: u64,
+    ) -> Images<'a, S>
         ensures inputs { result.inputs ≡ inputs.entry }
         ensures hex { result.hex ≡ hex }
         ensures closed { result.«open» ≡ None }
@@ -62,6 +104,7 @@ impl<'a, S: Sources> Images<'a, S> {
         Images {
             alloc,
             inputs,
+            sums,
             hex,
             open: None,
             line: 0,
@@ -102,8 +145,19 @@ impl<'a, S: Sources> Images<'a, S> {
             return Failure::NoLine(name);
         }
         match self.flaw {
+            Some(flaw) if self.sums => Failure::NoSums(name, self.line, flaw),
             Some(flaw) => Failure::NoSketch(name, self.line, flaw),
             None => Failure::NoHex(name, self.line),
+        }
+    }
+
+    /// The failure if the sum of a key is 2^64 or more with the image that was read last.
+    pub fn past_union(&self) -> Failure
+        ensures { ReportsPastUnion self.now result }
+    {
+        match String::from_str(self.alloc, self.name()) {
+            Ok(name) => Failure::PastUnion(name, self.line),
+            Err(_) => Failure::Memory,
         }
     }
 
@@ -123,17 +177,21 @@ impl<'a, S: Sources> Images<'a, S> {
     /// Notes what the preamble of an image says. It fails if the bytes have something after the image, since a second
     /// image there would be ignored.
     fn note(&mut self, image: &[u8]) -> io::Result<()>
-        ensures flaw { self.new.flaw ≡ Some (flaw_of (seed_hash self.old.seed) image.now) }
+        ensures flaw { self.new.flaw ≡ Some (image_flaw self.old.sums (seed_hash self.old.seed) image.now) }
         ensures same { IsSameReader self.old self.new }
         ensures left { remaining_images S.Source.remaining S.texts self.new ≡ remaining_images S.Source.remaining S.texts self.old }
     {
-        self.flaw = Some(flaw_of(image, hash_of_seed(self.seed)));
-        let count = entry_count(image);
+        self.flaw = Some(flaw_in(self.sums, image, self.seed));
+        let count = if self.sums {
+            sums_count(image)
+        } else {
+            entry_count(image)
+        };
         if self.most < count {
             self.most = count;
             self.most_name = self.name();
         }
-        check_alone(image)
+        check_alone(self.sums, image)
     }
 
     /// The next image, or `None` at the end.

@@ -14,10 +14,12 @@
 mod combine;
 mod commands;
 mod eval;
+mod eval_sums;
 mod failure;
 mod groups;
 mod images;
 mod inputs;
+mod job;
 mod lists;
 mod output;
 mod remarks;

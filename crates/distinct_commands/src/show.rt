@@ -9,7 +9,8 @@ ghost use Rattle.distinct_commands.specs.Texts.{chosen_deviations, count_text, s
 use crate::combine::next_sketch;
 use crate::failure::Failure;
 use crate::images::Images;
-use crate::inputs::{Inputs, called};
+use crate::inputs::called;
+use crate::job::Job;
 use distinct_arguments::{Form, Options};
 use estimates::Deviations;
 use line_sketches::Sources;
@@ -73,28 +74,25 @@ pub fn shown_text(
     }
 }
 
-/// One line per image, behind the head of a table if there is to be one.
-pub fn show_inputs<S: Sources + Drop>(
-    alloc: Global,
-    options: &Options<'_>,
-    seed: u64,
-    files: &[String],
-    inputs: Inputs<'_, S>,
-) -> Result<Vec<u8>, Failure>
-    ensures shown { IfSome (S.texts inputs.entry.sources) (λ texts.
-        IfOk result (λ v. IsShownOf (options_of options.now) seed (names_of files.now) texts v.items)) }
-    ensures failed { IfErr result IsOfImages }
-{
-    let mut images = Images::new(alloc, inputs, options.hex, seed);
-    let head = head_of(alloc, options.form)?;
-    let lines = if options.hex {
-        show_lines(alloc, options, seed, &mut images)?
-    } else {
-        show_files(alloc, options, seed, files, &mut images)?
-    };
-    let mut shown = head.into_bytes();
-    shown.extend_from_slice(lines.as_slice())?;
-    Ok(shown)
+impl<'a, S: Sources + Drop> Job<'a, S> {
+    /// One line per image, behind the head of a table if there is to be one.
+    pub fn show_inputs(self, files: &[String]) -> Result<Vec<u8>, Failure>
+        ensures shown { IfSome (S.texts self.entry.inputs.sources) (λ texts.
+            IfOk result (λ v. IsShownOf (options_of self.entry.options.now) self.entry.seed (names_of files.now) texts v.items)) }
+        ensures failed { IfErr result IsOfImages }
+    {
+        let (alloc, options, seed) = (self.alloc, self.options, self.seed);
+        let mut images = Images::new(alloc, self.inputs, options.hex, seed);
+        let head = head_of(alloc, options.form)?;
+        let lines = if options.hex {
+            show_lines(alloc, options, seed, &mut images)?
+        } else {
+            show_files(alloc, options, seed, files, &mut images)?
+        };
+        let mut shown = head.into_bytes();
+        shown.extend_from_slice(lines.as_slice())?;
+        Ok(shown)
+    }
 }
 
 /// One line per image, where each line of the files has an image.

@@ -1,21 +1,25 @@
-//! Sums of lines by their keys, and the totals that `sum` prints of them.
+//! Sums of lines by their keys: their images, and the totals that `sum` prints of them.
 ghost use Rattle.std.specs.Prelude.{◌≡◌, ◌≢◌, IfOk, IfErr, IfSome, string_bytes};
 ghost use Rattle.sketch_base.specs.Seed.{seed_hash};
 ghost use Rattle.lines.specs.Lines.{lines_of_all};
 ghost use Rattle.line_sums.specs.Amounts.{AreNumbers};
 ghost use Rattle.line_sums.specs.declared.addends.Amount.{Amount};
-ghost use Rattle.line_sums.specs.declared.addends.Amount.TheVariants.{One};
+ghost use Rattle.line_sums.specs.Images.{written_sums, ReadsSums};
+ghost use Rattle.line_sums.specs.declared.addends.Amount.TheVariants.{One, Number};
+ghost use Rattle.distinct_commands.specs.declared.failure.Failure.TheVariants as failure;
 ghost use Rattle.distinct_arguments.specs.Faults.{options_of};
 ghost use Rattle.distinct_arguments.specs.Settings.{chosen_value};
 ghost use Rattle.distinct_commands.specs.Failures.{IsOfSums, IsOfTotal};
-ghost use Rattle.distinct_commands.specs.Sums.{sums_of, total_text, IsTotalText};
+ghost use Rattle.distinct_commands.specs.Sums.{sums_of, total_text, IsSumsText, IsTotalText};
 
+use crate::commands::in_form;
 use crate::failure::{Failure, out_of_memory};
 use crate::inputs::Inputs;
-use distinct_arguments::{Fault, Form, Options};
+use crate::job::Job;
+use distinct_arguments::{Fault, Form};
 use line_sketches::Sources;
-use line_sums::{Amount, Unsummed, sum_sources};
-use lines::Hashing;
+use line_sums::{Amount, Unsummed, sum_sources, sums_image};
+use lines::{Hashing, Key};
 use std::alloc::{AllocError, Global};
 use totals::{total_json_line, total_line, total_of, total_tsv_head, total_tsv_row};
 use tuple_sketches::CompactTupleSketch;
@@ -40,36 +44,21 @@ fn not_a_number<S: Sources>(alloc: Global, inputs: &Inputs<'_, S>, line: u64) ->
     }
 }
 
-/// The sketch of the lines of all sources, each key with the sum of what its lines add. It fails if memory is refused, a
-/// source can't be read, a sum would be 2^64 or more, or a line adds no number.
-pub fn sums_of<S: Sources + Drop>(
-    alloc: Global,
-    options: &Options<'_>,
-    amount: Amount,
-    seed: u64,
-    inputs: Inputs<'_, S>,
-) -> Result<CompactTupleSketch<u64>, Failure>
+/// The image of a sketch of sums. It fails if memory is refused.
+fn image_of_sums(sums: &CompactTupleSketch<u64>, seed: u64) -> Result<Vec<u8>, Failure>
     requires seeded { seed_hash seed ≢ 0 }
-    ensures sums { IfSome (S.texts inputs.entry.sources) (λ texts. IfOk result (λ s. s ≡ sums_of (options_of options.now) amount seed texts)) }
-    ensures numbers { IfSome (S.texts inputs.entry.sources) (λ texts. IfOk result (λ _. AreNumbers amount (lines_of_all texts))) }
-    ensures failed { IfErr result (IsOfSums amount) }
+    ensures image { IfOk result (λ v. v.items ≡ written_sums sums.now) }
+    ensures reads { sums.now.seed_hash ≡ seed_hash seed → IfOk result (λ v. ReadsSums v.items (seed_hash seed) sums.now) }
+    ensures memory { IfErr result (λ f. f ≡ failure.Memory) }
 {
-    let mut inputs = inputs;
-    let hashing = Hashing {
-        key: options.key(),
-        seed,
-    };
-    match sum_sources(alloc, hashing, amount, options.lg_k, &mut inputs) {
-        Ok(sums) => Ok(sums),
-        Err(Unsummed::Failed(error)) => Err(inputs.unreadable(alloc, error)),
-        Err(Unsummed::PastGreatest(line)) => Err(past_greatest(alloc, &inputs, line)),
-        Err(Unsummed::NotANumber(line)) => Err(not_a_number(alloc, &inputs, line)),
-        Err(Unsummed::Refused(error)) => Err(out_of_memory(error)),
+    match sums_image(sums) {
+        Ok(image) => Ok(image),
+        Err(error) => Err(out_of_memory(error)),
     }
 }
 
 /// What `sum` prints of a sketch of sums.
-fn total_text(
+pub fn total_text(
     alloc: Global,
     form: Form,
     sums: &CompactTupleSketch<u64>,
@@ -89,23 +78,60 @@ fn total_text(
     }
 }
 
-/// What `sum` prints of the lines of all sources. It fails if no field has the lines' numbers, memory is refused, a source
-/// can't be read, a sum would be 2^64 or more, or a line has no number.
-pub fn sum_inputs<S: Sources + Drop>(
-    alloc: Global,
-    options: &Options<'_>,
-    seed: u64,
-    inputs: Inputs<'_, S>,
-) -> Result<Vec<u8>, Failure>
-    requires seeded { seed_hash seed ≢ 0 }
-    ensures printed { IfSome (S.texts inputs.entry.sources) (λ texts.
-        IfOk result (λ v. IsTotalText (chosen_value (options_of options.now)) (options_of options.now) seed texts v.items)) }
-    ensures failed { IfErr result (IsOfTotal (options_of options.now)) }
-{
-    let Some(field) = options.value() else {
-        return Err(Failure::Arguments(Fault::LoneSum));
-    };
-    let sums = sums_of(alloc, options, Amount::Number(field), seed, inputs)?;
-    let text = total_text(alloc, options.form, &sums)?;
-    Ok(text.into_bytes())
+impl<'a, S: Sources + Drop> Job<'a, S> {
+    /// The sketch of the lines of all sources, each key with the sum of what its lines add. It fails if memory is refused, a
+    /// source can't be read, a sum would be 2^64 or more, or a line adds no number.
+    pub fn sums_of(self, amount: Amount) -> Result<CompactTupleSketch<u64>, Failure>
+        requires seeded { seed_hash self.seed ≢ 0 }
+        ensures sums { IfSome (S.texts self.entry.inputs.sources) (λ texts.
+            IfOk result (λ s. s ≡ sums_of (options_of self.entry.options.now) amount self.entry.seed texts)) }
+        ensures numbers { IfSome (S.texts self.entry.inputs.sources) (λ texts. IfOk result (λ _. AreNumbers amount (lines_of_all texts))) }
+        ensures failed { IfErr result (IsOfSums amount) }
+    {
+        let (alloc, options, seed) = (self.alloc, self.options, self.seed);
+        let mut inputs = self.inputs;
+        let hashing = Hashing {
+            key: options.key(),
+            seed,
+        };
+        match sum_sources(alloc, hashing, amount, options.lg_k, &mut inputs) {
+            Ok(sums) => Ok(sums),
+            Err(Unsummed::Failed(error)) => Err(inputs.unreadable(alloc, error)),
+            Err(Unsummed::PastGreatest(line)) => Err(past_greatest(alloc, &inputs, line)),
+            Err(Unsummed::NotANumber(line)) => Err(not_a_number(alloc, &inputs, line)),
+            Err(Unsummed::Refused(error)) => Err(out_of_memory(error)),
+        }
+    }
+
+    /// What `sketch` writes of the numbers in a part of the lines of all sources. It fails if memory is refused, a source
+    /// can't be read, a sum would be 2^64 or more, or a line has no number.
+    pub fn write_sums(self, field: Key) -> Result<Vec<u8>, Failure>
+        requires seeded { seed_hash self.seed ≢ 0 }
+        ensures written { IfSome (S.texts self.entry.inputs.sources) (λ texts.
+            IfOk result (λ v. IsSumsText field (options_of self.entry.options.now) self.entry.seed texts v.items)) }
+        ensures failed { IfErr result (IsOfSums (Number field)) }
+    {
+        let (alloc, options, seed) = (self.alloc, self.options, self.seed);
+        let amount = Amount::Number(field);
+        let sums = self.sums_of(amount)?;
+        let image = image_of_sums(&sums, seed)?;
+        in_form(alloc, options.hex, image)
+    }
+
+    /// What `sum` prints of the lines of all sources. It fails if no field has the lines' numbers, memory is refused, a source
+    /// can't be read, a sum would be 2^64 or more, or a line has no number.
+    pub fn sum_inputs(self) -> Result<Vec<u8>, Failure>
+        requires seeded { seed_hash self.seed ≢ 0 }
+        ensures printed { IfSome (S.texts self.entry.inputs.sources) (λ texts. IfOk result (λ v.
+            IsTotalText (chosen_value (options_of self.entry.options.now)) (options_of self.entry.options.now) self.entry.seed texts v.items)) }
+        ensures failed { IfErr result (IsOfTotal (options_of self.entry.options.now)) }
+    {
+        let (alloc, options) = (self.alloc, self.options);
+        let Some(field) = options.value() else {
+            return Err(Failure::Arguments(Fault::LoneSum));
+        };
+        let sums = self.sums_of(Amount::Number(field))?;
+        let text = total_text(alloc, options.form, &sums)?;
+        Ok(text.into_bytes())
+    }
 }

@@ -8,7 +8,7 @@ ghost use Rattle.distinct_commands.specs.Answers.{unites_groups};
 ghost use Rattle.distinct_commands.specs.Failures.{IsOfImages, ReportsFlawed};
 
 use crate::failure::{Failure, out_of_memory};
-use crate::inputs::Inputs;
+use crate::job::Job;
 use crate::remarks::{Coarser, Console, Remark};
 use distinct_arguments::{Operator, Options};
 use grouped_lines::{LineFlaw, Ununited, unite_groups, united_text};
@@ -48,32 +48,29 @@ fn remark_coarser<C: Console>(retained: u64, lg_k: u8, console: &mut C) {
     }
 }
 
-/// A line for each group of all lines, with the image of the union of its images. It fails if memory is refused, a file
-/// can't be read, or a line isn't that of a group with an image.
-pub fn unite_inputs<S: Sources + Drop, C: Console>(
-    alloc: Global,
-    options: &Options<'_>,
-    seed: u64,
-    inputs: Inputs<'_, S>,
-    console: &mut C,
-) -> Result<Vec<u8>, Failure>
-    requires seeded { seed_hash seed ≢ 0 }
-    ensures united { IfSome (S.texts inputs.entry.sources) (λ texts.
-        IfOk result (λ v. IsUnitedText seed options.now.lg_k (lines_of_all texts) v.items)) }
-    ensures failed { IfErr result IsOfImages }
-{
-    let mut inputs = inputs;
-    match unite_groups(alloc, seed, options.lg_k, &mut inputs) {
-        Ok(groups) => {
-            let mut groups = groups;
-            remark_coarser(groups.most_retained(), options.lg_k, console);
-            match united_text(alloc, &mut groups) {
-                Ok(text) => Ok(text),
-                Err(error) => Err(out_of_memory(error)),
+impl<'a, S: Sources + Drop> Job<'a, S> {
+    /// A line for each group of all lines, with the image of the union of its images. It fails if memory is refused, a file
+    /// can't be read, or a line isn't that of a group with an image.
+    pub fn unite_inputs<C: Console>(self, console: &mut C) -> Result<Vec<u8>, Failure>
+        requires seeded { seed_hash self.seed ≢ 0 }
+        ensures united { IfSome (S.texts self.entry.inputs.sources) (λ texts.
+            IfOk result (λ v. IsUnitedText self.entry.seed self.entry.options.now.lg_k (lines_of_all texts) v.items)) }
+        ensures failed { IfErr result IsOfImages }
+    {
+        let (alloc, options, seed) = (self.alloc, self.options, self.seed);
+        let mut inputs = self.inputs;
+        match unite_groups(alloc, seed, options.lg_k, &mut inputs) {
+            Ok(groups) => {
+                let mut groups = groups;
+                remark_coarser(groups.most_retained(), options.lg_k, console);
+                match united_text(alloc, &mut groups) {
+                    Ok(text) => Ok(text),
+                    Err(error) => Err(out_of_memory(error)),
+                }
             }
+            Err(Ununited::Failed(error)) => Err(inputs.unreadable(alloc, error)),
+            Err(Ununited::Flawed(line, flaw)) => Err(flawed(alloc, inputs.name(), line, flaw)),
+            Err(Ununited::Refused(error)) => Err(out_of_memory(error)),
         }
-        Err(Ununited::Failed(error)) => Err(inputs.unreadable(alloc, error)),
-        Err(Ununited::Flawed(line, flaw)) => Err(flawed(alloc, inputs.name(), line, flaw)),
-        Err(Ununited::Refused(error)) => Err(out_of_memory(error)),
     }
 }

@@ -7,9 +7,8 @@ ghost use Rattle.distinct_commands.specs.Failures.{IsOfSums};
 ghost use Rattle.distinct_commands.specs.Visits.{visits_of, ranges_head, bin_text, bin_up_to, visits_text};
 
 use crate::failure::Failure;
-use crate::inputs::Inputs;
+use crate::job::Job;
 use crate::show::chosen_deviations;
-use crate::sums::sums_of;
 use distinct_arguments::{Form, Options};
 use line_sketches::Sources;
 use line_sums::{Amount, BINS, count_in, greatest_of, greatest_sum, least_of};
@@ -90,20 +89,18 @@ fn visits_text(
     Ok(text)
 }
 
-/// What `visits` prints of the lines of all sources. It fails if memory is refused, a source can't be read, or a line
-/// comes 2^64 times.
-pub fn visit_inputs<S: Sources + Drop>(
-    alloc: Global,
-    options: &Options<'_>,
-    seed: u64,
-    inputs: Inputs<'_, S>,
-) -> Result<Vec<u8>, Failure>
-    requires seeded { seed_hash seed ≢ 0 }
-    ensures printed { IfSome (S.texts inputs.entry.sources) (λ texts.
-        IfOk result (λ v. v.items ≡ visits_text (options_of options.now) (visits_of (options_of options.now) seed texts))) }
-    ensures failed { IfErr result (IsOfSums One) }
-{
-    let visits = sums_of(alloc, options, Amount::One, seed, inputs)?;
-    let text = visits_text(alloc, options, &visits)?;
-    Ok(text.into_bytes())
+impl<'a, S: Sources + Drop> Job<'a, S> {
+    /// What `visits` prints of the lines of all sources. It fails if memory is refused, a source can't be read, or a line
+    /// comes 2^64 times.
+    pub fn visit_inputs(self) -> Result<Vec<u8>, Failure>
+        requires seeded { seed_hash self.seed ≢ 0 }
+        ensures printed { IfSome (S.texts self.entry.inputs.sources) (λ texts. IfOk result (λ v.
+            v.items ≡ visits_text (options_of self.entry.options.now) (visits_of (options_of self.entry.options.now) self.entry.seed texts))) }
+        ensures failed { IfErr result (IsOfSums One) }
+    {
+        let (alloc, options) = (self.alloc, self.options);
+        let visits = self.sums_of(Amount::One)?;
+        let text = visits_text(alloc, options, &visits)?;
+        Ok(text.into_bytes())
+    }
 }

@@ -154,10 +154,10 @@ middle_near S a e x away root =
       | inl lt ↦
           let d : ℕ = e - a in
           let same : e ≡ a + d = omega (arith, lt) in
-          let gap : abs_diff a e ≡ d = omega (arith, lt) in
           let square : (2 * d + S) * (2 * d + S) ≤ x * x = mul-le (2 * d + S) (2 * d + S) x x (omega (arith, away, lt)) (omega (arith, away, lt)) in
           let limited : x * x ≤ S * (S + 4 * (a + d)) = subst (λ (y : ℕ). x * x ≤ S * (S + 4 * y)) same root in
           let near : d * d ≤ S * a = omega (arith, square, limited) in
+          let gap : abs_diff a e ≡ d = omega (arith, lt) in
           rw gap near
       | inr le ↦
           let d : ℕ = a - e in

@@ -10,8 +10,6 @@
 mod fault;
 mod operator;
 mod parsing;
-#[cfg(test)]
-mod tests;
 mod tokens;
 
 pub use fault::{Reason, SyntaxFault};

@@ -42,7 +42,7 @@ module _ (hashing : Hashing) where
         | false ↦ λ e. all
       ]) refl)
 
-  set_retained : (lg_k : ℕ) (lines : List (List ℕ)) → IsRetained hash_key (record { entries = key_set hashing lines; theta = MAX_THETA })
+  pub set_retained : (lg_k : ℕ) (lines : List (List ℕ)) → IsRetained hash_key (record { entries = key_set hashing lines; theta = MAX_THETA })
   set_retained lg_k lines = let s = sample hashing lg_k lines in record {
     ascending = s.ascending;
     nonzero = nonzero-from lines [] tt;

@@ -24,7 +24,7 @@ use Rattle.core_laws.specs.Settings.{settings_refusal}
 use Rattle.lines.specs.Lines.{lines_of}
 use Rattle.lines.specs.declared.key.Hashing.{Hashing}
 use Rattle.line_sketches.specs.Keys.{value_of_lines, sketch_of_value, image_of_text}
-use Rattle.line_sketches.specs.Refusals.{IsNoImage, HasNoImage, IsImageRefusal, IsImagesRefusal}
+use Rattle.line_sketches.specs.Refusals.{IsNoImage, HasNoImage, HasFault, IsImageRefusal, IsImagesRefusal}
 use Rattle.line_sketches.specs.Shards.{AreRead, sketches_of_texts, images_of_texts}
 use Rattle.line_sketches.proofs.Compacts.{images_read}
 use Rattle.line_sketches.proofs.Rereads.{ReadsAgain}
@@ -72,8 +72,8 @@ least_size seed accepted = accepted_by (seed_hash seed == 0) accepted
 
 -- ---- a sketch that is read has the reader's seed
 
-flagged_seed : (bytes : List ℕ) (longs h : ℕ) (s : Compact ℕ) (Spells : List ℕ → ℕ → Type 0) → ReadsFlagged hash_key Spells bytes longs h s → s.seed_hash ≡ h
-flagged_seed bytes longs h s Spells reads = elim reads as (λ s reads. s.seed_hash ≡ h) [
+pub flagged_seed : {X : Type 0} (key : X → ℕ) (bytes : List ℕ) (longs h : ℕ) (s : Compact X) (Spells : List ℕ → X → Type 0) → ReadsFlagged key Spells bytes longs h s → s.seed_hash ≡ h
+flagged_seed key bytes longs h s Spells reads = elim reads as (λ s reads. s.seed_hash ≡ h) [
   | empty_image e ↦ refl
   | single_image xs e reported n has ↦ refl
   | exact_image xs e reported n has ↦ refl
@@ -88,7 +88,7 @@ unflagged_seed bytes p reported h s reads = elim reads as (λ s reads. s.seed_ha
 
 pub read_seed : (bytes : List ℕ) (h : ℕ) (s : Compact ℕ) → Reads bytes h s → s.seed_hash ≡ h
 read_seed bytes h s reads = elim reads.spelled as (λ s spelled. s.seed_hash ≡ h) [
-  | version_3 longs s begins flagged ↦ flagged_seed bytes longs h s SpellsHash flagged
+  | version_3 longs s begins flagged ↦ flagged_seed hash_key bytes longs h s SpellsHash flagged
   | version_2_empty begins ↦ refl
   | version_2_exact s begins unflagged ↦ unflagged_seed bytes _ _ h s unflagged
   | version_2_estimating s begins unflagged ↦ unflagged_seed bytes _ _ h s unflagged
@@ -140,22 +140,22 @@ pub union_memory : {P : Type 0} (old new : Union ℕ P) (shows : Shown) (e : Err
     MatchOption (update_refusal old shows) ((shows.empty ≡ false) × (e ≡ OutOfMemory) × (new ≡ record old { failed = true; content = new.content })) (λ kind. (e ≡ kind) × (new ≡ old)) → e ≡ OutOfMemory
 union_memory old new shows e none refused = memory_of (shows.empty ≡ false) (new ≡ record old { failed = true; content = new.content }) (new ≡ old) (update_refusal old shows) e none refused
 
-pub ready_accepts : {P : Type 0} (seed : ℕ) (u : Union ℕ P) (s : Compact ℕ) (shows : Shown) → IsReady seed u → s.seed_hash ≡ seed_hash seed → shows ≡ shown_of hash_key s → update_refusal u shows ≡ None
-ready_accepts seed u s shows ready same is = ap (update_refusal u) is ∙ accepts_of u.failed s.empty u.seed_hash s.seed_hash ready.sound (ready.seeded ∙ sym same)
+pub ready_accepts : {X P : Type 0} (key : X → ℕ) (seed : ℕ) (u : Union X P) (s : Compact X) (shows : Shown) → IsReady seed u → s.seed_hash ≡ seed_hash seed → shows ≡ shown_of key s → update_refusal u shows ≡ None
+ready_accepts key seed u s shows ready same is = ap (update_refusal u) is ∙ accepts_of u.failed s.empty u.seed_hash s.seed_hash ready.sound (ready.seeded ∙ sym same)
 
 -- ---- images one after another
 
--- some image after those that were read is not an image
-pub faulty_next : {S : Type 0} (seed : ℕ) (remaining : S → Option (List ℕ)) (old now new : Option (List (List ℕ))) (o : Option S) (source : S) → Continues old now (λ taken. Unit {0}) → GivesNext remaining now new o → o ≡ Some source → IfSome (remaining source) (IsNoImage seed) → IfSome old (HasNoImage seed)
-faulty_next seed remaining None now new o source so_far gives is faulty = tt
-faulty_next seed remaining (Some texts) None new o source so_far gives is faulty = absurd so_far
-faulty_next seed remaining (Some texts) (Some left) new o source so_far gives is faulty =
+-- some text after those that were read has a fault
+pub faulty_next : {S : Type 0} (IsFaulty : List ℕ → Type 0) (remaining : S → Option (List ℕ)) (old now new : Option (List (List ℕ))) (o : Option S) (source : S) → Continues old now (λ taken. Unit {0}) → GivesNext remaining now new o → o ≡ Some source → IfSome (remaining source) IsFaulty → IfSome old (HasFault IsFaulty)
+faulty_next IsFaulty remaining None now new o source so_far gives is faulty = tt
+faulty_next IsFaulty remaining (Some texts) None new o source so_far gives is faulty = absurd so_far
+faulty_next IsFaulty remaining (Some texts) (Some left) new o source so_far gives is faulty =
     let first : IsFirst remaining left source new = subst (GivesNext remaining (Some left) new) is gives in record {
       front = so_far.0;
       faulty = first.text;
       back = first.texts_left;
       parted = so_far.1 ∙ ap (λ ts. so_far.0 ++ ts) first.parted;
-      no_image = subst (λ (t : Option (List ℕ)). IfSome t (IsNoImage seed)) first.has faulty;
+      is_faulty = subst (λ (t : Option (List ℕ)). IfSome t IsFaulty) first.has faulty;
     }
 
 pub images_refused : (seed : ℕ) (image : Option (List ℕ)) (images : Option (List (List ℕ))) (u : Unread) → (IfSome image (IsNoImage seed) → IfSome images (HasNoImage seed)) → IsImageRefusal seed image u → IsImagesRefusal seed images u

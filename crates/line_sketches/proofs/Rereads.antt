@@ -43,7 +43,7 @@ module _ (hashing : Hashing) where
         ∙ ap (λ vs. value_of_lines hashing lg_k (lines_of t) ∷ vs) (values_read bs ss ts written.1 read.1)
 
 -- what is written is read
-seed_hash-small : (seed : ℕ) → seed_hash seed < 2 ^ 16
+pub seed_hash-small : (seed : ℕ) → seed_hash seed < 2 ^ 16
 unfolding seed_hash
 seed_hash-small seed = omega arith
 

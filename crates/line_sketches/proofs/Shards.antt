@@ -119,7 +119,7 @@ module _ (hashing : Hashing) where
   from-append [] ys w = refl
   from-append (x ∷ xs) ys w = from-append xs ys (whole_step hash_key hash_step_of (Add (line_hash hashing x) (tt {0})) w)
 
-  sets-joined : (parts : List (List (List ℕ))) (w : List ℕ) → IsAscending hash_key w → joined_all hash_key first_hash w (map (key_set hashing) parts) ≡ whole_from hash_key hash_step_of (line_steps hashing (all_lines parts)) w
+  pub sets-joined : (parts : List (List (List ℕ))) (w : List ℕ) → IsAscending hash_key w → joined_all hash_key first_hash w (map (key_set hashing) parts) ≡ whole_from hash_key hash_step_of (line_steps hashing (all_lines parts)) w
   sets-joined [] w w_up = refl
   sets-joined (part ∷ parts) w w_up =
       sets-joined parts (joined hash_key first_hash w (key_set hashing part)) (up (key_set hashing part) w w_up)
@@ -139,7 +139,7 @@ module _ (hashing : Hashing) where
     pub sample : (lines : List (List ℕ)) → IsSample hash_key (value lines) (key_set hashing lines)
     sample lines = rw (value_is_leaf hashing lg_k lines, ← trim-whole (line_steps hashing lines) []) (leaf-sample hash_key hash_step_of hash_keeps (2 ^ lg_k) MAX_THETA (line_steps hashing lines ++ Trim ∷ []) (omega arith))
 
-    lawful : (lines : List (List ℕ)) → IsLawfulValue hash_key (2 ^ lg_k) MAX_THETA (value lines) (key_set hashing lines)
+    pub lawful : (lines : List (List ℕ)) → IsLawfulValue hash_key (2 ^ lg_k) MAX_THETA (value lines) (key_set hashing lines)
     lawful lines = rw (value_is_leaf hashing lg_k lines, ← trim-whole (line_steps hashing lines) []) (leaf-lawful hash_key hash_step_of hash_keeps (2 ^ lg_k) MAX_THETA (line_steps hashing lines ++ Trim ∷ []) (omega arith))
 
     samples : (parts : List (List (List ℕ))) → AreSamples hash_key (map value parts) (map (key_set hashing) parts)
@@ -182,7 +182,7 @@ module _ (hashing : Hashing) where
 
   -- ---- texts of which each is cut into lines by itself
 
-  lines_apart : (texts : List (List ℕ)) → all_lines (map lines_of texts) ≡ lines_of_all texts
+  pub lines_apart : (texts : List (List ℕ)) → all_lines (map lines_of texts) ≡ lines_of_all texts
   lines_apart [] = refl
   lines_apart (text ∷ texts) = ap (λ ls. lines_of text ++ ls) (lines_apart texts)
 

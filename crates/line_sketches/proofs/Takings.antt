@@ -1,8 +1,7 @@
 -- Pieces of a text, inserted one after another.
-use Rattle.std.proofs.Common.{◌≡◌, ℕ, suc, ◌+◌, ◌<◌, ◌^◌, Bool, true, false, List, [], ◌∷◌, ◌++◌, length, map, take, set, refl, sym, subst, ap, ◌∙◌, arith, append_assoc, append-nil}
+use Rattle.std.proofs.Common.{◌≡◌, ℕ, suc, ◌^◌, Bool, true, false, List, [], ◌∷◌, ◌++◌, length, map, refl, sym, ap, ◌∙◌, arith, append_assoc, append-nil}
 use Rattle.std.specs.Prelude.{◌&&◌, ◌==◌}
 use Rattle.std.proofs.lemmas.Bool.Decides.{nat_tests}
-use Rattle.std.proofs.lemmas.List.{map-append, take_more_set}
 use Rattle.core_laws.specs.Entries.{hash_key, hash_step}
 use Rattle.core_table.specs.HashTable.{MapTable, after_hashes}
 use Rattle.core_laws.specs.Insertion.{after_upsert}
@@ -10,7 +9,8 @@ use Rattle.core_state.specs.Updatable.{Updatable}
 use Rattle.lines.specs.Lines.{lines_of, lines_after, Lacks}
 use Rattle.lines.specs.Keys.{line_hash}
 use Rattle.line_sketches.specs.Keys.{LineState, state_of, with_line, with_lines}
-use Rattle.line_sketches.specs.Taking.{Takes, Leaves, AreHashesOfLines}
+use Rattle.lines.specs.Hashed.{AreHashesOfLines}
+use Rattle.line_sketches.specs.Taking.{Takes, Leaves}
 use Rattle.lines.proofs.Texts.{lines_after-line, lines_after-lacking, lines_whole}
 use Rattle.lines.specs.declared.key.Hashing.{Hashing}
 
@@ -23,24 +23,6 @@ and_false true n = grind (arith, nat_tests)
 and_false false n = refl
 
 module _ (hashing : Hashing) where
-  -- one more line is hashed
-  pub hashed_more : (text hashes rest line others : List ℕ) (hash : ℕ) → AreHashesOfLines hashing text hashes rest → rest ≡ line ++ 10 ∷ others → Lacks 10 line → hash ≡ line_hash hashing line → AreHashesOfLines hashing text (hashes ++ hash ∷ []) others
-  hashed_more text hashes rest line others hash before is lacks hashed = (
-    before.0 ++ line ∷ [],
-    ap (λ hs. hs ++ hash ∷ []) before.1 ∙ ap (λ (h : ℕ). map (line_hash hashing) before.0 ++ h ∷ []) hashed ∙ sym (map-append (line_hash hashing) before.0 (line ∷ [])),
-    λ more.
-        before.2 more ∙ ap (λ bs. before.0 ++ lines_after [] (bs ++ more)) is
-        ∙ ap (λ bs. before.0 ++ lines_after [] bs) (append_assoc line (10 ∷ others) more)
-        ∙ ap (λ ls. before.0 ++ ls) (lines_after-line [] line (others ++ more) lacks)
-        ∙ sym (append_assoc before.0 (line ∷ []) (lines_after [] (others ++ more))),
-  )
-
-  pub hashed_next : (text hashes rest line others : List ℕ) (count index hash : ℕ) → count ≡ index → index < length hashes → AreHashesOfLines hashing text (take count hashes) rest → rest ≡ line ++ 10 ∷ others → Lacks 10 line → hash ≡ line_hash hashing line →
-      AreHashesOfLines hashing text (take (count + 1) (set hashes index hash)) others
-  hashed_next text hashes rest line others count index hash same lt before is lacks hashed =
-      let now : take (count + 1) (set hashes index hash) ≡ take count hashes ++ hash ∷ [] = ap (λ (n : ℕ). take (n + 1) (set hashes index hash)) same ∙ take_more_set hashes index hash lt ∙ ap (λ (n : ℕ). take n hashes ++ hash ∷ []) (sym same) in
-      subst (λ hs. AreHashesOfLines hashing text hs others) (sym now) (hashed_more text (take count hashes) rest line others hash before is lacks hashed)
-
   -- one line is inserted
   pub state_after_line : (s t : Updatable ℕ) (hash : ℕ) (line : List ℕ) → hash ≡ line_hash hashing line → t.map ≡ record s.map { kept = after_upsert hash_key (2 ^ s.map.lg_nom) hash (hash_step hash) s.map.kept } → t.empty ≡ false →
       state_of t ≡ with_line hashing (state_of s) line

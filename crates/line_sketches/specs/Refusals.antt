@@ -27,13 +27,17 @@ IsLasting (Failed error) = error_kind error ≢ Interrupted
 abbrev pub IsNoImage : (seed : ℕ) → List ℕ → Type 0
 IsNoImage seed bytes = IsReadable bytes (seed_hash seed) → ⊥
 
--- some of these are not an image
-pub record HasNoImage (seed : ℕ) (texts : List (List ℕ)) : Type 0 where
+-- some of these texts have a fault
+pub record HasFault (IsFaulty : List ℕ → Type 0) (texts : List (List ℕ)) : Type 0 where
   pub front : List (List ℕ)
   pub faulty : List ℕ
   pub back : List (List ℕ)
   pub parted : texts ≡ front ++ faulty ∷ back
-  pub no_image : IsNoImage seed faulty
+  pub is_faulty : IsFaulty faulty
+
+-- some of these are not an image
+abbrev pub HasNoImage : (seed : ℕ) → (texts : List (List ℕ)) → Type 0
+HasNoImage seed texts = HasFault (IsNoImage seed) texts
 
 -- one image is not read: memory ran out, or it is not an image, or its source failed
 abbrev pub IsImageRefusal : (seed : ℕ) → Option (List ℕ) → Unread → Type 0

@@ -1,6 +1,5 @@
 -- Inserting a text that is read in pieces.
-use Rattle.std.specs.Prelude.{ℕ, ◌≡◌, List, [], ◌++◌, map}
-use Rattle.lines.specs.Keys.{line_hash}
+use Rattle.std.specs.Prelude.{ℕ, ◌≡◌, List, [], ◌++◌}
 use Rattle.lines.specs.Lines.{lines_after}
 use Rattle.lines.specs.declared.key.Hashing.{Hashing}
 use Rattle.line_sketches.specs.Keys.{LineState, with_lines}
@@ -12,7 +11,3 @@ Takes hashing old front piece new left = (more : List ℕ) → with_lines hashin
 -- The same, if the rest of the piece is not inserted yet.
 abbrev pub Leaves : Hashing → (old : LineState) (piece : List ℕ) (new : LineState) (left : List ℕ) → Type 0
 Leaves hashing old piece new left = (more : List ℕ) → with_lines hashing old (lines_after [] (piece ++ more)) ≡ with_lines hashing new (lines_after [] (left ++ more))
-
--- Some first lines of a text have these hashes, and `rest` follows them: with any continuation, the text's lines are these and then those of the rest and the continuation.
-abbrev pub AreHashesOfLines : Hashing → (text hashes rest : List ℕ) → Type 0
-AreHashesOfLines hashing text hashes rest = (lines : List (List ℕ)) × (hashes ≡ map (line_hash hashing) lines) × ((more : List ℕ) → lines_after [] (text ++ more) ≡ lines ++ lines_after [] (rest ++ more))

@@ -13,7 +13,7 @@ use Rattle.line_sketches.specs.Keys.{sketch_of_value, image_of_lines, HaveSameLi
 use Rattle.line_sketches.specs.Shards.{united, values_of_sketches, AreRead, images_of_texts}
 
 -- a union is ready for images: it hasn't failed, and its sketches are of this seed
-pub record IsReady {P : Type 0} (seed : ℕ) (u : Union ℕ P) : Type 0 where
+pub record IsReady {X P : Type 0} (seed : ℕ) (u : Union X P) : Type 0 where
   pub sound : u.failed ≡ false
   pub seeded : u.seed_hash ≡ seed_hash seed
 

@@ -7,16 +7,17 @@ use crate::hex::are_digits;
 use core_images::{count_at, seed_hash_at, theta_at};
 use core_laws::MAX_THETA;
 
-/// Why bytes are not the image of one theta sketch under a seed: the first reason that applies, in this order.
+/// Why bytes are not the image of one theta sketch, or of one sketch of sums, under a seed: the first reason that applies, in
+/// this order.
 #[derive(Clone, Copy, Debug, PartialEq, Eq)]
 pub enum Flaw {
     /// They begin with 16 hexadecimal digits, of either case.
     Hexadecimal,
     /// There are fewer than eight bytes.
     Short,
-    /// The image is of this family, and not of 3, that of theta sketches.
+    /// The image is of this family, and not of 3, that of theta sketches, or 9, that of tuple sketches.
     Family(u8),
-    /// The image is of this version, and not of 1, 2 or 3.
+    /// The image is of this version, and not of 1, 2 or 3; for sums, not of 1 or 3.
     Version(u8),
     /// The image is flagged as one of numbers with the highest byte first. Readers ignore this flag.
     BigEndian,
@@ -32,7 +33,7 @@ pub enum Flaw {
 }
 
 /// Whether there are 1 to 3 preamble longs.
-fn has_longs(bytes: &[u8]) -> bool
+pub(crate) fn has_longs(bytes: &[u8]) -> bool
     requires { 8 ≤ length bytes.now }
     ensures { result ≡ has_longs bytes.now }
 {
@@ -162,7 +163,7 @@ fn checks_seed(bytes: &[u8]) -> bool
 }
 
 /// The flaw of so many bytes, if their image has this length.
-fn flaw_by_length(whole: Option<u64>, present: u64) -> Flaw
+pub(crate) fn flaw_by_length(whole: Option<u64>, present: u64) -> Flaw
     ensures { result ≡ flaw_by_length whole present }
 {
     match whole {

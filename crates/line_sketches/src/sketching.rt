@@ -1,5 +1,5 @@
 //! Sketches of the lines of a reader.
-ghost use Rattle.std.specs.Prelude.{◌≡◌, ◌+◌, ◌<◌, ◌≤◌, ℕ, List, [], length, take, IfOk, IfErr, OnOk, IfSome, None, true};
+ghost use Rattle.std.specs.Prelude.{◌≡◌, ◌<◌, ℕ, List, [], length, IfOk, IfErr, OnOk, IfSome, None, true};
 ghost use Rattle.sketch_base.specs.Seed.{seed_hash};
 ghost use Rattle.core_laws.specs.Refusal.{Refuses};
 ghost use Rattle.core_laws.specs.Settings.{settings_refusal};
@@ -8,10 +8,10 @@ ghost use Rattle.lines.specs.Lines.{lines_of, lines_after, Lacks};
 ghost use Rattle.lines.specs.Open.{IsOpen};
 ghost use Rattle.lines.specs.declared.key.Hashing.{Hashing};
 ghost use Rattle.line_sketches.specs.Keys.{state_of, new_state, with_lines, value_of_lines, sketch_of_value};
-ghost use Rattle.line_sketches.specs.Taking.{Takes, Leaves, AreHashesOfLines};
+ghost use Rattle.line_sketches.specs.Taking.{Takes, Leaves};
 ghost use Rattle.line_sketches.specs.Refusals.{RefusesRead, IsLasting};
 
-use lines::{Hashing, OpenLine, cut_line, line_hash};
+use lines::{Hashing, OpenLine, cut_line, hash_lines};
 use sketch_base::Error;
 use std::alloc::{AllocError, Allocator};
 use std::io;
@@ -75,27 +75,6 @@ pub fn new_sketch<A: Allocator + Drop>(
 
 /// How many lines are hashed before their hashes are inserted together.
 const LINES_AT_ONCE: usize = 256;
-
-/// Hashes the first lines of a text that end in an LF, in order, into `hashes`: all of them, or as many as there is
-/// room for. Returns their number and the text after the last of them.
-fn hash_lines<'a>(hashing: Hashing, text: &'a [u8], hashes: &mut [u64]) -> (usize, &'a [u8])
-    ensures limited { result.0 ≤ length hashes.old }
-    ensures lines { AreHashesOfLines hashing text.now (take result.0 hashes.new) result.1.now }
-    ensures all { result.0 < length hashes.old → Lacks 10 result.1.now }
-    ensures shorter { length result.1.now + result.0 ≤ length text.now }
-{
-    let mut rest = text;
-    let mut count = 0usize;
-    'hash_each: for hash in hashes.iter_mut() {
-        let Some((line, others)) = cut_line(rest) else {
-            return (count, rest);
-        };
-        *hash = line_hash(hashing, line);
-        rest = others;
-        count += 1;
-    }
-    (count, rest)
-}
 
 /// Inserts the lines of a text that end in an LF. Returns the text after the last of them, and their number.
 fn take_lines<'a, A: Allocator + Clone>(

@@ -65,7 +65,7 @@ module _ (hashing : Hashing) where
   stays [] w q there = there
   stays (line ∷ lines) w q there = stays lines (with_hash line w) q (stays_put line w q there)
 
-  is_found : (lines : List (List ℕ)) (line : List ℕ) → IsAmong line lines → is_carried (line_hash hashing line) ≡ true → (w : List ℕ) → entry_at hash_key (after lines w) (line_hash hashing line) ≡ Some (line_hash hashing line)
+  pub is_found : (lines : List (List ℕ)) (line : List ℕ) → IsAmong line lines → is_carried (line_hash hashing line) ≡ true → (w : List ℕ) → entry_at hash_key (after lines w) (line_hash hashing line) ≡ Some (line_hash hashing line)
   is_found [] line among carried w = absurd among
   is_found (other ∷ lines) line among carried w =
       elim among [

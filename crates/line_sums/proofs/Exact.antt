@@ -39,7 +39,7 @@ use Rattle.plan_values.specs.Family.{tuple_folds}
 use Rattle.plan_values.specs.WholeStreams.{whole_in}
 
 -- what holds of each entry that is found at its key holds of all
-each_found : {X : Type 0} (key : X → ℕ) (P : X → Type 0) (xs : List X) → IsAscending key xs → ((q : ℕ) (x : X) → entry_at key xs q ≡ Some x → P x) → AllByRecursion P xs
+pub each_found : {X : Type 0} (key : X → ℕ) (P : X → Type 0) (xs : List X) → IsAscending key xs → ((q : ℕ) (x : X) → entry_at key xs q ≡ Some x → P x) → AllByRecursion P xs
 each_found key P [] up found = tt
 each_found {X} key P (x ∷ xs) up found =
     let later : (q : ℕ) (y : X) → entry_at key xs q ≡ Some y → entry_at key (x ∷ xs) q ≡ Some y = λ q y e.
@@ -54,7 +54,7 @@ each_found {X} key P (x ∷ xs) up found =
     (found (key x) x (entry_at_head key x xs (key x) refl), each_found key P xs (ascending-tail key x xs up) (λ q y e. found q y (later q y e)))
 
 -- an entry whose sum is the one of its hash
-abbrev HasNumber : (ℕ → ℕ) → Fold (TupleEntry ℕ) → Type 0
+abbrev pub HasNumber : (ℕ → ℕ) → Fold (TupleEntry ℕ) → Type 0
 HasNumber number_of (Value e) = e.summary ≡ number_of e.hash
 HasNumber number_of (Refused h) = ⊤
 
@@ -103,20 +103,25 @@ module _ (hashing : Hashing) (amount : List ℕ → ℕ) (lines : List (List ℕ
         | Refused h ↦ λ found. tt
       ])
 
-  -- what is retained of the whole map without a mark, by its keys
-  retained_exact : (k : ℕ) (v : Retained (TupleEntry ℕ)) → unmarked v ≡ cut (fold_key tuple_key) k whole_map MAX_THETA →
+  -- what is retained without a mark of a map that has the keys of lines, each with the sum of what its lines add, if it has no mark
+  pub retained_by : (folds : List (Fold (TupleEntry ℕ))) → map (fold_key tuple_key) folds ≡ key_set hashing lines → AllByRecursion (HasNumber (sum_at hashing amount lines)) folds → (k : ℕ) (v : Retained (TupleEntry ℕ)) → unmarked v ≡ cut (fold_key tuple_key) k folds MAX_THETA →
       v ≡ record { entries = map (λ h. tuple_of h (sum_at hashing amount lines h)) (kmin k (key_set hashing lines) MAX_THETA).entries; theta = (kmin k (key_set hashing lines) MAX_THETA).theta }
-  retained_exact k v is =
-      let keys : cut hash_key k (key_set hashing lines) MAX_THETA ≡ record { entries = map (fold_key tuple_key) (cut (fold_key tuple_key) k whole_map MAX_THETA).entries; theta = (cut (fold_key tuple_key) k whole_map MAX_THETA).theta } =
-      ap (λ (hs : List ℕ). cut hash_key k hs MAX_THETA) (sym keys_whole) ∙ cut-map (fold_key tuple_key) (fold_key tuple_key) hash_key (λ f. refl) k whole_map MAX_THETA in
+  retained_by folds keys_are each k v is =
+      let keys : cut hash_key k (key_set hashing lines) MAX_THETA ≡ record { entries = map (fold_key tuple_key) (cut (fold_key tuple_key) k folds MAX_THETA).entries; theta = (cut (fold_key tuple_key) k folds MAX_THETA).theta } =
+      ap (λ (hs : List ℕ). cut hash_key k hs MAX_THETA) (sym keys_are) ∙ cut-map (fold_key tuple_key) (fold_key tuple_key) hash_key (λ f. refl) k folds MAX_THETA in
       let kept : map tuple_key v.entries ≡ (kmin k (key_set hashing lines) MAX_THETA).entries =
       sym (keys_unmarked v.entries) ∙ ap (λ (r : Retained (Fold (TupleEntry ℕ))). map (fold_key tuple_key) r.entries) is ∙ ap (λ (r : Retained ℕ). r.entries) (sym keys) in
       let all : AllByRecursion (HasNumber (sum_at hashing amount lines)) (map Value v.entries) =
-      subst (λ (r : Retained (Fold (TupleEntry ℕ))). AllByRecursion (HasNumber (sum_at hashing amount lines)) r.entries) (sym is) (cut_each (fold_key tuple_key) (HasNumber (sum_at hashing amount lines)) k whole_map MAX_THETA each_number) in
+      subst (λ (r : Retained (Fold (TupleEntry ℕ))). AllByRecursion (HasNumber (sum_at hashing amount lines)) r.entries) (sym is) (cut_each (fold_key tuple_key) (HasNumber (sum_at hashing amount lines)) k folds MAX_THETA each) in
       let entries : v.entries ≡ map (λ h. tuple_of h (sum_at hashing amount lines h)) (kmin k (key_set hashing lines) MAX_THETA).entries =
       by_keys (sum_at hashing amount lines) v.entries all ∙ ap (map (λ h. tuple_of h (sum_at hashing amount lines h))) kept in
       let theta : v.theta ≡ (kmin k (key_set hashing lines) MAX_THETA).theta = ap (λ (r : Retained (Fold (TupleEntry ℕ))). r.theta) is ∙ ap (λ (r : Retained ℕ). r.theta) (sym keys) in
       λ i. record { entries = entries i; theta = theta i }
+
+  -- what is retained of the whole map without a mark, by its keys
+  retained_exact : (k : ℕ) (v : Retained (TupleEntry ℕ)) → unmarked v ≡ cut (fold_key tuple_key) k whole_map MAX_THETA →
+      v ≡ record { entries = map (λ h. tuple_of h (sum_at hashing amount lines h)) (kmin k (key_set hashing lines) MAX_THETA).entries; theta = (kmin k (key_set hashing lines) MAX_THETA).theta }
+  retained_exact k v is = retained_by whole_map keys_whole each_number k v is
 
 stays_updated : (hashing : Hashing) (amount : List ℕ → ℕ) (lines : List (List ℕ)) → is_updated (sum_steps hashing amount lines) true ≡ true
 stays_updated hashing amount [] = refl
@@ -125,7 +130,7 @@ stays_updated hashing amount (line ∷ lines) = stays_updated hashing amount lin
 pub not_none : {T : Type 0} (x : T) (xs : List T) → (length (x ∷ xs) == 0) ≡ false
 not_none x xs = grind (arith, nat_tests)
 
-injected : {X : Type 0} (u v : Retained X) → NonEmpty u ≡ NonEmpty v → u ≡ v
+pub injected : {X : Type 0} (u v : Retained X) → NonEmpty u ≡ NonEmpty v → u ≡ v
 injected u v same = cc
 
 module _ (hashing : Hashing) (amount : List ℕ → ℕ) (lg_k : ℕ) where

@@ -4,3 +4,7 @@ pub mod Exact
 pub mod Adding
 pub mod Pieces
 pub mod Below
+pub mod Joined
+pub mod UnitedSums
+pub mod RefusedSums
+pub mod ReadOperands

@@ -3,3 +3,6 @@ pub mod Sums
 pub mod Bins
 pub mod Reading
 pub mod Refusals
+pub mod Images
+pub mod Unions
+pub mod Operands

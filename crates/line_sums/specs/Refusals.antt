@@ -1,7 +1,8 @@
 -- Why lines are not summed.
-use Rattle.std.specs.Prelude.{◌≡◌, ◌≢◌, ◌⊎◌, Option, Some, None, Result, MatchResult}
+use Rattle.std.specs.Prelude.{ℕ, ◌≡◌, ◌≢◌, ◌⊎◌, ◌+◌, ◌-◌, ◌^◌, min, ⊤, List, Option, Some, None, Result, MatchResult}
 use Rattle.sketch_base.specs.declared.error.ErrorKind.{ErrorKind}
 use Rattle.sketch_base.specs.declared.error.ErrorKind.TheVariants.{OutOfMemory, Policy}
+use Rattle.line_sums.specs.Amounts.{amount_in}
 use Rattle.line_sums.specs.declared.addends.Amount.{Amount}
 use Rattle.line_sums.specs.declared.addends.Amount.TheVariants.{One}
 use Rattle.line_sums.specs.declared.summing.Unsummed.{Unsummed}
@@ -17,6 +18,11 @@ IsUnsummed amount refusal (Refused kind) = (refusal ≡ Some kind) ⊎ (kind ≡
 IsUnsummed amount refusal (Failed error) = refusal ≡ None
 IsUnsummed amount refusal (PastGreatest line) = refusal ≡ None
 IsUnsummed amount refusal (NotANumber line) = (refusal ≡ None) × (amount ≢ One)
+
+-- a line is reported to have no number only if it has none, and its number is that behind this count of lines
+abbrev pub LacksNumber : Amount → (line : List ℕ) → (count : ℕ) → Unsummed → Type 0
+LacksNumber amount line count (NotANumber number) = (amount_in amount line ≡ None) × (number ≡ min (count + 1) (2 ^ 64 - 1))
+LacksNumber amount line count unsummed = ⊤
 
 -- an Ok comes only if nothing is refused
 abbrev pub RefusesSums : {T : Type 0} → Amount → Result T Unsummed → Option ErrorKind → Type 0

@@ -4,6 +4,9 @@
 //! A sketch of sums retains the same hashes as the theta sketch of the same lines, and beside each the sum of what all lines
 //! of that hash add: its number of lines, if each adds one. No line of a retained hash is missed, however large the text.
 //!
+//! A sketch of sums is written as an image, and images of sums are united: `unite_sums` unites the images of texts that were
+//! sketched apart to the image of the sums of all their lines, byte for byte.
+//!
 //! How often the lines of texts come, and how many of those retained come five to eight times:
 //!
 //! ```
@@ -16,11 +19,17 @@
 mod addends;
 mod bins;
 mod digits;
+mod images;
 pub mod laws;
+mod operands;
 mod sources;
 mod summing;
+mod uniting;
 
 pub use addends::Amount;
 pub use bins::{BINS, count_in, greatest_of, greatest_sum, least_of};
+pub use images::{read_sums, sums_image};
+pub use operands::all_sums;
 pub use sources::sum_sources;
 pub use summing::{SumSketch, Unsummed, add_lines, finished, new_sketch};
+pub use uniting::unite_sums;

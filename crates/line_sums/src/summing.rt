@@ -9,7 +9,7 @@ ghost use Rattle.lines.specs.declared.key.Hashing.{Hashing};
 ghost use Rattle.line_sums.specs.Amounts.{amount_in, IsOpenAddend};
 ghost use Rattle.line_sums.specs.Sums.{HasAdded, HasSummed, sketch_of_sums};
 ghost use Rattle.line_sums.specs.Reading.{HasTaken};
-ghost use Rattle.line_sums.specs.Refusals.{IsAddRefusal, IsUnsummed, RefusesSums};
+ghost use Rattle.line_sums.specs.Refusals.{IsAddRefusal, IsUnsummed, LacksNumber, RefusesSums};
 ghost use Rattle.line_sums.specs.declared.addends.Amount.{Amount};
 
 use crate::addends::{Amount, OpenAddend};
@@ -90,7 +90,8 @@ fn add_value<A: Allocator + Clone>(
 /// Why the line behind `count` others of its source was not added.
 fn not_added(error: Error, count: u64) -> Unsummed
     requires { IsAddRefusal error }
-    ensures { (amount : Amount) → IsUnsummed amount None result }
+    ensures unsummed { (amount : Amount) → IsUnsummed amount None result }
+    ensures number { (amount : Amount) (line : List ℕ) → LacksNumber amount line count result }
 {
     if error.kind() == ErrorKind::Policy {
         Unsummed::PastGreatest(count.saturating_add(1))
@@ -99,7 +100,7 @@ fn not_added(error: Error, count: u64) -> Unsummed
     }
 }
 
-/// Adds what a line behind `count` others of its source adds.
+/// Adds what a line behind `count` others of its source adds. It is reported to have no number only if it has none.
 fn add_line<A: Allocator + Clone>(
     sketch: &mut SumSketch<A>,
     amount: Amount,
@@ -110,6 +111,9 @@ fn add_line<A: Allocator + Clone>(
         → IsOpenAddend hashing amount line last.now
         → HasAdded hashing amount lg_k lines sketch.old.state
         → OnOk result (HasAdded hashing amount lg_k (lines ++ line ∷ []) sketch.new.state) }
+    ensures number { (hashing : Hashing) (line : List ℕ)
+        → IsOpenAddend hashing amount line last.now
+        → IfErr result (LacksNumber amount line count) }
     ensures refused { RefusesSums amount result None }
 {
     let Some(value) = last.value(amount) else {

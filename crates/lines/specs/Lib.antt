@@ -1,3 +1,4 @@
 pub mod Lines
 pub mod Keys
 pub mod Open
+pub mod Hashed

@@ -8,7 +8,7 @@ ghost use Rattle.lines.specs.declared.cut.TheConstants.{LANES};
 use std::simd::prelude::*;
 
 /// How many bytes are compared at once.
-const LANES: usize = 32;
+pub(crate) const LANES: usize = 32;
 
 /// Bit k is 1 if byte k of the next `LANES` bytes, from 0, is `byte`.
 #[inline(always)]
@@ -23,7 +23,7 @@ fn marks_of(text: &[u8], from: usize, byte: u8) -> u64
 
 /// How many of the next `LANES` bytes come before the first that is `byte`; `LANES` if none is.
 #[inline(always)]
-fn first_of_lanes(text: &[u8], from: usize, byte: u8) -> usize
+pub(crate) fn first_of_lanes(text: &[u8], from: usize, byte: u8) -> usize
     requires { from + LANES ≤ length text.now }
     ensures { result ≡ prefix_len (λ x. not (x == byte)) (chunk from LANES text.now) }
 {

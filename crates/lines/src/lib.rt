@@ -5,10 +5,12 @@
 #![tactic(auto)]
 
 mod cut;
+mod hashed_lines;
 mod key;
 mod open_key;
 mod open_line;
 
 pub use cut::{cut_at, cut_line};
+pub use hashed_lines::hash_lines;
 pub use key::{Hashing, Key};
 pub use open_line::{OpenLine, line_hash};

@@ -3,7 +3,7 @@ use Rattle.std.specs.Prelude.{ℕ, ◌≡◌, true, false, map}
 use Rattle.core_compact.specs.CompactState.{Compact, compact_value, ordered_sketch}
 use Rattle.core_laws.specs.Cuts.{Retained}
 use Rattle.core_laws.specs.Folds.{Fold, unmarked_value}
-use Rattle.core_laws.specs.Values.{Sketch, Empty, NonEmpty}
+use Rattle.core_laws.specs.Values.{Sketch}
 
 -- the ordered sketch with this value, which has no mark
 abbrev pub IsSketchOf : {X : Type 0} → (X → ℕ) → Sketch (Fold X) → (seed_hash : ℕ) → Compact X → Type 0

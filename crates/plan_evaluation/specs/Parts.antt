@@ -1,8 +1,9 @@
 -- The result of a node of a plan, in any family: a leaf that an operator sees as it is, or a compact sketch.
-use Rattle.std.specs.Prelude.{ℕ, ◌≡◌, ◌||◌, ◌^◌, Bool, true, false, [], ◌∷◌, Option, Some, None}
+use Rattle.std.specs.Prelude.{ℕ, ◌≡◌, ◌||◌, ◌^◌, Bool, true, false, List, [], ◌∷◌, Option, Some, None}
 use Rattle.core_compact.specs.CompactState.{Compact as State, IsAnswer, compact_value}
 use Rattle.core_laws.specs.Folds.{Fold, unmarked_value}
 use Rattle.core_laws.specs.Operators.{unite}
+use Rattle.core_laws.specs.Shown.{Shown, shown_value}
 use Rattle.core_laws.specs.Values.{Sketch, Empty, NonEmpty}
 use Rattle.core_state.specs.Updatable.{Updatable, sketch_value}
 use Rattle.core_operators.specs.Union.{Union, union_value}
@@ -19,9 +20,17 @@ pub record Part (X : Type 0) : Type 0 where
   pub seed_hash : ℕ
   pub ordered : Bool
 
+-- the value of a sketch that takes updates, in folds
+abbrev pub sketch_in_folds : {X : Type 0} → Updatable X → Sketch (Fold X)
+sketch_in_folds s = unmarked_value (sketch_value s)
+
+-- the value that a view shows, in folds
+abbrev pub shown_in_folds : {X : Type 0} → (X → ℕ) → Shown → List X → Sketch (Fold X)
+shown_in_folds key shown listing = unmarked_value (shown_value key shown listing)
+
 -- the result of a node as an operator sees it, from the state of its sketch or its compact sketch
 abbrev pub part_result : {X S C : Type 0} → (X → ℕ) → (S → Updatable X) → (C → State X) → Evaluated S C → Part X
-part_result key state listed (Mutable sketch) = record { value = unmarked_value (sketch_value (state sketch)); seed_hash = (state sketch).map.seed_hash; ordered = false }
+part_result key state listed (Mutable sketch) = record { value = sketch_in_folds (state sketch); seed_hash = (state sketch).map.seed_hash; ordered = false }
 part_result key state listed (Compact sketch) = record { value = unmarked_value (compact_value key (listed sketch)); seed_hash = (listed sketch).seed_hash; ordered = (listed sketch).ordered }
 
 -- a compact sketch is the answer with this value in folds
@@ -31,7 +40,7 @@ IsFoldAnswer key v seed_hash asked s = (unmarked_value (compact_value key s) ≡
 -- a node's result has this value: a leaf's sketch as it is, and any other node's answer, ordered if that was requested
 -- (`asked`) or if the node orders it (`own`)
 abbrev pub HasValue : {X S C : Type 0} → (X → ℕ) → (S → Updatable X) → (C → State X) → Evaluated S C → (leaf : Bool) → Sketch (Fold X) → (seed_hash : ℕ) → (asked own : Bool) → Type 0
-HasValue key state listed (Mutable sketch) leaf v seed_hash asked own = (leaf ≡ true) × (own ≡ false) × (unmarked_value (sketch_value (state sketch)) ≡ v) × ((state sketch).map.seed_hash ≡ seed_hash)
+HasValue key state listed (Mutable sketch) leaf v seed_hash asked own = (leaf ≡ true) × (own ≡ false) × (sketch_in_folds (state sketch) ≡ v) × ((state sketch).map.seed_hash ≡ seed_hash)
 HasValue key state listed (Compact sketch) leaf v seed_hash asked own = (leaf ≡ false) × IsFoldAnswer key v seed_hash (asked || own) (listed sketch)
 
 -- the result of a plan, with or without a requested order, in the folds f of the family

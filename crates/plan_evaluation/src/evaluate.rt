@@ -3,15 +3,14 @@ ghost use Rattle.std.specs.Prelude.{◌≡◌, ◌<◌, ◌^◌, ◌||◌, ◌�
 ghost use Rattle.sketch_base.specs.Seed.{seed_hash};
 ghost use Rattle.core_compact.specs.CompactState.{IsAnswer};
 ghost use Rattle.core_laws.specs.Settings.{settings_refusal};
-ghost use Rattle.core_laws.specs.Folds.{Fold, unmarked, unmarked_value};
+ghost use Rattle.core_laws.specs.Folds.{Fold, unmarked};
 ghost use Rattle.core_laws.specs.Leaf.{leaf, leaf_step, updated_step};
 ghost use Rattle.core_laws.specs.Refusal.{Refuses};
 ghost use Rattle.core_laws.specs.Values.{Sketch};
-ghost use Rattle.core_state.specs.Updatable.{sketch_value};
 ghost use Rattle.plan_values.specs.Family.{folds_of};
 ghost use Rattle.plan_values.specs.Refusals.{step_refused, steps_refused, must_refuse};
 ghost use Rattle.plan_values.specs.Value.{plan_refusal};
-ghost use Rattle.plan_evaluation.specs.Parts.{IsResultOf, HasValue, IsFoldAnswer, value_or_empty};
+ghost use Rattle.plan_evaluation.specs.Parts.{IsResultOf, HasValue, IsFoldAnswer, sketch_in_folds, value_or_empty};
 ghost use Rattle.plan_evaluation.specs.Refused.{RefusedFor, IsPlanRefused};
 
 use crate::evaluated::Evaluated;
@@ -144,7 +143,7 @@ fn updated<F: SketchFamily<A>, A: Allocator + Clone>(
     seed: u64,
 ) -> Result<F::Sketch, Error>
     ensures value { let f = folds_of (F.rules family.now) (F.refuses family.now) in
-        IfOk result (λ s. unmarked_value (sketch_value (F.state s)) ≡ leaf f.key f.step_of (2 ^ lg_k) start steps.now) }
+        IfOk result (λ s. sketch_in_folds (F.state s) ≡ leaf f.key f.step_of (2 ^ lg_k) start steps.now) }
     ensures seed { IfOk result (λ s. (F.state s).map.seed_hash ≡ seed_hash seed) }
     ensures accepted { OnOk result (settings_refusal lg_k start seed ≡ None) }
     ensures unrefused { OnOk result (steps_refused (folds_of (F.rules family.now) (F.refuses family.now)) (2 ^ lg_k) start steps.now ≡ false) }

@@ -1,11 +1,16 @@
 //! Prints the answer of a reader of this project for each line of standard input.
 //!
 //! A line is the name of a reader, a space, and bytes in hexadecimal. `theta`, `u32`, `i32`, `u64` and `i64` read an image,
-//! of a theta sketch or of a tuple sketch with summaries of that type; `plan` reads and evaluates the text of a plan. The
-//! answer is one line: a sketch, or the reason why there is none. A text's fault is reported with the number of its line.
+//! of a theta sketch or of a tuple sketch with summaries of that type; `preamble` reports what an image's first bytes say;
+//! `plan` reads and evaluates the text of a plan, `expression` reads a set expression, and `arguments` and `message` the
+//! arguments of `distinct`, with a blank between two. The answer is one line: a sketch, and of an image the image that it is
+//! written as; the steps of an expression; a request; or the reason why there is none. A text's fault is reported with its
+//! place.
 //! `checks/` compares these answers with those of readers that share no code with this project.
 #![tactic(auto)]
 
+mod arguments;
+mod expressions;
 mod images;
 mod plans;
 
@@ -23,11 +28,15 @@ fn put_answer(
 ) -> Result<(), AllocError> {
     match name {
         b"theta" => images::put_theta(text, alloc, bytes),
+        b"preamble" => images::put_preamble(text, bytes),
         b"u32" => images::put_tuple::<u32>(text, alloc, bytes),
         b"i32" => images::put_tuple::<i32>(text, alloc, bytes),
         b"u64" => images::put_tuple::<u64>(text, alloc, bytes),
         b"i64" => images::put_tuple::<i64>(text, alloc, bytes),
         b"plan" => plans::put_plan(text, alloc, bytes),
+        b"arguments" => arguments::put_request(text, alloc, bytes),
+        b"message" => arguments::put_message(text, alloc, bytes),
+        b"expression" => expressions::put_expression(text, alloc, bytes),
         _ => text.push_str("unread"),
     }
 }

@@ -10,8 +10,6 @@ mod names;
 mod part;
 mod ranges;
 mod report;
-#[cfg(test)]
-mod tests;
 
 pub use forms::{count_line, json_line, shown_line, tsv_head, tsv_row};
 pub use names::escaped_name;

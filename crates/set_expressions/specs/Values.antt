@@ -1,33 +1,72 @@
--- The values of expressions, and the sets of whole streams.
-use Rattle.std.specs.Prelude.{ℕ, ◌^◌, List, [], ◌∷◌, get_or}
+-- The values of expressions over sketches of any kind, and the same expressions of whole maps.
+use Rattle.std.specs.Prelude.{ℕ, ◌+◌, ◌^◌, Bool, nat_le, List, [], ◌∷◌, get_or}
 use Rattle.core_laws.specs.declared.TheConstants.{MAX_THETA}
 use Rattle.core_laws.specs.Entries.{hash_key, first_hash}
+use Rattle.core_laws.specs.Folds.{never}
 use Rattle.core_laws.specs.Operators.{joined, common, lacking, unite, meet, minus}
 use Rattle.core_laws.specs.Values.{Sketch, Empty}
+use Rattle.core_slots.specs.Entry.{tuple_key, with_summary}
+use Rattle.core_slots.specs.declared.entry.TupleEntry.{TupleEntry}
 use Rattle.expression_text.specs.declared.operator.Operator.{Operator}
 use Rattle.expression_text.specs.declared.operator.Operator.TheVariants.{Union, Intersection, Difference}
 use Rattle.expression_text.specs.Expressions.{Expression, Named, Grouped, Combined}
 
+-- the rules of a kind of entries: their keys, how two entries of a key are merged, and which merges are refused
+pub record Rules (X : Type 0) : Type 0 where
+  pub key : X → ℕ
+  pub merges : X → X → X
+  pub refuses : X → X → Bool
+
+-- hashes: of two equal hashes the first stays, and nothing is refused
+abbrev pub hash_rules : Rules ℕ
+hash_rules = record { key = hash_key; merges = first_hash; refuses = never }
+
+-- an entry to whose sum that of another is added
+abbrev pub added : TupleEntry ℕ → TupleEntry ℕ → TupleEntry ℕ
+added x y = with_summary x (x.summary + y.summary)
+
+-- two sums are too great together
+abbrev pub is_too_great : TupleEntry ℕ → TupleEntry ℕ → Bool
+is_too_great x y = nat_le (2 ^ 64) (x.summary + y.summary)
+
+-- sums: the sums of a key are added, and a sum of 2^64 or more is refused
+abbrev pub sum_rules : Rules (TupleEntry ℕ)
+sum_rules = record { key = tuple_key; merges = added; refuses = is_too_great }
+
 -- the value of two combined values, in a union with 2^lg_k nominal entries
-abbrev pub combined : (lg_k : ℕ) → Operator → Sketch ℕ → Sketch ℕ → Sketch ℕ
-combined lg_k Union a b = unite hash_key first_hash (2 ^ lg_k) MAX_THETA (a ∷ b ∷ [])
-combined lg_k Intersection a b = meet hash_key first_hash (a ∷ b ∷ [])
-combined lg_k Difference a b = minus hash_key hash_key a b
+abbrev pub combined : {X : Type 0} → Rules X → (lg_k : ℕ) → Operator → Sketch X → Sketch X → Sketch X
+combined rules lg_k Union a b = unite rules.key rules.merges (2 ^ lg_k) MAX_THETA (a ∷ b ∷ [])
+combined rules lg_k Intersection a b = meet rules.key rules.merges (a ∷ b ∷ [])
+combined rules lg_k Difference a b = minus rules.key rules.key a b
 
 -- the value of an expression over the values of its names
+abbrev pub value_in : {X : Type 0} → Rules X → (lg_k : ℕ) → List (Sketch X) → Expression → Sketch X
+value_in rules lg_k values (Named i) = get_or values i Empty
+value_in rules lg_k values (Grouped e) = value_in rules lg_k values e
+value_in rules lg_k values (Combined op a b) = combined rules lg_k op (value_in rules lg_k values a) (value_in rules lg_k values b)
+
+-- two whole maps combined: their union, intersection or difference
+abbrev pub combined_maps : {X : Type 0} → Rules X → Operator → List X → List X → List X
+combined_maps rules Union a b = joined rules.key rules.merges (joined rules.key rules.merges [] a) b
+combined_maps rules Intersection a b = common rules.key rules.merges a b
+combined_maps rules Difference a b = lacking rules.key rules.key a b
+
+-- the whole map of an expression over those of its names
+abbrev pub whole_in : {X : Type 0} → Rules X → List (List X) → Expression → List X
+whole_in rules wholes (Named i) = get_or wholes i []
+whole_in rules wholes (Grouped e) = whole_in rules wholes e
+whole_in rules wholes (Combined op a b) = combined_maps rules op (whole_in rules wholes a) (whole_in rules wholes b)
+
+-- the value of an expression over theta sketches, and the set of hashes of one over sets
 abbrev pub value_of : (lg_k : ℕ) → List (Sketch ℕ) → Expression → Sketch ℕ
-value_of lg_k values (Named i) = get_or values i Empty
-value_of lg_k values (Grouped e) = value_of lg_k values e
-value_of lg_k values (Combined op a b) = combined lg_k op (value_of lg_k values a) (value_of lg_k values b)
+value_of lg_k values e = value_in hash_rules lg_k values e
 
--- two sets of hashes combined: their union, intersection or difference
-abbrev pub combined_sets : Operator → List ℕ → List ℕ → List ℕ
-combined_sets Union a b = joined hash_key first_hash (joined hash_key first_hash [] a) b
-combined_sets Intersection a b = common hash_key first_hash a b
-combined_sets Difference a b = lacking hash_key hash_key a b
-
--- the set of an expression over the sets of its names
 abbrev pub set_of : List (List ℕ) → Expression → List ℕ
-set_of sets (Named i) = get_or sets i []
-set_of sets (Grouped e) = set_of sets e
-set_of sets (Combined op a b) = combined_sets op (set_of sets a) (set_of sets b)
+set_of sets e = whole_in hash_rules sets e
+
+-- the value of an expression over sketches of sums, and the sums of one over whole streams, by their keys
+abbrev pub sums_value : (lg_k : ℕ) → List (Sketch (TupleEntry ℕ)) → Expression → Sketch (TupleEntry ℕ)
+sums_value lg_k values e = value_in sum_rules lg_k values e
+
+abbrev pub sums_in : List (List (TupleEntry ℕ)) → Expression → List (TupleEntry ℕ)
+sums_in wholes e = whole_in sum_rules wholes e

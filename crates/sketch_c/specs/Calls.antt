@@ -1,7 +1,9 @@
 -- The shapes of calls on handles: by the object before, the status and the object after.
 use Rattle.std.specs.Prelude.{◌≡◌, ℕ, Option, Some, None, Result, MatchResult}
 use Rattle.sketch_base.specs.declared.error.ErrorKind.{ErrorKind}
-use Rattle.sketch_c.specs.Status.{status_of}
+use Rattle.sketch_objects.specs.Intersections.{IsDifferenceOf, IsDifferenceRefusal}
+use Rattle.sketch_objects.specs.Status.{status_of}
+use Rattle.sketch_objects.specs.declared.compact.CompactSketch.{CompactSketch}
 
 -- a call on an object: a handle without one is refused with 1 and keeps none
 abbrev pub OnObject : {T : Type 0} → (Does : T → ℕ → T → Type 0) → Option T → (status : ℕ) → Option T → Type 0
@@ -41,3 +43,9 @@ OnObjectWith Does (Some source) old status new = OnObject (Does source) old stat
 abbrev pub WritesValue : {V : Type 0} → Option V → (before : V) → (status : ℕ) → (after : V) → Type 0
 WritesValue None before status after = (status ≡ 1) × (after ≡ before)
 WritesValue (Some value) before status after = (status ≡ 0) × (after ≡ value)
+
+-- a handle was filled with the difference of two sketches; if either is missing, the call is refused with 1
+abbrev pub FillsDifference : (seed : ℕ) → (first second : Option CompactSketch) → (old : Option CompactSketch) → (status : ℕ) → (new : Option CompactSketch) → Type 0
+FillsDifference seed None second old status new = (status ≡ 1) × (new ≡ old)
+FillsDifference seed (Some a) None old status new = (status ≡ 1) × (new ≡ old)
+FillsDifference seed (Some a) (Some b) old status new = Fills (IsDifferenceOf a b) (IsDifferenceRefusal seed a b) old status new

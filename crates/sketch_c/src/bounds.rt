@@ -1,38 +1,11 @@
 //! Estimates and bounds of a count, from the numbers of a sketch's state.
-ghost use Rattle.std.specs.Prelude.{◌≡◌, option_map};
-ghost use Rattle.estimates.specs.Bounds.{deviation_count};
-ghost use Rattle.sketch_c.specs.Bounds.{wide, is_state, numerator, valid_deviations, WritesDecimal, WritesBounds};
+ghost use Rattle.std.specs.Prelude.{◌≡◌};
+ghost use Rattle.sketch_objects.specs.Bounds.{wide, is_state, numerator, WritesDecimal, WritesBounds};
 
-use crate::status::{INVALID_ARGUMENT, OK};
-use estimates::{Deviations, count_bounds};
+use estimates::count_bounds;
+use sketch_objects::bounds::{Wide, deviations_of, is_state, split};
+use sketch_objects::status::{INVALID_ARGUMENT, OK};
 use theta_sketches::{MAX_PLACES, MAX_THETA, estimate_decimal};
-
-/// A number of 128 bits.
-#[repr(C)]
-#[derive(Clone, Copy)]
-pub struct Wide {
-    /// The number modulo 2^64.
-    pub low: u64,
-    /// The number divided by 2^64, rounded down.
-    pub high: u64,
-}
-
-/// A number of 128 bits, in its two halves.
-pub(crate) fn split(number: u128) -> Wide
-    ensures { result ≡ wide number }
-{
-    Wide {
-        low: (number % 18446744073709551616) as u64,
-        high: (number / 18446744073709551616) as u64,
-    }
-}
-
-/// Whether some sketch may have this state.
-fn is_state(retained: u64, theta: u64) -> bool
-    ensures { result ≡ is_state retained theta }
-{
-    retained < 4294967296 && 0 < theta && theta <= MAX_THETA
-}
 
 /// Writes the numerator of the estimate of a sketch that retains this many entries; its denominator is theta.
 #[unsafe(no_mangle)]
@@ -67,18 +40,6 @@ pub extern "C" fn kcp_estimate_decimal(
     *whole = split(estimate.whole());
     *decimals = estimate.decimals() as u64;
     OK
-}
-
-/// One, two or three standard deviations, by their number.
-fn deviations_of(number: u32) -> Option<Deviations>
-    ensures { option_map deviation_count result ≡ valid_deviations number }
-{
-    match number {
-        1 => Some(Deviations::One),
-        2 => Some(Deviations::Two),
-        3 => Some(Deviations::Three),
-        _ => None,
-    }
 }
 
 /// Writes bounds of the number of distinct values that a sketch of this state has seen, by one, two or three standard

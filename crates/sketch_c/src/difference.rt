@@ -1,32 +1,11 @@
 //! Differences of theta sketches.
-ghost use Rattle.std.specs.Prelude.{◌≡◌, IfOk, IfErr};
-ghost use Rattle.sketch_c.specs.Intersections.{IsDifferenceOf, IsDifferenceRefusal, FillsDifference};
+ghost use Rattle.std.specs.Prelude.{◌≡◌};
+ghost use Rattle.sketch_c.specs.Calls.{FillsDifference};
 
-use crate::compact::CompactSketch;
 use crate::handles::CompactHandle;
-use crate::status::{INVALID_ARGUMENT, status_of};
+use sketch_objects::difference::difference;
+use sketch_objects::status::INVALID_ARGUMENT;
 use std::alloc::Global;
-use theta_sketches::ThetaANotB;
-
-/// The hashes of the first sketch that the second lacks.
-pub(crate) fn difference(
-    alloc: Global,
-    seed: u64,
-    first: &CompactSketch,
-    second: &CompactSketch,
-) -> Result<CompactSketch, u32>
-    ensures made { IfOk result (λ s. IsDifferenceOf first.now second.now s) }
-    ensures refused { IfErr result (λ status. IsDifferenceRefusal seed first.now second.now status) }
-{
-    let difference = match ThetaANotB::with_seed(seed) {
-        Ok(difference) => difference,
-        Err(error) => return Err(status_of(error.kind())),
-    };
-    match difference.compute(alloc, first.sketch.as_view(), second.sketch.as_view(), true) {
-        Ok(sketch) => Ok(CompactSketch { sketch }),
-        Err(error) => Err(status_of(error.kind())),
-    }
-}
 
 /// Puts the hashes of the first sketch that the second lacks into a handle, below the lesser theta, as an ordered compact
 /// sketch. The sketches don't change.

@@ -3,8 +3,8 @@
 //! A handle and its `Owned` are the same bytes and own the same, so a `&mut` to the one is a `&mut` to the other.
 ghost use Rattle.std.specs.Prelude.{◌≡◌};
 ghost use Rattle.std.specs.Borrow.{sem, Lends};
-ghost use Rattle.sketch_c.specs.contracts.compact.CompactSketch as compact;
-ghost use Rattle.sketch_c.specs.contracts.compact_sums.CompactSums as compact_sums;
+ghost use Rattle.sketch_objects.specs.contracts.compact.CompactSketch as compact;
+ghost use Rattle.sketch_objects.specs.contracts.compact_sums.CompactSums as compact_sums;
 ghost use Rattle.sketch_c.specs.contracts.handles.CompactHandle as compact_handle;
 ghost use Rattle.sketch_c.specs.contracts.handles.CompactSumsHandle as compact_sums_handle;
 ghost use Rattle.sketch_c.specs.contracts.handles.IntersectionHandle as intersection_handle;
@@ -12,25 +12,25 @@ ghost use Rattle.sketch_c.specs.contracts.handles.SumsHandle as sums_handle;
 ghost use Rattle.sketch_c.specs.contracts.handles.SumsUnionHandle as sums_union_handle;
 ghost use Rattle.sketch_c.specs.contracts.handles.ThetaHandle as theta_handle;
 ghost use Rattle.sketch_c.specs.contracts.handles.UnionHandle as union_handle;
-ghost use Rattle.sketch_c.specs.contracts.intersection.SeededIntersection as intersection;
+ghost use Rattle.sketch_objects.specs.contracts.intersection.SeededIntersection as intersection;
 ghost use Rattle.sketch_c.specs.contracts.owned.Owned as owned;
-ghost use Rattle.sketch_c.specs.contracts.sums.SeededSums as sums;
-ghost use Rattle.sketch_c.specs.contracts.sums_union.SeededSumsUnion as sums_union;
-ghost use Rattle.sketch_c.specs.contracts.theta.SeededSketch as theta;
-ghost use Rattle.sketch_c.specs.contracts.union.SeededUnion as union;
+ghost use Rattle.sketch_objects.specs.contracts.sums.SeededSums as sums;
+ghost use Rattle.sketch_objects.specs.contracts.sums_union.SeededSumsUnion as sums_union;
+ghost use Rattle.sketch_objects.specs.contracts.theta.SeededSketch as theta;
+ghost use Rattle.sketch_objects.specs.contracts.union.SeededUnion as union;
 
-use crate::compact::CompactSketch;
-use crate::compact_sums::CompactSums;
 use crate::handles::{
     CompactHandle, CompactSumsHandle, IntersectionHandle, SumsHandle, SumsUnionHandle, ThetaHandle,
     UnionHandle,
 };
-use crate::intersection::SeededIntersection;
 use crate::owned::Owned;
-use crate::sums::SeededSums;
-use crate::sums_union::SeededSumsUnion;
-use crate::theta::SeededSketch;
-use crate::union::SeededUnion;
+use sketch_objects::compact::CompactSketch;
+use sketch_objects::compact_sums::CompactSums;
+use sketch_objects::intersection::SeededIntersection;
+use sketch_objects::sums::SeededSums;
+use sketch_objects::sums_union::SeededSumsUnion;
+use sketch_objects::theta::SeededSketch;
+use sketch_objects::union::SeededUnion;
 
 impl ThetaHandle {
     /// The pointer of the handle.

@@ -1,152 +1,23 @@
 //! Tuple sketches whose summaries are sums of 64 bits.
-ghost use Rattle.std.specs.Prelude.{◌≡◌, true, None, IfOk, option_map};
-ghost use Rattle.core_laws.specs.Refusal.{Refuses};
-ghost use Rattle.core_laws.specs.Settings.{settings_refusal};
+ghost use Rattle.std.specs.Prelude.{◌≡◌, true, None, option_map};
 ghost use Rattle.core_laws.specs.declared.TheConstants.{MAX_THETA};
-ghost use Rattle.sketch_c.specs.Bounds.{is_state, wide};
-ghost use Rattle.sketch_c.specs.Buffer.{WritesOf};
+ghost use Rattle.sketch_objects.specs.Bounds.{is_state, wide};
+ghost use Rattle.sketch_objects.specs.Buffer.{WritesOf};
 ghost use Rattle.sketch_c.specs.Calls.{OnObject, Fills, FillsFrom, WritesValue};
-ghost use Rattle.sketch_c.specs.Settings.{IsSettingsRefusal, IsNewRefusal};
-ghost use Rattle.sketch_c.specs.Status.{IsMemoryRefusal};
-ghost use Rattle.sketch_c.specs.Sums.{IsNewSums, IsSameSums, AddsValue, AddsAtBytes, AddsAtNumber, TrimsSums, ResetsSums, sums_state, sums_total, IsImageOfSums, IsCompactFormOfSums};
-ghost use Rattle.sketch_c.specs.declared.sums.SeededSums.{SeededSums};
+ghost use Rattle.sketch_objects.specs.Settings.{IsSettingsRefusal, IsNewRefusal};
+ghost use Rattle.sketch_objects.specs.Status.{IsMemoryRefusal};
+ghost use Rattle.sketch_objects.specs.Sums.{IsNewSums, IsSameSums, AddsValue, AddsAtBytes, AddsAtNumber, TrimsSums, ResetsSums, sums_state, sums_total, IsImageOfSums, IsCompactFormOfSums};
 
-use crate::bounds::{Wide, split};
-use crate::buffer::put_made;
-use crate::compact_sums::CompactSums;
 use crate::handles::{CompactSumsHandle, SumsHandle};
-use crate::hashes::{hash_of_bytes, hash_of_number};
-use crate::settings::factor_of;
-use crate::state::State;
-use crate::status::{INVALID_ARGUMENT, OK, OUT_OF_MEMORY, status_of};
-use crate::totals::total_of;
-use sketch_base::Error;
+use sketch_objects::bounds::Wide;
+use sketch_objects::settings::factor_of;
+use sketch_objects::state::State;
+use sketch_objects::status::INVALID_ARGUMENT;
+use sketch_objects::sums::{add_at_bytes, add_at_hash, add_at_number, built};
 use std::alloc::Global;
-use tuple_sketches::{
-    DefaultUpdatePolicy, MAX_THETA, ResizeFactor, TupleSketch, TupleSketchBuilder,
-};
+use tuple_sketches::{MAX_THETA, ResizeFactor};
 
-/// A sketch of sums, and the seed of its hashes.
-#[derive(Drop)]
-pub struct SeededSums {
-    pub(crate) sketch: TupleSketch<DefaultUpdatePolicy<u64>>,
-    seed: u64,
-}
-
-fn built(
-    alloc: Global,
-    lg_k: u8,
-    factor: ResizeFactor,
-    start: u64,
-    seed: u64,
-) -> Result<SeededSums, Error>
-    ensures made { IfOk result (λ t. IsNewSums lg_k start seed t) }
-    ensures refused { Refuses result (settings_refusal lg_k start seed) true }
-{
-    let sketch = TupleSketchBuilder::new(DefaultUpdatePolicy::<u64>::default())
-        .lg_k(lg_k)
-        .resize_factor(factor)
-        .starting_theta(start)
-        .seed(seed)
-        .build(alloc)?;
-    Ok(SeededSums { sketch, seed })
-}
-
-#[inline(always)]
-fn add_at_hash(sums: &mut SeededSums, hash: u64, value: u64) -> u32
-    ensures { AddsValue hash value sums.old result sums.new }
-{
-    match sums.sketch.update_hash(hash, value) {
-        Ok(()) => OK,
-        Err(error) => status_of(error.kind()),
-    }
-}
-
-#[inline(always)]
-fn add_at_number(sums: &mut SeededSums, number: u64, value: u64) -> u32
-    ensures { AddsAtNumber number value sums.old result sums.new }
-{
-    let hash = hash_of_number(sums.seed, number);
-    add_at_hash(sums, hash, value)
-}
-
-#[inline(always)]
-fn add_at_bytes(sums: &mut SeededSums, bytes: &[u8], value: u64) -> u32
-    ensures { AddsAtBytes bytes.now value sums.old result sums.new }
-{
-    let hash = hash_of_bytes(sums.seed, bytes);
-    add_at_hash(sums, hash, value)
-}
-
-fn trim(sums: &mut SeededSums) -> u32
-    ensures { TrimsSums sums.old result sums.new }
-{
-    match sums.sketch.trim() {
-        Ok(()) => OK,
-        Err(_) => OUT_OF_MEMORY,
-    }
-}
-
-fn reset(sums: &mut SeededSums) -> u32
-    ensures { ResetsSums sums.old result sums.new }
-{
-    sums.sketch.reset();
-    OK
-}
-
-fn state(sums: &SeededSums) -> State
-    ensures state { result ≡ sums_state sums.now }
-    ensures usable { is_state result.retained result.theta ≡ true }
-{
-    State::of(
-        sums.sketch.num_retained(),
-        sums.sketch.theta64(),
-        sums.sketch.is_empty(),
-    )
-}
-
-/// The image of the sketch's ordered compact form.
-fn image(sums: &SeededSums) -> Result<Vec<u8>, Error>
-    ensures image { IfOk result (λ v. IsImageOfSums sums.now v.items) }
-    ensures refused { Refuses result None true }
-{
-    sums.sketch.compact(true)?.serialize()
-}
-
-/// The sketch's ordered compact form.
-fn compact_form(sums: &SeededSums) -> Result<CompactSums, Error>
-    ensures made { IfOk result (λ s. IsCompactFormOfSums sums.now s) }
-    ensures refused { Refuses result None true }
-{
-    let sketch = sums.sketch.compact(true)?;
-    Ok(CompactSums { sketch })
-}
-
-/// A copy of a sketch.
-fn copied(sums: &SeededSums) -> Result<SeededSums, Error>
-    ensures copied { IfOk result (λ t. IsSameSums sums.now t) }
-    ensures refused { Refuses result None true }
-{
-    let sketch = sums.sketch.clone()?;
-    Ok(SeededSums {
-        sketch,
-        seed: sums.seed,
-    })
-}
-
-/// The sum of all sums of a sketch.
-fn total(sums: &SeededSums) -> Wide
-    ensures { result ≡ wide (sums_total sums.now) }
-{
-    // By its contract there are fewer than 2^32 entries.
-    let _ = sums.sketch.num_retained();
-    split(total_of(sums.sketch.iter()))
-}
-
-/// Makes a tuple sketch of sums with 2^`lg_k` nominal entries, `lg_k` from 4 to 26, and puts it into a handle.
-///
-/// Refused with `INVALID_ARGUMENT` if the handle has a sketch already, `lg_k` is out of range or the hash of the seed is
-/// 0, and with `OUT_OF_MEMORY`; then the handle is as before.
+/// Makes a tuple sketch of sums with 2^`lg_k` nominal entries, as `kcp_theta_new` makes a theta sketch.
 #[unsafe(no_mangle)]
 pub extern "C" fn kcp_sums_new(alloc: Global, sums: &mut SumsHandle, lg_k: u8, seed: u64) -> u32
     ensures { Fills (IsNewSums lg_k MAX_THETA seed) (IsSettingsRefusal lg_k seed) sums.old.value result sums.new.value }
@@ -180,10 +51,7 @@ pub extern "C" fn kcp_sums_clone(alloc: Global, sums: &mut SumsHandle, out: &mut
     ensures copied { FillsFrom IsSameSums (λ _. IsMemoryRefusal) sums.old.value out.old.value result out.new.value }
     ensures unchanged { sums.new.value ≡ sums.old.value }
 {
-    match sums.owned().get() {
-        Some(object) => out.owned().put(alloc, copied(object)),
-        None => INVALID_ARGUMENT,
-    }
+    sums.owned().copy(alloc, out.owned())
 }
 
 /// Frees the sketch of a handle, which has none afterwards. A handle without one stays as it is.
@@ -236,38 +104,25 @@ pub extern "C" fn kcp_sums_add_bytes(sums: &mut SumsHandle, bytes: &[u8], value:
 pub extern "C" fn kcp_sums_trim(sums: &mut SumsHandle) -> u32
     ensures { OnObject TrimsSums sums.old.value result sums.new.value }
 {
-    match sums.owned().get() {
-        Some(object) => trim(object),
-        None => INVALID_ARGUMENT,
-    }
+    sums.owned().trim()
 }
 
-/// Makes a sketch empty again, as when it was new. Refused with `INVALID_ARGUMENT` if the handle has no sketch.
+/// Makes a sketch empty again, as `kcp_theta_reset` does.
 #[unsafe(no_mangle)]
 pub extern "C" fn kcp_sums_reset(sums: &mut SumsHandle) -> u32
     ensures { OnObject ResetsSums sums.old.value result sums.new.value }
 {
-    match sums.owned().get() {
-        Some(object) => reset(object),
-        None => INVALID_ARGUMENT,
-    }
+    sums.owned().reset()
 }
 
-/// Writes the state of a sketch: how many sums it retains, its theta, and whether it is empty. The sketch doesn't change.
-/// Refused with `INVALID_ARGUMENT` if the handle has no sketch; then nothing is written.
+/// Writes the state of a sketch, as `kcp_theta_state` does.
 #[unsafe(no_mangle)]
 pub extern "C" fn kcp_sums_state(sums: &mut SumsHandle, out: &mut State) -> u32
     ensures state { WritesValue (option_map sums_state sums.old.value) out.old result out.new }
     ensures usable { result ≡ 0 → is_state out.new.retained out.new.theta ≡ true }
     ensures unchanged { sums.new.value ≡ sums.old.value }
 {
-    match sums.owned().get() {
-        Some(object) => {
-            *out = state(object);
-            OK
-        }
-        None => INVALID_ARGUMENT,
-    }
+    sums.owned().state(out)
 }
 
 /// Writes the image of a sketch, ordered, to the front of a buffer, and its length, as `kcp_theta_image` does. Behind each
@@ -277,16 +132,10 @@ pub extern "C" fn kcp_sums_image(sums: &mut SumsHandle, out: &mut [u8], length: 
     ensures image { WritesOf IsImageOfSums (λ _. IsMemoryRefusal) sums.old.value out.old length.old result out.new length.new }
     ensures unchanged { sums.new.value ≡ sums.old.value }
 {
-    match sums.owned().get() {
-        Some(object) => put_made(image(object), out, length),
-        None => INVALID_ARGUMENT,
-    }
+    sums.owned().image(out, length)
 }
 
-/// Makes the ordered compact form of a sketch, and puts it into a handle. The sketch doesn't change.
-///
-/// Refused with `INVALID_ARGUMENT` if the first handle has no sketch or the second one has a sketch, and with
-/// `OUT_OF_MEMORY`; then nothing has changed.
+/// Makes the ordered compact form of a sketch, as `kcp_theta_compact` does.
 #[unsafe(no_mangle)]
 pub extern "C" fn kcp_sums_compact(
     alloc: Global,
@@ -296,10 +145,7 @@ pub extern "C" fn kcp_sums_compact(
     ensures made { FillsFrom IsCompactFormOfSums (λ _. IsMemoryRefusal) sums.old.value out.old.value result out.new.value }
     ensures unchanged { sums.new.value ≡ sums.old.value }
 {
-    match sums.owned().get() {
-        Some(object) => out.owned().put(alloc, compact_form(object)),
-        None => INVALID_ARGUMENT,
-    }
+    sums.owned().compact(alloc, out.owned())
 }
 
 /// Writes the total of a sketch, the sum of its sums, below 2^96. The estimate of the total of all values that were added
@@ -311,11 +157,5 @@ pub extern "C" fn kcp_sums_total(sums: &mut SumsHandle, out: &mut Wide) -> u32
     ensures total { WritesValue (option_map (λ t. wide (sums_total t)) sums.old.value) out.old result out.new }
     ensures unchanged { sums.new.value ≡ sums.old.value }
 {
-    match sums.owned().get() {
-        Some(object) => {
-            *out = total(object);
-            OK
-        }
-        None => INVALID_ARGUMENT,
-    }
+    sums.owned().total(out)
 }

@@ -1,144 +1,20 @@
 //! Theta sketches that take updates.
-ghost use Rattle.std.specs.Prelude.{◌≡◌, true, None, Some, IfOk, option_map};
-ghost use Rattle.core_laws.specs.Refusal.{Refuses};
-ghost use Rattle.core_laws.specs.Settings.{settings_refusal};
+ghost use Rattle.std.specs.Prelude.{◌≡◌, true, None, Some, option_map};
 ghost use Rattle.core_laws.specs.declared.TheConstants.{MAX_THETA};
-ghost use Rattle.sketch_c.specs.Bounds.{is_state};
-ghost use Rattle.sketch_c.specs.Buffer.{WritesOf};
+ghost use Rattle.sketch_objects.specs.Bounds.{is_state};
+ghost use Rattle.sketch_objects.specs.Buffer.{WritesOf};
 ghost use Rattle.sketch_c.specs.Calls.{OnObject, Fills, FillsFrom, WritesValue};
-ghost use Rattle.sketch_c.specs.Settings.{IsSettingsRefusal, IsNewRefusal};
-ghost use Rattle.sketch_c.specs.Status.{IsMemoryRefusal};
-ghost use Rattle.sketch_c.specs.Thetas.{IsNewSketch, IsSameSketch, UpdatesHash, UpdatesNumber, UpdatesBytes, UpdatesHashes, Trims, Resets, theta_state, IsImageOf, IsCompactForm};
-ghost use Rattle.sketch_c.specs.declared.theta.SeededSketch.{SeededSketch};
+ghost use Rattle.sketch_objects.specs.Settings.{IsSettingsRefusal, IsNewRefusal};
+ghost use Rattle.sketch_objects.specs.Status.{IsMemoryRefusal};
+ghost use Rattle.sketch_objects.specs.Thetas.{IsNewSketch, IsSameSketch, UpdatesHash, UpdatesNumber, UpdatesBytes, UpdatesHashes, Trims, Resets, theta_state, IsImageOf, IsCompactForm};
 
-use crate::buffer::put_made;
-use crate::compact::CompactSketch;
 use crate::handles::{CompactHandle, ThetaHandle};
-use crate::hashes::{hash_of_bytes, hash_of_number};
-use crate::settings::factor_of;
-use crate::state::State;
-use crate::status::{INVALID_ARGUMENT, OK, OUT_OF_MEMORY};
-use sketch_base::Error;
+use sketch_objects::settings::factor_of;
+use sketch_objects::state::State;
+use sketch_objects::status::INVALID_ARGUMENT;
+use sketch_objects::theta::{built, update_bytes, update_hash, update_hashes, update_number};
 use std::alloc::Global;
-use theta_sketches::{MAX_THETA, ResizeFactor, ThetaSketch, ThetaSketchBuilder};
-
-/// A sketch that takes updates, and the seed of its hashes.
-#[derive(Drop)]
-pub struct SeededSketch {
-    pub(crate) sketch: ThetaSketch,
-    pub(crate) seed: u64,
-}
-
-fn built(
-    alloc: Global,
-    lg_k: u8,
-    factor: ResizeFactor,
-    start: u64,
-    seed: u64,
-) -> Result<SeededSketch, Error>
-    ensures made { IfOk result (λ t. IsNewSketch lg_k start seed t) }
-    ensures refused { Refuses result (settings_refusal lg_k start seed) true }
-{
-    let sketch = ThetaSketchBuilder::default()
-        .lg_k(lg_k)
-        .resize_factor(factor)
-        .starting_theta(start)
-        .seed(seed)
-        .build(alloc)?;
-    Ok(SeededSketch { sketch, seed })
-}
-
-#[inline(always)]
-fn update_hash(theta: &mut SeededSketch, hash: u64) -> u32
-    ensures { UpdatesHash hash theta.old result theta.new }
-{
-    match theta.sketch.update_hash(hash) {
-        Ok(()) => OK,
-        Err(_) => OUT_OF_MEMORY,
-    }
-}
-
-#[inline(always)]
-fn update_number(theta: &mut SeededSketch, number: u64) -> u32
-    ensures { UpdatesNumber number theta.old result theta.new }
-{
-    let hash = hash_of_number(theta.seed, number);
-    update_hash(theta, hash)
-}
-
-#[inline(always)]
-fn update_bytes(theta: &mut SeededSketch, bytes: &[u8]) -> u32
-    ensures { UpdatesBytes bytes.now theta.old result theta.new }
-{
-    let hash = hash_of_bytes(theta.seed, bytes);
-    update_hash(theta, hash)
-}
-
-#[inline(always)]
-pub(crate) fn update_hashes(theta: &mut SeededSketch, hashes: &[u64]) -> u32
-    ensures { UpdatesHashes hashes.now theta.old result theta.new }
-{
-    match theta.sketch.update_hashes(hashes) {
-        Ok(()) => OK,
-        Err(_) => OUT_OF_MEMORY,
-    }
-}
-
-fn trim(theta: &mut SeededSketch) -> u32
-    ensures { Trims theta.old result theta.new }
-{
-    match theta.sketch.trim() {
-        Ok(()) => OK,
-        Err(_) => OUT_OF_MEMORY,
-    }
-}
-
-fn reset(theta: &mut SeededSketch) -> u32
-    ensures { Resets theta.old result theta.new }
-{
-    theta.sketch.reset();
-    OK
-}
-
-fn state(theta: &SeededSketch) -> State
-    ensures state { result ≡ theta_state theta.now }
-    ensures usable { is_state result.retained result.theta ≡ true }
-{
-    State::of(
-        theta.sketch.num_retained(),
-        theta.sketch.theta64(),
-        theta.sketch.is_empty(),
-    )
-}
-
-/// The image of the sketch's ordered compact form.
-fn image(theta: &SeededSketch) -> Result<Vec<u8>, Error>
-    ensures image { IfOk result (λ v. IsImageOf theta.now v.items) }
-    ensures refused { Refuses result None true }
-{
-    theta.sketch.compact(true)?.serialize()
-}
-
-/// The sketch's ordered compact form.
-fn compact_form(theta: &SeededSketch) -> Result<CompactSketch, Error>
-    ensures made { IfOk result (λ s. IsCompactForm theta.now s) }
-    ensures refused { Refuses result None true }
-{
-    let sketch = theta.sketch.compact(true)?;
-    Ok(CompactSketch { sketch })
-}
-
-/// A copy of a sketch.
-fn copied(theta: &SeededSketch) -> Result<SeededSketch, Error>
-    ensures copied { IfOk result (λ t. IsSameSketch theta.now t) }
-    ensures refused { Refuses result None true }
-{
-    let sketch = theta.sketch.clone()?;
-    Ok(SeededSketch {
-        sketch,
-        seed: theta.seed,
-    })
-}
+use theta_sketches::{MAX_THETA, ResizeFactor};
 
 /// Makes a theta sketch of 2^`lg_k` nominal entries, `lg_k` from 4 to 26, and puts it into a handle.
 ///
@@ -188,10 +64,7 @@ pub extern "C" fn kcp_theta_clone(
     ensures copied { FillsFrom IsSameSketch (λ _. IsMemoryRefusal) sketch.old.value out.old.value result out.new.value }
     ensures unchanged { sketch.new.value ≡ sketch.old.value }
 {
-    match sketch.owned().get() {
-        Some(theta) => out.owned().put(alloc, copied(theta)),
-        None => INVALID_ARGUMENT,
-    }
+    sketch.owned().copy(alloc, out.owned())
 }
 
 /// Frees the sketch of a handle, which has none afterwards. A handle without one stays as it is.
@@ -262,10 +135,7 @@ pub extern "C" fn kcp_theta_update_hashes(sketch: &mut ThetaHandle, hashes: &[u6
 pub extern "C" fn kcp_theta_trim(sketch: &mut ThetaHandle) -> u32
     ensures { OnObject Trims sketch.old.value result sketch.new.value }
 {
-    match sketch.owned().get() {
-        Some(theta) => trim(theta),
-        None => INVALID_ARGUMENT,
-    }
+    sketch.owned().trim()
 }
 
 /// Makes a sketch empty again, as when it was new. Refused with `INVALID_ARGUMENT` if the handle has no sketch.
@@ -273,10 +143,7 @@ pub extern "C" fn kcp_theta_trim(sketch: &mut ThetaHandle) -> u32
 pub extern "C" fn kcp_theta_reset(sketch: &mut ThetaHandle) -> u32
     ensures { OnObject Resets sketch.old.value result sketch.new.value }
 {
-    match sketch.owned().get() {
-        Some(theta) => reset(theta),
-        None => INVALID_ARGUMENT,
-    }
+    sketch.owned().reset()
 }
 
 /// Writes the state of a sketch: how many hashes it retains, its theta, and whether it is empty. The sketch doesn't change.
@@ -287,13 +154,7 @@ pub extern "C" fn kcp_theta_state(sketch: &mut ThetaHandle, out: &mut State) -> 
     ensures usable { result ≡ 0 → is_state out.new.retained out.new.theta ≡ true }
     ensures unchanged { sketch.new.value ≡ sketch.old.value }
 {
-    match sketch.owned().get() {
-        Some(theta) => {
-            *out = state(theta);
-            OK
-        }
-        None => INVALID_ARGUMENT,
-    }
+    sketch.owned().state(out)
 }
 
 /// Writes the image of a sketch, ordered, to the front of a buffer, and its length. The sketch doesn't change.
@@ -305,10 +166,7 @@ pub extern "C" fn kcp_theta_image(sketch: &mut ThetaHandle, out: &mut [u8], leng
     ensures image { WritesOf IsImageOf (λ _. IsMemoryRefusal) sketch.old.value out.old length.old result out.new length.new }
     ensures unchanged { sketch.new.value ≡ sketch.old.value }
 {
-    match sketch.owned().get() {
-        Some(theta) => put_made(image(theta), out, length),
-        None => INVALID_ARGUMENT,
-    }
+    sketch.owned().image(out, length)
 }
 
 /// Makes the ordered compact form of a sketch, and puts it into a handle. The sketch doesn't change.
@@ -324,8 +182,5 @@ pub extern "C" fn kcp_theta_compact(
     ensures made { FillsFrom IsCompactForm (λ _. IsMemoryRefusal) sketch.old.value out.old.value result out.new.value }
     ensures unchanged { sketch.new.value ≡ sketch.old.value }
 {
-    match sketch.owned().get() {
-        Some(theta) => out.owned().put(alloc, compact_form(theta)),
-        None => INVALID_ARGUMENT,
-    }
+    sketch.owned().compact(alloc, out.owned())
 }

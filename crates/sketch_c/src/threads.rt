@@ -1,12 +1,12 @@
 //! Objects on more than one thread.
 
-use crate::compact::CompactSketch;
-use crate::compact_sums::CompactSums;
-use crate::intersection::SeededIntersection;
-use crate::sums::SeededSums;
-use crate::sums_union::SeededSumsUnion;
-use crate::theta::SeededSketch;
-use crate::union::SeededUnion;
+use sketch_objects::compact::CompactSketch;
+use sketch_objects::compact_sums::CompactSums;
+use sketch_objects::intersection::SeededIntersection;
+use sketch_objects::sums::SeededSums;
+use sketch_objects::sums_union::SeededSumsUnion;
+use sketch_objects::theta::SeededSketch;
+use sketch_objects::union::SeededUnion;
 
 fn is_send<T: Send>() {}
 

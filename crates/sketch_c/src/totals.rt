@@ -1,23 +1,10 @@
 //! Totals of sums.
-ghost use Rattle.std.specs.Prelude.{◌≡◌, ◌<◌, ◌^◌, length};
-ghost use Rattle.sketch_c.specs.Totals.{total_of, WritesTotalDecimal};
+ghost use Rattle.std.specs.Prelude.{◌<◌};
+ghost use Rattle.sketch_objects.specs.Totals.{WritesTotalDecimal};
 
-use crate::bounds::{Wide, split};
-use crate::status::{INVALID_ARGUMENT, OK};
+use sketch_objects::bounds::{Wide, split};
+use sketch_objects::status::{INVALID_ARGUMENT, OK};
 use theta_sketches::{MAX_PLACES, MAX_THETA};
-use tuple_sketches::TupleSketchIter;
-
-/// The sum of the sums of entries, of which there are fewer than 2^32.
-pub(crate) fn total_of(entries: TupleSketchIter<'_, u64>) -> u128
-    requires limited { length entries.rest < 2 ^ 32 }
-    ensures { result ≡ total_of entries.entry.rest }
-{
-    let mut total = 0u128;
-    'add_each: for entry in entries {
-        total += *entry.summary() as u128;
-    }
-    total
-}
 
 /// Writes the estimate of the total of all values of a stream, rounded down: its whole part, and its decimals as one
 /// number, below 10^`places`. It is the total of the sketch, `low` + 2^64 * `high`, times `MAX_THETA`, over its theta.

@@ -1,95 +1,13 @@
 //! Unions of theta sketches.
-ghost use Rattle.std.specs.Prelude.{◌≡◌, true, not, None, IfOk};
-ghost use Rattle.core_laws.specs.Refusal.{Refuses};
-ghost use Rattle.core_laws.specs.Settings.{settings_refusal};
-ghost use Rattle.core_laws.specs.declared.TheConstants.{MAX_THETA};
-ghost use Rattle.core_operators.specs.Union.{failure};
-ghost use Rattle.theta_sketches.specs.View.{view_shows, view_sequence};
-ghost use Rattle.sketch_c.specs.Buffer.{WritesOf};
+ghost use Rattle.std.specs.Prelude.{◌≡◌, None};
+ghost use Rattle.sketch_objects.specs.Buffer.{WritesOf};
 ghost use Rattle.sketch_c.specs.Calls.{OnObject, OnObjectWith, Fills, FillsFrom};
-ghost use Rattle.sketch_c.specs.Settings.{IsSettingsRefusal};
-ghost use Rattle.sketch_c.specs.Unions.{IsNewUnion, AddsShown, AddsSketch, AddsCompact, AddsImage, IsUnionResult, IsUnionImage, IsResultRefusal, ResetsUnion};
-ghost use Rattle.sketch_c.specs.declared.union.SeededUnion.{SeededUnion};
+ghost use Rattle.sketch_objects.specs.Settings.{IsSettingsRefusal};
+ghost use Rattle.sketch_objects.specs.Unions.{IsNewUnion, AddsSketch, AddsCompact, AddsImage, IsUnionResult, IsUnionImage, IsResultRefusal, ResetsUnion};
 
-use crate::buffer::put_made;
-use crate::compact::{CompactSketch, read};
 use crate::handles::{CompactHandle, ThetaHandle, UnionHandle};
-use crate::status::{INVALID_ARGUMENT, OK, status_of};
-use crate::theta::SeededSketch;
-use sketch_base::Error;
+use sketch_objects::union::built;
 use std::alloc::Global;
-use theta_sketches::{ThetaSketchView, ThetaUnion, ThetaUnionBuilder};
-
-/// A union, and the seed of its sketches.
-#[derive(Drop)]
-pub struct SeededUnion {
-    union: ThetaUnion,
-    seed: u64,
-}
-
-fn built(alloc: Global, lg_k: u8, seed: u64) -> Result<SeededUnion, Error>
-    ensures made { IfOk result (λ u. IsNewUnion lg_k seed u) }
-    ensures refused { Refuses result (settings_refusal lg_k MAX_THETA seed) true }
-{
-    let union = ThetaUnionBuilder::default()
-        .lg_k(lg_k)
-        .seed(seed)
-        .build(alloc)?;
-    Ok(SeededUnion { union, seed })
-}
-
-fn add(union: &mut SeededUnion, view: ThetaSketchView<'_, Global>) -> u32
-    ensures { AddsShown (view_shows view.entry) (view_sequence view.entry) union.old result union.new }
-{
-    match union.union.update(view) {
-        Ok(()) => OK,
-        Err(error) => status_of(error.kind()),
-    }
-}
-
-fn add_sketch(union: &mut SeededUnion, theta: &SeededSketch) -> u32
-    ensures { AddsSketch theta.now union.old result union.new }
-{
-    add(union, theta.sketch.as_view())
-}
-
-fn add_compact(union: &mut SeededUnion, sketch: &CompactSketch) -> u32
-    ensures { AddsCompact sketch.now union.old result union.new }
-{
-    add(union, sketch.sketch.as_view())
-}
-
-fn add_image(alloc: Global, union: &mut SeededUnion, image: &[u8]) -> u32
-    ensures { AddsImage image.now union.old result union.new }
-{
-    match read(alloc, image, union.seed) {
-        Ok(sketch) => add_compact(union, &sketch),
-        Err(status) => status,
-    }
-}
-
-fn result(union: &SeededUnion) -> Result<CompactSketch, Error>
-    ensures made { IfOk result (λ s. IsUnionResult union.now s) }
-    ensures refused { Refuses result (failure union.now.union.failed) (not union.now.union.failed) }
-{
-    let sketch = union.union.to_sketch(true)?;
-    Ok(CompactSketch { sketch })
-}
-
-/// The image of the union's value, ordered.
-fn image(union: &SeededUnion) -> Result<Vec<u8>, Error>
-    ensures image { IfOk result (λ v. IsUnionImage union.now v.items) }
-    ensures refused { Refuses result (failure union.now.union.failed) (not union.now.union.failed) }
-{
-    union.union.to_sketch(true)?.serialize()
-}
-
-fn reset(union: &mut SeededUnion) -> u32
-    ensures { ResetsUnion union.old result union.new }
-{
-    union.union.reset();
-    OK
-}
 
 /// Makes a union of theta sketches of 2^`lg_k` nominal entries, `lg_k` from 4 to 26, and puts it into a handle.
 ///
@@ -121,13 +39,7 @@ pub extern "C" fn kcp_union_add(union: &mut UnionHandle, sketch: &mut ThetaHandl
     ensures added { OnObjectWith AddsSketch sketch.old.value union.old.value result union.new.value }
     ensures unchanged { sketch.new.value ≡ sketch.old.value }
 {
-    match sketch.owned().get() {
-        Some(theta) => match union.owned().get() {
-            Some(object) => add_sketch(object, theta),
-            None => INVALID_ARGUMENT,
-        },
-        None => INVALID_ARGUMENT,
-    }
+    union.owned().add(sketch.owned())
 }
 
 /// Merges a compact sketch into a union, as `kcp_union_add` does.
@@ -136,13 +48,7 @@ pub extern "C" fn kcp_union_add_compact(union: &mut UnionHandle, sketch: &mut Co
     ensures added { OnObjectWith AddsCompact sketch.old.value union.old.value result union.new.value }
     ensures unchanged { sketch.new.value ≡ sketch.old.value }
 {
-    match sketch.owned().get() {
-        Some(compact) => match union.owned().get() {
-            Some(object) => add_compact(object, compact),
-            None => INVALID_ARGUMENT,
-        },
-        None => INVALID_ARGUMENT,
-    }
+    union.owned().add(sketch.owned())
 }
 
 /// Merges the sketch that the bytes begin with into a union, read under the union's seed.
@@ -153,10 +59,7 @@ pub extern "C" fn kcp_union_add_compact(union: &mut UnionHandle, sketch: &mut Co
 pub extern "C" fn kcp_union_add_image(alloc: Global, union: &mut UnionHandle, image: &[u8]) -> u32
     ensures { OnObject (AddsImage image.now) union.old.value result union.new.value }
 {
-    match union.owned().get() {
-        Some(object) => add_image(alloc, object, image),
-        None => INVALID_ARGUMENT,
-    }
+    union.owned().add_image(alloc, image)
 }
 
 /// Puts the union's value into a handle, as an ordered compact sketch. The union doesn't change.
@@ -172,10 +75,7 @@ pub extern "C" fn kcp_union_result(
     ensures made { FillsFrom IsUnionResult IsResultRefusal union.old.value out.old.value result out.new.value }
     ensures unchanged { union.new.value ≡ union.old.value }
 {
-    match union.owned().get() {
-        Some(object) => out.owned().put(alloc, result(object)),
-        None => INVALID_ARGUMENT,
-    }
+    union.owned().compact(alloc, out.owned())
 }
 
 /// Writes the image of the union's value, ordered, to the front of a buffer, and its length. The union doesn't change.
@@ -188,10 +88,7 @@ pub extern "C" fn kcp_union_image(union: &mut UnionHandle, out: &mut [u8], lengt
     ensures image { WritesOf IsUnionImage IsResultRefusal union.old.value out.old length.old result out.new length.new }
     ensures unchanged { union.new.value ≡ union.old.value }
 {
-    match union.owned().get() {
-        Some(object) => put_made(image(object), out, length),
-        None => INVALID_ARGUMENT,
-    }
+    union.owned().image(out, length)
 }
 
 /// Makes a union empty again, as when it was new, and ends a failure. Refused with `INVALID_ARGUMENT` if the handle has no
@@ -200,8 +97,5 @@ pub extern "C" fn kcp_union_image(union: &mut UnionHandle, out: &mut [u8], lengt
 pub extern "C" fn kcp_union_reset(union: &mut UnionHandle) -> u32
     ensures { OnObject ResetsUnion union.old.value result union.new.value }
 {
-    match union.owned().get() {
-        Some(object) => reset(object),
-        None => INVALID_ARGUMENT,
-    }
+    union.owned().reset()
 }

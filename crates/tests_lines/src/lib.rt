@@ -1,9 +1,7 @@
 //! Tests of sketches of lines: readers that return a byte at a time or fail, blocks of every size, texts split in many
-//! ways, with images from outside, what preambles say, and each request for memory refused in turn.
+//! ways, with images from outside, and each request for memory refused in turn.
 #![tactic(auto)]
 
-#[cfg(test)]
-mod headers;
 #[cfg(test)]
 mod readers;
 #[cfg(test)]

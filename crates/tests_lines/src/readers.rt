@@ -98,17 +98,6 @@ const TEXT: &[u8] =
 const IMAGE: &[u8] =
     b"02030300001acc930500000000000000dc8d24339151380f5f1032909707cc27e431a1d6eceaec2f39151d0e0dd45d67fc08309e1c5ed36b\n";
 
-/// A text of fields.
-const LOG: &[u8] = b"1,ann,in\n2,bob\nalone\n3\n4,,out,in\n5,ann";
-
-/// The image of the second fields of `LOG`.
-const SECOND: &[u8] =
-    b"02030300001acc930500000000000000dc8d24339151380fa9a4fac7413eb50fe94a3798b195c0105f1032909707cc27fc08309e1c5ed36b\n";
-
-/// The image of the first fields of `LOG`.
-const FIRST: &[u8] =
-    b"02030300001acc93060000000000000055d3073b4c21c309a9a4fac7413eb50fe94a3798b195c010e9f8c8f87cf2984d47966c9b779fe569576b95d52278ad7c\n";
-
 #[test]
 fn reads_in_pieces(rt: HostRuntime) -> Result<(), Fail> {
     for (piece, size) in [
@@ -123,51 +112,6 @@ fn reads_in_pieces(rt: HostRuntime) -> Result<(), Fail> {
         let said = image_in_pieces(rt.alloc(), WHOLE_LINES, TEXT, piece, size, None)?;
         let found = (said.0.as_slice(), said.1, said.2);
         assert_eq!(rt; found, (IMAGE, 5, TEXT.len()), "in {piece}");
-    }
-    Ok(())
-}
-
-#[test]
-fn takes_fields(rt: HostRuntime) -> Result<(), Fail> {
-    for (number, image) in [(1, FIRST), (2, SECOND)] {
-        for (piece, size) in [(1, 64), (3, 2), (1000, 1000)] {
-            let hashing = Hashing {
-                key: Key::Field(number - 1, b','),
-                seed: 9001,
-            };
-            let said = image_in_pieces(rt.alloc(), hashing, LOG, piece, size, None)?;
-            assert_eq!(rt; said.0.as_slice(), image, "in {piece}");
-        }
-    }
-    Ok(())
-}
-
-/// The images of `TEXT` under the seeds 42 and 0, and of the second fields of `LOG` under the seed 42. Under the seed 0
-/// the hash of the empty line is 0, so that no sketch retains it.
-const IMAGE_42: &[u8] =
-    b"02030300001af87d0500000000000000c907090124292508fbb607dcb134173a4711255bd8340d5091c20dfdbe5315788faf4c92bc4e177d\n";
-
-const IMAGE_0: &[u8] =
-    b"02030300001acbc30400000000000000d6c47fb6d1f9a60a9528584ab64ecc38ee575a30868f8d5a63bd3b78a7a7a45f\n";
-
-const SECOND_42: &[u8] =
-    b"02030300001af87d0500000000000000b5c2c10fb823000cfbb607dcb134173a4711255bd8340d50c15b7c474f3ccc7391c20dfdbe531578\n";
-
-#[test]
-fn hashes_under_each_seed(rt: HostRuntime) -> Result<(), Fail> {
-    let line = Key::Line;
-    let second = Key::Field(1, b',');
-    for (key, seed, text, image) in [
-        (line, 42, TEXT, IMAGE_42),
-        (line, 0, TEXT, IMAGE_0),
-        (second, 42, LOG, SECOND_42),
-        (line, 50541, TEXT, b"".as_slice()),
-    ] {
-        for (piece, size) in [(1, 64), (1000, 1000)] {
-            let hashing = Hashing { key, seed };
-            let said = image_in_pieces(rt.alloc(), hashing, text, piece, size, None)?;
-            assert_eq!(rt; said.0.as_slice(), image, "{key:?} {seed} in {piece}");
-        }
     }
     Ok(())
 }

@@ -7,6 +7,7 @@ use line_sketches::{
     Sources, Unread, difference, hex_line, image_of, intersection, read_hex, read_image,
     sketch_lines, sketch_sources, unite_images,
 };
+use line_sums::{Amount, Unsummed, sum_sources, sums_image, unite_sums};
 use lines::{Hashing, Key};
 use refusing_allocator::{Refusal, Refusing};
 use sketch_base::ErrorKind;
@@ -15,6 +16,7 @@ use std::io;
 use std::io::Read;
 use std::process::Abort;
 use std::test::Fail;
+use theta_sketches::CompactThetaSketch;
 
 type Heap = Refusing<Global>;
 
@@ -119,6 +121,16 @@ const SHARED: &[u8] =
 
 const FIRST_ALONE: &[u8] = b"01030300001acc9339151d0e0dd45d67\n";
 
+/// The images of the numbers of lines of each key in the two texts, and in both, by the same program.
+const FIRST_SUMS: &[u8] =
+    b"02030901001acc930400000000000000dc8d24339151380f01000000000000005f1032909707cc27010000000000000039151d0e0dd45d670100000000000000fc08309e1c5ed36b0200000000000000\n";
+
+const SECOND_SUMS: &[u8] =
+    b"02030901001acc930500000000000000dc8d24339151380f0100000000000000a9a4fac7413eb50f0100000000000000e94a3798b195c01001000000000000005f1032909707cc270100000000000000fc08309e1c5ed36b0100000000000000\n";
+
+const BOTH_SUMS: &[u8] =
+    b"02030901001acc930600000000000000dc8d24339151380f0200000000000000a9a4fac7413eb50f0100000000000000e94a3798b195c01001000000000000005f1032909707cc27020000000000000039151d0e0dd45d670100000000000000fc08309e1c5ed36b0300000000000000\n";
+
 /// A call whose answer is an image.
 #[derive(Clone, Copy, Debug, PartialEq, Eq)]
 enum Call {
@@ -127,6 +139,8 @@ enum Call {
     Unite,
     Meet,
     Minus,
+    SumSources,
+    UniteSums,
 }
 
 /// A line without the LF that ends it.
@@ -168,49 +182,58 @@ fn sketches_sources(heap: &Heap, all: &[Vec<u8>]) -> Result<bool, Unread> {
     is_image(heap, image_of(&sketch)?, BOTH)
 }
 
-fn unites(heap: &Heap, images: &[Vec<u8>], seed: u64, wanted: &[u8]) -> Result<bool, Unread> {
-    let united = unite_images(heap, seed, 12, &mut whole_texts(images))?;
+fn unites(heap: &Heap, images: &[Vec<u8>]) -> Result<bool, Unread> {
+    let united = unite_images(heap, 9001, 12, &mut whole_texts(images))?;
     if united.count != images.len() as u64 {
         return Ok(false);
     }
-    is_image(heap, united.image, wanted)
+    is_image(heap, united.image, BOTH)
 }
 
-/// Two images, the seed that they are read under, and the seed of the operator.
-#[derive(Clone, Copy)]
-struct Pair<'a> {
-    first: &'a [u8],
-    second: &'a [u8],
-    read: u64,
-    seed: u64,
+fn sums_sources(heap: &Heap, all: &[Vec<u8>]) -> Result<bool, Unread> {
+    match sum_sources(heap, WHOLE_LINES, Amount::One, 12, &mut whole_texts(all)) {
+        Ok(sums) => is_image(heap, sums_image(&sums)?, BOTH_SUMS),
+        Err(Unsummed::Refused(error)) => Err(Unread::Refused(error)),
+        Err(Unsummed::Failed(error)) => Err(Unread::Failed(error)),
+        Err(_) => Ok(false),
+    }
 }
 
-const PAIR: Pair<'static> = Pair {
-    first: FIRST,
-    second: SECOND,
-    read: 9001,
-    seed: 9001,
-};
-
-fn meets(heap: &Heap, pair: Pair<'_>, wanted: &[u8]) -> Result<bool, Unread> {
-    let first = read_image(heap, pair.read, bytes_of(heap, pair.first)?.as_slice())?;
-    let second = read_image(heap, pair.read, bytes_of(heap, pair.second)?.as_slice())?;
-    let sketch = intersection(heap, pair.seed, &[first, second])?;
-    is_image(heap, image_of(&sketch)?, wanted)
+fn unites_sums(heap: &Heap, images: &[Vec<u8>]) -> Result<bool, Unread> {
+    let united = unite_sums(heap, 9001, 12, &mut whole_texts(images))?;
+    if united.count != images.len() as u64 {
+        return Ok(false);
+    }
+    is_image(heap, united.image, BOTH_SUMS)
 }
 
-fn subtracts(heap: &Heap, pair: Pair<'_>, wanted: &[u8]) -> Result<bool, Unread> {
-    let first = read_image(heap, pair.read, bytes_of(heap, pair.first)?.as_slice())?;
-    let second = read_image(heap, pair.read, bytes_of(heap, pair.second)?.as_slice())?;
-    let sketch = difference(heap, pair.seed, &first, &second)?;
-    is_image(heap, image_of(&sketch)?, wanted)
+/// The image of `FIRST_TEXT`, and that of `SECOND_TEXT`.
+type Pair<'a> = (CompactThetaSketch<&'a Heap>, CompactThetaSketch<&'a Heap>);
+
+fn sketches_of_both<'a>(heap: &'a Heap) -> Result<Pair<'a>, Unread> {
+    let first = read_image(heap, 9001, bytes_of(heap, FIRST)?.as_slice())?;
+    let second = read_image(heap, 9001, bytes_of(heap, SECOND)?.as_slice())?;
+    Ok((first, second))
 }
 
-/// Texts in memory, and their images.
+fn meets(heap: &Heap) -> Result<bool, Unread> {
+    let (first, second) = sketches_of_both(heap)?;
+    let sketch = intersection(heap, 9001, &[first, second])?;
+    is_image(heap, image_of(&sketch)?, SHARED)
+}
+
+fn subtracts(heap: &Heap) -> Result<bool, Unread> {
+    let (first, second) = sketches_of_both(heap)?;
+    let sketch = difference(heap, 9001, &first, &second)?;
+    is_image(heap, image_of(&sketch)?, FIRST_ALONE)
+}
+
+/// Texts in memory, their images, and those of the numbers of their lines.
 #[derive(Drop)]
 struct Inputs {
     texts: Vec<Vec<u8>>,
     images: Vec<Vec<u8>>,
+    sums: Vec<Vec<u8>>,
 }
 
 fn copy_of(alloc: Global, bytes: &[u8]) -> Result<Vec<u8>, AllocError> {
@@ -242,16 +265,23 @@ fn inputs_in(alloc: Global) -> io::Result<Inputs> {
         texts.push(copy)?;
     }
     let images = images_in(alloc, [FIRST, SECOND])?;
-    Ok(Inputs { texts, images })
+    let sums = images_in(alloc, [FIRST_SUMS, SECOND_SUMS])?;
+    Ok(Inputs {
+        texts,
+        images,
+        sums,
+    })
 }
 
 fn make(heap: &Heap, inputs: &Inputs, call: Call) -> Outcome {
     outcome_of(match call {
         Call::SketchReader => sketches_reader(heap),
         Call::SketchSources => sketches_sources(heap, inputs.texts.as_slice()),
-        Call::Unite => unites(heap, inputs.images.as_slice(), 9001, BOTH),
-        Call::Meet => meets(heap, PAIR, SHARED),
-        Call::Minus => subtracts(heap, PAIR, FIRST_ALONE),
+        Call::Unite => unites(heap, inputs.images.as_slice()),
+        Call::Meet => meets(heap),
+        Call::Minus => subtracts(heap),
+        Call::SumSources => sums_sources(heap, inputs.texts.as_slice()),
+        Call::UniteSums => unites_sums(heap, inputs.sums.as_slice()),
     })
 }
 
@@ -285,6 +315,8 @@ fn reports_memory(rt: HostRuntime) -> Result<(), Fail> {
         Call::Unite,
         Call::Meet,
         Call::Minus,
+        Call::SumSources,
+        Call::UniteSums,
     ] {
         let refused = in_turn(&rt, &heap, &inputs, call);
         assert!(rt; refused >= 4, "{call:?}: {refused}");
@@ -386,64 +418,6 @@ fn reports_sources(rt: HostRuntime) -> Result<(), Fail> {
             unites,
         );
         assert_eq!(rt; outcome, wanted, "{seed} {lg_k} {unites}");
-    }
-    Ok(())
-}
-
-/// The images of the two texts and of the results under the seed 42, by the same program.
-const PAIR_42: Pair<'static> = Pair {
-    first: b"02030300001af87d0400000000000000fbb607dcb134173a4711255bd8340d5091c20dfdbe5315788faf4c92bc4e177d\n",
-    second: b"02030300001af87d0500000000000000b5c2c10fb823000cfbb607dcb134173a4711255bd8340d50c15b7c474f3ccc7391c20dfdbe531578\n",
-    read: 42,
-    seed: 42,
-};
-
-const BOTH_42: &[u8] =
-    b"02030300001af87d0600000000000000b5c2c10fb823000cfbb607dcb134173a4711255bd8340d50c15b7c474f3ccc7391c20dfdbe5315788faf4c92bc4e177d\n";
-
-const SHARED_42: &[u8] =
-    b"02030300001af87d0300000000000000fbb607dcb134173a4711255bd8340d5091c20dfdbe531578\n";
-
-const FIRST_ALONE_42: &[u8] = b"01030300001af87d8faf4c92bc4e177d\n";
-
-/// The outcome of a call on the images of seed 42, read under one seed, with an operator of another.
-fn under_seeds(alloc: Global, heap: &Heap, call: Call, read: u64, seed: u64) -> Outcome {
-    let pair = Pair {
-        read,
-        seed,
-        ..PAIR_42
-    };
-    outcome_of(match call {
-        Call::Unite => match images_in(alloc, [pair.first, pair.second]) {
-            Ok(images) => unites(heap, images.as_slice(), seed, BOTH_42),
-            Err(error) => Err(Unread::from(error)),
-        },
-        Call::Meet => meets(heap, pair, SHARED_42),
-        _ => subtracts(heap, pair, FIRST_ALONE_42),
-    })
-}
-
-/// 50541 is the least seed whose seed hash is 0.
-#[test]
-fn operators_under_each_seed(rt: HostRuntime) -> Result<(), Fail> {
-    let heap = Refusing::new(rt.alloc());
-    let seed_refused = Outcome::Refused(ErrorKind::InvalidArgument);
-    let image_refused = Outcome::Refused(ErrorKind::InvalidData);
-    for (call, read, seed, wanted) in [
-        (Call::Unite, 42, 42, Outcome::Answered),
-        (Call::Meet, 42, 42, Outcome::Answered),
-        (Call::Minus, 42, 42, Outcome::Answered),
-        (Call::Unite, 42, 9001, image_refused),
-        (Call::Meet, 42, 9001, seed_refused),
-        (Call::Minus, 42, 9001, seed_refused),
-        (Call::Meet, 9001, 9001, image_refused),
-        (Call::Unite, 42, 50541, seed_refused),
-        (Call::Meet, 42, 50541, seed_refused),
-        (Call::Minus, 42, 50541, seed_refused),
-        (Call::Meet, 50541, 50541, image_refused),
-    ] {
-        let outcome = under_seeds(rt.alloc(), &heap, call, read, seed);
-        assert_eq!(rt; outcome, wanted, "{call:?} {read} {seed}");
     }
     Ok(())
 }

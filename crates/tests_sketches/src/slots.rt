@@ -5,6 +5,7 @@ use sketch_base::Error;
 use std::alloc::{AllocError, Global};
 use std::process::Abort;
 use std::test::Fail;
+use theta_core::ResizeFactor::{X1, X2, X4, X8};
 use theta_core::{MAX_THETA, ResizeFactor, ThetaHashTable};
 use theta_sketches::{ThetaSketch, ThetaSketchBuilder, ThetaUnionBuilder};
 
@@ -25,22 +26,16 @@ fn built_slots(alloc: Global, factor: ResizeFactor, last: u64) -> Result<(usize,
     let sketch = sketch_with(alloc, factor, last)?.estimated_size() / 8;
     let builder = ThetaUnionBuilder::default().lg_k(12);
     let mut union = builder.resize_factor(factor).build(alloc)?;
-    add(&mut union, sketch_with(alloc, ResizeFactor::X1, last)?)?;
+    add(&mut union, sketch_with(alloc, X1, last)?)?;
     Ok((sketch, union.estimated_size() / 8))
 }
 
 #[test]
 fn builders_pass_the_resize_factor(rt: HostRuntime) -> Result<(), Fail> {
-    // The resize factor, the number of hashes, and the number of slots then.
-    let rows = [
-        (ResizeFactor::X1, 65, 8192),
-        (ResizeFactor::X2, 65, 256),
-        (ResizeFactor::X4, 65, 512),
-        (ResizeFactor::X8, 65, 1024),
-    ];
-    for (factor, last, wanted) in rows {
-        let found = built_slots(rt.alloc(), factor, last)?;
-        assert_eq!(rt; found, (wanted, wanted), "of {factor:?}, {last}");
+    // The resize factor, and the number of slots of 65 hashes.
+    for (factor, wanted) in [(X1, 8192), (X2, 256), (X4, 512), (X8, 1024)] {
+        let found = built_slots(rt.alloc(), factor, 65)?;
+        assert_eq!(rt; found, (wanted, wanted), "of {factor:?}");
     }
     Ok(())
 }
@@ -74,7 +69,7 @@ fn held_by(alloc: Global, table: &ThetaHashTable) -> Result<Vec<u64>, AllocError
 
 /// A table with the hashes of the numbers from 1 to the last.
 fn table_of(alloc: Global, lg_k: u8, last: u64) -> Result<ThetaHashTable, Error> {
-    let mut table = ThetaHashTable::new(alloc, lg_k, ResizeFactor::X8, MAX_THETA, 9001)?;
+    let mut table = ThetaHashTable::new(alloc, lg_k, X8, MAX_THETA, 9001)?;
     for number in 1..=last {
         if table.has_room() {
             table.try_insert_hash(hash_of(number))?;

@@ -1,4 +1,5 @@
-//! Tests over the public calls of the tuple sketches: policies for tests, and memory that is refused.
+//! Tests over the public calls of the tuple sketches: policies for tests, a summary of variable
+//! width, and memory that is requested or refused.
 #![tactic(auto)]
 
 #[cfg(test)]
@@ -10,6 +11,8 @@ mod common;
 #[cfg(test)]
 mod forms;
 #[cfg(test)]
+mod letters;
+#[cfg(test)]
 mod operators;
 #[cfg(test)]
 mod policies;
@@ -17,3 +20,5 @@ mod policies;
 mod requests;
 #[cfg(test)]
 mod tables;
+#[cfg(test)]
+mod tuple_requests;

@@ -3,7 +3,7 @@
 use crate::common::Sums;
 use std::alloc::Global;
 use std::test::Fail;
-use theta_core::ResizeFactor;
+use theta_core::ResizeFactor::{self, X1, X2, X4, X8};
 use tuple_sketches::{
     DefaultUnionPolicy, DefaultUpdatePolicy, Error, TupleEntry, TupleSketchBuilder,
     TupleUnionBuilder,
@@ -29,24 +29,18 @@ fn slots_of_union(alloc: Global, factor: ResizeFactor, last: u64) -> Result<usiz
     let builder = TupleUnionBuilder::new(DefaultUnionPolicy::<u64>::default());
     let builder = builder.lg_k(12);
     let mut union = builder.resize_factor(factor).build(alloc)?;
-    let sketch = sums_with(alloc, ResizeFactor::X1, last)?;
+    let sketch = sums_with(alloc, X1, last)?;
     union.update(sketch.as_view())?;
     Ok(union.estimated_size() / SLOT)
 }
 
 #[test]
 fn builders_pass_the_resize_factor(rt: HostRuntime) -> Result<(), Fail> {
-    // The resize factor, the number of hashes, and the number of slots then.
-    let rows = [
-        (ResizeFactor::X1, 65, 8192),
-        (ResizeFactor::X2, 65, 256),
-        (ResizeFactor::X4, 65, 512),
-        (ResizeFactor::X8, 65, 1024),
-    ];
-    for (factor, last, wanted) in rows {
-        let sketch = sums_with(rt.alloc(), factor, last)?.estimated_size() / SLOT;
-        let union = slots_of_union(rt.alloc(), factor, last)?;
-        assert_eq!(rt; (sketch, union), (wanted, wanted), "of {factor:?}, {last}");
+    // The resize factor, and the number of slots of 65 hashes.
+    for (factor, wanted) in [(X1, 8192), (X2, 256), (X4, 512), (X8, 1024)] {
+        let sketch = sums_with(rt.alloc(), factor, 65)?.estimated_size() / SLOT;
+        let union = slots_of_union(rt.alloc(), factor, 65)?;
+        assert_eq!(rt; (sketch, union), (wanted, wanted), "of {factor:?}");
     }
     Ok(())
 }

@@ -51,6 +51,20 @@ version_1_of : (bytes : List ℕ) (h : ℕ) → 24 ≤ length bytes → version_
 unfolding version_1_layout
 version_1_of bytes h w = rw (le-ltb (length bytes) 24 w) refl
 
+-- the parts of `theta_layout`: the test before, and the choices among version 1, up to version 2, and up to version 3
+module _ (bytes : List ℕ) where
+  abbrev is_unfit : Bool
+  is_unfit = ltb (length bytes) 8 || not (leb 1 (slice_index bytes 0) && leb (slice_index bytes 0) 3) || not (eqb (slice_index bytes 2) 3)
+
+  abbrev from_1 : (h : ℕ) → Option Layout
+  from_1 h = cond (eqb (slice_index bytes 1) 1) (version_1_layout bytes h) None
+
+  abbrev from_2 : (h : ℕ) → Option Layout
+  from_2 h = cond (eqb (slice_index bytes 1) 2) (version_2_layout bytes (slice_index bytes 0) h) (from_1 h)
+
+  abbrev from_3 : (h : ℕ) → Option Layout
+  from_3 h = cond (eqb (slice_index bytes 1) 3) (flagged_layout bytes (slice_index bytes 0) h) (from_2 h)
+
 module _ (bytes : List ℕ) (h : ℕ) where
   abbrev pub Comes : Option Layout → Compact ℕ → Type 0
   Comes l s = LeavesOpen hash_key SpellsHash bytes h l s
@@ -129,20 +143,16 @@ module _ (bytes : List ℕ) (h : ℕ) where
       let longs = slice_index bytes 0 in
       let version = slice_index bytes 1 in
       let family = slice_index bytes 2 in
-      let unfit = ltb (length bytes) 8 || not (leb 1 longs && leb longs 3) || not (eqb family 3) in
-      let tail_1 = cond (eqb version 1) (version_1_layout bytes h) None in
-      let tail_2 = cond (eqb version 2) (version_2_layout bytes longs h) tail_1 in
-      let tail_3 = cond (eqb version 3) (flagged_layout bytes longs h) tail_2 in
-      elim (choice unfit None tail_3 s q) [
+      elim (choice (is_unfit bytes) None (from_3 bytes h) s q) [
         | inl a ↦ absurd a.1
         | inr a ↦
+            let theta : family ≡ 3 = grind (arith, nat_tests, a.0) in
             let whole : 8 ≤ length bytes = grind (arith, nat_tests, a.0) in
             let low : 1 ≤ longs = grind (arith, nat_tests, a.0) in
             let high : longs ≤ 3 = grind (arith, nat_tests, a.0) in
-            let theta : family ≡ 3 = grind (arith, nat_tests, a.0) in
-            elim (choice (eqb version 3) (flagged_layout bytes longs h) tail_2 s a.1) [
+            elim (choice (eqb version 3) (flagged_layout bytes longs h) (from_2 bytes h) s a.1) [
               | inl b ↦ version_3 longs s (record { whole = whole; longs_are = refl; longs_low = low; longs_high = high; version_is = eqb-true _ _ b.0; family_is = theta }) (flagged_to hash_key SpellsHash bytes h longs s low high b.1)
-              | inr b ↦ elim (choice (eqb version 2) (version_2_layout bytes longs h) tail_1 s b.1) [
+              | inr b ↦ elim (choice (eqb version 2) (version_2_layout bytes longs h) (from_1 bytes h) s b.1) [
                 | inl c ↦ version_2_to longs s (record { whole = whole; longs_are = refl; longs_low = low; longs_high = high; version_is = eqb-true _ _ c.0; family_is = theta }) c.1
                 | inr c ↦ elim (choice (eqb version 1) (version_1_layout bytes h) None s c.1) [
                   | inl d ↦ version_1_to longs s (record { whole = whole; longs_are = refl; longs_low = low; longs_high = high; version_is = eqb-true _ _ d.0; family_is = theta }) d.1
@@ -176,14 +186,9 @@ module _ (bytes : List ℕ) (h : ℕ) where
   theta_whole =
       let longs = slice_index bytes 0 in
       let version = slice_index bytes 1 in
-      let family = slice_index bytes 2 in
-      let unfit = ltb (length bytes) 8 || not (leb 1 longs && leb longs 3) || not (eqb family 3) in
-      let tail_1 = cond (eqb version 1) (version_1_layout bytes h) None in
-      let tail_2 = cond (eqb version 2) (version_2_layout bytes longs h) tail_1 in
-      let tail_3 = cond (eqb version 3) (flagged_layout bytes longs h) tail_2 in
-      either_whole bytes h unfit None tail_3 (λ e. tt) (λ e.
+      either_whole bytes h (is_unfit bytes) None (from_3 bytes h) (λ e. tt) (λ e.
       let low : 1 ≤ longs = grind (arith, nat_tests, e) in
       let high : longs ≤ 3 = grind (arith, nat_tests, e) in
-      either_whole bytes h (eqb version 3) (flagged_layout bytes longs h) tail_2 (λ f. flagged_whole bytes h longs low high) (λ f.
-      either_whole bytes h (eqb version 2) (version_2_layout bytes longs h) tail_1 (λ a. version_2_whole longs) (λ a.
+      either_whole bytes h (eqb version 3) (flagged_layout bytes longs h) (from_2 bytes h) (λ f. flagged_whole bytes h longs low high) (λ f.
+      either_whole bytes h (eqb version 2) (version_2_layout bytes longs h) (from_1 bytes h) (λ a. version_2_whole longs) (λ a.
       either_whole bytes h (eqb version 1) (version_1_layout bytes h) None (λ b. version_1_whole) (λ b. tt))))

@@ -123,6 +123,7 @@ impl<A: Allocator + Clone + Drop> CompactThetaSketch<A> {
     /// below theta. The seed hash of an empty sketch is not checked. Refused with `OutOfMemory` if memory runs out,
     /// also for such bytes: it allocates at most what the bytes could fill with hashes, and as much again to compare
     /// hashes that don't ascend.
+    #[tactic(auto, using(crate::proofs::ImageLayouts::theta_whole))]
     pub fn deserialize_with_seed(alloc: A, bytes: &[u8], seed: u64) -> Result<Self, Error>
         ensures ok { IfOk result (λ s. Reads bytes.now (seed_hash seed) s) }
         ensures refused { IfErr result (λ e. IsRefused e (IsReadable bytes.now (seed_hash seed))) }

@@ -10,6 +10,8 @@ mod run;
 #[cfg(test)]
 mod runs;
 mod table;
+#[cfg(test)]
+mod values;
 
 pub use command::{TableCommand, TableReply};
 pub use plain_table::PlainTable;

@@ -1,5 +1,6 @@
 //! Runs in which each request for memory is refused in turn.
 
+use crate::values::{Value, value_in_a_list, value_in_slots};
 use crate::{PlainTable, TableCommand, ThetaTable, run_table};
 use core_laws::{MAX_THETA, MIN_LG_K};
 use core_slots::ThetaEntry;
@@ -8,9 +9,6 @@ use refusing_allocator::{Refusal, Refusing};
 use sketch_base::Error;
 use std::alloc::{AllocError, Global};
 use std::test::Fail;
-
-/// A table's count, theta and hashes, ascending.
-type Value = (usize, u64, Vec<u64>);
 
 /// Commands that let a table grow, be rebuilt and be trimmed.
 fn commands_that_grow(alloc: Global) -> Result<Vec<TableCommand>, AllocError> {
@@ -39,11 +37,7 @@ fn values_in_turn(alloc: Global, commands: &[TableCommand]) -> Result<Vec<Value>
         if table.lg_nom_size() >= MIN_LG_K {
             run_table(alloc, &mut table, &[*command])?;
         }
-        let mut hashes = Vec::new(alloc);
-        for entry in table.entries() {
-            hashes.push(entry.hash())?;
-        }
-        values.push((table.num_retained(), table.retention_theta(), hashes))?;
+        values.push(value_in_a_list(alloc, &table)?)?;
     }
     Ok(values)
 }
@@ -55,22 +49,10 @@ fn run_in_slots(
     commands: &[TableCommand],
 ) -> Result<(bool, Value), Error> {
     let heap = Refusing::new(alloc);
-    let mut table: ThetaHashTable<&Refusing<Global>> = ThetaHashTable::new(
-        &heap,
-        5,
-        ResizeFactor::X2,
-        MAX_THETA,
-        9001,
-    )?;
+    let mut table = ThetaHashTable::new(&heap, 5, ResizeFactor::X2, MAX_THETA, 9001)?;
     heap.restart(Refusal::Only(request));
     let refused = run_table(&heap, &mut table, commands).is_err();
-    let mut hashes = Vec::new(alloc);
-    for entry in table.iter_entries() {
-        hashes.push(entry.hash())?;
-    }
-    hashes.sort_unstable();
-    let value = (table.num_retained(), table.retention_theta(), hashes);
-    Ok((refused, value))
+    Ok((refused, value_in_slots(alloc, &table)?))
 }
 
 /// Whether a run over the plain table is refused if this request is, and what the table then retains.
@@ -80,21 +62,10 @@ fn run_in_a_list(
     commands: &[TableCommand],
 ) -> Result<(bool, Value), Error> {
     let heap = Refusing::new(alloc);
-    let mut table: PlainTable<ThetaEntry, &Refusing<Global>> = PlainTable::new(
-        &heap,
-        5,
-        ResizeFactor::X2,
-        MAX_THETA,
-        9001,
-    )?;
+    let mut table = PlainTable::<ThetaEntry, _>::new(&heap, 5, ResizeFactor::X2, MAX_THETA, 9001)?;
     heap.restart(Refusal::Only(request));
     let refused = run_table(&heap, &mut table, commands).is_err();
-    let mut hashes = Vec::new(alloc);
-    for entry in table.entries() {
-        hashes.push(entry.hash())?;
-    }
-    let value = (table.num_retained(), table.retention_theta(), hashes);
-    Ok((refused, value))
+    Ok((refused, value_in_a_list(alloc, &table)?))
 }
 
 /// Whether a value is that after some first commands, perhaps none or all; if the run wasn't refused, that after all.
@@ -105,42 +76,37 @@ fn is_after_beginning(values: &[Value], refused: bool, value: &Value) -> bool {
     values.last() == Some(value)
 }
 
+/// A run over one of the two tables.
+fn run_refused(
+    alloc: Global,
+    in_slots: bool,
+    request: u64,
+    commands: &[TableCommand],
+) -> Result<(bool, Value), Error> {
+    if in_slots {
+        return run_in_slots(alloc, request, commands);
+    }
+    run_in_a_list(alloc, request, commands)
+}
+
 #[test]
 fn refused_runs_end_after_a_beginning(rt: HostRuntime) -> Result<(), Fail> {
     let commands = commands_that_grow(rt.alloc())?;
     let values = values_in_turn(rt.alloc(), &commands)?;
-    let mut refusals = 0u64;
-    for request in 0..24 {
-        let (refused, value) = run_in_slots(rt.alloc(), request, &commands)?;
+    for in_slots in [true, false] {
+        let mut refusals = 0u64;
+        for request in 0..24 {
+            let (refused, value) = run_refused(rt.alloc(), in_slots, request, &commands)?;
+            assert!(rt;
+                is_after_beginning(&values, refused, &value),
+                "in slots: {in_slots}, request {request}: {value:?}"
+            );
+            refusals = refusals.saturating_add(refused as u64);
+        }
         assert!(rt;
-            is_after_beginning(&values, refused, &value),
-            "in slots, request {request}: {value:?}"
+            4 < refusals && refusals < 24,
+            "in slots: {in_slots}, {refusals} runs were refused"
         );
-        refusals = refusals.saturating_add(refused as u64);
     }
-    assert!(rt;
-        4 < refusals && refusals < 24,
-        "{refusals} runs were refused"
-    );
-    Ok(())
-}
-
-#[test]
-fn refused_runs_over_a_list_end_after_a_beginning(rt: HostRuntime) -> Result<(), Fail> {
-    let commands = commands_that_grow(rt.alloc())?;
-    let values = values_in_turn(rt.alloc(), &commands)?;
-    let mut refusals = 0u64;
-    for request in 0..24 {
-        let (refused, value) = run_in_a_list(rt.alloc(), request, &commands)?;
-        assert!(rt;
-            is_after_beginning(&values, refused, &value),
-            "in a list, request {request}: {value:?}"
-        );
-        refusals = refusals.saturating_add(refused as u64);
-    }
-    assert!(rt;
-        4 < refusals && refusals < 24,
-        "{refusals} runs were refused"
-    );
     Ok(())
 }

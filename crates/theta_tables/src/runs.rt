@@ -1,5 +1,6 @@
 //! Runs of commands, over both the table in slots and the plain table.
 
+use crate::values::{Value, value_in_a_list, value_in_slots};
 use crate::{PlainTable, TableCommand, TableReply, ThetaTable, run_table};
 use core_laws::MAX_THETA;
 use core_slots::ThetaEntry;
@@ -15,8 +16,8 @@ const FACTORS: [ResizeFactor; 4] = [
     ResizeFactor::X8,
 ];
 
-/// The replies of a run, and then the table's count, theta and hashes, ascending.
-type RunResult = (Vec<TableReply>, (usize, u64, Vec<u64>));
+/// The replies of a run, and what the table then retains.
+type RunResult = (Vec<TableReply>, Value);
 
 /// The run over the table in slots.
 fn found_in_slots(
@@ -27,13 +28,7 @@ fn found_in_slots(
 ) -> Result<RunResult, Error> {
     let mut table = ThetaHashTable::new(alloc, lg_k, factor, MAX_THETA, 9001)?;
     let replies = run_table(alloc, &mut table, commands)?;
-    let mut hashes = Vec::new(alloc);
-    for entry in table.iter_entries() {
-        hashes.push(entry.hash())?;
-    }
-    hashes.sort_unstable();
-    let value = (table.num_retained(), table.retention_theta(), hashes);
-    Ok((replies, value))
+    Ok((replies, value_in_slots(alloc, &table)?))
 }
 
 /// The run over the plain table.
@@ -45,12 +40,7 @@ fn found_in_a_list(
 ) -> Result<RunResult, Error> {
     let mut table: PlainTable<ThetaEntry> = PlainTable::new(alloc, lg_k, factor, MAX_THETA, 9001)?;
     let replies = run_table(alloc, &mut table, commands)?;
-    let mut hashes = Vec::new(alloc);
-    for entry in table.entries() {
-        hashes.push(entry.hash())?;
-    }
-    let value = (table.num_retained(), table.retention_theta(), hashes);
-    Ok((replies, value))
+    Ok((replies, value_in_a_list(alloc, &table)?))
 }
 
 /// Insertions of 62 hashes, the greatest first, and commands that show the effect of the 61st.

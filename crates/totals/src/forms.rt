@@ -31,11 +31,11 @@ pub fn total_tsv_head<A: Allocator>(alloc: A) -> Result<String<A>, AllocError>
 pub fn total_tsv_row<A: Allocator>(alloc: A, total: Total) -> Result<String<A>, AllocError>
     ensures { IfOk result (λ text. string_bytes text ≡ total_tsv_row total) }
 {
-    let number = total.total;
     let exact = truth(total.exact);
-    let retained = total.retained;
-    let theta = total.theta;
-    format!(in alloc; "{number}\t{exact}\t{retained}\t{theta}\n")
+    format!(in alloc;
+        "{}\t{exact}\t{}\t{}\n",
+        total.total, total.retained, total.theta
+    )
 }
 
 /// A total as a JSON object on a line.

@@ -111,6 +111,7 @@ impl<S: TupleSummaryValue<A> + Drop, A: Allocator + Clone + Drop> CompactTupleSk
     /// Refused with `OutOfMemory` if memory runs out, also for such bytes: it allocates at most as many entries as the
     /// bytes could fill with their hashes, eight bytes per entry to compare hashes that don't ascend, and what reading
     /// summaries allocates.
+    #[tactic(auto, using(crate::proofs::ImageLayouts::tuple_whole))]
     pub fn deserialize_with_seed(alloc: A, bytes: &[u8], seed: u64) -> Result<Self, Error>
         ensures ok { IfOk result (λ s. Reads S.spells bytes.now (seed_hash seed) s) }
         ensures refused { IfErr result (λ e. IsRefused e (IsReadable S.spells bytes.now (seed_hash seed))) }

@@ -3,7 +3,7 @@
 
 use std::alloc::Global;
 use std::io;
-use theta_sketches::{Error, ErrorKind, ThetaSketch, ThetaSketchBuilder, ThetaUnionBuilder};
+use theta_sketches::{Error, ErrorKind, ThetaSketchBuilder, ThetaUnion, ThetaUnionBuilder};
 
 /// Why the program ended early.
 #[derive(Debug, Drop)]
@@ -24,21 +24,19 @@ impl From<io::Error> for Stopped {
     }
 }
 
-fn visitors(alloc: Global, names: &[&str]) -> Result<ThetaSketch, Error> {
+/// Adds the visitors of a day to a union.
+fn add_day(union: &mut ThetaUnion, alloc: Global, names: &[&str]) -> Result<(), Error> {
     let mut sketch = ThetaSketchBuilder::default().lg_k(14).build(alloc)?;
     for name in names {
         sketch.update(*name)?;
     }
-    Ok(sketch)
+    union.update(sketch.as_view())
 }
 
 fn main(rt: HostRuntime) -> Result<(), Stopped> {
-    let monday = visitors(rt.alloc(), &["ann", "bob", "ann"])?;
-    let tuesday = visitors(rt.alloc(), &["bob", "cy"])?;
-
     let mut both = ThetaUnionBuilder::default().lg_k(14).build(rt.alloc())?;
-    both.update(monday.as_view())?;
-    both.update(tuesday.as_view())?;
+    add_day(&mut both, rt.alloc(), &["ann", "bob", "ann"])?;
+    add_day(&mut both, rt.alloc(), &["bob", "cy"])?;
     let total = both.to_sketch(true)?.estimate_decimal(2);
     println!(rt; "{total} visitors")?;
     Ok(())

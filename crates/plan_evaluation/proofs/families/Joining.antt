@@ -1,5 +1,5 @@
 -- A union that merges a view merges its value, in folds.
-use Rattle.std.proofs.Common.{◌≡◌, Bool, true, false, cond, List, refl, ap, subst}
+use Rattle.std.proofs.Common.{◌≡◌, Option, Bool, true, false, cond, List, refl, ap, subst}
 use Rattle.core_laws.specs.Entries.{KeepsKey}
 use Rattle.core_laws.specs.Folds.{Fold, unmarked_value}
 use Rattle.core_laws.specs.Maps.{IsAscending, IsApart, map_of}
@@ -7,6 +7,9 @@ use Rattle.core_laws.specs.Shown.{Shown, shown_value}
 use Rattle.core_laws.specs.Values.{Sketch, Empty, NonEmpty}
 use Rattle.core_operators.specs.Union.{Union, IsUnion, IsJoined}
 use Rattle.core_operators.proofs.UnionValue.{united}
+use Rattle.core_policies.specs.Summaries.{combined, combine_refused}
+use Rattle.core_slots.specs.Entry.{tuple_key}
+use Rattle.core_slots.specs.declared.entry.TupleEntry.{TupleEntry}
 use Rattle.plan_values.specs.Family.{Family, folds_of}
 use Rattle.plan_evaluation.specs.Parts.{Joins}
 
@@ -23,3 +26,8 @@ module _ {X P V : Type 0} (f : Family X V) (refuses : X → X → Bool) (keeps :
         | true ↦ λ e. ap (λ u. plain u) (skipped e)
         | false ↦ λ e. united f.key f.merges refuses keeps old new s.theta listing sound at_work up apart (joins e)
       ]) refl)
+
+-- a view that is joined under one policy is joined under an equal one
+pub joined_under : {S P : Type 0} (combines : P → S → S → Option S) (policy other : P) (old new : Union (TupleEntry S) P) (s : Shown) (listing : List (TupleEntry S)) → policy ≡ other → (s.empty ≡ false → IsJoined tuple_key (combined (combines policy)) (combine_refused (combines policy)) old new s.theta listing) →
+    s.empty ≡ false → IsJoined tuple_key (combined (combines other)) (combine_refused (combines other)) old new s.theta listing
+joined_under combines policy other old new s listing same = subst (λ p. s.empty ≡ false → IsJoined tuple_key (combined (combines p)) (combine_refused (combines p)) old new s.theta listing) same

@@ -1,9 +1,10 @@
 -- Reading one thing after the other, as a loop does.
-use Rattle.std.proofs.Common.{◌≡◌, ℕ, suc, ◌-◌, ◌+◌, ◌≤◌, ◌<◌, List, [], ◌∷◌, ◌++◌, Result, Ok, Err, refl, sym, ap, ◌∙◌, append_assoc, arith}
+use Rattle.std.proofs.Common.{◌≡◌, ℕ, suc, ◌-◌, ◌+◌, ◌≤◌, ◌<◌, List, [], ◌∷◌, ◌++◌, Result, Ok, Err, refl, sym, ap, ◌∙◌, append_assoc, subst, arith}
+use Rattle.std.specs.Prelude.{IsErrAnd}
 use Rattle.std.proofs.lemmas.List.{append-nil}
 use Rattle.plan_text.specs.declared.fault.ReadError.{ReadError}
 use Rattle.plan_text.specs.declared.fault.ReadError.TheVariants as errors
-use Rattle.plan_text.specs.Reading.{Said, Stop, syntax, limit, ◌>>=◌, Fails, many}
+use Rattle.plan_text.specs.Reading.{Said, Stop, syntax, limit, ◌>>=◌, Fails, Gives, many}
 
 pub bind_ok : {A B : Type 0} (r : Result A Stop) (f : A → Result B Stop) (y : B) → (r >>= f) ≡ Ok y → (x : A) × (r ≡ Ok x) × (f x ≡ Ok y)
 bind_ok (Ok x) f y e = (x, refl, e)
@@ -20,6 +21,11 @@ pub fails_then : {A B : Type 0} (e : ReadError) (r : Result A Stop) (f : A → R
 fails_then errors.Memory r f h = tt
 fails_then (errors.Syntax rest) r f h = rw h refl
 fails_then (errors.Limit rest) r f h = rw h refl
+
+-- what `?` returns is the fault that it found
+pub passes_on : {X Y : Type 0} (view : X → Y) (r : Result X ReadError) (e : ReadError) (read : Result Y Stop) → IsErrAnd r (λ y. y ≡ e) → Fails e read → Gives view r read
+passes_on view (Ok x) e read is h = absurd is
+passes_on view (Err y) e read is h = subst (λ z. Fails z read) (sym is) h
 
 -- the things read before, and those still to read
 abbrev pub with_front : {P : Type 0} → List P → Result (List P × Said) Stop → Result (List P × Said) Stop

@@ -100,16 +100,12 @@ below_19 v i lt limited = let some : 0 < 10 = omega arith in let most : i ≤ 18
 first_digit : (b c : ℕ) → is_ascii_digit c ≡ false → is_ascii_digit b ≡ true → b ≡ c → ⊥
 first_digit b c other digit e = let both : true ≡ false = sym digit ∙ ap is_ascii_digit e ∙ other in absurd cc
 
-and_first : (a b : Bool) → (a && b) ≡ true → a ≡ true
-and_first true b e = refl
-and_first false b e = absurd cc
-
-and_second : (a b : Bool) → (a && b) ≡ true → b ≡ true
-and_second true b e = e
-and_second false b e = absurd cc
+both : (a b : Bool) → (a && b) ≡ true → (a ≡ true) × (b ≡ true)
+both true b e = (refl, e)
+both false b e = absurd cc
 
 -- a word of digits has no other byte
 pub digits_lack : (c : ℕ) (w : List ℕ) → is_ascii_digit c ≡ false → all_ascii_digits w ≡ true → Lacks c w
 digits_lack c [] other all k lt = absurd (omega arith)
-digits_lack c (b ∷ w) other all zero lt = first_digit b c other (and_first (is_ascii_digit b) (all_ascii_digits w) all)
-digits_lack c (b ∷ w) other all (suc k) lt = digits_lack c w other (and_second (is_ascii_digit b) (all_ascii_digits w) all) k (omega arith)
+digits_lack c (b ∷ w) other all zero lt = first_digit b c other (both (is_ascii_digit b) (all_ascii_digits w) all).0
+digits_lack c (b ∷ w) other all (suc k) lt = digits_lack c w other (both (is_ascii_digit b) (all_ascii_digits w) all).1 k (omega arith)

@@ -1,29 +1,25 @@
-use Rattle.std.proofs.Common.{◌≡◌, ◌∙◌, length, sym, ap, arith}
+use Rattle.std.proofs.Common.{◌≡◌, ◌∙◌, length, refl, sym, ap, arith}
 use Rattle.std.proofs.lemmas.Result.{IfOk-weaker}
-use Rattle.core_laws.specs.Maps.{IsAscending, below, map_of}
+use Rattle.core_laws.specs.Maps.{below, map_of}
 use Rattle.core_laws.specs.Operators.{lacking}
 use Rattle.core_laws.proofs.maps.Ascending.{ascending-filter}
-use Rattle.core_laws.proofs.maps.MapsOfLists.{ascending-from_map, ascending-map_of, apart-distinct}
+use Rattle.core_laws.proofs.maps.MapsOfLists.{ascending-map_of, apart-distinct}
 use Rattle.core_table.proofs.OtherOrders.{map_of-ascending}
 use Rattle.core_operators.proofs.DifferenceEntries.{below_twice}
-use Rattle.core_operators.proofs.SharedEntries.{few_below}
+use Rattle.core_operators.proofs.SharedEntries.{ascending_listed, few_below}
 use Rattle.core_operators.proofs.a_not_b.kept_beside.Goals as goal
 
 pub ascending_difference-requires-clause-ascending : goal.ascending_difference-requires-clause-ascending
 ascending_difference-requires-clause-ascending g c =
-    let key = g.S.Entry.SketchEntry.key in
-    let listing = g.S.EntrySketch.listing c.args.a in
-    let all : c.in-Some.entries.now ≡ listing = c.in-Some.ensures.left ∙ c.entries-list.ensures.all in
-    rw all (ascending-from_map key listing (rw c.entries-list.ensures.hashes (c.entries-list.ensures.sound.ascending (c.requires.in_order ∙ c.if-ordered.true))))
+    ascending_listed _ _ (g.S.EntrySketch.listing c.args.a) _ (c.in-Some.ensures.left ∙ c.entries-list.ensures.all) c.entries-list.ensures.hashes c.entries-list.ensures.sound (c.requires.in_order ∙ c.if-ordered.true)
 
 pub returns-in-Some-clause-ok : goal.returns-in-Some-clause-ok
 returns-in-Some-clause-ok g c =
+    let listing = g.S.EntrySketch.listing c.args.a in
     let key = g.S.Entry.SketchEntry.key in
     let other = g.F.SketchEntry.key in
-    let listing = g.S.EntrySketch.listing c.args.a in
-    let all : c.in-Some.entries.now ≡ listing = c.in-Some.ensures.left ∙ c.entries-list.ensures.all in
-    let up : IsAscending key listing = ascending-from_map key listing (rw c.entries-list.ensures.hashes (c.entries-list.ensures.sound.ascending (c.requires.in_order ∙ c.if-ordered.true))) in
-    let same : c.in-Some.entries.now ≡ map_of key listing = all ∙ sym (map_of-ascending key listing up) in
+    let up = ascending_listed key (g.S.KeySketch.shown c.args.a) listing listing refl c.entries-list.ensures.hashes c.entries-list.ensures.sound (c.requires.in_order ∙ c.if-ordered.true) in
+    let same : c.in-Some.entries.now ≡ map_of key listing = c.in-Some.ensures.left ∙ c.entries-list.ensures.all ∙ sym (map_of-ascending key listing up) in
     IfOk-weaker c.ascending_difference.result _ _ (λ v e. e ∙ ap (λ zs. lacking key other (below key zs c.args.theta) c.args.others.now) same) c.ascending_difference.ensures.ok
 
 pub ascending_difference-requires-2-clause-ascending : goal.ascending_difference-requires-2-clause-ascending

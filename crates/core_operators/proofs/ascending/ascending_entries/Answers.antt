@@ -6,21 +6,26 @@ use Rattle.core_table.proofs.OtherOrders.{map_of-ascending}
 use Rattle.core_operators.proofs.DifferenceEntries.{map_of_below}
 use Rattle.core_operators.proofs.ascending.ascending_entries.Goals as goal
 
+pub entries_below-requires-clause-in_order : goal.entries_below-requires-clause-in_order
+entries_below-requires-clause-in_order g c =
+    let sketch = c.entries-items.ensures in
+    λ e. rw sketch.all (ascending-from_map g.S.Entry.SketchEntry.key (g.S.EntrySketch.listing c.args.sketch) (rw sketch.hashes (sketch.sound.ascending (c.requires.in_order ∙ e))))
+
 pub returns-then-ordered-clause-ok : goal.returns-then-ordered-clause-ok
 returns-then-ordered-clause-ok g c =
     let key = g.S.Entry.SketchEntry.key in
     let listing = g.S.EntrySketch.listing c.args.sketch in
-    let up : IsAscending key listing = ascending-from_map key listing (rw c.entries_below.ensures.listed (c.entries_below.ensures.sound.ascending (c.requires.in_order ∙ c.if-ordered.true))) in
-    c.in_ok-entries.ensures.ok ∙ ap (λ zs. below key zs c.args.theta) (sym (map_of-ascending key listing up))
+    let up : IsAscending key listing = ascending-from_map key listing (rw c.entries-items.ensures.hashes (c.entries-items.ensures.sound.ascending (c.requires.in_order ∙ c.if-ordered.true))) in
+    (rw c.entries-items.ensures.all at c.in_ok-entries.ensures.ok) ∙ ap (λ zs. below key zs c.args.theta) (sym (map_of-ascending key listing up))
 
 pub sorted_by_hash-requires : goal.sorted_by_hash-requires
 sorted_by_hash-requires g c =
     let key = g.S.Entry.SketchEntry.key in
     let listing = g.S.EntrySketch.listing c.args.sketch in
-    rw c.in_ok-entries.ensures.ok (apart-filter key _ listing (apart-distinct key listing (rw c.entries_below.ensures.listed c.entries_below.ensures.sound.distinct)))
+    rw (c.in_ok-entries.ensures.ok, c.entries-items.ensures.all) (apart-filter key _ listing (apart-distinct key listing (rw c.entries-items.ensures.hashes c.entries-items.ensures.sound.distinct)))
 
 pub returns-clause-ok : goal.returns-clause-ok
 returns-clause-ok g c =
     let key = g.S.Entry.SketchEntry.key in
     let listing = g.S.EntrySketch.listing c.args.sketch in
-    rw (c.sorted_by_hash.ensures, c.in_ok-entries.ensures.ok) (map_of_below key listing c.args.theta)
+    rw (c.sorted_by_hash.ensures, c.in_ok-entries.ensures.ok, c.entries-items.ensures.all) (map_of_below key listing c.args.theta)

@@ -3,26 +3,18 @@ use Rattle.std.proofs.lemmas.Bool.Decides.{nat_tests}
 use Rattle.std.proofs.lemmas.List.{append-nil, append_assoc}
 use Rattle.core_laws.specs.Maps.{below}
 use Rattle.core_laws.proofs.maps.Ascending.{ascending-tail}
-use Rattle.core_laws.proofs.maps.MapsOfLists.{ascending-from_map}
 use Rattle.core_operators.proofs.DifferenceEntries.{stops}
 use Rattle.core_operators.proofs.ascending.entries_below.Goals as goal
 use Rattle.core_operators.proofs.ascending.entries_below.Goals.{in-None, in-Some+then-is_past}
 
 pub clone_each-init : goal.clone_each-init
 clone_each-init g c =
-    let key = g.S.Entry.SketchEntry.key in
-    let listing = g.S.EntrySketch.listing c.args.sketch in
-    let all : c.into_iter-entry-iterator.result.rest ≡ listing = ap (λ i. i.rest) c.into_iter-entry-iterator.ensures.into_iter_gives ∙ c.entries-items.ensures.all in
-    let hashes = c.entries-items.ensures.hashes in
-    let shown = c.entries-items.ensures.sound in
-    rw (all, c.in_ok-entries.ensures.items) (record {
-      rest = refl;
-      in_order = λ e. ascending-from_map key listing (rw hashes (shown.ascending (c.requires.in_order ∙ e)));
-    })
+    let all : c.into_iter-entry-iterator.result.rest ≡ c.args.items.rest = ap (λ i. i.rest) c.into_iter-entry-iterator.ensures.into_iter_gives in
+    rw (all, c.in_ok-entries.ensures.items) (record { rest = refl; in_order = c.requires.in_order })
 
 pub clone_each-preserved : goal.clone_each-preserved
 clone_each-preserved g c =
-    let key = g.S.Entry.SketchEntry.key in
+    let key = g.E.SketchEntry.key in
     let was = c.clone_each.invariant in
     let theta = c.args.theta in
     let x = c.in-Some.entry.now in
@@ -38,7 +30,7 @@ clone_each-preserved g c =
 
 pub returns-clause-ok : goal.returns-clause-ok
 returns-clause-ok g c =
-    let key = g.S.Entry.SketchEntry.key in
+    let key = g.E.SketchEntry.key in
     let was = c.clone_each.invariant in
     let done = c.clone_each.entries.items in
     sym (append-nil done) ∙

@@ -8,6 +8,6 @@ abbrev pub invariant-collect_each : goal.invariant-collect_each
 invariant-collect_each g l = record {
   may_go_on : (goal.iterator-collect_each g).can_next l.hash-iterator;
   ends : (goal.iterator-collect_each g).is_finite l.hash-iterator;
-  rest : l.keys.items ++ below hash_key (g.T.KeySketch.rest l.hash-iterator) l.theta ≡ below hash_key (g.T.KeySketch.shown l.fn.sketch).hashes l.theta;
+  rest : l.keys.items ++ below hash_key (g.T.KeySketch.rest l.hash-iterator) l.theta ≡ below hash_key (g.T.KeySketch.rest l.fn.hashes) l.theta;
   in_order : l.ascending ≡ true → IsAscending hash_key (g.T.KeySketch.rest l.hash-iterator);
 }

@@ -80,15 +80,15 @@ merge_in_order-preserved g c =
 
 pub returns-clause-after : goal.returns-clause-after
 returns-clause-after g c =
+    let i : ℕ = c.merge_in_order.first-index in
+    let entries = c.args.entries.now in
+    let was = c.merge_in_order.invariant in
+    let now = c.merge_in_order.table.map.kept in
     let key = g.E.SketchEntry.key in
     let merges = g.P.UnionMergePolicy.merges c.args.policy.now in
     let refuses = g.P.UnionMergePolicy.refuses c.args.policy.now in
     let keeps = g.met.P.UnionMergePolicy.keeps_hash c.args.policy.now in
     let k = 2 ^ c.args.table.now.map.lg_nom in
-    let was = c.merge_in_order.invariant in
-    let now = c.merge_in_order.table.map.kept in
-    let entries = c.args.entries.now in
-    let i : ℕ = c.merge_in_order.first-index in
     elim c.merge_in_order-test.branch [
       | else-merge_in_order-test w ↦
           let none : drop i entries ≡ [] = drop_all i entries w.merge_in_order-test.false in

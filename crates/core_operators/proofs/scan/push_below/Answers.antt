@@ -25,12 +25,10 @@ push_each-preserved g c =
 
 pub returns-then-hash-theta : goal.returns-then-hash-theta
 returns-then-hash-theta g c =
-    let key = g.E.SketchEntry.key in
-    let was = c.push_each.invariant in
-    let theta = c.args.theta in
     let i : ℕ = c.push_each.entry-index in
     let x = c.entry-item.result in
     let left = drop (i + 1) c.args.entries.now in
     let shape : drop i c.args.entries.now ≡ x ∷ left = drop_more c.args.entries.now i x c.push_each-test.true ∙ ap (λ y. y ∷ left) (sym c.entry-item.is) in
-    let none : below key (x ∷ left) theta ≡ [] = stops key x left theta (rw shape at was.ascending) (omega (arith, c.hash.ensures, c.if-hash-theta.true)) in
+    let was = c.push_each.invariant in
+    let none : below g.E.SketchEntry.key (x ∷ left) c.args.theta ≡ [] = stops g.E.SketchEntry.key x left c.args.theta (rw shape at was.ascending) (omega (arith, c.hash.ensures, c.if-hash-theta.true)) in
     sym (append-nil c.push_each.kept.items) ∙ ap (λ zs. c.push_each.kept.items ++ zs) (sym none) ∙ rw shape at was.rest

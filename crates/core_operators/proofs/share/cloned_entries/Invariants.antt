@@ -4,7 +4,7 @@ use Rattle.core_operators.proofs.share.cloned_entries.Given as goal
 -- the entries so far, then those that are left, are all
 abbrev pub invariant-clone_each : goal.invariant-clone_each
 invariant-clone_each g l = record {
-  all : l.entries.items ++ l.entry-iterator.rest ≡ g.S.EntrySketch.listing l.fn.sketch;
+  all : l.entries.items ++ l.entry-iterator.rest ≡ l.fn.items.rest;
 }
 
 -- the entries that are left

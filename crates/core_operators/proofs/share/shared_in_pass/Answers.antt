@@ -15,8 +15,8 @@ share_each-init g c =
 
 pub returns-in_err-found-clause-refused : goal.returns-in_err-found-clause-refused
 returns-in_err-found-clause-refused g c =
-    let p = err_from_is_err_and c.from_residual.result c.from_residual.ensures.1 in
     let key = g.E.SketchEntry.key in
+    let p = err_from_is_err_and c.from_residual.result c.from_residual.ensures.1 in
     let merges = g.P.IntersectionMergePolicy.merges c.args.policy.now in
     let refuses = g.P.IntersectionMergePolicy.refuses c.args.policy.now in
     let keeps = g.met.P.IntersectionMergePolicy.keeps_hash c.args.policy.now in
@@ -27,12 +27,12 @@ returns-in_err-found-clause-refused g c =
 
 pub share_each-preserved : goal.share_each-preserved
 share_each-preserved g c =
+    let left = c.share_each.left.now in
+    let right = c.share_each.arriving_left.now in
     let key = g.E.SketchEntry.key in
     let merges = g.P.IntersectionMergePolicy.merges c.args.policy.now in
     let refuses = g.P.IntersectionMergePolicy.refuses c.args.policy.now in
     let keeps = g.met.P.IntersectionMergePolicy.keeps_hash c.args.policy.now in
-    let left = c.share_each.left.now in
-    let right = c.share_each.arriving_left.now in
     let more = fewer_than c.share_each.entries.items c.in_ok-found.found in
     let on = shared_on key merges refuses keeps c.args.content.now left c.args.arriving.now right c.in-Some-first.existing.now c.in-Some.incoming.now c.args.theta c.share_each.entries.items c.in_ok-found.found c.hash-hash.result c.hash-known.result c.number_if.result c.number_if-in-Some.result
     c.in-Some-first.ensures.value c.in-Some.ensures.value c.hash-hash.ensures c.hash-known.ensures (omega (arith, c.if-hash-theta.false)) c.number_if.ensures.value c.number_if-in-Some.ensures.value c.in_ok-found.ensures.combined c.share_each.invariant.so_far in
@@ -44,12 +44,12 @@ share_each-preserved g c =
 
 pub returns-clause-all : goal.returns-clause-all
 returns-clause-all g c =
+    let right = c.share_each.arriving_left.now in
     let key = g.E.SketchEntry.key in
     let merges = g.P.IntersectionMergePolicy.merges c.args.policy.now in
     let refuses = g.P.IntersectionMergePolicy.refuses c.args.policy.now in
     let keeps = g.met.P.IntersectionMergePolicy.keeps_hash c.args.policy.now in
     let left = c.share_each.left.now in
-    let right = c.share_each.arriving_left.now in
     shared_end key merges refuses keeps c.args.content.now left c.args.arriving.now right c.args.theta c.share_each.entries.items c.share_each.invariant.so_far
     (elim c.match-first.branch [
       | in_default w ↦ end_arriving key merges refuses keeps left right c.args.theta (no_first (λ r. r.now) c.first.result right w.in_default.not-Some c.first.ensures.value)

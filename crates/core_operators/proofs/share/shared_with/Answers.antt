@@ -1,25 +1,22 @@
-use Rattle.std.proofs.Common.{◌≡◌, ◌∙◌, length, ap, inl, inr, arith}
+use Rattle.std.proofs.Common.{◌≡◌, ◌∙◌, length, refl, ap, inl, inr, arith}
 use Rattle.std.proofs.lemmas.Result.{IfOk-weaker, IfErr-weaker}
-use Rattle.core_laws.specs.Maps.{IsAscending, below, map_of}
+use Rattle.core_laws.specs.Maps.{below, map_of}
 use Rattle.core_laws.proofs.maps.Ascending.{ascending-filter}
-use Rattle.core_laws.proofs.maps.MapsOfLists.{ascending-from_map, ascending-map_of, apart-distinct}
+use Rattle.core_laws.proofs.maps.MapsOfLists.{ascending-map_of, apart-distinct}
 use Rattle.core_table.proofs.OtherOrders.{map_of-ascending}
-use Rattle.core_operators.proofs.SharedEntries.{read_below, refused_below, few_below}
+use Rattle.core_operators.proofs.SharedEntries.{read_below, refused_below, ascending_listed, few_below}
 use Rattle.core_operators.proofs.share.shared_with.Goals as goal
 
 pub shared_entries-requires-clause-arriving_ascend : goal.shared_entries-requires-clause-arriving_ascend
 shared_entries-requires-clause-arriving_ascend g c =
-    let key = g.S.Entry.SketchEntry.key in
-    let listing = g.S.EntrySketch.listing c.args.sketch in
-    let all : c.in-Some.arriving.now ≡ listing = c.in-Some.ensures.left ∙ c.entries-list.ensures.all in
-    rw all (ascending-from_map key listing (rw c.entries-list.ensures.hashes (c.entries-list.ensures.sound.ascending (c.requires.in_order ∙ c.if-ordered.true))))
+    ascending_listed _ _ (g.S.EntrySketch.listing c.args.sketch) _ (c.in-Some.ensures.left ∙ c.entries-list.ensures.all) c.entries-list.ensures.hashes c.entries-list.ensures.sound (c.requires.in_order ∙ c.if-ordered.true)
 
 pub returns-in-Some-clause-all : goal.returns-in-Some-clause-all
 returns-in-Some-clause-all g c =
     let key = g.S.Entry.SketchEntry.key in
     let listing = g.S.EntrySketch.listing c.args.sketch in
     let all : c.in-Some.arriving.now ≡ listing = c.in-Some.ensures.left ∙ c.entries-list.ensures.all in
-    let up : IsAscending key listing = ascending-from_map key listing (rw c.entries-list.ensures.hashes (c.entries-list.ensures.sound.ascending (c.requires.in_order ∙ c.if-ordered.true))) in
+    let up = ascending_listed key (g.S.KeySketch.shown c.args.sketch) listing listing refl c.entries-list.ensures.hashes c.entries-list.ensures.sound (c.requires.in_order ∙ c.if-ordered.true) in
     rw (map_of-ascending key listing up, ← all, ← c.deref.ensures.value) c.shared_entries.ensures.all
 
 pub shared_entries-requires-2-clause-arriving_ascend : goal.shared_entries-requires-2-clause-arriving_ascend
@@ -31,10 +28,10 @@ shared_entries-requires-2-clause-arriving_ascend g c =
 pub returns-clause-all : goal.returns-clause-all
 returns-clause-all g c =
     let key = g.S.Entry.SketchEntry.key in
+    let listing = g.S.EntrySketch.listing c.args.sketch in
     let merges = g.P.IntersectionMergePolicy.merges c.args.policy.now in
     let refuses = g.P.IntersectionMergePolicy.refuses c.args.policy.now in
     let keeps = g.met.P.IntersectionMergePolicy.keeps_hash c.args.policy.now in
-    let listing = g.S.EntrySketch.listing c.args.sketch in
     let arriving_is : c.deref-3.result.now ≡ below key (map_of key listing) c.args.theta = c.deref-3.ensures.value ∙ c.in_ok-arriving.ensures.ok in
     IfOk-weaker c.shared_entries-2.result _ _ (λ v e. e ∙ rw (arriving_is, c.deref-2.ensures.value) (read_below key merges refuses keeps (map_of key listing) c.args.content.now.items c.args.theta)) c.shared_entries-2.ensures.all
 

@@ -10,10 +10,8 @@ use Rattle.core_slots.proofs.gathering.gather.Goals as goal
 
 pub spread-requires-clause-room : goal.spread-requires-clause-room
 spread-requires-clause-room g c =
-    let key = g.E.SketchEntry.key in
-    let content = g.E.PathEntry.content in
     let slots = c.args.slots.now in
-    omega (arith, filled_most content c.truncate.new.self.items, c.truncate.ensures.len, c.gather_below-count.ensures.number, below_few key (filled (map content slots)) c.args.theta, filled_most content slots, length-content content slots, c.requires.laid_out.size)
+    omega (arith, filled_most g.E.PathEntry.content c.truncate.new.self.items, c.truncate.ensures.len, c.gather_below-count.ensures.number, below_few g.E.SketchEntry.key (filled (map g.E.PathEntry.content slots)) c.args.theta, filled_most g.E.PathEntry.content slots, length-content g.E.PathEntry.content slots, c.requires.laid_out.size)
 
 pub returns-clause-map : goal.returns-clause-map
 returns-clause-map g c =
@@ -38,10 +36,8 @@ settle_all-requires-clause-apart g c =
 
 pub settle_all-requires-clause-room : goal.settle_all-requires-clause-room
 settle_all-requires-clause-room g c =
-    let key = g.E.SketchEntry.key in
-    let content = g.E.PathEntry.content in
     let slots = c.args.slots.now in
-    omega (arith, filled_most content c.truncate.new.self.items, c.truncate.ensures.len, c.gather_below-count.ensures.number, below_few key (filled (map content slots)) c.args.theta, filled_most content slots, length-content content slots, c.requires.laid_out.size)
+    omega (arith, filled_most g.E.PathEntry.content c.truncate.new.self.items, c.truncate.ensures.len, c.gather_below-count.ensures.number, below_few g.E.SketchEntry.key (filled (map g.E.PathEntry.content slots)) c.args.theta, filled_most g.E.PathEntry.content slots, length-content g.E.PathEntry.content slots, c.requires.laid_out.size)
 
 pub returns-then-are_words-clause-map : goal.returns-then-are_words-clause-map
 returns-then-are_words-clause-map g c =

@@ -1,4 +1,4 @@
-use Rattle.std.proofs.Common.{◌≡◌, ℕ, ◌+◌, ◌*◌, ◌<◌, ◌≤◌, ◌^◌, ◌++◌, [], ◌∷◌, refl, Some, None, eqb, length, length-append, map, set, subst, sym, ap, ◌∙◌, arith}
+use Rattle.std.proofs.Common.{◌≡◌, ℕ, ◌+◌, ◌*◌, ◌<◌, ◌≤◌, ◌^◌, ◌++◌, [], ◌∷◌, refl, List, Option, Some, None, eqb, length, length-append, map, set, subst, sym, ap, ◌∙◌, arith}
 use Rattle.std.proofs.lemmas.List.{length-set}
 use Rattle.std.proofs.lemmas.Nat.{pow_pos}
 use Rattle.std.proofs.Math.Pow.{pow_mono}
@@ -10,6 +10,10 @@ use Rattle.core_slots.proofs.Moves.{count-append}
 use Rattle.core_slots.proofs.Settled.{in_front, in_wait, waits_next, front_before, wait_behind, front_more, front_none, front_whole, front_is, none_behind, round_starts, round_next, round_short, round_puts, round_keeps, is_free, is_taken, looks_next, looks_put, looks_kept, looks_end}
 use Rattle.core_slots.proofs.rounds.settle.Goals as goal
 use Rattle.core_slots.proofs.rounds.settle.Goals.{in-Some+then-is_settled, in-Some+else-is_settled, in_default}
+
+-- with no entries in front, none is left
+last_round : {S X : Type 0} {key : X → ℕ} {lg begun round put looked : ℕ} {whole : List X} {slots : List (Option X)} (content : S → Option X) (left : List S) (n : ℕ) → n ≡ 0 → IsInRound key lg whole [] (in_front content n left) slots begun round put looked → IsInRound key lg whole [] [] slots begun round put looked
+last_round content left n none is = let first : in_front content n left ≡ [] = ap (λ (m : ℕ). in_front content m left) none ∙ front_none content left in rw first at is
 
 pub rounds-init : goal.rounds-init
 rounds-init g c =
@@ -32,59 +36,28 @@ rounds-init g c =
     )
 
 pub returns-then-count-eq0-clause-found : goal.returns-then-count-eq0-clause-found
-returns-then-count-eq0-clause-found g c =
-    let key = g.E.SketchEntry.key in
-    let content = g.E.PathEntry.content in
-    let i = c.rounds.invariant in
-    let whole = filled (map content c.args.left.now) ++ filled (map content c.args.slots.now) in
-    let slots = map content c.rounds.slots in
-    let none : in_front content c.rounds.count c.rounds.left ≡ [] = ap (λ (n : ℕ). in_front content n c.rounds.left) c.if-count-eq0.true ∙ front_none content c.rounds.left in
-    let is : IsInRound key c.args.lg whole [] [] slots (length (filled (map content c.args.slots.now))) c.rounds.round i.0 i.1 = rw none at i.5 in
-    λ q. is.found q
+returns-then-count-eq0-clause-found g c = λ q. (last_round g.E.PathEntry.content c.rounds.left c.rounds.count c.if-count-eq0.true c.rounds.invariant.5).found q
 
 pub returns-then-count-eq0-clause-all : goal.returns-then-count-eq0-clause-all
 returns-then-count-eq0-clause-all g c =
-    let key = g.E.SketchEntry.key in
-    let content = g.E.PathEntry.content in
-    let i = c.rounds.invariant in
-    let left = filled (map content c.args.left.now) in
-    let begun = filled (map content c.args.slots.now) in
-    let none : in_front content c.rounds.count c.rounds.left ≡ [] = ap (λ (n : ℕ). in_front content n c.rounds.left) c.if-count-eq0.true ∙ front_none content c.rounds.left in
-    let is : IsInRound key c.args.lg (left ++ begun) [] [] (map content c.rounds.slots) (length begun) c.rounds.round i.0 i.1 = rw none at i.5 in
-    λ q. omega (arith, is.all q, count-append (λ x. eqb (key x) q) left begun)
+    let is = last_round g.E.PathEntry.content c.rounds.left c.rounds.count c.if-count-eq0.true c.rounds.invariant.5 in
+    λ q. omega (arith, is.all q, count-append (λ x. eqb (g.E.SketchEntry.key x) q) (filled (map g.E.PathEntry.content c.args.left.now)) (filled (map g.E.PathEntry.content c.args.slots.now)))
 
 pub returns-then-count-eq0-clause-count : goal.returns-then-count-eq0-clause-count
 returns-then-count-eq0-clause-count g c =
-    let key = g.E.SketchEntry.key in
-    let content = g.E.PathEntry.content in
-    let i = c.rounds.invariant in
-    let left = filled (map content c.args.left.now) in
-    let begun = filled (map content c.args.slots.now) in
-    let none : in_front content c.rounds.count c.rounds.left ≡ [] = ap (λ (n : ℕ). in_front content n c.rounds.left) c.if-count-eq0.true ∙ front_none content c.rounds.left in
-    let is : IsInRound key c.args.lg (left ++ begun) [] [] (map content c.rounds.slots) (length begun) c.rounds.round i.0 i.1 = rw none at i.5 in
-    omega (arith, is.counted, is.all_put, length-append left begun)
+    let is = last_round g.E.PathEntry.content c.rounds.left c.rounds.count c.if-count-eq0.true c.rounds.invariant.5 in
+    omega (arith, is.counted, is.all_put, length-append (filled (map g.E.PathEntry.content c.args.left.now)) (filled (map g.E.PathEntry.content c.args.slots.now)))
 
 pub returns-then-count-eq0-clause-placed : goal.returns-then-count-eq0-clause-placed
 returns-then-count-eq0-clause-placed g c =
-    let key = g.E.SketchEntry.key in
-    let content = g.E.PathEntry.content in
     let i = c.rounds.invariant in
-    let left = filled (map content c.args.left.now) in
-    let begun = filled (map content c.args.slots.now) in
-    let none : in_front content c.rounds.count c.rounds.left ≡ [] = ap (λ (n : ℕ). in_front content n c.rounds.left) c.if-count-eq0.true ∙ front_none content c.rounds.left in
-    let is : IsInRound key c.args.lg (left ++ begun) [] [] (map content c.rounds.slots) (length begun) c.rounds.round i.0 i.1 = rw none at i.5 in
-    omega (arith, i.2, is.counted, length-append left begun)
+    let is = last_round g.E.PathEntry.content c.rounds.left c.rounds.count c.if-count-eq0.true i.5 in
+    omega (arith, i.2, is.counted, length-append (filled (map g.E.PathEntry.content c.args.left.now)) (filled (map g.E.PathEntry.content c.args.slots.now)))
 
 pub returns-then-count-eq0-clause-looked : goal.returns-then-count-eq0-clause-looked
 returns-then-count-eq0-clause-looked g c =
-    let key = g.E.SketchEntry.key in
-    let content = g.E.PathEntry.content in
-    let i = c.rounds.invariant in
-    let left = filled (map content c.args.left.now) in
-    let begun = filled (map content c.args.slots.now) in
-    let none : in_front content c.rounds.count c.rounds.left ≡ [] = ap (λ (n : ℕ). in_front content n c.rounds.left) c.if-count-eq0.true ∙ front_none content c.rounds.left in
-    let is : IsInRound key c.args.lg (left ++ begun) [] [] (map content c.rounds.slots) (length begun) c.rounds.round i.0 i.1 = rw none at i.5 in
-    omega (arith, i.2, i.3, is.counted, length-append left begun)
+    let is = last_round g.E.PathEntry.content c.rounds.left c.rounds.count c.if-count-eq0.true c.rounds.invariant.5 in
+    omega (arith, c.rounds.invariant.2, c.rounds.invariant.3, is.counted, length-append (filled (map g.E.PathEntry.content c.args.left.now)) (filled (map g.E.PathEntry.content c.args.slots.now)))
 
 pub returns-then-count-eq0-clause-looks : goal.returns-then-count-eq0-clause-looks
 returns-then-count-eq0-clause-looks g c =
@@ -137,8 +110,7 @@ look_on-preserved g c =
     let long : length (set left at dest) ≡ length left = length-set left at dest in
     elim c.match-hash_in.branch [
       | in-Some+then-is_settled w ↦
-          let reported = sym c.hash_in.ensures ∙ w.in-Some.is in
-          let one = some_of key (content entry) w.in-Some.hash reported in
+          let one = some_of key (content entry) w.in-Some.hash (sym c.hash_in.ensures ∙ w.in-Some.is) in
           let next : ℕ = w.slot_in_round-next.result in
           let way : next ≡ probe (key one.0) lg round = w.slot_in_round-next.ensures.value ∙ ap (λ (n : ℕ). probe n lg round) (sym one.2) in
           let put = w.put_if_free-is_settled in
@@ -161,8 +133,7 @@ look_on-preserved g c =
             i.8,
           )
       | in-Some+else-is_settled w ↦
-          let reported = sym c.hash_in.ensures ∙ w.in-Some.is in
-          let one = some_of key (content entry) w.in-Some.hash reported in
+          let one = some_of key (content entry) w.in-Some.hash (sym c.hash_in.ensures ∙ w.in-Some.is) in
           let next : ℕ = w.slot_in_round-next.result in
           let way : next ≡ probe (key one.0) lg round = w.slot_in_round-next.ensures.value ∙ ap (λ (n : ℕ). probe n lg round) (sym one.2) in
           let put = w.put_if_free-is_settled in
@@ -201,7 +172,6 @@ rounds-preserved g c =
     let key = g.E.SketchEntry.key in
     let content = g.E.PathEntry.content in
     let i = c.look_on.invariant in
-    let lg : ℕ = c.args.lg in
     let begun = filled (map content c.args.slots.now) in
     let left = filled (map content c.args.left.now) in
     let slots = map content c.look_on.slots in
@@ -210,15 +180,15 @@ rounds-preserved g c =
     let count : ℕ = c.rounds.count in
     let stay = in_front content kept c.look_on.left in
     let none : in_wait content c.look_on.at count c.look_on.left ≡ [] = none_behind content c.look_on.left c.look_on.at count (omega (arith, c.look_on-test.false)) in
-    let is : IsInRound key lg (left ++ begun) stay [] slots (length begun) round i.0 i.1 = rw none at i.5 in
+    let is : IsInRound key c.args.lg (left ++ begun) stay [] slots (length begun) round i.0 i.1 = rw none at i.5 in
     let some : 0 < count = omega (arith, c.if-count-eq0.false) in (
       i.0,
       i.1,
       i.2,
       i.3,
       looks_next (c.args.looks.now + i.1) round (length (in_wait content c.look_on.at count c.look_on.left)) (length stay) c.look_on.looks i.4 (ap length none),
-      round_next key lg (left ++ begun) stay slots (length begun) round i.0 i.1 is,
-      λ more. round_short key lg (left ++ begun) stay slots (length begun) round i.0 i.1 [] is (omega (arith, c.requires.room, length-append left begun)) (c.rounds.invariant.6 some) (omega (arith, more, i.8)),
+      round_next key c.args.lg (left ++ begun) stay slots (length begun) round i.0 i.1 is,
+      λ more. round_short key c.args.lg (left ++ begun) stay slots (length begun) round i.0 i.1 [] is (omega (arith, c.requires.room, length-append left begun)) (c.rounds.invariant.6 some) (omega (arith, more, i.8)),
       omega (arith, i.7, c.look_on.auto.at-end, c.look_on.auto.left, c.rounds.invariant.7),
       i.6 ∙ c.rounds.invariant.8,
     )

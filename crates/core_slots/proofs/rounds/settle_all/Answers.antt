@@ -45,13 +45,13 @@ settle-requires-clause-once g c =
 
 pub settle-requires-clause-room : goal.settle-requires-clause-room
 settle-requires-clause-room g c =
+    let is = c.parts.invariant.4 in
     let content = g.E.PathEntry.content in
-    let i = c.parts.invariant in
     let now = c.deref_mut.result.now in
     let from : ℕ = c.saturating_sub-from.result in
     let front = filled (map content (take from now)) in
     let part = filled (map content (drop from now)) in
-    rw (rest_part now from) (omega (arith, c.requires.room, i.4.counted, i.4.all_put, ap (λ xs. length (filled (map content xs))) c.deref_mut.ensures.value, ap length (two_parts content now from), length-append front part))
+    rw (rest_part now from) (omega (arith, c.requires.room, is.counted, is.all_put, ap (λ xs. length (filled (map content xs))) c.deref_mut.ensures.value, ap length (two_parts content now from), length-append front part))
 
 pub parts-preserved : goal.parts-preserved
 parts-preserved g c =

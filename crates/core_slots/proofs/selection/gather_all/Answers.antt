@@ -8,10 +8,10 @@ use Rattle.core_slots.proofs.selection.gather_all.Goals.{in-Some-hash_in+in_ok-p
 
 pub gather_each-preserved : goal.gather_each-preserved
 gather_each-preserved g c =
+    let i : ℕ = c.gather_each.slot-index in
     let key = g.E.SketchEntry.key in
     let content = g.E.PathEntry.content in
     let slots = c.args.slots.now in
-    let i : ℕ = c.gather_each.slot-index in
     let s = c.slot-item.result in
     let first : List ℕ = filled (c.args.also ∷ []) in
     let before = filled (map content (take i slots)) in

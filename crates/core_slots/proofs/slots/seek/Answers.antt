@@ -1,10 +1,19 @@
-use Rattle.std.proofs.Common.{◌≡◌, ℕ, ◌+◌, ◌≤◌, ◌^◌, ◌%◌, ◌==◌, not, true, Some, map, sym, ap, ◌∙◌, arith}
+use Rattle.std.proofs.Common.{◌≡◌, ℕ, ◌+◌, ◌<◌, ◌≤◌, ◌^◌, ◌%◌, ◌==◌, not, true, List, Option, Some, length, map, sym, ap, ◌∙◌, arith}
 use Rattle.std.proofs.Math.Pow.{pow_mono}
 use Rattle.std.proofs.lemmas.Bool.Decides.{nat_tests}
-use Rattle.core_slots.specs.SlotLayout.{slot, is_other}
+use Rattle.core_slots.specs.SlotLayout.{filled, slot, is_other, HasOthers, IsOnPath}
 use Rattle.core_slots.specs.Probe.{probe}
 use Rattle.core_slots.proofs.SlotLayouts.{probe_start, probe_next, probe_low, others_none, others_more, few_others}
 use Rattle.core_slots.proofs.slots.seek.Goals as goal
+
+-- a search that passed n slots of other entries
+module _ {X : Type 0} (key : X → ℕ) (lg h n : ℕ) (slots : List (Option X)) where
+  passed : n ≤ 2 ^ lg → HasOthers key lg slots h n → n ≤ length (filled slots)
+  passed most others = few_others key lg h n slots most others
+
+  -- where it ends then
+  ends_on_path : (at : ℕ) → at ≡ probe h lg n → n ≤ 2 ^ lg → HasOthers key lg slots h n → length (filled slots) < 2 ^ lg → IsOnPath key lg slots h at
+  ends_on_path at is most others room = record { step = n; in_range = omega (arith, passed most others, room); present = sym is; others = others }
 
 pub look-init : goal.look-init
 look-init g c = (0, omega arith, c.slot_among-at.ensures.value ∙ sym (probe_start c.args.hash c.args.lg), omega arith, others_none g.E.SketchEntry.key c.args.lg (map g.E.PathEntry.content c.args.slots.now) c.args.hash)
@@ -16,26 +25,16 @@ pub returns-in-None-clause-inside : goal.returns-in-None-clause-inside
 returns-in-None-clause-inside g c = omega (arith, c.look.invariant.2, c.requires.size, probe_low c.args.hash c.args.lg c.look.invariant.0)
 
 pub returns-in-None-clause-on_path : goal.returns-in-None-clause-on_path
-returns-in-None-clause-on_path g c =
-    let i = c.look.invariant in
-    let passed = few_others g.E.SketchEntry.key c.args.lg c.args.hash i.0 (map g.E.PathEntry.content c.args.slots.now) i.3 i.4 in
-    record { step = i.0; in_range = omega (arith, passed, c.requires.room); present = sym i.2; others = i.4 }
+returns-in-None-clause-on_path g c = ends_on_path g.E.SketchEntry.key c.args.lg c.args.hash c.look.invariant.0 (map g.E.PathEntry.content c.args.slots.now) c.look.at c.look.invariant.2 c.look.invariant.3 c.look.invariant.4 c.requires.room
 
 pub returns-in-None-clause-looks : goal.returns-in-None-clause-looks
-returns-in-None-clause-looks g c =
-    let i = c.look.invariant in
-    omega (arith, c.look_at.ensures.looks, i.1, few_others g.E.SketchEntry.key c.args.lg c.args.hash i.0 (map g.E.PathEntry.content c.args.slots.now) i.3 i.4)
+returns-in-None-clause-looks g c = omega (arith, c.look_at.ensures.looks, c.look.invariant.1, passed g.E.SketchEntry.key c.args.lg c.args.hash c.look.invariant.0 (map g.E.PathEntry.content c.args.slots.now) c.look.invariant.3 c.look.invariant.4)
 
 pub returns-then-hash-clause-on_path : goal.returns-then-hash-clause-on_path
-returns-then-hash-clause-on_path g c =
-    let i = c.look.invariant in
-    let passed = few_others g.E.SketchEntry.key c.args.lg c.args.hash i.0 (map g.E.PathEntry.content c.args.slots.now) i.3 i.4 in
-    record { step = i.0; in_range = omega (arith, passed, c.requires.room); present = sym i.2; others = i.4 }
+returns-then-hash-clause-on_path g c = ends_on_path g.E.SketchEntry.key c.args.lg c.args.hash c.look.invariant.0 (map g.E.PathEntry.content c.args.slots.now) c.look.at c.look.invariant.2 c.look.invariant.3 c.look.invariant.4 c.requires.room
 
 pub returns-then-hash-clause-looks : goal.returns-then-hash-clause-looks
-returns-then-hash-clause-looks g c =
-    let i = c.look.invariant in
-    omega (arith, c.look_at.ensures.looks, i.1, few_others g.E.SketchEntry.key c.args.lg c.args.hash i.0 (map g.E.PathEntry.content c.args.slots.now) i.3 i.4)
+returns-then-hash-clause-looks g c = omega (arith, c.look_at.ensures.looks, c.look.invariant.1, passed g.E.SketchEntry.key c.args.lg c.args.hash c.look.invariant.0 (map g.E.PathEntry.content c.args.slots.now) c.look.invariant.3 c.look.invariant.4)
 
 pub overflow_add-at : goal.overflow_add-at
 overflow_add-at g c =

@@ -1,4 +1,4 @@
-use Rattle.std.proofs.Common.{◌≡◌, ℕ, ◌^◌, ◌*◌, ◌/◌, ◌<◌, ◌≤◌, ◌∷◌, [], length, refl, sym, ap, subst, ◌∙◌, inl, inr, arith}
+use Rattle.std.proofs.Common.{◌≡◌, ℕ, ◌^◌, ◌*◌, ◌/◌, ◌≤◌, ◌∷◌, [], length, refl, sym, ap, subst, ◌∙◌, inl, inr, arith}
 use Rattle.std.proofs.lemmas.Result.{err_from_is_err_and}
 use Rattle.core_laws.specs.Maps.{with_entry, map_of}
 use Rattle.core_laws.specs.Operators.{joined}
@@ -20,7 +20,7 @@ put_each-init g c =
     rw all (record {
       grows = refl;
       made_with = refl;
-      filling = subst (λ v. IsFilling key n theta items v) none (filling-start key n theta items c.requires.apart c.requires.nonzero c.requires.below_theta (omega arith));
+      filling = subst (λ v. IsFilling key n theta items v) none (filling-start key n theta items c.requires.fill.apart c.requires.fill.nonzero c.requires.fill.below_theta (omega arith));
       rest = ap (λ content. joined key last content items) c.requires.nothing_held;
     })
 
@@ -40,7 +40,7 @@ put_each-preserved g c =
     let with_made = c.put_each.invariant.made_with in
     let lg : c.put_each.filled.map.lg_nom ≡ c.args.table.map.lg_nom = ap (λ t. t.lg_nom) with_made in
     let k : ℕ = 2 ^ c.args.table.map.lg_nom in
-    let free : n ≤ 15 * k / 8 = omega (arith, c.requires.limited) in
+    let free : n ≤ 15 * k / 8 = omega (arith, c.requires.fill.limited) in
     let kept : c.upsert_entry.new.self.map.kept ≡ record { entries = with_entry key was.entries c.in-Some.entry; theta = was.theta } =
     ap (λ t. t.kept) c.in_ok-upsert_entry.ensures.after
     ∙ ap (λ (m : ℕ). after_upsert key (2 ^ m) c.hash-hash.result (put_step c.new.result.entry) was) lg
@@ -65,6 +65,6 @@ pub returns-clause-after : goal.returns-clause-after
 returns-clause-after g c =
     let key = g.E.SketchEntry.key in
     let left : c.put_each.entry-iterator.rest.items ≡ [] = none_left c.put_each.entry-iterator.rest.items (omega (arith, c.in-None.ensures.steps.0, c.put_each.entry-iterator.rest.ok)) in
-    let entries : c.put_each.filled.map.kept.entries ≡ map_of key c.args.entries.items = ap (joined key last c.put_each.filled.map.kept.entries) (sym left) ∙ c.put_each.invariant.rest ∙ joined-all key c.args.entries.items c.requires.apart in
+    let entries : c.put_each.filled.map.kept.entries ≡ map_of key c.args.entries.items = ap (joined key last c.put_each.filled.map.kept.entries) (sym left) ∙ c.put_each.invariant.rest ∙ joined-all key c.args.entries.items c.requires.fill.apart in
     let theta = c.put_each.invariant.filling.same_theta in
     c.put_each.invariant.made_with ∙ (λ i. record c.args.table.map { kept = record { entries = entries i; theta = theta i } })

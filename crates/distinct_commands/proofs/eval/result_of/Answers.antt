@@ -1,6 +1,6 @@
-use Rattle.std.proofs.Common.{◌≡◌, ◌∙◌, length, List, ℕ, true, sym, subst}
+use Rattle.std.proofs.Common.{◌∙◌, ℕ, true, subst}
 use Rattle.std.proofs.lemmas.List.{length-map}
-use Rattle.core_laws.specs.declared.TheConstants.{MAX_THETA}
+use Rattle.set_expressions.specs.Values.{hash_rules}
 use Rattle.set_expressions.specs.Running.{evaluation_refusal}
 use Rattle.expression_text.specs.Expressions.{IsWithin}
 use Rattle.line_sketches.proofs.Refused.{only_memory}
@@ -14,6 +14,6 @@ out_of_memory-requires c =
     let spelled = c.requires.spelled.1 in
     let sketches = c.args.sketches.now in
     let steps = c.as_slice-steps.result.now in
-    let accepted = evaluation_accepted c.args.seed options.lg_k steps sketches spelled.tree (sized options.lg_k c.args.seed options.low options.high c.requires.seed) c.requires.seeded
+    let accepted = evaluation_accepted hash_rules c.args.seed options.lg_k steps sketches spelled.tree (sized options.lg_k c.args.seed options.low options.high c.requires.seed) c.requires.seeded
     (subst (λ (n : ℕ). IsWithin n spelled.tree) (length-map c.args.expression.now.names.items _ ∙ c.requires.counted) spelled.within) (c.as_slice-steps.ensures.value ∙ spelled.steps_are) in
     (only_memory (evaluation_refusal c.args.seed options.lg_k steps sketches) true c.in-Err.error accepted c.in-Err.ensures.refused).0

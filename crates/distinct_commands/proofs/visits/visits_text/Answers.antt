@@ -1,5 +1,4 @@
 use Rattle.std.proofs.Common.{◌≡◌, ℕ, suc, ◌+◌, ◌++◌, sym, ap, ◌∙◌, append_assoc, arith}
-use Rattle.std.specs.Prelude.{string_bytes}
 use Rattle.distinct_arguments.specs.Faults.{options_of}
 use Rattle.distinct_commands.specs.Visits.{ranges_head, bin_up_to, bins_text, visits_text}
 use Rattle.distinct_commands.proofs.visits.visits_text.Goals as goal

@@ -2,6 +2,7 @@ use Rattle.std.proofs.Common.{sym, subst, ◌∙◌, inl}
 use Rattle.std.specs.Prelude.{IfErr}
 use Rattle.std.proofs.lemmas.Result.{err_from_is_err_and}
 use Rattle.sketch_base.specs.Seed.{seed_hash}
+use Rattle.core_laws.specs.Entries.{hash_key}
 use Rattle.core_images.specs.Read.{IsRefused}
 use Rattle.theta_sketches.specs.Image.{IsReadable}
 use Rattle.line_sketches.proofs.Refused.{read_seed, ready_accepts, union_memory}
@@ -20,6 +21,6 @@ returns-in_err-update-clause-refused g c = λ ready.
     let result = c.from_residual-in_err-update.result in
     let p = err_from_is_err_and result c.from_residual-in_err-update.ensures.1 in
     let seed = read_seed c.args.image.now (seed_hash c.args.seed) c.in_ok-sketch.sketch c.in_ok-sketch.ensures.reads in
-    let none = ready_accepts c.args.seed c.args.union.now c.in_ok-sketch.sketch shows ready seed c.as_view.ensures.shows in
+    let none = ready_accepts hash_key c.args.seed c.args.union.now c.in_ok-sketch.sketch shows ready seed c.as_view.ensures.shows in
     let memory = union_memory c.args.union.now c.update.new.self shows c.in_err-update.field-0.0 none c.in_err-update.ensures.refused in
     subst (λ r. IfErr r (λ e. IsRefused e (IsReadable c.args.image.now (seed_hash c.args.seed)))) (sym p.1) (inl (p.2 ∙ memory))

@@ -1,6 +1,6 @@
 use Rattle.std.specs.Prelude.{IfErr}
 use Rattle.std.proofs.lemmas.Result.{err_from_is_err_and}
-use Rattle.line_sketches.specs.Refusals.{IsImagesRefusal}
+use Rattle.line_sketches.specs.Refusals.{IsImagesRefusal, IsNoImage}
 use Rattle.line_sketches.proofs.Refused.{faulty_next, images_refused}
 use Rattle.std.proofs.Common.{◌≡◌, ℕ, ◌+◌, List, [], ◌∷◌, ◌++◌, length, refl, sym, subst, append_assoc, append-nil}
 use Rattle.line_sketches.specs.Unions.{HasUnited}
@@ -50,5 +50,5 @@ returns-in_err-add_reader-in-Ok-Some-clause-refused g c = λ ready.
     let result = c.from_residual-in_err-add_reader-in-Ok-Some.result in
     let p = err_from_is_err_and result c.from_residual-in_err-add_reader-in-Ok-Some.ensures.1 in
     let refused = c.in_err-add_reader-in-Ok-Some.ensures.refused (c.loop-count.invariant.ready ready) in
-    let step = faulty_next c.args.seed g.S.Source.Read.remaining texts (g.S.Sources.texts c.loop-count.sources) (g.S.Sources.texts c.next_source.new.self) c.in-Ok-Some.field-0 c.in-Ok-Some.source c.loop-count.invariant.parted c.in-Ok-Some.ensures c.in-Ok-Some.field-0-is in
+    let step = faulty_next (IsNoImage c.args.seed) g.S.Source.Read.remaining texts (g.S.Sources.texts c.loop-count.sources) (g.S.Sources.texts c.next_source.new.self) c.in-Ok-Some.field-0 c.in-Ok-Some.source c.loop-count.invariant.parted c.in-Ok-Some.ensures c.in-Ok-Some.field-0-is in
     subst (λ r. IfErr r (IsImagesRefusal c.args.seed texts)) (sym p.1) (subst (IsImagesRefusal c.args.seed texts) (sym p.2) (images_refused c.args.seed image texts c.in_err-add_reader-in-Ok-Some.field-0.0 step refused))

@@ -12,4 +12,10 @@ returns-in-Ok-clause-added g c = λ hashing lg_k lines line is has.
     }
 
 pub returns-in-Err-clause-refused : goal.returns-in-Err-clause-refused
-returns-in-Err-clause-refused g c = c.not_added.ensures c.args.amount
+returns-in-Err-clause-refused g c = c.not_added.ensures.unsummed c.args.amount
+
+pub returns-in_default-clause-number : goal.returns-in_default-clause-number
+returns-in_default-clause-number g c = λ hashing line is. (sym (c.value.ensures.value hashing line is) ∙ c.in_default.is, c.saturating_add.ensures)
+
+pub returns-in-Err-clause-number : goal.returns-in-Err-clause-number
+returns-in-Err-clause-number g c = λ hashing line is. c.not_added.ensures.number c.args.amount line

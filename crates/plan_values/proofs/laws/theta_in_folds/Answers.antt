@@ -1,4 +1,4 @@
-use Rattle.plan_values.proofs.NeverRefused.{theta_whole, theta_never_refuses}
+use Rattle.plan_values.proofs.NeverRefused.{theta_whole}
 use Rattle.plan_values.proofs.PlansWithoutMarks.{theta_unmarked}
 use Rattle.plan_values.proofs.laws.theta_in_folds.Goals as goal
 
@@ -7,6 +7,3 @@ returns-clause-value g c = theta_unmarked
 
 pub returns-clause-whole_map : goal.returns-clause-whole_map
 returns-clause-whole_map g c = theta_whole
-
-pub returns-clause-no_policy : goal.returns-clause-no_policy
-returns-clause-no_policy g c = theta_never_refuses

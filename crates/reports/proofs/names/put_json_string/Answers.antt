@@ -6,10 +6,8 @@ use Rattle.reports.proofs.names.put_json_string.Goals as goal
 
 pub each_char-preserved : goal.each_char-preserved
 each_char-preserved g c =
-    let utf8 = c.each_char.invariant.0 in
-    let parts = c.in-Some.ensures.steps.0 in
-    let whole = rw (respelled_step json_char _ _ c.in-Some.c utf8 parts) at c.each_char.invariant.1 in
-    (IsUtf8-past_char _ _ c.in-Some.c utf8 parts, rw (c.in_ok-put_json_char.ensures, append_assoc) whole)
+    let was = c.each_char.invariant in
+    (IsUtf8-past_char _ _ c.in-Some.c was.0 c.in-Some.ensures.steps.0, rw (c.in_ok-put_json_char.ensures, append_assoc) (rw (respelled_step json_char _ _ c.in-Some.c was.0 c.in-Some.ensures.steps.0) at was.1))
 
 pub returns : goal.returns
 returns g c =

@@ -1,8 +1,8 @@
 use Rattle.std.proofs.Common.{◌*◌, ◌/◌, ◌%◌, ◌^◌, ◌<◌, ◌≤◌, ℕ, refl, ap, ◌∙◌, arith}
 use Rattle.std.proofs.lemmas.Bool.Decides.{nat_tests}
 use Rattle.core_laws.specs.declared.TheConstants.{MAX_THETA}
-use Rattle.sketch_c.specs.Bounds.{wide}
-use Rattle.sketch_c.specs.Totals.{joined_halves}
+use Rattle.sketch_objects.specs.Bounds.{wide}
+use Rattle.sketch_objects.specs.Totals.{joined_halves}
 use Rattle.sketch_c.proofs.Decimals.{decimals_fit, quotient_in_parts, rest_in_parts}
 use Rattle.sketch_c.proofs.totals.kcp_total_decimal.Goals as goal
 

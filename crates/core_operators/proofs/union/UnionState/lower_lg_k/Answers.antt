@@ -26,25 +26,19 @@ invariant_of-self g c =
 
 pub returns-clause-after : goal.returns-clause-after
 returns-clause-after g c =
-    let key = g.E.SketchEntry.key in
     let t = c.self.inside.table.map in
-    let s = c.in_ok-smaller.smaller.map in
-    let theta : ℕ = c.self.inside.theta in
-    let kept = c.retention_theta.ensures.sound.kept in
-    let old = over key c.self.inside.empty c.self.inside.failed c.self.inside.policy t theta in
-    let is = over_smaller key c.self.inside.empty c.self.inside.failed c.self.inside.policy t s theta c.retention_theta-self-inside.result c.args.lg_k kept.ascending c.in_ok-smaller.ensures.made c.retention_theta-self-inside.ensures.theta in
-    rw (← c.self.view_is) (is ∙ lowered_is key old c.args.lg_k (λ same. absurd (omega (arith, same))))
+    let old = over g.E.SketchEntry.key c.self.inside.empty c.self.inside.failed c.self.inside.policy t c.self.inside.theta in
+    let is = over_smaller g.E.SketchEntry.key c.self.inside.empty c.self.inside.failed c.self.inside.policy t c.in_ok-smaller.smaller.map c.self.inside.theta c.retention_theta-self-inside.result c.args.lg_k c.retention_theta.ensures.sound.kept.ascending c.in_ok-smaller.ensures.made c.retention_theta-self-inside.ensures.theta in
+    rw (← c.self.view_is) (is ∙ lowered_is g.E.SketchEntry.key old c.args.lg_k (λ same. absurd (omega (arith, same))))
 
 pub returns-clause-value : goal.returns-clause-value
 returns-clause-value g c =
     let key = g.E.SketchEntry.key in
     let t = c.self.inside.table.map in
-    let s = c.in_ok-smaller.smaller.map in
-    let theta : ℕ = c.self.inside.theta in
-    let kept = c.retention_theta.ensures.sound.kept in
-    let old = over key c.self.inside.empty c.self.inside.failed c.self.inside.policy t theta in
-    let is = over_smaller key c.self.inside.empty c.self.inside.failed c.self.inside.policy t s theta c.retention_theta-self-inside.result c.args.lg_k kept.ascending c.in_ok-smaller.ensures.made c.retention_theta-self-inside.ensures.theta in
-    rw (← c.self.view_is) (ap (union_value key) is ∙ value_fewer key old c.args.lg_k (omega arith) (ascending-filter key _ t.kept.entries kept.ascending))
+    let up = c.retention_theta.ensures.sound.kept.ascending in
+    let old = over key c.self.inside.empty c.self.inside.failed c.self.inside.policy t c.self.inside.theta in
+    let is = over_smaller key c.self.inside.empty c.self.inside.failed c.self.inside.policy t c.in_ok-smaller.smaller.map c.self.inside.theta c.retention_theta-self-inside.result c.args.lg_k up c.in_ok-smaller.ensures.made c.retention_theta-self-inside.ensures.theta in
+    rw (← c.self.view_is) (ap (union_value key) is ∙ value_fewer key old c.args.lg_k (omega arith) (ascending-filter key _ t.kept.entries up))
 
 pub returns-then-self-clause-content : goal.returns-then-self-clause-content
 returns-then-self-clause-content g c = rw (← c.self.view_is) (IsRetained-below g.E.SketchEntry.key _ _ _ c.retention_theta.ensures.sound.kept c.self.invariant.theta_low c.self.invariant.theta_within)

@@ -69,10 +69,10 @@ returns-in_default-clause-joined g c nonempty =
 
 pub returns-in_default-clause-united : goal.returns-in_default-clause-united
 returns-in_default-clause-united g c nonempty =
+    let listing = g.S.EntrySketch.listing c.args.sketch in
     let key = g.E.SketchEntry.key in
     let merges = g.P.UnionMergePolicy.merges c.self.inside.policy in
     let refuses = g.P.UnionMergePolicy.refuses c.self.inside.policy in
-    let listing = g.S.EntrySketch.listing c.args.sketch in
     let keeps = g.met.P.UnionMergePolicy.keeps_hash c.self.inside.policy in
     let listed : map key listing ≡ (g.S.KeySketch.shown c.args.sketch).hashes = c.merge_entries-merged.ensures.listed in
     let apart : IsApart key listing = apart-distinct key listing (rw listed c.metadata.ensures.is_sound.distinct) in

@@ -20,45 +20,14 @@ all_fit key xs each lg_k own low small kept limited =
     let most : 2 ^ lg_k ≤ 2 ^ 26 = pow_mono {i = lg_k} {j = 26} small in
     makes_all key xs each (15 * 2 ^ lg_k / 8) own kept (limited (omega (arith, least))) (omega (arith, most))
 
-pub filled-requires-clause-apart : goal.filled-requires-clause-apart
-filled-requires-clause-apart g c =
-    let key = g.E.SketchEntry.key in
-    let xs = filled (map g.E.PathEntry.content c.self.inside.slots.items) in
+pub filled-requires-clause-fill : goal.filled-requires-clause-fill
+filled-requires-clause-fill g c =
     let own = c.self.inside in
     let table = c.self.invariant.slotted.table in
-    let fit = all_fit key xs (slotted_sequence key _ _ _ _ _ c.self.invariant.slotted).apart own.lg_nom_size own.theta (rw (← c.self.view_is) at c.requires.of_sketch) (rw (← c.self.view_is) at c.requires.small) table.kept table.limited in
-    let listed : c.in_ok-entries.entries.items ≡ below key xs own.theta = rw c.deref.ensures.value at c.in_ok-entries.ensures.listed in
-    rw listed fit.apart
-
-pub filled-requires-clause-nonzero : goal.filled-requires-clause-nonzero
-filled-requires-clause-nonzero g c =
-    let key = g.E.SketchEntry.key in
-    let xs = filled (map g.E.PathEntry.content c.self.inside.slots.items) in
-    let own = c.self.inside in
-    let table = c.self.invariant.slotted.table in
-    let fit = all_fit key xs (slotted_sequence key _ _ _ _ _ c.self.invariant.slotted).apart own.lg_nom_size own.theta (rw (← c.self.view_is) at c.requires.of_sketch) (rw (← c.self.view_is) at c.requires.small) table.kept table.limited in
-    let listed : c.in_ok-entries.entries.items ≡ below key xs own.theta = rw c.deref.ensures.value at c.in_ok-entries.ensures.listed in
-    rw listed fit.nonzero
-
-pub filled-requires-clause-below_theta : goal.filled-requires-clause-below_theta
-filled-requires-clause-below_theta g c =
-    let key = g.E.SketchEntry.key in
-    let xs = filled (map g.E.PathEntry.content c.self.inside.slots.items) in
-    let own = c.self.inside in
-    let table = c.self.invariant.slotted.table in
-    let fit = all_fit key xs (slotted_sequence key _ _ _ _ _ c.self.invariant.slotted).apart own.lg_nom_size own.theta (rw (← c.self.view_is) at c.requires.of_sketch) (rw (← c.self.view_is) at c.requires.small) table.kept table.limited in
-    let listed : c.in_ok-entries.entries.items ≡ below key xs own.theta = rw c.deref.ensures.value at c.in_ok-entries.ensures.listed in
-    rw (c.set_retention_theta.ensures.after, listed) fit.below_theta
-
-pub filled-requires-clause-limited : goal.filled-requires-clause-limited
-filled-requires-clause-limited g c =
-    let key = g.E.SketchEntry.key in
-    let xs = filled (map g.E.PathEntry.content c.self.inside.slots.items) in
-    let own = c.self.inside in
-    let table = c.self.invariant.slotted.table in
-    let fit = all_fit key xs (slotted_sequence key _ _ _ _ _ c.self.invariant.slotted).apart own.lg_nom_size own.theta (rw (← c.self.view_is) at c.requires.of_sketch) (rw (← c.self.view_is) at c.requires.small) table.kept table.limited in
-    let listed : c.in_ok-entries.entries.items ≡ below key xs own.theta = rw c.deref.ensures.value at c.in_ok-entries.ensures.listed in
-    rw (c.set_retention_theta.ensures.after, c.in_ok-copy.ensures.made, listed) fit.limited
+    let xs = filled (map g.E.PathEntry.content own.slots.items) in
+    let fit = all_fit g.E.SketchEntry.key xs (slotted_sequence g.E.SketchEntry.key _ _ _ _ _ c.self.invariant.slotted).apart own.lg_nom_size own.theta (rw (← c.self.view_is) at c.requires.of_sketch) (rw (← c.self.view_is) at c.requires.small) table.kept table.limited in
+    let listed : c.in_ok-entries.entries.items ≡ below g.E.SketchEntry.key xs own.theta = rw c.deref.ensures.value at c.in_ok-entries.ensures.listed in
+    rw (c.set_retention_theta.ensures.after, c.in_ok-copy.ensures.made, listed) fit.fill
 
 pub returns-clause-copied : goal.returns-clause-copied
 returns-clause-copied g c =

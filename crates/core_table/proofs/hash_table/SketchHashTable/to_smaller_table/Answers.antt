@@ -1,12 +1,11 @@
-use Rattle.std.proofs.Common.{◌≡◌, ◌≤◌, ◌<◌, ◌^◌, ℕ, true, List, map, length, refl, ap, sym, ◌∙◌, arith}
+use Rattle.std.proofs.Common.{◌≡◌, ◌*◌, ◌/◌, ◌≤◌, ◌<◌, ◌^◌, ℕ, true, List, map, length, ap, sym, ◌∙◌, arith}
 use Rattle.std.proofs.Math.Pow.{pow_mono}
-use Rattle.std.specs.List.{AllByRecursion}
 use Rattle.sketch_base.specs.Seed.{seed_hash}
 use Rattle.core_laws.specs.declared.TheConstants.{MAX_LG_K}
 use Rattle.core_laws.specs.Maps.{map_of, below, IsApart}
 use Rattle.core_laws.specs.Cuts.{Retained, cut, retained, IsRetained}
 use Rattle.core_slots.specs.SlotLayout.{filled}
-use Rattle.core_table.specs.HashTable.{MapTable, IsTable, empty_table}
+use Rattle.core_table.specs.HashTable.{MapTable, empty_table}
 use Rattle.core_table.proofs.FilledTables.{has_slots}
 use Rattle.core_table.proofs.Slotted.{slotted_sequence}
 use Rattle.core_table.proofs.ListedBelow.{MakeCut, makes_cut}
@@ -24,41 +23,15 @@ cut_theta-requires-clause-apart g c = rw c.deref.ensures.value (slotted_sequence
 pub cut_theta-requires-clause-nonzero : goal.cut_theta-requires-clause-nonzero
 cut_theta-requires-clause-nonzero g c = rw c.deref.ensures.value c.self.invariant.slotted.table.kept.nonzero
 
-pub filled-requires-clause-apart : goal.filled-requires-clause-apart
-filled-requires-clause-apart g c =
+pub filled-requires-clause-fill : goal.filled-requires-clause-fill
+filled-requires-clause-fill g c =
     let key = g.E.SketchEntry.key in
-    let xs = filled (map g.E.PathEntry.content c.self.inside.slots.items) in
     let lesser : ℕ = c.in_ok-lesser.lesser in
+    let xs = filled (map g.E.PathEntry.content c.self.inside.slots.items) in
     let fit = fits_smaller key xs (slotted_sequence key _ _ _ _ _ c.self.invariant.slotted).apart c.args.lg_nom_size c.nominal_size-fewer.result c.self.inside.theta c.args.theta lesser c.self.invariant.slotted.table.kept c.in_ok-lesser.ensures.low (omega (arith, c.in_ok-lesser.ensures.high, rw (← c.self.view_is) at c.requires.high)) c.requires.small c.nominal_size-fewer.ensures.power (rw c.deref.ensures.value at c.in_ok-lesser.ensures.cut) in
     let listed : c.in_ok-kept.kept.items ≡ below key xs lesser = rw c.deref-2.ensures.value at c.in_ok-kept.ensures.listed in
-    rw listed fit.apart
-
-pub filled-requires-clause-nonzero : goal.filled-requires-clause-nonzero
-filled-requires-clause-nonzero g c =
-    let key = g.E.SketchEntry.key in
-    let xs = filled (map g.E.PathEntry.content c.self.inside.slots.items) in
-    let lesser : ℕ = c.in_ok-lesser.lesser in
-    let fit = fits_smaller key xs (slotted_sequence key _ _ _ _ _ c.self.invariant.slotted).apart c.args.lg_nom_size c.nominal_size-fewer.result c.self.inside.theta c.args.theta lesser c.self.invariant.slotted.table.kept c.in_ok-lesser.ensures.low (omega (arith, c.in_ok-lesser.ensures.high, rw (← c.self.view_is) at c.requires.high)) c.requires.small c.nominal_size-fewer.ensures.power (rw c.deref.ensures.value at c.in_ok-lesser.ensures.cut) in
-    let listed : c.in_ok-kept.kept.items ≡ below key xs lesser = rw c.deref-2.ensures.value at c.in_ok-kept.ensures.listed in
-    rw listed fit.nonzero
-
-pub filled-requires-clause-below_theta : goal.filled-requires-clause-below_theta
-filled-requires-clause-below_theta g c =
-    let key = g.E.SketchEntry.key in
-    let xs = filled (map g.E.PathEntry.content c.self.inside.slots.items) in
-    let lesser : ℕ = c.in_ok-lesser.lesser in
-    let fit = fits_smaller key xs (slotted_sequence key _ _ _ _ _ c.self.invariant.slotted).apart c.args.lg_nom_size c.nominal_size-fewer.result c.self.inside.theta c.args.theta lesser c.self.invariant.slotted.table.kept c.in_ok-lesser.ensures.low (omega (arith, c.in_ok-lesser.ensures.high, rw (← c.self.view_is) at c.requires.high)) c.requires.small c.nominal_size-fewer.ensures.power (rw c.deref.ensures.value at c.in_ok-lesser.ensures.cut) in
-    let listed : c.in_ok-kept.kept.items ≡ below key xs lesser = rw c.deref-2.ensures.value at c.in_ok-kept.ensures.listed in
-    rw (c.set_retention_theta.ensures.after, listed) fit.below_theta
-
-pub filled-requires-clause-limited : goal.filled-requires-clause-limited
-filled-requires-clause-limited g c =
-    let key = g.E.SketchEntry.key in
-    let xs = filled (map g.E.PathEntry.content c.self.inside.slots.items) in
-    let lesser : ℕ = c.in_ok-lesser.lesser in
-    let fit = fits_smaller key xs (slotted_sequence key _ _ _ _ _ c.self.invariant.slotted).apart c.args.lg_nom_size c.nominal_size-fewer.result c.self.inside.theta c.args.theta lesser c.self.invariant.slotted.table.kept c.in_ok-lesser.ensures.low (omega (arith, c.in_ok-lesser.ensures.high, rw (← c.self.view_is) at c.requires.high)) c.requires.small c.nominal_size-fewer.ensures.power (rw c.deref.ensures.value at c.in_ok-lesser.ensures.cut) in
-    let listed : c.in_ok-kept.kept.items ≡ below key xs lesser = rw c.deref-2.ensures.value at c.in_ok-kept.ensures.listed in
-    rw (c.set_retention_theta.ensures.after, c.in_ok-smaller.ensures.made, listed, ← c.nominal_size-fewer.ensures.power) (omega (arith, fit.limited))
+    let few : length (below key xs lesser) ≤ 15 * 2 ^ c.args.lg_nom_size / 8 = omega (arith, fit.fill.limited, c.nominal_size-fewer.ensures.power) in
+    rw (c.set_retention_theta.ensures.after, c.in_ok-smaller.ensures.made, listed) (record { apart = fit.fill.apart; nonzero = fit.fill.nonzero; below_theta = fit.fill.below_theta; limited = few })
 
 pub returns-clause-made : goal.returns-clause-made
 returns-clause-made g c =

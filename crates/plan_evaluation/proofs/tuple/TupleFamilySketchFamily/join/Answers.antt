@@ -1,13 +1,13 @@
-use Rattle.std.proofs.Common.{◌≡◌, false, sym, subst, ◌∙◌}
+use Rattle.std.proofs.Common.{◌≡◌, sym, subst, ◌∙◌}
 use Rattle.std.specs.Prelude.{MatchOption}
 use Rattle.core_state.specs.View.{shows, sequence}
-use Rattle.core_operators.specs.Union.{IsBroken, IsJoined, update_refusal}
-use Rattle.core_policies.specs.Summaries.{combined, combine_refused, combined-keeps}
+use Rattle.core_operators.specs.Union.{IsBroken, update_refusal}
+use Rattle.core_policies.specs.Summaries.{combine_refused, combined-keeps}
 use Rattle.core_slots.specs.Entry.{tuple_key}
 use Rattle.plan_values.specs.Family.{tuples}
 use Rattle.plan_evaluation.proofs.evaluation.Results.{on_both, if_refused}
 use Rattle.plan_evaluation.proofs.families.Held.{holds_more}
-use Rattle.plan_evaluation.proofs.families.Joining.{joins_plain}
+use Rattle.plan_evaluation.proofs.families.Joining.{joins_plain, joined_under}
 use Rattle.plan_evaluation.proofs.families.Refusals.{refused_join}
 use Rattle.plan_evaluation.proofs.families.Shown.{apart_lent}
 use Rattle.plan_evaluation.proofs.tuple.TupleFamilySketchFamily.join.Goals as goal
@@ -27,23 +27,14 @@ returns-clause-refused g c =
 pub returns-clause-joins : goal.returns-clause-joins
 returns-clause-joins g c =
     let f = c.args.self.now in
-    let combines = g.Q.SummaryCombinePolicy.combines f.combines in
-    let view = c.view-shown.result in
-    let old = c.args.union.now.state in
-    let new = c.update.new.self.state in
     on_both c.update.result c.update.ensures.skipped c.update.ensures.joined (λ skipped reported.
-    let joined = subst (λ q. (shows tuple_key view).empty ≡ false → IsJoined tuple_key (combined (g.Q.SummaryCombinePolicy.combines q)) (combine_refused (g.Q.SummaryCombinePolicy.combines q)) old new (shows tuple_key view).theta (sequence view)) c.requires.own reported in
-    joins_plain (tuples (g.P.SummaryPolicy.creates f.updates) (g.P.SummaryUpdatePolicy.updates f.updates) combines) (combine_refused combines) (combined-keeps combines) old new (shows tuple_key view) (sequence view)
-    c.update.ensures.sound c.requires.at_work c.update.ensures.content.ascending (apart_lent tuple_key view.sketch c.num_retained.ensures.sound) skipped joined _ c.view-shown.ensures.value)
+    joins_plain (tuples (g.P.SummaryPolicy.creates f.updates) (g.P.SummaryUpdatePolicy.updates f.updates) (g.Q.SummaryCombinePolicy.combines f.combines)) _ (combined-keeps (g.Q.SummaryCombinePolicy.combines f.combines)) _ _ (shows tuple_key c.view-shown.result) (sequence c.view-shown.result)
+    c.update.ensures.sound c.requires.at_work c.update.ensures.content.ascending (apart_lent tuple_key c.view-shown.result.sketch c.num_retained.ensures.sound) skipped
+    (joined_under g.Q.SummaryCombinePolicy.combines _ _ _ _ (shows tuple_key c.view-shown.result) _ c.requires.own reported) _ c.view-shown.ensures.value)
 
 pub returns-clause-holds : goal.returns-clause-holds
 returns-clause-holds g c =
     let f = c.args.self.now in
-    let combines = g.Q.SummaryCombinePolicy.combines f.combines in
-    let view = c.view-shown.result in
-    let old = c.args.union.now.state in
-    let new = c.update.new.self.state in
     on_both c.update.result c.update.ensures.skipped c.update.ensures.joined (λ skipped reported.
-    let joined = subst (λ q. (shows tuple_key view).empty ≡ false → IsJoined tuple_key (combined (g.Q.SummaryCombinePolicy.combines q)) (combine_refused (g.Q.SummaryCombinePolicy.combines q)) old new (shows tuple_key view).theta (sequence view)) c.requires.own reported in
-    holds_more (tuples (g.P.SummaryPolicy.creates f.updates) (g.P.SummaryUpdatePolicy.updates f.updates) combines) (combine_refused combines) (combined-keeps combines) old new (shows tuple_key view) (sequence view)
-    (apart_lent tuple_key view.sketch c.num_retained.ensures.sound) skipped joined _ c.view-shown.ensures.value)
+    holds_more (tuples (g.P.SummaryPolicy.creates f.updates) (g.P.SummaryUpdatePolicy.updates f.updates) (g.Q.SummaryCombinePolicy.combines f.combines)) _ (combined-keeps (g.Q.SummaryCombinePolicy.combines f.combines)) _ _ (shows tuple_key c.view-shown.result) (sequence c.view-shown.result)
+    (apart_lent tuple_key c.view-shown.result.sketch c.num_retained.ensures.sound) skipped (joined_under g.Q.SummaryCombinePolicy.combines _ _ _ _ (shows tuple_key c.view-shown.result) _ c.requires.own reported) _ c.view-shown.ensures.value)

@@ -1,6 +1,6 @@
 use Rattle.sketch_c.proofs.Lending.{meets, refl}
 use Rattle.sketch_c.proofs.Values.{Owned}
-use Rattle.sketch_c.specs.contracts.sums_union.SeededSumsUnion.{the_row as object}
+use Rattle.sketch_objects.specs.contracts.sums_union.SeededSumsUnion.{the_row as object}
 use Rattle.sketch_c.specs.contracts.handles.SumsUnionHandle.{the_row as handle}
 use Rattle.sketch_c.proofs.handles.SumsUnionHandle.owned.Statement.{statement}
 use Rattle.sketch_c.proofs.handles.SumsUnionHandle.owned.Code.{unfolded}

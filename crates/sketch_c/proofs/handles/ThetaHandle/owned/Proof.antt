@@ -1,6 +1,6 @@
 use Rattle.sketch_c.proofs.Lending.{meets, refl}
 use Rattle.sketch_c.proofs.Values.{Owned}
-use Rattle.sketch_c.specs.contracts.theta.SeededSketch.{the_row as object}
+use Rattle.sketch_objects.specs.contracts.theta.SeededSketch.{the_row as object}
 use Rattle.sketch_c.specs.contracts.handles.ThetaHandle.{the_row as handle}
 use Rattle.sketch_c.proofs.handles.ThetaHandle.owned.Statement.{statement}
 use Rattle.sketch_c.proofs.handles.ThetaHandle.owned.Code.{unfolded}

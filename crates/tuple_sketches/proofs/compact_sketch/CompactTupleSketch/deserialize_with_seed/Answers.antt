@@ -2,11 +2,8 @@ use Rattle.std.proofs.Common.{◌<◌, arith}
 use Rattle.std.proofs.lemmas.Result.{err_from_is_err_and}
 use Rattle.sketch_base.specs.Seed.{seed_hash}
 use Rattle.core_images.proofs.ReadEntries.{refused_weaker}
-use Rattle.tuple_sketches.proofs.ImageLayouts.{tuple_from, tuple_to, tuple_whole}
+use Rattle.tuple_sketches.proofs.ImageLayouts.{tuple_from, tuple_to}
 use Rattle.tuple_sketches.proofs.compact_sketch.CompactTupleSketch.deserialize_with_seed.Goals as goal
-
-pub read_after_preamble-requires : goal.read_after_preamble-requires
-read_after_preamble-requires g c = rw c.tuple_layout.ensures (tuple_whole c.args.bytes.now c.in_ok-seed_hash.seed_hash)
 
 pub returns-in_err-state-clause-refused : goal.returns-in_err-state-clause-refused
 returns-in_err-state-clause-refused g c =

@@ -1,0 +1,87 @@
+-- Entries in lists of bytes, N bytes each, and in blocks.
+use Rattle.std.proofs.Common.{◌≡◌, ℕ, zero, suc, ◌+◌, ◌*◌, ◌≤◌, List, [], ◌∷◌, ◌++◌, length, map, take, drop, refl, sym, ap, ◌∙◌, arith, append_assoc, append-nil, take-append-drop}
+use Rattle.std.proofs.lemmas.List.{drop-drop, length-take-le, length-drop, length-map}
+use Rattle.std.proofs.lemmas.List.Concat.{flat_map-append}
+use Rattle.std.proofs.lemmas.List.Folds.{flat_map-map}
+use Rattle.std.specs.List.{AllByRecursion, flat_map}
+use Rattle.std.specs.Simd.{first_chunks}
+use Rattle.core_images.specs.Entry.{SpellsEach, Holds}
+
+module _ {X : Type 0} where
+  drop_chunks : (n k : ℕ) (xs : List X) → drop (suc k * n) xs ≡ drop (k * n) (drop n xs)
+  drop_chunks n k xs =
+      let sum : suc k * n ≡ n + k * n = omega arith in
+      ap (λ i. drop i xs) sum ∙ sym (drop-drop (k * n) n xs)
+
+  drop_none : (n : ℕ) (xs : List X) → drop (zero * n) xs ≡ xs
+  drop_none n xs = let none : zero * n ≡ 0 = omega arith in ap (λ i. drop i xs) none
+
+  -- fewer chunks are the first of more
+  pub fewer_chunks : (n k m : ℕ) (xs : List X) → k ≤ m → take k (first_chunks n m xs) ≡ first_chunks n k xs
+  fewer_chunks n zero m xs le = refl
+  fewer_chunks n (suc k) zero xs le = absurd (omega arith)
+  fewer_chunks n (suc k) (suc m) xs le = ap (λ l. take n xs ∷ l) (fewer_chunks n k m (drop n xs) (omega arith))
+
+  -- the texts of a block are appended
+  pub one_block : (f : X → List ℕ) (n : ℕ) (bytes new : List ℕ) (texts : List (List ℕ)) (rest : List X) → new ≡ bytes ++ flat_map (λ w. w) texts → texts ≡ map f (take n rest)
+      → new ++ flat_map f (drop n rest) ≡ bytes ++ flat_map f rest
+  one_block f n bytes new texts rest e spelled =
+      let block = take n rest in
+      let others = flat_map f (drop n rest) in
+      ap (λ l. l ++ others) (e ∙ ap (λ t. bytes ++ flat_map (λ w. w) t) spelled ∙ ap (λ t. bytes ++ t) (flat_map-map (λ w. w) f block))
+      ∙ append_assoc bytes (flat_map f block) others
+      ∙ ap (λ l. bytes ++ l) (sym (flat_map-append f block (drop n rest)) ∙ ap (flat_map f) (take-append-drop n rest))
+
+  -- the texts of all are appended
+  pub none_left : (f : X → List ℕ) (bytes whole : List ℕ) (rest : List X) → length rest ≡ 0 → bytes ++ flat_map f rest ≡ whole → bytes ≡ whole
+  none_left f bytes whole [] e all = sym (append-nil bytes) ∙ all
+  none_left f bytes whole (x ∷ rest) e all = absurd (omega arith)
+
+  pub values_left : (P : X → Type 0) (rest : List X) → length rest ≡ 0 → AllByRecursion P rest
+  values_left P [] e = tt
+  values_left P (x ∷ rest) e = absurd (omega arith)
+
+  -- all are values if those of a block and those after it are
+  pub all_values : (P : X → Type 0) (n : ℕ) (xs : List X) → AllByRecursion P (take n xs) → AllByRecursion P (drop n xs) → AllByRecursion P xs
+  all_values P zero xs front behind = behind
+  all_values P (suc n) [] front behind = tt
+  all_values P (suc n) (x ∷ xs) front behind = (front.0, all_values P n xs front.1 behind)
+
+  length-chunks : (n k : ℕ) (xs : List X) → length (first_chunks n k xs) ≡ k
+  length-chunks n zero xs = refl
+  length-chunks n (suc k) xs = ap (λ (j : ℕ). suc j) (length-chunks n k (drop n xs))
+
+module _ (n : ℕ) where
+  -- the first bytes, n by n, and the bytes after them
+  there_is : (k : ℕ) (bytes : List ℕ) → bytes ≡ flat_map (λ w. w) (first_chunks n k bytes) ++ drop (k * n) bytes
+  there_is zero bytes = sym (drop_none n bytes)
+  there_is (suc k) bytes =
+      let front = take n bytes in
+      let words = flat_map (λ w. w) (first_chunks n k (drop n bytes)) in
+      sym (take-append-drop n bytes)
+      ∙ ap (λ l. front ++ l) (there_is k (drop n bytes))
+      ∙ sym (append_assoc front words (drop (k * n) (drop n bytes)))
+      ∙ ap (λ l. (front ++ words) ++ l) (sym (drop_chunks n k bytes))
+
+  module _ {X : Type 0} (Spells : List ℕ → X → Type 0) where
+    module _ (entry_of : List ℕ → X) (any : (a : List ℕ) → length a ≡ n → Spells a (entry_of a)) where
+      spelled : (k : ℕ) (bytes : List ℕ) → k * n ≤ length bytes → SpellsEach Spells (flat_map (λ w. w) (first_chunks n k bytes)) (map entry_of (first_chunks n k bytes))
+      spelled zero bytes le = refl
+      spelled (suc k) bytes le =
+          let front = take n bytes in
+          let sum : suc k * n ≡ n + k * n = omega arith in
+          let fewer = length-drop n bytes in
+          let exact : length front ≡ n = length-take-le n bytes (omega arith) in
+          (front, flat_map (λ w. w) (first_chunks n k (drop n bytes)), refl, any front exact, spelled k (drop n bytes) (omega arith))
+
+      -- the entries of the first chunks are those that the bytes spell
+      pub chunks_held : (count m : ℕ) (bytes : List ℕ) → count ≤ m → count * n ≤ length bytes → Holds Spells bytes count (map entry_of (take count (first_chunks n m bytes)))
+      chunks_held count m bytes limited room =
+          let same = fewer_chunks n count m bytes limited in
+          rw same (record {
+            text = flat_map (λ w. w) (first_chunks n count bytes);
+            after = drop (count * n) bytes;
+            there = there_is count bytes;
+            spelled = spelled count bytes room;
+            counted = length-map (first_chunks n count bytes) entry_of ∙ length-chunks n count bytes;
+          })

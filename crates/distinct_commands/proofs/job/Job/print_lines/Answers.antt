@@ -1,0 +1,27 @@
+use Rattle.std.proofs.Common.{sym, ◌∙◌}
+use Rattle.std.specs.Prelude.{IfOk}
+use Rattle.lines.specs.Lines.{lines_of_all}
+use Rattle.line_sketches.proofs.Turns.{if_some}
+use Rattle.grouped_lines.specs.Groups.{HasGroups}
+use Rattle.distinct_arguments.specs.Faults.{options_of}
+use Rattle.distinct_arguments.specs.Settings.{chosen_group}
+use Rattle.distinct_commands.specs.Answers.{IsLinesText}
+use Rattle.distinct_commands.specs.Groups.{grouping_of}
+use Rattle.distinct_commands.proofs.Answered.{sketched, grouped}
+use Rattle.distinct_commands.proofs.job.Job.print_lines.Goals as goal
+
+pub returns-in_ok-groups-in-Some-clause-printed : goal.returns-in_ok-groups-in-Some-clause-printed
+returns-in_ok-groups-in-Some-clause-printed g c =
+    let options = options_of c.args.self.options.now in
+    let seed = c.args.self.seed in
+    let by = c.in-Some.by in
+    if_some (g.S.Sources.texts c.args.self.inputs.sources) (λ texts. HasGroups (grouping_of options seed by) (lines_of_all texts) c.in_ok-groups-in-Some.groups)
+    (λ texts. IfOk c.table.result (λ v. IsLinesText c.args.images (chosen_group options) options seed texts v.items))
+    (λ texts has. grouped c.table.result (λ v. v.items) c.args.images (chosen_group options) by options seed texts has.0 (sym c.group.ensures ∙ c.in-Some.is) has.1 (c.table.ensures.printed (grouping_of options seed by) (lines_of_all texts) has.0 has.2))
+    c.in_ok-groups-in-Some.ensures.grouped
+
+pub returns-in_ok-sketch-in-None-clause-printed : goal.returns-in_ok-sketch-in-None-clause-printed
+returns-in_ok-sketch-in-None-clause-printed g c =
+    let options = options_of c.args.self.options.now in
+    sketched c.lines_text.result (λ v. v.items) (g.S.Sources.texts c.args.self.inputs.sources) c.args.images (chosen_group options) options c.args.self.seed c.in_ok-sketch-in-None.sketch
+    (sym c.group.ensures ∙ c.in-None.is) c.in_ok-sketch-in-None.ensures.sketch c.lines_text.ensures.text

@@ -1,0 +1,127 @@
+//! What `eval --sums` prints or writes: the result of a set expression over the sketches of sums of files.
+ghost use Rattle.std.specs.Prelude.{◌≡◌, ◌≢◌, ◌⊎◌, ℕ, List, length, IfOk, IfErr, IfSome};
+ghost use Rattle.sketch_base.specs.Seed.{seed_hash};
+ghost use Rattle.sketch_base.specs.declared.error.ErrorKind.TheVariants.{OutOfMemory, Policy};
+ghost use Rattle.core_compact.specs.CompactState.{ordered_sketch};
+ghost use Rattle.expression_text.specs.Grammar.{IsSpelled};
+ghost use Rattle.line_sums.specs.Images.{AreReadSums, written_sums};
+ghost use Rattle.set_expressions.specs.Values.{sums_value};
+ghost use Rattle.set_expressions.specs.Running.{sums_values};
+ghost use Rattle.distinct_arguments.specs.Faults.{options_of};
+ghost use Rattle.distinct_commands.specs.Answers.{names_of};
+ghost use Rattle.distinct_commands.specs.EvaluatedSums.{evaluated_sums_text, IsSumsEvaluated};
+ghost use Rattle.distinct_commands.specs.Failures.{IsOfImages, IsOfOperands, IsOfResult};
+ghost use Rattle.distinct_commands.specs.Images.{images_of, in_form};
+ghost use Rattle.distinct_commands.specs.Seeds.{AreSeeded};
+ghost use Rattle.distinct_commands.specs.declared.failure.Failure.TheVariants as failure;
+
+use crate::combine::refused;
+use crate::commands::in_form;
+use crate::eval::Expression;
+use crate::failure::{Failure, out_of_memory};
+use crate::images::Images;
+use crate::job::Job;
+use crate::sums::total_text;
+use distinct_arguments::Options;
+use line_sketches::{Sources, Unread};
+use line_sums::{all_sums, sums_image};
+use set_expressions::evaluate_sums;
+use sketch_base::{Error, ErrorKind};
+use std::alloc::Global;
+use tuple_sketches::CompactTupleSketch;
+
+/// The failure of an evaluation that is refused: memory, or a sum of a key that is 2^64 or more.
+fn unevaluated(alloc: Global, text: &str, error: Error) -> Failure
+    requires { (error ≡ OutOfMemory) ⊎ (error ≡ Policy) }
+    ensures { IsOfResult result }
+{
+    if error.kind() != ErrorKind::Policy {
+        return Failure::Memory;
+    }
+    match String::from_str(alloc, text) {
+        Ok(text) => Failure::PastResult(text),
+        Err(_) => Failure::Memory,
+    }
+}
+
+/// The result of an expression over one sketch of sums per name, each of this seed. It fails if memory is refused, or if
+/// the sum of a key would be 2^64 or more.
+fn result_of(
+    alloc: Global,
+    options: &Options<'_>,
+    seed: u64,
+    text: &str,
+    expression: &Expression,
+    sketches: &[CompactTupleSketch<u64>],
+) -> Result<CompactTupleSketch<u64>, Failure>
+    requires seed { seed_hash seed ≢ 0 }
+    requires seeded { AreSeeded seed sketches.now }
+    requires spelled { IsSpelled text.now (names_of expression.now.names.items) expression.now.steps.items }
+    requires counted { length expression.now.names.items ≡ length sketches.now }
+    ensures value { (spelled : IsSpelled text.now (names_of expression.now.names.items) expression.now.steps.items)
+        → IfOk result (λ s. s ≡ ordered_sketch (sums_value options.now.lg_k (sums_values sketches.now) spelled.tree) (seed_hash seed)) }
+    ensures failed { IfErr result IsOfResult }
+{
+    let steps = expression.steps.as_slice();
+    match evaluate_sums(alloc, seed, options.lg_k, steps, sketches) {
+        Ok(sketch) => Ok(sketch),
+        Err(error) => Err(unevaluated(alloc, text, error)),
+    }
+}
+
+/// The total of a sketch of sums as it is printed, or its image as it is written with `--output`.
+fn put_result(
+    alloc: Global,
+    options: &Options<'_>,
+    sums: &CompactTupleSketch<u64>,
+) -> Result<Vec<u8>, Failure>
+    ensures result { IfOk result (λ v. v.items ≡ evaluated_sums_text (options_of options.now) sums.now) }
+    ensures memory { IfErr result (λ f. f ≡ failure.Memory) }
+{
+    if options.output.is_some() {
+        return match sums_image(sums) {
+            Ok(image) => in_form(alloc, options.hex, image),
+            Err(error) => Err(out_of_memory(error)),
+        };
+    }
+    let text = total_text(alloc, options.form, sums)?;
+    Ok(text.into_bytes())
+}
+
+impl<'a, S: Sources + Drop> Job<'a, S> {
+    /// The sketches of sums that all sources have as images, each of this seed.
+    fn sums_operands(self) -> Result<Vec<CompactTupleSketch<u64>>, Failure>
+        ensures seeded { IfOk result (λ v. AreSeeded self.entry.seed v.items) }
+        ensures operands { IfSome (S.texts self.entry.inputs.sources) (λ texts.
+            IfOk result (λ v. AreReadSums self.entry.seed (images_of self.entry.options.now.hex texts) v.items)) }
+        ensures failed { IfErr result IsOfImages }
+    {
+        let (alloc, options, seed) = (self.alloc, self.options, self.seed);
+        let mut images = Images::of(alloc, self.inputs, true, options.hex, seed);
+        match all_sums(alloc, seed, &mut images) {
+            Ok(sketches) => Ok(sketches),
+            Err(Unread::Failed(error)) => Err(images.unreadable(error)),
+            Err(Unread::Refused(error)) => Err(refused(&images, error)),
+        }
+    }
+
+    /// The result of an expression over the sketches of sums of the sources, which have the expression's names in their
+    /// order.
+    pub fn sums_evaluated(self, text: &str, expression: &Expression) -> Result<Vec<u8>, Failure>
+        requires seeded { seed_hash self.seed ≢ 0 }
+        requires spelled { IsSpelled text.now (names_of expression.now.names.items) expression.now.steps.items }
+        ensures evaluated { IfSome (S.texts self.entry.inputs.sources) (λ texts.
+            IfOk result (λ v. IsSumsEvaluated (options_of self.entry.options.now) self.entry.seed text.now texts v.items)) }
+        ensures failed { IfErr result IsOfOperands }
+    {
+        let (alloc, options, seed) = (self.alloc, self.options, self.seed);
+        let sketches = self.sums_operands()?;
+        let found = sketches.len();
+        let wanted = expression.names.len();
+        if found != wanted {
+            return Err(Failure::NotOneEach(found as u64, wanted as u64));
+        }
+        let result = result_of(alloc, options, seed, text, expression, sketches.as_slice())?;
+        put_result(alloc, options, &result)
+    }
+}

@@ -1,0 +1,15 @@
+//! What the program does for one command: its options and its files. The other modules add a method for each command.
+
+use crate::inputs::Inputs;
+use distinct_arguments::Options;
+use line_sketches::Sources;
+use std::alloc::Global;
+
+/// The options of a command, the seed of its hashes, and the sources that it reads.
+#[derive(Drop)]
+pub struct Job<'a, S: Sources> {
+    pub alloc: Global,
+    pub options: &'a Options<'a>,
+    pub seed: u64,
+    pub inputs: Inputs<'a, S>,
+}

@@ -1,0 +1,147 @@
+-- Images of sums that are read, and united one after another.
+use Rattle.std.proofs.Common.{◌≡◌, ℕ, ◌^◌, ◌<◌, ◌≤◌, true, false, cond, List, [], ◌∷◌, ◌++◌, map, Option, Some, None, Result, Ok, Err, arith, refl, sym, ap, subst, ◌∙◌, append-nil}
+use Rattle.std.specs.Prelude.{IfOk, OnOk}
+use Rattle.sketch_base.specs.Seed.{seed_hash}
+use Rattle.sketch_base.specs.declared.error.ErrorKind.{ErrorKind}
+use Rattle.core_compact.specs.CompactState.{Compact, IsCompact, compact_value, ordered_sketch}
+use Rattle.core_images.specs.Summary.{SpellsNumber}
+use Rattle.core_laws.specs.Cuts.{Retained}
+use Rattle.core_laws.specs.Entries.{hash_key}
+use Rattle.core_laws.specs.Folds.{Fold, fold_key, unmarked_value}
+use Rattle.core_laws.specs.Leaf.{kmin}
+use Rattle.core_laws.specs.Maps.{IsAscending, map_of}
+use Rattle.core_laws.specs.Operators.{unite}
+use Rattle.core_laws.specs.Shown.{Shown, shown_value}
+use Rattle.core_laws.specs.Values.{Sketch, Empty, NonEmpty}
+use Rattle.core_laws.specs.declared.TheConstants.{MAX_THETA}
+use Rattle.core_laws.proofs.maps.Ascending.{ascending-filter}
+use Rattle.core_laws.proofs.maps.MapsOfLists.{ascending-from_map}
+use Rattle.core_operators.specs.Union.{Union, union_value, empty_union}
+use Rattle.core_slots.specs.Entry.{tuple_key, tuple_of}
+use Rattle.core_slots.specs.declared.entry.TupleEntry.{TupleEntry}
+use Rattle.core_table.proofs.OtherOrders.{map_of-ascending}
+use Rattle.tuple_sketches.specs.Image.{Reads, HasValues}
+use Rattle.lines.specs.Lines.{lines_of, lines_of_all}
+use Rattle.lines.specs.declared.key.Hashing.{Hashing}
+use Rattle.line_sketches.specs.Keys.{key_set}
+use Rattle.line_sketches.proofs.Rereads.{seed_hash-small}
+use Rattle.line_sketches.proofs.Shards.{lines_apart, sample}
+use Rattle.line_sketches.proofs.Unions.{Joins, made_same, value_more}
+use Rattle.line_sums.specs.Images.{AreReadSums, AreImagesOfTexts, ReadsSums, image_of_sums, written_sums}
+use Rattle.line_sums.specs.Sums.{sum_at, sums_of_lines, sketch_of_sums}
+use Rattle.line_sums.specs.Unions.{add_folds, folds_of_sketches, united_sums, HasUnitedSums, IsUnitedSumsImage}
+use Rattle.line_sums.proofs.Joined.{add_keeps, AreValues, map_self, united_exact}
+
+-- bytes are read as one sketch of sums at most
+abbrev pub ReadsOneSums : Type 0
+ReadsOneSums = (bytes : List ℕ) (h : ℕ) (r s : Compact (TupleEntry ℕ)) → ReadsSums bytes h r → ReadsSums bytes h s → r ≡ s
+
+-- what is written is read
+abbrev pub ReadsSumsAgain : Type 0
+ReadsSumsAgain = (s : Compact (TupleEntry ℕ)) (rest : List ℕ) → IsCompact tuple_key s → HasValues (λ n. n < 2 ^ 64) s → 0 < s.seed_hash → s.seed_hash < 2 ^ 16 → ReadsSums (written_sums s ++ rest) s.seed_hash s
+
+pub reads_sums : ReadsSumsAgain → (s : Compact (TupleEntry ℕ)) (seed : ℕ) (bytes : List ℕ) → IsCompact tuple_key s → HasValues (λ n. n < 2 ^ 64) s → s.seed_hash ≡ seed_hash seed → 0 < seed_hash seed → bytes ≡ written_sums s → ReadsSums bytes (seed_hash seed) s
+reads_sums anew s seed bytes compact fits same seeded image =
+    let low : 0 < s.seed_hash = omega (arith, same, seeded) in
+    let small : s.seed_hash < 2 ^ 16 = omega (arith, same, seed_hash-small seed) in
+    let all : written_sums s ++ [] ≡ bytes = append-nil (written_sums s) ∙ sym image in
+    subst (λ (h : ℕ). ReadsSums bytes h s) same (subst (λ (bs : List ℕ). ReadsSums bs s.seed_hash s) all (anew s [] compact fits low small))
+
+-- the image that a call returns is read
+pub reads_written : ReadsSumsAgain → {V : Type 0} (items : V → List ℕ) (r : Result V ErrorKind) (s : Compact (TupleEntry ℕ)) (seed : ℕ) → IsCompact tuple_key s → OnOk r (HasValues (λ n. n < 2 ^ 64) s) → s.seed_hash ≡ seed_hash seed → 0 < seed_hash seed →
+    IfOk r (λ v. items v ≡ written_sums s) → IfOk r (λ v. ReadsSums (items v) (seed_hash seed) s)
+reads_written anew items (Ok v) s seed compact fits same seeded image = reads_sums anew s seed (items v) compact fits same seeded image
+reads_written anew items (Err e) s seed compact fits same seeded image = tt
+
+-- ---- unions
+
+-- one more image
+read_more : (seed : ℕ) (images : List (List ℕ)) (sketches : List (Compact (TupleEntry ℕ))) (image : List ℕ) (s : Compact (TupleEntry ℕ)) → AreReadSums seed images sketches → ReadsSums image (seed_hash seed) s → AreReadSums seed (images ++ image ∷ []) (sketches ++ s ∷ [])
+read_more seed [] [] image s all one = (one, tt)
+read_more seed [] (t ∷ ts) image s all one = absurd all
+read_more seed (b ∷ bs) [] image s all one = absurd all
+read_more seed (b ∷ bs) (t ∷ ts) image s all one = (all.0, read_more seed bs ts image s all.1 one)
+
+folds_more : (sketches : List (Compact (TupleEntry ℕ))) (s : Compact (TupleEntry ℕ)) → folds_of_sketches (sketches ++ s ∷ []) ≡ folds_of_sketches sketches ++ unmarked_value (compact_value tuple_key s) ∷ []
+folds_more [] s = refl
+folds_more (t ∷ ts) s = ap (λ vs. unmarked_value (compact_value tuple_key t) ∷ vs) (folds_more ts s)
+
+module _ {P : Type 0} where
+  -- the value of a union of sums, in folds
+  abbrev folds_in : Union (TupleEntry ℕ) P → Sketch (Fold (TupleEntry ℕ))
+  folds_in u = unmarked_value (union_value tuple_key u)
+
+  joins_sums : (old new : Union (TupleEntry ℕ) P) (s : Shown) (listing : List (TupleEntry ℕ)) → (s.empty ≡ true → new ≡ old) →
+      (s.empty ≡ false → folds_in new ≡ unite (fold_key tuple_key) add_folds (2 ^ old.lg_k) old.start (folds_in old ∷ unmarked_value (shown_value tuple_key s listing) ∷ [])) →
+      Joins (fold_key tuple_key) add_folds add_keeps folds_in old new (unmarked_value (shown_value tuple_key s listing))
+  joins_sums old new s listing skipped united =
+      (elim s.empty as (λ b. s.empty ≡ b → Joins (fold_key tuple_key) add_folds add_keeps folds_in old new (unmarked_value (cond b Empty (NonEmpty (record { entries = map_of tuple_key listing; theta = s.theta }))))) [
+        | true ↦ λ e. skipped e
+        | false ↦ λ e. united e ∙ ap (λ b. unite (fold_key tuple_key) add_folds (2 ^ old.lg_k) old.start (folds_in old ∷ unmarked_value (cond b Empty (NonEmpty (record { entries = map_of tuple_key listing; theta = s.theta }))) ∷ [])) e
+      ]) refl
+
+  pub sums_more : (seed lg_k : ℕ) (images : List (List ℕ)) (image : List ℕ) (s : Compact (TupleEntry ℕ)) (old new : Union (TupleEntry ℕ) P) (shows : Shown) (listing : List (TupleEntry ℕ)) → HasUnitedSums seed lg_k images old → ReadsSums image (seed_hash seed) s →
+      (shows.empty ≡ true → new ≡ old) →
+      (shows.empty ≡ false → folds_in new ≡ unite (fold_key tuple_key) add_folds (2 ^ old.lg_k) old.start (folds_in old ∷ unmarked_value (shown_value tuple_key shows listing) ∷ [])) →
+      shown_value tuple_key shows listing ≡ compact_value tuple_key s → new ≡ record old { empty = new.empty; content = new.content } → HasUnitedSums seed lg_k (images ++ image ∷ []) new
+  sums_more seed lg_k images image s old new shows listing has reads skipped joins is made = record {
+    sketches = has.sketches ++ s ∷ [];
+    are_read = read_more seed images has.sketches image s has.are_read reads;
+    value =
+        value_more (fold_key tuple_key) add_folds add_keeps folds_in lg_k MAX_THETA old new (folds_of_sketches has.sketches) (unmarked_value (shown_value tuple_key shows listing)) (ap (λ u. u.lg_k) has.made) (ap (λ u. u.start) has.made) has.value
+        (joins_sums old new shows listing skipped joins)
+        ∙ ap (λ v. unite (fold_key tuple_key) add_folds (2 ^ lg_k) MAX_THETA (folds_of_sketches has.sketches ++ unmarked_value v ∷ [])) is
+        ∙ ap (unite (fold_key tuple_key) add_folds (2 ^ lg_k) MAX_THETA) (sym (folds_more has.sketches s));
+    made = made_same seed lg_k old new has.made made;
+  }
+
+  -- a new union has united nothing
+  pub no_sums_united : (seed lg_k : ℕ) (u : Union (TupleEntry ℕ) P) → u ≡ empty_union lg_k MAX_THETA (seed_hash seed) u.policy → HasUnitedSums seed lg_k [] u
+  no_sums_united seed lg_k u is =
+      let with_policy : P → Union (TupleEntry ℕ) P = λ p. empty_union lg_k MAX_THETA (seed_hash seed) p in record {
+        sketches = [];
+        are_read = tt;
+        value = ap folds_in is;
+        made = is ∙ (λ i. record (with_policy u.policy) { empty = sym (ap (λ v. v.empty) is) i; content = sym (ap (λ v. v.content) is) i });
+      }
+
+-- ---- sketches of texts, read from images
+
+module _ (hashing : Hashing) (amount : List ℕ → ℕ) where
+  again : (lg_k : ℕ) (line : List ℕ) (lines : List (List ℕ)) → compact_value tuple_key (sketch_of_sums hashing amount lg_k (line ∷ lines)) ≡ sums_of_lines hashing amount lg_k (line ∷ lines)
+  again lg_k line lines =
+      let s = sample hashing lg_k (line ∷ lines) in
+      let kept : Retained ℕ = kmin (2 ^ lg_k) (key_set hashing (line ∷ lines)) MAX_THETA in
+      let sum_of : ℕ → TupleEntry ℕ = λ h. tuple_of h (sum_at hashing amount (line ∷ lines) h) in
+      let up : IsAscending hash_key kept.entries = subst (IsAscending hash_key) (sym s.all_below) (ascending-filter hash_key _ (key_set hashing (line ∷ lines)) s.ascending) in
+      let rising : IsAscending tuple_key (map sum_of kept.entries) = ascending-from_map tuple_key (map sum_of kept.entries) (subst (IsAscending hash_key) (sym (map_self sum_of tuple_key (λ h. refl) kept.entries)) up) in
+      ap (λ (xs : List (TupleEntry ℕ)). NonEmpty (record { entries = xs; theta = kept.theta })) (map_of-ascending tuple_key (map sum_of kept.entries) rising)
+
+  value_again : (lg_k : ℕ) (lines : List (List ℕ)) → compact_value tuple_key (sketch_of_sums hashing amount lg_k lines) ≡ sums_of_lines hashing amount lg_k lines
+  value_again lg_k [] = refl
+  value_again lg_k (line ∷ lines) = again lg_k line lines
+
+  module _ (one : ReadsOneSums) (lg_k : ℕ) where
+    are_values : (images : List (List ℕ)) (sketches : List (Compact (TupleEntry ℕ))) (texts : List (List ℕ)) → AreReadSums hashing.seed images sketches → AreImagesOfTexts hashing amount lg_k images texts →
+        AreValues hashing amount lg_k (map (λ s. compact_value tuple_key s) sketches) (map lines_of texts)
+    are_values [] [] [] read are = tt
+    are_values [] [] (t ∷ ts) read are = absurd are
+    are_values [] (s ∷ ss) ts read are = absurd read
+    are_values (b ∷ bs) [] ts read are = absurd read
+    are_values (b ∷ bs) (s ∷ ss) [] read are = absurd are
+    are_values (b ∷ bs) (s ∷ ss) (t ∷ ts) read are = (
+      (are.0.0, are.0.1, ap (λ r. compact_value tuple_key r) (one b (seed_hash hashing.seed) s (sketch_of_sums hashing amount are.0.0 (lines_of t)) read.0 are.0.2) ∙ value_again are.0.0 (lines_of t)),
+      are_values bs ss ts read.1 are.1,
+    )
+
+    folds_again : (sketches : List (Compact (TupleEntry ℕ))) → folds_of_sketches sketches ≡ map (λ v. unmarked_value v) (map (λ s. compact_value tuple_key s) sketches)
+    folds_again [] = refl
+    folds_again (s ∷ ss) = ap (λ vs. unmarked_value (compact_value tuple_key s) ∷ vs) (folds_again ss)
+
+    -- the union of the images of texts is the image of the sums of all their lines
+    pub sums_apart : (texts images : List (List ℕ)) (bytes : List ℕ) → AreImagesOfTexts hashing amount lg_k images texts → IsUnitedSumsImage hashing.seed lg_k images bytes → bytes ≡ image_of_sums hashing amount lg_k (lines_of_all texts)
+    sums_apart texts images bytes are united =
+        let values : List (Sketch (TupleEntry ℕ)) = map (λ s. compact_value tuple_key s) united.sketches in
+        let whole = united_exact hashing amount lg_k values (map lines_of texts) (are_values images united.sketches texts united.are_read are) united.value
+        (united.united ∙ ap (unite (fold_key tuple_key) add_folds (2 ^ lg_k) MAX_THETA) (folds_again united.sketches)) in
+        united.image ∙ ap (λ (v : Sketch (TupleEntry ℕ)). written_sums (ordered_sketch v (seed_hash hashing.seed))) (whole ∙ ap (sums_of_lines hashing amount lg_k) (lines_apart hashing texts))

@@ -1,0 +1,86 @@
+-- Unions of images of sums.
+use Rattle.std.specs.Prelude.{ℕ, ◌≡◌, ◌⊎◌, ◌^◌, ◌≤◌, ⊤, List, map, Option, Some, None, IfSome}
+use Rattle.sketch_base.specs.Seed.{seed_hash}
+use Rattle.sketch_base.specs.declared.error.ErrorKind.{ErrorKind}
+use Rattle.sketch_base.specs.declared.error.ErrorKind.TheVariants.{OutOfMemory, InvalidData, Policy}
+use Rattle.core_compact.specs.CompactState.{Compact, compact_value, ordered_sketch}
+use Rattle.core_laws.specs.Folds.{Fold, fold_key, fold_merges, unmarked_value}
+use Rattle.core_laws.specs.Operators.{unite}
+use Rattle.core_laws.specs.Values.{Sketch}
+use Rattle.core_laws.specs.declared.TheConstants.{MAX_THETA}
+use Rattle.core_operators.specs.Union.{Union, empty_union, union_value}
+use Rattle.core_policies.specs.Summaries.{combined, combine_refused}
+use Rattle.core_policies.specs.Sums.{unsigned_sum}
+use Rattle.core_slots.specs.Entry.{tuple_key}
+use Rattle.core_slots.specs.declared.entry.TupleEntry.{TupleEntry}
+use Rattle.lines.specs.Keys.{hashing_of}
+use Rattle.lines.specs.Lines.{lines_of_all}
+use Rattle.lines.specs.declared.key.Key.{Key}
+use Rattle.line_sketches.specs.Refusals.{HasFault}
+use Rattle.line_sketches.specs.declared.sketching.Unread.{Unread}
+use Rattle.line_sketches.specs.declared.sketching.Unread.TheVariants.{Refused, Failed}
+use Rattle.line_sums.specs.Images.{AreReadSums, AreReadableSums, AreImagesOfTexts, image_of_sums, written_sums}
+
+-- two folds of one hash are merged: their sums are added, and a sum of 2^64 or more is a mark
+abbrev pub add_folds : Fold (TupleEntry ℕ) → Fold (TupleEntry ℕ) → Fold (TupleEntry ℕ)
+add_folds = fold_merges tuple_key (combined (unsigned_sum 64)) (combine_refused (unsigned_sum 64))
+
+-- the values of sketches, in folds
+abbrev pub folds_of_sketches : List (Compact (TupleEntry ℕ)) → List (Sketch (Fold (TupleEntry ℕ)))
+folds_of_sketches sketches = map (λ s. unmarked_value (compact_value tuple_key s)) sketches
+
+-- the union of sketches of sums, in folds
+abbrev pub united_sums : (lg_k : ℕ) → List (Compact (TupleEntry ℕ)) → Sketch (Fold (TupleEntry ℕ))
+united_sums lg_k sketches = unite (fold_key tuple_key) add_folds (2 ^ lg_k) MAX_THETA (folds_of_sketches sketches)
+
+-- a union of 2^lg_k nominal entries, of this seed, has the value of the union of the sketches of sums in these images, and no
+-- sum of its value is 2^64 or more
+pub record HasUnitedSums {P : Type 0} (seed lg_k : ℕ) (images : List (List ℕ)) (u : Union (TupleEntry ℕ) P) : Type 0 where
+  pub sketches : List (Compact (TupleEntry ℕ))
+  pub are_read : AreReadSums seed images sketches
+  pub value : unmarked_value (union_value tuple_key u) ≡ united_sums lg_k sketches
+  pub made : u ≡ record (empty_union lg_k MAX_THETA (seed_hash seed) u.policy) { empty = u.empty; content = u.content }
+
+-- the image of the union of the sketches of sums in images
+pub record IsUnitedSumsImage (seed lg_k : ℕ) (images : List (List ℕ)) (bytes : List ℕ) : Type 0 where
+  pub sketches : List (Compact (TupleEntry ℕ))
+  pub are_read : AreReadSums seed images sketches
+  pub value : Sketch (TupleEntry ℕ)
+  pub united : unmarked_value value ≡ united_sums lg_k sketches
+  pub image : bytes ≡ written_sums (ordered_sketch value (seed_hash seed))
+
+-- for images of the sums of texts that were sketched apart, by one key and one amount, with this seed and at least this lg_k,
+-- it is the image of the sums of all their lines
+abbrev pub UnitesSumsOfTexts : (seed lg_k : ℕ) → (images : List (List ℕ)) → List ℕ → Type 0
+UnitesSumsOfTexts seed lg_k images bytes =
+    (key : Key) (amount : List ℕ → ℕ) (texts : List (List ℕ))
+    → AreImagesOfTexts (hashing_of key seed) amount lg_k images texts
+    → bytes ≡ image_of_sums (hashing_of key seed) amount lg_k (lines_of_all texts)
+
+-- the bytes are not an image of sums of this seed
+abbrev pub AreNoSums : (seed : ℕ) → List ℕ → Type 0
+AreNoSums seed bytes = AreReadableSums bytes (seed_hash seed) → ⊥
+
+-- some of these are not an image of sums
+abbrev pub HasNoSums : (seed : ℕ) → (texts : List (List ℕ)) → Type 0
+HasNoSums seed texts = HasFault (AreNoSums seed) texts
+
+-- an image is not added: memory ran out, a sum would be 2^64 or more, or it is no image of sums
+abbrev pub IsAddSumsRefusal : (seed : ℕ) → (image : List ℕ) → ErrorKind → Type 0
+IsAddSumsRefusal seed image kind = (kind ≡ OutOfMemory) ⊎ ((kind ≡ Policy) ⊎ ((kind ≡ InvalidData) × AreNoSums seed image))
+
+-- .. or its source failed
+abbrev pub IsSumsRefusal : (seed : ℕ) → Option (List ℕ) → Unread → Type 0
+IsSumsRefusal seed image (Refused kind) = (kind ≡ OutOfMemory) ⊎ ((kind ≡ Policy) ⊎ ((kind ≡ InvalidData) × IfSome image (AreNoSums seed)))
+IsSumsRefusal seed image (Failed error) = ⊤
+
+-- images are not added, one after another
+abbrev pub IsAllSumsRefusal : (seed : ℕ) → Option (List (List ℕ)) → Unread → Type 0
+IsAllSumsRefusal seed images (Refused kind) = (kind ≡ OutOfMemory) ⊎ ((kind ≡ Policy) ⊎ ((kind ≡ InvalidData) × IfSome images (HasNoSums seed)))
+IsAllSumsRefusal seed images (Failed error) = ⊤
+
+-- images are not united: by a refusal before any is read, or because one is not added
+abbrev pub IsUniteSumsRefusal : (seed : ℕ) → Option ErrorKind → Option (List (List ℕ)) → Unread → Type 0
+IsUniteSumsRefusal seed refusal images (Refused kind) =
+    (refusal ≡ Some kind) ⊎ ((kind ≡ OutOfMemory) ⊎ ((kind ≡ Policy) ⊎ ((kind ≡ InvalidData) × IfSome images (HasNoSums seed))))
+IsUniteSumsRefusal seed refusal images (Failed error) = refusal ≡ None

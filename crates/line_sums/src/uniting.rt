@@ -1,0 +1,142 @@
+//! Unions of images of sums, and which lines they are the images of.
+ghost use Rattle.std.specs.Prelude.{◌≡◌, ◌++◌, ◌∷◌, ℕ, List, [], true, None, IfOk, IfErr, OnOk, IfSome, length};
+ghost use Rattle.sketch_base.specs.Seed.{seed_hash};
+ghost use Rattle.core_laws.specs.Refusal.{Refuses};
+ghost use Rattle.core_laws.specs.Settings.{settings_refusal};
+ghost use Rattle.core_laws.specs.declared.TheConstants.{MAX_THETA};
+ghost use Rattle.core_operators.specs.Union.{empty_union};
+ghost use Rattle.line_sketches.specs.Unions.{IsReady};
+ghost use Rattle.line_sums.specs.Unions.{HasUnitedSums, IsUnitedSumsImage, UnitesSumsOfTexts};
+ghost use Rattle.line_sums.specs.Unions.{IsAddSumsRefusal, IsSumsRefusal, IsAllSumsRefusal, IsUniteSumsRefusal};
+
+use crate::images::{read_sums, sums_image};
+use line_sketches::{Sources, United, Unread};
+use sketch_base::Error;
+use std::alloc::{AllocError, Allocator};
+use std::io::Read;
+use tuple_sketches::laws::one_reading;
+use tuple_sketches::{DefaultUnionPolicy, TupleUnion, TupleUnionBuilder};
+
+/// A union of sketches of sums.
+type SumsUnion<A> = TupleUnion<DefaultUnionPolicy<u64>, A>;
+
+/// A new union of 2^`lg_k` nominal entries, of sketches of this seed.
+fn new_union<A: Allocator + Drop>(alloc: A, seed: u64, lg_k: u8) -> Result<SumsUnion<A>, Error>
+    ensures made { IfOk result (λ u. u.state ≡ empty_union lg_k MAX_THETA (seed_hash seed) u.state.policy) }
+    ensures refused { Refuses result (settings_refusal lg_k MAX_THETA seed) true }
+{
+    TupleUnionBuilder::new(DefaultUnionPolicy::<u64>::default())
+        .lg_k(lg_k)
+        .seed(seed)
+        .build(alloc)
+}
+
+/// Adds an image to a union of sketches of this seed. If the union has not failed, it is refused only with `InvalidData`, if
+/// the bytes aren't an image of sums of this seed, with `Policy`, if a sum would be 2^64 or more, and with `OutOfMemory`.
+/// What the union has after a refusal is unspecified.
+fn add_image<A: Allocator + Clone, B: Allocator + Clone + Drop>(
+    union: &mut SumsUnion<A>,
+    alloc: B,
+    seed: u64,
+    image: &[u8],
+) -> Result<(), Error>
+    ensures united { (lg_k : ℕ) (images : List (List ℕ))
+        → HasUnitedSums seed lg_k images union.old.state
+        → OnOk result (HasUnitedSums seed lg_k (images ++ image.now ∷ []) union.new.state) }
+    ensures refused { IsReady seed union.old.state → IfErr result (IsAddSumsRefusal seed image.now) }
+    ensures ready { IsReady seed union.old.state → OnOk result (IsReady seed union.new.state) }
+{
+    let sketch = read_sums(alloc, seed, image)?;
+    union.update(sketch.as_view())?;
+    Ok(())
+}
+
+/// Adds the image in a reader to a union.
+fn add_reader<A: Allocator + Clone, B: Allocator + Clone + Drop, R: Read>(
+    union: &mut SumsUnion<A>,
+    alloc: B,
+    seed: u64,
+    reader: &mut R,
+) -> Result<(), Unread>
+    ensures united { (lg_k : ℕ) (images : List (List ℕ))
+        → HasUnitedSums seed lg_k images union.old.state
+        → IfSome (R.remaining reader.old) (λ image.
+        OnOk result (HasUnitedSums seed lg_k (images ++ image ∷ []) union.new.state)) }
+    ensures refused { IsReady seed union.old.state → IfErr result (IsSumsRefusal seed (R.remaining reader.old)) }
+    ensures ready { IsReady seed union.old.state → OnOk result (IsReady seed union.new.state) }
+{
+    let mut image = Vec::new(alloc.clone()?);
+    if let Err(error) = reader.read_to_end(&mut image) {
+        return Err(Unread::Failed(error));
+    }
+    add_image(union, alloc, seed, image.as_slice())?;
+    Ok(())
+}
+
+/// Adds images one after another to a union. Returns their number.
+fn add_images<A: Allocator + Clone, B: Allocator + Clone + Drop, S: Sources>(
+    union: &mut SumsUnion<A>,
+    alloc: B,
+    seed: u64,
+    sources: &mut S,
+) -> Result<u64, Unread>
+    ensures united { (lg_k : ℕ) (images : List (List ℕ))
+        → HasUnitedSums seed lg_k images union.old.state
+        → IfSome (S.texts sources.old) (λ more.
+        OnOk result (HasUnitedSums seed lg_k (images ++ more) union.new.state)) }
+    ensures counted { IfSome (S.texts sources.old) (λ more. IfOk result (λ count. count ≡ length more)) }
+    ensures refused { IsReady seed union.old.state → IfErr result (IsAllSumsRefusal seed (S.texts sources.old)) }
+    ensures ready { IsReady seed union.old.state → OnOk result (IsReady seed union.new.state) }
+{
+    for count in 0..u64::MAX {
+        match sources.next_source() {
+            Ok(Some(mut source)) => {
+                add_reader(union, alloc.clone()?, seed, &mut source)?;
+            }
+            Ok(None) => return Ok(count),
+            Err(error) => return Err(Unread::Failed(error)),
+        }
+    }
+    Err(Unread::Refused(Error::from(AllocError)))
+}
+
+/// The image of the result of a union, ordered. If the union has not failed, it is refused only with `OutOfMemory`.
+fn united_image<A: Allocator + Clone + Drop>(union: &SumsUnion<A>) -> Result<Vec<u8, A>, Error>
+    ensures image { (seed lg_k : ℕ) (images : List (List ℕ))
+        → HasUnitedSums seed lg_k images union.now.state
+        → IfOk result (λ v. IsUnitedSumsImage seed lg_k images v.items) }
+    ensures refused { (seed : ℕ) → IsReady seed union.now.state → Refuses result None true }
+{
+    let sketch = union.to_sketch(true)?;
+    sums_image(&sketch)
+}
+
+/// The image of the union of images of sums of this seed, each with its own reader, and the number of these images. The
+/// sums of a key that images share are added.
+///
+/// If the images are those of the sums of texts that were sketched apart, by one key and one amount, with this seed and at
+/// least this `lg_k`, it is the image of the sums of all their lines, byte for byte. An image doesn't show the key, the
+/// amount and the `lg_k` that it was made with.
+///
+/// Refused with `InvalidArgument` only for an `lg_k` that isn't from 4 to 26 or a seed whose seed hash is 0; with
+/// `InvalidData` only if some source is no image of sums of this seed; with `Policy` if the sums of a key below every theta
+/// so far are 2^64 or more together, which no clause says; and with `OutOfMemory`. If a source fails, or can't be opened,
+/// its error is returned, and for a wrong `lg_k` or seed nothing is read; no clause says so.
+pub fn unite_sums<A: Allocator + Clone + Drop, S: Sources>(
+    alloc: A,
+    seed: u64,
+    lg_k: u8,
+    images: &mut S,
+) -> Result<United<A>, Unread>
+    ensures united { IfSome (S.texts images.old) (λ all. IfOk result (λ u. IsUnitedSumsImage seed lg_k all u.image.items)) }
+    ensures counted { IfSome (S.texts images.old) (λ all. IfOk result (λ u. u.count ≡ length all)) }
+    ensures apart { IfSome (S.texts images.old) (λ all. IfOk result (λ u. UnitesSumsOfTexts seed lg_k all u.image.items)) }
+    ensures accepted { OnOk result (settings_refusal lg_k MAX_THETA seed ≡ None) }
+    ensures refused { IfErr result (IsUniteSumsRefusal seed (settings_refusal lg_k MAX_THETA seed) (S.texts images.old)) }
+{
+    one_reading::<u64, A>();
+    let mut union = new_union(alloc.clone()?, seed, lg_k)?;
+    let count = add_images(&mut union, alloc, seed, images)?;
+    let image = united_image(&union)?;
+    Ok(United { image, count })
+}

@@ -1,0 +1,13 @@
+pub mod Bounds
+pub mod Buffer
+pub mod CompactSums
+pub mod Images
+pub mod Intersections
+pub mod Settings
+pub mod Status
+pub mod Strings
+pub mod Sums
+pub mod SumsUnions
+pub mod Thetas
+pub mod Totals
+pub mod Unions

@@ -1,0 +1,32 @@
+-- Totals of sums, and the decimals of what they estimate.
+use Rattle.std.specs.Prelude.{◌+◌, ◌*◌, ◌^◌, ◌&&◌, ℕ, Bool, nat_lt, nat_le, List, [], ◌∷◌}
+use Rattle.core_laws.specs.declared.TheConstants.{MAX_THETA}
+use Rattle.core_slots.specs.declared.entry.TupleEntry.{TupleEntry}
+use Rattle.sketch_objects.specs.Bounds.{WritesQuotient}
+use Rattle.sketch_objects.specs.declared.bounds.Wide.{Wide}
+
+-- the sum of an entry
+abbrev pub sum_of : TupleEntry ℕ → ℕ
+sum_of e = e.summary
+
+-- the sum of the sums of entries
+abbrev pub total_of : List (TupleEntry ℕ) → ℕ
+total_of [] = 0
+total_of (e ∷ es) = sum_of e + total_of es
+
+-- a total, below 2^64 times theta, and a theta from 1 to the greatest, as every sketch has them: it has fewer entries than theta
+abbrev pub is_total : (low high theta : ℕ) → Bool
+is_total low high theta = nat_lt high theta && nat_le theta MAX_THETA
+
+-- a number of two halves
+abbrev pub joined_halves : (low high : ℕ) → ℕ
+joined_halves low high = low + 2 ^ 64 * high
+
+-- the estimate of the total of all values of the stream: the total of a sketch times the greatest theta, over its theta
+abbrev pub total_fraction : (low high theta : ℕ) → ℕ × ℕ
+total_fraction low high theta = (joined_halves low high * MAX_THETA, theta)
+
+-- the decimals of that estimate were written, with status 0; or a number is out of range, with 1, and nothing is written
+abbrev pub WritesTotalDecimal : (low high theta places : ℕ) → (whole_before : Wide) → (decimals_before status : ℕ) → (whole : Wide) → (decimals : ℕ) → Type 0
+WritesTotalDecimal low high theta places whole_before decimals_before status whole decimals =
+    WritesQuotient (is_total low high theta) (total_fraction low high theta) places whole_before decimals_before status whole decimals

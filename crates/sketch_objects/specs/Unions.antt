@@ -1,0 +1,67 @@
+-- Calls on unions of theta sketches.
+use Rattle.std.specs.Prelude.{◌≡◌, ◌⊎◌, ℕ, List, true, not, None}
+use Rattle.sketch_base.specs.Seed.{seed_hash}
+use Rattle.sketch_base.specs.declared.error.ErrorKind.{ErrorKind}
+use Rattle.core_compact.specs.CompactState.{Compact, IsAnswer, shown_of}
+use Rattle.core_laws.specs.Entries.{hash_key}
+use Rattle.core_laws.specs.Shown.{Shown}
+use Rattle.core_laws.specs.declared.TheConstants.{MAX_THETA}
+use Rattle.core_operators.specs.Union.{empty_union, union_value, update_refusal, failure, JoinsHashes, UnitesHashes, IsHashUpdateError}
+use Rattle.core_state.specs.Updatable.{sketch_shows}
+use Rattle.theta_sketches.specs.Image.{Reads, written}
+use Rattle.sketch_objects.specs.Status.{status_of, IsRefusal}
+use Rattle.sketch_objects.specs.Thetas.{IsReadRefusal}
+use Rattle.sketch_objects.specs.declared.compact.CompactSketch.{CompactSketch}
+use Rattle.sketch_objects.specs.declared.theta.SeededSketch.{SeededSketch}
+use Rattle.sketch_objects.specs.declared.union.SeededUnion.{SeededUnion}
+
+-- a new union, without sketches
+abbrev pub IsNewUnion : (lg_k seed : ℕ) → SeededUnion → Type 0
+IsNewUnion lg_k seed u = (u.seed ≡ seed) × (u.union ≡ empty_union lg_k MAX_THETA (seed_hash seed) u.union.policy)
+
+-- a sketch that shows this was merged, with status 0: the union's value is united with the sketch's, and only an Empty sketch
+-- changes nothing
+abbrev pub Merges : Shown → (listing : List ℕ) → (old new : SeededUnion) → Type 0
+Merges shown listing old new =
+    (update_refusal old.union shown ≡ None)
+    × (shown.empty ≡ true → new.union ≡ old.union)
+    × UnitesHashes old.union new.union shown listing
+    × JoinsHashes old.union new.union shown listing
+    × (new.union ≡ record old.union { empty = new.union.empty; content = new.union.content })
+
+-- a sketch was merged; or the union refused it, with 1 for another seed and with 5 if it has failed, and is unchanged; or
+-- memory was refused, with 3, and the union has failed
+abbrev pub AddsShown : Shown → (listing : List ℕ) → (old : SeededUnion) → (status : ℕ) → (new : SeededUnion) → Type 0
+AddsShown shown listing old status new =
+    (new.seed ≡ old.seed)
+    × (((status ≡ 0) × Merges shown listing old new) ⊎ ((e : ErrorKind) × (status ≡ status_of e) × IsHashUpdateError old.union new.union shown e))
+
+-- a sketch that takes updates was added
+abbrev pub AddsSketch : SeededSketch → (old : SeededUnion) → (status : ℕ) → (new : SeededUnion) → Type 0
+AddsSketch t old status new = AddsShown (sketch_shows hash_key t.sketch) t.sketch.sequence old status new
+
+-- a compact sketch was added
+abbrev pub AddsCompact : CompactSketch → (old : SeededUnion) → (status : ℕ) → (new : SeededUnion) → Type 0
+AddsCompact s old status new = AddsShown (shown_of hash_key s.sketch) s.sketch.entries old status new
+
+-- the sketch that bytes begin with was added; or reading was refused, with 2 or 3, and the union is unchanged
+abbrev pub AddsImage : (image : List ℕ) → (old : SeededUnion) → (status : ℕ) → (new : SeededUnion) → Type 0
+AddsImage image old status new =
+    ((s : Compact ℕ) × Reads image (seed_hash old.seed) s × AddsShown (shown_of hash_key s) s.entries old status new)
+    ⊎ (IsReadRefusal image old.seed status × (new ≡ old))
+
+-- the union's value as an ordered compact sketch
+abbrev pub IsUnionResult : SeededUnion → CompactSketch → Type 0
+IsUnionResult u s = IsAnswer hash_key (union_value hash_key u.union) u.union.seed_hash true s.sketch
+
+-- the image of the union's value, ordered
+abbrev pub IsUnionImage : SeededUnion → List ℕ → Type 0
+IsUnionImage u image = (s : Compact ℕ) × (image ≡ written s) × IsAnswer hash_key (union_value hash_key u.union) u.union.seed_hash true s
+
+-- the refusal of the result: 5 if the union has failed, and otherwise 3
+abbrev pub IsResultRefusal : SeededUnion → (status : ℕ) → Type 0
+IsResultRefusal u status = IsRefusal (failure u.union.failed) (not u.union.failed) status
+
+-- the union is as when it was new
+abbrev pub ResetsUnion : (old : SeededUnion) → (status : ℕ) → (new : SeededUnion) → Type 0
+ResetsUnion old status new = (status ≡ 0) × (new.seed ≡ old.seed) × (new.union ≡ empty_union old.union.lg_k old.union.start old.union.seed_hash old.union.policy)

@@ -1,0 +1,65 @@
+//! Compact theta sketches, which are immutable.
+ghost use Rattle.sketch_objects.specs.Status.{IsMemoryRefusal};
+ghost use Rattle.sketch_objects.specs.Thetas.{compact_state, IsCompactImage, IsCopy, IsReadFrom, IsReadRefusal};
+ghost use Rattle.sketch_objects.specs.declared.compact.CompactSketch.{CompactSketch};
+
+use crate::objects::{CanCopy, FromImage, HasImage, HasState};
+use crate::state::State;
+use crate::status::{OUT_OF_MEMORY, status_of};
+use std::alloc::Global;
+use theta_sketches::CompactThetaSketch;
+
+/// A compact sketch.
+#[derive(Drop)]
+pub struct CompactSketch {
+    pub(crate) sketch: CompactThetaSketch,
+}
+
+impl FromImage for CompactSketch {
+    ghost is_read = { IsReadFrom };
+
+    ghost is_unread = { IsReadRefusal };
+
+    fn read(alloc: Global, image: &[u8], seed: u64) -> Result<CompactSketch, u32> {
+        match CompactThetaSketch::deserialize_with_seed(alloc, image, seed) {
+            Ok(sketch) => Ok(CompactSketch { sketch }),
+            Err(error) => Err(status_of(error.kind())),
+        }
+    }
+}
+
+impl HasState for CompactSketch {
+    ghost shown = { compact_state };
+
+    fn state(&self) -> State {
+        State::of(
+            self.sketch.num_retained(),
+            self.sketch.theta64(),
+            self.sketch.is_empty(),
+        )
+    }
+}
+
+impl HasImage for CompactSketch {
+    ghost is_image = { IsCompactImage };
+
+    ghost no_image = { λ _. IsMemoryRefusal };
+
+    fn image(&self) -> Result<Vec<u8>, u32> {
+        match self.sketch.serialize() {
+            Ok(image) => Ok(image),
+            Err(_) => Err(OUT_OF_MEMORY),
+        }
+    }
+}
+
+impl CanCopy for CompactSketch {
+    ghost is_copy = { IsCopy };
+
+    fn copied(&self) -> Result<CompactSketch, u32> {
+        match self.sketch.clone() {
+            Ok(sketch) => Ok(CompactSketch { sketch }),
+            Err(_) => Err(OUT_OF_MEMORY),
+        }
+    }
+}

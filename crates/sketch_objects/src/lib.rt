@@ -1,0 +1,24 @@
+//! The objects behind the handles of C: sketches, unions and intersections, with the seed of their hashes.
+//!
+//! Each call returns a status (`status`) in place of an error, or the status of its refusal. What C does with objects of
+//! several kinds is a trait (`objects`); `sketch_c` has the handles, and one export for each call.
+#![tactic(auto)]
+
+pub mod bounds;
+pub mod buffer;
+pub mod compact;
+pub mod compact_sums;
+pub mod difference;
+pub mod hashes;
+pub mod images;
+pub mod intersection;
+pub mod objects;
+pub mod settings;
+pub mod state;
+pub mod status;
+pub mod strings;
+pub mod sums;
+pub mod sums_union;
+pub mod theta;
+pub mod totals;
+pub mod union;

@@ -1,0 +1,27 @@
+//! What C reads of a sketch.
+ghost use Rattle.std.specs.Prelude.{◌≡◌, if◌then◌else◌};
+
+/// The state of a sketch.
+#[repr(C)]
+#[derive(Clone, Copy)]
+pub struct State {
+    /// How many hashes it retains, fewer than 2^32.
+    pub retained: u64,
+    /// Its theta, from 1 to `MAX_THETA`.
+    pub theta: u64,
+    /// 1 if it is empty, which no estimate of 0 shows; else 0.
+    pub empty: u64,
+}
+
+impl State {
+    /// The state of these facts.
+    pub fn of(retained: usize, theta: u64, empty: bool) -> State
+        ensures { result ≡ record { retained = retained; theta = theta; empty = (if empty then 1 else 0) } }
+    {
+        State {
+            retained: retained as u64,
+            theta,
+            empty: if empty { 1 } else { 0 },
+        }
+    }
+}

@@ -1,0 +1,42 @@
+//! Statuses: 0 if a call did what it promises, and otherwise the reason why it did not. `include/kaftanclay.h` has the same
+//! numbers.
+ghost use Rattle.std.specs.Prelude.{◌≡◌, ◌≢◌, ◌≤◌};
+ghost use Rattle.sketch_objects.specs.Status.{status_of};
+
+use sketch_base::ErrorKind;
+
+/// The call did what it promises.
+pub const OK: u32 = 0;
+
+/// An argument is out of range or of another seed, a handle has no object, or one that is to be filled has one.
+pub const INVALID_ARGUMENT: u32 = 1;
+
+/// Bytes are no image of a sketch of this seed.
+pub const INVALID_DATA: u32 = 2;
+
+/// The memory that the call requested was refused.
+pub const OUT_OF_MEMORY: u32 = 3;
+
+/// A sum would be 2^64 or more.
+pub const POLICY: u32 = 4;
+
+/// An earlier refusal left the union half changed; it refuses until it is reset.
+pub const FAILED: u32 = 5;
+
+/// The caller's buffer is too small; the length that it needs was written.
+pub const TOO_SMALL: u32 = 6;
+
+/// The status of a kind of error, from 1 to 5.
+pub fn status_of(kind: ErrorKind) -> u32
+    ensures status { result ≡ status_of kind }
+    ensures refused { result ≢ 0 }
+    ensures high { result ≤ 5 }
+{
+    match kind {
+        ErrorKind::InvalidArgument => INVALID_ARGUMENT,
+        ErrorKind::InvalidData => INVALID_DATA,
+        ErrorKind::OutOfMemory => OUT_OF_MEMORY,
+        ErrorKind::Policy => POLICY,
+        ErrorKind::Failed => FAILED,
+    }
+}
