@@ -34,6 +34,28 @@ enum Outcome {
     Held,
 }
 
+impl Outcome {
+    /// Whether it no longer changes.
+    fn is_settled(self) -> bool
+        ensures { result ≡ is_settled_outcome self }
+    {
+        match self {
+            Outcome::Nothing => true,
+            Outcome::Unbegun | Outcome::Held => false,
+        }
+    }
+
+    /// Whether there was an input.
+    fn has_begun(self) -> bool
+        ensures { result ≡ is_begun self }
+    {
+        match self {
+            Outcome::Unbegun => false,
+            Outcome::Nothing | Outcome::Held => true,
+        }
+    }
+}
+
 /// An intersection of sketches, passed one by one.
 ///
 /// It has no value before its first input. Its value has the hashes that all inputs share, below their least theta; the
@@ -86,7 +108,7 @@ impl<E: SlotEntry, P, A: Allocator> IntersectionState<E, P, A> {
     pub fn has_result(&self) -> bool
         ensures { result ≡ is_some self.now.result }
     {
-        has_begun(self.outcome)
+        self.outcome.has_begun()
     }
 
     /// Bytes taken by its entries.
@@ -119,7 +141,7 @@ impl<
         ensures sound { IsIntersection self.old }
         ensures content { IsRetained E.key (content_of self.old.result) }
     {
-        if is_settled(self.outcome) {
+        if self.outcome.is_settled() {
             return Ok(());
         }
         match sketch.metadata() {
@@ -137,7 +159,7 @@ impl<
                 if self.seed_hash != seed_hash {
                     return Err(Error::new(ErrorKind::InvalidArgument));
                 }
-                if !has_begun(self.outcome) {
+                if !self.outcome.has_begun() {
                     let alloc = self.entries.allocator().clone()?;
                     self.entries = ascending_entries(alloc, sketch, theta, ordered, num_retained)?;
                     self.theta = theta;
@@ -242,26 +264,6 @@ where
     *entries = next;
     *own_theta = lesser;
     Ok(outcome)
-}
-
-/// Whether an outcome no longer changes.
-fn is_settled(outcome: Outcome) -> bool
-    ensures { result ≡ is_settled_outcome outcome }
-{
-    match outcome {
-        Outcome::Nothing => true,
-        Outcome::Unbegun | Outcome::Held => false,
-    }
-}
-
-/// Whether there was an input.
-fn has_begun(outcome: Outcome) -> bool
-    ensures { result ≡ is_begun outcome }
-{
-    match outcome {
-        Outcome::Unbegun => false,
-        Outcome::Nothing | Outcome::Held => true,
-    }
 }
 
 /// The outcome if the intersection had `content` hashes, the sketch `arriving`, and both share `shared` below `theta`:

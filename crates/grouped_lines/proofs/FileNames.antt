@@ -4,7 +4,8 @@ use Rattle.std.specs.Prelude.{flat_map, unwrap_or}
 use Rattle.std.proofs.lemmas.List.{append_cancel_right}
 use Rattle.std.specs.List.{AllByRecursion}
 use Rattle.std.proofs.lemmas.Bool.Decides.{nat_tests}
-use Rattle.line_sketches.specs.Hex.{digit_letter, digit_of, hex_of}
+use Rattle.std.specs.Char.{digit_char}
+use Rattle.line_sketches.specs.Hex.{digit_of, hex_of}
 use Rattle.grouped_lines.specs.Files.{is_plain, spelled, file_name}
 use Rattle.grouped_lines.proofs.WrittenImages.{digit_read}
 
@@ -19,7 +20,7 @@ plain_other : (byte : ℕ) → is_plain byte ≡ true → byte ≡ 37 → ⊥
 plain_other byte plain is = grind (arith, nat_tests)
 
 -- a digit is known by its letter
-digits_one : (m n : ℕ) → m < 16 → n < 16 → digit_letter m ≡ digit_letter n → m ≡ n
+digits_one : (m n : ℕ) → m < 16 → n < 16 → digit_char m ≡ digit_char n → m ≡ n
 digits_one m n m_small n_small same = ap (λ o. unwrap_or o 0) (sym (digit_read m m_small) ∙ ap digit_of same ∙ digit_read n n_small)
 
 -- a byte is known by its spelling, whatever follows
@@ -34,7 +35,7 @@ byte_one x y xs ys x_small y_small same =
         | true ↦ λ plain t. absurd (plain_other y plain (sym (heads 37 y _ ys t)))
         | false ↦ λ _ t.
             let two : hex_of (x ∷ []) ++ xs ≡ hex_of (y ∷ []) ++ ys = tails 37 37 _ _ t in
-            let one : digit_letter (x % 16) ∷ xs ≡ digit_letter (y % 16) ∷ ys = tails (digit_letter (x / 16)) (digit_letter (y / 16)) _ _ two in
+            let one : digit_char (x % 16) ∷ xs ≡ digit_char (y % 16) ∷ ys = tails (digit_char (x / 16)) (digit_char (y / 16)) _ _ two in
             let high = digits_one (x / 16) (y / 16) (omega (arith, x_small)) (omega (arith, y_small)) (heads _ _ _ _ two) in
             let low = digits_one (x % 16) (y % 16) (omega arith) (omega arith) (heads _ _ _ _ one) in
             (omega (arith, high, low), tails _ _ xs ys one)
@@ -55,7 +56,7 @@ not_percent : (byte : ℕ) (rest : List ℕ) → spelled byte ++ rest ≡ 37 ∷
 not_percent byte rest is =
     (elim (is_plain byte) as (λ b. is_plain byte ≡ b → cond b (byte ∷ []) (37 ∷ hex_of (byte ∷ [])) ++ rest ≡ 37 ∷ [] → ⊥) [
       | true ↦ λ plain s. plain_other byte plain (heads byte 37 rest [] s)
-      | false ↦ λ coded s. let e : digit_letter (byte / 16) ∷ digit_letter (byte % 16) ∷ rest ≡ [] = tails 37 37 _ [] s in cc
+      | false ↦ λ coded s. let e : digit_char (byte / 16) ∷ digit_char (byte % 16) ∷ rest ≡ [] = tails 37 37 _ [] s in cc
     ]) refl is
 
 spelled_one : (name other : List ℕ) → AllByRecursion (λ byte. byte < 256) name → AllByRecursion (λ byte. byte < 256) other → flat_map spelled name ≡ flat_map spelled other → name ≡ other

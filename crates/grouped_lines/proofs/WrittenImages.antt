@@ -8,7 +8,8 @@ use Rattle.core_laws.specs.declared.TheConstants.{MAX_THETA}
 use Rattle.core_compact.specs.CompactState.{Compact}
 use Rattle.core_images.specs.Write.{longs_of, counted}
 use Rattle.theta_sketches.specs.Image.{written}
-use Rattle.line_sketches.specs.Hex.{digit_letter, digit_of, hex_of, pair_of, before, bytes_of_hex}
+use Rattle.std.specs.Char.{digit_char}
+use Rattle.line_sketches.specs.Hex.{digit_of, hex_of, pair_of, before, bytes_of_hex}
 use Rattle.grouped_lines.specs.Tabs.{has_tab}
 
 -- ---- lists of bytes
@@ -86,19 +87,19 @@ written_bytes s =
 
 -- ---- digits
 
-pub digit_read : (n : ℕ) → n < 16 → digit_of (digit_letter n) ≡ Some n
+pub digit_read : (n : ℕ) → n < 16 → digit_of (digit_char n) ≡ Some n
 digit_read n small = grind (arith, nat_tests)
 
 -- the digits of bytes spell them
 pub hex_read : (bytes : List ℕ) → AreBytes bytes → bytes_of_hex (hex_of bytes) ≡ Some bytes
 hex_read [] small = refl
 hex_read (byte ∷ bytes) small =
-    ap (λ o. before (pair_of o (digit_of (digit_letter (byte % 16)))) (bytes_of_hex (hex_of bytes))) (digit_read (byte / 16) (omega (arith, small.0)))
+    ap (λ o. before (pair_of o (digit_of (digit_char (byte % 16)))) (bytes_of_hex (hex_of bytes))) (digit_read (byte / 16) (omega (arith, small.0)))
     ∙ ap (λ o. before (pair_of (Some (byte / 16)) o) (bytes_of_hex (hex_of bytes))) (digit_read (byte % 16) (omega arith))
     ∙ ap (λ b. before (Some b) (bytes_of_hex (hex_of bytes))) (omega arith)
     ∙ ap (before (Some byte)) (hex_read bytes small.1)
 
-letter_high : (n : ℕ) → 47 < digit_letter n
+letter_high : (n : ℕ) → 47 < digit_char n
 letter_high n = grind (arith, nat_tests)
 
 -- digits are neither tabs nor LFs

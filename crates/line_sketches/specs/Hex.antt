@@ -1,14 +1,11 @@
 -- Bytes as text: two hexadecimal digits each.
-use Rattle.std.specs.Prelude.{ℕ, ◌+◌, ◌-◌, ◌*◌, ◌/◌, ◌%◌, ◌&&◌, nat_lt, nat_le, Bool, true, is_some, List, [], ◌∷◌, Option, Some, None, if◌then◌else◌}
-
--- a digit from 0 to 15 as a letter
-abbrev pub digit_letter : ℕ → ℕ
-digit_letter n = if nat_lt n 10 then 48 + n else 87 + n
+use Rattle.std.specs.Prelude.{ℕ, ◌+◌, ◌-◌, ◌*◌, ◌/◌, ◌%◌, ◌&&◌, nat_le, Bool, true, is_some, List, [], ◌∷◌, Option, Some, None, if◌then◌else◌}
+use Rattle.std.specs.Char.{digit_char}
 
 -- bytes as letters, the high digit first
 abbrev pub hex_of : List ℕ → List ℕ
 hex_of [] = []
-hex_of (byte ∷ bytes) = digit_letter (byte / 16) ∷ digit_letter (byte % 16) ∷ hex_of bytes
+hex_of (byte ∷ bytes) = digit_char (byte / 16) ∷ digit_char (byte % 16) ∷ hex_of bytes
 
 -- the digit of a letter, of either case
 abbrev pub digit_of : ℕ → Option ℕ

@@ -1,13 +1,14 @@
 //! Images as text: two hexadecimal digits per byte.
 ghost use Rattle.std.specs.Prelude.{◌≡◌, ◌++◌, ◌∷◌, ◌<◌, ℕ, List, [], Option, Some, None, IfOk, IfSome, OnOk, MatchOption};
-ghost use Rattle.line_sketches.specs.Hex.{digit_letter, hex_of, digit_of, are_digits, pair_of, bytes_of_hex};
+ghost use Rattle.std.specs.Char.{digit_char};
+ghost use Rattle.line_sketches.specs.Hex.{hex_of, digit_of, are_digits, pair_of, bytes_of_hex};
 
 use std::alloc::{AllocError, Allocator};
 
 /// The letter of a digit.
 fn digit_letter(digit: u8) -> u8
     requires { digit < 16 }
-    ensures { result ≡ digit_letter digit }
+    ensures { result ≡ digit_char digit }
 {
     if digit < 10 { 48 + digit } else { 87 + digit }
 }

@@ -1,6 +1,7 @@
 -- The output for an input.
-use Rattle.std.specs.Prelude.{◌≡◌, ℕ, List, [], ◌∷◌, ◌++◌, ◌+◌, ◌/◌, ◌%◌, length, codes, nat_lt, IsTrue, Bool, true, false, if◌then◌else◌, Option, Some, None, decimal}
+use Rattle.std.specs.Prelude.{◌≡◌, ℕ, List, [], ◌∷◌, ◌++◌, ◌+◌, ◌/◌, ◌%◌, length, codes, IsTrue, Bool, true, false, if◌then◌else◌, Option, Some, None, decimal}
 use Rattle.std.specs.Int.{w64, to_le_bytes}
+use Rattle.std.specs.Char.{digit_char}
 use Rattle.std.specs.List.{flat_map}
 use Rattle.sketch_base.specs.Seed.{seed_hash}
 use Rattle.sketch_base.specs.declared.seed.TheConstants.{DEFAULT_UPDATE_SEED}
@@ -44,13 +45,9 @@ shown_head empty theta count =
     ++ codes "theta " ++ number_line theta
     ++ codes "count " ++ number_line count
 
--- a number below 16 as a digit of lower-case hexadecimal
-abbrev pub hex_digit : ℕ → ℕ
-hex_digit n = if nat_lt n 10 then 48 + n else 87 + n
-
 -- a byte as two digits of lower-case hexadecimal
 abbrev pub hex_byte : ℕ → List ℕ
-hex_byte byte = hex_digit (byte / 16) ∷ hex_digit (byte % 16) ∷ []
+hex_byte byte = digit_char (byte / 16) ∷ digit_char (byte % 16) ∷ []
 
 -- bytes in hexadecimal, on a line
 abbrev pub hex_line : List ℕ → List ℕ

@@ -16,7 +16,7 @@ use std::alloc::Allocator;
 use std::marker::Model;
 
 /// Builds a theta sketch. Nothing is checked before `build`. The crate's documentation has an example.
-#[derive(Debug, Drop)]
+#[derive(Debug, Clone, Drop)]
 pub struct ThetaSketchBuilder {
     settings: Settings,
 }

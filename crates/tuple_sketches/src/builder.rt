@@ -13,7 +13,7 @@ use sketch_base::Error;
 use std::alloc::Allocator;
 
 /// Builds a tuple sketch under a policy. Nothing is checked before `build`. The crate's documentation has an example.
-#[derive(Debug, Drop)]
+#[derive(Debug, Clone, Drop)]
 pub struct TupleSketchBuilder<P> {
     settings: Settings,
     policy: P,

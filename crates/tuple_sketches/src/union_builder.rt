@@ -15,7 +15,7 @@ use std::alloc::Allocator;
 
 /// Builds a tuple union under a policy, which combines the summaries of a key that its inputs share. Nothing is checked
 /// before `build`. The crate's documentation has an example.
-#[derive(Debug, Drop)]
+#[derive(Debug, Clone, Drop)]
 pub struct TupleUnionBuilder<P> {
     settings: Settings,
     policy: P,
