@@ -7,7 +7,7 @@ use Rattle.std.specs.Int.{Width, w32, w64, to_le_bytes, from_le_bytes, cast_sign
 use Rattle.sketch_base.specs.Bytes.{number}
 use Rattle.core_slots.specs.declared.entry.TupleEntry.{TupleEntry}
 use Rattle.core_images.specs.HashSpelling.{one_hash, hash_written, hash_spelled, word_number, number-four, number-eight, same_front}
-use Rattle.core_images.specs.Summary.{SpellsTuple, SpellsNumber, SpellsSigned, tuple_text, tuple_of}
+use Rattle.core_images.specs.Summary.{SpellsTuple, SpellsNumber, SpellsSigned, tuple_text, tuple_in}
 
 -- no spelling is a prefix of another, and each spells one number
 pub one_number : (n : ℕ) (a b u v : List ℕ) (x y : ℕ) → SpellsNumber n a x → SpellsNumber n b y → a ++ u ≡ b ++ v → (a ≡ b) × (x ≡ y)
@@ -81,7 +81,7 @@ module _ {S : Type 0} (Spells : List ℕ → S → Type 0) where
 
   module _ (n : ℕ) where
     -- any bytes of this size spell the entry that is read of them, if those behind the hash spell its summary
-    pub tuple_spelled : (summary_of : List ℕ → S) → ((a : List ℕ) → length a ≡ n → Spells a (summary_of a)) → (a : List ℕ) → length a ≡ 8 + n → SpellsTuple Spells a (tuple_of summary_of a)
+    pub tuple_spelled : (summary_of : List ℕ → S) → ((a : List ℕ) → length a ≡ n → Spells a (summary_of a)) → (a : List ℕ) → length a ≡ 8 + n → SpellsTuple Spells a (tuple_in summary_of a)
     tuple_spelled summary_of any a e =
         let front : length (take 8 a) ≡ 8 = length-take-le 8 a (omega arith) in
         let behind : length (drop 8 a) ≡ n = let left = length-drop 8 a in omega arith in

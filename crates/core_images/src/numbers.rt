@@ -38,7 +38,7 @@ fn parted<const M: usize, const N: usize>(spelling: &[u8; N]) -> (u64, [u8; M])
 impl FixedEntry<12> for TupleEntry<u32> {
     ghost use Rattle.std.specs.Prelude.{◌<◌, ◌^◌};
     ghost use Rattle.std.specs.Int.{w32, to_le_bytes, from_le_bytes};
-    ghost use Rattle.core_images.specs.Summary.{SpellsTuple, SpellsNumber, is_tuple_value, tuple_text, tuple_of};
+    ghost use Rattle.core_images.specs.Summary.{SpellsTuple, SpellsNumber, is_tuple_value, tuple_text, tuple_in};
     ghost use Rattle.core_images.specs.SummarySpelling.{four_read, tuple_spelled, tuple_size};
 
     ghost spells = { SpellsTuple (SpellsNumber 4) };
@@ -47,7 +47,7 @@ impl FixedEntry<12> for TupleEntry<u32> {
 
     ghost text = { tuple_text (to_le_bytes w32) };
 
-    ghost entry_of = { tuple_of (from_le_bytes w32) };
+    ghost entry_of = { tuple_in (from_le_bytes w32) };
 
     #[inline(always)]
     fn to_text(&self) -> [u8; 12] {
@@ -68,7 +68,7 @@ impl FixedEntry<12> for TupleEntry<u32> {
 impl FixedEntry<16> for TupleEntry<u64> {
     ghost use Rattle.std.specs.Prelude.{◌<◌, ◌^◌};
     ghost use Rattle.std.specs.Int.{w64, to_le_bytes, from_le_bytes};
-    ghost use Rattle.core_images.specs.Summary.{SpellsTuple, SpellsNumber, is_tuple_value, tuple_text, tuple_of};
+    ghost use Rattle.core_images.specs.Summary.{SpellsTuple, SpellsNumber, is_tuple_value, tuple_text, tuple_in};
     ghost use Rattle.core_images.specs.SummarySpelling.{eight_read, tuple_spelled, tuple_size};
 
     ghost spells = { SpellsTuple (SpellsNumber 8) };
@@ -77,7 +77,7 @@ impl FixedEntry<16> for TupleEntry<u64> {
 
     ghost text = { tuple_text (to_le_bytes w64) };
 
-    ghost entry_of = { tuple_of (from_le_bytes w64) };
+    ghost entry_of = { tuple_in (from_le_bytes w64) };
 
     #[inline(always)]
     fn to_text(&self) -> [u8; 16] {
@@ -98,7 +98,7 @@ impl FixedEntry<16> for TupleEntry<u64> {
 impl FixedEntry<12> for TupleEntry<i32> {
     ghost use Rattle.std.specs.Prelude.{FitsSigned};
     ghost use Rattle.std.specs.Int.{w32, to_le_bytes, from_le_bytes, cast_signed, cast_unsigned};
-    ghost use Rattle.core_images.specs.Summary.{SpellsTuple, SpellsSigned, is_tuple_value, tuple_text, tuple_of};
+    ghost use Rattle.core_images.specs.Summary.{SpellsTuple, SpellsSigned, is_tuple_value, tuple_text, tuple_in};
     ghost use Rattle.core_images.specs.SummarySpelling.{signed_four_read, tuple_spelled, tuple_size};
 
     ghost spells = { SpellsTuple (SpellsSigned w32 4) };
@@ -107,7 +107,7 @@ impl FixedEntry<12> for TupleEntry<i32> {
 
     ghost text = { tuple_text (λ x. to_le_bytes w32 (cast_unsigned w32 x)) };
 
-    ghost entry_of = { tuple_of (λ a. cast_signed w32 (from_le_bytes w32 a)) };
+    ghost entry_of = { tuple_in (λ a. cast_signed w32 (from_le_bytes w32 a)) };
 
     #[inline(always)]
     fn to_text(&self) -> [u8; 12] {
@@ -128,7 +128,7 @@ impl FixedEntry<12> for TupleEntry<i32> {
 impl FixedEntry<16> for TupleEntry<i64> {
     ghost use Rattle.std.specs.Prelude.{FitsSigned};
     ghost use Rattle.std.specs.Int.{w64, to_le_bytes, from_le_bytes, cast_signed, cast_unsigned};
-    ghost use Rattle.core_images.specs.Summary.{SpellsTuple, SpellsSigned, is_tuple_value, tuple_text, tuple_of};
+    ghost use Rattle.core_images.specs.Summary.{SpellsTuple, SpellsSigned, is_tuple_value, tuple_text, tuple_in};
     ghost use Rattle.core_images.specs.SummarySpelling.{signed_eight_read, tuple_spelled, tuple_size};
 
     ghost spells = { SpellsTuple (SpellsSigned w64 8) };
@@ -137,7 +137,7 @@ impl FixedEntry<16> for TupleEntry<i64> {
 
     ghost text = { tuple_text (λ x. to_le_bytes w64 (cast_unsigned w64 x)) };
 
-    ghost entry_of = { tuple_of (λ a. cast_signed w64 (from_le_bytes w64 a)) };
+    ghost entry_of = { tuple_in (λ a. cast_signed w64 (from_le_bytes w64 a)) };
 
     #[inline(always)]
     fn to_text(&self) -> [u8; 16] {

@@ -5,6 +5,9 @@ use Rattle.std.proofs.lemmas.Bool.{cases_lt}
 use Rattle.std.proofs.lemmas.Bool.Decides.{nat_tests}
 use Rattle.std.proofs.lemmas.Int.{ints}
 use Rattle.std.proofs.lemmas.Nat.{pow_pos}
+use Rattle.core_laws.specs.Step.{Step}
+use Rattle.core_slots.specs.declared.entry.TupleEntry.{TupleEntry}
+use Rattle.core_policies.specs.Summaries.{update_step}
 
 -- a whole number within bounds
 abbrev pub is_within : (least greatest z : ℤ) → Bool
@@ -17,6 +20,10 @@ sum_within least greatest x y = if is_within least greatest (x +ℤ y) then Some
 -- the sum of two numbers, if it fits in this many bits
 abbrev pub unsigned_sum : (bits x y : ℕ) → Option ℕ
 unsigned_sum bits x y = if nat_lt (x + y) (2 ^ bits) then Some (x + y) else None
+
+-- the step that adds a value to the sum at a hash, which is 0 at first; a sum of 2^64 or more is refused
+abbrev pub adds : (hash value : ℕ) → Step (TupleEntry ℕ)
+adds hash value = update_step (Some 0) (unsigned_sum 64) hash value
 
 -- the same number, and the same sum, as whole numbers
 pub unsigned-distinct : (x y : ℕ) → pos x ≡ pos y → x ≡ y

@@ -9,7 +9,7 @@ use Rattle.core_laws.proofs.maps.LookUps.{entry_at-append, same_map}
 use Rattle.core_laws.proofs.maps.MapsOfLists.{entry_at-map_of, ascending-map_of}
 use Rattle.core_slots.specs.SlotLayout.{filled, slot, is_other, HasOthers, IsOnPath, IsLaidOut}
 use Rattle.core_slots.specs.Probe.{probe}
-use Rattle.core_slots.specs.Rounds.{entry_count, IsInRound}
+use Rattle.core_slots.specs.Rounds.{hash_count, IsInRound}
 use Rattle.core_slots.proofs.Held.{take_whole}
 use Rattle.core_slots.proofs.SlotLayouts.{few_others, filled-append, filled_new, laid_out_new, others_none, others_more, probe_low, put_found}
 use Rattle.core_slots.proofs.Moves.{count-append, count-cons}
@@ -92,7 +92,7 @@ turned p l r b limited some = omega (arith, limited, some)
 
 module _ {X : Type 0} (key : X → ℕ) where
   -- if each hash occurs once, moving an entry behind others finds no other entry for any hash
-  passing : (xs ys : List X) (x : X) (q : ℕ) → entry_count key q (x ∷ xs) ≤ 1 → entry_at key (xs ++ (x ∷ ys)) q ≡ entry_at key ((x ∷ xs) ++ ys) q
+  passing : (xs ys : List X) (x : X) (q : ℕ) → hash_count key q (x ∷ xs) ≤ 1 → entry_at key (xs ++ (x ∷ ys)) q ≡ entry_at key ((x ∷ xs) ++ ys) q
   passing xs ys x q once =
       let parts = count-cons (λ y. eqb (key y) q) x xs in
       (elim (eqb (key x) q) as (λ b. eqb (key x) q ≡ b → entry_at key (xs ++ (x ∷ ys)) q ≡ cond b (Some x) (entry_at key (xs ++ ys) q)) [
@@ -125,7 +125,7 @@ module _ {X : Type 0} (key : X → ℕ) (lg : ℕ) where
   all_others_none slots (y ∷ xs) = (others_none key lg slots (key y), all_others_none slots xs)
 
   -- all wait at first
-  pub round_starts : (wait : List X) (slots : List (Option X)) → IsLaidOut key lg slots → ((q : ℕ) → entry_count key q wait + entry_count key q (filled slots) ≤ 1) → IsInRound key lg (wait ++ filled slots) [] wait slots (length (filled slots)) 0 (length (filled slots)) 0
+  pub round_starts : (wait : List X) (slots : List (Option X)) → IsLaidOut key lg slots → ((q : ℕ) → hash_count key q wait + hash_count key q (filled slots) ≤ 1) → IsInRound key lg (wait ++ filled slots) [] wait slots (length (filled slots)) 0 (length (filled slots)) 0
   round_starts wait slots laid_out once = record {
     laid_out = laid_out;
     found = λ q. refl;
@@ -214,7 +214,7 @@ module _ {X : Type 0} (key : X → ℕ) (lg : ℕ) where
           }
 
   -- all wait before the first part
-  pub all_wait : (wait : List X) (slots : List (Option X)) → IsLaidOut key lg slots → filled slots ≡ [] → ((q : ℕ) → entry_count key q wait ≤ 1) → IsInRound key lg wait [] wait slots 0 0 0 0
+  pub all_wait : (wait : List X) (slots : List (Option X)) → IsLaidOut key lg slots → filled slots ≡ [] → ((q : ℕ) → hash_count key q wait ≤ 1) → IsInRound key lg wait [] wait slots 0 0 0 0
   all_wait wait slots laid_out free once = record {
     laid_out = laid_out;
     found = λ q. rw (free, append-nil wait) refl;
@@ -229,7 +229,7 @@ module _ {X : Type 0} (key : X → ℕ) (lg : ℕ) where
 
   -- some of the entries that wait were settled by themselves
   pub part_settled : (whole rest part : List X) (slots after : List (Option X)) (put : ℕ) → IsInRound key lg whole [] (rest ++ part) slots 0 0 put 0 → IsLaidOut key lg after
-      → ((q : ℕ) → entry_at key (filled after) q ≡ entry_at key (part ++ filled slots) q) → ((q : ℕ) → entry_count key q (filled after) ≡ entry_count key q part + entry_count key q (filled slots)) → length (filled after) ≡ length part + length (filled slots)
+      → ((q : ℕ) → entry_at key (filled after) q ≡ entry_at key (part ++ filled slots) q) → ((q : ℕ) → hash_count key q (filled after) ≡ hash_count key q part + hash_count key q (filled slots)) → length (filled after) ≡ length part + length (filled slots)
       → IsInRound key lg whole [] rest after 0 0 (length (filled after)) 0
   part_settled whole rest part slots after put is laid_out found all counted = record {
     laid_out = laid_out;

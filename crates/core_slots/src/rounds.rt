@@ -6,7 +6,7 @@ ghost use Rattle.std.specs.Prelude.{◌≡◌, ℕ, ◌+◌, ◌-◌, ◌<◌, �
 ghost use Rattle.core_laws.specs.Maps.{IsApart, entry_at};
 ghost use Rattle.core_slots.specs.SlotLayout.{slot, IsLaidOut, entries_in, slot_map};
 ghost use Rattle.core_slots.specs.Probe.{probe};
-ghost use Rattle.core_slots.specs.Rounds.{entry_count, entry_count_in, twice_sum_to};
+ghost use Rattle.core_slots.specs.Rounds.{hash_count, entry_count_in, twice_sum_to};
 
 use crate::count::Count;
 use crate::slot_entry::{PathEntry, SlotEntry};
@@ -76,7 +76,7 @@ fn settle<E: SlotEntry>(
 )
     requires small { lg < 40 }
     requires laid_out { IsLaidOut E.key lg (map E.content slots.old) }
-    requires once { (q : ℕ) → entry_count E.key q (entries_in E.content left.old) + entry_count E.key q (entries_in E.content slots.old) ≤ 1 }
+    requires once { (q : ℕ) → hash_count E.key q (entries_in E.content left.old) + hash_count E.key q (entries_in E.content slots.old) ≤ 1 }
     requires room { length (entries_in E.content left.old) + length (entries_in E.content slots.old) ≤ 2 ^ lg }
     ensures size { length left.new ≡ length left.old }
     ensures laid_out { IsLaidOut E.key lg (map E.content slots.new) }

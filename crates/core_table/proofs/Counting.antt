@@ -5,7 +5,7 @@ use Rattle.std.proofs.lemmas.Bool.Decides.{nat_tests}
 use Rattle.std.proofs.Math.Nat.{two-pow-succ}
 use Rattle.std.proofs.Math.Pow.{pow_mono}
 use Rattle.core_table.specs.declared.insertion.Counts.{Counts}
-use Rattle.core_table.specs.HashTable.{HasSize, IsCounted, nothing_done, threshold, ticked_if, ticked, size_after, count_after}
+use Rattle.core_table.specs.HashTable.{HasSize, CountsAgree, nothing_done, threshold, ticked_if, ticked, size_after, count_after}
 use Rattle.core_table.proofs.Tables.{eights, twice, threshold_growing, full}
 
 -- eight is the third power of two
@@ -25,12 +25,12 @@ twice_above : (n : ℕ) → 2 * n ≤ 2 ^ n
 twice_above zero = omega arith
 twice_above (suc n) = omega (arith, above n, two-pow-succ n)
 
-pub counted_nothing : (lg nom : ℕ) → IsCounted lg nom 0 nothing_done
+pub counted_nothing : (lg nom : ℕ) → CountsAgree lg nom 0 nothing_done
 counted_nothing lg nom = record { fresh = omega arith; rare = omega arith; few_placed = λ _. inl (refl, (omega arith, (omega arith, omega arith))) }
 
-module _ (lg nom count : ℕ) (done : Counts) (is : IsCounted lg nom count done) where
+module _ (lg nom count : ℕ) (done : Counts) (is : CountsAgree lg nom count done) where
   -- one more entry
-  pub counted_more : IsCounted lg nom (count + 1) (record done { inserted = done.inserted + 1; fresh = done.fresh + 1 })
+  pub counted_more : CountsAgree lg nom (count + 1) (record done { inserted = done.inserted + 1; fresh = done.fresh + 1 })
   counted_more = record {
     fresh = omega (arith, is.fresh);
     rare = omega (arith, is.rare);
@@ -42,7 +42,7 @@ module _ (lg nom count : ℕ) (done : Counts) (is : IsCounted lg nom count done)
 
   -- one more entry, over more slots
   pub counted_grown : (new_lg : ℕ) → lg ≤ nom → 5 ≤ lg → lg + 1 ≤ new_lg → count ≤ 2 ^ lg / 2 → 2 ^ lg / 2 < count + 1 →
-      IsCounted new_lg nom (count + 1) (record done { inserted = done.inserted + 1; fresh = done.fresh + 1; placed = done.placed + (count + 1) })
+      CountsAgree new_lg nom (count + 1) (record done { inserted = done.inserted + 1; fresh = done.fresh + 1; placed = done.placed + (count + 1) })
   counted_grown new_lg growing low wider limited full =
       let double = two-pow-succ lg in
       let wide : 2 ^ suc lg ≤ 2 ^ new_lg = pow_mono {i = suc lg} {j = new_lg} (omega (arith, wider)) in
@@ -58,7 +58,7 @@ module _ (lg nom count : ℕ) (done : Counts) (is : IsCounted lg nom count done)
 
   -- one more entry, and a rebuild
   pub counted_rebuilt : 3 ≤ nom → lg ≡ nom + 1 → 15 * 2 ^ nom / 8 < count + 1 →
-      IsCounted lg nom (2 ^ nom) (record done { inserted = done.inserted + 1; fresh = 0; placed = done.placed + 2 ^ nom; rebuilds = done.rebuilds + 1 })
+      CountsAgree lg nom (2 ^ nom) (record done { inserted = done.inserted + 1; fresh = 0; placed = done.placed + 2 ^ nom; rebuilds = done.rebuilds + 1 })
   counted_rebuilt large at full =
       let e = eights nom large in
       let k : ℕ = 2 ^ nom in
@@ -76,11 +76,11 @@ module _ (lg nom count : ℕ) (done : Counts) (is : IsCounted lg nom count done)
       }
 
   -- a cut that no insertion caused
-  pub counted_trimmed : (placed : ℕ) → IsCounted lg nom (2 ^ nom) (record done { placed = placed; trims = done.trims + 1 })
+  pub counted_trimmed : (placed : ℕ) → CountsAgree lg nom (2 ^ nom) (record done { placed = placed; trims = done.trims + 1 })
   counted_trimmed placed = record { fresh = omega arith; rare = is.rare; few_placed = λ z. absurd (omega (arith, z)) }
 
   -- fewer entries
-  pub counted_fewer : (fewer : ℕ) → fewer ≤ count → IsCounted lg nom fewer done
+  pub counted_fewer : (fewer : ℕ) → fewer ≤ count → CountsAgree lg nom fewer done
   counted_fewer fewer le = record {
     fresh = omega (arith, is.fresh, le);
     rare = is.rare;
@@ -88,7 +88,7 @@ module _ (lg nom count : ℕ) (done : Counts) (is : IsCounted lg nom count done)
   }
 
   -- looks count for nothing else
-  pub counted_looks : (looks : ℕ) → IsCounted lg nom count (record done { looks = looks })
+  pub counted_looks : (looks : ℕ) → CountsAgree lg nom count (record done { looks = looks })
   counted_looks looks = record { fresh = is.fresh; rare = is.rare; few_placed = is.few_placed }
 
   -- rebuilds are rare
@@ -127,7 +127,7 @@ module _ (lg nom grow count : ℕ) (done : Counts) where
       record { size = rw (e, f) refl; retained = rw (e, f) refl; counts = rw (e, f) refl }
 
   -- and it keeps the law
-  pub counted_ticked : HasSize lg nom grow count → (nom < 3 → count + 1 < 2 ^ lg) → IsCounted lg nom count done → IsCounted (size_after lg nom grow count) nom (count_after lg nom count) (ticked lg nom count done)
+  pub counted_ticked : HasSize lg nom grow count → (nom < 3 → count + 1 < 2 ^ lg) → CountsAgree lg nom count done → CountsAgree (size_after lg nom grow count) nom (count_after lg nom count) (ticked lg nom count done)
   counted_ticked sized room is =
       elim (cases_lt (threshold lg nom) (count + 1)) [
         | inr limited ↦ let t = few_ticked limited in rw (t.size, t.retained, t.counts) (counted_more lg nom count done is)
@@ -145,7 +145,7 @@ module _ (lg nom grow count : ℕ) (done : Counts) where
       ]
 
   -- a rebuild happens only if seven eighths of the nominal entries are fresh, the new one counted
-  pub ticked_seldom : HasSize lg nom grow count → (nom < 3 → count + 1 < 2 ^ lg) → IsCounted lg nom count done → ((ticked lg nom count done).rebuilds ≡ done.rebuilds) ⊎ (7 * 2 ^ nom < 8 * (done.fresh + 1))
+  pub ticked_seldom : HasSize lg nom grow count → (nom < 3 → count + 1 < 2 ^ lg) → CountsAgree lg nom count done → ((ticked lg nom count done).rebuilds ≡ done.rebuilds) ⊎ (7 * 2 ^ nom < 8 * (done.fresh + 1))
   ticked_seldom sized room is =
       elim (cases_lt (threshold lg nom) (count + 1)) [
         | inr limited ↦ let t = few_ticked limited in inl (rw t.counts refl)

@@ -181,7 +181,7 @@ ArePlaced lg_cur lg_nom count done =
 
 -- counts against the retained entries: all beyond the nominal ones are fresh, rebuilds are rare, and few entries were
 -- placed if only insertions cut any
-pub record IsCounted (lg_cur lg_nom count : ℕ) (done : Counts) : Type 0 where
+pub record CountsAgree (lg_cur lg_nom count : ℕ) (done : Counts) : Type 0 where
   pub fresh : count ≤ 2 ^ lg_nom + done.fresh
   pub rare : 7 * 2 ^ lg_nom * done.rebuilds + 8 * done.fresh ≤ 8 * done.inserted
   pub few_placed : done.trims ≡ 0 → ArePlaced lg_cur lg_nom count done
@@ -246,4 +246,4 @@ RefusesBelowThreshold r key hash step t = IsBelowThreshold t → RefusesAsStep r
 pub record IsProbing {X : Type 0} (key : X → ℕ) (t : MapTable X) (lg_cur grow most count : ℕ) (slots : List (Option X)) (done : Counts) : Type 0 where
   pub slotted : IsSlotted key t lg_cur grow count slots
   pub bounded : most ≡ (if t.has_slots then threshold lg_cur t.lg_nom else 0)
-  pub counted : IsCounted lg_cur t.lg_nom count done
+  pub counted : CountsAgree lg_cur t.lg_nom count done

@@ -15,7 +15,7 @@ distinct: counts distinct lines approximately, in little memory
   distinct show IMAGE..            prints one line per image
   distinct eval EXPRESSION         prints one line on a set expression, such as 'mon + tue - wed'
   distinct visits [FILE..]         prints how many lines come once, twice, 3 to 4 times, and so on
-  distinct sum --value N [FILE..]  prints about the total of the numbers in a field of the lines
+  distinct sum --value M [FILE..]  prints the total of the numbers in field M of the lines
   distinct COMMAND --help          prints the options of a command; -h does so too
   distinct --help                  prints this text; -h does so too
   distinct --version               prints the version; -V does so too
@@ -169,8 +169,8 @@ distinct visits [OPTION..] [FILE..]: how many distinct lines come once in the fi
   --seed N            the seed of the hashes, from 0 to 2^64 - 1; default 9001
   --seed-file FILE    the seed is the number in FILE, and not in the process list
   --files0-from FILE  the names of the files are in FILE, each ended by a NUL byte
-  --bounds[=N]        print bounds of each number too, N standard deviations from it; N is 1, 2 or
-                      3, default 2
+  --bounds[=Z]        print bounds of each number too, for Z standard deviations; Z is 1, 2 or 3,
+                      default 2
   --tsv               print values separated by tabs, under a line of their names
   --json              print a JSON object per range, each on a line
 ";

@@ -7,7 +7,7 @@ use Rattle.core_compact.specs.CompactState.{Compact, ordered_sketch}
 use Rattle.line_sketches.specs.Sources.{GivesNext, Continues}
 use Rattle.line_sketches.specs.Shards.{sketches_of_texts}
 use Rattle.expression_text.specs.declared.operator.Step.{Step}
-use Rattle.expression_text.specs.Grammar.{IsSpelled}
+use Rattle.expression_text.specs.Grammar.{IsExpressionText}
 use Rattle.core_slots.specs.declared.entry.TupleEntry.{TupleEntry}
 use Rattle.line_sums.specs.Images.{AreReadSums}
 use Rattle.set_expressions.specs.Values.{value_of, sum_rules, sums_value}
@@ -74,7 +74,7 @@ module _ (options : OptionValues) (seed : ℕ) where
 
   -- the result of an expression
   pub evaluated : {V E A : Type 0} (r : Result V E) (items : V → List ℕ) (known : Option (List (List ℕ))) (text : List ℕ) (names : List (String A)) (steps : List Step) (sketches : List (Compact ℕ)) (s : Compact ℕ) →
-      (spelled : IsSpelled text (names_of names) steps) → IfSome known (λ texts. AreOperands options.keys options seed texts sketches) → length names ≡ length sketches →
+      (spelled : IsExpressionText text (names_of names) steps) → IfSome known (λ texts. AreOperands options.keys options seed texts sketches) → length names ≡ length sketches →
       s ≡ ordered_sketch (value_of options.lg_k (values_of sketches) spelled.tree) (seed_hash seed) → IfOk r (λ v. items v ≡ evaluated_text options text s) →
       IfSome known (λ texts. IfOk r (λ v. IsEvaluated options seed text texts (items v)))
   evaluated r items None text names steps sketches s spelled operands counted value put = tt
@@ -92,7 +92,7 @@ module _ (options : OptionValues) (seed : ℕ) where
 
   -- .. over sketches of sums
   pub sums_evaluated : {V E A : Type 0} (r : Result V E) (items : V → List ℕ) (known : Option (List (List ℕ))) (text : List ℕ) (names : List (String A)) (steps : List Step) (sketches : List (Compact (TupleEntry ℕ))) (s : Compact (TupleEntry ℕ)) →
-      (spelled : IsSpelled text (names_of names) steps) → IfSome known (λ texts. AreReadSums seed (images_of options.hex texts) sketches) → length names ≡ length sketches →
+      (spelled : IsExpressionText text (names_of names) steps) → IfSome known (λ texts. AreReadSums seed (images_of options.hex texts) sketches) → length names ≡ length sketches →
       s ≡ ordered_sketch (sums_value options.lg_k (sums_values sketches) spelled.tree) (seed_hash seed) → IfOk r (λ v. items v ≡ evaluated_sums_text options s) →
       IfSome known (λ texts. IfOk r (λ v. IsSumsEvaluated options seed text texts (items v)))
   sums_evaluated r items None text names steps sketches s spelled operands counted value put = tt

@@ -18,7 +18,7 @@ use Rattle.line_sketches.specs.Shards.{sketches_of_texts}
 use Rattle.line_sketches.proofs.Shards.{sample}
 use Rattle.line_sketches.proofs.Rereads.{value_again}
 use Rattle.expression_text.specs.declared.operator.Step.{Step}
-use Rattle.expression_text.specs.Expressions.{Expression, postfix, IsWithin}
+use Rattle.expression_text.specs.Expressions.{Expression, postfix, HasIndicesBelow}
 use Rattle.set_expressions.specs.Values.{Rules, hash_rules, value_in, value_of, set_of}
 use Rattle.set_expressions.specs.Running.{values_of, values_by, after_steps, only_value, are_accepted, refusal_by, IsEvaluationError}
 use Rattle.set_expressions.proofs.RunSteps.{expression_result, one_result}
@@ -62,11 +62,11 @@ module _ {X : Type 0} (rules : Rules X) where
       ap (λ b. b && are_accepted (λ r. r) (seed_hash seed) sketches) (one_seed (seed_hash seed) s.seed_hash s.empty seeded.0) ∙ seeds_accepted seed sketches seeded.1
 
   -- the evaluation of an expression over them is refused for memory, or by a merge, alone
-  pub evaluation_accepted : (seed lg_k : ℕ) (steps : List Step) (sketches : List (Compact X)) (e : Expression) → settings_refusal lg_k MAX_THETA seed ≡ None → AreSeeded seed sketches → IsWithin (length sketches) e → steps ≡ postfix e →
+  pub evaluation_accepted : (seed lg_k : ℕ) (steps : List Step) (sketches : List (Compact X)) (e : Expression) → settings_refusal lg_k MAX_THETA seed ≡ None → AreSeeded seed sketches → HasIndicesBelow (length sketches) e → steps ≡ postfix e →
       refusal_by rules (λ s. s) seed lg_k steps sketches ≡ None
   evaluation_accepted seed lg_k steps sketches e settings seeded within is =
       let values = values_by rules (λ s. s) sketches in
-      let inside : IsWithin (length values) e = subst (λ (n : ℕ). IsWithin n e) (sym (length-map sketches (λ s. compact_value rules.key s))) within in
+      let inside : HasIndicesBelow (length values) e = subst (λ (n : ℕ). HasIndicesBelow n e) (sym (length-map sketches (λ s. compact_value rules.key s))) within in
       one_result rules (λ s. s) seed lg_k steps sketches (value_in rules lg_k values e) settings (seeds_accepted seed sketches seeded)
       (ap (λ ss. only_value (after_steps rules lg_k values ss (Some []))) is ∙ ap only_value (expression_result rules lg_k values e inside))
 

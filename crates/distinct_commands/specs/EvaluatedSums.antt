@@ -7,8 +7,8 @@ use Rattle.core_slots.specs.Entry.{tuple_key}
 use Rattle.core_slots.specs.declared.entry.TupleEntry.{TupleEntry}
 use Rattle.line_sums.specs.Images.{AreReadSums, written_sums}
 use Rattle.expression_text.specs.declared.operator.Step.{Step}
-use Rattle.expression_text.specs.Grammar.{IsSpelled}
-use Rattle.set_expressions.specs.Values.{sums_value, sums_in}
+use Rattle.expression_text.specs.Grammar.{IsExpressionText}
+use Rattle.set_expressions.specs.Values.{sums_value, whole_sums_in}
 use Rattle.set_expressions.specs.Running.{sums_values}
 use Rattle.distinct_arguments.specs.Settings.{OptionValues}
 use Rattle.distinct_commands.specs.Images.{images_of, in_form}
@@ -23,10 +23,10 @@ evaluated_sums_text options s = if is_some options.output then in_form options.h
 pub record IsSumsEvaluated (options : OptionValues) (seed : ℕ) (expression : List ℕ) (texts : List (List ℕ)) (out : List ℕ) : Type 0 where
   pub names : List (List ℕ)
   pub steps : List Step
-  pub spelled : IsSpelled expression names steps
+  pub spelled : IsExpressionText expression names steps
   pub sketches : List (Compact (TupleEntry ℕ))
   pub operands : AreReadSums seed (images_of options.hex texts) sketches
   pub counted : length names ≡ length sketches
   pub result : out ≡ evaluated_sums_text options (ordered_sketch (sums_value options.lg_k (sums_values sketches) spelled.tree) (seed_hash seed))
   pub whole : (wholes : List (List (TupleEntry ℕ))) → AreSamples tuple_key (sums_values sketches) wholes →
-      IsSample tuple_key (sums_value options.lg_k (sums_values sketches) spelled.tree) (sums_in wholes spelled.tree)
+      IsSample tuple_key (sums_value options.lg_k (sums_values sketches) spelled.tree) (whole_sums_in wholes spelled.tree)

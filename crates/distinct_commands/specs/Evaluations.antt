@@ -9,7 +9,7 @@ use Rattle.lines.specs.Lines.{lines_of}
 use Rattle.line_sketches.specs.Keys.{key_set, value_of_lines, sketch_of_value}
 use Rattle.line_sketches.specs.Shards.{AreRead, sketches_of_texts}
 use Rattle.expression_text.specs.declared.operator.Step.{Step}
-use Rattle.expression_text.specs.Grammar.{IsSpelled}
+use Rattle.expression_text.specs.Grammar.{IsExpressionText}
 use Rattle.set_expressions.specs.Values.{value_of, set_of}
 use Rattle.set_expressions.specs.Running.{values_of}
 use Rattle.distinct_arguments.specs.Settings.{OptionValues}
@@ -59,7 +59,7 @@ evaluated_text options expression s = if is_some options.output then in_form opt
 pub record IsEvaluated (options : OptionValues) (seed : ℕ) (expression : List ℕ) (texts : List (List ℕ)) (out : List ℕ) : Type 0 where
   pub names : List (List ℕ)
   pub steps : List Step
-  pub spelled : IsSpelled expression names steps
+  pub spelled : IsExpressionText expression names steps
   pub sketches : List (Compact ℕ)
   pub operands : AreOperands options.keys options seed texts sketches
   pub counted : length names ≡ length sketches

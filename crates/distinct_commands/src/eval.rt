@@ -4,7 +4,7 @@ ghost use Rattle.sketch_base.specs.Seed.{seed_hash};
 ghost use Rattle.core_laws.specs.Settings.{settings_refusal};
 ghost use Rattle.core_laws.specs.declared.TheConstants.{MAX_THETA};
 ghost use Rattle.line_sketches.specs.Refusals.{RefusesRead};
-ghost use Rattle.expression_text.specs.Grammar.{IsSpelled, SpellsNothing};
+ghost use Rattle.expression_text.specs.Grammar.{IsExpressionText, SpellsNothing};
 ghost use Rattle.expression_text.specs.declared.fault.Reason.TheVariants.{Memory};
 ghost use Rattle.set_expressions.specs.Values.{value_of};
 ghost use Rattle.core_compact.specs.CompactState.{ordered_sketch};
@@ -72,7 +72,7 @@ fn unnamed(alloc: Global, text: &str, reason: Unlisted) -> Failure
 
 /// The expression that a text spells. It fails if the text spells none, or if memory is refused.
 pub fn expression_in(alloc: Global, text: &str) -> Result<Expression, Failure>
-    ensures spelled { IfOk result (λ e. IsSpelled text.now (names_of e.names.items) e.steps.items) }
+    ensures spelled { IfOk result (λ e. IsExpressionText text.now (names_of e.names.items) e.steps.items) }
     ensures failed { IfErr result (IsOfExpression text.now) }
 {
     let parsed = match parse(alloc, text.as_bytes()) {
@@ -144,10 +144,10 @@ fn result_of(
 ) -> Result<CompactThetaSketch, Failure>
     requires seed { seed_hash seed ≢ 0 }
     requires seeded { AreSeeded seed sketches.now }
-    requires spelled { (text : List ℕ) × IsSpelled text (names_of expression.now.names.items) expression.now.steps.items }
+    requires spelled { (text : List ℕ) × IsExpressionText text (names_of expression.now.names.items) expression.now.steps.items }
     requires counted { length expression.now.names.items ≡ length sketches.now }
     ensures value { (text : List ℕ)
-        → (spelled : IsSpelled text (names_of expression.now.names.items) expression.now.steps.items)
+        → (spelled : IsExpressionText text (names_of expression.now.names.items) expression.now.steps.items)
         → IfOk result (λ s. s ≡ ordered_sketch (value_of options.now.lg_k (values_of sketches.now) spelled.tree) (seed_hash seed)) }
     ensures memory { IfErr result (λ f. f ≡ failure.Memory) }
 {
@@ -225,7 +225,7 @@ impl<'a, S: Sources + Drop> Job<'a, S> {
         console: &mut C,
     ) -> Result<Vec<u8>, Failure>
         requires seeded { seed_hash self.seed ≢ 0 }
-        requires spelled { IsSpelled text.now (names_of expression.now.names.items) expression.now.steps.items }
+        requires spelled { IsExpressionText text.now (names_of expression.now.names.items) expression.now.steps.items }
         ensures evaluated { IfSome (S.texts self.entry.inputs.sources) (λ texts.
             IfOk result (λ v. IsEvaluated (options_of self.entry.options.now) self.entry.seed text.now texts v.items)) }
         ensures failed { IfErr result IsOfOperands }

@@ -3,7 +3,7 @@ ghost use Rattle.std.specs.Prelude.{◌≡◌, ◌≢◌, ◌⊎◌, ℕ, List, 
 ghost use Rattle.sketch_base.specs.Seed.{seed_hash};
 ghost use Rattle.sketch_base.specs.declared.error.ErrorKind.TheVariants.{OutOfMemory, Policy};
 ghost use Rattle.core_compact.specs.CompactState.{ordered_sketch};
-ghost use Rattle.expression_text.specs.Grammar.{IsSpelled};
+ghost use Rattle.expression_text.specs.Grammar.{IsExpressionText};
 ghost use Rattle.line_sums.specs.Images.{AreReadSums, written_sums};
 ghost use Rattle.set_expressions.specs.Values.{sums_value};
 ghost use Rattle.set_expressions.specs.Running.{sums_values};
@@ -56,9 +56,9 @@ fn result_of(
 ) -> Result<CompactTupleSketch<u64>, Failure>
     requires seed { seed_hash seed ≢ 0 }
     requires seeded { AreSeeded seed sketches.now }
-    requires spelled { IsSpelled text.now (names_of expression.now.names.items) expression.now.steps.items }
+    requires spelled { IsExpressionText text.now (names_of expression.now.names.items) expression.now.steps.items }
     requires counted { length expression.now.names.items ≡ length sketches.now }
-    ensures value { (spelled : IsSpelled text.now (names_of expression.now.names.items) expression.now.steps.items)
+    ensures value { (spelled : IsExpressionText text.now (names_of expression.now.names.items) expression.now.steps.items)
         → IfOk result (λ s. s ≡ ordered_sketch (sums_value options.now.lg_k (sums_values sketches.now) spelled.tree) (seed_hash seed)) }
     ensures failed { IfErr result IsOfResult }
 {
@@ -109,7 +109,7 @@ impl<'a, S: Sources + Drop> Job<'a, S> {
     /// order.
     pub fn sums_evaluated(self, text: &str, expression: &Expression) -> Result<Vec<u8>, Failure>
         requires seeded { seed_hash self.seed ≢ 0 }
-        requires spelled { IsSpelled text.now (names_of expression.now.names.items) expression.now.steps.items }
+        requires spelled { IsExpressionText text.now (names_of expression.now.names.items) expression.now.steps.items }
         ensures evaluated { IfSome (S.texts self.entry.inputs.sources) (λ texts.
             IfOk result (λ v. IsSumsEvaluated (options_of self.entry.options.now) self.entry.seed text.now texts v.items)) }
         ensures failed { IfErr result IsOfOperands }

@@ -13,7 +13,7 @@ use Rattle.expression_text.specs.declared.operator.Step.TheVariants.{Operand, Co
 use Rattle.expression_text.specs.declared.parsing.Pending.{Pending}
 use Rattle.expression_text.specs.declared.parsing.Pending.TheVariants.{Group, Sign}
 use Rattle.expression_text.specs.Expressions.{Expression, Named, Grouped, Combined, postfix}
-use Rattle.expression_text.specs.Grammar.{tokens_of, strength, level, IsSpelled}
+use Rattle.expression_text.specs.Grammar.{tokens_of, strength, level, IsExpressionText}
 use Rattle.expression_text.specs.Tokens.{Lexeme, name, sign, opening, closing, IsText}
 use Rattle.expression_text.specs.Reading.{HasName, IsIndexed, Frame, group, left, pending_of, tokens_before, steps_before, open_groups, IsAbove, IsOperand, AreFrames, LacksSign, WantsOperand, HasOperand, IsSettled, IsReading}
 
@@ -183,7 +183,7 @@ module _ (tokens : List Lexeme) (names : List (List ℕ)) (pending : List Pendin
       closed_frames new last fewer has.frames has.tree some settled.settled is has.around.pending_are has.around.levels_are has.around.sound has.operand has.tokens_are has.steps_are
 
   ended_frames : (text : List ℕ) (frames : List Frame) (tree : Expression) → IsText tokens text → pending ≡ [] → LacksSign 0 pending → pending ≡ pending_of frames → IsOperand (length names) frames tree →
-      ((more : List (List ℕ)) → tokens ≡ tokens_before (names ++ more) frames ++ tokens_of (names ++ more) tree) → steps ≡ steps_before frames ++ postfix tree → IsSpelled text names steps
+      ((more : List (List ℕ)) → tokens ≡ tokens_before (names ++ more) frames ++ tokens_of (names ++ more) tree) → steps ≡ steps_before frames ++ postfix tree → IsExpressionText text names steps
   ended_frames text (group ∷ frames) tree is none settled are operand tokens_are steps_are = absurd (no_push (pending_of frames) Group (sym are ∙ none))
   ended_frames text (left a op ∷ frames) tree is none settled are operand tokens_are steps_are = absurd (no_push (pending_of frames) (Sign op) (sym are ∙ none))
   ended_frames text [] tree is none settled are operand tokens_are steps_are = record {
@@ -197,7 +197,7 @@ module _ (tokens : List Lexeme) (names : List (List ℕ)) (pending : List Pendin
     steps_are = steps_are;
   }
 
-  pub end_read : (text : List ℕ) → IsText tokens text → IsSettled 0 tokens names pending steps levels → length pending ≡ 0 → IsSpelled text names steps
+  pub end_read : (text : List ℕ) → IsText tokens text → IsSettled 0 tokens names pending steps levels → length pending ≡ 0 → IsExpressionText text names steps
   end_read text is settled none =
       let has = settled.has in
       ended_frames text has.frames has.tree is (nil_from_length pending none) settled.settled has.around.pending_are has.operand has.tokens_are has.steps_are
@@ -243,7 +243,7 @@ module _ (tokens : List Lexeme) (names : List (List ℕ)) (pending : List Pendin
   closing_reading false settled new last new_steps fewer is_after some settles popped reading = absurd (cc)
 
   pub end_reading : (after : Bool) (settled : List Pending) (new_steps : List Step) (text : List ℕ) → after ≡ true → (HasOperand 0 tokens names pending steps levels → IsSettled 0 tokens names settled new_steps levels) →
-      length settled ≡ 0 → IsText tokens text → IsReading tokens names pending steps levels after → IsSpelled text names new_steps
+      length settled ≡ 0 → IsText tokens text → IsReading tokens names pending steps levels after → IsExpressionText text names new_steps
   end_reading after settled new_steps text is_after settles none is reading =
       end_read tokens names settled new_steps levels text is (settles (looser 0 tokens names pending steps levels (omega arith) (had after is_after reading))) none
 

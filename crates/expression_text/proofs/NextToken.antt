@@ -3,7 +3,7 @@ use Rattle.std.proofs.Common.{◌≡◌, ◌≢◌, ℕ, zero, suc, eqb, ◌<◌
 use Rattle.std.specs.Prelude.{◌⊎◌, ◌||◌, ◌==◌, not, Option, Some, None}
 use Rattle.std.proofs.Math.Seq.{get_or-append_seam}
 use Rattle.std.proofs.Common.{length-append}
-use Rattle.expression_text.specs.Tokens.{Lexeme, name, sign, opening, closing, is_blank, is_word_byte, AreAll, Lacks, BeginsWord, NoBlankFirst, IsPlain, IsQuoted, Spells, IsToken, LacksToken, IsAfterBlanks, IsText, Begins}
+use Rattle.expression_text.specs.Tokens.{Lexeme, name, sign, opening, closing, is_blank, is_word_byte, AreAll, HasNoByte, BeginsWord, NoBlankFirst, IsPlainName, IsQuoted, SpellsToken, IsToken, LacksToken, IsAfterBlanks, IsText, BeginsWithToken}
 use Rattle.expression_text.specs.declared.operator.Operator.TheVariants.{Union, Intersection, Difference}
 
 -- ---- the longest front of bytes that pass a test
@@ -42,7 +42,7 @@ same_front test (x ∷ a) (y ∷ b) rest more same all every stops ends =
 
 -- ---- names in quotes
 
-same_quoted : (a b rest more : List ℕ) → a ++ 34 ∷ rest ≡ b ++ 34 ∷ more → Lacks 34 a → Lacks 34 b → (a ≡ b) × (rest ≡ more)
+same_quoted : (a b rest more : List ℕ) → a ++ 34 ∷ rest ≡ b ++ 34 ∷ more → HasNoByte 34 a → HasNoByte 34 b → (a ≡ b) × (rest ≡ more)
 same_quoted [] [] rest more same lacks other = (refl, same_tail 34 34 rest more same)
 same_quoted [] (y ∷ b) rest more same lacks other = absurd (other 0 (omega arith) (sym (same_head 34 y rest (b ++ 34 ∷ more) same)))
 same_quoted (x ∷ a) [] rest more same lacks other = absurd (lacks 0 (omega arith) (same_head x 34 (a ++ 34 ∷ rest) more same))
@@ -67,7 +67,7 @@ pub record ByQuotes (t : Lexeme) (text rest : List ℕ) : Type 0 where
   pub word : List ℕ
   pub parts : text ≡ 34 ∷ (word ++ 34 ∷ rest)
   pub some : word ≢ []
-  pub no_quote : Lacks 34 word
+  pub no_quote : HasNoByte 34 word
   pub is : t ≡ name word
 
 -- the token of one byte that no word has
@@ -101,7 +101,7 @@ one_kind : (t : Lexeme) (text rest front : List ℕ) (b : ℕ) → text ≡ fron
 one_kind t text rest front b parts is lexeme no_word no_quote no_blank =
     inr (inr (record { byte = b; parts = parts ∙ ap (λ (f : List ℕ). f ++ rest) is; is = lexeme; no_word = no_word; no_quote = no_quote; no_blank = no_blank }))
 
-name_kind : (word text rest front : List ℕ) → text ≡ front ++ rest → (BeginsWord front → BeginsWord rest → ⊥) → word ≢ [] → IsPlain word front ⊎ IsQuoted word front → Kind (name word) text rest
+name_kind : (word text rest front : List ℕ) → text ≡ front ++ rest → (BeginsWord front → BeginsWord rest → ⊥) → word ≢ [] → IsPlainName word front ⊎ IsQuoted word front → Kind (name word) text rest
 name_kind word text rest front parts ends some (inl plain) =
     let S : List ℕ → Type 0 = λ f. f ≢ [] in
     let nonempty : front ≢ [] = subst S (sym plain.same) some in
@@ -144,7 +144,7 @@ union_kind : (text rest front : List ℕ) → text ≡ front ++ rest → (front 
 union_kind text rest front parts (inl is) = one_kind (sign Union) text rest front 43 parts is refl refl refl refl
 union_kind text rest front parts (inr is) = one_kind (sign Union) text rest front 124 parts is refl refl refl refl
 
-spelled_kind : (t : Lexeme) (text rest front : List ℕ) → text ≡ front ++ rest → (BeginsWord front → BeginsWord rest → ⊥) → Spells t front → Kind t text rest
+spelled_kind : (t : Lexeme) (text rest front : List ℕ) → text ≡ front ++ rest → (BeginsWord front → BeginsWord rest → ⊥) → SpellsToken t front → Kind t text rest
 spelled_kind (name word) text rest front parts ends spells = name_kind word text rest front parts ends spells.0 spells.1
 spelled_kind (sign Union) text rest front parts ends spells = union_kind text rest front parts spells
 spelled_kind (sign Intersection) text rest front parts ends spells = one_kind (sign Intersection) text rest front 38 parts spells refl refl refl refl
@@ -235,7 +235,7 @@ same_rest text rest more a b trimmed other =
     (same_front is_blank a.blanks b.blanks rest more (sym a.parts ∙ b.parts) a.are_blank b.are_blank (stops_blank rest trimmed) (stops_blank more other)).1
 
 -- the next token of a text is the one behind its blanks
-pub next_token : (text rest behind more : List ℕ) (t u : Lexeme) → IsAfterBlanks text rest → IsToken t rest behind → Begins u text more → (u ≡ t) × (more ≡ behind)
+pub next_token : (text rest behind more : List ℕ) (t u : Lexeme) → IsAfterBlanks text rest → IsToken t rest behind → BeginsWithToken u text more → (u ≡ t) × (more ≡ behind)
 next_token text rest behind more t u blanks token begins =
     let from : begins.from ≡ rest = same_rest text begins.from rest begins.after_blanks blanks (token_unblank u begins.from more begins.token) (token_unblank t rest behind token) in
     let T : List ℕ → Type 0 = λ ts. IsToken u ts more in
@@ -243,7 +243,7 @@ next_token text rest behind more t u blanks token begins =
 
 -- ---- no token
 
-no_kind_quote : (t : Lexeme) (bytes rest : List ℕ) → Lacks 34 bytes → Kind t (34 ∷ bytes) rest → ⊥
+no_kind_quote : (t : Lexeme) (bytes rest : List ℕ) → HasNoByte 34 bytes → Kind t (34 ∷ bytes) rest → ⊥
 no_kind_quote t bytes rest lacks (inl w) =
     let begins : is_word_byte 34 ≡ true = word_first w.front rest bytes 34 w.some w.of_word_bytes (sym w.parts) in
     absurd (let both : false ≡ true = begins in cc)
@@ -255,10 +255,10 @@ no_kind_quote t bytes rest lacks (inr (inr b)) =
     let both : true ≡ false = ap (λ (x : ℕ). eqb x 34) (same_head 34 b.byte bytes rest b.parts) ∙ b.no_quote in absurd (cc)
 
 -- a quote that isn't closed
-pub open_quote : (bytes : List ℕ) → Lacks 34 bytes → LacksToken (34 ∷ bytes)
+pub open_quote : (bytes : List ℕ) → HasNoByte 34 bytes → LacksToken (34 ∷ bytes)
 open_quote bytes lacks = λ t rest token. no_kind_quote t bytes rest lacks (kind_of t (34 ∷ bytes) rest token)
 
-no_empty_word : (word rest bytes : List ℕ) → word ≢ [] → Lacks 34 word → 34 ∷ bytes ≡ word ++ 34 ∷ rest → ⊥
+no_empty_word : (word rest bytes : List ℕ) → word ≢ [] → HasNoByte 34 word → 34 ∷ bytes ≡ word ++ 34 ∷ rest → ⊥
 no_empty_word [] rest bytes some lacks same = some refl
 no_empty_word (x ∷ word) rest bytes some lacks same = lacks 0 (omega arith) (sym (same_head 34 x bytes (word ++ 34 ∷ rest) same))
 
@@ -287,7 +287,7 @@ no_kind_nil t rest (inr (inl q)) = absurd (let both = q.parts in cc)
 no_kind_nil t rest (inr (inr b)) = absurd (let both = b.parts in cc)
 
 -- a text of blanks alone has no token
-pub no_token : (text rest : List ℕ) (t : Lexeme) → IsAfterBlanks text [] → Begins t text rest → ⊥
+pub no_token : (text rest : List ℕ) (t : Lexeme) → IsAfterBlanks text [] → BeginsWithToken t text rest → ⊥
 no_token text rest t blanks begins =
     let from : begins.from ≡ [] = same_rest text begins.from [] begins.after_blanks blanks (token_unblank t begins.from rest begins.token) tt in
     let T : List ℕ → Type 0 = λ ts. IsToken t ts rest in

@@ -3,7 +3,7 @@ use Rattle.std.proofs.Common.{◌≡◌, ℕ, ◌≤◌, ◌+◌, ◌-◌, Bool,
 use Rattle.expression_text.specs.declared.operator.Step.{Step}
 use Rattle.expression_text.specs.declared.parsing.Pending.{Pending}
 use Rattle.expression_text.specs.Expressions.{Expression, Named, Grouped, Combined}
-use Rattle.expression_text.specs.Grammar.{tokens_of, depth, most_levels, IsSpelled, SpellsNothing}
+use Rattle.expression_text.specs.Grammar.{tokens_of, depth, most_levels, IsExpressionText, SpellsNothing}
 use Rattle.expression_text.specs.Tokens.{Lexeme, name, sign, opening, closing, IsText, IsToken, IsAfterBlanks, NoBlankFirst}
 use Rattle.expression_text.specs.Reading.{Frame, group, left, tokens_before, open_groups, AreFrames, WantsOperand, HasOperand, IsReading, HasRead, CanFollow, CannotGoOn, CanEnd}
 use Rattle.expression_text.proofs.NextToken.{same_token, same_tokens, same_rest, token_unblank}
@@ -81,7 +81,7 @@ reading_follows : (tokens : List Lexeme) (names : List (List ℕ)) (pending : Li
 reading_follows tokens names pending steps levels true reading = has_follow tokens names pending steps levels reading
 reading_follows tokens names pending steps levels false reading = wants_follow tokens names pending steps levels reading
 
-spelled_follows : (text : List ℕ) (names : List (List ℕ)) (steps : List Step) → (spelled : IsSpelled text names steps) → Follow spelled.tokens 0 false 0 true
+spelled_follows : (text : List ℕ) (names : List (List ℕ)) (steps : List Step) → (spelled : IsExpressionText text names steps) → Follow spelled.tokens 0 false 0 true
 spelled_follows text names steps spelled =
     let T : List Lexeme → Type 0 = λ ts. Follow ts 0 false 0 true in
     subst T (sym spelled.are_tokens) (tree_follows names spelled.tree 0 (omega (arith, spelled.deep)))

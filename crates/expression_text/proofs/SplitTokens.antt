@@ -4,7 +4,7 @@ use Rattle.std.proofs.lemmas.List.{get_or_append_left}
 use Rattle.std.proofs.Math.Seq.{get_or-append_seam}
 use Rattle.std.specs.Prelude.{◌⊎◌, Option, Some, None, MatchOption, IfSome}
 use Rattle.std.proofs.lemmas.Bool.Decides.{nat_tests}
-use Rattle.expression_text.specs.Tokens.{Lexeme, name, sign, opening, closing, is_blank, is_word_byte, AreAll, Lacks, BeginsWord, Spells, IsToken, IsAfterBlanks, IsSplitWord, IsText, NoBlankFirst, LacksToken}
+use Rattle.expression_text.specs.Tokens.{Lexeme, name, sign, opening, closing, is_blank, is_word_byte, AreAll, HasNoByte, BeginsWord, SpellsToken, IsToken, IsAfterBlanks, IsSplitWord, IsText, NoBlankFirst, LacksToken}
 use Rattle.expression_text.specs.declared.operator.Operator.{Operator}
 use Rattle.expression_text.specs.declared.operator.Operator.TheVariants.{Union, Intersection, Difference}
 use Rattle.expression_text.specs.declared.operator.Step.{Step}
@@ -49,7 +49,7 @@ pub word_alone : (text : List ℕ) (i : ℕ) → length text ≤ i → ((k : ℕ
 word_alone text i le each = record { parts = sym (append-nil text); of_word_bytes = λ k lt. each k (omega (arith, lt, le)); ends = λ begins. begins }
 
 -- a name in quotes
-pub quoted : (text word rest : List ℕ) → text ≡ word ++ 34 ∷ rest → Lacks 34 word → word ≢ [] → IsToken (name word) (34 ∷ text) rest
+pub quoted : (text word rest : List ℕ) → text ≡ word ++ 34 ∷ rest → HasNoByte 34 word → word ≢ [] → IsToken (name word) (34 ∷ text) rest
 quoted text word rest parts lacks some = record {
   front = 34 ∷ (word ++ 34 ∷ []);
   parts = ap (λ (ts : List ℕ). 34 ∷ ts) (parts ∙ sym (append_assoc word (34 ∷ []) rest));
@@ -67,16 +67,16 @@ plain text word rest split some other = record {
 }
 
 -- a word that is a sign
-pub word_sign : (text word rest : List ℕ) (t : Lexeme) → IsSplitWord text word rest → Spells t word → IsToken t text rest
+pub word_sign : (text word rest : List ℕ) (t : Lexeme) → IsSplitWord text word rest → SpellsToken t word → IsToken t text rest
 word_sign text word rest t split spells = record { front = word; parts = split.parts; spells = spells; ends = λ begins after. split.ends after }
 
 -- a token of one byte
-pub one_byte : (text rest : List ℕ) (b : ℕ) (t : Lexeme) → text ≡ b ∷ rest → Spells t (b ∷ []) → is_word_byte b ≡ false → IsToken t text rest
+pub one_byte : (text rest : List ℕ) (b : ℕ) (t : Lexeme) → text ≡ b ∷ rest → SpellsToken t (b ∷ []) → is_word_byte b ≡ false → IsToken t text rest
 one_byte text rest b t parts spells no_word = record { front = b ∷ []; parts = parts; spells = spells; ends = λ begins after. let both : true ≡ false = sym begins ∙ no_word in absurd (cc) }
 
 -- ---- token after token
 
-sign_nonempty : (op : Operator) (front : List ℕ) → Spells (sign op) front → front ≢ []
+sign_nonempty : (op : Operator) (front : List ℕ) → SpellsToken (sign op) front → front ≢ []
 sign_nonempty Union front (inl is) empty = let both : ◌≡◌ {A = List ℕ} (43 ∷ []) [] = sym is ∙ empty in absurd (cc)
 sign_nonempty Union front (inr is) empty = let both : ◌≡◌ {A = List ℕ} (124 ∷ []) [] = sym is ∙ empty in absurd (cc)
 sign_nonempty Intersection front is empty = let both : ◌≡◌ {A = List ℕ} (38 ∷ []) [] = sym is ∙ empty in absurd (cc)
@@ -86,7 +86,7 @@ shorter : (text front rest : List ℕ) → text ≡ front ++ rest → front ≢ 
 shorter text [] rest parts some = absurd (some refl)
 shorter text (b ∷ front) rest parts some = rw parts (omega (arith, length-append front rest))
 
-nonempty : (t : Lexeme) (front : List ℕ) → Spells t front → front ≢ []
+nonempty : (t : Lexeme) (front : List ℕ) → SpellsToken t front → front ≢ []
 nonempty (name word) front spells empty = elim spells.1 [
   | inl plain ↦ spells.0 (sym plain.same ∙ empty)
   | inr quoted ↦ let both : ◌≡◌ {A = List ℕ} (34 ∷ (word ++ 34 ∷ [])) [] = sym quoted.between ∙ empty in absurd (cc)

@@ -17,7 +17,7 @@ postfix (Grouped e) = postfix e
 postfix (Combined op a b) = postfix a ++ (postfix b ++ Combine op ∷ [])
 
 -- each index of an expression is below n
-abbrev pub IsWithin : (n : ℕ) → Expression → Type 0
-IsWithin n (Named i) = i < n
-IsWithin n (Grouped e) = IsWithin n e
-IsWithin n (Combined op a b) = IsWithin n a × IsWithin n b
+abbrev pub HasIndicesBelow : (n : ℕ) → Expression → Type 0
+HasIndicesBelow n (Named i) = i < n
+HasIndicesBelow n (Grouped e) = HasIndicesBelow n e
+HasIndicesBelow n (Combined op a b) = HasIndicesBelow n a × HasIndicesBelow n b

@@ -3,7 +3,7 @@ use Rattle.std.specs.Prelude.{ℕ, ◌≡◌, ◌<◌, ◌≤◌, ◌+◌, max, 
 use Rattle.expression_text.specs.declared.operator.Operator.{Operator}
 use Rattle.expression_text.specs.declared.operator.Operator.TheVariants.{Union, Intersection, Difference}
 use Rattle.expression_text.specs.declared.operator.Step.{Step}
-use Rattle.expression_text.specs.Expressions.{Expression, Named, Grouped, Combined, postfix, IsWithin}
+use Rattle.expression_text.specs.Expressions.{Expression, Named, Grouped, Combined, postfix, HasIndicesBelow}
 use Rattle.expression_text.specs.Tokens.{Lexeme, name, sign, opening, closing, IsText}
 
 -- the tokens of an expression over names
@@ -41,16 +41,16 @@ abbrev pub most_levels : ℕ
 most_levels = 64
 
 -- a text spells an expression of at most 64 levels over these names, with these steps
-pub record IsSpelled (text : List ℕ) (names : List (List ℕ)) (steps : List Step) : Type 0 where
+pub record IsExpressionText (text : List ℕ) (names : List (List ℕ)) (steps : List Step) : Type 0 where
   pub tree : Expression
   pub tokens : List Lexeme
   pub is_text : IsText tokens text
   pub are_tokens : tokens ≡ tokens_of names tree
   pub bound : IsBound tree
   pub deep : depth tree ≤ most_levels
-  pub within : IsWithin (length names) tree
+  pub within : HasIndicesBelow (length names) tree
   pub steps_are : steps ≡ postfix tree
 
 -- a text spells no expression
 abbrev pub SpellsNothing : (text : List ℕ) → Type 0
-SpellsNothing text = (names : List (List ℕ)) (steps : List Step) → IsSpelled text names steps → ⊥
+SpellsNothing text = (names : List (List ℕ)) (steps : List Step) → IsExpressionText text names steps → ⊥

@@ -5,7 +5,7 @@ use Rattle.expression_text.specs.declared.operator.Step.{Step}
 use Rattle.expression_text.specs.declared.parsing.Pending.{Pending}
 use Rattle.expression_text.specs.declared.parsing.Pending.TheVariants.{Group, Sign}
 use Rattle.expression_text.specs.declared.parsing.Reading.{Reading}
-use Rattle.expression_text.specs.Expressions.{Expression, postfix, IsWithin}
+use Rattle.expression_text.specs.Expressions.{Expression, postfix, HasIndicesBelow}
 use Rattle.expression_text.specs.Grammar.{tokens_of, strength, level, IsBound, depth, most_levels}
 use Rattle.expression_text.specs.Tokens.{Lexeme, name, sign, opening, closing, IsAfterBlanks, IsText, IsToken, NoBlankFirst}
 
@@ -59,7 +59,7 @@ IsAbove s (left a op ∷ frames) = strength op < s
 pub record IsOperand (count : ℕ) (frames : List Frame) (e : Expression) : Type 0 where
   pub bound : IsBound e
   pub deep : open_groups frames + depth e ≤ most_levels
-  pub within : (n : ℕ) → count ≤ n → IsWithin n e
+  pub within : (n : ℕ) → count ≤ n → HasIndicesBelow n e
 
 -- each left operand binds its operator
 abbrev pub AreFrames : (count : ℕ) → List Frame → Type 0

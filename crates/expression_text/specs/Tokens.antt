@@ -32,8 +32,8 @@ abbrev pub AreAll : (ℕ → Bool) → List ℕ → Type 0
 AreAll test bytes = (k : ℕ) → k < length bytes → test (get_or bytes k 0) ≡ true
 
 -- a byte is not among some
-abbrev pub Lacks : (byte : ℕ) → List ℕ → Type 0
-Lacks byte bytes = (k : ℕ) → k < length bytes → get_or bytes k 0 ≢ byte
+abbrev pub HasNoByte : (byte : ℕ) → List ℕ → Type 0
+HasNoByte byte bytes = (k : ℕ) → k < length bytes → get_or bytes k 0 ≢ byte
 
 -- a text begins with a byte that a word may have
 abbrev pub BeginsWord : List ℕ → Type 0
@@ -46,7 +46,7 @@ NoBlankFirst [] = Unit {0}
 NoBlankFirst (b ∷ bytes) = is_blank b ≡ false
 
 -- a name of word bytes, as it is: "-" alone is none
-pub record IsPlain (word front : List ℕ) : Type 0 where
+pub record IsPlainName (word front : List ℕ) : Type 0 where
   pub same : front ≡ word
   pub of_word_bytes : AreAll is_word_byte word
   pub no_sign : word ≢ 45 ∷ []
@@ -54,22 +54,22 @@ pub record IsPlain (word front : List ℕ) : Type 0 where
 -- a name of any bytes but the quote, between two quotes
 pub record IsQuoted (word front : List ℕ) : Type 0 where
   pub between : front ≡ 34 ∷ (word ++ 34 ∷ [])
-  pub no_quote : Lacks 34 word
+  pub no_quote : HasNoByte 34 word
 
 -- the bytes of a token; a name isn't empty
-abbrev pub Spells : Lexeme → (front : List ℕ) → Type 0
-Spells (name word) front = (word ≢ []) × (IsPlain word front ⊎ IsQuoted word front)
-Spells (sign Union) front = (front ≡ 43 ∷ []) ⊎ (front ≡ 124 ∷ [])
-Spells (sign Intersection) front = front ≡ 38 ∷ []
-Spells (sign Difference) front = front ≡ 45 ∷ []
-Spells opening front = front ≡ 40 ∷ []
-Spells closing front = front ≡ 41 ∷ []
+abbrev pub SpellsToken : Lexeme → (front : List ℕ) → Type 0
+SpellsToken (name word) front = (word ≢ []) × (IsPlainName word front ⊎ IsQuoted word front)
+SpellsToken (sign Union) front = (front ≡ 43 ∷ []) ⊎ (front ≡ 124 ∷ [])
+SpellsToken (sign Intersection) front = front ≡ 38 ∷ []
+SpellsToken (sign Difference) front = front ≡ 45 ∷ []
+SpellsToken opening front = front ≡ 40 ∷ []
+SpellsToken closing front = front ≡ 41 ∷ []
 
 -- a text begins with a token, whose word ends there
 pub record IsToken (t : Lexeme) (text rest : List ℕ) : Type 0 where
   pub front : List ℕ
   pub parts : text ≡ front ++ rest
-  pub spells : Spells t front
+  pub spells : SpellsToken t front
   pub ends : BeginsWord front → BeginsWord rest → ⊥
 
 -- a text begins with no token
@@ -89,7 +89,7 @@ pub record IsSplitWord (text word rest : List ℕ) : Type 0 where
   pub ends : BeginsWord rest → ⊥
 
 -- a text begins with a token after blanks
-pub record Begins (t : Lexeme) (text rest : List ℕ) : Type 0 where
+pub record BeginsWithToken (t : Lexeme) (text rest : List ℕ) : Type 0 where
   pub from : List ℕ
   pub after_blanks : IsAfterBlanks text from
   pub token : IsToken t from rest
@@ -97,4 +97,4 @@ pub record Begins (t : Lexeme) (text rest : List ℕ) : Type 0 where
 -- the tokens of a text
 abbrev pub IsText : List Lexeme → (text : List ℕ) → Type 0
 IsText [] text = IsAfterBlanks text []
-IsText (t ∷ tokens) text = (rest : List ℕ) × Begins t text rest × IsText tokens rest
+IsText (t ∷ tokens) text = (rest : List ℕ) × BeginsWithToken t text rest × IsText tokens rest

@@ -1,6 +1,6 @@
 //! Reads an expression, token by token.
 ghost use Rattle.std.specs.Prelude.{◌≡◌, ◌≢◌, ◌++◌, ◌∷◌, ◌<◌, ◌≤◌, ℕ, [], List, map, length, IfOk, IfErr, IfSome, OnOk, MatchOption};
-ghost use Rattle.expression_text.specs.Grammar.{strength, IsSpelled, SpellsNothing};
+ghost use Rattle.expression_text.specs.Grammar.{strength, IsExpressionText, SpellsNothing};
 ghost use Rattle.expression_text.specs.Tokens.{Lexeme, name, sign, opening, closing, lexeme_of, IsText, IsToken, NoBlankFirst};
 ghost use Rattle.expression_text.specs.Reading.{HasName, IsIndexed, HasOperand, IsSettled, LacksSign, HasTokens, CanFollow, CannotGoOn, CanEnd};
 ghost use Rattle.expression_text.specs.declared.parsing.Pending.TheVariants.{Sign};
@@ -244,7 +244,7 @@ impl<A: Allocator + Clone + Drop> Reading<A> {
     /// Ends the expression.
     fn finish(mut self) -> Result<Parsed<A>, Reason>
         ensures spelled { (tokens : List Lexeme) (text : List ℕ) → IsText tokens text → HasTokens tokens self
-            → IfOk result (λ x. IsSpelled text (map (λ v. v.items) x.names.items) x.steps.items) }
+            → IfOk result (λ x. IsExpressionText text (map (λ v. v.items) x.names.items) x.steps.items) }
         ensures refused { (tokens : List Lexeme) → HasTokens tokens self
             → IfErr result (λ reason. reason ≢ Memory → CanEnd self.levels self.after_operand → ⊥) }
     {
@@ -286,7 +286,7 @@ fn new_reading<A: Allocator + Clone + Drop>(alloc: &A) -> Result<Reading<A>, Rea
 ///
 /// An error is the first fault of the text, which then spells no expression, or that memory was refused.
 pub fn parse<A: Allocator + Clone + Drop>(alloc: A, text: &[u8]) -> Result<Parsed<A>, SyntaxFault>
-    ensures spelled { IfOk result (λ x. IsSpelled text.now (map (λ v. v.items) x.names.items) x.steps.items) }
+    ensures spelled { IfOk result (λ x. IsExpressionText text.now (map (λ v. v.items) x.names.items) x.steps.items) }
     ensures fault { IfErr result (λ f. f.offset ≤ length text.now) }
     ensures unspelled { IfErr result (λ f. f.reason ≢ Memory → SpellsNothing text.now) }
 {

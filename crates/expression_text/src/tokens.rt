@@ -1,6 +1,6 @@
 //! The tokens of a text.
 ghost use Rattle.std.specs.Prelude.{◌≡◌, ◌≢◌, ◌<◌, ◌++◌, ◌∷◌, ℕ, [], length, slice_index, IfOk, IfErr, IfSome, IfNone, MatchOption};
-ghost use Rattle.expression_text.specs.Tokens.{is_blank, is_word_byte, IsAfterBlanks, IsSplitWord, IsToken, Lacks, LacksToken, BeginsWord, NoBlankFirst, lexeme_of};
+ghost use Rattle.expression_text.specs.Tokens.{is_blank, is_word_byte, IsAfterBlanks, IsSplitWord, IsToken, HasNoByte, LacksToken, BeginsWord, NoBlankFirst, lexeme_of};
 
 use crate::fault::Reason;
 use crate::operator::Operator;
@@ -69,7 +69,7 @@ fn split_word(text: &[u8]) -> (&[u8], &[u8])
 fn split_quoted(text: &[u8]) -> Option<(&[u8], &[u8])>
     ensures before { IfSome result (λ x. (k : ℕ) → k < length x.0.now → slice_index x.0.now k ≢ 34) }
     ensures parts { IfSome result (λ x. text.now ≡ x.0.now ++ 34 ∷ x.1.now) }
-    ensures none { IfNone result (Lacks 34 text.now) }
+    ensures none { IfNone result (HasNoByte 34 text.now) }
 {
     for (i, byte) in text.iter().enumerate() {
         if *byte == b'"' {

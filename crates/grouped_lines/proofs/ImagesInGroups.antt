@@ -13,7 +13,7 @@ use Rattle.core_operators.specs.Union.{Union}
 use Rattle.line_sketches.specs.Keys.{IsAmong}
 use Rattle.line_sketches.specs.Unions.{IsReady, HasUnited}
 use Rattle.grouped_lines.specs.Tabs.{before_tab}
-use Rattle.grouped_lines.specs.United.{image_in, images_in, AreNames, union_at, IsUnionOf, IsUniting, AreReady, SetsUnion, UpdatesUnion, BeginsUnion, AreUnited}
+use Rattle.grouped_lines.specs.United.{image_in, images_in, AreNames, union_at, IsGroupUnion, IsUniting, AreReady, SetsUnion, UpdatesUnion, BeginsUnion, AreUnited}
 use Rattle.grouped_lines.proofs.Entries.{value_at, texts_of, same_itself, texts_ascend, among_texts, has_value, not_below}
 use Rattle.grouped_lines.proofs.LinesInGroups.{filter_more}
 
@@ -73,11 +73,11 @@ module _ {A X : Type 0} (Q : List ℕ → Option X → Type 0) where
       )
 
 -- a group has a union exactly if it has an image
-some_union : {P : Type 0} (seed lg_k : ℕ) (images : List (List ℕ)) (o : Option (Union ℕ P)) → IsUnionOf seed lg_k images o → (images ≡ [] → ⊥) → IsSome o
+some_union : {P : Type 0} (seed lg_k : ℕ) (images : List (List ℕ)) (o : Option (Union ℕ P)) → IsGroupUnion seed lg_k images o → (images ≡ [] → ⊥) → IsSome o
 some_union seed lg_k images None is some = absurd (some is)
 some_union seed lg_k images (Some u) is some = refl
 
-some_images : {P : Type 0} (seed lg_k : ℕ) (images : List (List ℕ)) (o : Option (Union ℕ P)) → IsUnionOf seed lg_k images o → IsSome o → images ≡ [] → ⊥
+some_images : {P : Type 0} (seed lg_k : ℕ) (images : List (List ℕ)) (o : Option (Union ℕ P)) → IsGroupUnion seed lg_k images o → IsSome o → images ≡ [] → ⊥
 some_images seed lg_k images None is some none = cc
 some_images seed lg_k images (Some u) is some none = is.0 none
 
@@ -88,26 +88,26 @@ module _ {A P : Type 0} (seed lg_k : ℕ) where
   uniting_more lines line m n w uniting sets has name =
       let own = before_tab line in
       let image = image_in line in
-      subst (IsUnionOf seed lg_k (images_in name (lines ++ line ∷ []))) (sym (sets name))
-      ((elim (bytes_eq own name) as (λ b. bytes_eq own name ≡ b → IsUnionOf seed lg_k (images_in name (lines ++ line ∷ [])) (cond b (Some w) (union_at m name))) [
+      subst (IsGroupUnion seed lg_k (images_in name (lines ++ line ∷ []))) (sym (sets name))
+      ((elim (bytes_eq own name) as (λ b. bytes_eq own name ≡ b → IsGroupUnion seed lg_k (images_in name (lines ++ line ∷ [])) (cond b (Some w) (union_at m name))) [
         | true ↦ λ same.
             let is : images_in name (lines ++ line ∷ []) ≡ images_in own lines ++ image ∷ [] =
             images_more name lines line ∙ ap (λ b. cond b (images_in name lines ++ image ∷ []) (images_in name lines)) same ∙ ap (λ k. images_in k lines ++ image ∷ []) (sym ((bytes_decides own name).0 same)) in
             (λ none. some_more (images_in own lines) image (sym is ∙ none), subst (λ images. HasUnited seed lg_k images w) (sym is) has)
         | false ↦ λ apart.
-            subst (λ images. IsUnionOf seed lg_k images (union_at m name)) (sym (images_more name lines line ∙ ap (λ b. cond b (images_in name lines ++ image ∷ []) (images_in name lines)) apart)) (uniting name)
+            subst (λ images. IsGroupUnion seed lg_k images (union_at m name)) (sym (images_more name lines line ∙ ap (λ b. cond b (images_in name lines ++ image ∷ []) (images_in name lines)) apart)) (uniting name)
       ]) refl)
 
   -- an image was united into a group that was there
   pub updated_more : (lines : List (List ℕ)) (line : List ℕ) (m n : BTreeMap (Vec ℕ A) (Union ℕ P)) → IsUniting seed lg_k lines m → UpdatesUnion seed (before_tab line) (image_in line) m n true → IsUniting seed lg_k (lines ++ line ∷ []) n
   updated_more lines line m n uniting updated =
-      let was = subst (IsUnionOf seed lg_k (images_in (before_tab line) lines)) updated.2 (uniting (before_tab line)) in
+      let was = subst (IsGroupUnion seed lg_k (images_in (before_tab line) lines)) updated.2 (uniting (before_tab line)) in
       uniting_more lines line m n updated.1 uniting updated.4 (updated.3.0 lg_k (images_in (before_tab line) lines) was.1)
 
   -- an image began a group
   pub begun_more : (lines : List (List ℕ)) (line : List ℕ) (m k n : BTreeMap (Vec ℕ A) (Union ℕ P)) → IsUniting seed lg_k lines m → UpdatesUnion seed (before_tab line) (image_in line) m k false → BeginsUnion seed lg_k (before_tab line) (image_in line) k n → IsUniting seed lg_k (lines ++ line ∷ []) n
   begun_more lines line m k n uniting same begun =
-      let none : images_in (before_tab line) lines ≡ [] = subst (IsUnionOf seed lg_k (images_in (before_tab line) lines)) same.1 (uniting (before_tab line)) in
+      let none : images_in (before_tab line) lines ≡ [] = subst (IsGroupUnion seed lg_k (images_in (before_tab line) lines)) same.1 (uniting (before_tab line)) in
       uniting_more lines line k n begun.0 (subst (IsUniting seed lg_k lines) (sym same.0) uniting) begun.3
       (subst (λ images. HasUnited seed lg_k images begun.0) (ap (λ images. images ++ image_in line ∷ []) (sym none)) begun.1)
 
@@ -122,7 +122,7 @@ module _ {A P : Type 0} (seed lg_k : ℕ) where
 
   -- ---- all groups in their order
 
-  united_entries : (lines : List (List ℕ)) (entries : List (Vec ℕ A × Union ℕ P)) → EachEntry (λ name o. IsUnionOf seed lg_k (images_in name lines) o) entries → AreUnited seed lg_k lines (texts_of entries) entries
+  united_entries : (lines : List (List ℕ)) (entries : List (Vec ℕ A × Union ℕ P)) → EachEntry (λ name o. IsGroupUnion seed lg_k (images_in name lines) o) entries → AreUnited seed lg_k lines (texts_of entries) entries
   united_entries lines [] each = tt
   united_entries lines (entry ∷ entries) each = (refl, each.0.1, united_entries lines entries each.1)
 
@@ -137,7 +137,7 @@ module _ {A P : Type 0} (seed lg_k : ℕ) where
         λ name among. among_texts name m.entries (some_union seed lg_k (images_in name lines) (union_at m name) (uniting name) (has_image name lines among)),
       );
     },
-    united_entries lines m.entries (each_entry (λ name o. IsUnionOf seed lg_k (images_in name lines) o) m.entries ascend (λ name some. uniting name)),
+    united_entries lines m.entries (each_entry (λ name o. IsGroupUnion seed lg_k (images_in name lines) o) m.entries ascend (λ name some. uniting name)),
   )
 
   sound_entries : (entries : List (Vec ℕ A × Union ℕ P)) → EachEntry (λ name o. IfSome o (IsReady seed)) entries → AllByRecursion (λ entry. IsReady seed entry.1) entries

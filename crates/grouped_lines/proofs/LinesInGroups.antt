@@ -14,7 +14,7 @@ use Rattle.lines.specs.Keys.{key_of}
 use Rattle.lines.specs.Lines.{lines_of, lines_of_all}
 use Rattle.lines.specs.declared.key.Hashing.{Hashing}
 use Rattle.lines.specs.declared.key.Key.{Key}
-use Rattle.line_sketches.specs.Keys.{LineState, IsAmong, state_of, new_state, with_line, with_lines}
+use Rattle.line_sketches.specs.Keys.{LineState, IsAmong, line_state, new_state, with_line, with_lines}
 use Rattle.grouped_lines.specs.Groups.{lines_in, AreGroups, AreSketched}
 use Rattle.grouped_lines.specs.States.{state_at, AddsLine, state_of_lines, IsGrouped}
 use Rattle.grouped_lines.specs.declared.groups.Grouping.{Grouping}
@@ -41,11 +41,11 @@ with_lines-more hashing s (first ∷ lines) line = with_lines-more hashing (with
 some_inverse : (s t : LineState) → Some s ≡ Some t → s ≡ t
 some_inverse s t same = ap (λ o. unwrap_or o s) same
 
-some_map : (o : Option (Updatable ℕ)) → IsSome (option_map state_of o) → IsSome o
+some_map : (o : Option (Updatable ℕ)) → IsSome (option_map line_state o) → IsSome o
 some_map None some = some
 some_map (Some x) some = refl
 
-map_some : (o : Option (Updatable ℕ)) → IsSome o → IsSome (option_map state_of o)
+map_some : (o : Option (Updatable ℕ)) → IsSome o → IsSome (option_map line_state o)
 map_some None some = some
 map_some (Some x) some = refl
 
@@ -99,18 +99,18 @@ module _ (grouping : Grouping) where
   module _ {A : Type 0} where
     -- the entries, in their order, have the states of their own lines
     entries_sketched : (lines : List (List ℕ)) (entries : List (Vec ℕ A × Updatable ℕ)) → IsStrictlySortedBy (λ x y. slice_cmp nat_cmp x.items y.items) (keys_of entries) →
-        ((name : List ℕ) → IsSome (value_at name entries) → option_map state_of (value_at name entries) ≡ state_of_lines grouping (lines_in grouping.by name lines)) → AreSketched grouping lines (texts_of entries) entries
+        ((name : List ℕ) → IsSome (value_at name entries) → option_map line_state (value_at name entries) ≡ state_of_lines grouping (lines_in grouping.by name lines)) → AreSketched grouping lines (texts_of entries) entries
     unfolding IsStrictlySortedBy
     entries_sketched lines [] ascend states = tt
     entries_sketched lines (entry ∷ entries) ascend states =
         let own = entry.0.items in
         let here : value_at own (entry ∷ entries) ≡ Some entry.1 = ap (λ b. cond b (Some entry.1) (value_at own entries)) (same_itself own) in (
           refl,
-          state_some (state_of entry.1) (lines_in grouping.by own lines) (ap (option_map state_of) (sym here) ∙ states own (subst (λ (o : Option (Updatable ℕ)). IsSome o) (sym here) refl)),
+          state_some (line_state entry.1) (lines_in grouping.by own lines) (ap (option_map line_state) (sym here) ∙ states own (subst (λ (o : Option (Updatable ℕ)). IsSome o) (sym here) refl)),
           entries_sketched lines entries ascend.1
               (λ name some.
               let past : value_at name (entry ∷ entries) ≡ value_at name entries = ap (λ b. cond b (Some entry.1) (value_at name entries)) (not_below own name entries ascend.0 some) in
-              ap (option_map state_of) (sym past) ∙ states name (subst (λ (o : Option (Updatable ℕ)). IsSome o) (sym past) some)),
+              ap (option_map line_state) (sym past) ∙ states name (subst (λ (o : Option (Updatable ℕ)). IsSome o) (sym past) some)),
         )
 
     -- the groups are those of the lines
@@ -130,7 +130,7 @@ module _ (grouping : Grouping) where
 
     -- the first of the groups that are left
     pub first_left : (lines names : List (List ℕ)) (old new : List (Vec ℕ A × Updatable ℕ)) (entry : Vec ℕ A × Updatable ℕ) → old ≡ entry ∷ new → AreSketched grouping lines names old →
-        (others : List (List ℕ)) × (names ≡ entry.0.items ∷ others) × (state_of entry.1 ≡ with_lines grouping.hashing start (lines_in grouping.by entry.0.items lines)) × AreSketched grouping lines others new
+        (others : List (List ℕ)) × (names ≡ entry.0.items ∷ others) × (line_state entry.1 ≡ with_lines grouping.hashing start (lines_in grouping.by entry.0.items lines)) × AreSketched grouping lines others new
     first_left lines [] old new entry parted sketched = absurd (subst (AreSketched grouping lines []) parted sketched)
     first_left lines (name ∷ names) old new entry parted sketched =
         let all : AreSketched grouping lines (name ∷ names) (entry ∷ new) = subst (AreSketched grouping lines (name ∷ names)) parted sketched in (

@@ -9,7 +9,7 @@ use Rattle.core_compact.specs.CompactState.{Compact}
 use Rattle.core_state.specs.Updatable.{Updatable}
 use Rattle.lines.specs.Keys.{key_of}
 use Rattle.lines.specs.declared.key.Key.{Key}
-use Rattle.line_sketches.specs.Keys.{HaveSameLines, state_of, new_state, with_lines, value_of_lines, sketch_of_value}
+use Rattle.line_sketches.specs.Keys.{HaveSameLines, line_state, new_state, with_lines, value_of_lines, sketch_of_value}
 use Rattle.grouped_lines.specs.declared.groups.Grouping.{Grouping}
 use Rattle.grouped_lines.specs.declared.groups.Group.{Group}
 use Rattle.grouped_lines.specs.declared.groups.Groups.{Groups}
@@ -33,7 +33,7 @@ abbrev pub AreSketched : {A : Type 0} → Grouping → (lines names : List (List
 AreSketched grouping lines [] [] = ⊤
 AreSketched grouping lines (name ∷ names) (entry ∷ entries) =
     (name ≡ entry.0.items)
-    × (state_of entry.1 ≡ with_lines grouping.hashing (new_state grouping.hashing.seed grouping.lg_k) (lines_in grouping.by name lines))
+    × (line_state entry.1 ≡ with_lines grouping.hashing (new_state grouping.hashing.seed grouping.lg_k) (lines_in grouping.by name lines))
     × AreSketched grouping lines names entries
 AreSketched grouping lines [] (entry ∷ entries) = ⊥
 AreSketched grouping lines (name ∷ names) [] = ⊥

@@ -8,13 +8,13 @@ use Rattle.std.specs.Str.{bytes_eq}
 use Rattle.core_state.specs.Updatable.{Updatable}
 use Rattle.lines.specs.Keys.{key_of}
 use Rattle.lines.specs.declared.key.Hashing.{Hashing}
-use Rattle.line_sketches.specs.Keys.{LineState, state_of, new_state, with_line, with_lines}
+use Rattle.line_sketches.specs.Keys.{LineState, line_state, new_state, with_line, with_lines}
 use Rattle.grouped_lines.specs.Groups.{lines_in}
 use Rattle.grouped_lines.specs.declared.groups.Grouping.{Grouping}
 
 -- the state of the group of this name, if there is one
 abbrev pub state_at : {A : Type 0} → BTreeMap (Vec ℕ A) (Updatable ℕ) → (name : List ℕ) → Option LineState
-state_at groups name = option_map state_of (get_by (λ key. slice_cmp nat_cmp name key.items) groups)
+state_at groups name = option_map line_state (get_by (λ key. slice_cmp nat_cmp name key.items) groups)
 
 -- the group of this name has this state now, and the others are as they were
 abbrev pub Changes : {A : Type 0} → (name : List ℕ) → Option LineState → (old new : BTreeMap (Vec ℕ A) (Updatable ℕ)) → Type 0

@@ -78,13 +78,13 @@ abbrev pub union_at : {A P : Type 0} → BTreeMap (Vec ℕ A) (Union ℕ P) → 
 union_at groups name = get_by (λ key. slice_cmp nat_cmp name key.items) groups
 
 -- a group with these images has their union, and a group without images is none
-abbrev pub IsUnionOf : {P : Type 0} → (seed lg_k : ℕ) → (images : List (List ℕ)) → Option (Union ℕ P) → Type 0
-IsUnionOf seed lg_k images None = images ≡ []
-IsUnionOf seed lg_k images (Some u) = (images ≡ [] → ⊥) × HasUnited seed lg_k images u
+abbrev pub IsGroupUnion : {P : Type 0} → (seed lg_k : ℕ) → (images : List (List ℕ)) → Option (Union ℕ P) → Type 0
+IsGroupUnion seed lg_k images None = images ≡ []
+IsGroupUnion seed lg_k images (Some u) = (images ≡ [] → ⊥) × HasUnited seed lg_k images u
 
 -- each group of these lines has the union of its own images
 abbrev pub IsUniting : {A P : Type 0} → (seed lg_k : ℕ) → (lines : List (List ℕ)) → BTreeMap (Vec ℕ A) (Union ℕ P) → Type 0
-IsUniting seed lg_k lines groups = (name : List ℕ) → IsUnionOf seed lg_k (images_in name lines) (union_at groups name)
+IsUniting seed lg_k lines groups = (name : List ℕ) → IsGroupUnion seed lg_k (images_in name lines) (union_at groups name)
 
 -- each group is ready for images of this seed
 abbrev pub AreReady : {A P : Type 0} → (seed : ℕ) → BTreeMap (Vec ℕ A) (Union ℕ P) → Type 0

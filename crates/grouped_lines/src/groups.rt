@@ -5,7 +5,7 @@ ghost use Rattle.core_laws.specs.Settings.{settings_refusal};
 ghost use Rattle.core_laws.specs.declared.TheConstants.{MAX_THETA};
 ghost use Rattle.lines.specs.Keys.{key_of};
 ghost use Rattle.lines.specs.declared.key.Hashing.{Hashing};
-ghost use Rattle.line_sketches.specs.Keys.{state_of, new_state, with_line};
+ghost use Rattle.line_sketches.specs.Keys.{line_state, new_state, with_line};
 ghost use Rattle.grouped_lines.specs.Groups.{AreLeft, HasGroups, IsNext};
 ghost use Rattle.grouped_lines.specs.States.{Changes, UpdatesGroup, AddsLine, IsGrouped};
 ghost use Rattle.grouped_lines.specs.declared.groups.Grouping.{Grouping};
@@ -142,7 +142,7 @@ impl Groups {
 
 /// A sketch for a new group. Its table begins with 32 slots and doubles, since most groups may be small.
 fn small_sketch(alloc: Global, grouping: Grouping) -> Result<ThetaSketch, Error>
-    ensures new { IfOk result (λ s. state_of s ≡ new_state grouping.hashing.seed grouping.lg_k) }
+    ensures new { IfOk result (λ s. line_state s ≡ new_state grouping.hashing.seed grouping.lg_k) }
     ensures refused { Refuses result (settings_refusal grouping.lg_k MAX_THETA grouping.hashing.seed) true }
 {
     ThetaSketchBuilder::default()

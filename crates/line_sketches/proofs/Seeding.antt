@@ -8,15 +8,15 @@ use Rattle.core_laws.specs.Values.{Sketch, Empty, NonEmpty}
 use Rattle.core_state.specs.Updatable.{Updatable}
 use Rattle.lines.specs.Lines.{lines_after}
 use Rattle.lines.specs.declared.key.Hashing.{Hashing}
-use Rattle.line_sketches.specs.Keys.{LineState, state_of, with_line, with_lines}
+use Rattle.line_sketches.specs.Keys.{LineState, line_state, with_line, with_lines}
 use Rattle.line_sketches.specs.Taking.{Takes}
 
 lines_seed : (hashing : Hashing) (lines : List (List ℕ)) (s : LineState) → (with_lines hashing s lines).map.seed_hash ≡ s.map.seed_hash
 lines_seed hashing [] s = refl
 lines_seed hashing (line ∷ lines) s = lines_seed hashing lines (with_line hashing s line)
 
-pub taken_seed : (hashing : Hashing) (lines : List (List ℕ)) (old new : Updatable ℕ) → state_of new ≡ with_lines hashing (state_of old) lines → new.map.seed_hash ≡ old.map.seed_hash
-taken_seed hashing lines old new is = ap (λ (s : LineState). s.map.seed_hash) is ∙ lines_seed hashing lines (state_of old)
+pub taken_seed : (hashing : Hashing) (lines : List (List ℕ)) (old new : Updatable ℕ) → line_state new ≡ with_lines hashing (line_state old) lines → new.map.seed_hash ≡ old.map.seed_hash
+taken_seed hashing lines old new is = ap (λ (s : LineState). s.map.seed_hash) is ∙ lines_seed hashing lines (line_state old)
 
 pub takes_seed : (hashing : Hashing) (old new : LineState) (front piece left : List ℕ) → Takes hashing old front piece new left → new.map.seed_hash ≡ old.map.seed_hash
 takes_seed hashing old new front piece left takes =

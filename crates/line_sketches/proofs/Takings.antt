@@ -8,7 +8,7 @@ use Rattle.core_laws.specs.Insertion.{after_upsert}
 use Rattle.core_state.specs.Updatable.{Updatable}
 use Rattle.lines.specs.Lines.{lines_of, lines_after, Lacks}
 use Rattle.lines.specs.Keys.{line_hash}
-use Rattle.line_sketches.specs.Keys.{LineState, state_of, with_line, with_lines}
+use Rattle.line_sketches.specs.Keys.{LineState, line_state, with_line, with_lines}
 use Rattle.lines.specs.Hashed.{AreHashesOfLines}
 use Rattle.line_sketches.specs.Taking.{Takes, Leaves}
 use Rattle.lines.proofs.Texts.{lines_after-line, lines_after-lacking, lines_whole}
@@ -25,7 +25,7 @@ and_false false n = refl
 module _ (hashing : Hashing) where
   -- one line is inserted
   pub state_after_line : (s t : Updatable ℕ) (hash : ℕ) (line : List ℕ) → hash ≡ line_hash hashing line → t.map ≡ record s.map { kept = after_upsert hash_key (2 ^ s.map.lg_nom) hash (hash_step hash) s.map.kept } → t.empty ≡ false →
-      state_of t ≡ with_line hashing (state_of s) line
+      line_state t ≡ with_line hashing (line_state s) line
   state_after_line s t hash line is map_is empty_is =
       let made : ℕ → MapTable ℕ = λ h. record s.map { kept = after_upsert hash_key (2 ^ s.map.lg_nom) h (hash_step h) s.map.kept } in
       let whole : t.map ≡ made (line_hash hashing line) = map_is ∙ ap made is in
@@ -38,21 +38,21 @@ module _ (hashing : Hashing) where
   with_lines-hashes (line ∷ lines) s = with_lines-hashes lines (with_line hashing s line) ∙ (λ i. record { map = after_hashes (map (line_hash hashing) (line ∷ lines)) s.map; empty = sym (and_false s.empty (length (map (line_hash hashing) lines))) i })
 
   pub state_after_lines : (s t : Updatable ℕ) (hashes : List ℕ) (lines : List (List ℕ)) → hashes ≡ map (line_hash hashing) lines → t.map ≡ after_hashes hashes s.map → t.empty ≡ (s.empty && (length hashes == 0)) →
-      state_of t ≡ with_lines hashing (state_of s) lines
+      line_state t ≡ with_lines hashing (line_state s) lines
   state_after_lines s t hashes lines is map_is empty_is =
       let whole : t.map ≡ after_hashes (map (line_hash hashing) lines) s.map = map_is ∙ ap (λ hs. after_hashes hs s.map) is in
       let none : t.empty ≡ (s.empty && (length (map (line_hash hashing) lines) == 0)) = empty_is ∙ ap (λ hs. s.empty && (length hs == 0)) is in
-      (λ i. record { map = whole i; empty = none i }) ∙ sym (with_lines-hashes lines (state_of s))
+      (λ i. record { map = whole i; empty = none i }) ∙ sym (with_lines-hashes lines (line_state s))
 
   with_lines-append : (lines others : List (List ℕ)) (s : LineState) → with_lines hashing s (lines ++ others) ≡ with_lines hashing (with_lines hashing s lines) others
   with_lines-append [] others s = refl
   with_lines-append (line ∷ lines) others s = with_lines-append lines others (with_line hashing s line)
 
   -- after more lines less is left
-  pub leaves_lines : (a : LineState) (s t : Updatable ℕ) (text rest others hashes : List ℕ) → Leaves hashing a text (state_of s) rest → AreHashesOfLines hashing rest hashes others →
-      t.map ≡ after_hashes hashes s.map → t.empty ≡ (s.empty && (length hashes == 0)) → Leaves hashing a text (state_of t) others
+  pub leaves_lines : (a : LineState) (s t : Updatable ℕ) (text rest others hashes : List ℕ) → Leaves hashing a text (line_state s) rest → AreHashesOfLines hashing rest hashes others →
+      t.map ≡ after_hashes hashes s.map → t.empty ≡ (s.empty && (length hashes == 0)) → Leaves hashing a text (line_state t) others
   leaves_lines a s t text rest others hashes before are map_is empty_is = λ more.
-      before more ∙ ap (with_lines hashing (state_of s)) (are.2 more) ∙ with_lines-append are.0 (lines_after [] (others ++ more)) (state_of s)
+      before more ∙ ap (with_lines hashing (line_state s)) (are.2 more) ∙ with_lines-append are.0 (lines_after [] (others ++ more)) (line_state s)
       ∙ ap (λ u. with_lines hashing u (lines_after [] (others ++ more))) (sym (state_after_lines s t hashes are.0 are.1 map_is empty_is))
 
   -- a block without an LF

@@ -17,7 +17,7 @@ use Rattle.core_state.specs.Updatable.{Updatable, sketch_value}
 use Rattle.core_laws.specs.declared.TheConstants.{MAX_THETA}
 use Rattle.core_laws.proofs.insertions.Leaves.{is_updated-append, leaf_from-append, trimmed, hash_keeps}
 use Rattle.lines.specs.Keys.{line_hash}
-use Rattle.line_sketches.specs.Keys.{LineState, state_of, new_state, with_lines, line_steps, value_of_lines, sketch_of_value}
+use Rattle.line_sketches.specs.Keys.{LineState, line_state, new_state, with_lines, line_steps, value_of_lines, sketch_of_value}
 use Rattle.lines.specs.declared.key.Hashing.{Hashing}
 
 module _ (hashing : Hashing) where
@@ -43,12 +43,12 @@ module _ (hashing : Hashing) where
     value_is_leaf (line ∷ lines) = sym (trimmed hash_key hash_step_of hash_keeps (2 ^ lg_k) MAX_THETA (line_steps hashing (line ∷ lines)) (omega arith) (stays_updated lines))
 
     -- after the trim
-    pub trimmed_value : (lines : List (List ℕ)) (s t : Updatable ℕ) → state_of s ≡ with_lines hashing (new_state hashing.seed lg_k) lines → t.empty ≡ s.empty →
+    pub trimmed_value : (lines : List (List ℕ)) (s t : Updatable ℕ) → line_state s ≡ with_lines hashing (new_state hashing.seed lg_k) lines → t.empty ≡ s.empty →
         t.map ≡ record s.map { kept = cut hash_key (2 ^ s.map.lg_nom) s.map.kept.entries s.map.kept.theta } → sketch_value t ≡ value_of_lines hashing lg_k lines
     trimmed_value lines s t is empty_is map_is =
         let v : Retained ℕ = leaf_from hash_key hash_step_of (2 ^ lg_k) MAX_THETA (line_steps hashing lines) (none_below MAX_THETA) in
         let u : Bool = is_updated (line_steps hashing lines) false in
-        let all : state_of s ≡ made v (not u) = is ∙ with_lines-made lines (none_below MAX_THETA) false in
+        let all : line_state s ≡ made v (not u) = is ∙ with_lines-made lines (none_below MAX_THETA) false in
         let cut_of : LineState → Retained ℕ = λ h. cut hash_key (2 ^ h.map.lg_nom) h.map.kept.entries h.map.kept.theta in
         let kept : t.map.kept ≡ leaf_from hash_key hash_step_of (2 ^ lg_k) MAX_THETA (line_steps hashing lines ++ Trim ∷ []) (none_below MAX_THETA) =
         ap (λ m. m.kept) map_is ∙ ap cut_of all ∙ sym (leaf_from-append hash_key hash_step_of hash_keeps (2 ^ lg_k) MAX_THETA (line_steps hashing lines) (Trim ∷ []) (none_below MAX_THETA)) in
@@ -60,7 +60,7 @@ module _ (hashing : Hashing) where
         ∙ ap (λ b. cond b (NonEmpty x) Empty) (sym (is_updated-append (line_steps hashing lines) (Trim ∷ []) false))
         ∙ sym (value_is_leaf lines)
 
-    pub trimmed_seed : (lines : List (List ℕ)) (s t : Updatable ℕ) → state_of s ≡ with_lines hashing (new_state hashing.seed lg_k) lines →
+    pub trimmed_seed : (lines : List (List ℕ)) (s t : Updatable ℕ) → line_state s ≡ with_lines hashing (new_state hashing.seed lg_k) lines →
         t.map ≡ record s.map { kept = cut hash_key (2 ^ s.map.lg_nom) s.map.kept.entries s.map.kept.theta } → t.map.seed_hash ≡ seed_hash hashing.seed
     trimmed_seed lines s t is map_is = ap (λ m. m.seed_hash) map_is ∙ ap (λ h. h.map.seed_hash) (is ∙ with_lines-made lines (none_below MAX_THETA) false)
 

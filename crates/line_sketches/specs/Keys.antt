@@ -55,8 +55,8 @@ pub record LineState : Type 0 where
   pub map : MapTable ℕ
   pub empty : Bool
 
-abbrev pub state_of : Updatable ℕ → LineState
-state_of s = record { map = s.map; empty = s.empty }
+abbrev pub line_state : Updatable ℕ → LineState
+line_state s = record { map = s.map; empty = s.empty }
 
 -- the state of a new sketch
 abbrev pub new_state : (seed lg_k : ℕ) → LineState

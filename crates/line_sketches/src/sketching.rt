@@ -7,7 +7,7 @@ ghost use Rattle.core_laws.specs.declared.TheConstants.{MAX_THETA};
 ghost use Rattle.lines.specs.Lines.{lines_of, lines_after, Lacks};
 ghost use Rattle.lines.specs.Open.{IsOpen};
 ghost use Rattle.lines.specs.declared.key.Hashing.{Hashing};
-ghost use Rattle.line_sketches.specs.Keys.{state_of, new_state, with_lines, value_of_lines, sketch_of_value};
+ghost use Rattle.line_sketches.specs.Keys.{line_state, new_state, with_lines, value_of_lines, sketch_of_value};
 ghost use Rattle.line_sketches.specs.Taking.{Takes, Leaves};
 ghost use Rattle.line_sketches.specs.Refusals.{RefusesRead, IsLasting};
 
@@ -64,7 +64,7 @@ pub fn new_sketch<A: Allocator + Drop>(
     seed: u64,
     lg_k: u8,
 ) -> Result<ThetaSketch<A>, Error>
-    ensures new { IfOk result (λ s. state_of s ≡ new_state seed lg_k) }
+    ensures new { IfOk result (λ s. line_state s ≡ new_state seed lg_k) }
     ensures refused { Refuses result (settings_refusal lg_k MAX_THETA seed) true }
 {
     ThetaSketchBuilder::default()
@@ -83,7 +83,7 @@ fn take_lines<'a, A: Allocator + Clone>(
     text: &'a [u8],
 ) -> Result<(&'a [u8], u64), Error>
     ensures lacks { IfOk result (λ x. Lacks 10 x.0.now) }
-    ensures leaves { IfOk result (λ x. Leaves hashing (state_of sketch.old) text.now (state_of sketch.new) x.0.now) }
+    ensures leaves { IfOk result (λ x. Leaves hashing (line_state sketch.old) text.now (line_state sketch.new) x.0.now) }
     ensures refused { Refuses result None true }
 {
     let mut hashes = [0u64; LINES_AT_ONCE];
@@ -113,7 +113,7 @@ fn take_block<A: Allocator + Clone>(
         → OnOk result (
         (after : List ℕ)
         × IsOpen hashing after last.new
-        × Takes hashing (state_of sketch.old) before block.now (state_of sketch.new) after) }
+        × Takes hashing (line_state sketch.old) before block.now (line_state sketch.new) after) }
     ensures refused { Refuses result None true }
 {
     let Some((first, others)) = cut_line(block) else {
@@ -135,7 +135,7 @@ fn take_last<A: Allocator + Clone>(
 ) -> Result<(), Error>
     ensures taken { (hashing : Hashing) (front : List ℕ)
         → IsOpen hashing front last.now
-        → OnOk result (state_of sketch.new ≡ with_lines hashing (state_of sketch.old) (lines_after front [])) }
+        → OnOk result (line_state sketch.new ≡ with_lines hashing (line_state sketch.old) (lines_after front [])) }
     ensures refused { Refuses result None true }
 {
     if last.is_begun() {
@@ -159,7 +159,7 @@ pub fn add_lines<A: Allocator + Clone, R: Read, W: Watch>(
     watch: &mut W,
 ) -> Result<(), Unread>
     requires room { 0 < length block.old }
-    ensures lines { IfSome (R.remaining reader.old) (λ text. OnOk result (state_of sketch.new ≡ with_lines hashing (state_of sketch.old) (lines_of text))) }
+    ensures lines { IfSome (R.remaining reader.old) (λ text. OnOk result (line_state sketch.new ≡ with_lines hashing (line_state sketch.old) (lines_of text))) }
     ensures seeded { OnOk result (sketch.new.map.seed_hash ≡ sketch.old.map.seed_hash) }
     ensures refused { RefusesRead result None }
     ensures retried { IfErr result IsLasting }
@@ -193,7 +193,7 @@ pub(crate) fn add_text<A: Allocator + Clone, W: Watch>(
     text: &[u8],
     watch: &mut W,
 ) -> Result<(), Error>
-    ensures lines { OnOk result (state_of sketch.new ≡ with_lines hashing (state_of sketch.old) (lines_of text.now)) }
+    ensures lines { OnOk result (line_state sketch.new ≡ with_lines hashing (line_state sketch.old) (lines_of text.now)) }
     ensures refused { Refuses result None true }
 {
     let mut last = OpenLine::new(hashing);
@@ -208,7 +208,7 @@ pub fn finished<A: Allocator + Clone>(
     sketch: &mut ThetaSketch<A>,
 ) -> Result<CompactThetaSketch<A>, Error>
     ensures sketch { (hashing : Hashing) (lg_k : ℕ) (lines : List (List ℕ))
-        → state_of sketch.old ≡ with_lines hashing (new_state hashing.seed lg_k) lines
+        → line_state sketch.old ≡ with_lines hashing (new_state hashing.seed lg_k) lines
         → IfOk result (λ s. s ≡ sketch_of_value hashing.seed (value_of_lines hashing lg_k lines)) }
     ensures seeded { IfOk result (λ s. s.seed_hash ≡ sketch.old.map.seed_hash) }
     ensures refused { Refuses result None true }

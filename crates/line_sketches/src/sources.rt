@@ -1,7 +1,7 @@
 //! Texts, one after another, each with its own reader.
 ghost use Rattle.std.specs.Prelude.{◌≡◌, ℕ, List, Option, None, Some, map, IfOk, OnOk, IfSome};
 ghost use Rattle.lines.specs.Lines.{lines_of, lines_of_all};
-ghost use Rattle.line_sketches.specs.Keys.{state_of, with_lines, value_of_lines, sketch_of_value};
+ghost use Rattle.line_sketches.specs.Keys.{line_state, with_lines, value_of_lines, sketch_of_value};
 ghost use Rattle.line_sketches.specs.Sources.{GivesNext};
 ghost use Rattle.line_sketches.specs.Refusals.{RefusesRead};
 ghost use Rattle.core_laws.specs.declared.TheConstants.{MAX_THETA};
@@ -69,7 +69,7 @@ fn add_source<A: Allocator + Clone, B: Allocator, R: Read, W: Watch>(
     reader: &mut R,
     watch: &mut W,
 ) -> Result<(), Unread>
-    ensures lines { IfSome (R.remaining reader.old) (λ text. OnOk result (state_of sketch.new ≡ with_lines hashing (state_of sketch.old) (lines_of text))) }
+    ensures lines { IfSome (R.remaining reader.old) (λ text. OnOk result (line_state sketch.new ≡ with_lines hashing (line_state sketch.old) (lines_of text))) }
     ensures refused { RefusesRead result None }
 {
     let mut block = vec![in alloc; 0u8; BLOCK]?;
@@ -88,7 +88,7 @@ pub fn add_sources<A: Allocator + Clone, B: Allocator + Clone + Drop, S: Sources
     sources: &mut S,
     watch: &mut W,
 ) -> Result<(), Unread>
-    ensures lines { IfSome (S.texts sources.old) (λ texts. OnOk result (state_of sketch.new ≡ with_lines hashing (state_of sketch.old) (lines_of_all texts))) }
+    ensures lines { IfSome (S.texts sources.old) (λ texts. OnOk result (line_state sketch.new ≡ with_lines hashing (line_state sketch.old) (lines_of_all texts))) }
     ensures refused { RefusesRead result None }
 {
     for _ in 0..u64::MAX {

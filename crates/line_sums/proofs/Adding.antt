@@ -20,14 +20,14 @@ use Rattle.core_laws.specs.declared.leaf.LeafStep.TheVariants.{Add}
 use Rattle.core_laws.proofs.insertions.FoldedSteps.{unmarked-step}
 use Rattle.core_laws.proofs.insertions.Leaves.{leaf_from-append}
 use Rattle.core_laws.proofs.insertions.Unmarked.{was_refused}
-use Rattle.core_policies.specs.Sums.{unsigned_sum}
+use Rattle.core_policies.specs.Sums.{adds, unsigned_sum}
 use Rattle.core_slots.specs.Entry.{tuple_key}
 use Rattle.core_slots.specs.declared.entry.TupleEntry.{TupleEntry}
 use Rattle.core_state.specs.Updatable.{Updatable, sketch_value}
 use Rattle.core_table.specs.HashTable.{MapTable, empty_table, after_insertion, trimmed_table}
 use Rattle.lines.specs.Keys.{line_hash}
 use Rattle.lines.specs.declared.key.Hashing.{Hashing}
-use Rattle.line_sums.specs.Sums.{adds, folds_of_lines, sum_steps, sums_of_lines, sketch_of_sums, HasSummed}
+use Rattle.line_sums.specs.Sums.{folds_of_lines, sum_steps, sums_of_lines, sketch_of_sums, HasSummed}
 use Rattle.line_sums.specs.Refusals.{IsAddRefusal}
 use Rattle.line_sums.proofs.Exact.{folds_keep, not_none, trimmed_exact, ordered_result}
 

@@ -21,13 +21,13 @@ use Rattle.core_laws.proofs.insertions.Leaves.{leaf-sample, leaf_from-append, is
 use Rattle.core_laws.proofs.maps.Ascending.{ascending-head, ascending-tail, each-filter}
 use Rattle.core_laws.proofs.maps.LookUps.{entry_at_head, entry_at_past, entry_at_rest}
 use Rattle.core_laws.proofs.maps.MappedEntries.{cut-map}
-use Rattle.core_policies.specs.Sums.{unsigned_sum, unsigned-summed}
+use Rattle.core_policies.specs.Sums.{adds, unsigned_sum, unsigned-summed}
 use Rattle.core_policies.proofs.FoldedValues.{updates-keep}
 use Rattle.core_slots.specs.Entry.{tuple_key, tuple_of}
 use Rattle.core_slots.specs.declared.entry.TupleEntry.{TupleEntry}
 use Rattle.lines.specs.declared.key.Hashing.{Hashing}
 use Rattle.line_sketches.specs.Keys.{key_set}
-use Rattle.line_sums.specs.Sums.{adds, folds_of_lines, sum_at, sum_steps, sums_of_lines}
+use Rattle.line_sums.specs.Sums.{folds_of_lines, sum_at, sum_steps, sums_of_lines}
 use Rattle.line_sums.proofs.Amounts.{total_at, added_keys}
 use Rattle.plan_text.specs.declared.plan.Plan.TheVariants as plan
 use Rattle.plan_values.proofs.AddedKeys.{tuple_leaf_keys}

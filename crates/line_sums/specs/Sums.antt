@@ -6,13 +6,11 @@ use Rattle.core_laws.specs.Cuts.{Retained, none_below}
 use Rattle.core_laws.specs.Folds.{Fold, fold_key, folded_of, unmarked}
 use Rattle.core_laws.specs.Insertion.{is_screened}
 use Rattle.core_laws.specs.Leaf.{leaf_from}
-use Rattle.core_laws.specs.Step.{Step}
 use Rattle.core_laws.specs.Values.{Sketch, Empty, NonEmpty}
 use Rattle.core_laws.specs.declared.TheConstants.{MAX_THETA}
 use Rattle.core_laws.specs.declared.leaf.LeafStep.{LeafStep}
 use Rattle.core_laws.specs.declared.leaf.LeafStep.TheVariants.{Add}
-use Rattle.core_policies.specs.Summaries.{update_step}
-use Rattle.core_policies.specs.Sums.{unsigned_sum}
+use Rattle.core_policies.specs.Sums.{adds}
 use Rattle.core_slots.specs.Entry.{tuple_key, tuple_of}
 use Rattle.core_slots.specs.declared.entry.TupleEntry.{TupleEntry}
 use Rattle.core_state.specs.Updatable.{Updatable}
@@ -52,10 +50,6 @@ sum_below hashing amount theta (line ∷ lines) = (if is_screened (line_hash has
 -- lines, as the steps of a leaf
 abbrev pub sum_steps : Hashing → (amount : List ℕ → ℕ) → List (List ℕ) → List (LeafStep ℕ)
 sum_steps hashing amount lines = map (λ line. Add (line_hash hashing line) (amount line)) lines
-
--- the step that adds to the sum at a hash, which is 0 at first; a sum of 2^64 or more is refused
-abbrev pub adds : (hash value : ℕ) → Step (TupleEntry ℕ)
-adds hash value = update_step (Some 0) (unsigned_sum 64) hash value
 
 -- what a sketch retains after lines, in folds
 abbrev pub folds_of_lines : Hashing → (amount : List ℕ → ℕ) → (lg_k : ℕ) → List (List ℕ) → Retained (Fold (TupleEntry ℕ))

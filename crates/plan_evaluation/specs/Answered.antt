@@ -6,8 +6,8 @@ use Rattle.core_laws.specs.Folds.{Fold, unmarked_value}
 use Rattle.core_laws.specs.Values.{Sketch}
 
 -- the ordered sketch with this value, which has no mark
-abbrev pub IsSketchOf : {X : Type 0} → (X → ℕ) → Sketch (Fold X) → (seed_hash : ℕ) → Compact X → Type 0
-IsSketchOf key v seed_hash s = (unmarked_value (compact_value key s) ≡ v) × (s ≡ ordered_sketch (compact_value key s) seed_hash)
+abbrev pub IsOrderedSketchOf : {X : Type 0} → (X → ℕ) → Sketch (Fold X) → (seed_hash : ℕ) → Compact X → Type 0
+IsOrderedSketchOf key v seed_hash s = (unmarked_value (compact_value key s) ≡ v) × (s ≡ ordered_sketch (compact_value key s) seed_hash)
 
 -- a sketch isn't empty, is ordered, and has these hashes and this theta
 pub record HasKeys {X : Type 0} (key : X → ℕ) (v : Retained ℕ) (s : Compact X) : Type 0 where

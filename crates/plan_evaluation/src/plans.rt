@@ -22,7 +22,7 @@ ghost use Rattle.plan_values.specs.Refusals.{may_refuse, must_refuse};
 ghost use Rattle.plan_values.specs.Value.{value_in, value_of, plan_refusal};
 ghost use Rattle.plan_values.specs.WholeStreams.{whole_in, whole_of, whole_hashes};
 ghost use Rattle.core_compact.specs.CompactState.{ordered_sketch};
-ghost use Rattle.plan_evaluation.specs.Answered.{HasKeys, IsSketchOf};
+ghost use Rattle.plan_evaluation.specs.Answered.{HasKeys, IsOrderedSketchOf};
 ghost use Rattle.plan_evaluation.specs.Refused.{IsPlanRefused};
 
 use crate::evaluate::{compacted, evaluate};
@@ -103,7 +103,7 @@ pub fn evaluate_tuple<
 ) -> Result<CompactTupleSketch<S, A>, Error>
     requires clones_equal { ClonesEqual S.is_clone }
     ensures value { let f = tuple_folds (P.creates update_policy) (P.updates update_policy) (Q.combines combine_policy) in
-        IfOk result (IsSketchOf tuple_key (value_in f plan.now) (seed_hash seed)) }
+        IfOk result (IsOrderedSketchOf tuple_key (value_in f plan.now) (seed_hash seed)) }
     ensures whole { let f = tuple_folds (P.creates update_policy) (P.updates update_policy) (Q.combines combine_policy) in
         OnOk result (IsAllBelow f.key (value_in f plan.now) (whole_in f plan.now)) }
     ensures merged { (lg_k start : ℕ)
@@ -154,7 +154,7 @@ pub fn evaluate_sums<
     B: Allocator,
 >(alloc: A, plan: &Plan<S, B>, seed: u64) -> Result<CompactTupleSketch<S, A>, Error>
     requires clones_equal { ClonesEqual S.is_clone }
-    ensures value { IfOk result (IsSketchOf tuple_key (value_in (tuple_folds (Some S.ZERO) S.sums S.sums) plan.now) (seed_hash seed)) }
+    ensures value { IfOk result (IsOrderedSketchOf tuple_key (value_in (tuple_folds (Some S.ZERO) S.sums S.sums) plan.now) (seed_hash seed)) }
     ensures whole { let f = tuple_folds (Some S.ZERO) S.sums S.sums in OnOk result (IsAllBelow f.key (value_in f plan.now) (whole_in f plan.now)) }
     ensures merged { (lg_k start : ℕ)
         → IsMergePlan lg_k start plan.now
@@ -198,7 +198,7 @@ fn ordered<F: SketchFamily<A>, A: Allocator + Clone, B: Allocator>(
     seed: u64,
 ) -> Result<F::Compact, Error>
     ensures value { let f = folds_of (F.rules family.now) (F.refuses family.now) in
-        IfOk result (λ c. IsSketchOf (F.rules family.now).key (value_in f plan.now) (seed_hash seed) (F.listed c)) }
+        IfOk result (λ c. IsOrderedSketchOf (F.rules family.now).key (value_in f plan.now) (seed_hash seed) (F.listed c)) }
     ensures accepted { OnOk result (plan_refusal seed plan.now ≡ None) }
     ensures unrefused { OnOk result (must_refuse (folds_of (F.rules family.now) (F.refuses family.now)) seed plan.now ≡ false) }
     ensures refused { IfErr result (IsPlanRefused (folds_of (F.rules family.now) (F.refuses family.now)) F.strict seed plan.now) }

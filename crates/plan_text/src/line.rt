@@ -3,7 +3,7 @@ ghost use Rattle.std.specs.Prelude.{◌≡◌, ◌∷◌, ◌≤◌, Some, IfSom
 ghost use Rattle.plan_text.specs.Words.{words, more_words, number_of_word, small, start_of, BeginsWithNumber};
 ghost use Rattle.plan_text.specs.Reading.{says};
 ghost use Rattle.plan_text.specs.declared.line.Line.TheVariants as line;
-ghost use Rattle.plan_text.specs.Lines.{form_of, order_of, said, said_one, said_two, said_three, said_four};
+ghost use Rattle.plan_text.specs.Lines.{form_of, image_order, said, said_one, said_two, said_three, said_four};
 
 use crate::command::{Family, Form};
 use crate::text::cut;
@@ -150,7 +150,7 @@ fn form_of(word: &[u8]) -> Option<Form>
 
 /// Whether an image is to be ordered: `ordered` or `unordered`.
 fn order_of(word: &[u8]) -> Option<bool>
-    ensures { result ≡ order_of word.now }
+    ensures { result ≡ image_order word.now }
 {
     if word == b"ordered".as_slice() {
         return Some(true);

@@ -15,10 +15,10 @@ use Rattle.core_laws.specs.Values.{Sketch, Empty, NonEmpty}
 use Rattle.expression_text.specs.declared.operator.Operator.{Operator}
 use Rattle.expression_text.specs.declared.operator.Step.{Step}
 use Rattle.expression_text.specs.declared.operator.Step.TheVariants.{Operand, Combine}
-use Rattle.expression_text.specs.Expressions.{Expression, Named, Grouped, Combined, postfix, IsWithin}
+use Rattle.expression_text.specs.Expressions.{Expression, Named, Grouped, Combined, postfix, HasIndicesBelow}
 use Rattle.expression_text.specs.declared.operator.Operator.TheVariants.{Union, Intersection, Difference}
-use Rattle.set_expressions.specs.Values.{Rules, combined, hash_rules, value_in}
-use Rattle.set_expressions.specs.Running.{values_by, after_step, after_steps, only_value, result_of, values_onto, AreOrdered, is_accepted, are_accepted, refusal_by, AreRefused, MayRefuse, MayRefuseStep, MayRefuseTwo}
+use Rattle.set_expressions.specs.Values.{Rules, applied, hash_rules, value_in}
+use Rattle.set_expressions.specs.Running.{values_by, after_step, after_steps, only_value, result_of, values_onto, AreOrderedSketches, is_accepted, are_accepted, refusal_by, AreRefused, MayRefuse, MayRefuseStep, MayRefuseTwo}
 
 split_at : (steps : List Step) (i : ℕ) (d : Step) → i < length steps → drop i steps ≡ get_or steps i d ∷ drop (i + 1) steps
 split_at steps i d lt = rw add-one (drop-cons steps i d lt)
@@ -32,7 +32,7 @@ accepted_some o b r v settings accepted has = rw (settings, accepted, has) refl
 
 module _ {X : Type 0} (rules : Rules X) (lg_k : ℕ) (values : List (Sketch X)) where
   -- the steps of an expression push its value
-  steps_run : (e : Expression) (rest : List Step) (stack : List (Sketch X)) → IsWithin (length values) e →
+  steps_run : (e : Expression) (rest : List Step) (stack : List (Sketch X)) → HasIndicesBelow (length values) e →
       after_steps rules lg_k values (postfix e ++ rest) (Some stack) ≡ after_steps rules lg_k values rest (Some (value_in rules lg_k values e ∷ stack))
   steps_run (Named i) rest stack within = ap (λ o. after_steps rules lg_k values rest (option_map (λ v. v ∷ stack) o)) (slice_get-get_or values i Empty within)
   steps_run (Grouped e) rest stack within = steps_run e rest stack within
@@ -42,7 +42,7 @@ module _ {X : Type 0} (rules : Rules X) (lg_k : ℕ) (values : List (Sketch X)) 
       ∙ ap (λ steps. after_steps rules lg_k values steps (Some (value_in rules lg_k values a ∷ stack))) (append_assoc (postfix b) (Combine op ∷ []) rest)
       ∙ steps_run b (Combine op ∷ rest) (value_in rules lg_k values a ∷ stack) within.1
 
-  pub expression_result : (e : Expression) → IsWithin (length values) e → after_steps rules lg_k values (postfix e) (Some []) ≡ Some (value_in rules lg_k values e ∷ [])
+  pub expression_result : (e : Expression) → HasIndicesBelow (length values) e → after_steps rules lg_k values (postfix e) (Some []) ≡ Some (value_in rules lg_k values e ∷ [])
   expression_result e within = ap (λ steps. after_steps rules lg_k values steps (Some [])) (sym (append-nil (postfix e))) ∙ steps_run e [] [] within
 
   -- ---- steps one after another
@@ -98,15 +98,15 @@ module _ {S X : Type 0} (rules : Rules X) (read : S → Compact X) where
   values_onto-more [] s stack = refl
   values_onto-more (t ∷ sketches) s stack = values_onto-more sketches s (compact_value rules.key (read t) ∷ stack)
 
-  pub ordered-more : (h : ℕ) (sketches : List S) (s : S) → AreOrdered rules read h sketches → IsAnswer rules.key (compact_value rules.key (read s)) h true (read s) → AreOrdered rules read h (sketches ++ s ∷ [])
+  pub ordered-more : (h : ℕ) (sketches : List S) (s : S) → AreOrderedSketches rules read h sketches → IsAnswer rules.key (compact_value rules.key (read s)) h true (read s) → AreOrderedSketches rules read h (sketches ++ s ∷ [])
   ordered-more h [] s all one = (one, tt)
   ordered-more h (t ∷ sketches) s all one = (all.0, ordered-more h sketches s all.1 one)
 
-  pub ordered-less : (h : ℕ) (sketches : List S) (s : S) → AreOrdered rules read h (sketches ++ s ∷ []) → AreOrdered rules read h sketches
+  pub ordered-less : (h : ℕ) (sketches : List S) (s : S) → AreOrderedSketches rules read h (sketches ++ s ∷ []) → AreOrderedSketches rules read h sketches
   ordered-less h [] s all = tt
   ordered-less h (t ∷ sketches) s all = (all.0, ordered-less h sketches s all.1)
 
-  pub ordered-last : (h : ℕ) (sketches : List S) (s : S) → AreOrdered rules read h (sketches ++ s ∷ []) → IsAnswer rules.key (compact_value rules.key (read s)) h true (read s)
+  pub ordered-last : (h : ℕ) (sketches : List S) (s : S) → AreOrderedSketches rules read h (sketches ++ s ∷ []) → IsAnswer rules.key (compact_value rules.key (read s)) h true (read s)
   ordered-last h [] s all = all.0
   ordered-last h (t ∷ sketches) s all = ordered-last h sketches s all.1
 
@@ -116,9 +116,9 @@ module _ {S X : Type 0} (rules : Rules X) (read : S → Compact X) where
   last_two items rest front first second items_are rest_is =
       ap (λ xs. values_onto rules read xs []) items_are ∙ values_onto-more rest second [] ∙ ap (λ xs. value second ∷ values_onto rules read xs []) rest_is ∙ ap (λ (vs : List (Sketch X)). value second ∷ vs) (values_onto-more front first [])
 
-  -- the last two values are combined
+  -- the last two values are applied
   pub combined_last : (lg_k : ℕ) (op : Operator) (items rest front new : List S) (first second sketch : S) → items ≡ rest ++ second ∷ [] → rest ≡ front ++ first ∷ [] → new ≡ front ++ sketch ∷ [] →
-      compact_value rules.key (read sketch) ≡ combined rules lg_k op (compact_value rules.key (read first)) (compact_value rules.key (read second)) → after_step rules lg_k [] (Combine op) (values_onto rules read items []) ≡ Some (values_onto rules read new [])
+      compact_value rules.key (read sketch) ≡ applied rules lg_k op (compact_value rules.key (read first)) (compact_value rules.key (read second)) → after_step rules lg_k [] (Combine op) (values_onto rules read items []) ≡ Some (values_onto rules read new [])
   combined_last lg_k op items rest front new first second sketch items_are rest_is new_is is =
       ap (after_step rules lg_k [] (Combine op)) (last_two items rest front first second items_are rest_is) ∙ ap (λ (v : Sketch X). Some (v ∷ values_onto rules read front [])) (sym is) ∙ ap (λ (vs : List (Sketch X)). Some vs) (sym (ap (λ xs. values_onto rules read xs []) new_is ∙ values_onto-more front sketch []))
 
@@ -168,10 +168,10 @@ module _ {S X : Type 0} (rules : Rules X) (read : S → Compact X) where
 
   -- the last value is that of the expression
   pub last_value : (lg_k : ℕ) (sketches : List S) (steps : List Step) (last : Sketch X) (stack : List (Sketch X)) (e : Expression) → after_steps rules lg_k (values_by rules read sketches) steps (Some []) ≡ Some (last ∷ stack) →
-      steps ≡ postfix e → IsWithin (length sketches) e → last ≡ value_in rules lg_k (values_by rules read sketches) e
+      steps ≡ postfix e → HasIndicesBelow (length sketches) e → last ≡ value_in rules lg_k (values_by rules read sketches) e
   unfolding first_value
   last_value lg_k sketches steps last stack e ran is within =
-      let inside : IsWithin (length (values_by rules read sketches)) e = subst (λ (n : ℕ). IsWithin n e) (sym (length-map sketches (λ s. compact_value rules.key (read s)))) within in
+      let inside : HasIndicesBelow (length (values_by rules read sketches)) e = subst (λ (n : ℕ). HasIndicesBelow n e) (sym (length-map sketches (λ s. compact_value rules.key (read s)))) within in
       ap first_value (sym ran ∙ ap (λ xs. after_steps rules lg_k (values_by rules read sketches) xs (Some [])) is ∙ expression_result rules lg_k (values_by rules read sketches) e inside)
 
   -- ---- refusals

@@ -26,7 +26,7 @@ use Rattle.core_policies.specs.Summaries.{combined as combined_entry}
 use Rattle.core_policies.specs.Sums.{unsigned_sum}
 use Rattle.core_slots.specs.Entry.{tuple_key, with_summary}
 use Rattle.core_slots.specs.declared.entry.TupleEntry.{TupleEntry}
-use Rattle.set_expressions.specs.Values.{added, is_too_great, sum_rules}
+use Rattle.set_expressions.specs.Values.{sum_added, is_too_great, sum_rules}
 use Rattle.set_expressions.specs.Running.{AreRefused, IsMergeError}
 use Rattle.set_expressions.specs.Sums.{IsRefusedMeet, IsRefusedJoin, HasPartOf}
 
@@ -34,10 +34,10 @@ use Rattle.set_expressions.specs.Sums.{IsRefusedMeet, IsRefusedJoin, HasPartOf}
 abbrev pub sums : ℕ → ℕ → Option ℕ
 sums x y = unsigned_sum 64 x y
 
--- merged sums are added, if that isn't refused
-pub agree : (x y : TupleEntry ℕ) → combine_refused sums x y ≡ false → combined_entry sums x y ≡ added x y
+-- merged sums are sum_added, if that isn't refused
+pub agree : (x y : TupleEntry ℕ) → combine_refused sums x y ≡ false → combined_entry sums x y ≡ sum_added x y
 agree x y fits =
-    (elim (ltb (x.summary + y.summary) (2 ^ 64)) as (λ b. is_none (cond b (Some (x.summary + y.summary)) None) ≡ false → option_map_or (with_summary x) (cond b (Some (x.summary + y.summary)) None) x ≡ added x y) [
+    (elim (ltb (x.summary + y.summary) (2 ^ 64)) as (λ b. is_none (cond b (Some (x.summary + y.summary)) None) ≡ false → option_map_or (with_summary x) (cond b (Some (x.summary + y.summary)) None) x ≡ sum_added x y) [
       | true ↦ λ e. refl
       | false ↦ λ e. absurd (cc)
     ]) fits

@@ -9,7 +9,7 @@ use Rattle.core_laws.proofs.operators.Samples.{union_samples, meet_samples, minu
 use Rattle.expression_text.specs.declared.operator.Operator.{Operator}
 use Rattle.expression_text.specs.declared.operator.Operator.TheVariants.{Union, Intersection, Difference}
 use Rattle.expression_text.specs.Expressions.{Expression, Named, Grouped, Combined}
-use Rattle.set_expressions.specs.Values.{Rules, combined, value_in, combined_maps, whole_in}
+use Rattle.set_expressions.specs.Values.{Rules, applied, value_in, combined_maps, whole_in}
 
 module _ {X : Type 0} (rules : Rules X) (keeps : KeepsKey rules.key rules.merges) where
   no_sample : IsSample rules.key Empty []
@@ -22,7 +22,7 @@ module _ {X : Type 0} (rules : Rules X) (keeps : KeepsKey rules.key rules.merges
   sample_at (v ∷ values) (whole ∷ wholes) zero all = all.0
   sample_at (v ∷ values) (whole ∷ wholes) (suc i) all = sample_at values wholes i all.1
 
-  combined_sample : (lg_k : ℕ) (op : Operator) (a b : Sketch X) (ws ys : List X) → IsSample rules.key a ws → IsSample rules.key b ys → IsSample rules.key (combined rules lg_k op a b) (combined_maps rules op ws ys)
+  combined_sample : (lg_k : ℕ) (op : Operator) (a b : Sketch X) (ws ys : List X) → IsSample rules.key a ws → IsSample rules.key b ys → IsSample rules.key (applied rules lg_k op a b) (combined_maps rules op ws ys)
   combined_sample lg_k Union a b ws ys sa sb = union_samples rules.key rules.merges keeps (2 ^ lg_k) MAX_THETA (a ∷ b ∷ []) (ws ∷ ys ∷ []) (sa, (sb, tt))
   combined_sample lg_k Intersection a b ws ys sa sb = meet_samples rules.key rules.merges keeps a (b ∷ []) ws (ys ∷ []) sa (sb, tt)
   combined_sample lg_k Difference a b ws ys sa sb = minus_samples rules.key rules.key a b ws ys sa sb

@@ -17,7 +17,7 @@ use Rattle.expression_text.specs.declared.operator.Operator.{Operator}
 use Rattle.expression_text.specs.declared.operator.Operator.TheVariants.{Union, Intersection, Difference}
 use Rattle.expression_text.specs.declared.operator.Step.{Step}
 use Rattle.expression_text.specs.declared.operator.Step.TheVariants.{Operand, Combine}
-use Rattle.set_expressions.specs.Values.{Rules, combined, hash_rules, sum_rules}
+use Rattle.set_expressions.specs.Values.{Rules, applied, hash_rules, sum_rules}
 
 -- the value of a sketch whose contents are read in this way
 abbrev pub value_by : {S X : Type 0} → Rules X → (read : S → Compact X) → S → Sketch X
@@ -39,7 +39,7 @@ abbrev pub after_step : {X : Type 0} → Rules X → (lg_k : ℕ) → List (Sket
 after_step rules lg_k values (Operand i) stack = option_map (λ v. v ∷ stack) (slice_get values i)
 after_step rules lg_k values (Combine op) [] = None
 after_step rules lg_k values (Combine op) (b ∷ []) = None
-after_step rules lg_k values (Combine op) (b ∷ a ∷ stack) = Some (combined rules lg_k op a b ∷ stack)
+after_step rules lg_k values (Combine op) (b ∷ a ∷ stack) = Some (applied rules lg_k op a b ∷ stack)
 
 -- the stack after steps
 abbrev pub after_steps : {X : Type 0} → Rules X → (lg_k : ℕ) → List (Sketch X) → List Step → Option (List (Sketch X)) → Option (List (Sketch X))
@@ -64,8 +64,8 @@ values_onto rules read [] stack = stack
 values_onto rules read (s ∷ sketches) stack = values_onto rules read sketches (compact_value rules.key (read s) ∷ stack)
 
 -- each sketch is the ordered sketch of its value, of this seed hash
-abbrev pub AreOrdered : {S X : Type 0} → Rules X → (read : S → Compact X) → (seed_hash : ℕ) → List S → Type 0
-AreOrdered rules read h sketches = AllByRecursion (λ s. IsAnswer rules.key (compact_value rules.key (read s)) h true (read s)) sketches
+abbrev pub AreOrderedSketches : {S X : Type 0} → Rules X → (read : S → Compact X) → (seed_hash : ℕ) → List S → Type 0
+AreOrderedSketches rules read h sketches = AllByRecursion (λ s. IsAnswer rules.key (compact_value rules.key (read s)) h true (read s)) sketches
 
 -- whether a sketch is empty or of this seed hash
 abbrev pub is_accepted : {X : Type 0} → (seed_hash : ℕ) → Compact X → Bool

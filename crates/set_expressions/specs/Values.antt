@@ -21,31 +21,31 @@ pub record Rules (X : Type 0) : Type 0 where
 abbrev pub hash_rules : Rules ℕ
 hash_rules = record { key = hash_key; merges = first_hash; refuses = never }
 
--- an entry to whose sum that of another is added
-abbrev pub added : TupleEntry ℕ → TupleEntry ℕ → TupleEntry ℕ
-added x y = with_summary x (x.summary + y.summary)
+-- an entry to whose sum that of another is sum_added
+abbrev pub sum_added : TupleEntry ℕ → TupleEntry ℕ → TupleEntry ℕ
+sum_added x y = with_summary x (x.summary + y.summary)
 
 -- two sums are too great together
 abbrev pub is_too_great : TupleEntry ℕ → TupleEntry ℕ → Bool
 is_too_great x y = nat_le (2 ^ 64) (x.summary + y.summary)
 
--- sums: the sums of a key are added, and a sum of 2^64 or more is refused
+-- sums: the sums of a key are sum_added, and a sum of 2^64 or more is refused
 abbrev pub sum_rules : Rules (TupleEntry ℕ)
-sum_rules = record { key = tuple_key; merges = added; refuses = is_too_great }
+sum_rules = record { key = tuple_key; merges = sum_added; refuses = is_too_great }
 
--- the value of two combined values, in a union with 2^lg_k nominal entries
-abbrev pub combined : {X : Type 0} → Rules X → (lg_k : ℕ) → Operator → Sketch X → Sketch X → Sketch X
-combined rules lg_k Union a b = unite rules.key rules.merges (2 ^ lg_k) MAX_THETA (a ∷ b ∷ [])
-combined rules lg_k Intersection a b = meet rules.key rules.merges (a ∷ b ∷ [])
-combined rules lg_k Difference a b = minus rules.key rules.key a b
+-- the value of two applied values, in a union with 2^lg_k nominal entries
+abbrev pub applied : {X : Type 0} → Rules X → (lg_k : ℕ) → Operator → Sketch X → Sketch X → Sketch X
+applied rules lg_k Union a b = unite rules.key rules.merges (2 ^ lg_k) MAX_THETA (a ∷ b ∷ [])
+applied rules lg_k Intersection a b = meet rules.key rules.merges (a ∷ b ∷ [])
+applied rules lg_k Difference a b = minus rules.key rules.key a b
 
 -- the value of an expression over the values of its names
 abbrev pub value_in : {X : Type 0} → Rules X → (lg_k : ℕ) → List (Sketch X) → Expression → Sketch X
 value_in rules lg_k values (Named i) = get_or values i Empty
 value_in rules lg_k values (Grouped e) = value_in rules lg_k values e
-value_in rules lg_k values (Combined op a b) = combined rules lg_k op (value_in rules lg_k values a) (value_in rules lg_k values b)
+value_in rules lg_k values (Combined op a b) = applied rules lg_k op (value_in rules lg_k values a) (value_in rules lg_k values b)
 
--- two whole maps combined: their union, intersection or difference
+-- two whole maps applied: their union, intersection or difference
 abbrev pub combined_maps : {X : Type 0} → Rules X → Operator → List X → List X → List X
 combined_maps rules Union a b = joined rules.key rules.merges (joined rules.key rules.merges [] a) b
 combined_maps rules Intersection a b = common rules.key rules.merges a b
@@ -68,5 +68,5 @@ set_of sets e = whole_in hash_rules sets e
 abbrev pub sums_value : (lg_k : ℕ) → List (Sketch (TupleEntry ℕ)) → Expression → Sketch (TupleEntry ℕ)
 sums_value lg_k values e = value_in sum_rules lg_k values e
 
-abbrev pub sums_in : List (List (TupleEntry ℕ)) → Expression → List (TupleEntry ℕ)
-sums_in wholes e = whole_in sum_rules wholes e
+abbrev pub whole_sums_in : List (List (TupleEntry ℕ)) → Expression → List (TupleEntry ℕ)
+whole_sums_in wholes e = whole_in sum_rules wholes e

@@ -6,10 +6,10 @@ ghost use Rattle.core_laws.specs.Refusal.{Refuses};
 ghost use Rattle.core_laws.specs.Samples.{IsSample, AreSamples};
 ghost use Rattle.core_laws.specs.Settings.{settings_refusal};
 ghost use Rattle.core_laws.specs.declared.TheConstants.{MAX_THETA};
-ghost use Rattle.expression_text.specs.Expressions.{Expression, postfix, IsWithin};
+ghost use Rattle.expression_text.specs.Expressions.{Expression, postfix, HasIndicesBelow};
 ghost use Rattle.expression_text.specs.declared.operator.Step.TheVariants.{Combine};
 ghost use Rattle.set_expressions.specs.Values.{value_in, whole_in};
-ghost use Rattle.set_expressions.specs.Running.{value_by, values_by, after_step, values_onto, AreOrdered, are_accepted, refusal_by, IsStepRefused, IsEvaluationError, MayRefuseStep, MayRefuse};
+ghost use Rattle.set_expressions.specs.Running.{value_by, values_by, after_step, values_onto, AreOrderedSketches, are_accepted, refusal_by, IsStepRefused, IsEvaluationError, MayRefuseStep, MayRefuse};
 
 use crate::family::SetFamily;
 use core_laws::{MAX_LG_K, MIN_LG_K};
@@ -55,8 +55,8 @@ fn combine_last<F: SetFamily<A, B>, A: Allocator, B: Allocator>(
     stack: &mut Vec<F::Sketch, A>,
 ) -> Result<(), Error>
     requires settings { settings_refusal lg_k MAX_THETA seed ≡ None }
-    requires ordered { AreOrdered F.rules F.listed (seed_hash seed) stack.old.items }
-    ensures ordered { OnOk result (AreOrdered F.rules F.listed (seed_hash seed) stack.new.items) }
+    requires ordered { AreOrderedSketches F.rules F.listed (seed_hash seed) stack.old.items }
+    ensures ordered { OnOk result (AreOrderedSketches F.rules F.listed (seed_hash seed) stack.new.items) }
     ensures ran { OnOk result (
         after_step F.rules lg_k [] (Combine operator) (values_onto F.rules F.listed stack.old.items [])
         ≡ Some (values_onto F.rules F.listed stack.new.items [])) }
@@ -87,8 +87,8 @@ fn run_step<F: SetFamily<A, B>, A: Allocator, B: Allocator>(
 ) -> Result<(), Error>
     requires settings { settings_refusal lg_k MAX_THETA seed ≡ None }
     requires accepted { are_accepted F.named (seed_hash seed) sketches.now ≡ true }
-    requires ordered { AreOrdered F.rules F.listed (seed_hash seed) stack.old.items }
-    ensures ordered { OnOk result (AreOrdered F.rules F.listed (seed_hash seed) stack.new.items) }
+    requires ordered { AreOrderedSketches F.rules F.listed (seed_hash seed) stack.old.items }
+    ensures ordered { OnOk result (AreOrderedSketches F.rules F.listed (seed_hash seed) stack.new.items) }
     ensures ran { OnOk result (
         after_step F.rules lg_k (values_by F.rules F.named sketches.now) step
         (values_onto F.rules F.listed stack.old.items [])
@@ -128,13 +128,13 @@ pub fn evaluate_in<F: SetFamily<A, B>, A: Allocator + Clone, B: Allocator>(
 ) -> Result<F::Sketch, Error>
     ensures value { (e : Expression)
         → steps.now ≡ postfix e
-        → IsWithin (length sketches.now) e
+        → HasIndicesBelow (length sketches.now) e
         → IfOk result (λ s.
         F.listed s ≡ ordered_sketch (value_in F.rules lg_k (values_by F.rules F.named sketches.now) e) (seed_hash seed)) }
     ensures whole { (e : Expression) (wholes : List (List F.Entry))
         → steps.now ≡ postfix e
         → AreSamples (F.rules).key (values_by F.rules F.named sketches.now) wholes
-        → IsWithin (length sketches.now) e
+        → HasIndicesBelow (length sketches.now) e
         → IfOk result (λ s. IsSample (F.rules).key (value_by F.rules F.listed s) (whole_in F.rules wholes e)) }
     ensures accepted { OnOk result (refusal_by F.rules F.named seed lg_k steps.now sketches.now ≡ None) }
     ensures refused { IfErr result (

@@ -7,8 +7,8 @@ ghost use Rattle.core_laws.specs.Refusal.{Refuses};
 ghost use Rattle.core_laws.specs.Samples.{IsSample, AreSamples};
 ghost use Rattle.core_slots.specs.Entry.{tuple_key};
 ghost use Rattle.core_slots.specs.declared.entry.TupleEntry.{TupleEntry};
-ghost use Rattle.expression_text.specs.Expressions.{Expression, postfix, IsWithin};
-ghost use Rattle.set_expressions.specs.Values.{value_of, set_of, sum_rules, sums_value, sums_in};
+ghost use Rattle.expression_text.specs.Expressions.{Expression, postfix, HasIndicesBelow};
+ghost use Rattle.set_expressions.specs.Values.{value_of, set_of, sum_rules, sums_value, whole_sums_in};
 ghost use Rattle.set_expressions.specs.Running.{values_of, sums_values, evaluation_refusal, sums_refusal, IsEvaluationError, MayRefuse};
 
 use crate::evaluation::evaluate_in;
@@ -38,12 +38,12 @@ pub fn evaluate<A: Allocator + Clone + Drop, B: Allocator>(
 ) -> Result<CompactThetaSketch<A>, Error>
     ensures value { (e : Expression)
         → steps.now ≡ postfix e
-        → IsWithin (length sketches.now) e
+        → HasIndicesBelow (length sketches.now) e
         → IfOk result (λ s. s ≡ ordered_sketch (value_of lg_k (values_of sketches.now) e) (seed_hash seed)) }
     ensures whole { (e : Expression) (sets : List (List ℕ))
         → steps.now ≡ postfix e
         → AreSamples hash_key (values_of sketches.now) sets
-        → IsWithin (length sketches.now) e
+        → HasIndicesBelow (length sketches.now) e
         → IfOk result (λ s. IsSample hash_key (compact_value hash_key s) (set_of sets e)) }
     ensures refused { Refuses result (evaluation_refusal seed lg_k steps.now sketches.now) true }
 {
@@ -70,13 +70,13 @@ pub fn evaluate_sums<A: Allocator + Clone + Drop, B: Allocator>(
 ) -> Result<CompactTupleSketch<u64, A>, Error>
     ensures value { (e : Expression)
         → steps.now ≡ postfix e
-        → IsWithin (length sketches.now) e
+        → HasIndicesBelow (length sketches.now) e
         → IfOk result (λ s. s ≡ ordered_sketch (sums_value lg_k (sums_values sketches.now) e) (seed_hash seed)) }
     ensures whole { (e : Expression) (wholes : List (List (TupleEntry ℕ)))
         → steps.now ≡ postfix e
         → AreSamples tuple_key (sums_values sketches.now) wholes
-        → IsWithin (length sketches.now) e
-        → IfOk result (λ s. IsSample tuple_key (compact_value tuple_key s) (sums_in wholes e)) }
+        → HasIndicesBelow (length sketches.now) e
+        → IfOk result (λ s. IsSample tuple_key (compact_value tuple_key s) (whole_sums_in wholes e)) }
     ensures accepted { OnOk result (sums_refusal seed lg_k steps.now sketches.now ≡ None) }
     ensures refused { IfErr result (
         IsEvaluationError (sums_refusal seed lg_k steps.now sketches.now)

@@ -6,7 +6,7 @@ ghost use Rattle.core_laws.specs.Refusal.{Refuses};
 ghost use Rattle.core_laws.specs.Settings.{settings_refusal};
 ghost use Rattle.core_laws.specs.declared.TheConstants.{MAX_THETA};
 ghost use Rattle.core_operators.specs.Intersection.{seed_refusal};
-ghost use Rattle.set_expressions.specs.Values.{combined};
+ghost use Rattle.set_expressions.specs.Values.{applied};
 ghost use Rattle.set_expressions.specs.Running.{is_accepted, value_by, IsMergeError, MayRefuseTwo};
 
 use expression_text::Operator;
@@ -62,7 +62,7 @@ pub trait SetFamily<A: Allocator, B: Allocator> {
         requires second_seed { (listed second.now).seed_hash ≡ seed_hash seed }
         ensures value { IfOk result (λ s.
             IsAnswer rules.key
-            (combined rules lg_k operator (value_by rules listed first.now) (value_by rules listed second.now))
+            (applied rules lg_k operator (value_by rules listed first.now) (value_by rules listed second.now))
             (seed_hash seed) true (listed s)) }
         ensures refused { IfErr result (IsMergeError (
             MayRefuseTwo rules operator (value_by rules listed first.now) (value_by rules listed second.now))) };

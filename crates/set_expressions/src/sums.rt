@@ -13,7 +13,7 @@ ghost use Rattle.core_slots.specs.Entry.{tuple_key};
 ghost use Rattle.core_slots.specs.declared.entry.TupleEntry.{TupleEntry};
 ghost use Rattle.expression_text.specs.declared.operator.Operator.TheVariants.{Union, Intersection, Difference};
 ghost use Rattle.set_expressions.specs.Sums.{IsRefusedMeet, IsRefusedJoin, HasPartOf};
-ghost use Rattle.set_expressions.specs.Values.{combined, added, sum_rules};
+ghost use Rattle.set_expressions.specs.Values.{applied, sum_added, sum_rules};
 ghost use Rattle.set_expressions.specs.Running.{is_accepted, AreRefused, IsMergeError, MayRefuseTwo};
 
 use crate::family::SetFamily;
@@ -80,7 +80,7 @@ fn meet_sketch<A: Allocator + Clone, B: Allocator>(
     requires { is_accepted intersection.old.state.seed_hash sketch.now ≡ true }
     ensures met { OnOk result (
         intersection.new.state.result
-        ≡ Some (meet_next tuple_key added intersection.old.state.result (compact_value tuple_key sketch.now))) }
+        ≡ Some (meet_next tuple_key sum_added intersection.old.state.result (compact_value tuple_key sketch.now))) }
     ensures seed { OnOk result (intersection.new.state.seed_hash ≡ intersection.old.state.seed_hash) }
     ensures refused { IfErr result (IsMergeError (
         IsRefusedMeet intersection.old.state.result (compact_value tuple_key sketch.now))) }
@@ -159,10 +159,10 @@ fn unite_sketch<A: Allocator + Clone, B: Allocator>(
     requires seed { sketch.now.seed_hash ≡ union.old.state.seed_hash }
     ensures united { (values : List (Sketch (TupleEntry ℕ)))
         → union_value tuple_key union.old.state
-        ≡ unite tuple_key added (2 ^ union.old.state.lg_k) union.old.state.start values
+        ≡ unite tuple_key sum_added (2 ^ union.old.state.lg_k) union.old.state.start values
         → OnOk result (
         union_value tuple_key union.new.state
-        ≡ unite tuple_key added (2 ^ union.old.state.lg_k) union.old.state.start
+        ≡ unite tuple_key sum_added (2 ^ union.old.state.lg_k) union.old.state.start
         (values ++ compact_value tuple_key sketch.now ∷ [])) }
     ensures part { union.old.state.content.entries ≡ []
         → OnOk result (HasPartOf union.new.state (compact_value tuple_key sketch.now)) }
@@ -203,7 +203,7 @@ fn union_of<A: Allocator + Clone + Drop>(
     requires first_seed { first.now.seed_hash ≡ seed_hash seed }
     requires second_seed { second.now.seed_hash ≡ seed_hash seed }
     ensures value { IfOk result (IsAnswer tuple_key
-        (combined sum_rules lg_k Union (compact_value tuple_key first.now) (compact_value tuple_key second.now))
+        (applied sum_rules lg_k Union (compact_value tuple_key first.now) (compact_value tuple_key second.now))
         (seed_hash seed) true) }
     ensures refused { IfErr result (IsMergeError (
         AreRefused sum_rules (compact_value tuple_key first.now) (compact_value tuple_key second.now))) }
@@ -226,7 +226,7 @@ fn intersection_of<A: Allocator + Clone + Drop>(
     requires first_seed { first.now.seed_hash ≡ seed_hash seed }
     requires second_seed { second.now.seed_hash ≡ seed_hash seed }
     ensures value { IfOk result (IsAnswer tuple_key
-        (combined sum_rules 0 Intersection (compact_value tuple_key first.now) (compact_value tuple_key second.now))
+        (applied sum_rules 0 Intersection (compact_value tuple_key first.now) (compact_value tuple_key second.now))
         (seed_hash seed) true) }
     ensures refused { IfErr result (IsMergeError (
         AreRefused sum_rules (compact_value tuple_key first.now) (compact_value tuple_key second.now))) }
@@ -249,7 +249,7 @@ fn difference_of<A: Allocator + Clone + Drop>(
     requires first_seed { first.now.seed_hash ≡ seed_hash seed }
     requires second_seed { second.now.seed_hash ≡ seed_hash seed }
     ensures value { IfOk result (IsAnswer tuple_key
-        (combined sum_rules 0 Difference (compact_value tuple_key first.now) (compact_value tuple_key second.now))
+        (applied sum_rules 0 Difference (compact_value tuple_key first.now) (compact_value tuple_key second.now))
         (seed_hash seed) true) }
     ensures refused { Refuses result None true }
 {
@@ -270,7 +270,7 @@ fn combined<A: Allocator + Clone + Drop>(
     requires first_seed { first.now.seed_hash ≡ seed_hash seed }
     requires second_seed { second.now.seed_hash ≡ seed_hash seed }
     ensures value { IfOk result (IsAnswer tuple_key
-        (combined sum_rules lg_k operator (compact_value tuple_key first.now) (compact_value tuple_key second.now))
+        (applied sum_rules lg_k operator (compact_value tuple_key first.now) (compact_value tuple_key second.now))
         (seed_hash seed) true) }
     ensures refused { IfErr result (IsMergeError (
         MayRefuseTwo sum_rules operator (compact_value tuple_key first.now) (compact_value tuple_key second.now))) }

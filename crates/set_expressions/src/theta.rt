@@ -11,7 +11,7 @@ ghost use Rattle.core_laws.specs.declared.TheConstants.{MAX_THETA};
 ghost use Rattle.core_operators.specs.Intersection.{seed_refusal};
 ghost use Rattle.core_operators.specs.Union.{empty_union, union_value};
 ghost use Rattle.expression_text.specs.declared.operator.Operator.TheVariants.{Union, Intersection, Difference};
-ghost use Rattle.set_expressions.specs.Values.{combined, hash_rules};
+ghost use Rattle.set_expressions.specs.Values.{applied, hash_rules};
 ghost use Rattle.set_expressions.specs.Running.{is_accepted};
 
 use crate::family::SetFamily;
@@ -158,7 +158,7 @@ fn union_of<A: Allocator + Clone + Drop>(
     requires first_seed { first.now.seed_hash ≡ seed_hash seed }
     requires second_seed { second.now.seed_hash ≡ seed_hash seed }
     ensures value { IfOk result (
-        IsAnswer hash_key (combined hash_rules lg_k Union (compact_value hash_key first.now) (compact_value hash_key second.now)) (seed_hash seed) true) }
+        IsAnswer hash_key (applied hash_rules lg_k Union (compact_value hash_key first.now) (compact_value hash_key second.now)) (seed_hash seed) true) }
     ensures refused { Refuses result None true }
 {
     let mut union = new_union(alloc, seed, lg_k)?;
@@ -178,7 +178,7 @@ fn intersection_of<A: Allocator + Clone + Drop>(
     requires first_seed { first.now.seed_hash ≡ seed_hash seed }
     requires second_seed { second.now.seed_hash ≡ seed_hash seed }
     ensures value { IfOk result (
-        IsAnswer hash_key (combined hash_rules 0 Intersection (compact_value hash_key first.now) (compact_value hash_key second.now)) (seed_hash seed) true) }
+        IsAnswer hash_key (applied hash_rules 0 Intersection (compact_value hash_key first.now) (compact_value hash_key second.now)) (seed_hash seed) true) }
     ensures refused { Refuses result None true }
 {
     let mut intersection = ThetaIntersection::with_seed(alloc, seed)?;
@@ -198,7 +198,7 @@ fn difference_of<A: Allocator + Clone + Drop>(
     requires first_seed { first.now.seed_hash ≡ seed_hash seed }
     requires second_seed { second.now.seed_hash ≡ seed_hash seed }
     ensures value { IfOk result (IsAnswer hash_key
-        (combined hash_rules 0 Difference (compact_value hash_key first.now) (compact_value hash_key second.now)) (seed_hash seed) true) }
+        (applied hash_rules 0 Difference (compact_value hash_key first.now) (compact_value hash_key second.now)) (seed_hash seed) true) }
     ensures refused { Refuses result None true }
 {
     let difference = ThetaANotB::with_seed(seed)?;
@@ -218,7 +218,7 @@ fn combined<A: Allocator + Clone + Drop>(
     requires first_seed { first.now.seed_hash ≡ seed_hash seed }
     requires second_seed { second.now.seed_hash ≡ seed_hash seed }
     ensures value { IfOk result (IsAnswer hash_key
-        (combined hash_rules lg_k operator (compact_value hash_key first.now) (compact_value hash_key second.now)) (seed_hash seed) true) }
+        (applied hash_rules lg_k operator (compact_value hash_key first.now) (compact_value hash_key second.now)) (seed_hash seed) true) }
     ensures refused { Refuses result None true }
 {
     match operator {

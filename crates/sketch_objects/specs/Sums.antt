@@ -4,9 +4,7 @@ use Rattle.std.specs.Int.{w64, to_le_bytes}
 use Rattle.sketch_base.specs.Seed.{hash_of}
 use Rattle.core_compact.specs.CompactState.{Compact, IsAnswer}
 use Rattle.core_laws.specs.Insertion.{upsert_refusal, upsert_allocates}
-use Rattle.core_laws.specs.Step.{Step}
-use Rattle.core_policies.specs.Summaries.{update_step}
-use Rattle.core_policies.specs.Sums.{unsigned_sum}
+use Rattle.core_policies.specs.Sums.{adds}
 use Rattle.core_slots.specs.Entry.{tuple_key}
 use Rattle.core_slots.specs.declared.entry.TupleEntry.{TupleEntry}
 use Rattle.core_state.specs.Updatable.{Updatable, sketch_value}
@@ -31,10 +29,6 @@ IsNewSums lg_k start seed t = (t.seed ≡ seed) × ((sums_of t).empty ≡ true) 
 -- a copy of a sketch: the same entries, theta and settings
 abbrev pub IsSameSums : (old new : SeededSums) → Type 0
 IsSameSums old new = (new.seed ≡ old.seed) × ((sums_of new).empty ≡ (sums_of old).empty) × ((sums_of new).map ≡ (sums_of old).map)
-
--- the step that adds a value to the sum at a hash, which is 0 at first; a sum of 2^64 or more is refused
-abbrev pub adds : (hash value : ℕ) → Step (TupleEntry ℕ)
-adds hash value = update_step (Some 0) (unsigned_sum 64) hash value
 
 -- a value was added to the sum at a hash
 abbrev pub AcceptsValue : (hash value : ℕ) → (old new : Updatable (TupleEntry ℕ)) → Type 0

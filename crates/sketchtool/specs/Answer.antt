@@ -67,13 +67,13 @@ abbrev pub tuple_texts : Texts (TupleEntry ℕ)
 tuple_texts = record { line = tuple_line; image = written_tuples (λ summary. to_le_bytes w64 summary) }
 
 -- the text of `show`: the first lines, then the entries, one per line
-abbrev pub shown_text : {X : Type 0} → Texts X → Bool → ℕ → List X → List ℕ
-shown_text texts empty theta entries = shown_head empty theta (length entries) ++ flat_map texts.line entries
+abbrev pub show_lines : {X : Type 0} → Texts X → Bool → ℕ → List X → List ℕ
+show_lines texts empty theta entries = shown_head empty theta (length entries) ++ flat_map texts.line entries
 
 -- the text of `show` for a value: Empty has the greatest theta and no entries
 abbrev pub shown : {X : Type 0} → Texts X → Sketch X → List ℕ
-shown texts Empty = shown_text texts true MAX_THETA []
-shown texts (NonEmpty v) = shown_text texts false v.theta v.entries
+shown texts Empty = show_lines texts true MAX_THETA []
+shown texts (NonEmpty v) = show_lines texts false v.theta v.entries
 
 -- the text of `image` for a value: the image of its ordered sketch
 abbrev pub imaged : {X : Type 0} → Texts X → Sketch X → (seed_hash : ℕ) → List ℕ
@@ -81,7 +81,7 @@ imaged texts v seed_hash = hex_line (texts.image (ordered_sketch v seed_hash))
 
 -- the text of a sketch in a form
 abbrev pub sketch_text : {X : Type 0} → Texts X → Form → Compact X → List ℕ
-sketch_text texts Show s = shown_text texts s.empty s.theta s.entries
+sketch_text texts Show s = show_lines texts s.empty s.theta s.entries
 sketch_text texts Image s = hex_line (texts.image s)
 
 -- the text of a value in a form, under the default seed

@@ -6,10 +6,10 @@ use Rattle.sketchtool.specs.declared.run.Ending.TheVariants.{Answered, NotRead, 
 use Rattle.sketchtool.specs.Answer.{Answers}
 
 -- the exit status: the answer's, or 2 if a read or a write failed
-abbrev pub status_of : Ending → ℕ
-status_of (Answered status) = status
-status_of NotRead = 2
-status_of NotWritten = 2
+abbrev pub ending_status : Ending → ℕ
+ending_status (Answered status) = status
+ending_status NotRead = 2
+ending_status NotWritten = 2
 
 -- the text was written whole with this status, or a write failed
 abbrev pub Puts : List ℕ → ℕ → Ending → Option (List ℕ) → Option (List ℕ) → Type 0
@@ -19,7 +19,7 @@ Puts text status NotWritten old new = Unit {0}
 
 -- a run on an input: it wrote a text that answers the input with the status, and nothing else, unless a read or a write
 -- failed
-abbrev pub Ends : Type 0 → List ℕ → Ending → Option (List ℕ) → Option (List ℕ) → Type 0
-Ends Z input (Answered status) old new = (text : List ℕ) × Answers Z input status text × Appends old new text
-Ends Z input NotRead old new = Unit {0}
-Ends Z input NotWritten old new = Unit {0}
+abbrev pub EndsRun : Type 0 → List ℕ → Ending → Option (List ℕ) → Option (List ℕ) → Type 0
+EndsRun Z input (Answered status) old new = (text : List ℕ) × Answers Z input status text × Appends old new text
+EndsRun Z input NotRead old new = Unit {0}
+EndsRun Z input NotWritten old new = Unit {0}

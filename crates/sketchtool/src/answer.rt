@@ -2,7 +2,7 @@
 ghost use Rattle.std.specs.Prelude.{◌≡◌, ◌++◌, Some, OnOk, IfOk, string_bytes};
 ghost use Rattle.plan_text.specs.declared.command.Command.TheVariants.{Theta, Tuple};
 ghost use Rattle.core_state.specs.View.{shows, sequence};
-ghost use Rattle.sketchtool.specs.Answer.{Texts, Answers, AnswersCommand, theta_texts, tuple_texts, shown_head, shown_text, hex_byte, hex_line, sketch_text, fault_line, refusal_line};
+ghost use Rattle.sketchtool.specs.Answer.{Texts, Answers, AnswersCommand, theta_texts, tuple_texts, shown_head, show_lines, hex_byte, hex_line, sketch_text, fault_line, refusal_line};
 
 use core_operators::EntrySketch;
 use core_slots::{SlotEntry, ThetaEntry, TupleEntry};
@@ -67,7 +67,7 @@ fn show_text<'a, A: Allocator, E: ShownEntry + 'a, B: Allocator>(
 ) -> Result<String<A>, AllocError>
     ensures { IfOk result (λ text.
         string_bytes text
-        ≡ let shown = shows E.key sketch.entry in shown_text E.texts shown.empty shown.theta (sequence sketch.entry)) }
+        ≡ let shown = shows E.key sketch.entry in show_lines E.texts shown.empty shown.theta (sequence sketch.entry)) }
 {
     let mut text = String::new(alloc);
     put_head(

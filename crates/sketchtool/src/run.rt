@@ -1,7 +1,7 @@
 //! A whole run, over a reader and a writer.
 ghost use Rattle.std.specs.Prelude.{◌≡◌, IfOk, IfSome};
 ghost use Rattle.std.specs.Io.KnownBytes.{Keeps, IsAtEnd};
-ghost use Rattle.sketchtool.specs.Ending.{Puts, Ends, status_of};
+ghost use Rattle.sketchtool.specs.Ending.{Puts, EndsRun, ending_status};
 ghost use Rattle.sketchtool.specs.declared.run.Unread.TheVariants.{Memory};
 
 use crate::answer::answer;
@@ -63,7 +63,7 @@ pub enum Ending {
 impl Ending {
     /// The exit status: the answer's, or 2 if a read or a write failed.
     pub fn status(self) -> u8
-        ensures { result ≡ status_of self }
+        ensures { result ≡ ending_status self }
     {
         match self {
             Ending::Answered(status) => status,
@@ -92,7 +92,7 @@ pub fn run<A: Allocator + Clone, R: Read, W: Write>(
     reader: &mut R,
     writer: &mut W,
 ) -> Ending
-    ensures answered { IfSome (R.remaining reader.old) (λ input. Ends A input result (W.contents writer.old) (W.contents writer.new)) }
+    ensures answered { IfSome (R.remaining reader.old) (λ input. EndsRun A input result (W.contents writer.old) (W.contents writer.new)) }
     ensures unread { result ≡ Ending.NotRead → Keeps (W.contents writer.old) (W.contents writer.new) }
 {
     let Ok(own) = alloc.clone() else {

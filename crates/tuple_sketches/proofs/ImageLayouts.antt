@@ -11,15 +11,15 @@ use Rattle.core_images.specs.Summary.{SpellsTuple}
 use Rattle.core_images.specs.declared.preamble.Layout.{Layout}
 use Rattle.core_images.proofs.ImageLayouts.{along, chosen, flagged_from, flagged_to, either_whole, flagged_whole}
 use Rattle.tuple_sketches.specs.Image.{SpellsSketch, IsVersion, IsSketchType}
-use Rattle.tuple_sketches.specs.ImageLayout.{tuple_layout, is_version, is_sketch_type}
+use Rattle.tuple_sketches.specs.ImageLayout.{tuple_layout, is_read_version, is_sketch_type}
 
-version_test : (version : ℕ) → IsVersion version → is_version version ≡ true
+version_test : (version : ℕ) → IsVersion version → is_read_version version ≡ true
 version_test version read = elim read [ inl e ↦ rw e refl | inr e ↦ rw e refl ]
 
 type_test : (kind : ℕ) → IsSketchType kind → is_sketch_type kind ≡ true
 type_test kind read = elim read [ inl e ↦ rw e refl | inr e ↦ rw e refl ]
 
-version_tested : (version : ℕ) → is_version version ≡ true → IsVersion version
+version_tested : (version : ℕ) → is_read_version version ≡ true → IsVersion version
 version_tested version e = elim (cases_eq version 3) [ inl same ↦ inl same | inr other ↦ inr (grind (arith, nat_tests, e, other)) ]
 
 type_tested : (kind : ℕ) → is_sketch_type kind ≡ true → IsSketchType kind
@@ -36,7 +36,7 @@ module _ {S : Type 0} (Spells : List ℕ → S → Type 0) (bytes : List ℕ) (h
   unfolding tuple_layout
   begun s r =
       let b = r.begins in
-      let version : is_version (slice_index bytes 1) ≡ true = rw b.version_is (version_test r.version r.version_read) in
+      let version : is_read_version (slice_index bytes 1) ≡ true = rw b.version_is (version_test r.version r.version_read) in
       let kind = type_test (slice_index bytes 3) r.type_read in
       grind (arith, nat_tests, b.whole, b.longs_are, b.longs_low, b.longs_high, b.family_is, version, kind)
 
@@ -53,7 +53,7 @@ module _ {S : Type 0} (Spells : List ℕ → S → Type 0) (bytes : List ℕ) (h
       let family = slice_index bytes 2 in
       let kind = slice_index bytes 3 in
       let unfit = ltb (length bytes) 8 || not (leb 1 longs && leb longs 3) || not (eqb family 9) in
-      let known = is_version version && is_sketch_type kind in
+      let known = is_read_version version && is_sketch_type kind in
       let filled = cond known (flagged_layout bytes longs h) None in
       elim (choice unfit None filled s q) [
         | inl a ↦ absurd a.1
@@ -81,7 +81,7 @@ unfolding tuple_layout
 tuple_whole bytes h =
     let longs = slice_index bytes 0 in
     let unfit = ltb (length bytes) 8 || not (leb 1 longs && leb longs 3) || not (eqb (slice_index bytes 2) 9) in
-    let known = is_version (slice_index bytes 1) && is_sketch_type (slice_index bytes 3) in
+    let known = is_read_version (slice_index bytes 1) && is_sketch_type (slice_index bytes 3) in
     let filled = cond known (flagged_layout bytes longs h) None in
     either_whole bytes h unfit None filled (λ e. tt) (λ e.
     let low : 1 ≤ longs = grind (arith, nat_tests, e) in

@@ -4,8 +4,8 @@ use Rattle.core_images.specs.Preamble.{flagged_layout}
 use Rattle.core_images.specs.declared.preamble.Layout.{Layout}
 
 -- whether this version is read
-abbrev pub is_version : ℕ → Bool
-is_version version = version == 3 || version == 1
+abbrev pub is_read_version : ℕ → Bool
+is_read_version version = version == 3 || version == 1
 
 -- whether this sketch type is read
 abbrev pub is_sketch_type : ℕ → Bool
@@ -16,5 +16,5 @@ unfoldable pub tuple_layout : List ℕ → (h : ℕ) → Option Layout
 tuple_layout bytes h =
     let longs = slice_index bytes 0 in
     if nat_lt (length bytes) 8 || not (nat_le 1 longs && nat_le longs 3) || not (slice_index bytes 2 == 9) then None
-    else (if is_version (slice_index bytes 1) && is_sketch_type (slice_index bytes 3) then flagged_layout bytes longs h
+    else (if is_read_version (slice_index bytes 1) && is_sketch_type (slice_index bytes 3) then flagged_layout bytes longs h
     else None)

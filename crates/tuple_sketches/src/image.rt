@@ -10,7 +10,7 @@ ghost use Rattle.core_images.specs.Read.{IsRefused};
 ghost use Rattle.core_images.specs.Summary.{tuple_text};
 ghost use Rattle.core_laws.specs.Refusal.{Refuses};
 ghost use Rattle.tuple_sketches.specs.Image.{Reads, IsReadable, HasValues, written};
-ghost use Rattle.tuple_sketches.specs.ImageLayout.{is_version, is_sketch_type, tuple_layout};
+ghost use Rattle.tuple_sketches.specs.ImageLayout.{is_read_version, is_sketch_type, tuple_layout};
 
 use crate::compact_sketch::CompactTupleSketch;
 use core_images::{
@@ -37,7 +37,7 @@ pub const EMPTY_SKETCH_BYTES: [u8; 8] = [1, 3, 9, 1, 0, 0x1e, 0, 0];
 
 /// Whether images of this version are read.
 fn is_version(version: u8) -> bool
-    ensures { result ≡ is_version version }
+    ensures { result ≡ is_read_version version }
 {
     version == SERIAL_VERSION || version == SERIAL_VERSION_LEGACY
 }

@@ -20,7 +20,7 @@ use Rattle.plan_values.specs.Family.{tuple_folds}
 use Rattle.plan_values.specs.MergePlan.{only_unites}
 use Rattle.plan_values.specs.Value.{value_in, plan_refusal}
 use Rattle.plan_values.proofs.MergedSums.{retained_sums}
-use Rattle.plan_evaluation.specs.Answered.{HasKeys, IsSketchOf}
+use Rattle.plan_evaluation.specs.Answered.{HasKeys, IsOrderedSketchOf}
 
 module _ {X : Type 0} (key : X → ℕ) (k start : ℕ) (whole : List (Fold X)) where
   keys_marked : (xs : List X) → map (fold_key key) (map Value xs) ≡ map key xs
@@ -47,7 +47,7 @@ module _ {X : Type 0} (key : X → ℕ) (k start : ℕ) (whole : List (Fold X)) 
       }
 
   -- the k-minimum of these hashes, if they are the keys of the whole map
-  pub merged_keys : (hashes : List ℕ) (v : Sketch (Fold X)) (h : ℕ) (r : Result (State X) ErrorKind) → map (fold_key key) whole ≡ hashes → OnOk r (v ≡ NonEmpty (cut (fold_key key) k whole start)) → IfOk r (λ s. IsSketchOf key v h s) → IfOk r (HasKeys key (kmin k hashes start))
+  pub merged_keys : (hashes : List ℕ) (v : Sketch (Fold X)) (h : ℕ) (r : Result (State X) ErrorKind) → map (fold_key key) whole ≡ hashes → OnOk r (v ≡ NonEmpty (cut (fold_key key) k whole start)) → IfOk r (λ s. IsOrderedSketchOf key v h s) → IfOk r (HasKeys key (kmin k hashes start))
   merged_keys hashes v h (Ok s) keys merged is = subst (λ hs. HasKeys key (kmin k hs start) s) keys (has_keys (compact_value key s) h s is.1 (is.0 ∙ merged))
   merged_keys hashes v h (Err e) keys merged is = tt
 
@@ -60,6 +60,6 @@ module _ {S Z : Type 0} (whole_number : S → ℤ) (least greatest : ℤ) (zero 
   sums_of (NonEmpty v) hash s accepted unites is value h e found =
       retained_sums whole_number least greatest zero sums zero_is summed seed h p v e accepted unites (sym value) (sym (ap (λ (t : State (TupleEntry S)). entry_at tuple_key t.entries h) is) ∙ found)
 
-  pub summed_sketch : (hash : ℕ) (r : Result (State (TupleEntry S)) ErrorKind) → OnOk r (plan_refusal seed p ≡ None) → IfOk r (λ s. IsSketchOf tuple_key (value_in (tuple_folds (Some zero) sums sums) p) hash s) → only_unites p ≡ true → IfOk r IsSum
+  pub summed_sketch : (hash : ℕ) (r : Result (State (TupleEntry S)) ErrorKind) → OnOk r (plan_refusal seed p ≡ None) → IfOk r (λ s. IsOrderedSketchOf tuple_key (value_in (tuple_folds (Some zero) sums sums) p) hash s) → only_unites p ≡ true → IfOk r IsSum
   summed_sketch hash (Ok s) accepted is unites = sums_of (compact_value tuple_key s) hash s accepted unites is.1 is.0
   summed_sketch hash (Err e) accepted is unites = tt

@@ -14,7 +14,7 @@ use Rattle.plan_values.specs.Refusals.{may_refuse, must_refuse}
 use Rattle.plan_values.specs.Value.{value_in, value_of, plan_refusal}
 use Rattle.plan_values.proofs.PlansWithoutMarks.{theta_unmarked}
 use Rattle.plan_values.proofs.UnmarkedValues.{unmarked_distinct}
-use Rattle.plan_evaluation.specs.Answered.{IsSketchOf}
+use Rattle.plan_evaluation.specs.Answered.{IsOrderedSketchOf}
 use Rattle.plan_evaluation.specs.Parts.{IsFoldAnswer}
 use Rattle.plan_evaluation.specs.Refused.{IsPlanRefused}
 
@@ -24,12 +24,12 @@ module _ {X : Type 0} (key : X → ℕ) where
   ordered_is Empty h s answer = answer
   ordered_is (NonEmpty v) h s answer = λ i. record { empty = answer.nonempty i; entries = answer.in_order answer.ordered_if i; theta = answer.same_theta i; seed_hash = answer.same_seed i; ordered = answer.ordered_if i }
 
-  pub answers_ordered : {C : Type 0} (listed : C → State X) (v : Sketch (Fold X)) (h : ℕ) (own : Bool) (r : Result C ErrorKind) → IfOk r (λ c. IsFoldAnswer key v h (true || own) (listed c)) → IfOk r (λ c. IsSketchOf key v h (listed c))
+  pub answers_ordered : {C : Type 0} (listed : C → State X) (v : Sketch (Fold X)) (h : ℕ) (own : Bool) (r : Result C ErrorKind) → IfOk r (λ c. IsFoldAnswer key v h (true || own) (listed c)) → IfOk r (λ c. IsOrderedSketchOf key v h (listed c))
   answers_ordered listed v h own (Ok c) answer = (answer.0, ordered_is (compact_value key (listed c)) h (listed c) answer.1)
   answers_ordered listed v h own (Err e) answer = tt
 
 -- theta sketches have hashes for folds
-pub theta_sketch : {Z : Type 0} (p : Plan (Unit {0}) Z) (h : ℕ) (r : Result (State ℕ) ErrorKind) → IfOk r (λ s. IsSketchOf hash_key (value_in (folds_of hashes never) p) h s) → IfOk r (λ s. s ≡ ordered_sketch (value_of p) h)
+pub theta_sketch : {Z : Type 0} (p : Plan (Unit {0}) Z) (h : ℕ) (r : Result (State ℕ) ErrorKind) → IfOk r (λ s. IsOrderedSketchOf hash_key (value_in (folds_of hashes never) p) h s) → IfOk r (λ s. s ≡ ordered_sketch (value_of p) h)
 theta_sketch p h (Ok s) is = is.1 ∙ ap (λ v. ordered_sketch v h) (unmarked_distinct _ _ (is.0 ∙ theta_unmarked p))
 theta_sketch p h (Err e) is = tt
 

@@ -16,7 +16,7 @@ use Rattle.plan_text.specs.declared.command.Form.{Form}
 use Rattle.plan_text.specs.declared.command.Form.TheVariants.{Show, Image}
 use Rattle.plan_values.specs.Refusals.{must_refuse}
 use Rattle.plan_values.specs.Value.{value_of, value_in, fits, plan_refusal}
-use Rattle.plan_evaluation.specs.Answered.{IsSketchOf}
+use Rattle.plan_evaluation.specs.Answered.{IsOrderedSketchOf}
 use Rattle.sketchtool.specs.Answer.{Texts, theta_texts, tuple_texts, sums, AnswersCommand, shows, argument, policy, sketch_text, value_text, argument_line, policy_line, refusal_line, command_refusal, policy_may_refuse, policy_must_refuse}
 
 -- the text of an ordered sketch is that of its value
@@ -30,7 +30,7 @@ pub answers_value : {Z : Type 0} (form : Form) (plan : Plan (Unit {0}) Z) (sketc
     → text ≡ sketch_text theta_texts form sketch → AnswersCommand (Theta form plan) 0 text
 answers_value form plan sketch text accepted value is = λ input s. shows (Theta form plan) text s accepted refl (is ∙ ap (sketch_text theta_texts form) value ∙ ordered_text theta_texts form (value_of plan))
 
-pub answers_tuples : {Z : Type 0} (form : Form) (plan : Plan ℕ Z) (sketch : Compact (TupleEntry ℕ)) (text : List ℕ) → plan_refusal DEFAULT_UPDATE_SEED plan ≡ None → must_refuse sums DEFAULT_UPDATE_SEED plan ≡ false → IsSketchOf tuple_key (value_in sums plan) (seed_hash DEFAULT_UPDATE_SEED) sketch
+pub answers_tuples : {Z : Type 0} (form : Form) (plan : Plan ℕ Z) (sketch : Compact (TupleEntry ℕ)) (text : List ℕ) → plan_refusal DEFAULT_UPDATE_SEED plan ≡ None → must_refuse sums DEFAULT_UPDATE_SEED plan ≡ false → IsOrderedSketchOf tuple_key (value_in sums plan) (seed_hash DEFAULT_UPDATE_SEED) sketch
     → text ≡ sketch_text tuple_texts form sketch → AnswersCommand (Tuple form plan) 0 text
 answers_tuples form plan sketch text accepted unrefused value is =
     let v = compact_value tuple_key sketch in

@@ -2,7 +2,7 @@ use Rattle.std.proofs.Common.{◌≡◌, ℕ, ◌+◌, ◌++◌, [], eqb, length
 use Rattle.std.proofs.lemmas.List.{nil_from_length}
 use Rattle.core_laws.specs.Maps.{entry_at}
 use Rattle.core_slots.specs.SlotLayout.{filled}
-use Rattle.core_slots.specs.Rounds.{IsInRound, entry_count}
+use Rattle.core_slots.specs.Rounds.{IsInRound, hash_count}
 use Rattle.core_slots.proofs.Held.{length-content, two_parts}
 use Rattle.core_slots.proofs.SlotLayouts.{laid_out_empty}
 use Rattle.core_slots.proofs.Moves.{count-append}
@@ -41,7 +41,7 @@ settle-requires-clause-once g c =
     let from : ℕ = c.saturating_sub-from.result in
     let front = filled (map content (take from now)) in
     let part = filled (map content (drop from now)) in
-    rw (rest_part now from) (λ q. omega (arith, i.4.all q, i.4.once q, ap (λ xs. entry_count key q (filled (map content xs))) c.deref_mut.ensures.value, ap (entry_count key q) (two_parts content now from), count-append (λ x. eqb (key x) q) front part))
+    rw (rest_part now from) (λ q. omega (arith, i.4.all q, i.4.once q, ap (λ xs. hash_count key q (filled (map content xs))) c.deref_mut.ensures.value, ap (hash_count key q) (two_parts content now from), count-append (λ x. eqb (key x) q) front part))
 
 pub settle-requires-clause-room : goal.settle-requires-clause-room
 settle-requires-clause-room g c =
@@ -70,7 +70,7 @@ parts-preserved g c =
     let rest : filled (map content c.parts.left.items) ≡ front ++ part = ap (λ xs. filled (map content xs)) (sym c.deref_mut.ensures.value) ∙ two_parts content now from in
     let is : IsInRound key c.args.lg whole [] (front ++ part) slots 0 0 i.0 0 = subst (λ xs. IsInRound key c.args.lg whole [] xs slots 0 0 i.0 0) rest was in
     let found : (q : ℕ) → entry_at key (filled after) q ≡ entry_at key (part ++ filled slots) q = rw (rest_part now from) at c.settle.ensures.found in
-    let all : (q : ℕ) → entry_count key q (filled after) ≡ entry_count key q part + entry_count key q (filled slots) = rw (rest_part now from) at c.settle.ensures.all in
+    let all : (q : ℕ) → hash_count key q (filled after) ≡ hash_count key q part + hash_count key q (filled slots) = rw (rest_part now from) at c.settle.ensures.all in
     let count : length (filled after) ≡ length part + length (filled slots) = rw (rest_part now from) at c.settle.ensures.count in
     let placed : c.settle.new.placed ≡ c.parts.placed + length part = rw (rest_part now from) at c.settle.ensures.placed in
     rw left_is (

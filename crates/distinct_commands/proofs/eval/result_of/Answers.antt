@@ -2,7 +2,7 @@ use Rattle.std.proofs.Common.{◌∙◌, ℕ, true, subst}
 use Rattle.std.proofs.lemmas.List.{length-map}
 use Rattle.set_expressions.specs.Values.{hash_rules}
 use Rattle.set_expressions.specs.Running.{evaluation_refusal}
-use Rattle.expression_text.specs.Expressions.{IsWithin}
+use Rattle.expression_text.specs.Expressions.{HasIndicesBelow}
 use Rattle.line_sketches.proofs.Refused.{only_memory}
 use Rattle.distinct_commands.proofs.OnlyMemory.{sized}
 use Rattle.distinct_commands.proofs.WholeStreams.{evaluation_accepted}
@@ -15,5 +15,5 @@ out_of_memory-requires c =
     let sketches = c.args.sketches.now in
     let steps = c.as_slice-steps.result.now in
     let accepted = evaluation_accepted hash_rules c.args.seed options.lg_k steps sketches spelled.tree (sized options.lg_k c.args.seed options.low options.high c.requires.seed) c.requires.seeded
-    (subst (λ (n : ℕ). IsWithin n spelled.tree) (length-map c.args.expression.now.names.items _ ∙ c.requires.counted) spelled.within) (c.as_slice-steps.ensures.value ∙ spelled.steps_are) in
+    (subst (λ (n : ℕ). HasIndicesBelow n spelled.tree) (length-map c.args.expression.now.names.items _ ∙ c.requires.counted) spelled.within) (c.as_slice-steps.ensures.value ∙ spelled.steps_are) in
     (only_memory (evaluation_refusal c.args.seed options.lg_k steps sketches) true c.in-Err.error accepted c.in-Err.ensures.refused).0

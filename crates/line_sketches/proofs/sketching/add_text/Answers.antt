@@ -1,7 +1,7 @@
 use Rattle.std.proofs.Common.{◌≡◌, [], Result, Ok, Err, sym, ◌∙◌}
 use Rattle.std.specs.Prelude.{OnOk}
 use Rattle.lines.specs.Lines.{lines_of, lines_after}
-use Rattle.line_sketches.specs.Keys.{state_of, with_lines}
+use Rattle.line_sketches.specs.Keys.{line_state, with_lines}
 use Rattle.line_sketches.proofs.Takings.{takes_all}
 use Rattle.line_sketches.proofs.sketching.add_text.Goals as goal
 
@@ -12,6 +12,6 @@ on_ok (Err e) P Q holds then = tt
 pub returns-clause-lines : goal.returns-clause-lines
 returns-clause-lines g c =
     let takes = c.in_ok-lines.ensures.takes [] c.new-last.ensures in
-    on_ok c.take_last.result (state_of c.take_last.new.sketch ≡ with_lines c.args.hashing (state_of c.take_block.new.sketch) (lines_after takes.0 []))
-    (state_of c.take_last.new.sketch ≡ with_lines c.args.hashing (state_of c.args.sketch.now) (lines_of c.args.text.now)) (c.take_last.ensures.taken c.args.hashing takes.0 takes.1)
-    (λ is. is ∙ sym (takes_all c.args.hashing (state_of c.args.sketch.now) (state_of c.take_block.new.sketch) c.args.text.now takes.0 takes.2))
+    on_ok c.take_last.result (line_state c.take_last.new.sketch ≡ with_lines c.args.hashing (line_state c.take_block.new.sketch) (lines_after takes.0 []))
+    (line_state c.take_last.new.sketch ≡ with_lines c.args.hashing (line_state c.args.sketch.now) (lines_of c.args.text.now)) (c.take_last.ensures.taken c.args.hashing takes.0 takes.1)
+    (λ is. is ∙ sym (takes_all c.args.hashing (line_state c.args.sketch.now) (line_state c.take_block.new.sketch) c.args.text.now takes.0 takes.2))

@@ -1,14 +1,14 @@
 use Rattle.std.proofs.Common.{take}
-use Rattle.line_sketches.specs.Keys.{state_of}
+use Rattle.line_sketches.specs.Keys.{line_state}
 use Rattle.line_sketches.proofs.Takings.{leaves_lines}
 use Rattle.line_sketches.proofs.sketching.take_lines.Goals as goal
 
 pub returns-then-lines-lt-LINES_AT_ONCE-clause-leaves : goal.returns-then-lines-lt-LINES_AT_ONCE-clause-leaves
 returns-then-lines-lt-LINES_AT_ONCE-clause-leaves g c =
-    leaves_lines c.args.hashing (state_of c.args.sketch.now) c.take_some.sketch c.update_hashes.new.self c.args.text.now c.take_some.rest.now c.hash_lines-lines.result.1.now (take c.hash_lines-lines.result.0 c.hash_lines-lines.new.hashes)
+    leaves_lines c.args.hashing (line_state c.args.sketch.now) c.take_some.sketch c.update_hashes.new.self c.args.text.now c.take_some.rest.now c.hash_lines-lines.result.1.now (take c.hash_lines-lines.result.0 c.hash_lines-lines.new.hashes)
     c.take_some.invariant c.hash_lines-lines.ensures.lines c.in_ok-update_hashes.ensures.after c.in_ok-update_hashes.ensures.empty
 
 pub take_some-preserved : goal.take_some-preserved
 take_some-preserved g c =
-    leaves_lines c.args.hashing (state_of c.args.sketch.now) c.take_some.sketch c.update_hashes.new.self c.args.text.now c.take_some.rest.now c.hash_lines-lines.result.1.now (take c.hash_lines-lines.result.0 c.hash_lines-lines.new.hashes)
+    leaves_lines c.args.hashing (line_state c.args.sketch.now) c.take_some.sketch c.update_hashes.new.self c.args.text.now c.take_some.rest.now c.hash_lines-lines.result.1.now (take c.hash_lines-lines.result.0 c.hash_lines-lines.new.hashes)
     c.take_some.invariant c.hash_lines-lines.ensures.lines c.in_ok-update_hashes.ensures.after c.in_ok-update_hashes.ensures.empty

@@ -1,11 +1,11 @@
 use Rattle.std.proofs.Common.{length}
-use Rattle.line_sketches.specs.Keys.{state_of}
+use Rattle.line_sketches.specs.Keys.{line_state}
 use Rattle.line_sketches.specs.Taking.{Leaves}
 use Rattle.line_sketches.proofs.sketching.take_lines.Given as goal
 
 -- the lines so far are inserted, and the rest is left
 abbrev pub invariant-take_some : goal.invariant-take_some
-invariant-take_some g l = Leaves l.hashing (state_of l.fn.sketch) l.text (state_of l.sketch) l.rest
+invariant-take_some g l = Leaves l.hashing (line_state l.fn.sketch) l.text (line_state l.sketch) l.rest
 
 abbrev pub decreases-take_some : goal.decreases-take_some
 decreases-take_some g l = length l.rest

@@ -1,18 +1,18 @@
 use Rattle.std.proofs.Common.{◌≡◌}
 use Rattle.lines.specs.Lines.{lines_of_all}
-use Rattle.line_sketches.specs.Keys.{state_of, with_lines}
+use Rattle.line_sketches.specs.Keys.{line_state, with_lines}
 use Rattle.line_sketches.proofs.Turns.{leads_itself, leads_next, leads_end}
 use Rattle.line_sketches.proofs.sources.add_sources.Goals as goal
 
 pub loop-init : goal.loop-init
-loop-init g c = leads_itself c.args.hashing (g.S.Sources.texts c.args.sources.now) (state_of c.args.sketch.now)
+loop-init g c = leads_itself c.args.hashing (g.S.Sources.texts c.args.sources.now) (line_state c.args.sketch.now)
 
 pub loop-preserved : goal.loop-preserved
 loop-preserved g c =
     leads_next c.args.hashing g.S.Source.Read.remaining (g.S.Sources.texts c.args.sources.now) (g.S.Sources.texts c.loop.sources) (g.S.Sources.texts c.next_source.new.self)
-    (state_of c.args.sketch.now) (state_of c.loop.sketch) (state_of c.add_source.new.sketch) c.in-Ok-Some.field-0 c.in-Ok-Some.source c.loop.invariant c.in-Ok-Some.ensures c.in-Ok-Some.field-0-is c.in_ok-add_source-in-Ok-Some.ensures.lines
+    (line_state c.args.sketch.now) (line_state c.loop.sketch) (line_state c.add_source.new.sketch) c.in-Ok-Some.field-0 c.in-Ok-Some.source c.loop.invariant c.in-Ok-Some.ensures c.in-Ok-Some.field-0-is c.in_ok-add_source-in-Ok-Some.ensures.lines
 
 pub returns-in-Ok-None-clause-lines : goal.returns-in-Ok-None-clause-lines
 returns-in-Ok-None-clause-lines g c =
     leads_end c.args.hashing g.S.Source.Read.remaining (g.S.Sources.texts c.args.sources.now) (g.S.Sources.texts c.loop.sources) (g.S.Sources.texts c.next_source.new.self)
-    (state_of c.args.sketch.now) (state_of c.loop.sketch) c.in-Ok-None.field-0 (λ texts. state_of c.loop.sketch ≡ with_lines c.args.hashing (state_of c.args.sketch.now) (lines_of_all texts)) c.loop.invariant c.in-Ok-None.ensures c.in-Ok-None.field-0-is (λ texts is. is)
+    (line_state c.args.sketch.now) (line_state c.loop.sketch) c.in-Ok-None.field-0 (λ texts. line_state c.loop.sketch ≡ with_lines c.args.hashing (line_state c.args.sketch.now) (lines_of_all texts)) c.loop.invariant c.in-Ok-None.ensures c.in-Ok-None.field-0-is (λ texts is. is)

@@ -3,7 +3,7 @@ use Rattle.core_compact.specs.CompactState.{compact_value}
 use Rattle.core_compact.proofs.Answered.{answer-value}
 use Rattle.std.proofs.Common.{true, inl, inr}
 use Rattle.std.proofs.lemmas.Result.{err_from_is_err_and}
-use Rattle.set_expressions.specs.Values.{combined}
+use Rattle.set_expressions.specs.Values.{applied}
 use Rattle.set_expressions.proofs.RunSteps.{combined_last, refused_last}
 use Rattle.set_expressions.proofs.evaluation.combine_last.Goals as goal
 
@@ -14,7 +14,7 @@ returns-clause-ran g c =
     let second = c.in-Some.second in
     let sketch = c.in_ok-sketch.sketch in
     combined_last f.rules f.listed c.args.lg_k c.args.operator c.args.stack.now.items c.pop.new.self.items c.pop-2.new.self.items c.push.new.self.items first second sketch c.in-Some.ensures.items c.in-Some-pop.ensures.items c.in_ok-push.ensures.items
-    (answer-value f.rules.key (combined f.rules c.args.lg_k c.args.operator (compact_value f.rules.key (f.listed first)) (compact_value f.rules.key (f.listed second))) (seed_hash c.args.seed) true (f.listed sketch) c.in_ok-sketch.ensures.value)
+    (answer-value f.rules.key (applied f.rules c.args.lg_k c.args.operator (compact_value f.rules.key (f.listed first)) (compact_value f.rules.key (f.listed second))) (seed_hash c.args.seed) true (f.listed sketch) c.in_ok-sketch.ensures.value)
 
 pub returns-in_err-sketch-clause-refused : goal.returns-in_err-sketch-clause-refused
 returns-in_err-sketch-clause-refused g c =

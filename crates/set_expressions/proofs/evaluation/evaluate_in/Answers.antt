@@ -4,7 +4,7 @@ use Rattle.sketch_base.specs.Seed.{seed_hash}
 use Rattle.core_compact.specs.CompactState.{compact_value, ordered_sketch}
 use Rattle.core_laws.specs.Samples.{IsSample}
 use Rattle.set_expressions.specs.Values.{whole_in}
-use Rattle.set_expressions.specs.Running.{values_by, values_onto, only_value, are_accepted, refusal_by, AreOrdered, MayRefuse}
+use Rattle.set_expressions.specs.Running.{values_by, values_onto, only_value, are_accepted, refusal_by, AreOrderedSketches, MayRefuse}
 use Rattle.set_expressions.proofs.RunSteps.{step_missing, refused_next, refused_later, all_run, many_left, one_left, last_value, no_result, one_result, answer_sketch, ordered-last}
 use Rattle.set_expressions.proofs.TwoSketches.{error_of_memory, error_of_kind, error_of_merge}
 use Rattle.set_expressions.proofs.WholeSets.{expression_sample}
@@ -54,7 +54,7 @@ returns-clause-value g c = λ e is within.
     let rest = c.pop.new.self.items in
     let v = compact_value f.rules.key (f.listed last) in
     let ran = all_run f.rules f.listed lg values c.args.steps.now c.loop-step.step-index c.loop-step.stack.items rest last c.loop-step-test.false c.loop-step.invariant.ran c.in-Some.ensures.items in
-    let ordered = subst (λ xs. AreOrdered f.rules f.listed h xs) c.in-Some.ensures.items c.loop-step.invariant.ordered in
+    let ordered = subst (λ xs. AreOrderedSketches f.rules f.listed h xs) c.in-Some.ensures.items c.loop-step.invariant.ordered in
     answer_sketch f.rules.key v h (f.listed last) (ordered-last f.rules f.listed h rest last ordered)
     ∙ ap (λ u. ordered_sketch u h) (last_value f.rules f.named lg sketches c.args.steps.now v (values_onto f.rules f.listed rest []) e ran is within)
 

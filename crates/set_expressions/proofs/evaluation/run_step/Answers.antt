@@ -3,7 +3,7 @@ use Rattle.std.proofs.lemmas.Option.{slice_get_read}
 use Rattle.sketch_base.specs.Seed.{seed_hash}
 use Rattle.core_compact.specs.CompactState.{compact_value}
 use Rattle.core_compact.proofs.Answered.{answer-value}
-use Rattle.set_expressions.specs.Running.{AreOrdered}
+use Rattle.set_expressions.specs.Running.{AreOrderedSketches}
 use Rattle.set_expressions.proofs.RunSteps.{ordered-more, answer_own, operand_run}
 use Rattle.set_expressions.proofs.evaluation.run_step.Goals as goal
 
@@ -12,7 +12,7 @@ returns-in_ok-push-in-Operand-clause-ordered g c =
     let f = g.F.SetFamily in
     let h = seed_hash c.args.seed in
     let same = c.in_ok-same-in-Operand.same in
-    subst (λ xs. AreOrdered f.rules f.listed h xs) (sym c.in_ok-push-in-Operand.ensures.items)
+    subst (λ xs. AreOrderedSketches f.rules f.listed h xs) (sym c.in_ok-push-in-Operand.ensures.items)
     (ordered-more f.rules f.listed h c.args.stack.now.items same c.requires.ordered (answer_own f.rules.key (compact_value f.rules.key (f.named c.in-Some.sketch.now)) h (f.listed same) c.in_ok-same-in-Operand.ensures.value))
 
 pub returns-in_ok-push-in-Operand-clause-ran : goal.returns-in_ok-push-in-Operand-clause-ran

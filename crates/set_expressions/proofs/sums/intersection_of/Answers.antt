@@ -5,7 +5,7 @@ use Rattle.core_laws.specs.Values.{Sketch}
 use Rattle.core_slots.specs.Entry.{tuple_key}
 use Rattle.core_slots.specs.declared.entry.TupleEntry.{TupleEntry}
 use Rattle.set_expressions.specs.Sums.{IsRefusedMeet}
-use Rattle.set_expressions.specs.Values.{added}
+use Rattle.set_expressions.specs.Values.{sum_added}
 use Rattle.set_expressions.proofs.TwoSketches.{merge_error, met_one}
 use Rattle.set_expressions.proofs.sums.intersection_of.Goals as goal
 
@@ -22,5 +22,5 @@ returns-in_err-meet_sketch-2-clause-refused g c =
     let one = c.meet_sketch.new.intersection.state.result in
     let a = compact_value tuple_key c.args.first.now in
     let b = compact_value tuple_key c.args.second.now in
-    let met = met_one tuple_key added start one a a c.in_ok-intersection.ensures.value c.in_ok-meet_sketch.ensures.met (λ i. a) in
+    let met = met_one tuple_key sum_added start one a a c.in_ok-intersection.ensures.value c.in_ok-meet_sketch.ensures.met (λ i. a) in
     rw (p.1, p.2) (merge_error c.in_err-meet_sketch-2.field-0.0 (λ refused. subst (λ (o : Option (Sketch (TupleEntry _))). IsRefusedMeet o b) met refused) c.in_err-meet_sketch-2.ensures.refused)

@@ -7,7 +7,7 @@ use Rattle.core_laws.specs.Values.{Sketch}
 use Rattle.core_policies.specs.Summaries.{combined, combine_refused}
 use Rattle.core_slots.specs.Entry.{tuple_key}
 use Rattle.core_state.specs.View.{shows, sequence}
-use Rattle.set_expressions.specs.Values.{added}
+use Rattle.set_expressions.specs.Values.{sum_added}
 use Rattle.set_expressions.proofs.SumsRefused.{sums, agree, refused_meet}
 use Rattle.set_expressions.proofs.TwoSketches.{intersection_accepts}
 use Rattle.set_expressions.proofs.Unrefused.{met_plain}
@@ -17,8 +17,8 @@ pub returns-clause-met : goal.returns-clause-met
 returns-clause-met g c =
     let view = c.as_view.result in
     let old = c.args.intersection.now.state.result in
-    met_plain tuple_key (combined sums) added (combine_refused sums) agree (λ x y. refl) c.update.new.self.state.result old (shown_value tuple_key (shows tuple_key view) (sequence view)) c.in_ok-update.ensures.met
-    ∙ ap (λ (u : Sketch _). Some (meet_next tuple_key added old u)) c.as_view.ensures.value
+    met_plain tuple_key (combined sums) sum_added (combine_refused sums) agree (λ x y. refl) c.update.new.self.state.result old (shown_value tuple_key (shows tuple_key view) (sequence view)) c.in_ok-update.ensures.met
+    ∙ ap (λ (u : Sketch _). Some (meet_next tuple_key sum_added old u)) c.as_view.ensures.value
 
 pub returns-in_err-update-clause-refused : goal.returns-in_err-update-clause-refused
 returns-in_err-update-clause-refused g c =

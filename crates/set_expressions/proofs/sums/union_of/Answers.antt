@@ -4,7 +4,7 @@ use Rattle.sketch_base.specs.Seed.{seed_hash}
 use Rattle.core_compact.specs.CompactState.{compact_value}
 use Rattle.core_operators.specs.Union.{union_value}
 use Rattle.core_slots.specs.Entry.{tuple_key}
-use Rattle.set_expressions.specs.Values.{combined, added, sum_rules}
+use Rattle.set_expressions.specs.Values.{applied, sum_added, sum_rules}
 use Rattle.expression_text.specs.declared.operator.Operator.TheVariants.{Union}
 use Rattle.set_expressions.proofs.SumsRefused.{refused_part, refused_none}
 use Rattle.set_expressions.proofs.TwoSketches.{merge_error, same_answer, nothing_united, one_united, two_united, one_seed}
@@ -21,10 +21,10 @@ returns-clause-value g c =
     let b = compact_value tuple_key c.args.second.now in
     let made = c.in_ok-union.ensures.made in
     let made_one = c.in_ok-unite_sketch.ensures.made in
-    let first = one_united tuple_key added (λ x y same. same) lg h start one made made_one a (c.in_ok-unite_sketch.ensures.united [] (nothing_united tuple_key added (λ x y same. same) lg h start made)) in
-    same_answer tuple_key (union_value tuple_key two) (combined sum_rules lg Union a b) two.seed_hash h c.in_ok-sketch.sketch
-    (two_united tuple_key added (λ x y same. same) lg h start one made made_one two a b (c.in_ok-unite_sketch-2.ensures.united (a ∷ []) first))
-    (ap (λ u. u.seed_hash) c.in_ok-unite_sketch-2.ensures.made ∙ one_seed tuple_key added (λ x y same. same) lg h start one made made_one) c.in_ok-sketch.ensures.value
+    let first = one_united tuple_key sum_added (λ x y same. same) lg h start one made made_one a (c.in_ok-unite_sketch.ensures.united [] (nothing_united tuple_key sum_added (λ x y same. same) lg h start made)) in
+    same_answer tuple_key (union_value tuple_key two) (applied sum_rules lg Union a b) two.seed_hash h c.in_ok-sketch.sketch
+    (two_united tuple_key sum_added (λ x y same. same) lg h start one made made_one two a b (c.in_ok-unite_sketch-2.ensures.united (a ∷ []) first))
+    (ap (λ u. u.seed_hash) c.in_ok-unite_sketch-2.ensures.made ∙ one_seed tuple_key sum_added (λ x y same. same) lg h start one made made_one) c.in_ok-sketch.ensures.value
 
 pub returns-in_err-unite_sketch-clause-refused : goal.returns-in_err-unite_sketch-clause-refused
 returns-in_err-unite_sketch-clause-refused g c =

@@ -8,7 +8,7 @@ use Rattle.core_operators.specs.Union.{union_value}
 use Rattle.core_policies.specs.Summaries.{combined, combine_refused}
 use Rattle.core_slots.specs.Entry.{tuple_key}
 use Rattle.core_state.specs.View.{shows, sequence}
-use Rattle.set_expressions.specs.Values.{added}
+use Rattle.set_expressions.specs.Values.{sum_added}
 use Rattle.set_expressions.proofs.SumsRefused.{sums, agree, refused_join, has_part}
 use Rattle.set_expressions.proofs.TwoSketches.{union_accepts, one_more}
 use Rattle.set_expressions.proofs.Unrefused.{united_plain}
@@ -21,8 +21,8 @@ returns-clause-united g c = λ values so_far.
     let listing = sequence view in
     let old = c.args.union.now.state in
     let new = c.update.new.self.state in
-    one_more tuple_key added (λ x y same. same) old new s listing (compact_value tuple_key c.args.sketch.now) c.in_ok-update.ensures.skipped
-    (λ nonempty. united_plain tuple_key (combined sums) added (combine_refused sums) agree (λ x y. refl) (2 ^ old.lg_k) old.start (union_value tuple_key new) (union_value tuple_key old) (shown_value tuple_key s listing) (c.in_ok-update.ensures.united nonempty))
+    one_more tuple_key sum_added (λ x y same. same) old new s listing (compact_value tuple_key c.args.sketch.now) c.in_ok-update.ensures.skipped
+    (λ nonempty. united_plain tuple_key (combined sums) sum_added (combine_refused sums) agree (λ x y. refl) (2 ^ old.lg_k) old.start (union_value tuple_key new) (union_value tuple_key old) (shown_value tuple_key s listing) (c.in_ok-update.ensures.united nonempty))
     c.as_view-shown.ensures.value values so_far
 
 pub returns-clause-part : goal.returns-clause-part
