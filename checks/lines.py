@@ -226,7 +226,7 @@ def sums_flaw_of(image, own_hash):
         return "is not an image of sums"
     if image[2] != 9:
         named = f", the family of {FAMILIES[image[2] - 1]}" if 1 <= image[2] <= len(FAMILIES) else ""
-        return f"is not an image of sums (byte 3 is {image[2]}{named}, not 9)"
+        return f"is not an image of sums (the third byte is {image[2]}{named}, not 9)"
     if image[1] not in (1, 3):
         return f"is of version {image[1]}; versions 1 and 3 are read"
     if image[5] & 1:
@@ -296,7 +296,7 @@ def flaw_of(image, own_hash):
         return "is not the image of a theta sketch"
     if image[2] != 3:
         named = f", the family of {FAMILIES[image[2] - 1]}" if 1 <= image[2] <= len(FAMILIES) else ""
-        return f"is not the image of a theta sketch (byte 3 is {image[2]}{named}, not 3)"
+        return f"is not the image of a theta sketch (the third byte is {image[2]}{named}, not 3)"
     if not 1 <= image[1] <= 3:
         return f"is of version {image[1]}; versions 1 to 3 are read"
     if image[1] == 3 and image[5] & 1:

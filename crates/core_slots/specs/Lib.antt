@@ -2,6 +2,7 @@ pub mod Entry
 pub mod BorrowedSummary
 pub mod Probe
 pub mod SlotLayout
+pub mod Placing
 pub mod Moving
 pub mod Relaying
 pub mod Rounds

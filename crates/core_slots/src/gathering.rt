@@ -4,6 +4,7 @@ ghost use Rattle.std.specs.Prelude.{◌≡◌, ◌+◌, ◌-◌, ◌<◌, ◌≤
 ghost use Rattle.std.specs.List.{count_by};
 ghost use Rattle.core_laws.specs.Maps.{below};
 ghost use Rattle.core_slots.specs.SlotLayout.{filled, IsLaidOut, entries_in, slot_map};
+ghost use Rattle.core_slots.specs.Placing.{LooksForEach, LooksAtPlaced};
 
 use crate::count::Count;
 use crate::rounds::settle_all;
@@ -61,8 +62,8 @@ where
     ensures laid_out { IsLaidOut E.key lg (map E.content slots.new) }
     ensures map { slot_map E.key E.content slots.new ≡ below E.key (slot_map E.key E.content slots.old) theta }
     ensures placed { placed.new ≡ placed.old + count_by (λ x. nat_lt (E.key x) theta) (entries_in E.content slots.old) }
-    ensures looked { looks.old + (placed.new - placed.old) ≤ looks.new }
-    ensures looks { 2 * looks.new ≤ 2 * looks.old + (placed.new - placed.old) * (placed.new - placed.old + 1) }
+    ensures looked { LooksForEach (placed.new - placed.old) looks.old looks.new }
+    ensures looks { LooksAtPlaced (placed.new - placed.old) looks.old looks.new }
 {
     let mut gathered = others;
     let count = gather_below::<E>(slots, theta, &mut gathered);

@@ -7,6 +7,7 @@ ghost use Rattle.std.specs.Prelude.{◌≡◌, ℕ, ◌+◌, ◌-◌, ◌<◌, �
 ghost use Rattle.std.specs.List.{count_by};
 ghost use Rattle.core_laws.specs.Maps.{below, with_entry};
 ghost use Rattle.core_slots.specs.SlotLayout.{slot, IsOnPath, IsLaidOut, entries_in, slot_map};
+ghost use Rattle.core_slots.specs.Placing.{IsFreeFor, LooksForEach, LooksAtPlaced};
 ghost use Rattle.core_slots.specs.Relaying.{marked, IsFirstUnmarked};
 
 use crate::count::Count;
@@ -88,8 +89,8 @@ fn relay<E: SlotEntry>(
     ensures laid_out { IsLaidOut E.key lg (map E.content slots.new) }
     ensures map { slot_map E.key E.content slots.new ≡ below E.key (slot_map E.key E.content slots.old) theta }
     ensures placed { placed.new ≡ placed.old + count_by (λ x. nat_lt (E.key x) theta) (entries_in E.content slots.old) }
-    ensures looked { looks.old + (placed.new - placed.old) ≤ looks.new }
-    ensures looks { 2 * looks.new ≤ 2 * looks.old + (placed.new - placed.old) * (placed.new - placed.old + 1) }
+    ensures looked { LooksForEach (placed.new - placed.old) looks.old looks.new }
+    ensures looks { LooksAtPlaced (placed.new - placed.old) looks.old looks.new }
 {
     'pass: for at in 0..slots.len() {
         if !marks[at] {
@@ -122,8 +123,8 @@ pub fn keep_below<E: SlotEntry + Drop, A: Allocator + Clone>(
     ensures placed { OnOk result (placed.new ≡ placed.old + length (entries_in E.content slots.new.items)) }
     ensures err { OnErr result (slots.new.items ≡ slots.old.items) }
     ensures placed_err { OnErr result (placed.new ≡ placed.old) }
-    ensures looked { looks.old + (placed.new - placed.old) ≤ looks.new }
-    ensures looks { 2 * looks.new ≤ 2 * looks.old + (placed.new - placed.old) * (placed.new - placed.old + 1) }
+    ensures looked { LooksForEach (placed.new - placed.old) looks.old looks.new }
+    ensures looks { LooksAtPlaced (placed.new - placed.old) looks.old looks.new }
 {
     let mut marks = no_marks(slots.allocator().clone()?, lg)?;
     relay::<E>(slots, &mut marks, lg, theta, placed, looks);
@@ -151,11 +152,8 @@ pub fn put_kept<E: SlotEntry + Drop, A: Allocator + Clone>(
     looks: &mut Count,
 ) -> Result<(), AllocError>
     requires small { lg < 40 }
-    requires laid_out { IsLaidOut E.key lg (map E.content slots.old.items) }
+    requires place { IsFreeFor E.key lg (map E.content slots.old.items) at entry }
     requires inside { at < length slots.old.items }
-    requires free { slot (map E.content slots.old.items) at ≡ None }
-    requires on_path { IsOnPath E.key lg (map E.content slots.old.items) (E.key entry) at }
-    requires nonzero { 0 < E.key entry }
     requires kept { length (below E.key (with_entry E.key (slot_map E.key E.content slots.old.items) entry) theta) ≤ kept }
     requires limited { kept < 2 ^ 40 }
     ensures laid_out { OnOk result (IsLaidOut E.key lg (map E.content slots.new.items)) }
@@ -165,8 +163,8 @@ pub fn put_kept<E: SlotEntry + Drop, A: Allocator + Clone>(
     ensures placed { OnOk result (placed.new ≡ placed.old + length (entries_in E.content slots.new.items)) }
     ensures err { OnErr result (slots.new.items ≡ slots.old.items) }
     ensures placed_err { OnErr result (placed.new ≡ placed.old) }
-    ensures looked { looks.old + (placed.new - placed.old) ≤ looks.new }
-    ensures looks { 2 * looks.new ≤ 2 * looks.old + (placed.new - placed.old) * (placed.new - placed.old + 1) }
+    ensures looked { LooksForEach (placed.new - placed.old) looks.old looks.new }
+    ensures looks { LooksAtPlaced (placed.new - placed.old) looks.old looks.new }
 {
     if lg <= GATHERED_LG || are_words(slots) {
         let others = E::free_slots(slots.allocator().clone()?, kept + 1)?;

@@ -5,6 +5,7 @@
 ghost use Rattle.std.specs.Prelude.{◌≡◌, ℕ, ◌+◌, ◌-◌, ◌<◌, ◌≤◌, ◌^◌, ◌*◌, [], ◌++◌, None, is_none, if◌then◌else◌, length, map, set};
 ghost use Rattle.core_laws.specs.Maps.{IsApart, entry_at};
 ghost use Rattle.core_slots.specs.SlotLayout.{slot, IsLaidOut, entries_in, slot_map};
+ghost use Rattle.core_slots.specs.Placing.{LooksForEach, LooksAtPlaced};
 ghost use Rattle.core_slots.specs.Probe.{probe};
 ghost use Rattle.core_slots.specs.Rounds.{hash_count, entry_count_in, twice_sum_to};
 
@@ -88,7 +89,7 @@ fn settle<E: SlotEntry>(
         ≡ entry_count_in E.key E.content q left.old + entry_count_in E.key E.content q slots.old }
     ensures count { length (entries_in E.content slots.new) ≡ length (entries_in E.content left.old) + length (entries_in E.content slots.old) }
     ensures placed { placed.new ≡ placed.old + length (entries_in E.content left.old) }
-    ensures looked { looks.old + (placed.new - placed.old) ≤ looks.new }
+    ensures looked { LooksForEach (placed.new - placed.old) looks.old looks.new }
     ensures looks { 2 * looks.new + twice_sum_to (length (entries_in E.content slots.old))
         ≤ 2 * looks.old + twice_sum_to (length (entries_in E.content slots.new)) }
 {
@@ -138,8 +139,8 @@ pub(crate) fn settle_all<E: SlotEntry, A: Allocator>(
     ensures laid_out { IsLaidOut E.key lg (map E.content slots.new) }
     ensures map { slot_map E.key E.content slots.new ≡ slot_map E.key E.content left.old.items }
     ensures placed { placed.new ≡ placed.old + length (entries_in E.content left.old.items) }
-    ensures looked { looks.old + (placed.new - placed.old) ≤ looks.new }
-    ensures looks { 2 * looks.new ≤ 2 * looks.old + (placed.new - placed.old) * (placed.new - placed.old + 1) }
+    ensures looked { LooksForEach (placed.new - placed.old) looks.old looks.new }
+    ensures looks { LooksAtPlaced (placed.new - placed.old) looks.old looks.new }
 {
     'parts: loop {
         let count = left.len();

@@ -5,6 +5,7 @@ ghost use Rattle.std.specs.Option.{option_copied};
 ghost use Rattle.core_laws.specs.Entries.{hash_key};
 ghost use Rattle.core_laws.specs.Maps.{rank, entry_at, below, with_entry};
 ghost use Rattle.core_slots.specs.SlotLayout.{filled, slot, is_other, IsOnPath, IsLaidOut, entries_in, slot_map};
+ghost use Rattle.core_slots.specs.Placing.{IsFreeFor, LooksForEach, LooksAtPlaced};
 ghost use Rattle.core_slots.specs.Probe.{probe, stride};
 
 use crate::count::Count;
@@ -178,8 +179,8 @@ pub(crate) fn spread<E: SlotEntry, A: Allocator>(
     ensures laid_out { IsLaidOut E.key lg (map E.content slots.new) }
     ensures map { slot_map E.key E.content slots.new ≡ below E.key (slot_map E.key E.content from.old.items) theta }
     ensures placed { placed.new ≡ placed.old + count_by (λ x. nat_lt (E.key x) theta) (entries_in E.content from.old.items) }
-    ensures looked { looks.old + (placed.new - placed.old) ≤ looks.new }
-    ensures looks { 2 * looks.new ≤ 2 * looks.old + (placed.new - placed.old) * (placed.new - placed.old + 1) }
+    ensures looked { LooksForEach (placed.new - placed.old) looks.old looks.new }
+    ensures looks { LooksAtPlaced (placed.new - placed.old) looks.old looks.new }
 {
     while let Some(slot) = from.pop() {
         if let Some(hash) = hash_in::<E>(&slot) {
@@ -228,12 +229,9 @@ pub fn put_spread<E: SlotEntry + Drop, A: Allocator + Clone>(
     looks: &mut Count,
 ) -> Result<(), AllocError>
     requires small { new_lg < 40 }
-    requires laid_out { IsLaidOut E.key lg (map E.content slots.old.items) }
+    requires place { IsFreeFor E.key lg (map E.content slots.old.items) at entry }
     requires inside { at < length slots.old.items }
-    requires free { slot (map E.content slots.old.items) at ≡ None }
-    requires on_path { IsOnPath E.key lg (map E.content slots.old.items) (E.key entry) at }
     requires room { length (entries_in E.content slots.old.items) + 1 ≤ 2 ^ new_lg }
-    requires nonzero { 0 < E.key entry }
     ensures laid_out { OnOk result (IsLaidOut E.key new_lg (map E.content slots.new.items)) }
     ensures map { OnOk result (
         slot_map E.key E.content slots.new.items
@@ -241,8 +239,8 @@ pub fn put_spread<E: SlotEntry + Drop, A: Allocator + Clone>(
     ensures placed { OnOk result (placed.new ≡ placed.old + length (entries_in E.content slots.new.items)) }
     ensures err { OnErr result (slots.new.items ≡ slots.old.items) }
     ensures placed_err { OnErr result (placed.new ≡ placed.old) }
-    ensures looked { looks.old + (placed.new - placed.old) ≤ looks.new }
-    ensures looks { 2 * looks.new ≤ 2 * looks.old + (placed.new - placed.old) * (placed.new - placed.old + 1) }
+    ensures looked { LooksForEach (placed.new - placed.old) looks.old looks.new }
+    ensures looks { LooksAtPlaced (placed.new - placed.old) looks.old looks.new }
 {
     let mut others = free_slots::<E, A>(slots.allocator().clone()?, new_lg)?;
     slots[at] = entry.into_slot();

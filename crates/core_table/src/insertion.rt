@@ -4,6 +4,7 @@ ghost use Rattle.core_laws.specs.Cuts.{cut};
 ghost use Rattle.core_laws.specs.Maps.{with_entry};
 ghost use Rattle.core_laws.specs.Refusal.{Refuses};
 ghost use Rattle.core_slots.specs.SlotLayout.{slot, IsLaidOut, entries_in, slot_map};
+ghost use Rattle.core_slots.specs.Placing.{LooksForEach, LooksAtPlaced};
 ghost use Rattle.core_table.specs.HashTable.{threshold, HasSize, sub_multiple, ticked, ticked_if, size_after, count_after};
 ghost use Rattle.core_table.specs.Insertion.{HasPlaceFor, kept_in, after_put, grown, IsCutOf, IsWritten};
 
@@ -114,9 +115,8 @@ pub(crate) fn put_entry<E: SlotEntry + Drop, A: Allocator + Clone>(
     ensures count { IfOk result (λ s. s.count ≡ count_after sizes.lg_cur sizes.lg_nom sizes.count) }
     ensures room { sizes.count < threshold sizes.lg_cur sizes.lg_nom → IsOk result }
     ensures err { OnErr result (slots.new.items ≡ slots.old.items) }
-    ensures looks { 2 * counts.new.looks
-        ≤ 2 * counts.old.looks + (counts.new.placed - counts.old.placed) * (counts.new.placed - counts.old.placed + 1) }
-    ensures looked { counts.old.looks + (counts.new.placed - counts.old.placed) ≤ counts.new.looks }
+    ensures looks { LooksAtPlaced (counts.new.placed - counts.old.placed) counts.old.looks counts.new.looks }
+    ensures looked { LooksForEach (counts.new.placed - counts.old.placed) counts.old.looks counts.new.looks }
     ensures ticked { OnOk result (counts.new ≡ record (ticked sizes.lg_cur sizes.lg_nom sizes.count counts.old) { looks = counts.new.looks }) }
     ensures unticked { OnErr result (counts.new ≡ record counts.old { looks = counts.new.looks }) }
 {
@@ -158,9 +158,8 @@ fn overflow<E: SlotEntry + Drop, A: Allocator + Clone>(
     ensures most { IfOk result (λ s. s.most ≡ threshold s.lg_cur sizes.lg_nom) }
     ensures count { IfOk result (λ s. s.count ≡ count_after sizes.lg_cur sizes.lg_nom sizes.count) }
     ensures err { OnErr result (slots.new.items ≡ slots.old.items) }
-    ensures looks { 2 * counts.new.looks
-        ≤ 2 * counts.old.looks + (counts.new.placed - counts.old.placed) * (counts.new.placed - counts.old.placed + 1) }
-    ensures looked { counts.old.looks + (counts.new.placed - counts.old.placed) ≤ counts.new.looks }
+    ensures looks { LooksAtPlaced (counts.new.placed - counts.old.placed) counts.old.looks counts.new.looks }
+    ensures looked { LooksForEach (counts.new.placed - counts.old.placed) counts.old.looks counts.new.looks }
     ensures ticked { OnOk result (counts.new ≡ record (ticked sizes.lg_cur sizes.lg_nom sizes.count counts.old) { looks = counts.new.looks }) }
     ensures unticked { OnErr result (counts.new ≡ record counts.old { looks = counts.new.looks }) }
 {
@@ -189,9 +188,8 @@ fn grow<E: SlotEntry + Drop, A: Allocator + Clone>(
     ensures after { OnOk result (slot_map E.key E.content slots.new.items ≡ with_entry E.key (slot_map E.key E.content slots.old.items) entry) }
     ensures same { IfOk result (λ s. s ≡ grown sizes) }
     ensures err { OnErr result (slots.new.items ≡ slots.old.items) }
-    ensures looks { 2 * counts.new.looks
-        ≤ 2 * counts.old.looks + (counts.new.placed - counts.old.placed) * (counts.new.placed - counts.old.placed + 1) }
-    ensures looked { counts.old.looks + (counts.new.placed - counts.old.placed) ≤ counts.new.looks }
+    ensures looks { LooksAtPlaced (counts.new.placed - counts.old.placed) counts.old.looks counts.new.looks }
+    ensures looked { LooksForEach (counts.new.placed - counts.old.placed) counts.old.looks counts.new.looks }
     ensures ticked { OnOk result (counts.new ≡ record (ticked_if false true (2 ^ sizes.lg_nom) sizes.count counts.old) { looks = counts.new.looks }) }
     ensures unticked { OnErr result (counts.new ≡ record counts.old { looks = counts.new.looks }) }
 {
@@ -237,9 +235,8 @@ fn rebuild<E: SlotEntry + Drop, A: Allocator + Clone>(
     ensures same { IfOk result (λ s. s ≡ record sizes { count = 2 ^ sizes.lg_nom; theta = s.theta }) }
     ensures count { OnOk result (length (entries_in E.content slots.new.items) ≡ 2 ^ sizes.lg_nom) }
     ensures err { OnErr result (slots.new.items ≡ slots.old.items) }
-    ensures looks { 2 * counts.new.looks
-        ≤ 2 * counts.old.looks + (counts.new.placed - counts.old.placed) * (counts.new.placed - counts.old.placed + 1) }
-    ensures looked { counts.old.looks + (counts.new.placed - counts.old.placed) ≤ counts.new.looks }
+    ensures looks { LooksAtPlaced (counts.new.placed - counts.old.placed) counts.old.looks counts.new.looks }
+    ensures looked { LooksForEach (counts.new.placed - counts.old.placed) counts.old.looks counts.new.looks }
     ensures ticked { OnOk result (
         counts.new
         ≡ record (ticked_if false false (2 ^ sizes.lg_nom) sizes.count counts.old) { looks = counts.new.looks }) }

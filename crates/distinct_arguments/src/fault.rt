@@ -209,7 +209,7 @@ impl fmt::Display for Fault {
             ),
             Fault::LoneField => write!(f, "--field needs --keys"),
             Fault::LoneSum => write!(f, "sum needs --value N, the field of its numbers"),
-            Fault::LoneSeparator => write!(f, "--separator needs --field or --by"),
+            Fault::LoneSeparator => write!(f, "--separator needs --field, --by or --value"),
             Fault::SummedKeys => write!(
                 f,
                 "--sums reads images, without --keys: make them of lines by sketch --value N"
@@ -224,7 +224,7 @@ impl fmt::Display for Fault {
             ),
             Fault::SummedBounds => write!(
                 f,
-                "--sums prints a total without bounds: leave --bounds out"
+                "--sums prints a total without bounds: drop --bounds"
             ),
             Fault::LoneGroups => write!(f, "--by needs --hex or --output-dir"),
             Fault::LoneOrder => write!(f, "--sort orders groups: pass --by N too"),

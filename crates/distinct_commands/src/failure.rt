@@ -166,11 +166,11 @@ impl fmt::Display for Defect<'_> {
             Flaw::Family(family) => match family_name(*family) {
                 Some(sketches) => write!(
                     f,
-                    "is not the image of a theta sketch (byte 3 is {family}, the family of {sketches}, not 3)"
+                    "is not the image of a theta sketch (the third byte is {family}, the family of {sketches}, not 3)"
                 ),
                 None => write!(
                     f,
-                    "is not the image of a theta sketch (byte 3 is {family}, not 3)"
+                    "is not the image of a theta sketch (the third byte is {family}, not 3)"
                 ),
             },
             Flaw::Version(version) => write!(
@@ -206,9 +206,9 @@ impl fmt::Display for SumsDefect<'_> {
             Flaw::Family(family) => match family_name(*family) {
                 Some(sketches) => write!(
                     f,
-                    "is not an image of sums (byte 3 is {family}, the family of {sketches}, not 9)"
+                    "is not an image of sums (the third byte is {family}, the family of {sketches}, not 9)"
                 ),
-                None => write!(f, "is not an image of sums (byte 3 is {family}, not 9)"),
+                None => write!(f, "is not an image of sums (the third byte is {family}, not 9)"),
             },
             Flaw::Version(version) => write!(
                 f,

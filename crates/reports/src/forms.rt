@@ -1,7 +1,7 @@
 //! The lines that are written of a report. Each ends in LF, and fails only if memory is refused.
 ghost use Rattle.std.specs.Prelude.{◌≡◌, ◌++◌, IfOk, OnOk, string_bytes};
 ghost use Rattle.std.specs.Option.{option_map};
-ghost use Rattle.reports.specs.Forms.{count_line, json_fields, json_head, json_line, shown_estimate, shown_line, truth, tsv_head, tsv_name, tsv_row};
+ghost use Rattle.reports.specs.Forms.{count_line, json_fields, json_head, json_line, shown_estimate, shown_line, tsv_head, tsv_name, tsv_row};
 ghost use Rattle.reports.specs.Names.{escaped_name};
 
 use crate::names::{escaped_name, put_json_string};
@@ -58,13 +58,6 @@ pub fn shown_line<A: Allocator>(
     Ok(line)
 }
 
-/// `true` or `false`.
-fn truth(holds: bool) -> &'static str
-    ensures { result.now ≡ truth holds }
-{
-    if holds { "true" } else { "false" }
-}
-
 /// The first line of a table of reports: the names of its columns, separated by tabs, with `name` in front if its rows
 /// are named.
 pub fn tsv_head<A: Allocator>(alloc: A, named: bool) -> Result<String<A>, AllocError>
@@ -104,7 +97,7 @@ pub fn tsv_row<A: Allocator>(
     let estimate = report.estimate;
     let lower = report.interval.lower;
     let upper = report.interval.upper;
-    let exact = truth(report.exact);
+    let exact = report.exact;
     let retained = report.retained;
     let theta = report.theta;
     let mut row = row_name(alloc, name)?;
@@ -138,7 +131,7 @@ pub(crate) fn put_fields<A: Allocator>(
     let estimate = report.estimate;
     let lower = report.interval.lower;
     let upper = report.interval.upper;
-    let exact = truth(report.exact);
+    let exact = report.exact;
     let retained = report.retained;
     let theta = report.theta;
     write!(

@@ -1,14 +1,10 @@
 -- The lines that are written of a total. Each ends in LF.
-use Rattle.std.specs.Prelude.{ℕ, ◌++◌, Bool, List, codes, decimal, if◌then◌else◌}
+use Rattle.std.specs.Prelude.{ℕ, ◌++◌, List, codes, decimal, if◌then◌else◌}
 use Rattle.totals.specs.declared.total.Total.{Total}
 
 -- the line of a total alone
 abbrev pub total_line : Total → List ℕ
 total_line t = decimal t.total ++ codes "\n"
-
--- a truth value in a table and in JSON
-abbrev pub truth : Bool → List ℕ
-truth b = if b then codes "true" else codes "false"
 
 -- the names of a table's columns, with tabs between them
 abbrev pub total_tsv_head : List ℕ
@@ -18,7 +14,7 @@ total_tsv_head = codes "total\texact\tretained\ttheta\n"
 abbrev pub total_tsv_row : Total → List ℕ
 total_tsv_row t =
     decimal t.total
-    ++ codes "\t" ++ truth t.exact
+    ++ codes "\t" ++ (if t.exact then codes "true" else codes "false")
     ++ codes "\t" ++ decimal t.retained
     ++ codes "\t" ++ decimal t.theta
     ++ codes "\n"
@@ -27,7 +23,7 @@ total_tsv_row t =
 abbrev pub total_json_line : Total → List ℕ
 total_json_line t =
     codes "{\"total\":" ++ decimal t.total
-    ++ codes ",\"exact\":" ++ truth t.exact
+    ++ codes ",\"exact\":" ++ (if t.exact then codes "true" else codes "false")
     ++ codes ",\"retained\":" ++ decimal t.retained
     ++ codes ",\"theta\":" ++ decimal t.theta
     ++ codes "}\n"

@@ -1,6 +1,6 @@
 //! The lines that are written of a total. Each ends in LF, and fails only if memory is refused.
 ghost use Rattle.std.specs.Prelude.{◌≡◌, IfOk, string_bytes};
-ghost use Rattle.totals.specs.Forms.{total_json_line, total_line, total_tsv_head, total_tsv_row, truth};
+ghost use Rattle.totals.specs.Forms.{total_json_line, total_line, total_tsv_head, total_tsv_row};
 
 use crate::total::Total;
 use std::alloc::{AllocError, Allocator};
@@ -11,13 +11,6 @@ pub fn total_line<A: Allocator>(alloc: A, total: Total) -> Result<String<A>, All
 {
     let number = total.total;
     format!(in alloc; "{number}\n")
-}
-
-/// `true` or `false`.
-fn truth(holds: bool) -> &'static str
-    ensures { result.now ≡ truth holds }
-{
-    if holds { "true" } else { "false" }
 }
 
 /// The first line of a table of totals: the names of its columns, separated by tabs.
@@ -31,10 +24,9 @@ pub fn total_tsv_head<A: Allocator>(alloc: A) -> Result<String<A>, AllocError>
 pub fn total_tsv_row<A: Allocator>(alloc: A, total: Total) -> Result<String<A>, AllocError>
     ensures { IfOk result (λ text. string_bytes text ≡ total_tsv_row total) }
 {
-    let exact = truth(total.exact);
     format!(in alloc;
-        "{}\t{exact}\t{}\t{}\n",
-        total.total, total.retained, total.theta
+        "{}\t{}\t{}\t{}\n",
+        total.total, total.exact, total.retained, total.theta
     )
 }
 
@@ -43,7 +35,7 @@ pub fn total_json_line<A: Allocator>(alloc: A, total: Total) -> Result<String<A>
     ensures { IfOk result (λ text. string_bytes text ≡ total_json_line total) }
 {
     let number = total.total;
-    let exact = truth(total.exact);
+    let exact = total.exact;
     let retained = total.retained;
     let theta = total.theta;
     let mut line = String::from_str(alloc, "{\"total\":")?;

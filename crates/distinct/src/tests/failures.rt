@@ -169,12 +169,12 @@ fn prints_each_failure(rt: HostRuntime) -> Result<(), Fail> {
         (
             Kind::NoSketch(Flaw::Family(7)),
             1,
-            "it: is not the image of a theta sketch (byte 3 is 7, the family of HLL sketches, not 3)",
+            "it: is not the image of a theta sketch (the third byte is 7, the family of HLL sketches, not 3)",
         ),
         (
             Kind::NoSketch(Flaw::Family(50)),
             1,
-            "it: is not the image of a theta sketch (byte 3 is 50, not 3)",
+            "it: is not the image of a theta sketch (the third byte is 50, not 3)",
         ),
         (
             Kind::NoSketch(Flaw::Version(4)),

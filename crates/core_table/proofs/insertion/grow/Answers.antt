@@ -42,7 +42,7 @@ returns-clause-ticked g c =
     let after = map content c.put_spread.new.slots.items in
     let inside : c.args.at < length slots = omega (arith, c.requires.inside, length-content content c.args.slots.now.items) in
     let many : length (filled after) ≡ c.args.sizes.count + 1 =
-    omega (arith, c.requires.place.counted, joined_count key c.args.sizes.lg_cur c.args.at c.args.entry slots c.requires.place.laid_out inside c.requires.place.free c.requires.place.on_path, ap length (returns-clause-after g c), length-map_of key c.min-lg_cur.result after c.in_ok-put_spread.ensures.laid_out) in
+    omega (arith, c.requires.place.counted, joined_count key c.args.sizes.lg_cur c.args.at c.args.entry slots c.requires.place.free_slot.laid_out inside c.requires.place.free_slot.free c.requires.place.free_slot.on_path, ap length (returns-clause-after g c), length-map_of key c.min-lg_cur.result after c.in_ok-put_spread.ensures.laid_out) in
     rw (c.tick.ensures, c.tick-2.ensures, c.in_ok-put_spread.ensures.placed, many) refl
 
 pub returns-clause-looked : goal.returns-clause-looked

@@ -26,7 +26,7 @@ returns-then-full-clause-counted g c =
     let s = c.args.sizes in
     let inside : c.args.at < length slots = omega (arith, c.requires.inside, length-content content c.args.slots.now.items) in
     let one = c.in_ok-wider.ensures in
-    ap (λ z. z.count) one.same ∙ omega (arith, c.requires.place.counted, joined_count key s.lg_cur c.args.at c.args.entry slots c.requires.place.laid_out inside c.requires.place.free c.requires.place.on_path, ap length one.after, length-map_of key c.in_ok-wider.wider.lg_cur after one.laid_out)
+    ap (λ z. z.count) one.same ∙ omega (arith, c.requires.place.counted, joined_count key s.lg_cur c.args.at c.args.entry slots c.requires.place.free_slot.laid_out inside c.requires.place.free_slot.free c.requires.place.free_slot.on_path, ap length one.after, length-map_of key c.in_ok-wider.wider.lg_cur after one.laid_out)
 
 pub returns-then-full-clause-after : goal.returns-then-full-clause-after
 returns-then-full-clause-after g c =
@@ -39,7 +39,7 @@ returns-then-full-clause-after g c =
     let wide = grown s.lg_cur _ s.lg_nom s.grow s.count c.requires.place.sized c.if-full.true refl in
     ap (λ ys. record { entries = ys; theta = c.in_ok-wider.wider.theta }) one.after
     ∙ ap (λ (t : ℕ). record { entries = with_entry key (map_of key (filled slots)) c.args.entry; theta = t }) (ap (λ z. z.theta) one.same)
-    ∙ sym (not_rebuilt key s.lg_cur c.args.at c.args.entry slots c.requires.place.laid_out inside c.requires.place.free c.requires.place.on_path s.lg_nom s.theta (inr (omega (arith, c.requires.place.counted, wide.limited))))
+    ∙ sym (not_rebuilt key s.lg_cur c.args.at c.args.entry slots c.requires.place.free_slot.laid_out inside c.requires.place.free_slot.free c.requires.place.free_slot.on_path s.lg_nom s.theta (inr (omega (arith, c.requires.place.counted, wide.limited))))
 
 pub returns-then-full-clause-sized : goal.returns-then-full-clause-sized
 returns-then-full-clause-sized g c =

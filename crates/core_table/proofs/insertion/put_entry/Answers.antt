@@ -13,14 +13,14 @@ returns-then-more-sizes-clause-laid_out g c =
     let content = g.E.PathEntry.content in
     let slots = map content c.args.slots.now.items in
     rw (map-set content c.args.slots.now.items c.args.at c.into_slot.result, c.into_slot.ensures)
-    (laid_out_new key c.args.sizes.lg_cur slots c.args.at c.args.entry c.requires.place.laid_out (omega (arith, c.requires.inside, length-content content c.args.slots.now.items)) c.requires.place.free c.requires.place.on_path)
+    (laid_out_new key c.args.sizes.lg_cur slots c.args.at c.args.entry c.requires.place.free_slot.laid_out (omega (arith, c.requires.inside, length-content content c.args.slots.now.items)) c.requires.place.free_slot.free c.requires.place.free_slot.on_path)
 
 pub returns-then-more-sizes-clause-counted : goal.returns-then-more-sizes-clause-counted
 returns-then-more-sizes-clause-counted g c =
     let content = g.E.PathEntry.content in
     let slots = map content c.args.slots.now.items in
     rw (map-set content c.args.slots.now.items c.args.at c.into_slot.result, c.into_slot.ensures)
-    (omega (arith, c.requires.place.counted, filled_new slots c.args.at c.args.entry (omega (arith, c.requires.inside, length-content content c.args.slots.now.items)) c.requires.place.free))
+    (omega (arith, c.requires.place.counted, filled_new slots c.args.at c.args.entry (omega (arith, c.requires.inside, length-content content c.args.slots.now.items)) c.requires.place.free_slot.free))
 
 pub returns-then-more-sizes-clause-after : goal.returns-then-more-sizes-clause-after
 returns-then-more-sizes-clause-after g c =
@@ -31,8 +31,8 @@ returns-then-more-sizes-clause-after g c =
     let inside : c.args.at < length slots = omega (arith, c.requires.inside, length-content content c.args.slots.now.items) in
     let limited : c.args.sizes.count + 1 ≤ threshold c.args.sizes.lg_cur c.args.sizes.lg_nom = omega (arith, c.if-more-sizes.true, c.requires.place.bounded) in
     rw (map-set content c.args.slots.now.items c.args.at c.into_slot.result, c.into_slot.ensures)
-    (ap (λ ys. record { entries = ys; theta = c.args.sizes.theta }) (joins key s.lg_cur c.args.at c.args.entry slots c.requires.place.laid_out inside c.requires.place.free c.requires.place.on_path)
-    ∙ sym (not_rebuilt key s.lg_cur c.args.at c.args.entry slots c.requires.place.laid_out inside c.requires.place.free c.requires.place.on_path s.lg_nom s.theta
+    (ap (λ ys. record { entries = ys; theta = c.args.sizes.theta }) (joins key s.lg_cur c.args.at c.args.entry slots c.requires.place.free_slot.laid_out inside c.requires.place.free_slot.free c.requires.place.free_slot.on_path)
+    ∙ sym (not_rebuilt key s.lg_cur c.args.at c.args.entry slots c.requires.place.free_slot.laid_out inside c.requires.place.free_slot.free c.requires.place.free_slot.on_path s.lg_nom s.theta
     (elim (cases_lt s.lg_nom 3) [
       | inl lt ↦ inl lt
       | inr ge ↦ inr (omega (arith, limited, c.requires.place.counted, threshold_most s.lg_cur s.lg_nom s.grow s.count c.requires.place.sized ge))

@@ -10,7 +10,7 @@ pub hash_of_rank-requires-clause-apart : goal.hash_of_rank-requires-clause-apart
 hash_of_rank-requires-clause-apart g c =
     let key = g.E.SketchEntry.key in
     let slots = map g.E.PathEntry.content c.args.slots.now.items in
-    rw (c.deref.ensures.value, c.hash.ensures) (apart-hashes key (c.args.entry ∷ filled slots) (apart-more key c.args.sizes.lg_cur c.args.at c.args.entry slots c.requires.place.laid_out c.requires.place.on_path c.requires.place.free))
+    rw (c.deref.ensures.value, c.hash.ensures) (apart-hashes key (c.args.entry ∷ filled slots) (apart-more key c.args.sizes.lg_cur c.args.at c.args.entry slots c.requires.place.free_slot.laid_out c.requires.place.free_slot.on_path c.requires.place.free_slot.free))
 
 pub hash_of_rank-requires-clause-counted : goal.hash_of_rank-requires-clause-counted
 hash_of_rank-requires-clause-counted g c =
@@ -26,7 +26,7 @@ put_kept-requires-clause-kept g c =
     let slots = map g.E.PathEntry.content c.args.slots.now.items in
     let reported : HasRank (c.hash.result ∷ map key (filled slots)) c.nominal_size-nominal.result c.in_ok-cut_theta.cut_theta = rw c.deref.ensures.value at c.in_ok-cut_theta.ensures.ranked in
     let ranked : HasRank (key c.args.entry ∷ map key (filled slots)) c.nominal_size-nominal.result c.in_ok-cut_theta.cut_theta = rw c.hash.ensures at reported in
-    omega (arith, kept_count key c.nominal_size-nominal.result c.in_ok-cut_theta.cut_theta c.args.entry (filled slots) (apart-more key c.args.sizes.lg_cur c.args.at c.args.entry slots c.requires.place.laid_out c.requires.place.on_path c.requires.place.free) ranked)
+    omega (arith, kept_count key c.nominal_size-nominal.result c.in_ok-cut_theta.cut_theta c.args.entry (filled slots) (apart-more key c.args.sizes.lg_cur c.args.at c.args.entry slots c.requires.place.free_slot.laid_out c.requires.place.free_slot.on_path c.requires.place.free_slot.free) ranked)
 
 pub returns-clause-after : goal.returns-clause-after
 returns-clause-after g c =
@@ -36,7 +36,7 @@ returns-clause-after g c =
     let ranked : HasRank (key c.args.entry ∷ map key (filled slots)) (2 ^ c.args.sizes.lg_nom) c.in_ok-cut_theta.cut_theta = rw (c.hash.ensures, c.nominal_size-nominal.ensures.power) at reported in
     ap (λ ys. record { entries = ys; theta = c.in_ok-cut_theta.cut_theta }) c.in_ok-put_kept.ensures.map
     ∙ sym (rebuilt_at key (2 ^ c.args.sizes.lg_nom) c.args.sizes.theta c.in_ok-cut_theta.cut_theta c.args.entry (filled slots) c.requires.large (omega (arith, c.requires.full, c.requires.place.counted))
-    (apart-more key c.args.sizes.lg_cur c.args.at c.args.entry slots c.requires.place.laid_out c.requires.place.on_path c.requires.place.free) c.requires.place.below_theta c.requires.place.low ranked)
+    (apart-more key c.args.sizes.lg_cur c.args.at c.args.entry slots c.requires.place.free_slot.laid_out c.requires.place.free_slot.on_path c.requires.place.free_slot.free) c.requires.place.below_theta c.requires.place.low ranked)
 
 pub returns-clause-count : goal.returns-clause-count
 returns-clause-count g c =
@@ -46,7 +46,7 @@ returns-clause-count g c =
     let reported : HasRank (c.hash.result ∷ map key (filled slots)) c.nominal_size-nominal.result c.in_ok-cut_theta.cut_theta = rw c.deref.ensures.value at c.in_ok-cut_theta.ensures.ranked in
     let ranked : HasRank (key c.args.entry ∷ map key (filled slots)) (2 ^ c.args.sizes.lg_nom) c.in_ok-cut_theta.cut_theta = rw (c.hash.ensures, c.nominal_size-nominal.ensures.power) at reported in
     sym (length-map_of key c.args.sizes.lg_cur after c.in_ok-put_kept.ensures.laid_out) ∙ ap length c.in_ok-put_kept.ensures.map
-    ∙ kept_count key (2 ^ c.args.sizes.lg_nom) c.in_ok-cut_theta.cut_theta c.args.entry (filled slots) (apart-more key c.args.sizes.lg_cur c.args.at c.args.entry slots c.requires.place.laid_out c.requires.place.on_path c.requires.place.free) ranked
+    ∙ kept_count key (2 ^ c.args.sizes.lg_nom) c.in_ok-cut_theta.cut_theta c.args.entry (filled slots) (apart-more key c.args.sizes.lg_cur c.args.at c.args.entry slots c.requires.place.free_slot.laid_out c.requires.place.free_slot.on_path c.requires.place.free_slot.free) ranked
 
 pub returns-clause-ticked : goal.returns-clause-ticked
 returns-clause-ticked g c =

@@ -2,4 +2,4 @@ use Rattle.std.proofs.Common.{append_assoc}
 use Rattle.reports.proofs.forms.put_fields.Goals as goal
 
 pub returns : goal.returns
-returns g c = rw (← c.truth-exact.ensures) (simp append_assoc c.write.ensures.bytes)
+returns g c = simp append_assoc c.write.ensures.bytes

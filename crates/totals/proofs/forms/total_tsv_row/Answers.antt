@@ -2,4 +2,4 @@ use Rattle.std.proofs.Common.{append_assoc}
 use Rattle.totals.proofs.forms.total_tsv_row.Goals as goal
 
 pub returns : goal.returns
-returns g c = rw (← c.truth-exact.ensures) (simp append_assoc c.format.ensures.ok)
+returns g c = simp append_assoc c.format.ensures.ok

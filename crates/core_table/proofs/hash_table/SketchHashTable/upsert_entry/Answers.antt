@@ -118,14 +118,16 @@ put_entry-requires-clause-place g c =
     let made = sym c.in_ok-absent.ensures.made ∙ c.in-Some.is in
     let has_key : key c.in-Some.entry ≡ c.args.hash = c.requires.makes_hash c.in-Some.entry made in
     record {
-      laid_out = it.laid;
+      free_slot = record {
+        laid_out = it.laid;
+        free = it.free;
+        on_path = rw has_key found.on_path;
+        nonzero = omega (arith, has_key, c.if-hash-eq0.false);
+      };
       counted = c.self.invariant.slotted.counted;
       below_theta = c.self.invariant.slotted.table.kept.below_theta;
       sized = rw (← c.lg_value.ensures) at (c.self.invariant.slotted.sized it.has);
       bounded = rw it.has at c.self.invariant.bounded;
-      free = it.free;
-      on_path = rw has_key found.on_path;
-      nonzero = omega (arith, has_key, c.if-hash-eq0.false);
       low = omega (arith, has_key, c.if-hash-self.false);
     }
 
