@@ -9,7 +9,7 @@ use Rattle.sketch_base.specs.Seed.{seed_hash}
 use Rattle.lines.specs.Lines.{lines_of_all}
 use Rattle.line_sketches.specs.Keys.{value_of_lines, sketch_of_value}
 use Rattle.line_sketches.specs.Shards.{values_of_sketches, AreRead}
-use Rattle.line_sketches.specs.Unions.{IsUnitedImage}
+use Rattle.line_sketches.specs.Unions.{IsUnitedImage, UnitesTexts}
 use Rattle.line_sums.specs.Unions.{IsUnitedSumsImage, UnitesSumsOfTexts}
 use Rattle.distinct_arguments.specs.Settings.{OptionValues, chosen_group, chosen_value}
 use Rattle.grouped_lines.specs.United.{IsUnitedText}
@@ -59,10 +59,10 @@ IsDifferenceImage seed images out =
 abbrev pub IsExpected : (expected : Option ℕ) → (count : ℕ) → Type 0
 IsExpected expected count = IfSome expected (λ number. number ≡ count)
 
--- the image of the union of the sketches in images, which are theta sketches, or sketches of sums; images of the sums of texts that were
--- sketched apart are united to the image of the sums of all their lines
+-- the image of the union of the sketches in images, which are theta sketches, or sketches of sums; images of texts that were sketched apart,
+-- or of their sums, are united to the image of all their lines
 abbrev pub IsUnionOf : (sums : Bool) → (seed lg_k : ℕ) → (images : List (List ℕ)) → List ℕ → Type 0
-IsUnionOf false seed lg_k images out = IsUnitedImage seed lg_k images out
+IsUnionOf false seed lg_k images out = IsUnitedImage seed lg_k images out × UnitesTexts seed lg_k images out
 IsUnionOf true seed lg_k images out = IsUnitedSumsImage seed lg_k images out × UnitesSumsOfTexts seed lg_k images out
 
 -- the image that an operator makes of the sketches in images

@@ -2,6 +2,7 @@
 use Rattle.std.specs.Prelude.{ℕ, ◌≡◌, ◌≢◌, ◌⊎◌, ◌==◌, ◌&&◌, ◌+◌, ◌-◌, ◌^◌, min, ⊤, Bool, true, false, List, [], ◌∷◌, length, Option, Some, None, IfSome, String, codes, string_bytes, if◌then◌else◌}
 use Rattle.std.specs.Str.{bytes_eq}
 use Rattle.sketch_base.specs.declared.error.ErrorKind.TheVariants.{OutOfMemory, InvalidData, Policy}
+use Rattle.sketch_base.specs.Seed.{seed_hash}
 use Rattle.lines.specs.declared.key.Hashing.{Hashing}
 use Rattle.line_sketches.specs.declared.sketching.Unread.{Unread}
 use Rattle.line_sketches.specs.declared.sketching.Unread.TheVariants.{Refused, Failed}
@@ -9,10 +10,11 @@ use Rattle.line_sums.specs.declared.addends.Amount.{Amount}
 use Rattle.line_sums.specs.declared.addends.Amount.TheVariants.{One}
 use Rattle.expression_text.specs.Grammar.{SpellsNothing}
 use Rattle.distinct_arguments.specs.Faults.{status_of as fault_status}
-use Rattle.distinct_arguments.specs.declared.fault.Fault.TheVariants.{NotOneExpression, LoneSum}
+use Rattle.distinct_arguments.specs.declared.fault.Fault.TheVariants.{NotOneExpression, LoneSum, ZeroSeed}
+use Rattle.distinct_arguments.specs.Arguments.{Action, prints, runs, fails}
 use Rattle.distinct_arguments.specs.Settings.{chosen_key, chosen_value}
 use Rattle.std.specs.declared.io.Error.{Error}
-use Rattle.distinct_arguments.specs.Settings.{OptionValues}
+use Rattle.distinct_arguments.specs.Settings.{OptionValues, SeedValue, seed_number, seed_file}
 use Rattle.distinct_commands.specs.Images.{images_of}
 use Rattle.distinct_commands.specs.declared.images.Images.{Images}
 use Rattle.distinct_arguments.specs.declared.commands.Command.{Command}
@@ -22,7 +24,7 @@ use Rattle.distinct_arguments.specs.declared.commands.Operator.TheVariants.{Minu
 use Rattle.grouped_lines.specs.declared.united.LineFlaw.{LineFlaw}
 use Rattle.grouped_lines.specs.declared.united.LineFlaw.TheVariants.{NoTab as NoTabAtAll, NoHex as NoDigits, NoImage}
 use Rattle.distinct_commands.specs.declared.failure.Failure.{Failure}
-use Rattle.distinct_commands.specs.declared.failure.Failure.TheVariants.{NotText, Arguments, NoFiles, NotTwo, NoExpression, NoName, Terminal, WrongCount, NotOneEach, Memory, Unreadable, NoSketch, NoSums, NoHex, NoTab, NoLine, PastGreatest, PastUnion, PastResult, NotANumber, NotWritten}
+use Rattle.distinct_commands.specs.declared.failure.Failure.TheVariants.{NotText, Arguments, NoFiles, NotTwo, NoExpression, NoName, NoSeed, Terminal, WrongCount, NotOneEach, Memory, Unreadable, NoSketch, NoSums, NoHex, NoTab, NoLine, PastGreatest, PastUnion, PastResult, NotANumber, NotWritten}
 
 -- the exit status: 2 if the arguments are wrong, else 1
 abbrev pub failure_status : Failure → ℕ
@@ -120,6 +122,13 @@ IsOfTotal options (PastGreatest name line) = ⊤
 IsOfTotal options (NotANumber name line) = ⊤
 IsOfTotal options failure = IsOfReading failure
 
+-- no seed: a number has a seed hash of 0, or a file can't be read or has no seed
+abbrev pub IsOfSeed : SeedValue → Failure → Type 0
+IsOfSeed (seed_number n) (Arguments (ZeroSeed number)) = (number ≡ n) × (seed_hash n ≡ 0)
+IsOfSeed (seed_number n) _ = ⊥
+IsOfSeed (seed_file name) (NoSeed file) = ⊤
+IsOfSeed (seed_file name) failure = IsOfReading failure
+
 -- memory was refused, or the output of this name failed
 abbrev pub IsOfWriting : (name : List ℕ) → Failure → Type 0
 IsOfWriting name Memory = ⊤
@@ -203,6 +212,18 @@ IsOfCommand command options count texts (Arguments LoneSum) = (command ≡ Sum) 
 IsOfCommand command options count texts (NotANumber name line) = ReadsNumbers command options
 IsOfCommand command options count texts (PastUnion name line) = options.sums ≡ true
 IsOfCommand command options count texts failure = failure_status failure ≡ 1
+
+-- a request fails as its command does, or its text can't be written to standard output
+abbrev pub IsOfRequest : Action → (count : ℕ) → (texts : Option (List (List ℕ))) → Failure → Type 0
+IsOfRequest (prints topic) count texts failure = IsOfWriting (codes "standard output") failure
+IsOfRequest (runs command options files) count texts failure = IsOfCommand command options count texts failure
+IsOfRequest (fails mistake) count texts failure = ⊥
+
+-- nothing was written to the writer, or it is the writer that failed
+abbrev pub IsUnwritten : (old new : Option (List ℕ)) → Failure → Type 0
+IsUnwritten old new Memory = ⊤
+IsUnwritten old new (NotWritten output error) = ⊤
+IsUnwritten old new _ = new ≡ old
 
 -- how lines are hashed: by the field of the number that options choose, the first being 1, or the whole line
 abbrev pub chosen_hashing : OptionValues → (seed : ℕ) → Hashing

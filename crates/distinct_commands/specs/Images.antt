@@ -1,5 +1,5 @@
 -- The images in files, one after another.
-use Rattle.std.specs.Prelude.{ℕ, ◌≡◌, ◌==◌, ◌-◌, ⊤, Bool, List, [], ◌∷◌, ◌++◌, length, map, take, drop, unwrap_or, Option, Some, None, IfSome, if◌then◌else◌}
+use Rattle.std.specs.Prelude.{ℕ, ◌≡◌, ◌≤◌, ◌==◌, ◌-◌, ⊤, Bool, List, [], ◌∷◌, ◌++◌, length, map, take, drop, unwrap_or, Option, Some, None, IfSome, if◌then◌else◌}
 use Rattle.std.specs.Option.{option_map}
 use Rattle.std.specs.Io.Buffered.{reader_remaining}
 use Rattle.std.specs.declared.io.buffered.BufReader.{BufReader}
@@ -106,6 +106,10 @@ image_flaw sums h bytes = if sums then sums_flaw_of h bytes else flaw_of h bytes
 
 abbrev pub length_of : (sums : Bool) → List ℕ → Option ℕ
 length_of sums bytes = if sums then sums_length bytes else image_length bytes
+
+-- nothing is behind the image that bytes begin, if they begin one
+abbrev pub IsAlone : (sums : Bool) → List ℕ → Type 0
+IsAlone sums bytes = IfSome (length_of sums bytes) (λ n. length bytes ≤ n)
 
 -- the reader of images is where it was
 abbrev pub IsSameReader : {S R : Type 0} → (old new : Images S R) → Type 0

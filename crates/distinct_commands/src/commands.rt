@@ -6,7 +6,7 @@ ghost use Rattle.distinct_arguments.specs.Faults.{options_of, request_action};
 ghost use Rattle.distinct_arguments.specs.Settings.{chosen_group, chosen_value};
 ghost use Rattle.distinct_commands.specs.Answers.{names_of, sketch_of, lines_text, IsLinesText, IsSketchText, IsCommandAnswer, WritesAnswer, Performs};
 ghost use Rattle.distinct_commands.specs.Images.{in_form};
-ghost use Rattle.distinct_commands.specs.Failures.{IsOfReading, IsOfSketch, IsOfCommand};
+ghost use Rattle.distinct_commands.specs.Failures.{IsOfReading, IsOfSketch, IsOfCommand, IsOfRequest, IsUnwritten};
 ghost use Rattle.distinct_commands.specs.declared.failure.Failure.TheVariants as failure;
 
 use crate::failure::{Failure, out_of_memory};
@@ -33,7 +33,8 @@ const STANDARD_OUTPUT: &str = "standard output";
 /// or their images aren't two; with `WrongCount` only if `--expect` names another number than it reports to have found;
 /// with `NotOneEach`, `NoExpression` or `NotOneExpression` only for `eval`; with `PastUnion` only for images of sums; and with
 /// `NotANumber` only for `sum`, which fails with `LoneSum` if its options have no field of numbers, and for `sketch` if they
-/// have one. Any other failure has status 1: memory, a file, its contents or the writer is at fault.
+/// have one. Any other failure has status 1: memory, a file, its contents or the writer is at fault. Only if the writer
+/// fails may a part of the answer have been written.
 pub fn answer<S: Sources + Drop, C: Console, O: Write>(
     alloc: Global,
     command: Command,
@@ -48,6 +49,7 @@ pub fn answer<S: Sources + Drop, C: Console, O: Write>(
     ensures answered { IfSome (S.texts sources) (λ texts.
         OnOk result (WritesAnswer command (options_of options.now) seed (names_of files.now) texts (O.contents writer.old) (O.contents writer.new))) }
     ensures failed { IfErr result (IsOfCommand command (options_of options.now) (length files.now) (S.texts sources)) }
+    ensures unwritten { IfErr result (IsUnwritten (O.contents writer.old) (O.contents writer.new)) }
 {
     let inputs = Inputs::new(sources, files);
     let job = Job {
@@ -61,7 +63,7 @@ pub fn answer<S: Sources + Drop, C: Console, O: Write>(
 }
 
 /// Does what a request says: prints its text, or runs its command under this seed on the files that sources give, under these
-/// names. It fails if the writer or the command does.
+/// names. It fails as the command does, or if the writer does. Nothing is written if it isn't the writer that failed.
 pub fn perform<S: Sources + Drop, C: Console, O: Write>(
     alloc: Global,
     request: Request<'_>,
@@ -72,8 +74,10 @@ pub fn perform<S: Sources + Drop, C: Console, O: Write>(
     writer: &mut O,
 ) -> Result<(), Failure>
     requires seeded { seed_hash seed ≢ 0 }
-    ensures { IfSome (S.texts sources) (λ texts.
+    ensures performed { IfSome (S.texts sources) (λ texts.
         OnOk result (Performs (request_action request.entry) seed (names_of files.now) texts (O.contents writer.old) (O.contents writer.new))) }
+    ensures failed { IfErr result (IsOfRequest (request_action request.entry) (length files.now) (S.texts sources)) }
+    ensures unwritten { IfErr result (IsUnwritten (O.contents writer.old) (O.contents writer.new)) }
 {
     match request {
         Request::Print(topic) => put(alloc, writer, STANDARD_OUTPUT, text_of(topic).as_bytes()),

@@ -6,7 +6,7 @@ ghost use Rattle.std.specs.declared.io.ErrorKind.TheVariants.{InvalidData};
 ghost use Rattle.std.specs.Io.Buffered.{reader_remaining};
 ghost use Rattle.sketch_base.specs.Seed.{seed_hash};
 ghost use Rattle.line_sketches.specs.Sources.{GivesNext};
-ghost use Rattle.distinct_commands.specs.Images.{remaining_images, image_flaw, length_of, GivesOrCloses, IsSameReader};
+ghost use Rattle.distinct_commands.specs.Images.{remaining_images, image_flaw, length_of, IsAlone, GivesOrCloses, IsSameReader};
 ghost use Rattle.distinct_commands.specs.Failures.{called, next_number, IsOfImages, NotesNext, ReportsUnreadable, ReportsNoSketch, ReportsPastUnion};
 
 use crate::failure::Failure;
@@ -53,7 +53,7 @@ fn length_of(sums: bool, bytes: &[u8]) -> Option<u64>
 
 /// Refuses bytes that have something after an image, since a second image there would be ignored.
 fn check_alone(sums: bool, bytes: &[u8]) -> io::Result<()>
-    ensures { OnOk result (IfSome (length_of sums bytes.now) (λ n. length bytes.now ≤ n)) }
+    ensures { OnOk result (IsAlone sums bytes.now) }
 {
     match length_of(sums, bytes) {
         Some(image) if image < bytes.len() as u64 => Err(io::Error::from(ErrorKind::InvalidData)),
@@ -83,7 +83,9 @@ impl<'a, S: Sources> Images<'a, S> {
     /// The images of theta sketches in these files, to be read under this seed.
     pub fn new(alloc: Global, inputs: Inputs<'a, S>, hex: bool, seed: u64) -> Images<'a, S>
         ensures inputs { result.inputs ≡ inputs.entry }
+        ensures sums { result.sums ≡ false }
         ensures hex { result.hex ≡ hex }
+        ensures seed { result.seed ≡ seed }
         ensures closed { result.«open» ≡ None }
     {
         Images::of(alloc, inputs, false, hex, seed)
@@ -98,7 +100,9 @@ impl<'a, S: Sources> Images<'a, S> {
         seed: u64,
     ) -> Images<'a, S>
         ensures inputs { result.inputs ≡ inputs.entry }
+        ensures sums { result.sums ≡ sums }
         ensures hex { result.hex ≡ hex }
+        ensures seed { result.seed ≡ seed }
         ensures closed { result.«open» ≡ None }
     {
         Images {
@@ -178,6 +182,7 @@ impl<'a, S: Sources> Images<'a, S> {
     /// image there would be ignored.
     fn note(&mut self, image: &[u8]) -> io::Result<()>
         ensures flaw { self.new.flaw ≡ Some (image_flaw self.old.sums (seed_hash self.old.seed) image.now) }
+        ensures alone { OnOk result (IsAlone self.old.sums image.now) }
         ensures same { IsSameReader self.old self.new }
         ensures left { remaining_images S.Source.remaining S.texts self.new ≡ remaining_images S.Source.remaining S.texts self.old }
     {
@@ -194,11 +199,12 @@ impl<'a, S: Sources> Images<'a, S> {
         check_alone(self.sums, image)
     }
 
-    /// The next image, or `None` at the end.
+    /// The next image, or `None` at the end. Nothing is behind it in its file or line.
     pub fn next_image(&mut self) -> io::Result<Option<Vec<u8>>>
-        ensures { IfOk result (GivesNext (λ v. Some v.items)
+        ensures next { IfOk result (GivesNext (λ v. Some v.items)
             (remaining_images S.Source.remaining S.texts self.old)
             (remaining_images S.Source.remaining S.texts self.new)) }
+        ensures alone { IfOk result (λ image. IfSome image (λ v. IsAlone self.old.sums v.items)) }
     {
         if self.hex {
             self.next_line()
@@ -210,6 +216,7 @@ impl<'a, S: Sources> Images<'a, S> {
     /// All bytes of the next file.
     fn next_whole(&mut self) -> io::Result<Option<Vec<u8>>>
         ensures next { IfOk result (GivesNext (λ v. Some v.items) (S.texts self.old.inputs.sources) (S.texts self.new.inputs.sources)) }
+        ensures alone { IfOk result (λ image. IfSome image (λ v. IsAlone self.old.sums v.items)) }
         ensures hex { self.new.hex ≡ self.old.hex }
         ensures named { NotesNext self.old.inputs.current.now self.old.inputs.left.now self.new.inputs.current.now self.new.inputs.left.now }
     {
@@ -229,6 +236,7 @@ impl<'a, S: Sources> Images<'a, S> {
         ensures next { IfOk result (GivesNext (λ v. Some v.items)
             (remaining_images S.Source.remaining S.texts self.old)
             (remaining_images S.Source.remaining S.texts self.new)) }
+        ensures alone { IfOk result (λ image. IfSome image (λ v. IsAlone self.old.sums v.items)) }
     {
         'files: for _ in 0..u64::MAX {
             if let Some(image) = self.line_of_open()? {
@@ -248,6 +256,7 @@ impl<'a, S: Sources> Images<'a, S> {
     fn line_of_open(&mut self) -> io::Result<Option<Vec<u8>>>
         requires lines { self.old.hex ≡ true }
         ensures hex { self.new.hex ≡ self.old.hex }
+        ensures sums { self.new.sums ≡ self.old.sums }
         ensures named { self.new.inputs ≡ self.old.inputs }
         ensures counted { IfOk result (λ image. IfSome image (λ _. self.new.line ≡ next_number self.old.line)) }
         ensures next { IfOk result (GivesOrCloses (λ v. v.items)

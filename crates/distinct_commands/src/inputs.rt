@@ -1,7 +1,7 @@
 //! The files that the program reads.
-ghost use Rattle.std.specs.Prelude.{◌≡◌, None, IfOk};
+ghost use Rattle.std.specs.Prelude.{◌≡◌, None, IfOk, IfErr};
 ghost use Rattle.line_sketches.specs.Sources.{GivesNext};
-ghost use Rattle.distinct_commands.specs.Failures.{called, NotesNext, ReportsUnreadable};
+ghost use Rattle.distinct_commands.specs.Failures.{called, IsOfReading, NotesNext, ReportsUnreadable};
 
 use crate::failure::Failure;
 use crate::lists::{Unlisted, names_in};
@@ -106,7 +106,8 @@ pub struct Inputs<'a, S: Sources> {
 impl<'a, S: Sources> Inputs<'a, S> {
     /// Sources of these names. Standard input has none.
     pub fn new(sources: S, names: &'a [String]) -> Inputs<'a, S>
-        ensures { result.sources ≡ sources }
+        ensures sources { result.sources ≡ sources }
+        ensures names { result.left.now ≡ names.now }
     {
         Inputs {
             sources,
@@ -117,7 +118,8 @@ impl<'a, S: Sources> Inputs<'a, S> {
 
     /// The same sources under other names.
     pub fn renamed<'b>(self, names: &'b [String]) -> Inputs<'b, S>
-        ensures { result.sources ≡ self.entry.sources }
+        ensures sources { result.sources ≡ self.entry.sources }
+        ensures names { result.left.now ≡ names.now }
     {
         let Inputs { sources, .. } = self;
         Inputs::new(sources, names)
@@ -159,7 +161,9 @@ impl<'a, S: Sources> Sources for Inputs<'a, S> {
 }
 
 /// All bytes of the file of this name, or of standard input for `-`.
-pub fn read_whole(rt: &HostRuntime, name: &str) -> Result<Vec<u8>, Failure> {
+pub fn read_whole(rt: &HostRuntime, name: &str) -> Result<Vec<u8>, Failure>
+    ensures failed { IfErr result IsOfReading }
+{
     let mut bytes = Vec::new(rt.alloc());
     match read_into(rt, name, &mut bytes) {
         Ok(()) => Ok(bytes),

@@ -7,6 +7,7 @@ use Rattle.distinct_commands.proofs.images.Images.next_line.Given as goal
 abbrev pub invariant-files : goal.invariant-files
 invariant-files g l = record {
   hex : l.self.hex ≡ true;
+  sums : l.self.sums ≡ l.fn.self.sums;
   same : IfSome (remaining_images g.S.Source.Read.remaining g.S.Sources.texts l.fn.self)
       (λ images. remaining_images g.S.Source.Read.remaining g.S.Sources.texts l.self ≡ Some images);
 }

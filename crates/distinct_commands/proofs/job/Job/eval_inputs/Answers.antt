@@ -12,10 +12,10 @@ returns-clause-evaluated g c =
     let text = c.as_str-text.result.now in
     let only = only_named c.args.files.now c.file-item.result text (omega (arith, c.in-len1.len_at_least)) (omega (arith, c.in-len1.len_below)) c.file-item.is c.as_str-text.ensures.value in
     only_evaluated (options_of c.args.self.options.now) c.args.self.seed c.evaluated.result (λ v. v.items) (g.S.Sources.texts c.args.self.inputs.sources) (names_of c.args.files.now) text false only c.if-options.false
-    (subst (λ sources. IfSome (g.S.Sources.texts sources) (λ texts. IfOk c.evaluated.result (λ v. IsEvaluated (options_of c.args.self.options.now) c.args.self.seed text texts v.items))) c.renamed-inputs.ensures c.evaluated.ensures.evaluated)
+    (subst (λ sources. IfSome (g.S.Sources.texts sources) (λ texts. IfOk c.evaluated.result (λ v. IsEvaluated (options_of c.args.self.options.now) c.args.self.seed text texts v.items))) c.renamed-inputs.ensures.sources c.evaluated.ensures.evaluated)
 
 pub returns-then-options-clause-evaluated : goal.returns-then-options-clause-evaluated
 returns-then-options-clause-evaluated g c =
     only_evaluated (options_of c.args.self.options.now) c.args.self.seed c.sums_evaluated.result (λ v. v.items) (g.S.Sources.texts c.args.self.inputs.sources) (names_of c.args.files.now) c.as_str-text.result.now true
     (only_named c.args.files.now c.file-item.result c.as_str-text.result.now (omega (arith, c.in-len1.len_at_least)) (omega (arith, c.in-len1.len_below)) c.file-item.is c.as_str-text.ensures.value) c.if-options.true
-    (subst (λ sources. IfSome (g.S.Sources.texts sources) (λ texts. IfOk c.sums_evaluated.result (λ v. IsSumsEvaluated (options_of c.args.self.options.now) c.args.self.seed c.as_str-text.result.now texts v.items))) c.renamed-inputs.ensures c.sums_evaluated.ensures.evaluated)
+    (subst (λ sources. IfSome (g.S.Sources.texts sources) (λ texts. IfOk c.sums_evaluated.result (λ v. IsSumsEvaluated (options_of c.args.self.options.now) c.args.self.seed c.as_str-text.result.now texts v.items))) c.renamed-inputs.ensures.sources c.sums_evaluated.ensures.evaluated)
