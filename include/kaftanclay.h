@@ -4,7 +4,7 @@
  * theta; if they become too many, it lowers theta and drops the greatest hashes. The estimate is
  * retained * KC_MAX_THETA / theta.
  *
- * Handles. An object is kept in a handle, a variable of one of the seven types below. Begin each with {0}, which has no
+ * Handles. An object is kept in a handle, a variable of one of the eight types below. Begin each with {0}, which has no
  * object. A call that makes an object puts it into such a handle, and is refused with KC_INVALID_ARGUMENT if the handle has
  * one already. The free calls take the object out again, so freeing twice does nothing. Don't copy a handle: two copies
  * would own one object.
@@ -45,13 +45,14 @@ enum {
     KC_TOO_SMALL = 6         /* the buffer is too small; *length is the room that is needed */
 };
 
-typedef struct { void *object; } kc_theta;        /* a theta sketch that takes updates */
-typedef struct { void *object; } kc_compact;      /* a compact theta sketch, which never changes */
-typedef struct { void *object; } kc_union;        /* a union of theta sketches */
-typedef struct { void *object; } kc_intersection; /* an intersection of theta sketches */
-typedef struct { void *object; } kc_sums;         /* a tuple sketch whose summaries are sums of 64 bits */
-typedef struct { void *object; } kc_compact_sums; /* a compact tuple sketch of sums, which never changes */
-typedef struct { void *object; } kc_sums_union;   /* a union of tuple sketches of sums */
+typedef struct { void *object; } kc_theta;             /* a theta sketch that takes updates */
+typedef struct { void *object; } kc_compact;           /* a compact theta sketch, which never changes */
+typedef struct { void *object; } kc_union;             /* a union of theta sketches */
+typedef struct { void *object; } kc_intersection;      /* an intersection of theta sketches */
+typedef struct { void *object; } kc_sums;              /* a tuple sketch whose summaries are sums of 64 bits */
+typedef struct { void *object; } kc_compact_sums;      /* a compact tuple sketch of sums, which never changes */
+typedef struct { void *object; } kc_sums_union;        /* a union of tuple sketches of sums */
+typedef struct { void *object; } kc_sums_intersection; /* an intersection of tuple sketches of sums */
 
 /* What a sketch estimates by. */
 typedef struct {
@@ -219,6 +220,21 @@ kc_status kc_sums_union_result(kc_sums_union *u, kc_compact_sums *out);
 kc_status kc_sums_union_image(kc_sums_union *u, void *out, size_t room, uint64_t *length);
 /* Makes the union empty again, as when it was new, and ends a failure. */
 kc_status kc_sums_union_reset(kc_sums_union *u);
+
+/* Makes an intersection, refused as kc_intersection_new is. Its value is that of an intersection of theta sketches, and beside
+ * each hash the sum of the sums of all sketches. */
+kc_status kc_sums_intersection_new(kc_sums_intersection *i, uint64_t seed);
+kc_status kc_sums_intersection_free(kc_sums_intersection *i);
+/* Intersect with a sketch, as kc_intersection_add and so on do. Refused as these are, and with KC_POLICY if the sums of one hash
+ * are 2^64 or more together; nothing has changed then. */
+kc_status kc_sums_intersection_add(kc_sums_intersection *i, kc_sums *sketch);
+kc_status kc_sums_intersection_add_compact(kc_sums_intersection *i, kc_compact_sums *sketch);
+kc_status kc_sums_intersection_add_image(kc_sums_intersection *i, const void *image, size_t count);
+/* Makes the intersection's value as an ordered compact sketch. Refused with KC_INVALID_ARGUMENT before the first sketch, and
+ * with KC_OUT_OF_MEMORY. */
+kc_status kc_sums_intersection_result(kc_sums_intersection *i, kc_compact_sums *out);
+/* Makes the difference of two sketches, as kc_difference does; each hash keeps the sum that it has in the first. */
+kc_status kc_sums_difference(kc_compact_sums *first, kc_compact_sums *second, uint64_t seed, kc_compact_sums *out);
 
 /* ---- Hashes and estimates ---- */
 

@@ -28,6 +28,7 @@ CALLS_OF_KIND(intersection)
 CALLS_OF_KIND(sums)
 CALLS_OF_KIND(compact_sums)
 CALLS_OF_KIND(sums_union)
+CALLS_OF_KIND(sums_intersection)
 STATE_AND_IMAGE_OF_KIND(theta)
 STATE_AND_IMAGE_OF_KIND(compact)
 STATE_AND_IMAGE_OF_KIND(sums)
@@ -194,6 +195,36 @@ kc_status kc_sums_union_result(kc_sums_union *u, kc_compact_sums *out) {
 kc_status kc_sums_union_image(kc_sums_union *u, void *out, size_t room, uint64_t *length) {
     REFUSE_UNLESS(u && IS_BUFFER(out, room) && length);
     return kcp_sums_union_image(u, OUTPUT(out), room, length);
+}
+
+kc_status kc_sums_intersection_new(kc_sums_intersection *i, uint64_t seed) {
+    REFUSE_UNLESS(i);
+    return kcp_sums_intersection_new(i, seed);
+}
+
+kc_status kc_sums_intersection_add(kc_sums_intersection *i, kc_sums *h) {
+    REFUSE_UNLESS(i && h);
+    return kcp_sums_intersection_add(i, h);
+}
+
+kc_status kc_sums_intersection_add_compact(kc_sums_intersection *i, kc_compact_sums *h) {
+    REFUSE_UNLESS(i && h);
+    return kcp_sums_intersection_add_compact(i, h);
+}
+
+kc_status kc_sums_intersection_add_image(kc_sums_intersection *i, const void *image, size_t count) {
+    REFUSE_UNLESS(i && IS_BUFFER(image, count));
+    return kcp_sums_intersection_add_image(i, INPUT(image), count);
+}
+
+kc_status kc_sums_intersection_result(kc_sums_intersection *i, kc_compact_sums *out) {
+    REFUSE_UNLESS(i && out);
+    return kcp_sums_intersection_result(i, out);
+}
+
+kc_status kc_sums_difference(kc_compact_sums *first, kc_compact_sums *second, uint64_t seed, kc_compact_sums *out) {
+    REFUSE_UNLESS(first && second && out && first != second && first != out && second != out);
+    return kcp_sums_difference(first, second, seed, out);
 }
 
 kc_status kc_hash_bytes(uint64_t seed, const void *bytes, size_t count, uint64_t *hash) {

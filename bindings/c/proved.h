@@ -76,6 +76,14 @@ kc_status kcp_sums_union_result(kc_sums_union *, kc_compact_sums *);
 kc_status kcp_sums_union_image(kc_sums_union *, uint8_t *, size_t, uint64_t *);
 kc_status kcp_sums_union_reset(kc_sums_union *);
 
+kc_status kcp_sums_intersection_new(kc_sums_intersection *, uint64_t seed);
+void kcp_sums_intersection_free(kc_sums_intersection *);
+kc_status kcp_sums_intersection_add(kc_sums_intersection *, kc_sums *);
+kc_status kcp_sums_intersection_add_compact(kc_sums_intersection *, kc_compact_sums *);
+kc_status kcp_sums_intersection_add_image(kc_sums_intersection *, const uint8_t *, size_t);
+kc_status kcp_sums_intersection_result(kc_sums_intersection *, kc_compact_sums *);
+kc_status kcp_sums_difference(kc_compact_sums *, kc_compact_sums *, uint64_t seed, kc_compact_sums *);
+
 uint64_t kcp_hash_bytes(uint64_t seed, const uint8_t *, size_t);
 uint64_t kcp_hash_u64(uint64_t seed, uint64_t);
 void kcp_estimate_numerator(uint64_t retained, kc_wide *);
