@@ -48,21 +48,9 @@ def value_of(values, seed=DEFAULT_SEED):
     return ({hash: sums[hash] for hash in hashes}, theta) if values else None
 
 
-def hashes_of(value):
-    return value and (set(value[0]), value[1])
-
-
-def with_sums(hashes, *values):
-    """A sketch of hashes, and beside each the sum of its sums in these values."""
-    return hashes and ({hash: sum(value[0][hash] for value in values) for hash in hashes[0]}, hashes[1])
-
-
-def met(*values):
-    return with_sums(lines.meet([hashes_of(value) for value in values]), *values)
-
-
-def lacking(first, second):
-    return with_sums(lines.minus(hashes_of(first), hashes_of(second)), first)
+def combined(kind, first, second):
+    """The intersection, by &, or the difference, by -, of two such sketches, from the pages alone."""
+    return lines.two_sums(kind, first, second, 4096)
 
 
 def image_of(value, seed=DEFAULT_SEED):
@@ -147,7 +135,8 @@ def test_intersections_and_differences(count, seed):
     pairs += [(a, a, x, x), (a, empty, x, None), (empty, b, None, y), (a, c, x, z), (c, a, z, x), (b, c, y, z)]
     for left, right, *values in pairs:
         both, rest = left & right, left - right
-        assert both.to_bytes() == image_of(met(*values), seed) and rest.to_bytes() == image_of(lacking(*values), seed)
+        assert both.to_bytes() == image_of(combined("&", *values), seed)
+        assert rest.to_bytes() == image_of(combined("-", *values), seed)
         for it in (both, rest):
             assert type(it) is CompactTupleSums and (it.lg_k, it.seed) == (12, seed)
     assert a.to_bytes() == image_of(x, seed) and c.to_bytes() == image_of(z, seed)
@@ -176,7 +165,8 @@ def test_intersection():
     assert meet.result() == sums_of(parts[0]).compact()
     meet.update(sums_of(parts[1]).to_bytes())
     meet.update(sums_of(parts[2]).compact())
-    wanted = image_of(met(*map(value_of, parts)))
+    first, second, third = map(value_of, parts)
+    wanted = image_of(combined("&", combined("&", first, second), third))
     assert meet.result().to_bytes() == wanted and meet.seed == DEFAULT_SEED
     truth = sum(part[key] for part in parts for key in range(2000, 3000))
     assert 0.9 * truth < meet.result().total < 1.1 * truth
