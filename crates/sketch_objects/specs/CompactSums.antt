@@ -5,10 +5,10 @@ use Rattle.sketch_base.specs.Seed.{seed_hash}
 use Rattle.core_images.specs.Summary.{SpellsNumber}
 use Rattle.core_slots.specs.Entry.{tuple_key}
 use Rattle.core_slots.specs.declared.entry.TupleEntry.{TupleEntry}
+use Rattle.totals.specs.Totals.{sum_of}
 use Rattle.tuple_sketches.specs.Image.{Reads, IsReadable, written}
 use Rattle.sketch_objects.specs.Status.{IsUnread}
 use Rattle.sketch_objects.specs.Thetas.{state_of}
-use Rattle.sketch_objects.specs.Totals.{sum_of, total_of}
 use Rattle.sketch_objects.specs.declared.compact_sums.CompactSums.{CompactSums}
 use Rattle.sketch_objects.specs.declared.state.State.{State}
 
@@ -30,7 +30,7 @@ IsCompactSumsImage s image = image ≡ written (λ sum. to_le_bytes w64 sum) s.s
 
 -- the total of a sketch: the sum of its sums
 abbrev pub compact_total : CompactSums → ℕ
-compact_total s = total_of s.sketch.entries
+compact_total s = sum_of s.sketch.entries
 
 -- hashes and sums of entries were written to the fronts of two arrays, with status 0; if either is too small, both are as
 -- before, with status 6; the number of entries was written in both cases
@@ -40,7 +40,7 @@ PutsEntries entries hashes_before sums_before status hashes sums count =
     × (length entries ≤ length hashes_before → length entries ≤ length sums_before
     → (status ≡ 0)
     × (hashes ≡ map tuple_key entries ++ drop (length entries) hashes_before)
-    × (sums ≡ map sum_of entries ++ drop (length entries) sums_before))
+    × (sums ≡ map (λ e. e.summary) entries ++ drop (length entries) sums_before))
     × ((length hashes_before < length entries) ⊎ (length sums_before < length entries)
     → (status ≡ 6) × (hashes ≡ hashes_before) × (sums ≡ sums_before))
 

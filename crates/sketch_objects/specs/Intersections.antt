@@ -1,11 +1,12 @@
 -- Calls on intersections of theta sketches.
-use Rattle.std.specs.Prelude.{◌≡◌, ◌⊎◌, ℕ, List, true, false, None, Some}
+use Rattle.std.specs.Prelude.{◌≡◌, ◌⊎◌, ℕ, List, true, false, Option, None, Some}
 use Rattle.sketch_base.specs.Seed.{seed_hash}
 use Rattle.sketch_base.specs.declared.error.ErrorKind.{ErrorKind}
 use Rattle.core_compact.specs.CompactState.{Compact, shown_of}
 use Rattle.core_laws.specs.Entries.{hash_key, first_hash}
 use Rattle.core_laws.specs.Operators.{meet_next}
 use Rattle.core_laws.specs.Shown.{Shown, shown_value}
+use Rattle.core_laws.specs.Values.{Sketch}
 use Rattle.core_operators.specs.ANotB.{IsHashDifference, difference_refusal}
 use Rattle.core_operators.specs.Intersection.{new_intersection, seed_refusal, intersect_refusal, IsAnswerIfAny, IsHashIntersectError}
 use Rattle.core_state.specs.Updatable.{sketch_shows}
@@ -55,9 +56,12 @@ MeetsImage image old status new =
 abbrev pub IsIntersectionResult : SeededIntersection → CompactSketch → Type 0
 IsIntersectionResult i s = IsAnswerIfAny hash_key i.intersection.result i.intersection.seed_hash true (Some s.sketch)
 
--- the refusal of the result: 1 before the first sketch, and otherwise 3
+-- the refusal of the result of an intersection that has this value: 1 if it has none, before its first sketch, and otherwise 3
+abbrev pub IsNoValue : {X : Type 0} → Option (Sketch X) → (status : ℕ) → Type 0
+IsNoValue value status = ((status ≡ 1) × (value ≡ None)) ⊎ (status ≡ 3)
+
 abbrev pub IsNoResult : SeededIntersection → (status : ℕ) → Type 0
-IsNoResult i status = ((status ≡ 1) × (i.intersection.result ≡ None)) ⊎ (status ≡ 3)
+IsNoResult i status = IsNoValue i.intersection.result status
 
 -- the difference of two compact sketches, ordered
 abbrev pub IsDifferenceOf : (first second : CompactSketch) → CompactSketch → Type 0

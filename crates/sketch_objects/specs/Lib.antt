@@ -7,6 +7,7 @@ pub mod Settings
 pub mod Status
 pub mod Strings
 pub mod Sums
+pub mod SumsIntersections
 pub mod SumsUnions
 pub mod Thetas
 pub mod Totals

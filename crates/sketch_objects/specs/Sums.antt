@@ -11,11 +11,11 @@ use Rattle.core_slots.specs.Entry.{tuple_key}
 use Rattle.core_slots.specs.declared.entry.TupleEntry.{TupleEntry}
 use Rattle.core_state.specs.Updatable.{Updatable, sketch_value}
 use Rattle.core_table.specs.HashTable.{empty_table, after_insertion, after_reset, trimmed_table}
+use Rattle.totals.specs.Totals.{sum_of}
 use Rattle.tuple_sketches.specs.Image.{written}
 use Rattle.tuple_sketches.specs.Sketch.{sketch_state}
 use Rattle.sketch_objects.specs.Status.{IsRefusal}
 use Rattle.sketch_objects.specs.Thetas.{value_state}
-use Rattle.sketch_objects.specs.Totals.{total_of}
 use Rattle.sketch_objects.specs.declared.compact_sums.CompactSums.{CompactSums}
 use Rattle.sketch_objects.specs.declared.state.State.{State}
 use Rattle.sketch_objects.specs.declared.sums.SeededSums.{SeededSums}
@@ -91,4 +91,4 @@ IsCompactFormOfSums t s = IsAnswer tuple_key (sketch_value (sums_of t)) (sums_of
 
 -- the total of a sketch: the sum of its sums
 abbrev pub sums_total : SeededSums → ℕ
-sums_total t = total_of (sums_of t).sequence
+sums_total t = sum_of (sums_of t).sequence

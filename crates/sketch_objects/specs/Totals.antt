@@ -1,18 +1,8 @@
--- Totals of sums, and the decimals of what they estimate.
-use Rattle.std.specs.Prelude.{◌+◌, ◌*◌, ◌^◌, ◌&&◌, ℕ, Bool, nat_lt, nat_le, List, [], ◌∷◌}
+-- The decimals of what totals of sums estimate.
+use Rattle.std.specs.Prelude.{◌+◌, ◌*◌, ◌^◌, ◌&&◌, ℕ, Bool, nat_lt, nat_le}
 use Rattle.core_laws.specs.declared.TheConstants.{MAX_THETA}
-use Rattle.core_slots.specs.declared.entry.TupleEntry.{TupleEntry}
 use Rattle.sketch_objects.specs.Bounds.{WritesQuotient}
 use Rattle.sketch_objects.specs.declared.bounds.Wide.{Wide}
-
--- the sum of an entry
-abbrev pub sum_of : TupleEntry ℕ → ℕ
-sum_of e = e.summary
-
--- the sum of the sums of entries
-abbrev pub total_of : List (TupleEntry ℕ) → ℕ
-total_of [] = 0
-total_of (e ∷ es) = sum_of e + total_of es
 
 -- a total, below 2^64 times theta, and a theta from 1 to the greatest, as every sketch has them: it has fewer entries than theta
 abbrev pub is_total : (low high theta : ℕ) → Bool

@@ -3,15 +3,14 @@ ghost use Rattle.std.specs.Prelude.{◌≡◌, ◌≤◌, ◌++◌, None, length
 ghost use Rattle.core_slots.specs.Entry.{tuple_key};
 ghost use Rattle.sketch_objects.specs.Status.{IsMemoryRefusal};
 ghost use Rattle.sketch_objects.specs.CompactSums.{IsCompactSumsImage, IsSumsReadFrom, IsSumsReadRefusal, compact_sums_state, compact_total, PutsEntries};
-ghost use Rattle.sketch_objects.specs.Totals.{sum_of};
 ghost use Rattle.sketch_objects.specs.declared.compact_sums.CompactSums.{CompactSums};
 
 use crate::bounds::{Wide, split};
 use crate::objects::{FromImage, HasImage, HasState, HasTotal};
 use crate::state::State;
 use crate::status::{OK, OUT_OF_MEMORY, TOO_SMALL, status_of};
-use crate::totals::total_of;
 use std::alloc::Global;
+use totals::sum_of;
 use tuple_sketches::{CompactTupleSketch, TupleEntry};
 
 /// A compact sketch of sums.
@@ -51,7 +50,7 @@ impl HasTotal for CompactSums {
     fn total(&self) -> Wide {
         // By its contract there are fewer than 2^32 entries.
         let _ = self.sketch.num_retained();
-        split(total_of(self.sketch.iter()))
+        split(sum_of(self.sketch.iter()))
     }
 }
 
@@ -83,7 +82,7 @@ fn copy_entries(entries: &[TupleEntry<u64>], hashes: &mut [u64], sums: &mut [u64
     requires room_of_hashes { length entries.now ≤ length hashes.old }
     requires room_of_sums { length entries.now ≤ length sums.old }
     ensures hashes { hashes.new ≡ map tuple_key entries.now ++ drop (length entries.now) hashes.old }
-    ensures sums { sums.new ≡ map sum_of entries.now ++ drop (length entries.now) sums.old }
+    ensures sums { sums.new ≡ map (λ e. e.summary) entries.now ++ drop (length entries.now) sums.old }
 {
     'copy_each: for at in 0..entries.len() {
         let entry = &entries[at];

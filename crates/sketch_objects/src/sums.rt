@@ -12,9 +12,9 @@ use crate::hashes::{hash_of_bytes, hash_of_number};
 use crate::objects::{CanCopy, CanReset, CanTrim, HasCompact, HasImage, HasState, HasTotal};
 use crate::state::State;
 use crate::status::{OK, OUT_OF_MEMORY, status_of};
-use crate::totals::total_of;
 use sketch_base::Error;
 use std::alloc::Global;
+use totals::sum_of;
 use tuple_sketches::{DefaultUpdatePolicy, ResizeFactor, TupleSketch, TupleSketchBuilder};
 
 /// A sketch of sums, and the seed of its hashes.
@@ -109,7 +109,7 @@ impl HasTotal for SeededSums {
     fn total(&self) -> Wide {
         // By its contract there are fewer than 2^32 entries.
         let _ = self.sketch.num_retained();
-        split(total_of(self.sketch.iter()))
+        split(sum_of(self.sketch.iter()))
     }
 }
 

@@ -10,4 +10,4 @@ pub mod laws;
 mod total;
 
 pub use forms::{total_json_line, total_line, total_tsv_head, total_tsv_row};
-pub use total::{Total, total_of};
+pub use total::{Total, sum_of, total_of};

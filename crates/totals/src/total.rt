@@ -21,8 +21,8 @@ pub struct Total {
     pub theta: u64,
 }
 
-/// The sum of the sums of entries, of which there are fewer than 2^32.
-fn sum_of(entries: TupleSketchIter<'_, u64>) -> u128
+/// The sum of the sums of entries, below 2^96. There are fewer than 2^32 entries, as in every sketch.
+pub fn sum_of(entries: TupleSketchIter<'_, u64>) -> u128
     requires limited { length entries.rest < 2 ^ 32 }
     ensures sum { result ≡ sum_of entries.entry.rest }
     ensures limited { result ≤ (2 ^ 64 - 1) * length entries.entry.rest }
