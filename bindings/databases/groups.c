@@ -51,54 +51,6 @@ void union_free(union_group *group) {
     kc_union_free(&group->parts);
 }
 
-/* ---- Intersections ---- */
-
-kc_status meet_add(meet_group *group, kc_compact *sketch) {
-    kc_state state;
-    kc_status status = kc_compact_state(sketch, &state);
-    if (status != KC_OK) return status;
-    kc_intersection *piece = state.theta == KC_MAX_THETA ? &group->exact : &group->sampled;
-    if (piece->object == NULL) status = kc_intersection_new(piece, KC_DEFAULT_SEED);
-    return status != KC_OK ? status : kc_intersection_add_compact(piece, sketch);
-}
-
-int meet_has_result(const meet_group *group) { return group->exact.object != NULL || group->sampled.object != NULL; }
-
-kc_status meet_piece(kc_intersection *piece, kc_compact *out) { return kc_intersection_result(piece, out); }
-
-/* The intersection of both pieces. */
-static kc_status meet_pieces(kc_compact *exact, kc_compact *sampled, kc_compact *out) {
-    kc_intersection both = {0};
-    kc_status status = kc_intersection_new(&both, KC_DEFAULT_SEED);
-    if (status == KC_OK) status = kc_intersection_add_compact(&both, exact);
-    if (status == KC_OK) status = kc_intersection_add_compact(&both, sampled);
-    if (status == KC_OK) status = kc_intersection_result(&both, out);
-    kc_intersection_free(&both);
-    return status;
-}
-
-kc_status meet_result(meet_group *group, kc_compact *out) {
-    kc_compact exact = {0}, sampled = {0};
-    kc_state state = {0, 0, 0};
-    if (group->exact.object == NULL) return meet_piece(&group->sampled, out);
-    kc_status status = meet_piece(&group->exact, &exact);
-    if (status == KC_OK) status = kc_compact_state(&exact, &state);
-    if (status == KC_OK && state.retained == 0) status = empty_result(out);
-    else if (status == KC_OK && group->sampled.object == NULL) status = kc_compact_clone(&exact, out);
-    else if (status == KC_OK) {
-        status = meet_piece(&group->sampled, &sampled);
-        if (status == KC_OK) status = meet_pieces(&exact, &sampled, out);
-    }
-    kc_compact_free(&exact);
-    kc_compact_free(&sampled);
-    return status;
-}
-
-void meet_free(meet_group *group) {
-    kc_intersection_free(&group->exact);
-    kc_intersection_free(&group->sampled);
-}
-
 /* ---- Sums ---- */
 
 static kc_status begin_sums(sums_group *group) {
@@ -121,21 +73,42 @@ kc_status sums_add_sketch(sums_group *group, kc_compact_sums *sketch) {
     return status != KC_OK ? status : kc_sums_union_add_compact(&group->parts, sketch);
 }
 
-kc_status sums_result(sums_group *group, kc_compact_sums *out) {
-    sums_group none = {.lg_k = LEAST_LG_K};
-    if (group->parts.object != NULL) return kc_sums_union_result(&group->parts, out);
-    if (group->rows.object == NULL) group = &none;
-    kc_status status = begin_sums(group);
-    if (status == KC_OK) status = kc_sums_trim(&group->rows);
-    if (status == KC_OK) status = kc_sums_compact(&group->rows, out);
-    sums_free(&none);
+/* The empty sketch. */
+static kc_status empty_sums(kc_compact_sums *out) {
+    kc_sums none = {0};
+    kc_status status = kc_sums_new(&none, LEAST_LG_K, KC_DEFAULT_SEED);
+    if (status == KC_OK) status = kc_sums_compact(&none, out);
+    kc_sums_free(&none);
     return status;
+}
+
+kc_status sums_result(sums_group *group, kc_compact_sums *out) {
+    if (group->parts.object != NULL) return kc_sums_union_result(&group->parts, out);
+    if (group->rows.object == NULL) return empty_sums(out);
+    kc_status status = kc_sums_trim(&group->rows);
+    return status != KC_OK ? status : kc_sums_compact(&group->rows, out);
 }
 
 void sums_free(sums_group *group) {
     kc_sums_free(&group->rows);
     kc_sums_union_free(&group->parts);
 }
+
+/* ---- Intersections ---- */
+
+#define MEET(name) meet_##name
+#define SKETCH(name) kc_compact##name
+#define INTERSECTION(name) kc_intersection##name
+#define EMPTY empty_result
+#include "meet.inc"
+
+kc_status meet_piece(kc_intersection *piece, kc_compact *out) { return kc_intersection_result(piece, out); }
+
+#define MEET(name) sums_meet_##name
+#define SKETCH(name) kc_compact_sums##name
+#define INTERSECTION(name) kc_sums_intersection##name
+#define EMPTY empty_sums
+#include "meet.inc"
 
 /* ---- Images ---- */
 
@@ -221,13 +194,18 @@ static int write_wide(kc_wide n, char *text) {
     return (int)(sizeof digits - at - 1);
 }
 
+/* Writes the nearest whole number to a number with its tenths, likewise. */
+static int write_rounded(kc_wide whole, uint64_t tenths, char *text) {
+    if (tenths >= 5 && ++whole.low == 0) whole.high++;
+    return write_wide(whole, text);
+}
+
 int describe_state(const kc_state *state, char *text) {
     kc_wide whole, lower, upper;
     uint64_t tenths;
     if (kc_estimate_decimal(state->retained, state->theta, 1, &whole, &tenths) != KC_OK) return -1;
     if (kc_count_bounds(state->retained, state->theta, 2, &lower, &upper) != KC_OK) return -1;
-    if (tenths >= 5 && ++whole.low == 0) whole.high++;
-    int at = write_wide(whole, text);
+    int at = write_rounded(whole, tenths, text);
     if (state->theta == KC_MAX_THETA) at += sprintf(text + at, " exact");
     else {
         at += sprintf(text + at, " estimated, from ");
@@ -236,6 +214,15 @@ int describe_state(const kc_state *state, char *text) {
         at += write_wide(upper, text + at);
     }
     return at + sprintf(text + at, ", retained %llu, theta %llu", (unsigned long long)state->retained, (unsigned long long)state->theta);
+}
+
+int describe_sums(const kc_state *state, const kc_wide *total, char *text) {
+    kc_wide whole;
+    uint64_t tenths;
+    int at = describe_state(state, text);
+    if (at < 0 || kc_total_decimal(total, state->theta, 1, &whole, &tenths) != KC_OK) return -1;
+    at += sprintf(text + at, ", total ");
+    return at + write_rounded(whole, tenths, text + at);
 }
 
 int describe_bounds(kc_wide lower, kc_wide upper, char *text) {

@@ -62,6 +62,17 @@ kc_status sums_add_sketch(sums_group *group, kc_compact_sums *sketch);
 kc_status sums_result(sums_group *group, kc_compact_sums *out);
 void sums_free(sums_group *group);
 
+/* The intersection of tuple sketches of sums, which adds up the sums of a key, and its calls, as those of meet_group. sums_meet_add and
+ * sums_meet_result are also refused with KC_POLICY if the sum of a key would be 2^64 or more; nothing has changed then. */
+typedef struct {
+    kc_sums_intersection exact;
+    kc_sums_intersection sampled;
+} sums_meet_group;
+kc_status sums_meet_add(sums_meet_group *group, kc_compact_sums *sketch);
+int sums_meet_has_result(const sums_meet_group *group);
+kc_status sums_meet_result(sums_meet_group *group, kc_compact_sums *out);
+void sums_meet_free(sums_meet_group *group);
+
 /* Reads the one sketch that the bytes are the image of. If they are none, returns KC_INVALID_DATA and sets *flaw to the reason, which
  * completes a sentence: "the image is cut short". */
 kc_status read_image(const void *image, size_t count, kc_compact *out, const char **flaw);
@@ -72,6 +83,8 @@ enum { DESCRIPTION_ROOM = 256 };
 /* Writes what `distinct show` prints of a sketch: its count, whether that is exact, bounds by two standard deviations of an estimate, how
  * many hashes it retains, and theta. Returns the length of the text, which has a final 0 byte; or -1 if no sketch has this state. */
 int describe_state(const kc_state *state, char *text);
+/* Writes the same of the keys of a tuple sketch, and the estimate of its total, to the nearest whole number, likewise. */
+int describe_sums(const kc_state *state, const kc_wide *total, char *text);
 /* Writes bounds as a JSON array, such as [180,349], likewise. */
 int describe_bounds(kc_wide lower, kc_wide upper, char *text);
 /* The nearest floating-point number to a number of 128 bits. */

@@ -92,8 +92,3 @@ void put_bounds(context *call, const kc_state *state, uint32_t deviations) {
     if (!passed(call, kc_count_bounds(state->retained, state->theta, deviations, &lower, &upper))) return;
     sqlite3_result_text(call, text, describe_bounds(lower, upper, text), SQLITE_TRANSIENT);
 }
-
-void put_text(context *call, const kc_state *state) {
-    char text[DESCRIPTION_ROOM];
-    sqlite3_result_text(call, text, describe_state(state, text), SQLITE_TRANSIENT);
-}

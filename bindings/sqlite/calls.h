@@ -29,10 +29,9 @@ int take_lg_k(context *call, int count, value **arguments, int place, uint8_t *l
 /* Reads a number of standard deviations, likewise. */
 int take_deviations(context *call, int count, value **arguments, uint32_t *deviations);
 
-/* The results of a state: its estimate, its bounds as a JSON array, and its text. */
+/* The results of a state: its estimate, and its bounds as a JSON array. */
 void put_estimate(context *call, const kc_state *state);
 void put_bounds(context *call, const kc_state *state, uint32_t deviations);
-void put_text(context *call, const kc_state *state);
 
 /* A row leaves the frame of a window, which is refused. */
 void refuse_inverse(context *call, int count, value **arguments);

@@ -5,9 +5,14 @@
 
 void sums_build_step(context *call, int count, value **arguments);
 void sums_union_step(context *call, int count, value **arguments);
-void sums_value(context *call);
-void sums_final(context *call);
+void sums_union_value(context *call);
+void sums_union_final(context *call);
+void sums_meet_step(context *call, int count, value **arguments);
+void sums_meet_value(context *call);
+void sums_meet_final(context *call);
+void sums_a_not_b(context *call, int count, value **arguments);
 void sums_get_estimate(context *call, int count, value **arguments);
 void sums_get_bounds(context *call, int count, value **arguments);
 void sums_get_total(context *call, int count, value **arguments);
+void sums_to_text(context *call, int count, value **arguments);
 #endif

@@ -12,7 +12,7 @@ only passes arguments to it.
 """
 from ._library import DEFAULT_SEED, MAX_THETA
 from .errors import FailedError, InvalidArgumentError, InvalidDataError, OutOfMemoryError, PolicyError, SketchError
-from .sums import CompactTupleSums, TupleSums, TupleSumsUnion
+from .sums import CompactTupleSums, TupleSums, TupleSumsIntersection, TupleSumsUnion
 from .theta import CompactThetaSketch, ThetaIntersection, ThetaSketch, ThetaUnion
 
 __version__ = "0.1.0"
@@ -32,5 +32,6 @@ __all__ = [
     "ThetaSketch",
     "ThetaUnion",
     "TupleSums",
+    "TupleSumsIntersection",
     "TupleSumsUnion",
 ]

@@ -94,6 +94,10 @@ class SumsUnionHandle(Handle):
     """A union of tuple sketches of sums, or none."""
 
 
+class SumsIntersectionHandle(Handle):
+    """An intersection of tuple sketches of sums, or none."""
+
+
 def _declared(library: ctypes.CDLL, name: str, *types: Any) -> Callable[..., int]:
     call = library[f"kc_{name}"]
     call.argtypes, call.restype = types, c_uint32
@@ -103,6 +107,7 @@ def _declared(library: ctypes.CDLL, name: str, *types: Any) -> Callable[..., int
 _theta, _compact, _union = POINTER(ThetaHandle), POINTER(CompactHandle), POINTER(UnionHandle)
 _intersection, _sums = POINTER(IntersectionHandle), POINTER(SumsHandle)
 _compact_sums, _sums_union = POINTER(CompactSumsHandle), POINTER(SumsUnionHandle)
+_sums_intersection = POINTER(SumsIntersectionHandle)
 _settings = (c_uint8, c_uint64, c_uint32, c_uint64)
 _input = (c_char_p, c_size_t)
 _output = (c_void_p, c_size_t, POINTER(c_uint64))
@@ -114,6 +119,7 @@ IntersectionHandle.free = _declared(_short, "intersection_free", _intersection)
 SumsHandle.free = _declared(_short, "sums_free", _sums)
 CompactSumsHandle.free = _declared(_short, "compact_sums_free", _compact_sums)
 SumsUnionHandle.free = _declared(_short, "sums_union_free", _sums_union)
+SumsIntersectionHandle.free = _declared(_short, "sums_intersection_free", _sums_intersection)
 
 theta_new = _declared(_short, "theta_new_with", _theta, *_settings)
 theta_clone = _declared(_long, "theta_clone", _theta, _theta)
@@ -164,6 +170,12 @@ sums_union_add = _declared(_long, "sums_union_add", _sums_union, _sums)
 sums_union_add_image = _declared(_long, "sums_union_add_image", _sums_union, *_input)
 sums_union_result = _declared(_long, "sums_union_result", _sums_union, _compact_sums)
 sums_union_reset = _declared(_long, "sums_union_reset", _sums_union)
+
+sums_intersection_new = _declared(_short, "sums_intersection_new", _sums_intersection, c_uint64)
+sums_intersection_add = _declared(_long, "sums_intersection_add", _sums_intersection, _sums)
+sums_intersection_add_image = _declared(_long, "sums_intersection_add_image", _sums_intersection, *_input)
+sums_intersection_result = _declared(_long, "sums_intersection_result", _sums_intersection, _compact_sums)
+sums_difference = _declared(_long, "sums_difference", _compact_sums, _compact_sums, c_uint64, _compact_sums)
 
 estimate_numerator = _declared(_short, "estimate_numerator", c_uint64, POINTER(Wide))
 estimate_text = _declared(_short, "estimate_text", POINTER(State), c_uint32, *_output)

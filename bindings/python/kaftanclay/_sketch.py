@@ -264,14 +264,35 @@ class Merge:
     _lock: Any
     _family: Any
     _updatable: Any
+    _kind: Any
+    _new: Any
     _add: Any
     _add_image: Any
+    _result: Any
+    _result_kind: Any
     _seed: int
 
     @property
     def seed(self) -> int:
         """The seed of its sketches."""
         return self._seed
+
+    def _result_handle(self) -> Any:
+        """The handle of its value, which no other thread knows."""
+        made = self._result_kind()
+        with self._lock:
+            check(self._result(self._handle, made), "an intersection has no value before its first sketch")
+        return made
+
+    def _value(self, lg_k: int | None) -> Any:
+        """Its value as a compact sketch of this lg_k."""
+        raise NotImplementedError
+
+    def _of_two(self, first: Sketch, second: Sketch) -> Any:
+        """The value of a new merge after two sketches."""
+        self.update(first)
+        self.update(second)
+        return self._value(max(first.lg_k, second.lg_k))
 
     def update(self, sketch: Any) -> None:
         """Merges a sketch, or the bytes of an image; neither changes.
@@ -297,8 +318,6 @@ class UnionMerge(Merge):
     """What unions share."""
 
     __slots__ = ("_lg_k",)
-    _kind: Any
-    _new: Any
     _reset: Any
     _lg_k: int
 
@@ -317,3 +336,14 @@ class UnionMerge(Merge):
         """Makes it empty again, as when it was new, and ends a failure."""
         with self._lock:
             check(self._reset(self._handle))
+
+
+class IntersectionMerge(Merge):
+    """What intersections share."""
+
+    __slots__ = ()
+
+    def __init__(self, seed: int = DEFAULT_SEED) -> None:
+        self._seed = number(seed, 64, "a seed")
+        self._lock, self._handle = threading.RLock(), self._kind()
+        check(self._new(self._handle, self._seed), f"the hash of the seed {seed} is 0; pass another")

@@ -1,4 +1,4 @@
-"""Tuple sketches whose summaries are sums of 64 bits: those that take updates, compact ones, and unions."""
+"""Tuple sketches whose summaries are sums of 64 bits: those that take updates, compact ones, unions and intersections."""
 from __future__ import annotations
 
 import struct
@@ -8,15 +8,28 @@ from typing import Any
 from . import _keys
 from . import _library as library
 from ._keys import Key
-from ._library import DEFAULT_SEED, MAX_THETA, CompactSumsHandle, State, SumsHandle, SumsUnionHandle, Wide, check, number, written
-from ._sketch import CompactSketch, Sketch, UnionMerge, UpdatableSketch, entries_of, image_of
+from ._library import (
+    DEFAULT_SEED,
+    MAX_THETA,
+    CompactSumsHandle,
+    State,
+    SumsHandle,
+    SumsIntersectionHandle,
+    SumsUnionHandle,
+    Wide,
+    check,
+    number,
+    written,
+)
+from ._sketch import CompactSketch, IntersectionMerge, Merge, Sketch, UnionMerge, UpdatableSketch, entries_of, image_of, require_seed
 
 
 class SumsValue(Sketch):
-    """What both kinds of sketches of sums share: `|` unites two, and adds up the sums of a shared key.
+    """What both kinds of sketches of sums share: `|` unites two, `&` intersects them, `-` is their difference.
 
-    Both sketches must have one seed, else InvalidArgumentError is raised. Raises PolicyError if a sum would be 2^64 or
-    more. The `lg_k` of the result is the greater of the two.
+    `|` and `&` add up the two sums of a shared key, and raise PolicyError if that is 2^64 or more; `-` keeps the sums of the
+    first sketch. The results are compact. Both sketches must have one seed, else InvalidArgumentError is raised. The `lg_k`
+    of a result is the greater of the two; a union retains at most 2^lg_k sums.
     """
 
     __slots__ = ()
@@ -55,17 +68,27 @@ class SumsValue(Sketch):
     def __or__(self, other: SumsValue) -> CompactTupleSums:
         if not isinstance(other, SumsValue):
             return NotImplemented
-        union = TupleSumsUnion(max(self.lg_k, other.lg_k), self.seed)
-        union.update(self)
-        union.update(other)
-        return union.result()
+        return TupleSumsUnion(max(self.lg_k, other.lg_k), self.seed)._of_two(self, other)
+
+    def __and__(self, other: SumsValue) -> CompactTupleSums:
+        if not isinstance(other, SumsValue):
+            return NotImplemented
+        return TupleSumsIntersection(self.seed)._of_two(self, other)
+
+    def __sub__(self, other: SumsValue) -> CompactTupleSums:
+        if not isinstance(other, SumsValue):
+            return NotImplemented
+        require_seed(other, self.seed)
+        first, second, made = self._compact_handle(), other._compact_handle(), CompactSumsHandle()
+        check(library.sums_difference(first, second, self.seed, made))
+        return CompactTupleSums._of(made, self.seed, max(self.lg_k, other.lg_k))
 
 
 class CompactTupleSums(CompactSketch, SumsValue):
     """A tuple sketch of sums that never changes: its image in the DataSketches format.
 
-    It is made by `from_bytes`, by `TupleSums.compact` and by `|`. It has no object of the library, may be used by many
-    threads at once, pickled, copied, compared and hashed.
+    It is made by `from_bytes`, by `TupleSums.compact` and by the operators. It has no object of the library, may be used by
+    many threads at once, pickled, copied, compared and hashed.
     """
 
     __slots__ = ()
@@ -143,7 +166,17 @@ class TupleSums(UpdatableSketch, SumsValue):
             check(library.sums_add_hash(handle, 0, 0))
 
 
-class TupleSumsUnion(UnionMerge):
+class SumsMerge(Merge):
+    """What unions and intersections of sketches of sums share."""
+
+    __slots__ = ()
+    _family, _updatable, _result_kind = SumsValue, TupleSums, CompactSumsHandle
+
+    def _value(self, lg_k: int | None) -> CompactTupleSums:
+        return CompactTupleSums._of(self._result_handle(), self.seed, lg_k)
+
+
+class TupleSumsUnion(UnionMerge, SumsMerge):
     """A union of any number of sketches of sums, in any order. It adds up the sums of a key.
 
     It retains at most 2^lg_k sums, those of the least hashes. After a PolicyError or an OutOfMemoryError of `update` it may
@@ -151,13 +184,26 @@ class TupleSumsUnion(UnionMerge):
     """
 
     __slots__ = ()
-    _family, _updatable = SumsValue, TupleSums
     _kind, _new, _reset = SumsUnionHandle, library.sums_union_new, library.sums_union_reset
-    _add, _add_image = library.sums_union_add, library.sums_union_add_image
+    _add, _add_image, _result = library.sums_union_add, library.sums_union_add_image, library.sums_union_result
 
     def result(self) -> CompactTupleSums:
         """Its value as a compact sketch."""
-        made = CompactSumsHandle()
-        with self._lock:
-            check(library.sums_union_result(self._handle, made))
-        return CompactTupleSums._of(made, self.seed, self.lg_k)
+        return self._value(self.lg_k)
+
+
+class TupleSumsIntersection(IntersectionMerge, SumsMerge):
+    """An intersection of any number of sketches of sums. It adds up the sums of a key that all of them have.
+
+    It has no value before its first sketch. After an error of `update` it is unchanged. `update` raises PolicyError if a
+    sum would be 2^64 or more, also if a later sketch lacks the key.
+    """
+
+    __slots__ = ()
+    _kind, _new = SumsIntersectionHandle, library.sums_intersection_new
+    _add, _add_image = library.sums_intersection_add, library.sums_intersection_add_image
+    _result = library.sums_intersection_result
+
+    def result(self) -> CompactTupleSums:
+        """Its value as a compact sketch. Raises InvalidArgumentError before the first sketch."""
+        return self._value(None)

@@ -1,7 +1,6 @@
 """Theta sketches: those that take updates, compact ones, unions and intersections."""
 from __future__ import annotations
 
-import threading
 from array import array
 from collections.abc import Iterable
 from typing import Any
@@ -10,7 +9,18 @@ from . import _keys
 from . import _library as library
 from ._keys import Key
 from ._library import DEFAULT_SEED, CompactHandle, IntersectionHandle, State, ThetaHandle, UnionHandle, check, number, written
-from ._sketch import PREAMBLE, CompactSketch, Merge, Sketch, UnionMerge, UpdatableSketch, entries_of, image_of, require_seed
+from ._sketch import (
+    PREAMBLE,
+    CompactSketch,
+    IntersectionMerge,
+    Merge,
+    Sketch,
+    UnionMerge,
+    UpdatableSketch,
+    entries_of,
+    image_of,
+    require_seed,
+)
 
 _EMPTY = bytes.fromhex("010303 00001e 0000")
 
@@ -31,10 +41,7 @@ class ThetaValue(Sketch):
     def __or__(self, other: ThetaValue) -> CompactThetaSketch:
         if not isinstance(other, ThetaValue):
             return NotImplemented
-        union = ThetaUnion(max(self.lg_k, other.lg_k), self.seed)
-        union.update(self)
-        union.update(other)
-        return union.result()
+        return ThetaUnion(max(self.lg_k, other.lg_k), self.seed)._of_two(self, other)
 
     def __and__(self, other: ThetaValue) -> CompactThetaSketch:
         return self._combined(library.images_intersect, other)
@@ -147,14 +154,11 @@ class ThetaMerge(Merge):
     """What unions and intersections of theta sketches share."""
 
     __slots__ = ()
-    _family, _updatable = ThetaValue, ThetaSketch
-    _result: Any
+    _family, _updatable, _result_kind = ThetaValue, ThetaSketch, CompactHandle
 
-    def _image(self) -> bytes:
-        made = CompactHandle()
-        with self._lock:
-            check(self._result(self._handle, made), "an intersection has no value before its first sketch")
-        return written(library.compact_image, made, room=4096)
+    def _value(self, lg_k: int | None) -> CompactThetaSketch:
+        image = written(library.compact_image, self._result_handle(), room=4096)
+        return CompactThetaSketch._of(image, self.seed, lg_k)
 
 
 class ThetaUnion(UnionMerge, ThetaMerge):
@@ -170,20 +174,16 @@ class ThetaUnion(UnionMerge, ThetaMerge):
 
     def result(self) -> CompactThetaSketch:
         """Its value as a compact sketch."""
-        return CompactThetaSketch._of(self._image(), self.seed, self.lg_k)
+        return self._value(self.lg_k)
 
 
-class ThetaIntersection(ThetaMerge):
+class ThetaIntersection(IntersectionMerge, ThetaMerge):
     """An intersection of any number of theta sketches, in any order. It has no value before its first sketch."""
 
     __slots__ = ()
+    _kind, _new = IntersectionHandle, library.intersection_new
     _add, _add_image, _result = library.intersection_add, library.intersection_add_image, library.intersection_result
-
-    def __init__(self, seed: int = DEFAULT_SEED) -> None:
-        self._seed = number(seed, 64, "a seed")
-        self._lock, self._handle = threading.RLock(), IntersectionHandle()
-        check(library.intersection_new(self._handle, self._seed), f"the hash of the seed {seed} is 0; pass another")
 
     def result(self) -> CompactThetaSketch:
         """Its value as a compact sketch. Raises InvalidArgumentError before the first sketch."""
-        return CompactThetaSketch._of(self._image(), self.seed, None)
+        return self._value(None)

@@ -5,7 +5,16 @@ import sys
 import threading
 
 import pytest
-from kaftanclay import CompactThetaSketch, SketchError, ThetaIntersection, ThetaSketch, ThetaUnion, TupleSums, TupleSumsUnion
+from kaftanclay import (
+    CompactThetaSketch,
+    SketchError,
+    ThetaIntersection,
+    ThetaSketch,
+    ThetaUnion,
+    TupleSums,
+    TupleSumsIntersection,
+    TupleSumsUnion,
+)
 
 
 def pages():
@@ -21,9 +30,11 @@ def use_some():
     union.update(sketch)
     meet.update(sketch)
     sums.update("ann", 5)
-    sums_union = TupleSumsUnion(8)
+    sums_union, sums_meet = TupleSumsUnion(8), TupleSumsIntersection()
     sums_union.update(copy.copy(sums))
-    assert sums_union.result() == sums.compact() == sums | TupleSums(8) and len(copy.copy(sketch)) == 100
+    sums_meet.update(sums)
+    assert sums_union.result() == sums_meet.result() == sums.compact() == sums | TupleSums(8) and len(copy.copy(sketch)) == 100
+    assert sums - TupleSums(8) == sums.compact() and len(sums & sums) == 1 and (sums - sums).is_empty
     assert union.result() == meet.result() == CompactThetaSketch.from_bytes(sketch.to_bytes())
     for refused in (lambda: CompactThetaSketch.from_bytes(b"abc"), lambda: ThetaSketch(3), lambda: union.update(b"abc")):
         with pytest.raises(SketchError):

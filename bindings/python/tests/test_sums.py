@@ -1,5 +1,6 @@
 """Each call on tuple sketches of sums."""
 import copy
+import operator
 import pickle
 
 import lines
@@ -15,18 +16,19 @@ from kaftanclay import (
     SketchError,
     ThetaSketch,
     TupleSums,
+    TupleSumsIntersection,
     TupleSumsUnion,
 )
 
 
-def hash_of(key):
+def hash_of(key, seed=DEFAULT_SEED):
     data = key.encode() if isinstance(key, str) else key if isinstance(key, bytes) else key.to_bytes(8, "little")
-    return lines.murmur(data, DEFAULT_SEED) >> 1
+    return lines.murmur(data, seed) >> 1
 
 
-def sums_of(values, lg_k=12):
+def sums_of(values, lg_k=12, seed=DEFAULT_SEED):
     """A trimmed sketch of a dict of keys and values."""
-    sums = TupleSums(lg_k)
+    sums = TupleSums(lg_k, seed)
     for key, value in values.items():
         sums.update(key, value)
     sums.trim()
@@ -37,6 +39,22 @@ def items_of(values, k=4096):
     """The items of such a sketch, and its theta, from the pages alone."""
     hashes, theta = lines.cut(k, {hash_of(key) for key in values}, MAX_THETA)
     return sorted((hash_of(key), value) for key, value in values.items() if hash_of(key) in hashes), theta
+
+
+def value_of(values, seed=DEFAULT_SEED):
+    """Such a sketch, from the pages alone: None if it is empty, or a dict of its hashes and their sums, and its theta."""
+    sums = {hash_of(key, seed): value for key, value in values.items()}
+    hashes, theta = lines.cut(4096, sums, MAX_THETA)
+    return ({hash: sums[hash] for hash in hashes}, theta) if values else None
+
+
+def combined(kind, first, second):
+    """The intersection, by &, or the difference, by -, of two such sketches, from the pages alone."""
+    return lines.two_sums(kind, first, second, 4096)
+
+
+def image_of(value, seed=DEFAULT_SEED):
+    return lines.image_of(value, lines.seed_hash(seed), of_sums=True)
 
 
 def test_sums():
@@ -104,6 +122,85 @@ def test_sum_of_a_union_is_too_great():
     assert union.result() == most.compact() and union.result().total == 2.0**64
 
 
+@pytest.mark.parametrize("seed", [DEFAULT_SEED, 7])
+@pytest.mark.parametrize("count", [0, 1, 2, 4096, 4097, 20000])
+def test_intersections_and_differences(count, seed):
+    """Of exact and estimating sketches that overlap by half, with the empty sketch, with a small one and with themselves."""
+    first = {key: key % 7 for key in range(count)}
+    second = {key: key % 5 + 10 for key in range(count // 2, count + count // 2)}
+    few = {key: 2**40 + key for key in range(90)}
+    a, b, c, empty = sums_of(first, 12, seed), sums_of(second, 12, seed), sums_of(few, 12, seed), TupleSums(seed=seed)
+    x, y, z = value_of(first, seed), value_of(second, seed), value_of(few, seed)
+    pairs = [(a, b, x, y), (b, a, y, x), (a.compact(), b, x, y), (a, b.compact(), x, y), (a.compact(), b.compact(), x, y)]
+    pairs += [(a, a, x, x), (a, empty, x, None), (empty, b, None, y), (a, c, x, z), (c, a, z, x), (b, c, y, z)]
+    for left, right, *values in pairs:
+        both, rest = left & right, left - right
+        assert both.to_bytes() == image_of(combined("&", *values), seed)
+        assert rest.to_bytes() == image_of(combined("-", *values), seed)
+        for it in (both, rest):
+            assert type(it) is CompactTupleSums and (it.lg_k, it.seed) == (12, seed)
+    assert a.to_bytes() == image_of(x, seed) and c.to_bytes() == image_of(z, seed)
+    if count <= 4096:
+        assert (a & b).total == sum(first[key] + second[key] for key in first.keys() & second.keys())
+        assert (a - b).total == sum(first[key] for key in first.keys() - second.keys())
+
+
+def test_estimates_of_an_intersection_and_a_difference():
+    first, second = {key: key % 10 for key in range(30000)}, {key: 3 for key in range(10000, 40000)}
+    a, b = sums_of(first), sums_of(second)
+    shared, total = [key for key in first if key in second], sum(first[key] + 3 for key in range(10000, 30000))
+    assert 0.9 * len(shared) < (a & b).estimate < 1.1 * len(shared) and 0.9 * total < (a & b).total < 1.1 * total
+    assert (a & b).theta == (a - b).theta == min(a.theta, b.theta) and not (a & b).is_exact
+    assert 0.9 * 45000 < (a - b).total < 1.1 * 45000
+    assert ((a & b) | (a - b)).estimate_fraction == (a & b).estimate_fraction + (a - b).estimate_fraction
+    assert (sums_of({"ann": 1}, 10) & sums_of({"ann": 1}, 14)).lg_k == (sums_of({}, 14) - sums_of({}, 10)).lg_k == 14
+
+
+def test_intersection():
+    meet = TupleSumsIntersection()
+    with pytest.raises(InvalidArgumentError, match="before its first sketch"):
+        meet.result()
+    parts = [{key: key for key in range(3000)}, {key: 1 for key in range(1000, 4000)}, {key: key % 9 for key in range(2000, 9000)}]
+    meet.update(sums_of(parts[0]))
+    assert meet.result() == sums_of(parts[0]).compact()
+    meet.update(sums_of(parts[1]).to_bytes())
+    meet.update(sums_of(parts[2]).compact())
+    first, second, third = map(value_of, parts)
+    wanted = image_of(combined("&", combined("&", first, second), third))
+    assert meet.result().to_bytes() == wanted and meet.seed == DEFAULT_SEED
+    truth = sum(part[key] for part in parts for key in range(2000, 3000))
+    assert 0.9 * truth < meet.result().total < 1.1 * truth
+    for data in (b"abc", bytes(8), ThetaSketch().to_bytes(), sums_of({"ann": 1}, seed=1).to_bytes()):
+        with pytest.raises(InvalidDataError):
+            meet.update(data)
+    for other in (5, "ann", None, ThetaSketch(), TupleSumsUnion(), meet):
+        with pytest.raises(TypeError):
+            meet.update(other)
+    with pytest.raises(InvalidArgumentError, match="different seeds"):
+        meet.update(sums_of({"ann": 1}, seed=1))
+    assert meet.result().to_bytes() == wanted
+    meet.update(TupleSums())
+    meet.update(sums_of(parts[0]))
+    assert meet.result().is_empty and meet.result().to_bytes() == TupleSums().to_bytes()
+
+
+def test_sum_of_an_intersection_is_too_great():
+    most, more = sums_of({"ann": 2**64 - 1, "bob": 1}), sums_of({"ann": 1, "cy": 5})
+    with pytest.raises(PolicyError, match="2\\^64"):
+        most & more
+    meet = TupleSumsIntersection()
+    meet.update(most)
+    for sketch in (more, more.compact(), more.to_bytes()):
+        with pytest.raises(PolicyError):
+            meet.update(sketch)
+        assert meet.result() == most.compact()
+    meet.update(sums_of({"ann": 0, "bob": 2, "cy": 2**64 - 1}))
+    assert meet.result().to_bytes() == image_of(value_of({"ann": 2**64 - 1, "bob": 3}))
+    # A difference adds up nothing, and an intersection no sum of a key that isn't shared.
+    assert (most - sums_of({"bob": 2**64 - 1})).to_bytes() == image_of(value_of({"ann": 2**64 - 1}))
+    assert (most & sums_of({"bob": 2})).to_bytes() == image_of(value_of({"bob": 3}))
+
+
 def test_compact_sums_are_values():
     compact = sums_of({key: key for key in range(9000)}).compact()
     read = CompactTupleSums.from_bytes(compact.to_bytes() + b"more")
@@ -155,11 +252,19 @@ def test_refusals():
         for lg_k in (3, 27, 300):
             with pytest.raises(InvalidArgumentError, match="lg_k"):
                 make(lg_k)
-    with pytest.raises(InvalidArgumentError, match="different seeds"):
-        sums | TupleSums(seed=1)
-    for other in (ThetaSketch(), 5):
-        with pytest.raises(TypeError):
-            sums | other
+    for call in (operator.or_, operator.and_, operator.sub):
+        with pytest.raises(InvalidArgumentError, match="different seeds"):
+            call(sums, TupleSums(seed=1))
+        for other in (ThetaSketch(), ThetaSketch().compact(), 5, "ann"):
+            with pytest.raises(TypeError):
+                call(sums, other)
+            with pytest.raises(TypeError):
+                call(other, sums.compact())
+    # The hash of the seed 50541 is 0.
+    for seed in (-1, 2**64, 50541):
+        with pytest.raises(InvalidArgumentError):
+            TupleSumsIntersection(seed)
     for call in (copy.copy, copy.deepcopy, pickle.dumps):
-        with pytest.raises(TypeError):
-            call(TupleSumsUnion())
+        for made in (TupleSumsUnion(), TupleSumsIntersection()):
+            with pytest.raises(TypeError, match="take its result"):
+                call(made)
