@@ -21,16 +21,16 @@ M64 = 2**64 - 1
 LINES = "--lg-k --field --separator --seed --seed-file --files0-from --progress "
 OPTIONS = {
     "count": LINES + "--by --sort --bounds --tsv --json",
-    "sketch": LINES + "--by --value --hex --output --output-dir",
+    "sketch": LINES + "--by --value --visits --hex --output --output-dir",
     "union": "--lg-k --seed --seed-file --files0-from --expect --hex --groups --sums --output",
     "meet": "--seed --seed-file --files0-from --expect --hex --output",
     "minus": "--seed --seed-file --hex --output",
     "show": "--seed --seed-file --files0-from --hex --bounds --tsv --json",
     "eval": "--lg-k --seed --seed-file --keys --sums --field --separator --bounds --tsv --json --hex --output",
-    "visits": "--lg-k --field --separator --seed --seed-file --files0-from --bounds --tsv --json",
+    "visits": "--lg-k --field --separator --sums --hex --seed --seed-file --files0-from --bounds --tsv --json",
     "sum": "--value --lg-k --field --separator --seed --seed-file --files0-from --tsv --json",
 }
-FLAGS = ("--hex", "--groups", "--sums", "--progress", "--keys")
+FLAGS = ("--hex", "--groups", "--sums", "--visits", "--progress", "--keys")
 FAMILIES = (
     "Alpha sketches,update sketches,theta sketches,unions,intersections,differences,HLL sketches,quantiles sketches,"
     "tuple sketches,frequency sketches,reservoirs,unions of reservoirs,VarOpt sketches,unions of VarOpt sketches,KLL sketches,"
@@ -133,11 +133,11 @@ def visits_of(texts, options, seed):
 
 
 def sums_of(texts, options, seed):
-    """The sketch of the lines of texts, each with its name, with the sum of the values of each of its hashes."""
+    """The sketch of the lines of texts, each with its name, with the sum of the values of each of its hashes; of 1 without --value."""
     sums = collections.Counter()
     for name, text in texts:
         for number, line in enumerate(lines_of(text), 1):
-            value = key_of(line, options["--value"], options["--separator"])
+            value = key_of(line, options["--value"], options["--separator"]) if options.get("--value") else b"1"
             if not re.fullmatch(rb"[0-9]+", value) or int(value) > M64:
                 raise Failure(f"{escaped(called(name))}: line {number}: its value is not a whole number up to {M64}")
             key = murmur(key_of(line, options["--field"], options["--separator"]), seed) >> 1
@@ -562,10 +562,14 @@ def read_arguments(words):
         raise Fault("--separator without --field, --by and --value")
     if {"--sums", "--keys"} <= options.keys():
         raise Fault("--sums and --keys")
-    if command == "sketch" and "--value" in options and {"--by", "--progress"} & options.keys():
-        raise Fault("--value with --by or --progress")
-    if "--sums" in options and {"--groups", "--bounds"} & options.keys():
-        raise Fault("--sums with --groups or --bounds")
+    if {"--value", "--visits"} <= options.keys():
+        raise Fault("--value and --visits")
+    if command == "sketch" and {"--value", "--visits"} & options.keys() and {"--by", "--progress"} & options.keys():
+        raise Fault("--value or --visits with --by or --progress")
+    if command == "visits" and "--hex" in options and "--sums" not in options:
+        raise Fault("visits --hex without --sums")
+    if "--sums" in options and ({"--groups", "--field"} & options.keys() or command == "eval" and "--bounds" in options):
+        raise Fault("--sums with --groups, --field or eval --bounds")
     if command == "sketch" and "--by" in options and "--hex" not in options and "--output-dir" not in options:
         raise Fault("--by without --hex and without --output-dir")
     if "--sort" in options and "--by" not in options:
@@ -576,7 +580,7 @@ def read_arguments(words):
         raise Fault("--output-dir without --by or with --output")
     if "--files0-from" in options and words:
         raise Fault("a list and files")
-    if command in ("count", "sketch", "visits", "sum") and not words and "--files0-from" not in options:
+    if command in ("count", "sketch", "visits", "sum") and not words and not {"--files0-from", "--sums"} & options.keys():
         words = ["-"]
     read = set(names_of(steps_of(words[0]))) if command == "eval" else words
     if [options["seed"][1], options.get("--files0-from"), *read].count("-") > 1:
@@ -623,10 +627,10 @@ def advice(command, image, of_sums):
     if len(image) >= 8 and (image[2] == own or image[2] not in (8, 9, 10, 13) and 1 <= image[2] <= len(FAMILIES)):
         return ""
     if len(image) >= 8 and image[2] == 9:
-        read = "; union --sums and eval --sums read images of sums, count and sketch lines"
+        read = "; union --sums, eval --sums and visits --sums read images of sums, count and sketch lines"
         return "; pass --sums for images of sums, --keys for lines" if command == "eval" else read
     if of_sums:
-        return "; sketch --value reads lines"
+        return "; visits without --sums reads lines" if command == "visits" else "; sketch --value reads lines"
     return "; pass --keys if its files have lines" if command == "eval" else "; count or sketch reads lines"
 
 
@@ -719,7 +723,8 @@ def run(words, files, messages):
     hex_lines = options["--hex"]
     if command == "minus" and not hex_lines and len(names) != 2:
         raise Fault("not two files")
-    if command not in ("count", "sketch", "eval", "visits", "sum") and not names and "--files0-from" not in options:
+    reads_images = command not in ("count", "sketch", "eval", "visits", "sum") or command == "visits" and options["--sums"]
+    if reads_images and not names and "--files0-from" not in options:
         raise Fault("no image")
     seed = seed_of(files, options)
     if "--files0-from" in options:
@@ -727,12 +732,12 @@ def run(words, files, messages):
         if b"\n" in listed and b"\0" not in listed:
             raise Failure(f"{escaped(called(options['--files0-from']))}: has no NUL byte; each name ends in one (find -print0)")
         names = [it.decode() for it in listed.split(b"\0") if it]
-    if command == "visits":
+    if command == "visits" and not options["--sums"]:
         sketch, counts = visits_of([text_of(files, name) for name in names], options, seed)
         return printed_ranges(ranges_of(sketch, counts, options["--bounds"] or 2), options).encode()
     if command == "sum":
         return printed_total(sums_of([(name, text_of(files, name)) for name in names], options, seed), options).encode()
-    if command == "sketch" and options.get("--value"):
+    if command == "sketch" and (options.get("--value") or options.get("--visits")):
         image = image_of(sums_of([(name, text_of(files, name)) for name in names], options, seed), seed_hash(seed), True)
         return written(image.hex().encode() + b"\n" if hex_lines else image, files, options)
     if options["--groups"]:
@@ -784,6 +789,10 @@ def run(words, files, messages):
             raise Fault("no image")
     if command in ("count", "show") or command == "eval" and options["--output"] is None:
         return printed([(name, report_of(it, z)) for name, it in rows], options, command).encode()
+    if command == "visits":
+        sketch = combined("union", rows, options, messages)
+        counts = list(sketch[0].values()) if sketch else []
+        return printed_ranges(ranges_of(sketch, counts, options["--bounds"] or 2), options).encode()
     if command not in ("sketch", "eval"):
         sketch = combined(command, rows, options, messages)
     image = image_of(sketch, seed_hash(seed), bool(options["--sums"]))

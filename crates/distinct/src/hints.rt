@@ -86,12 +86,16 @@ impl fmt::Display for Hint<'_> {
                 } else {
                     write!(
                         f,
-                        "; union --sums and eval --sums read images of sums, count and sketch lines"
+                        "; union --sums, eval --sums and visits --sums read images of sums, count and sketch lines"
                     )
                 }
             }
             Failure::NoSums(_, 0, flaw) if may_have_lines(*flaw) => {
-                write!(f, "; sketch --value reads lines")
+                if command == "visits" {
+                    write!(f, "; visits without --sums reads lines")
+                } else {
+                    write!(f, "; sketch --value reads lines")
+                }
             }
             Failure::NoSketch(_, 0, flaw) if may_have_lines(*flaw) => {
                 if command == "eval" {

@@ -182,7 +182,7 @@ fn run_request(
             let makes_sketch = command == Command::Count || command == Command::Sketch;
             let prints_sums = command == Command::Visits || command == Command::Sum;
             let reads_lines = makes_sketch || prints_sums;
-            let from_standard = reads_lines && options.list.is_none();
+            let from_standard = reads_lines && !options.sums && options.list.is_none();
             (from_standard, options.progress, options.output)
         }
     };

@@ -4,11 +4,11 @@ use Rattle.std.specs.Option.{option_map_or}
 use Rattle.std.specs.List.{find}
 use Rattle.std.specs.Str.{bytes_eq}
 use Rattle.distinct_arguments.specs.Words.{command_of, option_called, has_option, reads_lines, reads_expression, is_help, is_version, is_option, is_standard, Setting, split_option}
-use Rattle.distinct_arguments.specs.Settings.{SeedValue, seed_number, seed_file, OptionValues, default_options, Mistake, no_command, unknown_command, unknown_option, behind_file, no_value, unneeded_value, not_one_expression, lone_field, lone_sum, lone_separator, summed_keys, plain_sums, summed_groups, summed_bounds, lone_groups, lone_order, lone_unions, counted_groups, lone_folder, two_outputs, files_and_list, standard_twice, with_flag, with_value}
+use Rattle.distinct_arguments.specs.Settings.{SeedValue, seed_number, seed_file, OptionValues, default_options, Mistake, no_command, unknown_command, unknown_option, behind_file, no_value, unneeded_value, not_one_expression, lone_field, lone_sum, lone_separator, two_amounts, plain_sums, lone_digits, summed_keys, summed_field, summed_groups, summed_bounds, lone_groups, lone_order, lone_unions, counted_groups, lone_folder, two_outputs, files_and_list, standard_twice, with_flag, with_value}
 use Rattle.distinct_arguments.specs.declared.commands.Command.{Command}
 use Rattle.distinct_arguments.specs.declared.commands.Topic.{Topic}
 use Rattle.distinct_arguments.specs.declared.commands.Topic.TheVariants.{Program, Version, Help}
-use Rattle.distinct_arguments.specs.declared.commands.Command.TheVariants.{Sketch, Sum}
+use Rattle.distinct_arguments.specs.declared.commands.Command.TheVariants.{Sketch, Visits, Sum}
 use Rattle.distinct_arguments.specs.declared.options.OptionName.{OptionName}
 
 -- what the program does: it prints a text, runs a command on files, or fails
@@ -67,17 +67,16 @@ is_standard_seed (seed_file name) = is_standard name
 abbrev pub is_standard_list : Option (List ℕ) → Bool
 is_standard_list list = option_map_or is_standard list false
 
--- whether lines are read from standard input because there is no file
-abbrev pub is_standard_default : Command → (list : Option (List ℕ)) → (files : List (List ℕ)) → Bool
-is_standard_default command None files = reads_lines command && length files == 0
-is_standard_default command (Some list) files = false
+-- whether lines are read from standard input because there is no file; images of sums are not
+abbrev pub is_standard_default : Command → OptionValues → (files : List (List ℕ)) → Bool
+is_standard_default command options files = reads_lines command && not options.sums && is_none options.list && length files == 0
 
 -- how often standard input is read
 abbrev pub standard_uses : Command → OptionValues → (files : List (List ℕ)) → ℕ
 standard_uses command options files =
     (if is_standard_seed options.seed then 1 else 0)
     + (if is_standard_list options.list then 1 else 0)
-    + (if is_standard_default command options.list files then 1 else 0)
+    + (if is_standard_default command options files then 1 else 0)
     + standard_files files
 
 -- a command that reads an expression has it as its only file word
@@ -102,10 +101,23 @@ abbrev pub has_lone_groups : Command → OptionValues → Bool
 has_lone_groups Sketch options = is_some options.by && not options.hex && is_none options.folder
 has_lone_groups _ options = false
 
+-- a line adds its number, or one
+abbrev pub has_two_amounts : OptionValues → Bool
+has_two_amounts options = options.visits && is_some options.value
+
 -- sketches of sums are neither grouped nor watched
 abbrev pub has_plain_sums : Command → OptionValues → Bool
-has_plain_sums Sketch options = is_some options.value && (is_some options.by || options.progress)
+has_plain_sums Sketch options = (is_some options.value || options.visits) && (is_some options.by || options.progress)
 has_plain_sums _ options = false
+
+-- lines are not in hexadecimal digits
+abbrev pub has_lone_digits : Command → OptionValues → Bool
+has_lone_digits Visits options = options.hex && not options.sums
+has_lone_digits _ options = false
+
+-- the total of an expression has no bounds
+abbrev pub has_summed_bounds : Command → OptionValues → Bool
+has_summed_bounds command options = reads_expression command && options.sums && is_some options.bounds
 
 -- what a command does with its files, unless they don't fit to a list of files, or standard input would be read twice
 abbrev pub listed_action : Command → OptionValues → (files : List (List ℕ)) → Action
@@ -125,14 +137,22 @@ grouped_action command options files =
     if is_some options.folder && is_some options.output then fails two_outputs else
     listed_action command options files
 
--- .. and those for sums neither
+-- .. and those for images of sums neither
 abbrev pub summed_action : Command → OptionValues → (files : List (List ℕ)) → Action
 summed_action command options files =
     if options.sums && options.keys then fails summed_keys else
-    if has_plain_sums command options then fails plain_sums else
+    if options.sums && is_some options.field then fails summed_field else
     if options.sums && options.groups then fails summed_groups else
-    if options.sums && is_some options.bounds then fails summed_bounds else
+    if has_summed_bounds command options then fails summed_bounds else
     grouped_action command options files
+
+-- .. and those for the sums of lines neither
+abbrev pub added_action : Command → OptionValues → (files : List (List ℕ)) → Action
+added_action command options files =
+    if has_two_amounts options then fails two_amounts else
+    if has_plain_sums command options then fails plain_sums else
+    if has_lone_digits command options then fails lone_digits else
+    summed_action command options files
 
 -- what a command does with its options and files, unless they don't fit together
 abbrev pub run_action : Command → OptionValues → (files : List (List ℕ)) → Action
@@ -141,7 +161,7 @@ run_action command options files =
     if has_lone_field command options then fails lone_field else
     if has_lone_sum command options then fails lone_sum else
     if is_separator_lone options then fails lone_separator else
-    summed_action command options files
+    added_action command options files
 
 -- .. if no file looks like an option
 abbrev pub files_action : Command → OptionValues → (files : List (List ℕ)) → Action

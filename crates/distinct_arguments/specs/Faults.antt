@@ -2,7 +2,7 @@
 use Rattle.std.specs.Prelude.{ℕ, ◌≡◌, ◌<◌, ◌⊎◌, IsTrue, Bool, true, false, List, length, Option, Some, None, Result, Ok, Err, string_bytes}
 use Rattle.std.specs.Option.{option_map}
 use Rattle.distinct_arguments.specs.Arguments.{Action, prints, runs, fails, Meaning, help, sets, awaits, wrong, files_action, run_action, command_action}
-use Rattle.distinct_arguments.specs.Settings.{SeedValue, seed_number, seed_file, OptionValues, Mistake, no_command, unknown_command, unknown_option, behind_file, no_value, unneeded_value, wrong_size, wrong_field, wrong_group, wrong_value, wrong_order, wrong_separator, wrong_seed, wrong_deviations, wrong_count, not_one_expression, lone_field, lone_sum, lone_separator, summed_keys, plain_sums, summed_groups, summed_bounds, lone_groups, lone_order, lone_unions, counted_groups, lone_folder, two_outputs, files_and_list, standard_twice}
+use Rattle.distinct_arguments.specs.Settings.{SeedValue, seed_number, seed_file, OptionValues, Mistake, no_command, unknown_command, unknown_option, behind_file, no_value, unneeded_value, wrong_size, wrong_field, wrong_group, wrong_value, wrong_order, wrong_separator, wrong_seed, wrong_deviations, wrong_count, not_one_expression, lone_field, lone_sum, lone_separator, two_amounts, plain_sums, lone_digits, summed_keys, summed_field, summed_groups, summed_bounds, lone_groups, lone_order, lone_unions, counted_groups, lone_folder, two_outputs, files_and_list, standard_twice}
 use Rattle.distinct_arguments.specs.Words.{words_of}
 use Rattle.distinct_arguments.specs.declared.arguments.Meaning.{Meaning as MeaningOf}
 use Rattle.distinct_arguments.specs.declared.arguments.Meaning.TheVariants.{Help as MeansHelp, Sets, Awaits, Wrong as MeansWrong}
@@ -13,7 +13,7 @@ use Rattle.distinct_arguments.specs.declared.commands.Request.{Request}
 use Rattle.distinct_arguments.specs.declared.commands.Request.TheVariants.{Print, Run}
 use Rattle.distinct_arguments.specs.declared.commands.Topic.TheVariants.{Help as HelpOn}
 use Rattle.distinct_arguments.specs.declared.fault.Fault.{Fault}
-use Rattle.distinct_arguments.specs.declared.fault.Fault.TheVariants.{NoCommand, UnknownCommand, UnknownOption, BehindFile, NoValue, UnneededValue, WrongSize, WrongField, WrongGroup, WrongValue, WrongOrder, WrongSeparator, WrongSeed, ZeroSeed, WrongDeviations, WrongCount, NotOneExpression, LoneField, LoneSum, LoneSeparator, SummedKeys, PlainSums, SummedGroups, SummedBounds, LoneGroups, LoneOrder, LoneUnions, CountedGroups, LoneFolder, TwoOutputs, FilesAndList, StandardTwice, Memory}
+use Rattle.distinct_arguments.specs.declared.fault.Fault.TheVariants.{NoCommand, UnknownCommand, UnknownOption, BehindFile, NoValue, UnneededValue, WrongSize, WrongField, WrongGroup, WrongValue, WrongOrder, WrongSeparator, WrongSeed, ZeroSeed, WrongDeviations, WrongCount, NotOneExpression, LoneField, LoneSum, LoneSeparator, TwoAmounts, PlainSums, LoneDigits, SummedKeys, SummedField, SummedGroups, SummedBounds, LoneGroups, LoneOrder, LoneUnions, CountedGroups, LoneFolder, TwoOutputs, FilesAndList, StandardTwice, Memory}
 use Rattle.distinct_arguments.specs.declared.options.Options.{Options}
 use Rattle.distinct_arguments.specs.declared.options.Seed.{Seed}
 use Rattle.distinct_arguments.specs.declared.options.Seed.TheVariants.{Number, File}
@@ -36,6 +36,7 @@ options_of o = record {
   by = o.by;
   sort = o.sort;
   value = o.value;
+  visits = o.visits;
   groups = o.groups;
   sums = o.sums;
   seed = seed_value o.seed;
@@ -72,8 +73,11 @@ mistake_of NotOneExpression = Some not_one_expression
 mistake_of LoneField = Some lone_field
 mistake_of LoneSum = Some lone_sum
 mistake_of LoneSeparator = Some lone_separator
-mistake_of SummedKeys = Some summed_keys
+mistake_of TwoAmounts = Some two_amounts
 mistake_of PlainSums = Some plain_sums
+mistake_of LoneDigits = Some lone_digits
+mistake_of SummedKeys = Some summed_keys
+mistake_of SummedField = Some summed_field
 mistake_of SummedGroups = Some summed_groups
 mistake_of SummedBounds = Some summed_bounds
 mistake_of LoneGroups = Some lone_groups

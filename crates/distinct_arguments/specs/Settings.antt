@@ -10,7 +10,7 @@ use Rattle.distinct_arguments.specs.declared.options.Form.{Form}
 use Rattle.distinct_arguments.specs.declared.options.Order.{Order}
 use Rattle.distinct_arguments.specs.declared.options.Form.TheVariants.{Plain, Tsv as TsvForm, Json as JsonForm}
 use Rattle.distinct_arguments.specs.declared.options.OptionName.{OptionName}
-use Rattle.distinct_arguments.specs.declared.options.OptionName.TheVariants.{LgK, Field, Separator, By, Value, Sort, Groups, Sums, Seed, SeedFile, FileList, Expect, Progress, Bounds, Tsv, Json, Hex, Output, OutputDir, Keys}
+use Rattle.distinct_arguments.specs.declared.options.OptionName.TheVariants.{LgK, Field, Separator, By, Value, Visits, Sort, Groups, Sums, Seed, SeedFile, FileList, Expect, Progress, Bounds, Tsv, Json, Hex, Output, OutputDir, Keys}
 
 -- the seed of hashes: a number, or the name of the file that has it
 pub data SeedValue : Type 0 where
@@ -25,6 +25,7 @@ pub record OptionValues : Type 0 where
   pub by : Option ℕ
   pub sort : Option Order
   pub value : Option ℕ
+  pub visits : Bool
   pub groups : Bool
   pub sums : Bool
   pub seed : SeedValue
@@ -47,6 +48,7 @@ default_options = record {
   by = None;
   sort = None;
   value = None;
+  visits = false;
   groups = false;
   sums = false;
   seed = seed_number 9001;
@@ -94,8 +96,11 @@ pub data Mistake : Type 0 where
   lone_field : Mistake
   lone_sum : Mistake
   lone_separator : Mistake
-  summed_keys : Mistake
+  two_amounts : Mistake
   plain_sums : Mistake
+  lone_digits : Mistake
+  summed_keys : Mistake
+  summed_field : Mistake
   summed_groups : Mistake
   summed_bounds : Mistake
   lone_groups : Mistake
@@ -112,6 +117,7 @@ abbrev pub with_flag : OptionValues → OptionName → Option OptionValues
 with_flag options Progress = Some (record options { progress = true })
 with_flag options Hex = Some (record options { hex = true })
 with_flag options Keys = Some (record options { keys = true })
+with_flag options Visits = Some (record options { visits = true })
 with_flag options Groups = Some (record options { groups = true })
 with_flag options Sums = Some (record options { sums = true })
 with_flag options Tsv = Some (record options { form = TsvForm })

@@ -13,7 +13,7 @@ use Rattle.distinct_arguments.specs.declared.commands.Operator.TheVariants.{Unio
 use Rattle.distinct_arguments.specs.declared.options.OptionName.{OptionName}
 use Rattle.distinct_arguments.specs.declared.options.Order.{Order}
 use Rattle.distinct_arguments.specs.declared.options.Order.TheVariants.{Name, Estimate}
-use Rattle.distinct_arguments.specs.declared.options.OptionName.TheVariants.{LgK, Field, Separator, By, Sort, Groups, Sums, Value, Seed, SeedFile, FileList, Expect, Progress, Bounds, Tsv, Json, Hex, Output, OutputDir, Keys}
+use Rattle.distinct_arguments.specs.declared.options.OptionName.TheVariants.{LgK, Field, Separator, By, Sort, Groups, Sums, Value, Visits as VisitsOption, Seed, SeedFile, FileList, Expect, Progress, Bounds, Tsv, Json, Hex, Output, OutputDir, Keys}
 
 -- the bytes of words
 abbrev pub words_of : {A : Type 0} → List (String A) → List (List ℕ)
@@ -70,6 +70,7 @@ option_called name =
     if bytes_eq name (codes "--by") then Some By else
     if bytes_eq name (codes "--sort") then Some Sort else
     if bytes_eq name (codes "--value") then Some Value else
+    if bytes_eq name (codes "--visits") then Some VisitsOption else
     if bytes_eq name (codes "--groups") then Some Groups else
     if bytes_eq name (codes "--sums") then Some Sums else
     if bytes_eq name (codes "--seed") then Some Seed else
@@ -113,15 +114,20 @@ abbrev pub sums_numbers : Command → Bool
 sums_numbers Sum = true
 sums_numbers _ = false
 
--- the commands that read numbers of lines, or may, and those that read images of sums, if they are to
+-- the commands that read numbers of lines, or may, the one that counts lines for an image, and those that read images of sums, if they are to
 abbrev pub has_numbers : Command → Bool
 has_numbers Sketch = true
 has_numbers Sum = true
 has_numbers _ = false
 
+abbrev pub has_visits : Command → Bool
+has_visits Sketch = true
+has_visits _ = false
+
 abbrev pub has_sums : Command → Bool
 has_sums (Combine Union) = true
 has_sums Eval = true
+has_sums Visits = true
 has_sums _ = false
 
 -- the commands that sketch lines, also in groups
@@ -164,10 +170,9 @@ has_list (Combine Minus) = false
 has_list Eval = false
 has_list _ = true
 
--- every command but `count`, `visits` and `sum` reads or writes images in hexadecimal, if it is to
+-- every command but `count` and `sum` reads or writes images in hexadecimal, if it is to
 abbrev pub has_digits : Command → Bool
 has_digits Count = false
-has_digits Visits = false
 has_digits Sum = false
 has_digits _ = true
 
@@ -187,6 +192,7 @@ has_option command Separator = has_field command
 has_option command By = makes_sketches command
 has_option command Sort = has_order command
 has_option command Value = has_numbers command
+has_option command VisitsOption = has_visits command
 has_option command Groups = has_united_groups command
 has_option command Sums = has_sums command
 has_option command Progress = makes_sketches command

@@ -50,13 +50,19 @@ pub enum Fault {
     LoneSum,
     /// There is `--separator` without `--field` and without `--by`.
     LoneSeparator,
+    /// There are `--value` and `--visits`.
+    TwoAmounts,
+    /// `sketch` has `--value` or `--visits`, and `--by` or `--progress`.
+    PlainSums,
+    /// `visits` has `--hex` without `--sums`.
+    LoneDigits,
     /// There are `--sums` and `--keys`.
     SummedKeys,
-    /// `sketch` has `--value`, and `--by` or `--progress`.
-    PlainSums,
+    /// There are `--sums` and `--field`.
+    SummedField,
     /// There are `--sums` and `--groups`.
     SummedGroups,
-    /// There are `--sums` and `--bounds`.
+    /// `eval` has `--sums` and `--bounds`.
     SummedBounds,
     /// `sketch` has `--by` without `--hex` and without `--output-dir`.
     LoneGroups,
@@ -210,13 +216,22 @@ impl fmt::Display for Fault {
             Fault::LoneField => write!(f, "--field needs --keys"),
             Fault::LoneSum => write!(f, "sum needs --value N, the field of its numbers"),
             Fault::LoneSeparator => write!(f, "--separator needs --field, --by or --value"),
+            Fault::TwoAmounts => write!(
+                f,
+                "--value and --visits exclude each other: a line adds its number, or one"
+            ),
+            Fault::PlainSums => write!(
+                f,
+                "--value and --visits sum all lines, without --by and --progress: sketch the lines of each group by themselves"
+            ),
+            Fault::LoneDigits => write!(f, "visits --hex needs --sums"),
             Fault::SummedKeys => write!(
                 f,
                 "--sums reads images, without --keys: make them of lines by sketch --value N"
             ),
-            Fault::PlainSums => write!(
+            Fault::SummedField => write!(
                 f,
-                "--value sums all lines, without --by and --progress: sketch the lines of each group by themselves"
+                "--sums reads images, without --field: pass --field to sketch --visits"
             ),
             Fault::SummedGroups => write!(
                 f,

@@ -3,8 +3,9 @@ ghost use Rattle.std.specs.Prelude.{◌≡◌, ◌≤◌, ◌+◌, nat_lt, strin
 ghost use Rattle.std.specs.Option.{option_map};
 ghost use Rattle.std.specs.List.{find};
 ghost use Rattle.distinct_arguments.specs.Arguments.{standard_files, standard_uses, is_standard_seed, is_standard_list};
-ghost use Rattle.distinct_arguments.specs.Arguments.{is_standard_default, has_one_expression, has_lone_sum, is_separator_lone, has_lone_groups, has_plain_sums};
-ghost use Rattle.distinct_arguments.specs.Arguments.{run_action, summed_action, grouped_action, listed_action, files_action};
+ghost use Rattle.distinct_arguments.specs.Arguments.{is_standard_default, has_one_expression, has_lone_sum, is_separator_lone, has_lone_groups};
+ghost use Rattle.distinct_arguments.specs.Arguments.{has_two_amounts, has_plain_sums, has_lone_digits};
+ghost use Rattle.distinct_arguments.specs.Arguments.{run_action, added_action, summed_action, grouped_action, listed_action, files_action};
 ghost use Rattle.distinct_arguments.specs.Faults.{options_of, seed_value, ParsesAs};
 ghost use Rattle.distinct_arguments.specs.Words.{is_option, is_standard, reads_lines, reads_expression, words_of};
 
@@ -70,13 +71,10 @@ fn has_one_expression(command: Command, files: &[String]) -> bool
 }
 
 /// Whether a command reads lines from standard input because it has no file.
-fn is_standard_default(command: Command, list: Option<&str>, files: &[String]) -> bool
-    ensures { result ≡ is_standard_default command (option_map (λ name. name.now) list.entry) (words_of files.now) }
+fn is_standard_default(command: Command, options: &Options<'_>, files: &[String]) -> bool
+    ensures { result ≡ is_standard_default command (options_of options.now) (words_of files.now) }
 {
-    match list {
-        Some(_) => false,
-        None => reads_lines(command) && files.is_empty(),
-    }
+    reads_lines(command) && !options.sums && options.list.is_none() && files.is_empty()
 }
 
 /// 1 if a test holds, else 0.
@@ -110,7 +108,7 @@ fn is_read_twice(command: Command, options: &Options<'_>, files: &[String]) -> b
 {
     let seed = number_if(is_standard_seed(options.seed));
     let list = number_if(is_standard_list(options.list));
-    let default = number_if(is_standard_default(command, options.list, files));
+    let default = number_if(is_standard_default(command, options, files));
     is_repeated(seed + list + default, files)
 }
 
@@ -134,12 +132,32 @@ fn has_lone_sum(command: Command, options: &Options<'_>) -> bool
     }
 }
 
+/// Whether lines would add both their numbers and one.
+fn has_two_amounts(options: &Options<'_>) -> bool
+    ensures { result ≡ has_two_amounts (options_of options.now) }
+{
+    options.visits && options.value.is_some()
+}
+
 /// Whether a sketch of sums would be grouped or watched.
 fn has_plain_sums(command: Command, options: &Options<'_>) -> bool
     ensures { result ≡ has_plain_sums command (options_of options.now) }
 {
     match command {
-        Command::Sketch => { options.value.is_some() && (options.by.is_some() || options.progress) }
+        Command::Sketch => {
+            let sums = options.value.is_some() || options.visits;
+            sums && (options.by.is_some() || options.progress)
+        }
+        _ => false,
+    }
+}
+
+/// Whether a command would read lines in hexadecimal digits.
+fn has_lone_digits(command: Command, options: &Options<'_>) -> bool
+    ensures { result ≡ has_lone_digits command (options_of options.now) }
+{
+    match command {
+        Command::Visits => options.hex && !options.sums,
         _ => false,
     }
 }
@@ -198,7 +216,7 @@ fn grouped_request<'a>(
     listed_request(command, options, files)
 }
 
-/// The request to run a command on files, if its options for sums fit together, and the files fit to them.
+/// The request to run a command on files, if its options for images of sums fit together, and the files fit to them.
 fn summed_request<'a>(
     command: Command,
     options: Options<'a>,
@@ -209,16 +227,36 @@ fn summed_request<'a>(
     if options.sums && options.keys {
         return Err(Fault::SummedKeys);
     }
-    if has_plain_sums(command, &options) {
-        return Err(Fault::PlainSums);
+    if options.sums && options.field.is_some() {
+        return Err(Fault::SummedField);
     }
     if options.sums && options.groups {
         return Err(Fault::SummedGroups);
     }
-    if options.sums && options.bounds.is_some() {
+    if reads_expression(command) && options.sums && options.bounds.is_some() {
         return Err(Fault::SummedBounds);
     }
     grouped_request(command, options, files)
+}
+
+/// The request to run a command on files, if its options for the sums of lines fit together, and the files fit to them.
+fn added_request<'a>(
+    command: Command,
+    options: Options<'a>,
+    files: &'a [String],
+) -> Result<Request<'a>, Fault>
+    ensures { ParsesAs result (added_action command (options_of options.entry) (words_of files.now)) }
+{
+    if has_two_amounts(&options) {
+        return Err(Fault::TwoAmounts);
+    }
+    if has_plain_sums(command, &options) {
+        return Err(Fault::PlainSums);
+    }
+    if has_lone_digits(command, &options) {
+        return Err(Fault::LoneDigits);
+    }
+    summed_request(command, options, files)
 }
 
 /// The request to run a command on files, if its options and the files fit together.
@@ -241,7 +279,7 @@ pub(crate) fn run_request<'a>(
     if is_separator_lone(&options) {
         return Err(Fault::LoneSeparator);
     }
-    summed_request(command, options, files)
+    added_request(command, options, files)
 }
 
 /// The first file that looks like an option.

@@ -14,7 +14,7 @@ distinct: counts distinct lines approximately, in little memory
   distinct minus IMAGE IMAGE       .. that the first saw and the second did not
   distinct show IMAGE..            prints one line per image
   distinct eval EXPRESSION         prints one line on a set expression, such as 'mon + tue - wed'
-  distinct visits [FILE..]         prints how many lines come once, twice, 3 to 4 times, and so on
+  distinct visits [FILE..]         prints how many lines occur once, twice, 3 to 4 times, and so on
   distinct sum --value M [FILE..]  prints the total of the numbers in field M of the lines
   distinct COMMAND --help          prints the options of a command; -h does so too
   distinct --help                  prints this text; -h does so too
@@ -71,6 +71,8 @@ distinct sketch [OPTION..] [FILE..]: writes the sketch of the files' lines as an
                       made if it is missing: DIR/GROUP.theta
   --value M           write an image of sums: of each key the sum of the numbers in field M of its
                       lines, as sum has them. Without --by and --progress
+  --visits            write an image of sums: of each key the number of its lines, as visits reads
+                      them. Without --value, --by and --progress
   --separator C       the byte between fields, with --field, --by or --value; default a tab
   --seed N            the seed of the hashes, from 0 to 2^64 - 1; default 9001
   --seed-file FILE    the seed is the number in FILE, and not in the process list
@@ -159,13 +161,17 @@ distinct lines it has, exactly or estimated, how many hashes it retains, and its
 ";
 
 const VISITS: &str = "\
-distinct visits [OPTION..] [FILE..]: how many distinct lines come once in the files together, twice,
+distinct visits [OPTION..] [FILE..]: how many distinct lines occur once in the files together, twice,
 3 to 4 times, 5 to 8 times and so on: a line for each range up to the most frequent line retained
 
   --lg-k N            keep 2^N hashes, N from 4 to 26; default 12. The numbers are exact up to 2^N
                       distinct lines, and else estimates; how often a retained line comes is exact
   --field N           a line's key is its field N, from 1, as cut has it
   --separator C       the byte between fields, with --field; default a tab
+  --sums              the files are images of sums, at least one, as sketch writes them of visits:
+                      print this of the lines of all. Give the same N of --lg-k as to sketch, and
+                      the field to sketch alone
+  --hex               with --sums: images in hexadecimal, one per line
   --seed N            the seed of the hashes, from 0 to 2^64 - 1; default 9001
   --seed-file FILE    the seed is the number in FILE, and not in the process list
   --files0-from FILE  the names of the files are in FILE, each ended by a NUL byte

@@ -13,6 +13,7 @@ pub enum OptionName {
     By,
     Sort,
     Value,
+    Visits,
     Groups,
     Sums,
     Seed,
@@ -69,6 +70,8 @@ pub struct Options<'a> {
     pub sort: Option<Order>,
     /// The number of the field that has the number of a line, from 1, or `None` if no numbers are read.
     pub value: Option<u32>,
+    /// Whether each line adds one to a sum.
+    pub visits: bool,
     /// Whether images are united by the groups of their lines.
     pub groups: bool,
     /// Whether images are of sums.

@@ -73,6 +73,7 @@ pub fn option_called(name: &str) -> Option<OptionName>
         "--by" => Some(OptionName::By),
         "--sort" => Some(OptionName::Sort),
         "--value" => Some(OptionName::Value),
+        "--visits" => Some(OptionName::Visits),
         "--groups" => Some(OptionName::Groups),
         "--sums" => Some(OptionName::Sums),
         "--seed" => Some(OptionName::Seed),
@@ -113,8 +114,11 @@ pub fn has_option(command: Command, option: OptionName) -> bool
         OptionName::By => makes_sketch,
         OptionName::Sort => command == Command::Count,
         OptionName::Value => is_sum || command == Command::Sketch,
+        OptionName::Visits => command == Command::Sketch,
         OptionName::Groups => command == Command::Combine(Operator::Union),
-        OptionName::Sums => is_eval || command == Command::Combine(Operator::Union),
+        OptionName::Sums => {
+            is_eval || command == Command::Visits || command == Command::Combine(Operator::Union)
+        }
         OptionName::Progress => makes_sketch,
         OptionName::Keys => is_eval,
         OptionName::FileList => !is_eval && command != Command::Combine(Operator::Minus),
@@ -125,7 +129,7 @@ pub fn has_option(command: Command, option: OptionName) -> bool
         OptionName::Bounds => shows_counts || is_eval,
         OptionName::Tsv => shows_counts || is_eval || is_sum,
         OptionName::Json => shows_counts || is_eval || is_sum,
-        OptionName::Hex => { command != Command::Count && command != Command::Visits && !is_sum }
+        OptionName::Hex => command != Command::Count && !is_sum,
         OptionName::Output => !shows_counts && !is_sum,
         OptionName::OutputDir => command == Command::Sketch,
     }

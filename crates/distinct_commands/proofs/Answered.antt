@@ -10,11 +10,14 @@ use Rattle.lines.specs.Lines.{lines_of_all}
 use Rattle.lines.specs.declared.key.Key.{Key}
 use Rattle.line_sums.specs.Amounts.{AreNumbers}
 use Rattle.line_sums.specs.Images.{written_sums, ReadsSums}
-use Rattle.line_sums.specs.declared.addends.Amount.TheVariants.{Number}
+use Rattle.line_sums.specs.Sums.{one_each}
+use Rattle.line_sums.specs.Unions.{IsUnitedSums, AreSumsOfTexts}
+use Rattle.line_sums.specs.declared.addends.Amount.{Amount}
 use Rattle.distinct_commands.specs.Sums.{sums_of, IsSumsText}
 use Rattle.distinct_commands.specs.Answers.{sketch_of, lines_text, IsLinesText}
 use Rattle.distinct_commands.specs.Groups.{grouping_of, group_estimate, chosen_order, AreOrdered, groups_head, groups_text, IsGroupedText}
 use Rattle.distinct_commands.specs.Texts.{count_text}
+use Rattle.distinct_commands.specs.Visits.{visits_text, IsVisitsOfImages}
 use Rattle.grouped_lines.specs.Groups.{AreGroups}
 use Rattle.distinct_commands.specs.Images.{in_form}
 use Rattle.distinct_arguments.specs.Settings.{OptionValues}
@@ -51,12 +54,12 @@ ordered_seed Empty h = refl
 ordered_seed (NonEmpty v) h = refl
 
 -- the sketch of sums of lines, as its image is written
-pub summed : {V E : Type 0} (r : Result V E) (items : V → List ℕ) (known : Option (List (List ℕ))) (field : Key) (options : OptionValues) (seed : ℕ) (s : Compact (TupleEntry ℕ)) (image : List ℕ) →
-    IfSome known (λ texts. s ≡ sums_of options (Number field) seed texts) → IfSome known (λ texts. AreNumbers (Number field) (lines_of_all texts)) → image ≡ written_sums s → (s.seed_hash ≡ seed_hash seed → ReadsSums image (seed_hash seed) s) →
-    IfOk r (λ v. items v ≡ in_form options.hex image) → IfSome known (λ texts. IfOk r (λ v. IsSumsText field options seed texts (items v)))
-summed r items None field options seed s image is numbers written reads form = tt
-summed (Err e) items (Some texts) field options seed s image is numbers written reads form = tt
-summed (Ok v) items (Some texts) field options seed s image is numbers written reads form = (
+pub summed : {V E : Type 0} (r : Result V E) (items : V → List ℕ) (known : Option (List (List ℕ))) (amount : Amount) (options : OptionValues) (seed : ℕ) (s : Compact (TupleEntry ℕ)) (image : List ℕ) →
+    IfSome known (λ texts. s ≡ sums_of options amount seed texts) → IfSome known (λ texts. AreNumbers amount (lines_of_all texts)) → image ≡ written_sums s → (s.seed_hash ≡ seed_hash seed → ReadsSums image (seed_hash seed) s) →
+    IfOk r (λ v. items v ≡ in_form options.hex image) → IfSome known (λ texts. IfOk r (λ v. IsSumsText amount options seed texts (items v)))
+summed r items None amount options seed s image is numbers written reads form = tt
+summed (Err e) items (Some texts) amount options seed s image is numbers written reads form = tt
+summed (Ok v) items (Some texts) amount options seed s image is numbers written reads form = (
   image,
   record {
     numbers = numbers;
@@ -65,3 +68,14 @@ summed (Ok v) items (Some texts) field options seed s image is numbers written r
   },
   form,
 )
+
+-- what is printed of a union of images of sums
+pub visited : (known : Option (List (List ℕ))) (options : OptionValues) (seed : ℕ) (s : Compact (TupleEntry ℕ)) (out : List ℕ) →
+    IfSome known (λ all. IsUnitedSums seed options.lg_k all s) → IfSome known (λ all. AreSumsOfTexts seed options.lg_k all s) → out ≡ visits_text options s → IfSome known (λ all. IsVisitsOfImages options seed all out)
+visited None options seed s out united apart text = tt
+visited (Some all) options seed s out united apart text = record {
+  sums = s;
+  united = united;
+  text = text;
+  apart = λ key texts are. text ∙ ap (visits_text options) (apart key one_each texts are);
+}

@@ -11,17 +11,18 @@ use Rattle.line_sketches.specs.Keys.{value_of_lines, sketch_of_value}
 use Rattle.line_sketches.specs.Shards.{values_of_sketches, AreRead}
 use Rattle.line_sketches.specs.Unions.{IsUnitedImage, UnitesTexts}
 use Rattle.line_sums.specs.Unions.{IsUnitedSumsImage, UnitesSumsOfTexts}
+use Rattle.line_sums.specs.declared.addends.Amount.{Amount}
 use Rattle.distinct_arguments.specs.Settings.{OptionValues, chosen_group, chosen_value}
 use Rattle.grouped_lines.specs.United.{IsUnitedText}
 use Rattle.distinct_arguments.specs.Arguments.{Action, prints, runs, fails}
-use Rattle.distinct_commands.specs.Failures.{called, chosen_hashing}
+use Rattle.distinct_commands.specs.Failures.{called, chosen_amount, chosen_hashing}
 use Rattle.distinct_commands.specs.Evaluations.{IsEvaluatedOf}
 use Rattle.distinct_commands.specs.Images.{images_of, in_form}
 use Rattle.distinct_commands.specs.Groups.{IsGroupedText}
 use Rattle.lines.specs.declared.key.Key.{Key}
 use Rattle.distinct_commands.specs.Texts.{count_text, shown_text, head_of}
 use Rattle.distinct_commands.specs.Sums.{IsSumsText, IsTotalText}
-use Rattle.distinct_commands.specs.Visits.{visits_of, visits_text}
+use Rattle.distinct_commands.specs.Visits.{IsVisitsText}
 use Rattle.distinct_arguments.specs.declared.commands.Command.{Command}
 use Rattle.distinct_arguments.specs.declared.commands.Command.TheVariants.{Count, Sketch, Combine, Show, Eval, Visits, Sum}
 use Rattle.distinct_arguments.specs.declared.commands.Operator.{Operator}
@@ -120,10 +121,10 @@ abbrev pub IsLinesText : (images : Bool) → (by : Option Key) → OptionValues 
 IsLinesText false by options seed texts out = IsCountOf by options seed texts out
 IsLinesText true by options seed texts out = IsSketchOf by options seed texts out
 
--- what `sketch` writes of texts: of the numbers of their lines, if a part of the lines has them
-abbrev pub IsSketchText : (value by : Option Key) → OptionValues → (seed : ℕ) → (texts : List (List ℕ)) → List ℕ → Type 0
+-- what `sketch` writes of texts: of the sums of what their lines add, if they add something
+abbrev pub IsSketchText : Option Amount → (by : Option Key) → OptionValues → (seed : ℕ) → (texts : List (List ℕ)) → List ℕ → Type 0
 IsSketchText None by options seed texts out = IsSketchOf by options seed texts out
-IsSketchText (Some field) by options seed texts out = IsSumsText field options seed texts out
+IsSketchText (Some amount) by options seed texts out = IsSumsText amount options seed texts out
 
 -- images are united by the groups of their lines
 abbrev pub unites_groups : Operator → OptionValues → Bool
@@ -140,11 +141,11 @@ IsCombinedText true operator options seed texts out = IsUnitedText seed options.
 -- what a command writes for files of these names and texts; the only name of `eval` is its expression
 abbrev pub IsCommandAnswer : Command → OptionValues → (seed : ℕ) → (names texts : List (List ℕ)) → List ℕ → Type 0
 IsCommandAnswer Count options seed names texts out = IsCountOf (chosen_group options) options seed texts out
-IsCommandAnswer Sketch options seed names texts out = IsSketchText (chosen_value options) (chosen_group options) options seed texts out
+IsCommandAnswer Sketch options seed names texts out = IsSketchText (chosen_amount options) (chosen_group options) options seed texts out
 IsCommandAnswer (Combine operator) options seed names texts out = IsCombinedText (unites_groups operator options) operator options seed texts out
 IsCommandAnswer Show options seed names texts out = IsShownOf options seed names texts out
 IsCommandAnswer Eval options seed names texts out = IsEvaluatedOf options seed names texts out
-IsCommandAnswer Visits options seed names texts out = out ≡ visits_text options (visits_of options seed texts)
+IsCommandAnswer Visits options seed names texts out = IsVisitsText options.sums options seed texts out
 IsCommandAnswer Sum options seed names texts out = IsTotalText (chosen_value options) options seed texts out
 
 -- the command's answer was written, and nothing else

@@ -1,5 +1,6 @@
 -- When each failure occurs.
 use Rattle.std.specs.Prelude.{ℕ, ◌≡◌, ◌≢◌, ◌⊎◌, ◌==◌, ◌&&◌, ◌+◌, ◌-◌, ◌^◌, min, ⊤, Bool, true, false, List, [], ◌∷◌, length, Option, Some, None, IfSome, String, codes, string_bytes, if◌then◌else◌}
+use Rattle.std.specs.Option.{option_map}
 use Rattle.std.specs.Str.{bytes_eq}
 use Rattle.sketch_base.specs.declared.error.ErrorKind.TheVariants.{OutOfMemory, InvalidData, Policy}
 use Rattle.sketch_base.specs.Seed.{seed_hash}
@@ -7,7 +8,7 @@ use Rattle.lines.specs.declared.key.Hashing.{Hashing}
 use Rattle.line_sketches.specs.declared.sketching.Unread.{Unread}
 use Rattle.line_sketches.specs.declared.sketching.Unread.TheVariants.{Refused, Failed}
 use Rattle.line_sums.specs.declared.addends.Amount.{Amount}
-use Rattle.line_sums.specs.declared.addends.Amount.TheVariants.{One}
+use Rattle.line_sums.specs.declared.addends.Amount.TheVariants.{One, Number}
 use Rattle.expression_text.specs.Grammar.{SpellsNothing}
 use Rattle.distinct_arguments.specs.Faults.{status_of as fault_status}
 use Rattle.distinct_arguments.specs.declared.fault.Fault.TheVariants.{NotOneExpression, LoneSum, ZeroSeed}
@@ -88,6 +89,10 @@ ReportsNotWritten name error Memory = ⊤
 ReportsNotWritten name error (NotWritten output reason) = (string_bytes output ≡ name) × (reason ≡ error)
 ReportsNotWritten name error _ = ⊥
 
+-- what each line adds to the sum of its key, if `sketch` writes sums: one, or the number in a part of it
+abbrev pub chosen_amount : OptionValues → Option Amount
+chosen_amount options = if options.visits then Some One else option_map (λ field. Number field) (chosen_value options)
+
 -- memory was refused, or a file can't be read
 abbrev pub IsOfReading : Failure → Type 0
 IsOfReading Memory = ⊤
@@ -109,10 +114,10 @@ IsOfSums amount (PastGreatest name line) = ⊤
 IsOfSums amount (NotANumber name line) = amount ≢ One
 IsOfSums amount failure = IsOfReading failure
 
--- .. or a line has no number, if numbers of lines are read
+-- .. or a sum would be 2^64 or more, or a line has no number, if lines are summed, and their numbers
 abbrev pub IsOfSketch : OptionValues → Failure → Type 0
-IsOfSketch options (PastGreatest name line) = chosen_value options ≢ None
-IsOfSketch options (NotANumber name line) = chosen_value options ≢ None
+IsOfSketch options (PastGreatest name line) = chosen_amount options ≢ None
+IsOfSketch options (NotANumber name line) = (chosen_amount options ≢ None) × (chosen_amount options ≢ Some One)
 IsOfSketch options failure = IsOfReading failure
 
 -- lines are not summed, or no field has their numbers
@@ -153,6 +158,11 @@ IsOfUnion expected failure = IsOfImages failure
 abbrev pub IsOfEitherUnion : OptionValues → Failure → Type 0
 IsOfEitherUnion options (PastUnion name line) = options.sums ≡ true
 IsOfEitherUnion options failure = IsOfUnion options.expected failure
+
+-- `visits` fails: lines, or images of sums, are at fault
+abbrev pub IsOfVisits : OptionValues → Failure → Type 0
+IsOfVisits options (PastGreatest name line) = ⊤
+IsOfVisits options failure = IsOfEitherUnion options failure
 
 -- a union of images, of sums or of theta sketches, is refused for memory, for an image, or, if they are of sums, for a sum of 2^64 or more
 abbrev pub IsOfUniting : (sums : Bool) → Unread → Type 0
@@ -196,13 +206,13 @@ IsOfEvaluation count failure = IsOfImages failure
 -- a command reads numbers of lines
 abbrev pub ReadsNumbers : Command → OptionValues → Type 0
 ReadsNumbers Sum options = ⊤
-ReadsNumbers Sketch options = chosen_value options ≢ None
+ReadsNumbers Sketch options = (chosen_amount options ≢ None) × (chosen_amount options ≢ Some One)
 ReadsNumbers _ options = ⊥
 
 -- a command fails: what it reads or writes is at fault, it has no image, there are not as many as are expected, `minus` doesn't have two,
 -- `eval` doesn't have one expression, or `sum` doesn't have the field of its numbers
 abbrev pub IsOfCommand : Command → OptionValues → (count : ℕ) → (texts : Option (List (List ℕ))) → Failure → Type 0
-IsOfCommand command options count texts NoFiles = (count ≡ 0) × (command ≡ Count → ⊥) × (command ≡ Sketch → ⊥) × (command ≡ Eval → ⊥) × (command ≡ Visits → ⊥) × (command ≡ Sum → ⊥)
+IsOfCommand command options count texts NoFiles = (count ≡ 0) × (command ≡ Count → ⊥) × (command ≡ Sketch → ⊥) × (command ≡ Eval → ⊥) × (command ≡ Visits → options.sums ≡ true) × (command ≡ Sum → ⊥)
 IsOfCommand command options count texts NotTwo = (command ≡ Combine Minus) × AreNotTwo options.hex count texts
 IsOfCommand command options count texts (WrongCount counted number) = (options.expected ≡ Some number) × (number ≢ counted)
 IsOfCommand command options count texts (NotOneEach found names) = (command ≡ Eval) × (found ≢ names)

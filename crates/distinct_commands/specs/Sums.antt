@@ -1,4 +1,4 @@
--- What `sum` prints.
+-- The sums of lines: their images, and what `sum` prints.
 use Rattle.std.specs.Prelude.{ℕ, ◌≡◌, ◌++◌, List, Option, Some, None}
 use Rattle.sketch_base.specs.Seed.{seed_hash}
 use Rattle.core_compact.specs.CompactState.{Compact}
@@ -23,15 +23,15 @@ use Rattle.distinct_commands.specs.Images.{in_form}
 abbrev pub sums_of : OptionValues → Amount → (seed : ℕ) → (texts : List (List ℕ)) → Compact (TupleEntry ℕ)
 sums_of options amount seed texts = sketch_of_sums (chosen_hashing options seed) (added_by amount) options.lg_k (lines_of_all texts)
 
--- the image of the sums of numbers in a part of the lines of texts, which is read again; each line of all texts has such a number
-pub record IsSumsImageOf (field : Key) (options : OptionValues) (seed : ℕ) (texts : List (List ℕ)) (image : List ℕ) : Type 0 where
-  pub numbers : AreNumbers (Number field) (lines_of_all texts)
-  pub written : image ≡ written_sums (sums_of options (Number field) seed texts)
-  pub reads : ReadsSums image (seed_hash seed) (sums_of options (Number field) seed texts)
+-- the image of the sums of what the lines of texts add, which is read again; each line of all texts adds a number
+pub record IsSumsImageOf (amount : Amount) (options : OptionValues) (seed : ℕ) (texts : List (List ℕ)) (image : List ℕ) : Type 0 where
+  pub numbers : AreNumbers amount (lines_of_all texts)
+  pub written : image ≡ written_sums (sums_of options amount seed texts)
+  pub reads : ReadsSums image (seed_hash seed) (sums_of options amount seed texts)
 
--- what `sketch` writes of these numbers
-abbrev pub IsSumsText : (field : Key) → OptionValues → (seed : ℕ) → (texts : List (List ℕ)) → List ℕ → Type 0
-IsSumsText field options seed texts out = (image : List ℕ) × IsSumsImageOf field options seed texts image × (out ≡ in_form options.hex image)
+-- what `sketch` writes of these sums
+abbrev pub IsSumsText : Amount → OptionValues → (seed : ℕ) → (texts : List (List ℕ)) → List ℕ → Type 0
+IsSumsText amount options seed texts out = (image : List ℕ) × IsSumsImageOf amount options seed texts image × (out ≡ in_form options.hex image)
 
 -- what is printed of a total
 abbrev pub totalled_in : Form → Total → List ℕ

@@ -1,10 +1,14 @@
 -- What `visits` prints.
-use Rattle.std.specs.Prelude.{ℕ, zero, suc, ◌++◌, nat_le, Bool, List, [], is_some, if◌then◌else◌}
+use Rattle.std.specs.Prelude.{ℕ, zero, suc, ◌≡◌, ◌++◌, nat_le, Bool, true, false, List, [], is_some, if◌then◌else◌}
 use Rattle.core_compact.specs.CompactState.{Compact}
 use Rattle.core_slots.specs.declared.entry.TupleEntry.{TupleEntry}
+use Rattle.lines.specs.Keys.{hashing_of}
 use Rattle.lines.specs.Lines.{lines_of_all}
+use Rattle.lines.specs.declared.key.Key.{Key}
 use Rattle.line_sums.specs.Bins.{least_of, greatest_of, greatest, sums_in, keys_in}
+use Rattle.line_sums.specs.Images.{AreImagesOfTexts}
 use Rattle.line_sums.specs.Sums.{one_each, sketch_of_sums}
+use Rattle.line_sums.specs.Unions.{IsUnitedSums}
 use Rattle.line_sums.specs.declared.bins.TheConstants.{BINS}
 use Rattle.reports.specs.Ranges.{range_json_line, range_line, range_tsv_head, range_tsv_row}
 use Rattle.reports.specs.declared.report.Report.{Report}
@@ -12,6 +16,7 @@ use Rattle.distinct_arguments.specs.Settings.{OptionValues}
 use Rattle.distinct_arguments.specs.declared.options.Form.{Form}
 use Rattle.distinct_arguments.specs.declared.options.Form.TheVariants.{Plain, Tsv, Json}
 use Rattle.distinct_commands.specs.Failures.{chosen_hashing}
+use Rattle.distinct_commands.specs.Images.{images_of}
 use Rattle.distinct_commands.specs.Texts.{report_by}
 
 -- the sketch of the lines of all texts, each retained hash with the number of its lines, with the key and the size that the options set
@@ -47,3 +52,17 @@ bins_text options s most (suc bin) = bins_text options s most bin ++ bin_up_to o
 -- what `visits` prints of a sketch of sums
 unfoldable pub visits_text : OptionValues → Compact (TupleEntry ℕ) → List ℕ
 visits_text options s = ranges_head options.form ++ bins_text options s (greatest (sums_in s)) BINS
+
+-- What `visits` prints of images of sums, that of the union of their sketches. If they are the images of the numbers of lines of texts that
+-- were sketched apart, by one key and with this seed and at least this size, it is what is printed of all their lines.
+pub record IsVisitsOfImages (options : OptionValues) (seed : ℕ) (images : List (List ℕ)) (out : List ℕ) : Type 0 where
+  pub sums : Compact (TupleEntry ℕ)
+  pub united : IsUnitedSums seed options.lg_k images sums
+  pub text : out ≡ visits_text options sums
+  pub apart : (key : Key) (texts : List (List ℕ)) → AreImagesOfTexts (hashing_of key seed) one_each options.lg_k images texts →
+      out ≡ visits_text options (sketch_of_sums (hashing_of key seed) one_each options.lg_k (lines_of_all texts))
+
+-- what `visits` prints of texts: of their lines, or of the images of sums in them
+abbrev pub IsVisitsText : (sums : Bool) → OptionValues → (seed : ℕ) → (texts : List (List ℕ)) → List ℕ → Type 0
+IsVisitsText false options seed texts out = out ≡ visits_text options (visits_of options seed texts)
+IsVisitsText true options seed texts out = IsVisitsOfImages options seed (images_of options.hex texts) out

@@ -112,14 +112,14 @@ fn united<S: Sources>(
 }
 
 /// Remarks that an image retains more hashes than a union of 2^`lg_k` keeps, if one does.
-fn remark_coarser<S: Sources, C: Console>(images: &Images<'_, S>, lg_k: u8, console: &mut C) {
+pub fn remark_coarser<S: Sources, C: Console>(images: &Images<'_, S>, lg_k: u8, console: &mut C) {
     if let Some(coarser) = images.coarser(lg_k) {
         console.remark(Remark::Coarser(coarser));
     }
 }
 
 /// The failure for an image that was not added to a union; only for one of sums is it that the sum of a key is 2^64 or more.
-fn not_added<S: Sources>(images: &Images<'_, S>, error: Error) -> Failure
+pub fn not_added<S: Sources>(images: &Images<'_, S>, error: Error) -> Failure
     requires { (error ≡ OutOfMemory) ⊎ ((error ≡ Policy) ⊎ (error ≡ InvalidData)) }
     ensures policy { error ≡ Policy → ReportsPastUnion images.now result }
     ensures data { error ≡ InvalidData → ReportsNoSketch images.now result }

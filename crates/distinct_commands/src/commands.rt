@@ -3,10 +3,10 @@ ghost use Rattle.std.specs.Prelude.{◌≡◌, ◌≢◌, ℕ, OnOk, IfOk, IfErr
 ghost use Rattle.sketch_base.specs.Seed.{seed_hash};
 ghost use Rattle.theta_sketches.specs.Image.{written};
 ghost use Rattle.distinct_arguments.specs.Faults.{options_of, request_action};
-ghost use Rattle.distinct_arguments.specs.Settings.{chosen_group, chosen_value};
+ghost use Rattle.distinct_arguments.specs.Settings.{chosen_group};
 ghost use Rattle.distinct_commands.specs.Answers.{names_of, sketch_of, lines_text, IsLinesText, IsSketchText, IsCommandAnswer, WritesAnswer, Performs};
 ghost use Rattle.distinct_commands.specs.Images.{in_form};
-ghost use Rattle.distinct_commands.specs.Failures.{IsOfReading, IsOfSketch, IsOfCommand, IsOfRequest, IsUnwritten};
+ghost use Rattle.distinct_commands.specs.Failures.{chosen_amount, IsOfReading, IsOfSketch, IsOfCommand, IsOfRequest, IsUnwritten};
 ghost use Rattle.distinct_commands.specs.declared.failure.Failure.TheVariants as failure;
 
 use crate::failure::{Failure, out_of_memory};
@@ -16,6 +16,7 @@ use crate::job::Job;
 use crate::output::put;
 use crate::remarks::Console;
 use crate::show::count_text;
+use crate::sums::chosen_amount;
 use crate::united::unites_groups;
 use distinct_arguments::{Command, Options, Request, text_of};
 use line_sketches::{Sources, Unread, hex_line, image_of, sketch_sources};
@@ -28,13 +29,13 @@ use theta_sketches::CompactThetaSketch;
 const STANDARD_OUTPUT: &str = "standard output";
 
 /// Runs a command under a seed on the files that sources give, under these names, and writes its whole answer and nothing
-/// else. For `eval` the only name is the expression. It fails with `NoFiles` only if it needs images and no file is named;
+/// else. For `eval` the only name is the expression. It fails with `NoFiles` only if it reads images and no file is named;
 /// with `NotTwo` only for `minus` and, if contracts know the files' bytes, only if two files aren't named (without `--hex`)
 /// or their images aren't two; with `WrongCount` only if `--expect` names another number than it reports to have found;
 /// with `NotOneEach`, `NoExpression` or `NotOneExpression` only for `eval`; with `PastUnion` only for images of sums; and with
-/// `NotANumber` only for `sum`, which fails with `LoneSum` if its options have no field of numbers, and for `sketch` if they
-/// have one. Any other failure has status 1: memory, a file, its contents or the writer is at fault. Only if the writer
-/// fails may a part of the answer have been written.
+/// `NotANumber` only for `sum`, which fails with `LoneSum` if its options have no field of numbers, and for `sketch` if its
+/// lines add their numbers. Any other failure has status 1: memory, a file, its contents or the writer is at fault. Only if
+/// the writer fails may a part of the answer have been written.
 pub fn answer<S: Sources + Drop, C: Console, O: Write>(
     alloc: Global,
     command: Command,
@@ -141,7 +142,12 @@ impl<'a, S: Sources + Drop> Job<'a, S> {
                 self.show_inputs(files)
             }
             Command::Eval => self.eval_inputs(files, console),
-            Command::Visits => self.visit_inputs(),
+            Command::Visits => {
+                if options.sums && files.is_empty() {
+                    return Err(Failure::NoFiles);
+                }
+                self.visit_inputs(console)
+            }
             Command::Sum => self.sum_inputs(),
         }
     }
@@ -172,17 +178,17 @@ impl<'a, S: Sources + Drop> Job<'a, S> {
         }
     }
 
-    /// What `sketch` writes of the lines of all sources in turn: of their numbers if a field has them.
+    /// What `sketch` writes of the lines of all sources in turn: of the sums of what they add, if they add something.
     fn write_sketch<C: Console>(self, console: &mut C) -> Result<Vec<u8>, Failure>
         requires seeded { seed_hash self.seed ≢ 0 }
         ensures sketched { IfSome (S.texts self.entry.inputs.sources) (λ texts.
             IfOk result (λ v.
-            IsSketchText (chosen_value (options_of self.entry.options.now)) (chosen_group (options_of self.entry.options.now))
+            IsSketchText (chosen_amount (options_of self.entry.options.now)) (chosen_group (options_of self.entry.options.now))
             (options_of self.entry.options.now) self.entry.seed texts v.items)) }
         ensures failed { IfErr result (IsOfSketch (options_of self.entry.options.now)) }
     {
-        match self.options.value() {
-            Some(field) => self.write_sums(field),
+        match chosen_amount(self.options) {
+            Some(amount) => self.write_sums(amount),
             None => self.print_lines(true, console),
         }
     }

@@ -5,24 +5,37 @@ ghost use Rattle.lines.specs.Lines.{lines_of_all};
 ghost use Rattle.line_sums.specs.Amounts.{AreNumbers};
 ghost use Rattle.line_sums.specs.declared.addends.Amount.{Amount};
 ghost use Rattle.line_sums.specs.Images.{written_sums, ReadsSums};
-ghost use Rattle.line_sums.specs.declared.addends.Amount.TheVariants.{One, Number};
+ghost use Rattle.line_sums.specs.declared.addends.Amount.TheVariants.{One};
 ghost use Rattle.distinct_commands.specs.declared.failure.Failure.TheVariants as failure;
 ghost use Rattle.distinct_arguments.specs.Faults.{options_of};
 ghost use Rattle.distinct_arguments.specs.Settings.{chosen_value};
-ghost use Rattle.distinct_commands.specs.Failures.{IsOfSums, IsOfTotal};
+ghost use Rattle.distinct_commands.specs.Failures.{chosen_amount, IsOfSums, IsOfTotal};
 ghost use Rattle.distinct_commands.specs.Sums.{sums_of, total_text, IsSumsText, IsTotalText};
 
 use crate::commands::in_form;
 use crate::failure::{Failure, out_of_memory};
 use crate::inputs::Inputs;
 use crate::job::Job;
-use distinct_arguments::{Fault, Form};
+use distinct_arguments::{Fault, Form, Options};
 use line_sketches::Sources;
 use line_sums::{Amount, Unsummed, sum_sources, sums_image};
-use lines::{Hashing, Key};
+use lines::Hashing;
 use std::alloc::{AllocError, Global};
 use totals::{total_json_line, total_line, total_of, total_tsv_head, total_tsv_row};
 use tuple_sketches::CompactTupleSketch;
+
+/// What each line adds to the sum of its key, if `sketch` writes sums.
+pub fn chosen_amount(options: &Options<'_>) -> Option<Amount>
+    ensures { result ≡ chosen_amount (options_of options.now) }
+{
+    if options.visits {
+        return Some(Amount::One);
+    }
+    match options.value() {
+        Some(field) => Some(Amount::Number(field)),
+        None => None,
+    }
+}
 
 /// The failure for a line of the source that was opened last, with which the sum of its key would be 2^64 or more.
 fn past_greatest<S: Sources>(alloc: Global, inputs: &Inputs<'_, S>, line: u64) -> Failure
@@ -103,16 +116,15 @@ impl<'a, S: Sources + Drop> Job<'a, S> {
         }
     }
 
-    /// What `sketch` writes of the numbers in a part of the lines of all sources. It fails if memory is refused, a source
-    /// can't be read, a sum would be 2^64 or more, or a line has no number.
-    pub fn write_sums(self, field: Key) -> Result<Vec<u8>, Failure>
+    /// What `sketch` writes of the sums of what the lines of all sources add. It fails if memory is refused, a source can't
+    /// be read, a sum would be 2^64 or more, or a line adds no number.
+    pub fn write_sums(self, amount: Amount) -> Result<Vec<u8>, Failure>
         requires seeded { seed_hash self.seed ≢ 0 }
         ensures written { IfSome (S.texts self.entry.inputs.sources) (λ texts.
-            IfOk result (λ v. IsSumsText field (options_of self.entry.options.now) self.entry.seed texts v.items)) }
-        ensures failed { IfErr result (IsOfSums (Number field)) }
+            IfOk result (λ v. IsSumsText amount (options_of self.entry.options.now) self.entry.seed texts v.items)) }
+        ensures failed { IfErr result (IsOfSums amount) }
     {
         let (alloc, options, seed) = (self.alloc, self.options, self.seed);
-        let amount = Amount::Number(field);
         let sums = self.sums_of(amount)?;
         let image = image_of_sums(&sums, seed)?;
         in_form(alloc, options.hex, image)

@@ -1,17 +1,24 @@
-//! What `visits` prints: how many keys come once, twice, 3 to 4 times, and so on.
-ghost use Rattle.std.specs.Prelude.{◌≡◌, ◌≢◌, ◌<◌, ◌++◌, IfOk, IfErr, IfSome, OnOk, string_bytes};
+//! What `visits` prints: how many keys come once, twice, 3 to 4 times, and so on, by lines or by images of sums.
+ghost use Rattle.std.specs.Prelude.{◌≡◌, ◌≢◌, ◌<◌, ◌++◌, true, IfOk, IfErr, IfSome, OnOk, string_bytes};
 ghost use Rattle.sketch_base.specs.Seed.{seed_hash};
 ghost use Rattle.line_sums.specs.declared.addends.Amount.TheVariants.{One};
 ghost use Rattle.distinct_arguments.specs.Faults.{options_of};
-ghost use Rattle.distinct_commands.specs.Failures.{IsOfSums};
-ghost use Rattle.distinct_commands.specs.Visits.{visits_of, ranges_head, bin_text, bin_up_to, visits_text};
+ghost use Rattle.line_sums.specs.Unions.{IsUnitedSums, AreSumsOfTexts};
+ghost use Rattle.distinct_commands.specs.Failures.{IsOfEitherUnion, IsOfSums, IsOfUniting, IsOfVisits};
+ghost use Rattle.distinct_commands.specs.Images.{images_of, remaining_images};
+ghost use Rattle.distinct_commands.specs.Visits.{visits_of, ranges_head, bin_text, bin_up_to, visits_text, IsVisitsOfImages, IsVisitsText};
 
+use crate::combine::{not_added, remark_coarser};
 use crate::failure::Failure;
+use crate::images::Images;
 use crate::job::Job;
+use crate::remarks::Console;
 use crate::show::chosen_deviations;
 use distinct_arguments::{Form, Options};
-use line_sketches::Sources;
-use line_sums::{Amount, BINS, count_in, greatest_of, greatest_sum, least_of};
+use line_sketches::{Sources, Unread};
+use line_sums::{
+    Amount, BINS, UnionOfSums, count_in, greatest_of, greatest_sum, least_of, union_of_sums,
+};
 use reports::{range_json_line, range_line, range_tsv_head, range_tsv_row, report_of_part};
 use std::alloc::{AllocError, Global};
 use tuple_sketches::CompactTupleSketch;
@@ -89,10 +96,27 @@ fn visits_text(
     Ok(text)
 }
 
+/// The union of images of sums. If it is refused, the failure is that of `not_added`.
+fn united_visits<S: Sources>(
+    alloc: Global,
+    options: &Options<'_>,
+    seed: u64,
+    images: &mut Images<'_, S>,
+) -> Result<UnionOfSums, Unread>
+    requires seeded { seed_hash seed ≢ 0 }
+    ensures united { IfSome (remaining_images S.Source.remaining S.texts images.old) (λ all.
+        IfOk result (λ u. IsUnitedSums seed options.now.lg_k all u.sketch)) }
+    ensures apart { IfSome (remaining_images S.Source.remaining S.texts images.old) (λ all.
+        IfOk result (λ u. AreSumsOfTexts seed options.now.lg_k all u.sketch)) }
+    ensures refused { IfErr result (IsOfUniting true) }
+{
+    union_of_sums(alloc, seed, options.lg_k, images)
+}
+
 impl<'a, S: Sources + Drop> Job<'a, S> {
     /// What `visits` prints of the lines of all sources. It fails if memory is refused, a source can't be read, or a line
     /// comes 2^64 times.
-    pub fn visit_inputs(self) -> Result<Vec<u8>, Failure>
+    fn visit_lines(self) -> Result<Vec<u8>, Failure>
         requires seeded { seed_hash self.seed ≢ 0 }
         ensures printed { IfSome (S.texts self.entry.inputs.sources) (λ texts. IfOk result (λ v.
             v.items ≡ visits_text (options_of self.entry.options.now) (visits_of (options_of self.entry.options.now) self.entry.seed texts))) }
@@ -102,5 +126,40 @@ impl<'a, S: Sources + Drop> Job<'a, S> {
         let visits = self.sums_of(Amount::One)?;
         let text = visits_text(alloc, options, &visits)?;
         Ok(text.into_bytes())
+    }
+
+    /// What `visits` prints of the union of the images of sums of all sources. It fails if memory is refused, a source can't
+    /// be read or isn't an image of sums, or the sum of a key is 2^64 or more.
+    fn visit_images<C: Console>(self, console: &mut C) -> Result<Vec<u8>, Failure>
+        requires seeded { seed_hash self.seed ≢ 0 }
+        requires sums { self.options.now.sums ≡ true }
+        ensures printed { IfSome (S.texts self.entry.inputs.sources) (λ texts. IfOk result (λ v.
+            IsVisitsOfImages (options_of self.entry.options.now) self.entry.seed (images_of self.entry.options.now.hex texts) v.items)) }
+        ensures failed { IfErr result (IsOfEitherUnion (options_of self.entry.options.now)) }
+    {
+        let (alloc, options, seed) = (self.alloc, self.options, self.seed);
+        let mut images = Images::of(alloc, self.inputs, true, options.hex, seed);
+        match united_visits(alloc, options, seed, &mut images) {
+            Ok(united) => {
+                remark_coarser(&images, options.lg_k, console);
+                let text = visits_text(alloc, options, &united.sketch)?;
+                Ok(text.into_bytes())
+            }
+            Err(Unread::Failed(error)) => Err(images.unreadable(error)),
+            Err(Unread::Refused(error)) => Err(not_added(&images, error)),
+        }
+    }
+
+    /// What `visits` prints of all sources: of their lines, or of their images of sums.
+    pub fn visit_inputs<C: Console>(self, console: &mut C) -> Result<Vec<u8>, Failure>
+        requires seeded { seed_hash self.seed ≢ 0 }
+        ensures printed { IfSome (S.texts self.entry.inputs.sources) (λ texts. IfOk result (λ v.
+            IsVisitsText self.entry.options.now.sums (options_of self.entry.options.now) self.entry.seed texts v.items)) }
+        ensures failed { IfErr result (IsOfVisits (options_of self.entry.options.now)) }
+    {
+        if self.options.sums {
+            return self.visit_images(console);
+        }
+        self.visit_lines()
     }
 }

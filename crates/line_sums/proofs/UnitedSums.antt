@@ -27,9 +27,9 @@ use Rattle.line_sketches.specs.Keys.{key_set}
 use Rattle.line_sketches.proofs.Rereads.{seed_hash-small}
 use Rattle.line_sketches.proofs.Shards.{lines_apart, sample}
 use Rattle.line_sketches.proofs.Unions.{Joins, made_same, value_more}
-use Rattle.line_sums.specs.Images.{AreReadSums, AreImagesOfTexts, ReadsSums, image_of_sums, written_sums}
+use Rattle.line_sums.specs.Images.{AreReadSums, AreImagesOfTexts, ReadsSums, written_sums}
 use Rattle.line_sums.specs.Sums.{sum_at, sums_of_lines, sketch_of_sums}
-use Rattle.line_sums.specs.Unions.{add_folds, folds_of_sketches, united_sums, HasUnitedSums, IsUnitedSumsImage}
+use Rattle.line_sums.specs.Unions.{add_folds, folds_of_sketches, united_sums, HasUnitedSums, IsUnitedSums}
 use Rattle.line_sums.proofs.Joined.{add_keeps, AreValues, map_self, united_exact}
 
 -- bytes are read as one sketch of sums at most
@@ -138,10 +138,10 @@ module _ (hashing : Hashing) (amount : List ℕ → ℕ) where
     folds_again [] = refl
     folds_again (s ∷ ss) = ap (λ vs. unmarked_value (compact_value tuple_key s) ∷ vs) (folds_again ss)
 
-    -- the union of the images of texts is the image of the sums of all their lines
-    pub sums_apart : (texts images : List (List ℕ)) (bytes : List ℕ) → AreImagesOfTexts hashing amount lg_k images texts → IsUnitedSumsImage hashing.seed lg_k images bytes → bytes ≡ image_of_sums hashing amount lg_k (lines_of_all texts)
-    sums_apart texts images bytes are united =
+    -- the union of the images of texts is the sketch of the sums of all their lines
+    pub sums_apart : (texts images : List (List ℕ)) (s : Compact (TupleEntry ℕ)) → AreImagesOfTexts hashing amount lg_k images texts → IsUnitedSums hashing.seed lg_k images s → s ≡ sketch_of_sums hashing amount lg_k (lines_of_all texts)
+    sums_apart texts images s are united =
         let values : List (Sketch (TupleEntry ℕ)) = map (λ s. compact_value tuple_key s) united.sketches in
         let whole = united_exact hashing amount lg_k values (map lines_of texts) (are_values images united.sketches texts united.are_read are) united.value
         (united.united ∙ ap (unite (fold_key tuple_key) add_folds (2 ^ lg_k) MAX_THETA) (folds_again united.sketches)) in
-        united.image ∙ ap (λ (v : Sketch (TupleEntry ℕ)). written_sums (ordered_sketch v (seed_hash hashing.seed))) (whole ∙ ap (sums_of_lines hashing amount lg_k) (lines_apart hashing texts))
+        united.sketch ∙ ap (λ (v : Sketch (TupleEntry ℕ)). ordered_sketch v (seed_hash hashing.seed)) (whole ∙ ap (sums_of_lines hashing amount lg_k) (lines_apart hashing texts))

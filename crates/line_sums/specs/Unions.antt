@@ -20,6 +20,7 @@ use Rattle.line_sketches.specs.Refusals.{HasFault}
 use Rattle.line_sketches.specs.declared.sketching.Unread.{Unread}
 use Rattle.line_sketches.specs.declared.sketching.Unread.TheVariants.{Refused, Failed}
 use Rattle.line_sums.specs.Images.{AreReadSums, AreReadableSums, AreImagesOfTexts, image_of_sums, written_sums}
+use Rattle.line_sums.specs.Sums.{sketch_of_sums}
 
 -- two folds of one hash are merged: their sums are added, and a sum of 2^64 or more is a mark
 abbrev pub add_folds : Fold (TupleEntry ℕ) → Fold (TupleEntry ℕ) → Fold (TupleEntry ℕ)
@@ -41,16 +42,27 @@ pub record HasUnitedSums {P : Type 0} (seed lg_k : ℕ) (images : List (List ℕ
   pub value : unmarked_value (union_value tuple_key u) ≡ united_sums lg_k sketches
   pub made : u ≡ record (empty_union lg_k MAX_THETA (seed_hash seed) u.policy) { empty = u.empty; content = u.content }
 
--- the image of the union of the sketches of sums in images
-pub record IsUnitedSumsImage (seed lg_k : ℕ) (images : List (List ℕ)) (bytes : List ℕ) : Type 0 where
+-- the ordered sketch of the union of the sketches of sums in images
+pub record IsUnitedSums (seed lg_k : ℕ) (images : List (List ℕ)) (s : Compact (TupleEntry ℕ)) : Type 0 where
   pub sketches : List (Compact (TupleEntry ℕ))
   pub are_read : AreReadSums seed images sketches
   pub value : Sketch (TupleEntry ℕ)
   pub united : unmarked_value value ≡ united_sums lg_k sketches
-  pub image : bytes ≡ written_sums (ordered_sketch value (seed_hash seed))
+  pub sketch : s ≡ ordered_sketch value (seed_hash seed)
+
+-- .. and its image
+abbrev pub IsUnitedSumsImage : (seed lg_k : ℕ) → (images : List (List ℕ)) → (bytes : List ℕ) → Type 0
+IsUnitedSumsImage seed lg_k images bytes = (s : Compact (TupleEntry ℕ)) × IsUnitedSums seed lg_k images s × (bytes ≡ written_sums s)
 
 -- for images of the sums of texts that were sketched apart, by one key and one amount, with this seed and at least this lg_k,
--- it is the image of the sums of all their lines
+-- it is the sketch of the sums of all their lines
+abbrev pub AreSumsOfTexts : (seed lg_k : ℕ) → (images : List (List ℕ)) → Compact (TupleEntry ℕ) → Type 0
+AreSumsOfTexts seed lg_k images s =
+    (key : Key) (amount : List ℕ → ℕ) (texts : List (List ℕ))
+    → AreImagesOfTexts (hashing_of key seed) amount lg_k images texts
+    → s ≡ sketch_of_sums (hashing_of key seed) amount lg_k (lines_of_all texts)
+
+-- .. and its image that of them
 abbrev pub UnitesSumsOfTexts : (seed lg_k : ℕ) → (images : List (List ℕ)) → List ℕ → Type 0
 UnitesSumsOfTexts seed lg_k images bytes =
     (key : Key) (amount : List ℕ → ℕ) (texts : List (List ℕ))

@@ -32,4 +32,4 @@ pub use images::{read_sums, sums_image};
 pub use operands::all_sums;
 pub use sources::sum_sources;
 pub use summing::{SumSketch, Unsummed, add_lines, finished, new_sketch};
-pub use uniting::unite_sums;
+pub use uniting::{UnionOfSums, union_of_sums, unite_sums};

@@ -57,6 +57,7 @@ fn put_flags(text: &mut String, options: &Options<'_>) -> Result<(), AllocError>
         (" hex", options.hex),
         (" groups", options.groups),
         (" sums", options.sums),
+        (" visits", options.visits),
         (" keys", options.keys),
         (" progress", options.progress),
     ] {

@@ -6,6 +6,7 @@ ghost use Rattle.distinct_arguments.specs.Arguments.{action_of};
 ghost use Rattle.distinct_arguments.specs.declared.commands.Operator.TheVariants.{Union};
 ghost use Rattle.distinct_arguments.specs.Faults.{options_of};
 ghost use Rattle.distinct_arguments.specs.Settings.{chosen_group, chosen_value};
+ghost use Rattle.distinct_commands.specs.Failures.{chosen_amount};
 ghost use Rattle.distinct_commands.specs.Answers.{names_of, texts_of, sketch_of};
 ghost use Rattle.distinct_commands.specs.Images.{in_form};
 ghost use Rattle.distinct_commands.specs.Answers.{IsIntersectionImage, IsDifferenceImage, IsShownOf, IsCountOf, IsSketchText, IsCommandAnswer, IsCombinedText, Performs};
@@ -13,7 +14,7 @@ ghost use Rattle.distinct_commands.specs.Evaluations.{IsEvaluatedOf};
 ghost use Rattle.distinct_commands.specs.Images.{images_of};
 ghost use Rattle.distinct_commands.specs.Texts.{count_text};
 ghost use Rattle.distinct_commands.specs.Sums.{IsTotalText};
-ghost use Rattle.distinct_commands.specs.Visits.{visits_of, visits_text};
+ghost use Rattle.distinct_commands.specs.Visits.{IsVisitsText};
 
 use crate::tests::words_of;
 use distinct_arguments::{
@@ -94,7 +95,7 @@ fn sketch_of(
 ) -> Result<Vec<u8>, Failure>
     requires seeded { seed_hash seed ≢ 0 }
     ensures sketched { IfOk result (λ v.
-        IsSketchText (chosen_value (options_of options.now)) (chosen_group (options_of options.now))
+        IsSketchText (chosen_amount (options_of options.now)) (chosen_group (options_of options.now))
         (options_of options.now) seed (texts_of texts.now) v.items) }
 {
     answered(alloc, Command::Sketch, options, seed, names, texts)
@@ -177,7 +178,7 @@ fn eval_of(
     answered(alloc, Command::Eval, options, seed, names, texts)
 }
 
-/// What `visits` writes of texts.
+/// What `visits` writes of texts, or of files of images of sums.
 fn visits_of(
     alloc: Global,
     options: &Options<'_>,
@@ -186,7 +187,7 @@ fn visits_of(
     texts: &[Vec<u8>],
 ) -> Result<Vec<u8>, Failure>
     requires seeded { seed_hash seed ≢ 0 }
-    ensures visited { IfOk result (λ v. v.items ≡ visits_text (options_of options.now) (visits_of (options_of options.now) seed (texts_of texts.now))) }
+    ensures visited { IfOk result (λ v. IsVisitsText options.now.sums (options_of options.now) seed (texts_of texts.now) v.items) }
 {
     answered(alloc, Command::Visits, options, seed, names, texts)
 }
@@ -319,10 +320,11 @@ fn both_written(
         return Err(Failure::NoFiles);
     }
     let is_sums = command == Command::Visits || command == Command::Sum;
-    let reads_lines = command == Command::Count || command == Command::Sketch || options.keys;
+    let has_lines = command == Command::Count || command == Command::Sketch || is_sums;
+    let reads_lines = options.keys || has_lines && !options.sums;
     let prints = command == Command::Count || command == Command::Show || command == Command::Eval;
     let is_image = !options.hex && !is_sums && (!prints || options.output.is_some());
-    let files = two_texts(alloc, !options.hex && !is_sums && !reads_lines, texts)?;
+    let files = two_texts(alloc, !options.hex && !reads_lines, texts)?;
     let written = performed(alloc, words.as_slice(), seed, names, files.as_slice())?;
     let second = written_by_seed(alloc, command, &options, seed, names, files.as_slice())?;
     Ok((
@@ -384,8 +386,26 @@ const SQUARE_SUMS: [&str; 2] = [
 const BOTH_SQUARE_SUMS: &str =
     "03030901001acc931000000000000000e05f35ed751d0073fbec962b9734d903e100000000000000b70c6ee5a8af4008090000000000000096d5fa806ee6911469010000000000003033787f99eb9716440100000000000031b1af2ba470ae169000000000000000c3b3704689653920640000000000000047ea9f2c54fc0b22c4000000000000004e3de85b082bc12e1900000000000000ff7c64f774b0f2312400000000000000376aa7ffdc8e1a325100000000000000857f40b689c7e5340400000000000000f9e6878dc231044090010000000000008dfc2f788b524447a900000000000000e98357d8e06d3a4e210100000000000082e327d71c4b4950000100000000000097eb8adc8b618f713100000000000000\n";
 
-/// Each command, with options and without. What is to be written of `TEXTS`, `LETTERS`, `AMOUNTS`, `SQUARES`, `SUMS` and
-/// `SQUARE_SUMS` is by a program in Python that knows the public definition of the hash and the formula of bounds, of `EXACT`
+/// The images of the numbers of lines of `TEXTS`, of each text and of both.
+const VISITS: [&str; 2] = [
+    "02030901001acc9302000000000000005f1032909707cc270100000000000000fc08309e1c5ed36b0100000000000000",
+    "02030901001acc930300000000000000dc8d24339151380f01000000000000005f1032909707cc270100000000000000fc08309e1c5ed36b0100000000000000",
+];
+
+const BOTH_VISITS: &str =
+    "02030901001acc930300000000000000dc8d24339151380f01000000000000005f1032909707cc270200000000000000fc08309e1c5ed36b0200000000000000\n";
+
+/// The lines of the groups of `TEXTS` by their first field, cut at an n, each with its image.
+const GROUPS: [&str; 2] = [
+    "a\t01030300001acc93fc08309e1c5ed36b\nbob\t01030300001acc935f1032909707cc27\n",
+    "\t01030300001acc93dc8d24339151380f\na\t01030300001acc93fc08309e1c5ed36b\nbob\t01030300001acc935f1032909707cc27\n",
+];
+
+/// Users, each with days.
+const DAYS: [&str; 2] = ["x;1\ny;1\nx;2\ny;2", "z;1\ny;3\ny;3\n;5"];
+
+/// Each command, with options and without. What is to be written of `TEXTS`, `LETTERS`, `AMOUNTS`, `SQUARES`, `SUMS`,
+/// `SQUARE_SUMS`, `VISITS`, `GROUPS` and `DAYS` is by a program in Python that knows the public definition of the hash and the formula of bounds, of `EXACT`
 /// it is in `examples/lines`, and of `ESTIMATING` it is by `checks/answers.py`.
 #[test]
 fn writes_each_answer(rt: HostRuntime) -> Result<(), Fail> {
@@ -533,6 +553,55 @@ fn writes_each_answer(rt: HostRuntime) -> Result<(), Fail> {
             "a + b: 18 estimated, from 16 to 21, retained 16, theta 8286655706689789920\n",
         ),
         (&["visits", "a", "b"], TEXTS, "1: 1\n2: 2\n"),
+        (&["sketch", "--visits", "a", "b"], TEXTS, BOTH_VISITS),
+        (
+            &["sketch", "--visits", "--hex", "a", "b"],
+            TEXTS,
+            BOTH_VISITS,
+        ),
+        (&["union", "--sums", "a", "b"], VISITS, BOTH_VISITS),
+        (&["visits", "--sums", "a", "b"], VISITS, "1: 1\n2: 2\n"),
+        (
+            &[
+                "visits", "--sums", "--hex", "--lg-k=4", "--bounds", "a", "b",
+            ],
+            SQUARE_SUMS,
+            "1: 0 0 1\n2: 0 0 1\n3 to 4: 1 1 3\n5 to 8: 0 0 1\n9 to 16: 1 1 3\n17 to 32: 1 1 3\n33 to 64: 2 2 4\n65 to 128: 2 2 4\n129 to 256: 6 5 8\n257 to 512: 4 4 7\n",
+        ),
+        (&["eval", "--sums", "a + b"], SUMS, "18446744073709551623\n"),
+        (
+            &["eval", "--sums", "--hex", "--json", "a & b"],
+            SUMS,
+            "{\"total\":18446744073709551622,\"exact\":true,\"retained\":2,\"theta\":9223372036854775807}\n",
+        ),
+        (
+            &["eval", "--sums", "--lg-k=4", "a + b"],
+            SQUARE_SUMS,
+            "2970\n",
+        ),
+        (
+            &["eval", "--sums", "--output", "o", "(a + b) - a"],
+            SUMS,
+            "01030901001acc93dc8d24339151380f0100000000000000\n",
+        ),
+        (
+            &["union", "--groups", "--hex", "a", "b"],
+            GROUPS,
+            "\t01030300001acc93dc8d24339151380f\na\t01030300001acc93fc08309e1c5ed36b\nbob\t01030300001acc935f1032909707cc27\n",
+        ),
+        (
+            &[
+                "count",
+                "--by=1",
+                "--sort=estimate",
+                "--separator=;",
+                "--field=2",
+                "a",
+                "b",
+            ],
+            DAYS,
+            "y\t3\nx\t2\n\t1\nz\t1\n",
+        ),
         (
             &["visits", "--lg-k=4", "--bounds", "a", "b"],
             LETTERS,
