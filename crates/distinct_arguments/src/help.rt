@@ -165,7 +165,7 @@ distinct visits [OPTION..] [FILE..]: how many distinct lines occur once in the f
 3 to 4 times, 5 to 8 times and so on: a line for each range up to the most frequent line retained
 
   --lg-k N            keep 2^N hashes, N from 4 to 26; default 12. The numbers are exact up to 2^N
-                      distinct lines, and else estimates; how often a retained line comes is exact
+                      distinct lines, and else estimates; how often a retained line occurs is exact
   --field N           a line's key is its field N, from 1, as cut has it
   --separator C       the byte between fields, with --field; default a tab
   --sums              the files are images of sums, at least one, as sketch writes them of visits:
