@@ -15,9 +15,8 @@ mod tests;
 use crate::hints::Hint;
 use crate::progress::Progress;
 use distinct_arguments::{Command, Fault, Options, Request, Seed, read_arguments};
-use distinct_commands::{
-    Failure, Files, Inputs, expression_in, files_in_list, group_files, perform, seed_of,
-};
+use distinct_commands::{expression_in, group_files, perform};
+use distinct_inputs::{Failure, Files, Inputs, files_in_list, seed_of};
 use lines::Key;
 use sketch_base::DEFAULT_UPDATE_SEED;
 use std::env;

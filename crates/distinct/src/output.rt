@@ -1,8 +1,8 @@
 //! Writing the file that `--output` names.
 ghost use Rattle.std.specs.Prelude.{IfErr};
-ghost use Rattle.distinct_commands.specs.Failures.{IsOfWriting};
+ghost use Rattle.distinct_inputs.specs.Failures.{IsOfWriting};
 
-use distinct_commands::{Failure, not_written};
+use distinct_inputs::{Failure, not_written};
 use grouped_lines::GroupFile;
 use std::alloc::Global;
 use std::fs::{File, Files};

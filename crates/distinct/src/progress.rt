@@ -1,6 +1,6 @@
 //! Remarks and reports of progress on standard error.
 
-use distinct_commands::{Console, Remark};
+use distinct_inputs::{Console, Remark};
 use grouped_lines::GroupWatch;
 use line_sketches::Watch;
 use reports::estimate_so_far;

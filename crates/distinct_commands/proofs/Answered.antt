@@ -19,7 +19,7 @@ use Rattle.distinct_commands.specs.Groups.{grouping_of, group_estimate, chosen_o
 use Rattle.distinct_commands.specs.Texts.{count_text}
 use Rattle.distinct_commands.specs.Visits.{visits_text, IsVisitsOfImages}
 use Rattle.grouped_lines.specs.Groups.{AreGroups}
-use Rattle.distinct_commands.specs.Images.{in_form}
+use Rattle.distinct_inputs.specs.Images.{in_form}
 use Rattle.distinct_arguments.specs.Settings.{OptionValues}
 
 -- the sketch of lines that are in no groups, or their groups, as they are printed or written

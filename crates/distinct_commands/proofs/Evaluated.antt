@@ -15,11 +15,11 @@ use Rattle.set_expressions.specs.Running.{values_of, sums_values}
 use Rattle.set_expressions.proofs.WholeSets.{expression_sample}
 use Rattle.distinct_arguments.specs.Settings.{OptionValues}
 use Rattle.distinct_commands.proofs.WholeStreams.{whole_result}
-use Rattle.distinct_commands.specs.Answers.{names_of}
-use Rattle.distinct_commands.specs.Failures.{chosen_hashing}
+use Rattle.distinct_inputs.specs.Lists.{names_of}
+use Rattle.distinct_inputs.specs.Failures.{chosen_hashing}
 use Rattle.distinct_commands.specs.Evaluations.{sketch_of_text, SketchesFirst, SketchesNext, AreSketchesOfTexts, AreOperands, IsEvaluated, IsEvaluatedBy, IsEvaluatedOf, evaluated_text}
 use Rattle.distinct_commands.specs.EvaluatedSums.{IsSumsEvaluated, evaluated_sums_text}
-use Rattle.distinct_commands.specs.Images.{images_of}
+use Rattle.distinct_inputs.specs.Images.{images_of}
 
 mapped-more : {X Y : Type 0} (f : X → Y) (xs : List X) (x : X) → map f (xs ++ x ∷ []) ≡ map f xs ++ f x ∷ []
 mapped-more f [] x = refl

@@ -1,8 +1,6 @@
-mod ImageLines
 pub mod OnlyMemory
 mod WholeStreams
 pub mod NextImages
 pub mod Evaluated
 pub mod GroupLines
 pub mod Answered
-pub mod ListNames

@@ -8,18 +8,14 @@ use Rattle.theta_sketches.specs.Image.{Reads, written}
 use Rattle.line_sketches.specs.Sources.{Continues}
 use Rattle.line_sketches.specs.Shards.{AreRead}
 use Rattle.distinct_commands.specs.Answers.{AreShownByName, AreShown, IsExpected, IsIntersectionImage, intersection_of}
-use Rattle.distinct_commands.specs.Failures.{called}
-use Rattle.distinct_commands.specs.Images.{images_of, images_left, open_text, ReadsFirst, ReadsNext}
+use Rattle.distinct_inputs.specs.Failures.{called}
+use Rattle.distinct_inputs.specs.Images.{images_of, images_left, open_text, ReadsFirst, ReadsNext}
 use Rattle.distinct_commands.specs.Texts.{shown_text}
 use Rattle.distinct_arguments.specs.Settings.{OptionValues}
 
 pub none_read : (o : Option (Compact ℕ)) → ((s : Compact ℕ) → o ≡ Some s → ⊥) → o ≡ None
 none_read None none = refl
 none_read (Some s) none = absurd (none s refl)
-
-pub nothing_named : {T : Type 0} (f : T → List ℕ) (xs : List T) → length xs ≡ 0 → map f xs ≡ []
-nothing_named f [] none = refl
-nothing_named f (x ∷ xs) none = absurd (omega arith)
 
 module _ (seed : ℕ) where
   -- sketches of all images

@@ -17,8 +17,8 @@ use Rattle.line_sketches.specs.Refusals.{IsUnread, IsUniteRefusal}
 use Rattle.line_sums.specs.Unions.{IsUniteSumsRefusal}
 use Rattle.line_sketches.specs.declared.sketching.Unread.{Unread}
 use Rattle.line_sketches.specs.declared.sketching.Unread.TheVariants.{Refused, Failed}
-use Rattle.distinct_commands.specs.Failures.{IsOfUniting}
-use Rattle.distinct_commands.specs.Seeds.{AreSeeded}
+use Rattle.distinct_inputs.specs.Failures.{IsOfUniting}
+use Rattle.distinct_inputs.specs.Seeds.{AreSeeded}
 
 -- a size in range
 pub sized : (lg_k seed : ℕ) → 4 ≤ lg_k → lg_k ≤ 26 → seed_hash seed ≢ 0 → settings_refusal lg_k MAX_THETA seed ≡ None

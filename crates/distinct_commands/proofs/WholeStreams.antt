@@ -24,9 +24,9 @@ use Rattle.set_expressions.specs.Running.{values_of, values_by, after_steps, onl
 use Rattle.set_expressions.proofs.RunSteps.{expression_result, one_result}
 use Rattle.set_expressions.proofs.WholeSets.{expression_sample}
 use Rattle.distinct_arguments.specs.Settings.{OptionValues}
-use Rattle.distinct_commands.specs.Failures.{chosen_hashing}
+use Rattle.distinct_inputs.specs.Failures.{chosen_hashing}
 use Rattle.distinct_commands.specs.Evaluations.{AreOperands, AreWholeSets}
-use Rattle.distinct_commands.specs.Seeds.{AreSeeded}
+use Rattle.distinct_inputs.specs.Seeds.{AreSeeded}
 
 module _ (options : OptionValues) (seed : ℕ) where
   text_samples : (texts : List (List ℕ)) → AreSamples hash_key (values_of (sketches_of_texts (chosen_hashing options seed) options.lg_k texts)) (map (λ text. key_set (chosen_hashing options seed) (lines_of text)) texts)

@@ -15,9 +15,9 @@ use Rattle.line_sums.specs.declared.addends.Amount.{Amount}
 use Rattle.distinct_arguments.specs.Settings.{OptionValues, chosen_group, chosen_value}
 use Rattle.grouped_lines.specs.United.{IsUnitedText}
 use Rattle.distinct_arguments.specs.Arguments.{Action, prints, runs, fails}
-use Rattle.distinct_commands.specs.Failures.{called, chosen_amount, chosen_hashing}
+use Rattle.distinct_inputs.specs.Failures.{called, chosen_amount, chosen_hashing}
 use Rattle.distinct_commands.specs.Evaluations.{IsEvaluatedOf}
-use Rattle.distinct_commands.specs.Images.{images_of, in_form}
+use Rattle.distinct_inputs.specs.Images.{images_of, in_form}
 use Rattle.distinct_commands.specs.Groups.{IsGroupedText}
 use Rattle.lines.specs.declared.key.Key.{Key}
 use Rattle.distinct_commands.specs.Texts.{count_text, shown_text, head_of}
@@ -27,13 +27,6 @@ use Rattle.distinct_arguments.specs.declared.commands.Command.{Command}
 use Rattle.distinct_arguments.specs.declared.commands.Command.TheVariants.{Count, Sketch, Combine, Show, Eval, Visits, Sum}
 use Rattle.distinct_arguments.specs.declared.commands.Operator.{Operator}
 use Rattle.distinct_arguments.specs.declared.commands.Operator.TheVariants.{Union, Meet, Minus}
-
--- the names of files, and the texts of files in memory
-abbrev pub names_of : {A : Type 0} → List (String A) → List (List ℕ)
-names_of names = map (λ name. string_bytes name) names
-
-abbrev pub texts_of : {A : Type 0} → List (Vec ℕ A) → List (List ℕ)
-texts_of texts = map (λ text. text.items) texts
 
 -- the sketch of the lines of all texts, each text cut into lines by itself, with the key and the size that the options set, under a seed
 abbrev pub sketch_of : OptionValues → (seed : ℕ) → (texts : List (List ℕ)) → Compact ℕ

@@ -11,7 +11,7 @@ use Rattle.expression_text.specs.Grammar.{IsExpressionText}
 use Rattle.set_expressions.specs.Values.{sums_value, whole_sums_in}
 use Rattle.set_expressions.specs.Running.{sums_values}
 use Rattle.distinct_arguments.specs.Settings.{OptionValues}
-use Rattle.distinct_commands.specs.Images.{images_of, in_form}
+use Rattle.distinct_inputs.specs.Images.{images_of, in_form}
 use Rattle.distinct_commands.specs.Sums.{total_text}
 
 -- what is printed of a sketch of sums: its total, or its image if it goes to a file

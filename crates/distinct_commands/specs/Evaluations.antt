@@ -14,8 +14,8 @@ use Rattle.set_expressions.specs.Values.{value_of, set_of}
 use Rattle.set_expressions.specs.Running.{values_of}
 use Rattle.distinct_arguments.specs.Settings.{OptionValues}
 use Rattle.distinct_commands.specs.EvaluatedSums.{IsSumsEvaluated}
-use Rattle.distinct_commands.specs.Failures.{chosen_hashing}
-use Rattle.distinct_commands.specs.Images.{images_of, in_form}
+use Rattle.distinct_inputs.specs.Failures.{chosen_hashing}
+use Rattle.distinct_inputs.specs.Images.{images_of, in_form}
 use Rattle.distinct_commands.specs.Texts.{shown_text, head_of}
 
 -- the sketch of a text's lines, with the key and the size that the options set

@@ -16,7 +16,7 @@ use Rattle.distinct_arguments.specs.declared.options.Order.{Order}
 use Rattle.distinct_arguments.specs.declared.options.Order.TheVariants.{Name, Estimate}
 use Rattle.distinct_arguments.specs.declared.options.Form.{Form}
 use Rattle.distinct_arguments.specs.declared.options.Form.TheVariants.{Plain, Tsv, Json}
-use Rattle.distinct_commands.specs.Failures.{chosen_hashing}
+use Rattle.distinct_inputs.specs.Failures.{chosen_hashing}
 use Rattle.distinct_commands.specs.Texts.{report_by, head_of}
 
 -- how options group lines by a key

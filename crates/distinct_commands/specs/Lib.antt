@@ -1,8 +1,4 @@
-pub mod Seeds
 pub mod Texts
-pub mod Lists
-pub mod Images
-pub mod Failures
 pub mod EvaluatedSums
 pub mod Evaluations
 pub mod Visits

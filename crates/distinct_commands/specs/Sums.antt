@@ -16,8 +16,8 @@ use Rattle.totals.specs.declared.total.Total.{Total}
 use Rattle.distinct_arguments.specs.Settings.{OptionValues}
 use Rattle.distinct_arguments.specs.declared.options.Form.{Form}
 use Rattle.distinct_arguments.specs.declared.options.Form.TheVariants.{Plain, Tsv, Json}
-use Rattle.distinct_commands.specs.Failures.{chosen_hashing}
-use Rattle.distinct_commands.specs.Images.{in_form}
+use Rattle.distinct_inputs.specs.Failures.{chosen_hashing}
+use Rattle.distinct_inputs.specs.Images.{in_form}
 
 -- the sketch of the lines of all texts, each retained hash with the sum of what its lines add, with the key and the size that the options set
 abbrev pub sums_of : OptionValues → Amount → (seed : ℕ) → (texts : List (List ℕ)) → Compact (TupleEntry ℕ)

@@ -15,8 +15,8 @@ use Rattle.reports.specs.declared.report.Report.{Report}
 use Rattle.distinct_arguments.specs.Settings.{OptionValues}
 use Rattle.distinct_arguments.specs.declared.options.Form.{Form}
 use Rattle.distinct_arguments.specs.declared.options.Form.TheVariants.{Plain, Tsv, Json}
-use Rattle.distinct_commands.specs.Failures.{chosen_hashing}
-use Rattle.distinct_commands.specs.Images.{images_of}
+use Rattle.distinct_inputs.specs.Failures.{chosen_hashing}
+use Rattle.distinct_inputs.specs.Images.{images_of}
 use Rattle.distinct_commands.specs.Texts.{report_by}
 
 -- the sketch of the lines of all texts, each retained hash with the number of its lines, with the key and the size that the options set

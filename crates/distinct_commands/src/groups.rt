@@ -5,21 +5,19 @@ ghost use Rattle.lines.specs.Lines.{lines_of_all};
 ghost use Rattle.grouped_lines.specs.Groups.{HasGroups, AreLeft};
 ghost use Rattle.grouped_lines.specs.declared.groups.Grouping.{Grouping};
 ghost use Rattle.distinct_arguments.specs.Faults.{options_of};
-ghost use Rattle.distinct_commands.specs.Failures.{IsOfReading};
+ghost use Rattle.distinct_inputs.specs.Failures.{IsOfReading};
 ghost use Rattle.grouped_lines.specs.Ranked.{AreRanked};
 ghost use Rattle.grouped_lines.specs.Files.{AreFilesOf};
 ghost use Rattle.distinct_commands.specs.Groups.{grouping_of, group_text, group_line, groups_text, groups_head};
 ghost use Rattle.distinct_commands.specs.Groups.{group_estimate, chosen_order, AreOrdered};
 ghost use Rattle.distinct_commands.specs.Texts.{report_by};
-ghost use Rattle.distinct_commands.specs.declared.failure.Failure.TheVariants as failure;
+ghost use Rattle.distinct_inputs.specs.declared.failure.Failure.TheVariants as failure;
 
 use crate::commands::image_to_put;
-use crate::failure::{Failure, out_of_memory};
-use crate::inputs::Inputs;
 use crate::job::Job;
-use crate::remarks::Console;
 use crate::show::{chosen_deviations, head_of};
 use distinct_arguments::{Form, Options, Order};
+use distinct_inputs::{Console, Failure, Inputs, out_of_memory};
 use grouped_lines::{
     Group, GroupFile, Grouping, Groups, Ranked, files_of, group_sources, image_line, ranked_text,
 };

@@ -1,7 +1,7 @@
 //! What the program does for one command: its options and its files. The other modules add a method for each command.
 
-use crate::inputs::Inputs;
 use distinct_arguments::Options;
+use distinct_inputs::Inputs;
 use line_sketches::Sources;
 use std::alloc::Global;
 

@@ -1,17 +1,16 @@
 //! What `count` and `show` print of sketches.
 ghost use Rattle.std.specs.Prelude.{◌≡◌, ◌++◌, None, Some, IfOk, IfErr, IfSome, OnOk, string_bytes};
 ghost use Rattle.distinct_arguments.specs.Faults.{options_of};
-ghost use Rattle.distinct_commands.specs.Answers.{names_of, AreShownByName, AreShown, IsShownOf};
-ghost use Rattle.distinct_commands.specs.Failures.{called, IsOfImages};
-ghost use Rattle.distinct_commands.specs.Images.{remaining_images};
+ghost use Rattle.distinct_commands.specs.Answers.{AreShownByName, AreShown, IsShownOf};
+ghost use Rattle.distinct_inputs.specs.Lists.{names_of};
+ghost use Rattle.distinct_inputs.specs.Failures.{called, IsOfImages};
+ghost use Rattle.distinct_inputs.specs.Images.{remaining_images};
 ghost use Rattle.distinct_commands.specs.Texts.{chosen_deviations, count_text, shown_text, head_of};
 
 use crate::combine::next_sketch;
-use crate::failure::Failure;
-use crate::images::Images;
-use crate::inputs::called;
 use crate::job::Job;
 use distinct_arguments::{Form, Options};
+use distinct_inputs::{Failure, Images, called};
 use estimates::Deviations;
 use line_sketches::Sources;
 use reports::{count_line, json_line, report_of, shown_line, tsv_head, tsv_row};

@@ -5,12 +5,11 @@ ghost use Rattle.lines.specs.Lines.{lines_of_all};
 ghost use Rattle.grouped_lines.specs.United.{IsUnitedText};
 ghost use Rattle.distinct_arguments.specs.Faults.{options_of};
 ghost use Rattle.distinct_commands.specs.Answers.{unites_groups};
-ghost use Rattle.distinct_commands.specs.Failures.{IsOfImages, ReportsFlawed};
+ghost use Rattle.distinct_inputs.specs.Failures.{IsOfImages, ReportsFlawed};
 
-use crate::failure::{Failure, out_of_memory};
 use crate::job::Job;
-use crate::remarks::{Coarser, Console, Remark};
 use distinct_arguments::{Operator, Options};
+use distinct_inputs::{Coarser, Console, Failure, Remark, out_of_memory};
 use grouped_lines::{LineFlaw, Ununited, unite_groups, united_text};
 use line_sketches::Sources;
 use std::alloc::Global;

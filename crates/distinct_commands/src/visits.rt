@@ -4,17 +4,15 @@ ghost use Rattle.sketch_base.specs.Seed.{seed_hash};
 ghost use Rattle.line_sums.specs.declared.addends.Amount.TheVariants.{One};
 ghost use Rattle.distinct_arguments.specs.Faults.{options_of};
 ghost use Rattle.line_sums.specs.Unions.{IsUnitedSums, AreSumsOfTexts};
-ghost use Rattle.distinct_commands.specs.Failures.{IsOfEitherUnion, IsOfSums, IsOfUniting, IsOfVisits};
-ghost use Rattle.distinct_commands.specs.Images.{images_of, remaining_images};
+ghost use Rattle.distinct_inputs.specs.Failures.{IsOfEitherUnion, IsOfSums, IsOfUniting, IsOfVisits};
+ghost use Rattle.distinct_inputs.specs.Images.{images_of, remaining_images};
 ghost use Rattle.distinct_commands.specs.Visits.{visits_of, ranges_head, bin_text, bin_up_to, visits_text, IsVisitsOfImages, IsVisitsText};
 
 use crate::combine::{not_added, remark_coarser};
-use crate::failure::Failure;
-use crate::images::Images;
 use crate::job::Job;
-use crate::remarks::Console;
 use crate::show::chosen_deviations;
 use distinct_arguments::{Form, Options};
+use distinct_inputs::{Console, Failure, Images};
 use line_sketches::{Sources, Unread};
 use line_sums::{
     Amount, BINS, UnionOfSums, count_in, greatest_of, greatest_sum, least_of, union_of_sums,

@@ -6,12 +6,13 @@ ghost use Rattle.distinct_arguments.specs.Arguments.{action_of};
 ghost use Rattle.distinct_arguments.specs.declared.commands.Operator.TheVariants.{Union};
 ghost use Rattle.distinct_arguments.specs.Faults.{options_of};
 ghost use Rattle.distinct_arguments.specs.Settings.{chosen_group, chosen_value};
-ghost use Rattle.distinct_commands.specs.Failures.{chosen_amount};
-ghost use Rattle.distinct_commands.specs.Answers.{names_of, texts_of, sketch_of};
-ghost use Rattle.distinct_commands.specs.Images.{in_form};
+ghost use Rattle.distinct_inputs.specs.Failures.{chosen_amount};
+ghost use Rattle.distinct_commands.specs.Answers.{sketch_of};
+ghost use Rattle.distinct_inputs.specs.Lists.{names_of, texts_of};
+ghost use Rattle.distinct_inputs.specs.Images.{in_form};
 ghost use Rattle.distinct_commands.specs.Answers.{IsIntersectionImage, IsDifferenceImage, IsShownOf, IsCountOf, IsSketchText, IsCommandAnswer, IsCombinedText, Performs};
 ghost use Rattle.distinct_commands.specs.Evaluations.{IsEvaluatedOf};
-ghost use Rattle.distinct_commands.specs.Images.{images_of};
+ghost use Rattle.distinct_inputs.specs.Images.{images_of};
 ghost use Rattle.distinct_commands.specs.Texts.{count_text};
 ghost use Rattle.distinct_commands.specs.Sums.{IsTotalText};
 ghost use Rattle.distinct_commands.specs.Visits.{IsVisitsText};
@@ -20,7 +21,8 @@ use crate::tests::words_of;
 use distinct_arguments::{
     Command, Operator, Options, Request, Seed, Topic, read_arguments, text_of,
 };
-use distinct_commands::{Console, Failure, Remark, answer, perform};
+use distinct_commands::{answer, perform};
+use distinct_inputs::{Console, Failure, Remark};
 use grouped_lines::GroupWatch;
 use line_sketches::{Texts, Watch, hex_line, read_hex};
 use sketch_base::{DEFAULT_UPDATE_SEED, ErrorKind as SketchError, compute_seed_hash};

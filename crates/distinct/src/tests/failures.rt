@@ -1,7 +1,7 @@
 //! Tests of messages with their statuses, and of lists of names.
 use crate::tests::words_of;
 use distinct_arguments::Fault;
-use distinct_commands::{Failure, Unlisted, names_in};
+use distinct_inputs::{Failure, Unlisted, names_in};
 use expression_text::{Reason, SyntaxFault};
 use line_sketches::Flaw;
 use std::alloc::{AllocError, Global};

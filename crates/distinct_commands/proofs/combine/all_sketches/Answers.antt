@@ -4,8 +4,8 @@ use Rattle.sketch_base.specs.Seed.{seed_hash}
 use Rattle.core_compact.specs.CompactState.{Compact}
 use Rattle.line_sketches.specs.Shards.{AreRead}
 use Rattle.line_sketches.specs.Sources.{Continues}
-use Rattle.distinct_commands.specs.Images.{remaining_images}
-use Rattle.distinct_commands.specs.Seeds.{AreSeeded}
+use Rattle.distinct_inputs.specs.Images.{remaining_images}
+use Rattle.distinct_inputs.specs.Seeds.{AreSeeded}
 use Rattle.distinct_commands.proofs.NextImages.{reads_more}
 use Rattle.distinct_commands.proofs.OnlyMemory.{seeded-more}
 use Rattle.distinct_commands.proofs.combine.all_sketches.Goals as goal

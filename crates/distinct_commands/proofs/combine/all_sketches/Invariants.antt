@@ -1,7 +1,7 @@
 use Rattle.line_sketches.specs.Shards.{AreRead}
 use Rattle.line_sketches.specs.Sources.{Continues}
-use Rattle.distinct_commands.specs.Images.{remaining_images}
-use Rattle.distinct_commands.specs.Seeds.{AreSeeded}
+use Rattle.distinct_inputs.specs.Images.{remaining_images}
+use Rattle.distinct_inputs.specs.Seeds.{AreSeeded}
 use Rattle.distinct_commands.proofs.combine.all_sketches.Given as goal
 
 -- the sketches so far are of the default seed, and are those of the images read so far

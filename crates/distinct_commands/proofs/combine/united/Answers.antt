@@ -5,7 +5,7 @@ use Rattle.core_laws.specs.Settings.{settings_refusal}
 use Rattle.line_sketches.specs.Unions.{IsUnitedImage, UnitesTexts}
 use Rattle.line_sums.specs.Unions.{IsUnitedSumsImage, UnitesSumsOfTexts}
 use Rattle.distinct_commands.specs.Answers.{IsUnionOf}
-use Rattle.distinct_commands.specs.Images.{remaining_images}
+use Rattle.distinct_inputs.specs.Images.{remaining_images}
 use Rattle.distinct_commands.proofs.NextImages.{both_known}
 use Rattle.distinct_commands.proofs.OnlyMemory.{sized, sums_refused}
 use Rattle.distinct_commands.proofs.combine.united.Goals as goal

@@ -1,10 +1,11 @@
 use Rattle.std.specs.Prelude.{map, length, string_bytes}
 use Rattle.std.proofs.Common.{◌≡◌, ℕ, List, ◌++◌, sym, ap, subst, ◌∙◌, arith}
-use Rattle.distinct_commands.specs.Failures.{called}
-use Rattle.distinct_commands.specs.Images.{remaining_images}
+use Rattle.distinct_inputs.specs.Failures.{called}
+use Rattle.distinct_inputs.specs.Images.{remaining_images}
 use Rattle.distinct_commands.specs.Texts.{shown_text}
 use Rattle.distinct_arguments.specs.Faults.{options_of}
-use Rattle.distinct_commands.proofs.NextImages.{ShowsOn, shows_more, shows_all, shows_named, none_read, nothing_named}
+use Rattle.distinct_commands.proofs.NextImages.{ShowsOn, shows_more, shows_all, shows_named, none_read}
+use Rattle.distinct_inputs.proofs.ListNames.{nothing_named}
 use Rattle.distinct_commands.proofs.show.show_files.Goals as goal
 
 pub loop-file-preserved : goal.loop-file-preserved

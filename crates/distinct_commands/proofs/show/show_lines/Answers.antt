@@ -1,5 +1,5 @@
 use Rattle.std.proofs.Common.{◌≡◌, ℕ, List, ◌++◌, sym, ap, subst, ◌∙◌}
-use Rattle.distinct_commands.specs.Images.{remaining_images}
+use Rattle.distinct_inputs.specs.Images.{remaining_images}
 use Rattle.distinct_commands.specs.Texts.{shown_text}
 use Rattle.distinct_arguments.specs.Faults.{options_of}
 use Rattle.distinct_commands.proofs.NextImages.{ShowMore, show_itself, line_more, lines_all, none_read}

@@ -1,7 +1,7 @@
 use Rattle.std.proofs.Common.{refl, true}
 use Rattle.core_laws.specs.declared.TheConstants.{MAX_THETA}
 use Rattle.core_laws.specs.Settings.{settings_refusal}
-use Rattle.distinct_commands.specs.Images.{remaining_images}
+use Rattle.distinct_inputs.specs.Images.{remaining_images}
 use Rattle.distinct_commands.proofs.OnlyMemory.{sized, sums_refused}
 use Rattle.distinct_commands.proofs.visits.united_visits.Goals as goal
 

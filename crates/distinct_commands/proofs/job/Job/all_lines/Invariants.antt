@@ -1,7 +1,7 @@
 use Rattle.line_sketches.specs.Sources.{Continues}
 use Rattle.distinct_arguments.specs.Faults.{options_of}
 use Rattle.distinct_commands.specs.Evaluations.{AreSketchesOfTexts}
-use Rattle.distinct_commands.specs.Seeds.{AreSeeded}
+use Rattle.distinct_inputs.specs.Seeds.{AreSeeded}
 use Rattle.distinct_commands.proofs.job.Job.all_lines.Given as goal
 
 -- the sketches so far are of the seed, and are those of the texts read so far

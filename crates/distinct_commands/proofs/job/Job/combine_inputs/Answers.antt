@@ -5,7 +5,7 @@ use Rattle.theta_sketches.specs.Image.{written}
 use Rattle.distinct_arguments.specs.Faults.{options_of}
 use Rattle.distinct_arguments.specs.declared.commands.Operator.{Operator}
 use Rattle.distinct_commands.specs.Answers.{IsCombinedOf, IsIntersectionImage, IsExpected, intersection_of}
-use Rattle.distinct_commands.specs.Images.{images_of}
+use Rattle.distinct_inputs.specs.Images.{images_of}
 use Rattle.distinct_commands.proofs.NextImages.{left_not_two, met_image}
 use Rattle.distinct_commands.proofs.job.Job.combine_inputs.Goals as goal
 

@@ -1,7 +1,7 @@
 use Rattle.std.proofs.Common.{true, false, subst, arith}
 use Rattle.std.specs.Prelude.{IfSome, IfOk}
 use Rattle.distinct_arguments.specs.Faults.{options_of}
-use Rattle.distinct_commands.specs.Answers.{names_of}
+use Rattle.distinct_inputs.specs.Lists.{names_of}
 use Rattle.distinct_commands.specs.EvaluatedSums.{IsSumsEvaluated}
 use Rattle.distinct_commands.specs.Evaluations.{IsEvaluated}
 use Rattle.distinct_commands.proofs.Evaluated.{only_named, only_evaluated}

@@ -1,7 +1,7 @@
 use Rattle.std.proofs.Common.{ℕ, Bool, List, subst}
 use Rattle.std.specs.Prelude.{IfSome}
 use Rattle.line_sums.specs.Images.{AreReadSums}
-use Rattle.distinct_commands.specs.Images.{images_of}
+use Rattle.distinct_inputs.specs.Images.{images_of}
 use Rattle.distinct_commands.proofs.NextImages.{all_hold}
 use Rattle.distinct_commands.proofs.job.Job.sums_operands.Goals as goal
 

@@ -1,7 +1,7 @@
 use Rattle.std.proofs.Common.{ℕ, Bool, List, subst}
 use Rattle.std.specs.Prelude.{IfSome}
 use Rattle.distinct_arguments.specs.Faults.{options_of}
-use Rattle.distinct_commands.specs.Images.{images_of, remaining_images}
+use Rattle.distinct_inputs.specs.Images.{images_of, remaining_images}
 use Rattle.distinct_commands.specs.Visits.{IsVisitsOfImages}
 use Rattle.distinct_commands.proofs.Answered.{visited}
 use Rattle.distinct_commands.proofs.NextImages.{all_hold}

@@ -16,16 +16,16 @@ use Rattle.distinct_arguments.specs.Arguments.{Action, prints, runs, fails}
 use Rattle.distinct_arguments.specs.Settings.{chosen_key, chosen_value}
 use Rattle.std.specs.declared.io.Error.{Error}
 use Rattle.distinct_arguments.specs.Settings.{OptionValues, SeedValue, seed_number, seed_file}
-use Rattle.distinct_commands.specs.Images.{images_of}
-use Rattle.distinct_commands.specs.declared.images.Images.{Images}
+use Rattle.distinct_inputs.specs.Images.{images_of}
+use Rattle.distinct_inputs.specs.declared.images.Images.{Images}
 use Rattle.distinct_arguments.specs.declared.commands.Command.{Command}
 use Rattle.distinct_arguments.specs.declared.commands.Command.TheVariants.{Count, Sketch, Combine, Eval, Visits, Sum}
 use Rattle.distinct_arguments.specs.declared.commands.Operator.{Operator}
 use Rattle.distinct_arguments.specs.declared.commands.Operator.TheVariants.{Minus}
 use Rattle.grouped_lines.specs.declared.united.LineFlaw.{LineFlaw}
 use Rattle.grouped_lines.specs.declared.united.LineFlaw.TheVariants.{NoTab as NoTabAtAll, NoHex as NoDigits, NoImage}
-use Rattle.distinct_commands.specs.declared.failure.Failure.{Failure}
-use Rattle.distinct_commands.specs.declared.failure.Failure.TheVariants.{NotText, Arguments, NoFiles, NotTwo, NoExpression, NoName, NoSeed, Terminal, WrongCount, NotOneEach, Memory, Unreadable, NoSketch, NoSums, NoHex, NoTab, NoLine, PastGreatest, PastUnion, PastResult, NotANumber, NotWritten}
+use Rattle.distinct_inputs.specs.declared.failure.Failure.{Failure}
+use Rattle.distinct_inputs.specs.declared.failure.Failure.TheVariants.{NotText, Arguments, NoFiles, NotTwo, NoExpression, NoName, NoSeed, Terminal, WrongCount, NotOneEach, Memory, Unreadable, NoSketch, NoSums, NoHex, NoTab, NoLine, PastGreatest, PastUnion, PastResult, NotANumber, NotWritten}
 
 -- the exit status: 2 if the arguments are wrong, else 1
 abbrev pub failure_status : Failure → ℕ

@@ -11,7 +11,7 @@ use Rattle.line_sketches.specs.Header.{image_length, flaw_of}
 use Rattle.line_sketches.specs.Sources.{GivesNext}
 use Rattle.line_sketches.specs.SumsHeader.{sums_length, sums_flaw_of}
 use Rattle.line_sketches.specs.declared.header.Flaw.{Flaw}
-use Rattle.distinct_commands.specs.declared.images.Images.{Images}
+use Rattle.distinct_inputs.specs.declared.images.Images.{Images}
 use Rattle.core_compact.specs.CompactState.{Compact}
 use Rattle.theta_sketches.specs.Image.{Reads}
 

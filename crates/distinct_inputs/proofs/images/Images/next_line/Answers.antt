@@ -1,8 +1,8 @@
 use Rattle.std.proofs.Common.{ℕ, List, Option, refl, Bool, Some, Vec, Global, sym, subst, ◌∙◌}
 use Rattle.line_sketches.specs.Sources.{GivesNext}
-use Rattle.distinct_commands.specs.Images.{remaining_images, IsAlone, GivesOrCloses}
-use Rattle.distinct_commands.proofs.ImageLines.{known_same, none_of, gives_first, opened, at_last}
-use Rattle.distinct_commands.proofs.images.Images.next_line.Goals as goal
+use Rattle.distinct_inputs.specs.Images.{remaining_images, IsAlone, GivesOrCloses}
+use Rattle.distinct_inputs.proofs.ImageLines.{known_same, none_of, gives_first, opened, at_last}
+use Rattle.distinct_inputs.proofs.images.Images.next_line.Goals as goal
 
 pub files-init : goal.files-init
 files-init g c = record { hex = c.requires.lines; sums = refl; same = known_same (remaining_images g.S.Source.Read.remaining g.S.Sources.texts c.args.self.now) }

@@ -1,7 +1,7 @@
 //! The files that the program reads.
 ghost use Rattle.std.specs.Prelude.{◌≡◌, None, IfOk, IfErr};
 ghost use Rattle.line_sketches.specs.Sources.{GivesNext};
-ghost use Rattle.distinct_commands.specs.Failures.{called, IsOfReading, NotesNext, ReportsUnreadable};
+ghost use Rattle.distinct_inputs.specs.Failures.{called, IsOfReading, NotesNext, ReportsUnreadable};
 
 use crate::failure::Failure;
 use crate::lists::{Unlisted, names_in};

@@ -1,7 +1,7 @@
 use Rattle.std.proofs.Common.{◌≡◌, ◌++◌, length}
-use Rattle.distinct_commands.specs.Answers.{names_of}
-use Rattle.distinct_commands.specs.Lists.{names_in}
-use Rattle.distinct_commands.proofs.lists.names_in.Given as goal
+use Rattle.distinct_inputs.specs.Lists.{names_of}
+use Rattle.distinct_inputs.specs.Lists.{names_in}
+use Rattle.distinct_inputs.proofs.lists.names_in.Given as goal
 
 -- the names so far, followed by those of the rest, are all names
 abbrev pub invariant-cut_each : goal.invariant-cut_each

@@ -6,8 +6,8 @@ ghost use Rattle.std.specs.declared.io.ErrorKind.TheVariants.{InvalidData};
 ghost use Rattle.std.specs.Io.Buffered.{reader_remaining};
 ghost use Rattle.sketch_base.specs.Seed.{seed_hash};
 ghost use Rattle.line_sketches.specs.Sources.{GivesNext};
-ghost use Rattle.distinct_commands.specs.Images.{remaining_images, image_flaw, length_of, IsAlone, GivesOrCloses, IsSameReader};
-ghost use Rattle.distinct_commands.specs.Failures.{called, next_number, IsOfImages, NotesNext, ReportsUnreadable, ReportsNoSketch, ReportsPastUnion};
+ghost use Rattle.distinct_inputs.specs.Images.{remaining_images, image_flaw, length_of, IsAlone, GivesOrCloses, IsSameReader};
+ghost use Rattle.distinct_inputs.specs.Failures.{called, next_number, IsOfImages, NotesNext, ReportsUnreadable, ReportsNoSketch, ReportsPastUnion};
 
 use crate::failure::Failure;
 use crate::inputs::Inputs;

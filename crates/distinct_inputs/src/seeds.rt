@@ -3,8 +3,8 @@ ghost use Rattle.std.specs.Prelude.{◌≡◌, ◌≢◌, IfOk, IfErr};
 ghost use Rattle.sketch_base.specs.Seed.{seed_hash};
 ghost use Rattle.distinct_arguments.specs.Faults.{options_of};
 ghost use Rattle.distinct_arguments.specs.Settings.{seed_file};
-ghost use Rattle.distinct_commands.specs.Seeds.{IsSeedOf};
-ghost use Rattle.distinct_commands.specs.Failures.{IsOfSeed};
+ghost use Rattle.distinct_inputs.specs.Seeds.{IsSeedOf};
+ghost use Rattle.distinct_inputs.specs.Failures.{IsOfSeed};
 
 use crate::failure::Failure;
 use crate::inputs::{called, read_whole};

@@ -1,7 +1,7 @@
 use Rattle.std.proofs.Common.{◌≡◌, [], ◌∷◌, ◌++◌, length, sym, ap, ◌∙◌, append_assoc, append-nil, arith}
-use Rattle.distinct_commands.specs.Answers.{names_of, texts_of}
-use Rattle.distinct_commands.proofs.NextImages.{nothing_named}
-use Rattle.distinct_commands.proofs.lists.texts_of.Goals as goal
+use Rattle.distinct_inputs.specs.Lists.{names_of, texts_of}
+use Rattle.distinct_inputs.proofs.ListNames.{nothing_named}
+use Rattle.distinct_inputs.proofs.lists.texts_of.Goals as goal
 
 pub put_each-preserved : goal.put_each-preserved
 put_each-preserved c =

@@ -1,7 +1,7 @@
 //! Lists of names of files.
 ghost use Rattle.std.specs.Prelude.{◌≡◌, ◌++◌, ◌∷◌, [], IfOk, OnOk};
-ghost use Rattle.distinct_commands.specs.Answers.{names_of, texts_of};
-ghost use Rattle.distinct_commands.specs.Lists.{names_in};
+ghost use Rattle.distinct_inputs.specs.Lists.{names_of, texts_of};
+ghost use Rattle.distinct_inputs.specs.Lists.{names_in};
 
 use lines::cut_at;
 use std::alloc::{AllocError, AllocFailed, Global};

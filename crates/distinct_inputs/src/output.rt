@@ -1,7 +1,7 @@
 //! Writing answers.
 ghost use Rattle.std.specs.Prelude.{OnOk, IfErr};
 ghost use Rattle.std.specs.Io.KnownBytes.{Appends};
-ghost use Rattle.distinct_commands.specs.Failures.{IsOfWriting, ReportsNotWritten};
+ghost use Rattle.distinct_inputs.specs.Failures.{IsOfWriting, ReportsNotWritten};
 
 use crate::failure::Failure;
 use grouped_lines::GroupFile;

@@ -1,7 +1,7 @@
 use Rattle.std.proofs.Common.{◌≡◌, true, Some}
 use Rattle.std.specs.Prelude.{IfSome}
-use Rattle.distinct_commands.specs.Images.{remaining_images}
-use Rattle.distinct_commands.proofs.images.Images.next_line.Given as goal
+use Rattle.distinct_inputs.specs.Images.{remaining_images}
+use Rattle.distinct_inputs.proofs.images.Images.next_line.Given as goal
 
 -- the same images are left
 abbrev pub invariant-files : goal.invariant-files

@@ -1,7 +1,7 @@
 use Rattle.std.proofs.Common.{refl, arith, ne_eqb}
 use Rattle.std.specs.Io.Buffered.{reader_remaining}
-use Rattle.distinct_commands.proofs.ImageLines.{at_end, next_line, some_read}
-use Rattle.distinct_commands.proofs.images.Images.line_of_open.Goals as goal
+use Rattle.distinct_inputs.proofs.ImageLines.{at_end, next_line, some_read}
+use Rattle.distinct_inputs.proofs.images.Images.line_of_open.Goals as goal
 
 pub returns-then-count-eq0-clause-next : goal.returns-then-count-eq0-clause-next
 returns-then-count-eq0-clause-next g c =

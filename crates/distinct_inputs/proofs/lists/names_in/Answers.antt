@@ -1,9 +1,9 @@
 use Rattle.std.proofs.Common.{[], ◌∷◌, ◌++◌, sym, ap, ◌∙◌, append_assoc, arith}
 use Rattle.std.proofs.lemmas.Bool.Decides.{nat_tests}
-use Rattle.distinct_commands.specs.Answers.{names_of}
-use Rattle.distinct_commands.specs.Lists.{names_in}
-use Rattle.distinct_commands.proofs.ListNames.{name_ended, all_named, last_named}
-use Rattle.distinct_commands.proofs.lists.names_in.Goals as goal
+use Rattle.distinct_inputs.specs.Lists.{names_of}
+use Rattle.distinct_inputs.specs.Lists.{names_in}
+use Rattle.distinct_inputs.proofs.ListNames.{name_ended, all_named, last_named}
+use Rattle.distinct_inputs.proofs.lists.names_in.Goals as goal
 
 pub cut_each-preserved : goal.cut_each-preserved
 cut_each-preserved c =

@@ -2,8 +2,8 @@
 ghost use Rattle.std.specs.Prelude.{◌≡◌};
 ghost use Rattle.sketch_base.specs.declared.error.ErrorKind.TheVariants.{OutOfMemory};
 ghost use Rattle.distinct_arguments.specs.declared.fault.Fault.{Fault};
-ghost use Rattle.distinct_commands.specs.Failures.{failure_status};
-ghost use Rattle.distinct_commands.specs.declared.failure.Failure.TheVariants as failure;
+ghost use Rattle.distinct_inputs.specs.Failures.{failure_status};
+ghost use Rattle.distinct_inputs.specs.declared.failure.Failure.TheVariants as failure;
 
 use distinct_arguments::{Escaped, Fault};
 use expression_text::{MAX_LEVELS, Reason, SyntaxFault};
@@ -358,7 +358,7 @@ impl fmt::Display for Failure {
 }
 
 impl From<Fault> for Failure {
-    ghost use Rattle.distinct_commands.specs.declared.failure.Failure.TheVariants.{Arguments};
+    ghost use Rattle.distinct_inputs.specs.declared.failure.Failure.TheVariants.{Arguments};
 
     ghost from_gives = { λ fault failure. failure ≡ Arguments fault };
 
@@ -368,7 +368,7 @@ impl From<Fault> for Failure {
 }
 
 impl From<AllocError> for Failure {
-    ghost use Rattle.distinct_commands.specs.declared.failure.Failure.TheVariants.{Memory};
+    ghost use Rattle.distinct_inputs.specs.declared.failure.Failure.TheVariants.{Memory};
 
     ghost from_gives = { λ _ e. e ≡ Memory };
 
@@ -378,7 +378,7 @@ impl From<AllocError> for Failure {
 }
 
 impl<T: Drop> From<AllocFailed<T>> for Failure {
-    ghost use Rattle.distinct_commands.specs.declared.failure.Failure.TheVariants.{Memory};
+    ghost use Rattle.distinct_inputs.specs.declared.failure.Failure.TheVariants.{Memory};
 
     ghost from_gives = { λ _ e. e ≡ Memory };
 

@@ -1,6 +1,6 @@
 use Rattle.std.proofs.Common.{◌≡◌, ◌++◌, length}
-use Rattle.distinct_commands.specs.Answers.{names_of, texts_of}
-use Rattle.distinct_commands.proofs.lists.texts_of.Given as goal
+use Rattle.distinct_inputs.specs.Lists.{names_of, texts_of}
+use Rattle.distinct_inputs.proofs.lists.texts_of.Given as goal
 
 -- the texts so far, followed by the names that are left, are all names
 abbrev pub invariant-put_each : goal.invariant-put_each

@@ -12,7 +12,7 @@ use Rattle.std.specs.declared.io.buffered.BufReader.{BufReader}
 use Rattle.std.proofs.lemmas.Str.Ascii.{trim_ascii_is}
 use Rattle.line_sketches.specs.Hex.{bytes_of_hex}
 use Rattle.line_sketches.specs.Sources.{GivesNext}
-use Rattle.distinct_commands.specs.Images.{ended_lines, line_image, line_images, or_none, images_behind, images_in_lines, images_left, open_text, GivesOrCloses}
+use Rattle.distinct_inputs.specs.Images.{ended_lines, line_image, line_images, or_none, images_behind, images_in_lines, images_left, open_text, GivesOrCloses}
 
 -- the first line of a text, and the lines after it
 ended_first : (b : ℕ) (t : List ℕ) → ended_lines (b ∷ t) ≡ take_through 10 (b ∷ t) ∷ ended_lines (drop_through 10 (b ∷ t))

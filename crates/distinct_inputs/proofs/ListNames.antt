@@ -1,9 +1,9 @@
 -- Names in lists, cut at NUL bytes.
-use Rattle.std.proofs.Common.{◌≡◌, ℕ, suc, false, eqb, List, [], ◌∷◌, ◌++◌, length, refl, sym, ap, ◌∙◌, append-nil, arith}
+use Rattle.std.proofs.Common.{map, absurd, ◌≡◌, ℕ, suc, false, eqb, List, [], ◌∷◌, ◌++◌, length, refl, sym, ap, ◌∙◌, append-nil, arith}
 use Rattle.std.specs.List.{onto_first}
 use Rattle.std.proofs.lemmas.Bool.{ne_eqb}
 use Rattle.lines.specs.Lines.{Lacks}
-use Rattle.distinct_commands.specs.Lists.{names_in}
+use Rattle.distinct_inputs.specs.Lists.{names_in}
 
 lacks-rest : (b : ℕ) (bs : List ℕ) → Lacks 0 (b ∷ bs) → Lacks 0 bs
 lacks-rest b bs h i lt = h (suc i) (omega arith)
@@ -29,3 +29,8 @@ all_named names (b ∷ bs) all so_far none = absurd (omega arith)
 pub last_named : (names new : List (List ℕ)) (rest all : List ℕ) → names_in all ≡ names ++ names_in rest → Lacks 0 rest → (length rest ≡ 0 → ⊥) → new ≡ names ++ rest ∷ [] → new ≡ names_in all
 last_named names new [] all so_far lacks some put = absurd (some refl)
 last_named names new (b ∷ bs) all so_far lacks some put = put ∙ sym (so_far ∙ ap (λ ns. names ++ ns) (last_name b bs lacks))
+
+-- no names
+pub nothing_named : {T : Type 0} (f : T → List ℕ) (xs : List T) → length xs ≡ 0 → map f xs ≡ []
+nothing_named f [] none = refl
+nothing_named f (x ∷ xs) none = absurd (omega arith)

@@ -1,0 +1,2 @@
+mod ImageLines
+pub mod ListNames

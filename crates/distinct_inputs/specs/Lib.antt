@@ -1,0 +1,4 @@
+pub mod Seeds
+pub mod Lists
+pub mod Images
+pub mod Failures

@@ -1,0 +1,21 @@
+//! What the commands of the program `distinct` read, what they remark, and how they fail: names of files from arguments and
+//! lists, images one after another from files or their lines, seeds, remarks, and failures with their messages and statuses.
+//!
+//! Nothing here opens a file: `Inputs` asks `Sources` for each.
+#![tactic(auto)]
+
+mod failure;
+mod images;
+mod inputs;
+mod lists;
+mod output;
+mod remarks;
+mod seeds;
+
+pub use failure::{Failure, family_name, out_of_memory};
+pub use images::Images;
+pub use inputs::{Files, Input, Inputs, called, files_in_list};
+pub use lists::{Unlisted, names_in, texts_of};
+pub use output::{not_written, put};
+pub use remarks::{Coarser, Console, Remark};
+pub use seeds::seed_of;
