@@ -8,171 +8,393 @@
 void *__real_malloc(size_t);
 void *__real_realloc(void *, size_t);
 static long left;
-static int armed, refused;
+static int armed, refused, refused_now;
 
-static int refuses(void) { return armed && left >= 0 && left-- == 0 && (refused = 1); }
+static int refuses(void) { return armed && left >= 0 && left-- == 0 && (refused = refused_now = 1); }
 void *__wrap_malloc(size_t n) { return refuses() ? NULL : __real_malloc(n); }
 void *__wrap_realloc(void *p, size_t n) { return refuses() ? NULL : __real_realloc(p, n); }
 
 static int faults;
-static long checks;
+static long checks, request;
 #define WANT(c) do { checks++; if (!(c)) { printf("memory_test.c:%d, request %ld: %s\n", __LINE__, request, #c); faults++; } } while (0)
 #define IS(status) ((status) == KC_OK || (status) == KC_OUT_OF_MEMORY)
+#define MAKES(status, handle) (IS(status) && ((status) == KC_OK) == ((handle).object != NULL))
 #define SEED KC_DEFAULT_SEED
-static unsigned char image[1 << 16], out[1 << 17], sums_image[1 << 16];
+#define LG_K 10
+#define MOST 20000
+#define BYTES (1 << 16)
+
+static uint64_t updates;
+static unsigned char image[BYTES], sums_image[BYTES], out[BYTES], first[BYTES], second[BYTES];
+static uint64_t image_length, sums_length;
+/* The hashes of the numbers from 0 on, and those of their digits, which lie one after another in `text`. */
+static uint64_t of_numbers[MOST], of_strings[MOST], ends[MOST];
+static char text[MOST * 5];
+
+/* The calls that request memory, and how many were refused it. */
+static struct { const char *name; long refusals; } called[64];
+
+/* The status of a call: that of memory exactly if a request was refused. */
+static kc_status counted(const char *name, kc_status status) {
+    int n = 0;
+    while (called[n].name != NULL && strcmp(called[n].name, name) != 0) n++;
+    called[n].name = name;
+    called[n].refusals += refused_now;
+    WANT((status == KC_OUT_OF_MEMORY) == refused_now);
+    refused_now = 0;
+    return status;
+}
+#define CALL(name, ...) counted(#name, kc_##name(__VA_ARGS__))
 
 static int same(const kc_state *a, const kc_state *b) { return memcmp(a, b, sizeof *a) == 0; }
+static int is_image(uint64_t length, const unsigned char *wanted, uint64_t wanted_length) {
+    return length == wanted_length && memcmp(first, wanted, length) == 0;
+}
 
-/* The calls on sums: the image has `length` bytes. */
-static void run_sums(long request, uint64_t updates, uint64_t image_length) {
+/* What follows reads without a refusal. */
+#define UNREFUSED(...) do { int was = armed; armed = 0; __VA_ARGS__; armed = was; } while (0)
+
+/* Whether a sketch is that of some first hashes of a list, at least `least` and at most `most` of them. */
+static int has_first(kc_theta *sketch, const uint64_t *hashes, uint64_t least, uint64_t most) {
+    kc_theta other = {0};
+    kc_state wanted, at;
+    uint64_t length = 0, other_length = 0;
+    int found = 0;
+    UNREFUSED(
+        WANT(kc_theta_state(sketch, &wanted) == KC_OK && kc_theta_image(sketch, first, BYTES, &length) == KC_OK && kc_theta_new(&other, LG_K, SEED) == KC_OK);
+        for (uint64_t n = 0; n <= most && !found; n++) {
+            if (n > 0) WANT(kc_theta_update_hash(&other, hashes[n - 1]) == KC_OK);
+            found = n >= least && kc_theta_state(&other, &at) == KC_OK && same(&at, &wanted)
+                && kc_theta_image(&other, second, BYTES, &other_length) == KC_OK && is_image(length, second, other_length);
+        }
+        kc_theta_free(&other));
+    return found;
+}
+
+static kc_status update(kc_theta *s, int kind, uint64_t n) {
+    if (kind == 0) return CALL(theta_update_u64, s, n);
+    if (kind == 1) return CALL(theta_update_hash, s, of_numbers[n]);
+    return CALL(theta_update_bytes, s, &n, sizeof n);
+}
+
+/* One update of a kind after another, and a trim. */
+static void updates_of_kind(int kind) {
+    kc_theta s = {0};
+    kc_state before, after;
+    uint64_t length = 0, other_length = 0;
+    kc_status status = CALL(theta_new_with, &s, LG_K, SEED, 2, KC_MAX_THETA);
+    WANT(MAKES(status, s));
+    if (s.object == NULL) return;
+    for (uint64_t n = 0; n < updates; n++) {
+        WANT(kc_theta_state(&s, &before) == KC_OK);
+        for (int repeats = 0; repeats < 2; repeats++) {
+            status = update(&s, kind, n);
+            WANT(IS(status) && kc_theta_state(&s, &after) == KC_OK && (status == KC_OK || same(&before, &after)));
+            if (status == KC_OK) break;
+            WANT(repeats == 0 && has_first(&s, of_numbers, n, n));
+        }
+    }
+    UNREFUSED(WANT(has_first(&s, of_numbers, updates, updates) && kc_theta_state(&s, &before) == KC_OK && kc_theta_image(&s, second, BYTES, &other_length) == KC_OK));
+    status = CALL(theta_trim, &s);
+    WANT(IS(status) && kc_theta_state(&s, &after) == KC_OK && before.retained > 1 << LG_K);
+    UNREFUSED(WANT(kc_theta_image(&s, first, BYTES, &length) == KC_OK));
+    WANT(status == KC_OK ? after.retained == 1 << LG_K && after.theta < before.theta : same(&before, &after) && is_image(length, second, other_length));
+    WANT(kc_theta_trim(&s) == KC_OK && kc_theta_state(&s, &after) == KC_OK && after.retained == 1 << LG_K && kc_theta_free(&s) == KC_OK);
+}
+
+static void updates_one_by_one(void) {
+    for (int kind = 0; kind < 3; kind++) updates_of_kind(kind);
+}
+
+/* Many updates at a time. */
+static void many_updates(void) {
+    kc_theta s = {0};
+    kc_status status = CALL(theta_new, &s, LG_K, SEED);
+    WANT(MAKES(status, s));
+    if (s.object != NULL) {
+        status = CALL(theta_update_hashes, &s, of_numbers, updates);
+        WANT(IS(status) && (status == KC_OK || (has_first(&s, of_numbers, 0, updates - 1) && kc_theta_update_hashes(&s, of_numbers, updates) == KC_OK)));
+        WANT(has_first(&s, of_numbers, updates, updates) && kc_theta_free(&s) == KC_OK);
+    }
+    status = CALL(theta_new, &s, LG_K, SEED);
+    WANT(MAKES(status, s));
+    if (s.object != NULL) {
+        uint64_t count = ends[updates - 1];
+        status = CALL(theta_update_strings, &s, text, count, ends, updates);
+        WANT(IS(status) && (status == KC_OK || (has_first(&s, of_strings, 0, updates - 1) && kc_theta_update_strings(&s, text, count, ends, updates) == KC_OK)));
+        WANT(has_first(&s, of_strings, updates, updates) && kc_theta_free(&s) == KC_OK);
+    }
+}
+
+/* The image of the value that an intersection has; none has a length of 0. */
+static uint64_t value_of(kc_intersection *i, unsigned char *to) {
+    kc_compact value = {0};
+    uint64_t length = 0;
+    UNREFUSED(
+        kc_status status = kc_intersection_result(i, &value);
+        WANT(status == KC_INVALID_ARGUMENT || (status == KC_OK && kc_compact_image(&value, to, BYTES, &length) == KC_OK));
+        kc_compact_free(&value));
+    return length;
+}
+
+static uint64_t value_of_sums(kc_sums_intersection *i, unsigned char *to) {
+    kc_compact_sums value = {0};
+    uint64_t length = 0;
+    UNREFUSED(
+        kc_status status = kc_sums_intersection_result(i, &value);
+        WANT(status == KC_INVALID_ARGUMENT || (status == KC_OK && kc_compact_sums_image(&value, to, BYTES, &length) == KC_OK));
+        kc_compact_sums_free(&value));
+    return length;
+}
+
+/* What is made of a sketch, and what is read of an image. */
+static void copies_and_images(void) {
+    kc_theta s = {0}, copy = {0};
+    kc_compact c = {0}, d = {0}, r = {0};
+    kc_state before, after;
+    uint64_t length = 7;
+    UNREFUSED(
+        WANT(kc_theta_new(&s, LG_K, SEED) == KC_OK && kc_theta_update_hashes(&s, of_numbers, updates) == KC_OK && kc_theta_state(&s, &before) == KC_OK));
+    out[0] = 7;
+    kc_status status = CALL(theta_image, &s, out, BYTES, &length);
+    WANT(IS(status) && (status == KC_OK || (length == 7 && out[0] == 7)));
+    status = CALL(theta_clone, &s, &copy);
+    WANT(MAKES(status, copy) && kc_theta_state(&s, &after) == KC_OK && same(&before, &after));
+    if (status == KC_OK) WANT(kc_theta_state(&copy, &after) == KC_OK && same(&before, &after) && kc_theta_free(&copy) == KC_OK);
+    status = CALL(theta_compact, &s, &c);
+    WANT(MAKES(status, c) && kc_theta_state(&s, &after) == KC_OK && same(&before, &after));
+    status = CALL(compact_read, &d, image, image_length, SEED);
+    WANT(MAKES(status, d));
+    if (d.object != NULL) {
+        length = 7, out[0] = 7;
+        status = CALL(compact_image, &d, out, BYTES, &length);
+        WANT(IS(status) && (status == KC_OK ? length == image_length && memcmp(out, image, length) == 0 : length == 7 && out[0] == 7));
+        status = CALL(compact_clone, &d, &r);
+        WANT(MAKES(status, r) && kc_compact_free(&r) == KC_OK);
+    }
+    after = before;
+    status = CALL(image_state, image, image_length, SEED, &after);
+    WANT(IS(status) && same(&before, &after) == (status != KC_OK));
+    length = 7, out[0] = 7;
+    status = CALL(images_intersect, image, image_length, image, image_length, SEED, out, BYTES, &length);
+    WANT(IS(status) && (status == KC_OK || (length == 7 && out[0] == 7)));
+    length = 7, out[0] = 7;
+    status = CALL(images_difference, image, image_length, image, image_length, SEED, out, BYTES, &length);
+    WANT(IS(status) && (status == KC_OK || (length == 7 && out[0] == 7)));
+    kc_theta_free(&s), kc_compact_free(&c), kc_compact_free(&d);
+}
+
+static kc_status unite(kc_union *u, int kind, kc_theta *s, kc_compact *c) {
+    if (kind == 0) return CALL(union_add, u, s);
+    if (kind == 1) return CALL(union_add_compact, u, c);
+    return CALL(union_add_image, u, image, image_length);
+}
+
+static kc_status meet(kc_intersection *i, int kind, kc_theta *s, kc_compact *c) {
+    if (kind == 0) return CALL(intersection_add, i, s);
+    if (kind == 1) return CALL(intersection_add_compact, i, c);
+    return CALL(intersection_add_image, i, image, image_length);
+}
+
+static void operators(void) {
+    kc_theta s = {0};
+    kc_compact c = {0}, r = {0};
+    kc_union u = {0};
+    kc_intersection i = {0};
+    kc_state state;
+    uint64_t length = 7;
+    UNREFUSED(
+        WANT(kc_theta_new(&s, LG_K, SEED) == KC_OK && kc_theta_update_hashes(&s, of_numbers + 100, updates - 100) == KC_OK && kc_theta_compact(&s, &c) == KC_OK));
+    kc_status status = KC_OK;
+    for (int kind = 0; kind < 3; kind++) {
+        status = CALL(union_new, &u, LG_K, SEED);
+        WANT(MAKES(status, u));
+        if (u.object == NULL) continue;
+        status = unite(&u, kind, &s, &c);
+        WANT(IS(status));
+        /* if memory was refused for reading an image, nothing has changed; else the union has failed until it is reset */
+        if (status != KC_OK && !(kind == 2 && kc_union_result(&u, &r) == KC_OK)) {
+            length = 7, out[0] = 7;
+            for (int other = 0; other < 3; other++) WANT(unite(&u, other, &s, &c) == KC_FAILED);
+            WANT(kc_union_result(&u, &r) == KC_FAILED && kc_union_image(&u, out, BYTES, &length) == KC_FAILED && r.object == NULL && length == 7 && out[0] == 7);
+            WANT(kc_union_reset(&u) == KC_OK && kc_union_result(&u, &r) == KC_OK);
+        }
+        if (r.object != NULL) WANT(kc_compact_state(&r, &state) == KC_OK && state.empty == 1 && kc_compact_free(&r) == KC_OK);
+        length = 7, out[0] = 7;
+        status = CALL(union_image, &u, out, BYTES, &length);
+        WANT(IS(status) && (status == KC_OK || (length == 7 && out[0] == 7)));
+        status = CALL(union_result, &u, &r);
+        WANT(MAKES(status, r) && kc_compact_free(&r) == KC_OK && kc_union_free(&u) == KC_OK);
+    }
+    status = CALL(intersection_new, &i, SEED);
+    WANT(MAKES(status, i));
+    int n = 0;
+    for (int tries = 0; i.object != NULL && tries < 4 && n < 3; tries++) {
+        uint64_t before = value_of(&i, second);
+        status = meet(&i, n, &s, &c);
+        WANT(IS(status) && (status == KC_OK || is_image(value_of(&i, first), second, before)));
+        n += status == KC_OK;
+        status = CALL(intersection_result, &i, &r);
+        WANT((n == 0 ? status == KC_INVALID_ARGUMENT && r.object == NULL : MAKES(status, r)) && kc_compact_free(&r) == KC_OK);
+    }
+    WANT(i.object == NULL || n == 3);
+    UNREFUSED(WANT(kc_compact_read(&r, image, image_length, SEED) == KC_OK));
+    kc_compact d = {0};
+    status = CALL(difference, &r, &c, SEED, &d);
+    WANT(MAKES(status, d));
+    kc_theta_free(&s), kc_compact_free(&c), kc_compact_free(&r), kc_compact_free(&d), kc_intersection_free(&i);
+}
+
+static kc_status add(kc_sums *m, int kind, uint64_t n) {
+    if (kind == 0) return CALL(sums_add_u64, m, n, 1);
+    if (kind == 1) return CALL(sums_add_hash, m, of_numbers[n], 1);
+    return CALL(sums_add_bytes, m, &n, sizeof n, 1);
+}
+
+/* Updates of a sketch of sums by one kind of call, a trim, and what is made of the sketch. */
+static void sums_of_kind(int kind) {
+    kc_sums m = {0}, copy = {0};
+    kc_compact_sums c = {0}, d = {0};
+    kc_state before, after;
+    kc_wide total = {7, 7}, total_after;
+    uint64_t length = 7;
+    kc_status status = CALL(sums_new, &copy, LG_K, SEED);
+    WANT(MAKES(status, copy) && kc_sums_free(&copy) == KC_OK);
+    status = CALL(sums_new_with, &m, LG_K, SEED, 2, KC_MAX_THETA);
+    WANT(MAKES(status, m));
+    if (m.object != NULL) {
+        for (uint64_t n = 0; n < updates; n++) {
+            WANT(kc_sums_state(&m, &before) == KC_OK);
+            for (int repeats = 0; repeats < 2; repeats++) {
+                status = add(&m, kind, n);
+                WANT(IS(status) && kc_sums_state(&m, &after) == KC_OK && (status == KC_OK || (repeats == 0 && same(&before, &after))));
+                if (status == KC_OK) break;
+                WANT(kc_sums_total(&m, &total) == KC_OK && total.low == before.retained && total.high == 0);
+            }
+        }
+        WANT(kc_sums_state(&m, &before) == KC_OK && kc_sums_total(&m, &total) == KC_OK && total.low == before.retained && total.high == 0);
+        out[0] = 7;
+        status = CALL(sums_image, &m, out, BYTES, &length);
+        WANT(IS(status) && (status == KC_OK || (length == 7 && out[0] == 7)));
+        status = CALL(sums_compact, &m, &c);
+        WANT(MAKES(status, c) && kc_sums_state(&m, &after) == KC_OK && same(&before, &after));
+        status = CALL(sums_clone, &m, &copy);
+        WANT(MAKES(status, copy) && kc_sums_state(&m, &after) == KC_OK && same(&before, &after));
+        if (status == KC_OK) WANT(kc_sums_state(&copy, &after) == KC_OK && same(&before, &after) && kc_sums_free(&copy) == KC_OK);
+        status = CALL(sums_trim, &m);
+        WANT(IS(status) && kc_sums_state(&m, &after) == KC_OK && kc_sums_total(&m, &total_after) == KC_OK && total_after.low == after.retained);
+        WANT(before.retained > 1 << LG_K && (status == KC_OK ? after.retained == 1 << LG_K && after.theta < before.theta : same(&before, &after)));
+        WANT(kc_sums_trim(&m) == KC_OK && kc_sums_state(&m, &after) == KC_OK && after.retained == 1 << LG_K);
+    }
+    status = CALL(compact_sums_read, &d, sums_image, sums_length, SEED);
+    WANT(MAKES(status, d));
+    if (d.object != NULL) {
+        length = 7, out[0] = 7;
+        status = CALL(compact_sums_image, &d, out, BYTES, &length);
+        WANT(IS(status) && (status == KC_OK ? length == sums_length && memcmp(out, sums_image, length) == 0 : length == 7 && out[0] == 7));
+    }
+    kc_sums_free(&m), kc_compact_sums_free(&c), kc_compact_sums_free(&d);
+}
+
+static void sums(void) {
+    for (int kind = 0; kind < 3; kind++) sums_of_kind(kind);
+}
+
+static kc_status unite_sums(kc_sums_union *u, int kind, kc_sums *m, kc_compact_sums *c) {
+    if (kind == 0) return CALL(sums_union_add, u, m);
+    if (kind == 1) return CALL(sums_union_add_compact, u, c);
+    return CALL(sums_union_add_image, u, sums_image, sums_length);
+}
+
+static kc_status meet_sums(kc_sums_intersection *i, int kind, kc_sums *m, kc_compact_sums *c) {
+    if (kind == 0) return CALL(sums_intersection_add, i, m);
+    if (kind == 1) return CALL(sums_intersection_add_compact, i, c);
+    return CALL(sums_intersection_add_image, i, sums_image, sums_length);
+}
+
+static void operators_on_sums(void) {
     kc_sums m = {0};
     kc_compact_sums c = {0}, d = {0}, r = {0};
     kc_sums_union u = {0};
-    kc_state before, after;
-    kc_wide total = {7, 7};
+    kc_sums_intersection i = {0};
+    kc_state state;
     uint64_t length = 7;
-    kc_status status = kc_sums_new_with(&m, 10, SEED, 2, KC_MAX_THETA);
-    WANT(IS(status) && (status == KC_OK) == (m.object != NULL));
-    for (uint64_t n = 0; n < updates && m.object != NULL; n++) {
-        WANT(kc_sums_state(&m, &before) == KC_OK);
-        status = kc_sums_add_u64(&m, n, 1);
-        WANT(IS(status) && kc_sums_state(&m, &after) == KC_OK && (status == KC_OK || same(&before, &after)));
-        if (status != KC_OK) WANT(kc_sums_add_u64(&m, n, 1) == KC_OK);
-    }
-    if (m.object != NULL) {
-        WANT(kc_sums_state(&m, &before) == KC_OK && kc_sums_total(&m, &total) == KC_OK && total.low == before.retained && total.high == 0);
-        status = kc_sums_compact(&m, &c);
-        WANT(IS(status) && (status == KC_OK) == (c.object != NULL) && kc_sums_state(&m, &after) == KC_OK && same(&before, &after));
-    }
-    status = kc_compact_sums_read(&d, sums_image, image_length, SEED);
-    WANT(IS(status) && (status == KC_OK) == (d.object != NULL));
-    if (d.object != NULL) {
-        out[0] = 7;
-        status = kc_compact_sums_image(&d, out, sizeof out, &length);
-        WANT(IS(status) && (status == KC_OK ? length == image_length : length == 7 && out[0] == 7));
-    }
-    status = kc_sums_union_new(&u, 10, SEED);
-    WANT(IS(status) && (status == KC_OK) == (u.object != NULL));
-    if (u.object != NULL && d.object != NULL && m.object != NULL) {
-        status = kc_sums_union_add_compact(&u, &d);
+    UNREFUSED(
+        WANT(kc_sums_new(&m, LG_K, SEED) == KC_OK);
+        for (uint64_t n = 100; n < updates; n++) WANT(kc_sums_add_hash(&m, of_numbers[n], n) == KC_OK);
+        WANT(kc_sums_compact(&m, &c) == KC_OK));
+    kc_status status = KC_OK;
+    for (int kind = 0; kind < 3; kind++) {
+        status = CALL(sums_union_new, &u, LG_K, SEED);
+        WANT(MAKES(status, u));
+        if (u.object == NULL) continue;
+        status = unite_sums(&u, kind, &m, &c);
         WANT(IS(status));
-        if (status != KC_OK) WANT(kc_sums_union_add(&u, &m) == KC_FAILED && kc_sums_union_result(&u, &r) == KC_FAILED && kc_sums_union_reset(&u) == KC_OK);
-        status = kc_sums_union_add(&u, &m);
-        WANT(IS(status));
-        status = kc_sums_union_add_image(&u, sums_image, image_length);
-        WANT(IS(status) || status == KC_FAILED);
+        if (status != KC_OK && !(kind == 2 && kc_sums_union_result(&u, &r) == KC_OK)) {
+            length = 7, out[0] = 7;
+            for (int other = 0; other < 3; other++) WANT(unite_sums(&u, other, &m, &c) == KC_FAILED);
+            WANT(kc_sums_union_result(&u, &r) == KC_FAILED && kc_sums_union_image(&u, out, BYTES, &length) == KC_FAILED && r.object == NULL && length == 7 && out[0] == 7);
+            WANT(kc_sums_union_reset(&u) == KC_OK && kc_sums_union_result(&u, &r) == KC_OK);
+        }
+        if (r.object != NULL) WANT(kc_compact_sums_state(&r, &state) == KC_OK && state.empty == 1 && kc_compact_sums_free(&r) == KC_OK);
         length = 7, out[0] = 7;
-        status = kc_sums_union_image(&u, out, sizeof out, &length);
-        WANT((IS(status) || status == KC_FAILED) && (status == KC_OK || (length == 7 && out[0] == 7)));
-        status = kc_sums_union_result(&u, &r);
-        WANT((IS(status) || status == KC_FAILED) && (status == KC_OK) == (r.object != NULL) && kc_compact_sums_free(&r) == KC_OK);
+        status = CALL(sums_union_image, &u, out, BYTES, &length);
+        WANT(IS(status) && (status == KC_OK || (length == 7 && out[0] == 7)));
+        status = CALL(sums_union_result, &u, &r);
+        WANT(MAKES(status, r) && kc_compact_sums_free(&r) == KC_OK && kc_sums_union_free(&u) == KC_OK);
     }
-    armed = 0;
-    kc_sums_free(&m), kc_compact_sums_free(&c), kc_compact_sums_free(&d), kc_sums_union_free(&u);
+    status = CALL(sums_intersection_new, &i, SEED);
+    WANT(MAKES(status, i));
+    int n = 0;
+    for (int tries = 0; i.object != NULL && tries < 4 && n < 3; tries++) {
+        uint64_t before = value_of_sums(&i, second);
+        status = meet_sums(&i, n, &m, &c);
+        WANT(IS(status) && (status == KC_OK || is_image(value_of_sums(&i, first), second, before)));
+        n += status == KC_OK;
+        status = CALL(sums_intersection_result, &i, &r);
+        WANT((n == 0 ? status == KC_INVALID_ARGUMENT && r.object == NULL : MAKES(status, r)) && kc_compact_sums_free(&r) == KC_OK);
+    }
+    WANT(i.object == NULL || n == 3);
+    UNREFUSED(WANT(kc_compact_sums_read(&r, sums_image, sums_length, SEED) == KC_OK));
+    status = CALL(sums_difference, &r, &c, SEED, &d);
+    WANT(MAKES(status, d));
+    kc_sums_free(&m), kc_compact_sums_free(&c), kc_compact_sums_free(&d), kc_compact_sums_free(&r), kc_sums_intersection_free(&i);
 }
 
-static void run(long request, uint64_t updates, uint64_t image_length) {
-    kc_theta s = {0}, copy = {0};
-    kc_compact c = {0}, d = {0}, r = {0};
-    kc_union u = {0};
-    kc_intersection i = {0};
-    kc_sums m = {0}, m_copy = {0};
-    kc_state before, after;
-    uint64_t length = 7;
-    kc_status status = kc_theta_new(&s, 10, SEED);
-    WANT(IS(status) && (status == KC_OK) == (s.object != NULL));
-    for (uint64_t n = 0; n < updates && s.object != NULL; n++) {
-        WANT(kc_theta_state(&s, &before) == KC_OK);
-        status = kc_theta_update_u64(&s, n);
-        WANT(IS(status) && kc_theta_state(&s, &after) == KC_OK && (status == KC_OK || same(&before, &after)));
-        if (status != KC_OK) WANT(kc_theta_update_u64(&s, n) == KC_OK);
+static void prepare(void) {
+    kc_theta s = {0};
+    kc_sums m = {0};
+    uint64_t end = 0;
+    for (uint64_t n = 0; n < updates; n++) {
+        int digits = sprintf(text + end, "%d", (int)n);
+        WANT(kc_hash_bytes(SEED, text + end, (size_t)digits, &of_strings[n]) == KC_OK && kc_hash_u64(SEED, n, &of_numbers[n]) == KC_OK);
+        end += (uint64_t)digits;
+        ends[n] = end;
     }
-    if (s.object != NULL) {
-        WANT(kc_theta_state(&s, &before) == KC_OK);
-        memset(out, 7, 8);
-        status = kc_theta_image(&s, out, sizeof out, &length);
-        WANT(IS(status) && (status == KC_OK || (length == 7 && out[0] == 7)));
-        status = kc_theta_clone(&s, &copy);
-        WANT(IS(status) && (status == KC_OK) == (copy.object != NULL) && kc_theta_state(&s, &after) == KC_OK && same(&before, &after));
-        if (status == KC_OK) WANT(kc_theta_state(&copy, &after) == KC_OK && same(&before, &after) && kc_theta_free(&copy) == KC_OK);
-        status = kc_theta_compact(&s, &c);
-        WANT(IS(status) && (status == KC_OK) == (c.object != NULL) && kc_theta_state(&s, &after) == KC_OK && same(&before, &after));
-    }
-    status = kc_compact_read(&d, image, image_length, SEED);
-    WANT(IS(status) && (status == KC_OK) == (d.object != NULL));
-    status = kc_union_new(&u, 10, SEED);
-    WANT(IS(status) && (status == KC_OK) == (u.object != NULL));
-    if (u.object != NULL && d.object != NULL) {
-        status = kc_union_add_compact(&u, &d);
-        WANT(IS(status));
-        if (status != KC_OK) WANT(kc_union_add_compact(&u, &d) == KC_FAILED && kc_union_result(&u, &r) == KC_FAILED && kc_union_image(&u, out, sizeof out, &length) == KC_FAILED && kc_union_reset(&u) == KC_OK);
-        status = kc_union_add_image(&u, image, image_length);
-        WANT(IS(status) || status == KC_FAILED);
-        status = kc_union_result(&u, &r);
-        WANT(IS(status) || status == KC_FAILED);
-        WANT((status == KC_OK) == (r.object != NULL) && kc_compact_free(&r) == KC_OK);
-    }
-    status = kc_intersection_new(&i, SEED);
-    WANT(IS(status) && (status == KC_OK) == (i.object != NULL));
-    if (i.object != NULL && d.object != NULL) {
-        status = kc_intersection_add_compact(&i, &d);
-        WANT(IS(status));
-        if (status != KC_OK) WANT(kc_intersection_result(&i, &r) == KC_INVALID_ARGUMENT && kc_intersection_add_compact(&i, &d) == KC_OK);
-        status = kc_intersection_result(&i, &r);
-        WANT(IS(status) && (status == KC_OK) == (r.object != NULL) && kc_compact_free(&r) == KC_OK);
-    }
-    if (c.object != NULL && d.object != NULL) {
-        status = kc_difference(&c, &d, SEED, &r);
-        WANT(IS(status) && (status == KC_OK) == (r.object != NULL) && kc_compact_free(&r) == KC_OK);
-        status = kc_compact_clone(&c, &r);
-        WANT(IS(status) && (status == KC_OK) == (r.object != NULL) && kc_compact_free(&r) == KC_OK);
-    }
-    length = 7, out[0] = 7;
-    status = kc_images_intersect(image, image_length, image, image_length, SEED, out, sizeof out, &length);
-    WANT(IS(status) && (status == KC_OK || (length == 7 && out[0] == 7)));
-    length = 7, out[0] = 7;
-    status = kc_images_difference(image, image_length, image, image_length, SEED, out, sizeof out, &length);
-    WANT(IS(status) && (status == KC_OK || (length == 7 && out[0] == 7)));
-    status = kc_sums_new(&m, 10, SEED);
-    WANT(IS(status) && (status == KC_OK) == (m.object != NULL));
-    for (uint64_t n = 0; n < updates && m.object != NULL; n++) {
-        uint64_t hash = 0;
-        WANT(kc_hash_u64(SEED, n, &hash) == KC_OK && kc_sums_state(&m, &before) == KC_OK);
-        status = kc_sums_add_hash(&m, hash, 1);
-        WANT(IS(status) && kc_sums_state(&m, &after) == KC_OK && (status == KC_OK || same(&before, &after)));
-    }
-    if (m.object != NULL) {
-        WANT(kc_sums_state(&m, &before) == KC_OK);
-        status = kc_sums_clone(&m, &m_copy);
-        WANT(IS(status) && (status == KC_OK) == (m_copy.object != NULL) && kc_sums_state(&m, &after) == KC_OK && same(&before, &after));
-        if (status == KC_OK) WANT(kc_sums_state(&m_copy, &after) == KC_OK && same(&before, &after) && kc_sums_free(&m_copy) == KC_OK);
-    }
-    armed = 0;
-    kc_theta_free(&s), kc_compact_free(&c), kc_compact_free(&d), kc_union_free(&u), kc_intersection_free(&i), kc_sums_free(&m);
+    WANT(kc_theta_new(&s, LG_K, SEED) == KC_OK && kc_sums_new(&m, LG_K, SEED) == KC_OK);
+    for (uint64_t n = 0; n < 5000; n++) WANT(kc_theta_update_u64(&s, n) == KC_OK);
+    for (uint64_t n = 0; n < 3000; n++) WANT(kc_sums_add_u64(&m, n, n) == KC_OK);
+    WANT(kc_theta_image(&s, image, BYTES, &image_length) == KC_OK && kc_theta_free(&s) == KC_OK);
+    WANT(kc_sums_image(&m, sums_image, BYTES, &sums_length) == KC_OK && kc_sums_free(&m) == KC_OK);
 }
 
 int main(int count, char **words) {
-    uint64_t updates = count > 1 && strcmp(words[1], "short") == 0 ? 300 : 20000, image_length = 0;
-    kc_theta s = {0};
-    long request = 0;
-    WANT(kc_theta_new(&s, 10, SEED) == KC_OK);
-    for (uint64_t n = 0; n < 5000; n++) WANT(kc_theta_update_u64(&s, n) == KC_OK);
-    WANT(kc_theta_image(&s, image, sizeof image, &image_length) == KC_OK && kc_theta_free(&s) == KC_OK);
-    for (;; request++) {
-        left = request, refused = 0, armed = 1;
-        run(request, updates, image_length);
-        if (!refused) break;
+    void (*const parts[])(void) = {updates_one_by_one, many_updates, copies_and_images, operators, sums, operators_on_sums};
+    long requests = 0;
+    updates = count > 1 && strcmp(words[1], "short") == 0 ? 1500 : MOST;
+    prepare();
+    for (size_t n = 0; n < sizeof parts / sizeof *parts; n++) {
+        for (request = 0;; request++) {
+            left = request, refused = refused_now = 0, armed = 1;
+            parts[n]();
+            armed = 0;
+            if (!refused) break;
+        }
+        requests += request;
     }
-    long requests = request;
-    kc_sums m = {0};
-    WANT(kc_sums_new(&m, 10, SEED) == KC_OK);
-    for (uint64_t n = 0; n < 3000; n++) WANT(kc_sums_add_u64(&m, n, n) == KC_OK);
-    WANT(kc_sums_image(&m, sums_image, sizeof sums_image, &image_length) == KC_OK && kc_sums_free(&m) == KC_OK);
-    for (request = 0;; request++) {
-        left = request, refused = 0, armed = 1;
-        run_sums(request, updates, image_length);
-        if (!refused) break;
+    for (int n = 0; called[n].name != NULL; n++) {
+        if (called[n].refusals == 0) printf("memory_test.c: no request of kc_%s was refused\n", called[n].name), faults++;
     }
-    printf("memory_test: %ld requests refused in turn, %ld checks, %d faults\n", request + requests, checks, faults);
+    printf("memory_test: %ld requests refused in turn, %ld checks, %d faults\n", requests, checks, faults);
     return faults != 0;
 }

@@ -298,6 +298,64 @@ static void sums_unions(void) {
     kc_sums_free(&a), kc_sums_free(&b), kc_sums_free(&other), kc_compact_sums_free(&cb);
 }
 
+/* The sum that a compact sketch has for a number, or 0 if it doesn't retain its hash. */
+static uint64_t sum_of(kc_compact_sums *sketch, uint64_t number) {
+    uint64_t hash = 0, count = 0;
+    WANT(kc_hash_u64(SEED, number, &hash) == KC_OK && kc_compact_sums_entries(sketch, hashes, counted, 8192, &count) == KC_OK);
+    for (uint64_t n = 0; n < count; n++) if (hashes[n] == hash) return counted[n];
+    return 0;
+}
+
+static void sums_intersections(void) {
+    kc_sums a = {0}, b = {0}, other = {0}, empty = {0}, none = {0};
+    kc_compact_sums ca = {0}, cb = {0}, r = {0}, no_compact = {0};
+    kc_sums_intersection i = {0};
+    kc_state st;
+    uint64_t length = 0, met = 0;
+    WANT(kc_sums_new(&a, 12, SEED) == KC_OK && kc_sums_new(&b, 12, SEED) == KC_OK && kc_sums_new(&other, 12, SEED + 1) == KC_OK && kc_sums_new(&empty, 12, SEED + 1) == KC_OK);
+    values(&a, 0, 2000), values(&b, 1000, 2000), values(&other, 1, 1);
+    WANT(kc_sums_compact(&a, &ca) == KC_OK && kc_sums_compact(&b, &cb) == KC_OK && kc_sums_image(&a, a_image, sizeof a_image, &a_length) == KC_OK);
+    /* the hash of the seed 50541 is 0 */
+    WANT(kc_sums_intersection_new(&i, 50541) == KC_INVALID_ARGUMENT && kc_sums_intersection_new(NULL, SEED) == KC_INVALID_ARGUMENT && i.object == NULL);
+    WANT(kc_sums_intersection_add(&i, &a) == KC_INVALID_ARGUMENT && kc_sums_intersection_add_compact(&i, &ca) == KC_INVALID_ARGUMENT);
+    WANT(kc_sums_intersection_add_image(&i, a_image, a_length) == KC_INVALID_ARGUMENT && kc_sums_intersection_result(&i, &r) == KC_INVALID_ARGUMENT);
+    WANT(kc_sums_intersection_new(&i, SEED) == KC_OK && kc_sums_intersection_new(&i, SEED) == KC_INVALID_ARGUMENT);
+    WANT(kc_sums_intersection_result(&i, &r) == KC_INVALID_ARGUMENT && r.object == NULL);
+    WANT(kc_sums_intersection_add(&i, &a) == KC_OK && kc_sums_intersection_result(&i, &r) == KC_OK && kc_sums_intersection_result(&i, &r) == KC_INVALID_ARGUMENT);
+    WANT(kc_compact_sums_image(&r, out, sizeof out, &length) == KC_OK && length == a_length && memcmp(out, a_image, length) == 0 && kc_compact_sums_free(&r) == KC_OK);
+    WANT(kc_sums_intersection_add_compact(&i, &cb) == KC_OK && kc_sums_intersection_add_image(&i, a_image, a_length) == KC_OK);
+    WANT(kc_sums_intersection_add(&i, &other) == KC_INVALID_ARGUMENT && kc_sums_intersection_add_image(&i, a_image, 9) == KC_INVALID_DATA);
+    WANT(kc_sums_intersection_add(&i, &none) == KC_INVALID_ARGUMENT && kc_sums_intersection_add_compact(&i, &no_compact) == KC_INVALID_ARGUMENT);
+    WANT(kc_sums_intersection_add(NULL, &a) == KC_INVALID_ARGUMENT && kc_sums_intersection_add(&i, NULL) == KC_INVALID_ARGUMENT && kc_sums_intersection_add_compact(&i, NULL) == KC_INVALID_ARGUMENT);
+    WANT(kc_sums_intersection_add_image(&i, NULL, 9) == KC_INVALID_ARGUMENT && kc_sums_intersection_add_image(&i, NULL, 0) == KC_INVALID_DATA && kc_sums_intersection_result(&i, NULL) == KC_INVALID_ARGUMENT);
+    /* the numbers from 1000 to 1999: each in a, in b and in a again */
+    WANT(kc_sums_intersection_result(&i, &r) == KC_OK && kc_compact_sums_state(&r, &st) == KC_OK && st.retained == 1000 && st.theta == KC_MAX_THETA && st.empty == 0);
+    for (uint64_t n = 1000; n < 2000; n++) WANT(sum_of(&r, n) == 3 * n);
+    WANT(kc_compact_sums_image(&r, b_image, sizeof b_image, &met) == KC_OK && kc_compact_sums_free(&r) == KC_OK);
+    /* a sum of 2^64 is refused, and nothing has changed; a hash that isn't shared may have any sum */
+    WANT(kc_sums_add_u64(&b, 1500, UINT64_MAX - 6000 + 1) == KC_OK && kc_sums_compact(&b, &r) == KC_OK && kc_sums_image(&b, out, sizeof out, &length) == KC_OK);
+    WANT(kc_sums_intersection_add(&i, &b) == KC_POLICY && kc_sums_intersection_add_compact(&i, &r) == KC_POLICY && kc_sums_intersection_add_image(&i, out, length) == KC_POLICY);
+    WANT(kc_compact_sums_free(&r) == KC_OK && kc_sums_intersection_result(&i, &r) == KC_OK && kc_compact_sums_image(&r, out, sizeof out, &length) == KC_OK);
+    WANT(length == met && memcmp(out, b_image, met) == 0 && kc_compact_sums_free(&r) == KC_OK);
+    WANT(kc_sums_add_u64(&a, 1500, UINT64_MAX - 6000) == KC_OK && kc_sums_add_u64(&a, 7, UINT64_MAX - 7) == KC_OK && kc_sums_intersection_add(&i, &a) == KC_OK);
+    WANT(kc_sums_intersection_result(&i, &r) == KC_OK && sum_of(&r, 1500) == UINT64_MAX && sum_of(&r, 1501) == 4 * 1501 && sum_of(&r, 7) == 0 && kc_compact_sums_free(&r) == KC_OK);
+    /* empty for good after an empty sketch, of whatever seed */
+    WANT(kc_sums_intersection_add(&i, &empty) == KC_OK && kc_sums_intersection_add(&i, &other) == KC_OK && kc_sums_intersection_add(&i, &b) == KC_OK);
+    WANT(kc_sums_intersection_result(&i, &r) == KC_OK && kc_compact_sums_state(&r, &st) == KC_OK && st.retained == 0 && st.theta == KC_MAX_THETA && st.empty == 1);
+    WANT(kc_compact_sums_free(&r) == KC_OK && kc_sums_intersection_free(&i) == KC_OK && i.object == NULL && kc_sums_intersection_free(&i) == KC_OK && kc_sums_intersection_free(NULL) == KC_INVALID_ARGUMENT);
+
+    WANT(kc_sums_difference(&ca, &cb, SEED, &r) == KC_OK && kc_sums_difference(&ca, &cb, SEED, &r) == KC_INVALID_ARGUMENT);
+    WANT(kc_compact_sums_state(&r, &st) == KC_OK && st.retained == 1000 && st.theta == KC_MAX_THETA && st.empty == 0);
+    for (uint64_t n = 1; n < 1000; n++) WANT(sum_of(&r, n) == n);
+    WANT(sum_of(&r, 1000) == 0 && kc_compact_sums_free(&r) == KC_OK);
+    WANT(kc_sums_difference(&cb, &ca, SEED, &r) == KC_OK && sum_of(&r, 999) == 0 && sum_of(&r, 1999) == 0 && sum_of(&r, 2000) == 2000 && kc_compact_sums_free(&r) == KC_OK);
+    WANT(kc_sums_difference(&ca, &cb, SEED + 1, &r) == KC_INVALID_ARGUMENT && kc_sums_difference(&ca, &cb, 50541, &r) == KC_INVALID_ARGUMENT && r.object == NULL);
+    WANT(kc_sums_difference(&ca, &ca, SEED, &r) == KC_INVALID_ARGUMENT && kc_sums_difference(&ca, &r, SEED, &r) == KC_INVALID_ARGUMENT && kc_sums_difference(&r, &ca, SEED, &r) == KC_INVALID_ARGUMENT);
+    WANT(kc_sums_difference(&ca, &no_compact, SEED, &r) == KC_INVALID_ARGUMENT && kc_sums_difference(&no_compact, &ca, SEED, &r) == KC_INVALID_ARGUMENT && r.object == NULL);
+    WANT(kc_sums_difference(NULL, &ca, SEED, &r) == KC_INVALID_ARGUMENT && kc_sums_difference(&ca, NULL, SEED, &r) == KC_INVALID_ARGUMENT && kc_sums_difference(&ca, &cb, SEED, NULL) == KC_INVALID_ARGUMENT);
+    kc_sums_free(&a), kc_sums_free(&b), kc_sums_free(&other), kc_sums_free(&empty), kc_compact_sums_free(&ca), kc_compact_sums_free(&cb);
+}
+
 /* A total, a theta, the number of decimals, and the estimate of the total, computed in Python. */
 static const struct { kc_wide total; uint64_t theta; uint32_t places; const char *text; } totals[] = {
     {{0, 0}, KC_MAX_THETA, 2, "0.00"},
@@ -370,6 +428,7 @@ int main(void) {
     sums();
     compact_sums();
     sums_unions();
+    sums_intersections();
     estimates();
     total_texts();
     printf("test: %d checks, %d faults\n", checks, faults);

@@ -1,9 +1,7 @@
 -- The shapes of calls on handles: by the object before, the status and the object after.
 use Rattle.std.specs.Prelude.{◌≡◌, ℕ, Option, Some, None, Result, MatchResult}
 use Rattle.sketch_base.specs.declared.error.ErrorKind.{ErrorKind}
-use Rattle.sketch_objects.specs.Intersections.{IsDifferenceOf, IsDifferenceRefusal}
 use Rattle.sketch_objects.specs.Status.{status_of}
-use Rattle.sketch_objects.specs.declared.compact.CompactSketch.{CompactSketch}
 
 -- a call on an object: a handle without one is refused with 1 and keeps none
 abbrev pub OnObject : {T : Type 0} → (Does : T → ℕ → T → Type 0) → Option T → (status : ℕ) → Option T → Type 0
@@ -44,8 +42,9 @@ abbrev pub WritesValue : {V : Type 0} → Option V → (before : V) → (status 
 WritesValue None before status after = (status ≡ 1) × (after ≡ before)
 WritesValue (Some value) before status after = (status ≡ 0) × (after ≡ value)
 
--- a handle was filled with the difference of two sketches; if either is missing, the call is refused with 1
-abbrev pub FillsDifference : (seed : ℕ) → (first second : Option CompactSketch) → (old : Option CompactSketch) → (status : ℕ) → (new : Option CompactSketch) → Type 0
-FillsDifference seed None second old status new = (status ≡ 1) × (new ≡ old)
-FillsDifference seed (Some a) None old status new = (status ≡ 1) × (new ≡ old)
-FillsDifference seed (Some a) (Some b) old status new = Fills (IsDifferenceOf a b) (IsDifferenceRefusal seed a b) old status new
+-- a call that fills a handle from two objects: without either it is refused with 1, and the handle is as before
+abbrev pub FillsFromTwo : {S T : Type 0} → (IsMade : S → S → T → Type 0) → (IsRefused : S → S → ℕ → Type 0)
+    → (first second : Option S) → (old : Option T) → (status : ℕ) → (new : Option T) → Type 0
+FillsFromTwo IsMade IsRefused None second old status new = (status ≡ 1) × (new ≡ old)
+FillsFromTwo IsMade IsRefused (Some a) None old status new = (status ≡ 1) × (new ≡ old)
+FillsFromTwo IsMade IsRefused (Some a) (Some b) old status new = Fills (IsMade a b) (IsRefused a b) old status new

@@ -1,6 +1,7 @@
 //! Differences of theta sketches.
 ghost use Rattle.std.specs.Prelude.{◌≡◌};
-ghost use Rattle.sketch_c.specs.Calls.{FillsDifference};
+ghost use Rattle.sketch_c.specs.Calls.{FillsFromTwo};
+ghost use Rattle.sketch_objects.specs.Intersections.{IsDifferenceOf, IsDifferenceRefusal};
 
 use crate::handles::CompactHandle;
 use sketch_objects::difference::difference;
@@ -21,7 +22,7 @@ pub extern "C" fn kcp_difference(
     seed: u64,
     out: &mut CompactHandle,
 ) -> u32
-    ensures made { FillsDifference seed first.old.value second.old.value out.old.value result out.new.value }
+    ensures made { FillsFromTwo IsDifferenceOf (IsDifferenceRefusal seed) first.old.value second.old.value out.old.value result out.new.value }
     ensures same_first { first.new.value ≡ first.old.value }
     ensures same_second { second.new.value ≡ second.old.value }
 {

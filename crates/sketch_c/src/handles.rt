@@ -6,6 +6,7 @@ ghost use Rattle.sketch_objects.specs.contracts.compact.CompactSketch as compact
 ghost use Rattle.sketch_objects.specs.contracts.compact_sums.CompactSums as compact_sums;
 ghost use Rattle.sketch_objects.specs.contracts.intersection.SeededIntersection as seeded_intersection;
 ghost use Rattle.sketch_objects.specs.contracts.sums.SeededSums as seeded_sums;
+ghost use Rattle.sketch_objects.specs.contracts.sums_intersection.SeededSumsIntersection as seeded_sums_intersection;
 ghost use Rattle.sketch_objects.specs.contracts.sums_union.SeededSumsUnion as seeded_sums_union;
 ghost use Rattle.sketch_objects.specs.contracts.theta.SeededSketch as seeded_sketch;
 ghost use Rattle.sketch_objects.specs.contracts.union.SeededUnion as seeded_union;
@@ -13,6 +14,7 @@ ghost use Rattle.sketch_objects.specs.declared.compact.CompactSketch.{CompactSke
 ghost use Rattle.sketch_objects.specs.declared.compact_sums.CompactSums.{CompactSums};
 ghost use Rattle.sketch_objects.specs.declared.intersection.SeededIntersection.{SeededIntersection};
 ghost use Rattle.sketch_objects.specs.declared.sums.SeededSums.{SeededSums};
+ghost use Rattle.sketch_objects.specs.declared.sums_intersection.SeededSumsIntersection.{SeededSumsIntersection};
 ghost use Rattle.sketch_objects.specs.declared.sums_union.SeededSumsUnion.{SeededSumsUnion};
 ghost use Rattle.sketch_objects.specs.declared.theta.SeededSketch.{SeededSketch};
 ghost use Rattle.sketch_objects.specs.declared.union.SeededUnion.{SeededUnion};
@@ -95,4 +97,15 @@ pub struct SumsUnionHandle {
 
 impl Model for SumsUnionHandle {
     ghost also_owns = { λ h. handle_owns seeded_sums_union.the_row h.at h.value };
+}
+
+/// A handle of C: an intersection of sketches of sums, or none.
+#[repr(C)]
+pub struct SumsIntersectionHandle {
+    at: *mut Opaque,
+    ghost value: { Option SeededSumsIntersection } by { coded_option seeded_sums_intersection.the_row.coded },
+}
+
+impl Model for SumsIntersectionHandle {
+    ghost also_owns = { λ h. handle_owns seeded_sums_intersection.the_row h.at h.value };
 }

@@ -9,25 +9,28 @@ ghost use Rattle.sketch_c.specs.contracts.handles.CompactHandle as compact_handl
 ghost use Rattle.sketch_c.specs.contracts.handles.CompactSumsHandle as compact_sums_handle;
 ghost use Rattle.sketch_c.specs.contracts.handles.IntersectionHandle as intersection_handle;
 ghost use Rattle.sketch_c.specs.contracts.handles.SumsHandle as sums_handle;
+ghost use Rattle.sketch_c.specs.contracts.handles.SumsIntersectionHandle as sums_intersection_handle;
 ghost use Rattle.sketch_c.specs.contracts.handles.SumsUnionHandle as sums_union_handle;
 ghost use Rattle.sketch_c.specs.contracts.handles.ThetaHandle as theta_handle;
 ghost use Rattle.sketch_c.specs.contracts.handles.UnionHandle as union_handle;
 ghost use Rattle.sketch_objects.specs.contracts.intersection.SeededIntersection as intersection;
 ghost use Rattle.sketch_c.specs.contracts.owned.Owned as owned;
 ghost use Rattle.sketch_objects.specs.contracts.sums.SeededSums as sums;
+ghost use Rattle.sketch_objects.specs.contracts.sums_intersection.SeededSumsIntersection as sums_intersection;
 ghost use Rattle.sketch_objects.specs.contracts.sums_union.SeededSumsUnion as sums_union;
 ghost use Rattle.sketch_objects.specs.contracts.theta.SeededSketch as theta;
 ghost use Rattle.sketch_objects.specs.contracts.union.SeededUnion as union;
 
 use crate::handles::{
-    CompactHandle, CompactSumsHandle, IntersectionHandle, SumsHandle, SumsUnionHandle, ThetaHandle,
-    UnionHandle,
+    CompactHandle, CompactSumsHandle, IntersectionHandle, SumsHandle, SumsIntersectionHandle,
+    SumsUnionHandle, ThetaHandle, UnionHandle,
 };
 use crate::owned::Owned;
 use sketch_objects::compact::CompactSketch;
 use sketch_objects::compact_sums::CompactSums;
 use sketch_objects::intersection::SeededIntersection;
 use sketch_objects::sums::SeededSums;
+use sketch_objects::sums_intersection::SeededSumsIntersection;
 use sketch_objects::sums_union::SeededSumsUnion;
 use sketch_objects::theta::SeededSketch;
 use sketch_objects::union::SeededUnion;
@@ -119,6 +122,19 @@ impl SumsUnionHandle {
         ensures same { result.now ≡ record { at = self.old.at; value = self.old.value } }
     {
         let at = &raw mut *self as *mut Owned<SeededSumsUnion>;
+        unsafe { &mut *at }
+    }
+}
+
+impl SumsIntersectionHandle {
+    /// The pointer of the handle.
+    #[inline(always)]
+    pub(crate) fn owned(&mut self) -> &mut Owned<SeededSumsIntersection>
+        ensures* writes_back { sem 𝓛 (Lends sums_intersection_handle.the_row (owned.the_row sums_intersection.the_row)
+            self.entry result (λ w. record { at = w.at; value = w.value })) }
+        ensures same { result.now ≡ record { at = self.old.at; value = self.old.value } }
+    {
+        let at = &raw mut *self as *mut Owned<SeededSumsIntersection>;
         unsafe { &mut *at }
     }
 }

@@ -4,6 +4,7 @@ use sketch_objects::compact::CompactSketch;
 use sketch_objects::compact_sums::CompactSums;
 use sketch_objects::intersection::SeededIntersection;
 use sketch_objects::sums::SeededSums;
+use sketch_objects::sums_intersection::SeededSumsIntersection;
 use sketch_objects::sums_union::SeededSumsUnion;
 use sketch_objects::theta::SeededSketch;
 use sketch_objects::union::SeededUnion;
@@ -19,4 +20,5 @@ fn objects_are_send() {
     is_send::<SeededSums>();
     is_send::<CompactSums>();
     is_send::<SeededSumsUnion>();
+    is_send::<SeededSumsIntersection>();
 }

@@ -1,0 +1,83 @@
+//! Intersections of tuple sketches of sums.
+ghost use Rattle.std.specs.Prelude.{◌≡◌, None};
+ghost use Rattle.sketch_c.specs.Calls.{OnObject, OnObjectWith, Fills, FillsFrom};
+ghost use Rattle.sketch_objects.specs.Intersections.{IsSeedRefusal};
+ghost use Rattle.sketch_objects.specs.SumsIntersections.{IsNewSumsIntersection, MeetsSketchOfSums, MeetsCompactSums, MeetsSumsImage, IsSumsIntersectionResult, IsNoSumsResult};
+
+use crate::handles::{CompactSumsHandle, SumsHandle, SumsIntersectionHandle};
+use sketch_objects::sums_intersection::built;
+use std::alloc::Global;
+
+/// Makes an intersection of sketches of sums, without a value, as `kcp_intersection_new` does.
+#[unsafe(no_mangle)]
+pub extern "C" fn kcp_sums_intersection_new(
+    alloc: Global,
+    intersection: &mut SumsIntersectionHandle,
+    seed: u64,
+) -> u32
+    ensures { Fills (IsNewSumsIntersection seed) (IsSeedRefusal seed) intersection.old.value result intersection.new.value }
+{
+    intersection.owned().put(alloc, built(alloc, seed))
+}
+
+/// Frees the intersection of a handle, which has none afterwards. A handle without one stays as it is.
+#[unsafe(no_mangle)]
+pub extern "C" fn kcp_sums_intersection_free(
+    alloc: Global,
+    intersection: &mut SumsIntersectionHandle,
+)
+    ensures { intersection.new.value ≡ None }
+{
+    intersection.owned().free(alloc);
+}
+
+/// Intersects with a sketch that takes updates, as `kcp_intersection_add` does; the sums of a shared hash are added. Refused
+/// with `POLICY` also, if two sums of one hash are 2^64 or more together; then nothing has changed.
+#[unsafe(no_mangle)]
+pub extern "C" fn kcp_sums_intersection_add(
+    intersection: &mut SumsIntersectionHandle,
+    sketch: &mut SumsHandle,
+) -> u32
+    ensures met { OnObjectWith MeetsSketchOfSums sketch.old.value intersection.old.value result intersection.new.value }
+    ensures unchanged { sketch.new.value ≡ sketch.old.value }
+{
+    intersection.owned().add(sketch.owned())
+}
+
+/// Intersects with a compact sketch, as `kcp_sums_intersection_add` does.
+#[unsafe(no_mangle)]
+pub extern "C" fn kcp_sums_intersection_add_compact(
+    intersection: &mut SumsIntersectionHandle,
+    sketch: &mut CompactSumsHandle,
+) -> u32
+    ensures met { OnObjectWith MeetsCompactSums sketch.old.value intersection.old.value result intersection.new.value }
+    ensures unchanged { sketch.new.value ≡ sketch.old.value }
+{
+    intersection.owned().add(sketch.owned())
+}
+
+/// Intersects with the sketch that the bytes begin with, as `kcp_intersection_add_image` does. Refused with `POLICY` also, as
+/// `kcp_sums_intersection_add` is.
+#[unsafe(no_mangle)]
+pub extern "C" fn kcp_sums_intersection_add_image(
+    alloc: Global,
+    intersection: &mut SumsIntersectionHandle,
+    image: &[u8],
+) -> u32
+    ensures { OnObject (MeetsSumsImage image.now) intersection.old.value result intersection.new.value }
+{
+    intersection.owned().add_image(alloc, image)
+}
+
+/// Puts the intersection's value into a handle, as `kcp_intersection_result` does.
+#[unsafe(no_mangle)]
+pub extern "C" fn kcp_sums_intersection_result(
+    alloc: Global,
+    intersection: &mut SumsIntersectionHandle,
+    out: &mut CompactSumsHandle,
+) -> u32
+    ensures made { FillsFrom IsSumsIntersectionResult IsNoSumsResult intersection.old.value out.old.value result out.new.value }
+    ensures unchanged { intersection.new.value ≡ intersection.old.value }
+{
+    intersection.owned().compact(alloc, out.owned())
+}
