@@ -4,7 +4,7 @@ use Rattle.core_laws.specs.declared.TheConstants.{MAX_THETA}
 use Rattle.sketch_objects.specs.Bounds.{wide}
 use Rattle.sketch_objects.specs.Totals.{joined_halves}
 use Rattle.sketch_c.proofs.Decimals.{decimals_fit, quotient_in_parts, rest_in_parts}
-use Rattle.sketch_c.proofs.totals.kcp_total_decimal.Goals as goal
+use Rattle.sketch_c.proofs.total_decimals.kcp_total_decimal.Goals as goal
 
 pub overflow_cast-decimals : goal.overflow_cast-decimals
 overflow_cast-decimals c =

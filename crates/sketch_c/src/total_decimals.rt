@@ -1,4 +1,4 @@
-//! Totals of sums.
+//! The decimals of what totals of sums estimate.
 ghost use Rattle.std.specs.Prelude.{◌<◌};
 ghost use Rattle.sketch_objects.specs.Totals.{WritesTotalDecimal};
 
