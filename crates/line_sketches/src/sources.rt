@@ -1,5 +1,5 @@
 //! Texts, one after another, each with its own reader.
-ghost use Rattle.std.specs.Prelude.{◌≡◌, ℕ, List, Option, None, Some, map, IfOk, OnOk, IfSome};
+ghost use Rattle.std.specs.Prelude.{◌≡◌, ℕ, List, Option, None, Some, map, IfOk, IsOk, OnOk, IfSome};
 ghost use Rattle.lines.specs.Lines.{lines_of, lines_of_all};
 ghost use Rattle.line_sketches.specs.Keys.{line_state, with_lines, value_of_lines, sketch_of_value};
 ghost use Rattle.line_sketches.specs.Sources.{GivesNext};
@@ -52,7 +52,10 @@ impl<'a, A: Allocator> Sources for Texts<'a, A> {
 
     ghost texts = { λ s. Some (map (λ text. text.items) s.left.now) };
 
-    fn next_source(&mut self) -> io::Result<Option<&'a [u8]>> {
+    /// Never fails.
+    fn next_source(&mut self) -> io::Result<Option<&'a [u8]>>
+        ensures succeeds { IsOk result }
+    {
         let Some((first, others)) = self.left.split_first() else {
             return Ok(None);
         };

@@ -2,8 +2,9 @@
 ghost use Rattle.std.specs.Prelude.{◌≡◌, ◌<◌, ◌≤◌, ◌*◌, ◌-◌, ◌^◌, length};
 ghost use Rattle.core_laws.specs.declared.TheConstants.{MAX_THETA};
 ghost use Rattle.estimates.specs.Bounds.{nearest};
-ghost use Rattle.totals.specs.Totals.{sum_of, total_of};
+ghost use Rattle.totals.specs.Totals.{IsTotalOf, sum_of, total_of};
 
+use crate::laws::totals_are_consistent;
 use core_laws::MAX_THETA;
 use std::alloc::Allocator;
 use tuple_sketches::{CompactTupleSketch, TupleSketchIter};
@@ -47,10 +48,13 @@ fn scaled(sum: u128, theta: u64) -> u128
     sum / under * greatest + (2 * rest + under) / (2 * under)
 }
 
-/// What a sketch of sums says of the total of its stream.
+/// What a sketch of sums says of the total of its stream. The total is at least the sum of the retained sums, and that sum
+/// itself if it is exact.
 pub fn total_of<A: Allocator>(sketch: &CompactTupleSketch<u64, A>) -> Total
-    ensures { result ≡ total_of sketch.now }
+    ensures value { result ≡ total_of sketch.now }
+    ensures consistent { IsTotalOf sketch.now.entries result }
 {
+    totals_are_consistent();
     let retained = sketch.num_retained();
     let theta = sketch.theta64();
     Total {

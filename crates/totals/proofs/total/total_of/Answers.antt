@@ -1,5 +1,5 @@
-use Rattle.std.proofs.Common.{◌≡◌, ◌≤◌, ◌∙◌, length, ap, refl, arith}
-use Rattle.totals.specs.Totals.{sum_of, total_of}
+use Rattle.std.proofs.Common.{◌≡◌, ◌≤◌, ◌∙◌, length, ap, refl, sym, subst, arith}
+use Rattle.totals.specs.Totals.{IsTotalOf, sum_of, total_of}
 use Rattle.totals.proofs.Scaled.{few_below}
 use Rattle.totals.proofs.total.total_of.Goals as goal
 
@@ -11,8 +11,11 @@ scaled-requires-clause-small g c =
     let all : length c.iter.result.rest ≡ length es = ap (λ i. length i.rest) c.iter.ensures in
     omega (arith, few, all, shown.theta_low, c.theta64-theta.ensures, c.sum_of.ensures.limited)
 
-pub returns : goal.returns
+pub returns-clause-value : goal.returns-clause-value
 unfolding total_of
-returns g c =
+returns-clause-value g c =
     let sum = c.sum_of.ensures.sum ∙ ap (λ i. sum_of i.rest) c.iter.ensures in
     rw (c.scaled.ensures, sum, c.num_retained-retained.ensures.count, c.theta64-theta.ensures) refl
+
+pub returns-clause-consistent : goal.returns-clause-consistent
+returns-clause-consistent g c = subst (IsTotalOf c.args.sketch.now.entries) (sym (returns-clause-value g c)) (c.totals_are_consistent.ensures c.args.sketch.now c.num_retained-retained.ensures.sound)
