@@ -237,10 +237,7 @@ impl fmt::Display for Fault {
                 f,
                 "--sums and --groups exclude each other: unite the images of each group by themselves"
             ),
-            Fault::SummedBounds => write!(
-                f,
-                "--sums prints a total without bounds: drop --bounds"
-            ),
+            Fault::SummedBounds => write!(f, "--sums prints a total without bounds: drop --bounds"),
             Fault::LoneGroups => write!(f, "--by needs --hex or --output-dir"),
             Fault::LoneOrder => write!(f, "--sort orders groups: pass --by N too"),
             Fault::LoneUnions => write!(f, "--groups needs --hex"),

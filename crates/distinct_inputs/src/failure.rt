@@ -208,7 +208,10 @@ impl fmt::Display for SumsDefect<'_> {
                     f,
                     "is not an image of sums (the third byte is {family}, the family of {sketches}, not 9)"
                 ),
-                None => write!(f, "is not an image of sums (the third byte is {family}, not 9)"),
+                None => write!(
+                    f,
+                    "is not an image of sums (the third byte is {family}, not 9)"
+                ),
             },
             Flaw::Version(version) => write!(
                 f,
