@@ -42,8 +42,7 @@ sums_kind : (seed : ℕ) (refusal : Option ErrorKind) (images : Option (List (Li
 sums_kind seed refusal images (Failed error) none refused = tt
 sums_kind seed refusal images (Refused e) none (inl is) = let both : None ≡ Some e = sym none ∙ is in absurd (cc)
 sums_kind seed refusal images (Refused e) none (inr (inl memory)) = inl memory
-sums_kind seed refusal images (Refused e) none (inr (inr (inl policy))) = inr (inl (policy, refl))
-sums_kind seed refusal images (Refused e) none (inr (inr (inr faulty))) = inr (inr faulty.0)
+sums_kind seed refusal images (Refused e) none (inr (inr later)) = elim later.1 [ inl policy ↦ inr (inl (policy, refl)) | inr faulty ↦ inr (inr faulty.0) ]
 
 pub uniting_refused : {V : Type 0} (r : Result V Unread) (sums : Bool) (seed : ℕ) (refusal : Option ErrorKind) (images : Option (List (List ℕ))) → sums ≡ false → refusal ≡ None → IfErr r (IsUniteRefusal seed refusal images) → IfErr r (IsOfUniting sums)
 uniting_refused (Ok v) sums seed refusal images is none refused = tt

@@ -1,5 +1,5 @@
 -- Groups of images in lines, and their unions.
-use Rattle.std.specs.Prelude.{ℕ, ◌≡◌, ◌⊎◌, ◌<◌, ⊤, Bool, true, false, List, [], ◌∷◌, ◌++◌, map, Option, Some, None, IfSome, Vec, length, flat_map, unwrap_or, if◌then◌else◌}
+use Rattle.std.specs.Prelude.{ℕ, ◌≡◌, ◌⊎◌, ◌+◌, ◌-◌, ◌^◌, ◌<◌, min, ⊤, Bool, true, false, List, [], ◌∷◌, ◌++◌, map, Option, Some, None, IfSome, Vec, length, flat_map, unwrap_or, if◌then◌else◌}
 use Rattle.std.specs.List.{filter, AllByRecursion}
 use Rattle.std.specs.List.Sorted.{IsStrictlySortedBy}
 use Rattle.std.specs.BTreeMap.{BTreeMap, get_by}
@@ -159,6 +159,12 @@ IsNotAdded seed line (FlawedLine flaw) = IsFlawed seed line flaw
 -- one of these lines has this flaw
 abbrev pub HasFlawed : (seed : ℕ) → LineFlaw → (lines : List (List ℕ)) → Type 0
 HasFlawed seed flaw lines = (line : List ℕ) × IsAmong line lines × IsFlawed seed line flaw
+
+-- a flaw is reported with the number of its line, which is behind this many others: the greatest number of 64 bits also for each later line
+abbrev pub IsAtLine : (passed : ℕ) → Ununited → Type 0
+IsAtLine passed (Flawed number flaw) = number ≡ min (passed + 1) (2 ^ 64 - 1)
+IsAtLine passed (Refused kind) = ⊤
+IsAtLine passed (Failed error) = ⊤
 
 -- images are not united: by a refusal before any is read, or by refused memory, or because a source failed or a line has a flaw
 abbrev pub IsUnunited : (seed : ℕ) → Option ErrorKind → (lines : Option (List (List ℕ))) → Ununited → Type 0

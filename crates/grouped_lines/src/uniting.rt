@@ -6,7 +6,7 @@ ghost use Rattle.core_laws.specs.Settings.{settings_refusal};
 ghost use Rattle.core_laws.specs.declared.TheConstants.{MAX_THETA};
 ghost use Rattle.lines.specs.Lines.{lines_of, lines_of_all};
 ghost use Rattle.line_sketches.specs.Keys.{IsAmong};
-ghost use Rattle.grouped_lines.specs.United.{IsNotAdded, IsUniting, AreReady, HasUnions, AreSound, AreUnited, AreUnitedLines, IsUnunited};
+ghost use Rattle.grouped_lines.specs.United.{IsAtLine, IsNotAdded, IsUniting, AreReady, HasUnions, AreSound, AreUnited, AreUnitedLines, IsUnunited};
 ghost use Rattle.grouped_lines.specs.United.{AreSketchedTexts, IsSketchedText};
 ghost use Rattle.grouped_lines.specs.declared.groups.Grouping.{Grouping};
 
@@ -42,10 +42,11 @@ impl From<Error> for Ununited {
 
 /// The failure at the line behind this many others.
 fn failure_at(passed: u64, reason: NotAdded) -> Ununited
-    ensures { (seed : ℕ) (line : List ℕ) (lines : Option (List (List ℕ)))
+    ensures failed { (seed : ℕ) (line : List ℕ) (lines : Option (List (List ℕ)))
         → IsNotAdded seed line reason
         → IfSome lines (IsAmong line)
         → IsUnunited seed None lines result }
+    ensures numbered { IsAtLine passed result }
 {
     match reason {
         NotAdded::Memory => Ununited::Refused(Error::from(AllocError)),

@@ -54,6 +54,8 @@ impl<'a, A: Allocator> Sources for Texts<'a, A> {
 
     /// Never fails.
     fn next_source(&mut self) -> io::Result<Option<&'a [u8]>>
+        ensures next { IfOk result (GivesNext (λ s. Some s.now)
+            (Some (map (λ text. text.items) self.old.left.now)) (Some (map (λ text. text.items) self.new.left.now))) }
         ensures succeeds { IsOk result }
     {
         let Some((first, others)) = self.left.split_first() else {

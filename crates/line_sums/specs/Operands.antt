@@ -4,7 +4,7 @@ use Rattle.sketch_base.specs.declared.error.ErrorKind.TheVariants.{OutOfMemory, 
 use Rattle.line_sketches.specs.declared.sketching.Unread.{Unread}
 use Rattle.line_sketches.specs.declared.sketching.Unread.TheVariants.{Refused, Failed}
 
--- memory ran out, one is no image of sums, or its source failed
-abbrev pub IsUnreadSums : Unread → Type 0
-IsUnreadSums (Refused kind) = (kind ≡ OutOfMemory) ⊎ (kind ≡ InvalidData)
-IsUnreadSums (Failed error) = ⊤
+-- memory ran out, there is this fault, or a source failed
+abbrev pub IsUnreadSums : (Fault : Type 0) → Unread → Type 0
+IsUnreadSums Fault (Refused kind) = (kind ≡ OutOfMemory) ⊎ ((kind ≡ InvalidData) × Fault)
+IsUnreadSums Fault (Failed error) = ⊤

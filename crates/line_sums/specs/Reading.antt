@@ -13,10 +13,11 @@ use Rattle.line_sums.specs.declared.addends.OpenAddend.{OpenAddend}
 abbrev pub Ends : (front piece : List ℕ) → (ended : List (List ℕ)) → (left : List ℕ) → Type 0
 Ends front piece ended left = (more : List ℕ) → lines_after front (piece ++ more) ≡ ended ++ lines_after left more
 
--- a piece of a text was read: the lines that ended are added, after those before, and the open line has the bytes behind them
-pub record HasTaken (hashing : Hashing) (amount : Amount) (lg_k : ℕ) (lines : List (List ℕ)) (front piece : List ℕ) (s : Updatable (TupleEntry ℕ)) (last : OpenAddend) : Type 0 where
+-- a piece of a text was read: the lines that ended are added, after those that the sketch had before, and the open line has the
+-- bytes behind them
+pub record HasTaken (hashing : Hashing) (amount : Amount) (front piece : List ℕ) (old new : Updatable (TupleEntry ℕ)) (last : OpenAddend) : Type 0 where
   pub ended : List (List ℕ)
   pub left : List ℕ
   pub ends : Ends front piece ended left
   pub is_open : IsOpenAddend hashing amount left last
-  pub added : HasAdded hashing amount lg_k (lines ++ ended) s
+  pub added : (lg_k : ℕ) (lines : List (List ℕ)) → HasAdded hashing amount lg_k lines old → HasAdded hashing amount lg_k (lines ++ ended) new

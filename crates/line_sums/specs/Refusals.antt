@@ -1,7 +1,10 @@
 -- Why lines are not summed.
 use Rattle.std.specs.Prelude.{ℕ, ◌≡◌, ◌≢◌, ◌⊎◌, ◌+◌, ◌-◌, ◌^◌, min, ⊤, List, Option, Some, None, Result, MatchResult}
+use Rattle.std.specs.IoError.{error_kind}
+use Rattle.std.specs.declared.io.ErrorKind.TheVariants.{Interrupted}
 use Rattle.sketch_base.specs.declared.error.ErrorKind.{ErrorKind}
 use Rattle.sketch_base.specs.declared.error.ErrorKind.TheVariants.{OutOfMemory, Policy}
+use Rattle.line_sketches.specs.Refusals.{HasFault}
 use Rattle.line_sums.specs.Amounts.{amount_in}
 use Rattle.line_sums.specs.declared.addends.Amount.{Amount}
 use Rattle.line_sums.specs.declared.addends.Amount.TheVariants.{One}
@@ -23,6 +26,20 @@ IsUnsummed amount refusal (NotANumber line) = (refusal ≡ None) × (amount ≢ 
 abbrev pub LacksNumber : Amount → (line : List ℕ) → (count : ℕ) → Unsummed → Type 0
 LacksNumber amount line count (NotANumber number) = (amount_in amount line ≡ None) × (number ≡ min (count + 1) (2 ^ 64 - 1))
 LacksNumber amount line count unsummed = ⊤
+
+-- a line adds no number
+abbrev pub HasNoNumber : Amount → (line : List ℕ) → Type 0
+HasNoNumber amount line = amount_in amount line ≡ None
+
+-- a line is reported to have no number only if one of these lines has none
+abbrev pub LacksNumberIn : Amount → (lines : List (List ℕ)) → Unsummed → Type 0
+LacksNumberIn amount lines (NotANumber number) = HasFault (HasNoNumber amount) lines
+LacksNumberIn amount lines unsummed = ⊤
+
+-- a failed read was not just interrupted
+abbrev pub IsLastingFailure : Unsummed → Type 0
+IsLastingFailure (Failed error) = error_kind error ≢ Interrupted
+IsLastingFailure unsummed = ⊤
 
 -- an Ok comes only if nothing is refused
 abbrev pub RefusesSums : {T : Type 0} → Amount → Result T Unsummed → Option ErrorKind → Type 0

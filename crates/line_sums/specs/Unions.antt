@@ -94,5 +94,5 @@ IsAllSumsRefusal seed images (Failed error) = ⊤
 -- images are not united: by a refusal before any is read, or because one is not added
 abbrev pub IsUniteSumsRefusal : (seed : ℕ) → Option ErrorKind → Option (List (List ℕ)) → Unread → Type 0
 IsUniteSumsRefusal seed refusal images (Refused kind) =
-    (refusal ≡ Some kind) ⊎ ((kind ≡ OutOfMemory) ⊎ ((kind ≡ Policy) ⊎ ((kind ≡ InvalidData) × IfSome images (HasNoSums seed))))
+    (refusal ≡ Some kind) ⊎ ((kind ≡ OutOfMemory) ⊎ ((refusal ≡ None) × ((kind ≡ Policy) ⊎ ((kind ≡ InvalidData) × IfSome images (HasNoSums seed)))))
 IsUniteSumsRefusal seed refusal images (Failed error) = refusal ≡ None

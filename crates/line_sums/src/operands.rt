@@ -5,6 +5,7 @@ ghost use Rattle.sketch_base.specs.Seed.{seed_hash};
 ghost use Rattle.core_laws.specs.Refusal.{Refuses};
 ghost use Rattle.line_sums.specs.Images.{AreReadSums, ReadsSums};
 ghost use Rattle.line_sums.specs.Operands.{IsUnreadSums};
+ghost use Rattle.line_sums.specs.Unions.{AreNoSums, HasNoSums};
 
 use crate::images::read_sums;
 use line_sketches::{Sources, Unread};
@@ -21,7 +22,7 @@ fn sums_in<A: Allocator + Clone + Drop, R: Read>(
 ) -> Result<CompactTupleSketch<u64, A>, Unread>
     ensures reads { IfSome (R.remaining reader.old) (λ image. IfOk result (λ s. ReadsSums image (seed_hash seed) s)) }
     ensures seeded { IfOk result (λ s. s.seed_hash ≡ seed_hash seed) }
-    ensures refused { IfErr result IsUnreadSums }
+    ensures refused { IfErr result (IsUnreadSums (IfSome (R.remaining reader.old) (AreNoSums seed))) }
 {
     let mut image = Vec::new(alloc.clone()?);
     if let Err(error) = reader.read_to_end(&mut image) {
@@ -43,8 +44,8 @@ fn add<A: Allocator + Clone + Drop>(
     Ok(())
 }
 
-/// The sketches of sums in images of this seed, one for each image, each with its own reader. Refused with `InvalidData` for
-/// a source that is no image of sums of this seed, and with `OutOfMemory`. If a source fails, or can't be opened, its error
+/// The sketches of sums in images of this seed, one for each image, each with its own reader. Refused with `InvalidData`
+/// only if some source is no image of sums of this seed, and with `OutOfMemory`. If a source fails, or can't be opened, its error
 /// is returned.
 pub fn all_sums<A: Allocator + Clone + Drop, S: Sources>(
     alloc: A,
@@ -53,7 +54,7 @@ pub fn all_sums<A: Allocator + Clone + Drop, S: Sources>(
 ) -> Result<Vec<CompactTupleSketch<u64, A>, A>, Unread>
     ensures read { IfSome (S.texts images.old) (λ all. IfOk result (λ v. AreReadSums seed all v.items)) }
     ensures seeded { IfOk result (λ v. AllByRecursion (λ s. s.seed_hash ≡ seed_hash seed) v.items) }
-    ensures refused { IfErr result IsUnreadSums }
+    ensures refused { IfErr result (IsUnreadSums (IfSome (S.texts images.old) (HasNoSums seed))) }
 {
     let mut sketches = Vec::new(alloc.clone()?);
     'each_image: for _ in 0..u64::MAX {

@@ -1,11 +1,11 @@
 //! Sums of the lines of texts, each with its own reader.
-ghost use Rattle.std.specs.Prelude.{◌≡◌, ◌++◌, ℕ, List, [], IfOk, OnOk, IfSome, None};
+ghost use Rattle.std.specs.Prelude.{◌≡◌, ◌++◌, ℕ, List, [], IfOk, IfErr, OnOk, IfSome, None};
 ghost use Rattle.core_laws.specs.Settings.{settings_refusal};
 ghost use Rattle.core_laws.specs.declared.TheConstants.{MAX_THETA};
 ghost use Rattle.lines.specs.Lines.{lines_of, lines_of_all};
 ghost use Rattle.line_sums.specs.Sums.{HasAdded, sketch_of_sums};
 ghost use Rattle.line_sums.specs.Amounts.{added_by, AreNumbers};
-ghost use Rattle.line_sums.specs.Refusals.{RefusesSums};
+ghost use Rattle.line_sums.specs.Refusals.{LacksNumberIn, RefusesSums};
 
 use crate::addends::Amount;
 use crate::summing::{SumSketch, Unsummed, add_lines, finished, new_sketch};
@@ -28,6 +28,7 @@ fn add_source<A: Allocator + Clone, B: Allocator, R: Read>(
         → HasAdded hashing amount lg_k lines sketch.old.state
         → IfSome (R.remaining reader.old) (λ text.
         OnOk result (HasAdded hashing amount lg_k (lines ++ lines_of text) sketch.new.state)) }
+    ensures numbered { IfSome (R.remaining reader.old) (λ text. IfErr result (LacksNumberIn amount (lines_of text))) }
     ensures refused { RefusesSums amount result None }
 {
     let mut block = vec![in alloc; 0u8; BLOCK]?;
@@ -47,6 +48,7 @@ fn add_sources<A: Allocator + Clone, B: Allocator + Clone + Drop, S: Sources>(
         → HasAdded hashing amount lg_k [] sketch.old.state
         → IfSome (S.texts sources.old) (λ texts.
         OnOk result (HasAdded hashing amount lg_k (lines_of_all texts) sketch.new.state)) }
+    ensures numbered { IfSome (S.texts sources.old) (λ texts. IfErr result (LacksNumberIn amount (lines_of_all texts))) }
     ensures refused { RefusesSums amount result None }
 {
     for _ in 0..u64::MAX {
@@ -66,7 +68,7 @@ fn add_sources<A: Allocator + Clone, B: Allocator + Clone + Drop, S: Sources>(
 ///
 /// Refused with `InvalidArgument` only for an `lg_k` that isn't from 4 to 26 or a seed whose seed hash is 0, and with
 /// `OutOfMemory`. A line that would make a sum 2^64 or more, or that adds no number, is an error that has the line's number
-/// in its text. If a source fails, or can't be opened, its error is returned, and for a wrong `lg_k` or seed nothing is
+/// in its text; a line is reported to add no number only if some line adds none. If a source fails, or can't be opened, its error is returned, and for a wrong `lg_k` or seed nothing is
 /// read; no clause says so.
 pub fn sum_sources<A: Allocator + Clone + Drop, S: Sources>(
     alloc: A,
@@ -78,6 +80,7 @@ pub fn sum_sources<A: Allocator + Clone + Drop, S: Sources>(
     ensures sketch { IfSome (S.texts sources.old) (λ texts.
         IfOk result (λ s. s ≡ sketch_of_sums hashing (added_by amount) lg_k (lines_of_all texts))) }
     ensures numbers { IfSome (S.texts sources.old) (λ texts. IfOk result (λ _. AreNumbers amount (lines_of_all texts))) }
+    ensures numbered { IfSome (S.texts sources.old) (λ texts. IfErr result (LacksNumberIn amount (lines_of_all texts))) }
     ensures refused { RefusesSums amount result (settings_refusal lg_k MAX_THETA hashing.seed) }
 {
     let mut sketch = new_sketch(alloc.clone()?, hashing.seed, lg_k)?;

@@ -9,7 +9,7 @@ ghost use Rattle.lines.specs.declared.key.Hashing.{Hashing};
 ghost use Rattle.line_sums.specs.Amounts.{amount_in, IsOpenAddend};
 ghost use Rattle.line_sums.specs.Sums.{HasAdded, HasSummed, sketch_of_sums};
 ghost use Rattle.line_sums.specs.Reading.{HasTaken};
-ghost use Rattle.line_sums.specs.Refusals.{IsAddRefusal, IsUnsummed, LacksNumber, RefusesSums};
+ghost use Rattle.line_sums.specs.Refusals.{IsAddRefusal, IsLastingFailure, IsUnsummed, LacksNumber, LacksNumberIn, RefusesSums};
 ghost use Rattle.line_sums.specs.declared.addends.Amount.{Amount};
 
 use crate::addends::{Amount, OpenAddend};
@@ -92,6 +92,7 @@ fn not_added(error: Error, count: u64) -> Unsummed
     requires { IsAddRefusal error }
     ensures unsummed { (amount : Amount) → IsUnsummed amount None result }
     ensures number { (amount : Amount) (line : List ℕ) → LacksNumber amount line count result }
+    ensures retried { IsLastingFailure result }
 {
     if error.kind() == ErrorKind::Policy {
         Unsummed::PastGreatest(count.saturating_add(1))
@@ -115,6 +116,7 @@ fn add_line<A: Allocator + Clone>(
         → IsOpenAddend hashing amount line last.now
         → IfErr result (LacksNumber amount line count) }
     ensures refused { RefusesSums amount result None }
+    ensures retried { IfErr result IsLastingFailure }
 {
     let Some(value) = last.value(amount) else {
         return Err(Unsummed::NotANumber(count.saturating_add(1)));
@@ -135,11 +137,14 @@ fn take_block<A: Allocator + Clone>(
     count: u64,
     block: &[u8],
 ) -> Result<u64, Unsummed>
-    ensures taken { (lg_k : ℕ) (lines : List (List ℕ)) (front : List ℕ)
+    ensures taken { (front : List ℕ)
         → IsOpenAddend hashing amount front last.old
-        → HasAdded hashing amount lg_k lines sketch.old.state
-        → OnOk result (HasTaken hashing amount lg_k lines front block.now sketch.new.state last.new) }
+        → OnOk result (HasTaken hashing amount front block.now sketch.old.state sketch.new.state last.new) }
+    ensures numbered { (front more : List ℕ)
+        → IsOpenAddend hashing amount front last.old
+        → IfErr result (LacksNumberIn amount (lines_after front (block.now ++ more))) }
     ensures refused { RefusesSums amount result None }
+    ensures retried { IfErr result IsLastingFailure }
 {
     let mut rest = block;
     let mut count = count;
@@ -165,7 +170,11 @@ fn take_last<A: Allocator + Clone>(
         → IsOpenAddend hashing amount front last.now
         → HasAdded hashing amount lg_k lines sketch.old.state
         → OnOk result (HasAdded hashing amount lg_k (lines ++ lines_after front []) sketch.new.state) }
+    ensures numbered { (hashing : Hashing) (front : List ℕ)
+        → IsOpenAddend hashing amount front last.now
+        → IfErr result (LacksNumberIn amount (lines_after front [])) }
     ensures refused { RefusesSums amount result None }
+    ensures retried { IfErr result IsLastingFailure }
 {
     if !last.is_begun() {
         return Ok(());
@@ -177,7 +186,7 @@ fn take_last<A: Allocator + Clone>(
 /// should be the sketch's, which is not checked. An interrupted read is repeated.
 ///
 /// Refused only with `OutOfMemory`. A line that would make a sum 2^64 or more, or that adds no number, is an error that
-/// has its number. If the reader fails, its error is returned. After an error some first part of the lines is added; no
+/// has its number; a line is reported to add no number only if some line adds none. If the reader fails, its error is returned. After an error some first part of the lines is added; no
 /// clause says so.
 ///
 /// `block` has at least one byte, and its length is the most that one read gets. Its old contents are not used.
@@ -193,7 +202,9 @@ pub fn add_lines<A: Allocator + Clone, R: Read>(
         → HasAdded hashing amount lg_k lines sketch.old.state
         → IfSome (R.remaining reader.old) (λ text.
         OnOk result (HasAdded hashing amount lg_k (lines ++ lines_of text) sketch.new.state)) }
+    ensures numbered { IfSome (R.remaining reader.old) (λ text. IfErr result (LacksNumberIn amount (lines_of text))) }
     ensures refused { RefusesSums amount result None }
+    ensures retried { IfErr result IsLastingFailure }
 {
     let mut last = OpenAddend::new(hashing);
     let mut count = 0u64;

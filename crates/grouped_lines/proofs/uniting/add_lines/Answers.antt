@@ -61,6 +61,6 @@ returns-in-Err-add_line-clause-failed g c =
     let left = reader_remaining g.R.Read.remaining c.next_line.new.reader in
     let bytes = c.next_line.new.line.items in
     let line = c.without_lf-bytes.ensures ∙ ap without_lf c.as_slice.ensures.value in
-    c.failure_at.ensures c.args.seed (without_lf bytes) (option_map lines_of (g.R.Read.remaining c.args.reader))
+    c.failure_at.ensures.failed c.args.seed (without_lf bytes) (option_map lines_of (g.R.Read.remaining c.args.reader))
     (subst (λ (text : List ℕ). IsNotAdded c.args.seed text c.in-Err-add_line.reason) line c.in-Err-add_line.ensures.failed)
     (read_among (g.R.Read.remaining c.args.reader) known left bytes c.each_line.invariant.parted (subst (ReadsLine known left bytes) c.in-Ok-true.field-0-test c.in-Ok-true.ensures))

@@ -1,5 +1,5 @@
 use Rattle.std.proofs.Common.{◌≡◌, ℕ, List, [], ◌∷◌, ◌++◌, sym, subst}
-use Rattle.std.specs.Prelude.{IfErr}
+use Rattle.std.specs.Prelude.{IfErr, IfSome}
 use Rattle.std.specs.List.{AllByRecursion}
 use Rattle.std.proofs.lemmas.Result.{err_from_is_err_and}
 use Rattle.sketch_base.specs.Seed.{seed_hash}
@@ -8,11 +8,14 @@ use Rattle.core_slots.specs.declared.entry.TupleEntry.{TupleEntry}
 use Rattle.line_sketches.proofs.Turns.{if_any, if_some, continues_itself, continues_next, continues_end}
 use Rattle.line_sums.specs.Images.{AreReadSums, ReadsSums}
 use Rattle.line_sums.specs.Operands.{IsUnreadSums}
-use Rattle.line_sums.proofs.ReadOperands.{read_one_more, seeded_one_more, unread_memory}
+use Rattle.line_sums.specs.Unions.{AreNoSums, HasNoSums}
+use Rattle.line_sketches.proofs.Refused.{faulty_next}
+use Rattle.line_sums.proofs.ReadOperands.{read_one_more, seeded_one_more, unread_among, unread_memory}
 use Rattle.line_sums.proofs.operands.all_sums.Goals as goal
 
 pub each_image-init : goal.each_image-init
 each_image-init g c = record {
+  parted = continues_itself (g.S.Sources.texts c.args.images.now) (λ taken. Unit {0}) tt;
   read = continues_itself (g.S.Sources.texts c.args.images.now) (λ taken. AreReadSums c.args.seed taken c.new-sketches.result.items) (subst (λ (items : List (Compact (TupleEntry ℕ))). AreReadSums c.args.seed [] items) (sym c.new-sketches.ensures.items) tt);
   seeded = subst (λ (items : List (Compact (TupleEntry ℕ))). AllByRecursion (λ t. t.seed_hash ≡ seed_hash c.args.seed) items) (sym c.new-sketches.ensures.items) tt;
 }
@@ -23,6 +26,8 @@ each_image-preserved g c =
     let s = c.in_ok-sketch-in-Ok-Some.sketch in
     let old = c.each_image.sketches.items in
     record {
+      parted = continues_next g.S.Source.Read.remaining (λ taken. Unit {0}) (λ taken. Unit {0}) (g.S.Sources.texts c.args.images.now) (g.S.Sources.texts c.each_image.images) (g.S.Sources.texts c.next_source.new.self)
+          c.in-Ok-Some.field-0 c.in-Ok-Some.source c.each_image.invariant.parted c.in-Ok-Some.ensures c.in-Ok-Some.field-0-is (λ taken one. if_any (g.S.Source.Read.remaining c.in-Ok-Some.source));
       read = continues_next g.S.Source.Read.remaining (λ taken. AreReadSums seed taken old) (λ taken. AreReadSums seed taken c.add.new.sketches.items)
           (g.S.Sources.texts c.args.images.now) (g.S.Sources.texts c.each_image.images) (g.S.Sources.texts c.next_source.new.self) c.in-Ok-Some.field-0 c.in-Ok-Some.source c.each_image.invariant.read c.in-Ok-Some.ensures c.in-Ok-Some.field-0-is
           (λ taken so_far. if_some (g.S.Source.Read.remaining c.in-Ok-Some.source) (λ image. ReadsSums image (seed_hash seed) s) (λ image. AreReadSums seed (taken ++ image ∷ []) c.add.new.sketches.items)
@@ -43,7 +48,18 @@ returns-in_err-add-in-Ok-Some-clause-read g c =
 pub returns-in_err-add-in-Ok-Some-clause-refused : goal.returns-in_err-add-in-Ok-Some-clause-refused
 returns-in_err-add-in-Ok-Some-clause-refused g c =
     let p = err_from_is_err_and c.from_residual-in_err-add-in-Ok-Some.result c.from_residual-in_err-add-in-Ok-Some.ensures.1 in
-    subst (λ r. IfErr r IsUnreadSums) (sym p.1) (subst IsUnreadSums (sym p.2) (unread_memory c.in_err-add-in-Ok-Some.field-0.0 c.in_err-add-in-Ok-Some.ensures.refused))
+    let unread = IsUnreadSums (IfSome (g.S.Sources.texts c.args.images.now) (HasNoSums c.args.seed)) in
+    subst (λ r. IfErr r unread) (sym p.1) (subst unread (sym p.2) (unread_memory c.in_err-add-in-Ok-Some.field-0.0 c.in_err-add-in-Ok-Some.ensures.refused))
+
+pub returns-in_err-sketch-in-Ok-Some-clause-refused : goal.returns-in_err-sketch-in-Ok-Some-clause-refused
+returns-in_err-sketch-in-Ok-Some-clause-refused g c =
+    let texts = g.S.Sources.texts c.args.images.now in
+    let image = g.S.Source.Read.remaining c.in-Ok-Some.source in
+    let p = err_from_is_err_and c.from_residual-in_err-sketch-in-Ok-Some.result c.from_residual-in_err-sketch-in-Ok-Some.ensures.1 in
+    let unread = IsUnreadSums (IfSome texts (HasNoSums c.args.seed)) in
+    let step = faulty_next (AreNoSums c.args.seed) g.S.Source.Read.remaining texts (g.S.Sources.texts c.each_image.images) (g.S.Sources.texts c.next_source.new.self) c.in-Ok-Some.field-0 c.in-Ok-Some.source c.each_image.invariant.parted c.in-Ok-Some.ensures c.in-Ok-Some.field-0-is in
+    subst (λ r. IfErr r unread) (sym p.1) (subst unread (sym p.2)
+    (unread_among (IfSome image (AreNoSums c.args.seed)) (IfSome texts (HasNoSums c.args.seed)) c.in_err-sketch-in-Ok-Some.field-0.0 step c.in_err-sketch-in-Ok-Some.ensures.refused))
 
 pub returns-in-Err-clause-read : goal.returns-in-Err-clause-read
 returns-in-Err-clause-read g c = if_any (g.S.Sources.texts c.args.images.now)

@@ -6,6 +6,9 @@ use Rattle.line_sums.proofs.sources.add_sources.Given as goal
 
 -- the lines of the texts so far are added
 abbrev pub invariant-loop : goal.invariant-loop
-invariant-loop g l =
-    (lg_k : ℕ) → HasAdded l.hashing l.amount lg_k [] l.fn.sketch.state
-    → Continues (g.S.Sources.texts l.fn.sources) (g.S.Sources.texts l.sources) (λ taken. HasAdded l.hashing l.amount lg_k (lines_of_all taken) l.sketch.state)
+invariant-loop g l = record {
+  parted : Continues (g.S.Sources.texts l.fn.sources) (g.S.Sources.texts l.sources) (λ taken. Unit {0});
+  added :
+      (lg_k : ℕ) → HasAdded l.hashing l.amount lg_k [] l.fn.sketch.state
+      → Continues (g.S.Sources.texts l.fn.sources) (g.S.Sources.texts l.sources) (λ taken. HasAdded l.hashing l.amount lg_k (lines_of_all taken) l.sketch.state);
+}

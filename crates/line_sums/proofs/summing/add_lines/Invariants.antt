@@ -1,6 +1,5 @@
 use Rattle.std.proofs.Common.{ℕ, List, []}
 use Rattle.std.specs.Io.KnownBytes.{Consumes}
-use Rattle.line_sums.specs.Sums.{HasAdded}
 use Rattle.line_sums.specs.Reading.{HasTaken}
 use Rattle.line_sums.proofs.summing.add_lines.Given as goal
 
@@ -8,4 +7,4 @@ use Rattle.line_sums.proofs.summing.add_lines.Given as goal
 abbrev pub invariant-loop : goal.invariant-loop
 invariant-loop g l =
     (read : List ℕ) × Consumes (g.R.Read.remaining l.fn.reader) (g.R.Read.remaining l.reader) read
-    × ((lg_k : ℕ) (lines : List (List ℕ)) → HasAdded l.hashing l.amount lg_k lines l.fn.sketch.state → HasTaken l.hashing l.amount lg_k lines [] read l.sketch.state l.last)
+    × HasTaken l.hashing l.amount [] read l.fn.sketch.state l.sketch.state l.last

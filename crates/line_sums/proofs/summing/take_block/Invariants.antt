@@ -1,6 +1,5 @@
 use Rattle.std.proofs.Common.{◌≡◌, ℕ, List, ◌++◌, length}
 use Rattle.line_sums.specs.Amounts.{IsOpenAddend}
-use Rattle.line_sums.specs.Sums.{HasAdded}
 use Rattle.line_sums.specs.Reading.{HasTaken}
 use Rattle.line_sums.proofs.summing.take_block.Given as goal
 
@@ -8,7 +7,7 @@ use Rattle.line_sums.proofs.summing.take_block.Given as goal
 abbrev pub invariant-take_each : goal.invariant-take_each
 invariant-take_each g l =
     (taken : List ℕ) × (l.fn.block ≡ taken ++ l.rest)
-    × ((lg_k : ℕ) (lines : List (List ℕ)) (front : List ℕ) → IsOpenAddend l.hashing l.amount front l.fn.last → HasAdded l.hashing l.amount lg_k lines l.fn.sketch.state → HasTaken l.hashing l.amount lg_k lines front taken l.sketch.state l.last)
+    × ((front : List ℕ) → IsOpenAddend l.hashing l.amount front l.fn.last → HasTaken l.hashing l.amount front taken l.fn.sketch.state l.sketch.state l.last)
 
 abbrev pub decreases-take_each : goal.decreases-take_each
 decreases-take_each g l = length l.rest
