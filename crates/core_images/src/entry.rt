@@ -29,7 +29,7 @@ pub trait ImageEntry<A: Allocator>: SketchEntry {
         ensures refused { Refuses result None true };
 
     /// Reads `count` entries from the front of the bytes, in memory of the allocator. It refuses with `InvalidData`
-    /// exactly if the bytes don't begin with `count` entries, or with `OutOfMemory`. It allocates room for at most one
+    /// only if the bytes don't begin with `count` entries, or with `OutOfMemory`. It allocates room for at most one
     /// entry per eight bytes.
     fn read_each(alloc: A, bytes: &[u8], count: u32) -> Result<Vec<Self, A>, Error>
     where

@@ -56,12 +56,12 @@ pub trait TupleSummaryValue<A: Allocator> {
     }
 
     /// Reads the summary that a prefix of the bytes spells, and moves past that prefix. It refuses with `InvalidData`
-    /// exactly if no prefix spells one, or with `OutOfMemory`; afterwards the cursor is unspecified.
+    /// only if no prefix spells one, or with `OutOfMemory`; afterwards the cursor is unspecified.
     fn deserialize_value(alloc: &A, slice: &mut SketchSlice<'_>) -> Result<Self, Error>
         ensures { ReadsPrefix (λ x. λ rest. (first : List ℕ) × spells first x × (slice.old ≡ first ++ rest)) slice.new result };
 
     /// Reads `count` entries from the front of the bytes, each the eight bytes of its hash and then a summary, in memory of
-    /// the allocator. It refuses with `InvalidData` exactly if the bytes don't begin with `count` entries, or with
+    /// the allocator. It refuses with `InvalidData` only if the bytes don't begin with `count` entries, or with
     /// `OutOfMemory`. It allocates room for at most one entry per eight bytes.
     fn deserialize_entries(
         alloc: A,

@@ -20,7 +20,7 @@ use Rattle.line_sketches.specs.declared.header.Flaw.TheVariants.{Hexadecimal, Sh
 -- ---- the first bytes of bytes
 
 module _ (bytes : List ℕ) (n : ℕ) where
-  byte_at : (i : ℕ) → i < n → slice_index (take n bytes) i ≡ slice_index bytes i
+  pub byte_at : (i : ℕ) → i < n → slice_index (take n bytes) i ≡ slice_index bytes i
   byte_at i lt = get_or-take n bytes i 0 lt
 
   number_same : (k i : ℕ) → i + k ≤ n → number_at k (take n bytes) i ≡ number_at k bytes i
@@ -34,7 +34,7 @@ module _ (bytes : List ℕ) (n : ℕ) where
   bit_same : (bit : ℕ) → 8 ≤ n → has_bit (take n bytes) 5 bit ≡ has_bit bytes 5 bit
   bit_same bit le = ap (λ (b : ℕ). not (eqb (bit_and b bit) 0)) (byte_at 5 (omega arith))
 
-  begins_same : (longs version : ℕ) → 8 ≤ n → n ≤ length bytes → Begins bytes longs version 3 → Begins (take n bytes) longs version 3
+  pub begins_same : {family : ℕ} (longs version : ℕ) → 8 ≤ n → n ≤ length bytes → Begins bytes longs version family → Begins (take n bytes) longs version family
   begins_same longs version le within b = record {
     whole = let taken = length-take-le n bytes within in omega arith;
     longs_are = byte_at 0 (omega arith) ∙ b.longs_are;
@@ -44,38 +44,127 @@ module _ (bytes : List ℕ) (n : ℕ) where
     family_is = byte_at 2 (omega arith) ∙ b.family_is;
   }
 
--- ---- the hashes of an image end where its preamble says
+-- ---- the entries of an image end where its preamble says
 
-hashes_long : (xs text : List ℕ) → SpellsEach SpellsHash text xs → length text ≡ 8 * length xs
-hashes_long [] text s = let none = ap length s in omega arith
-hashes_long (x ∷ xs) text s =
-    let joined = ap length s.2 ∙ length-append s.0 s.1 in
-    let first = s.3.0 in
-    let others = hashes_long xs s.1 s.4 in
-    omega arith
+module _ {X : Type 0} (key : X → ℕ) (Spells : List ℕ → X → Type 0) (size : ℕ) (sized : (text : List ℕ) (x : X) → Spells text x → length text ≡ size) where
+  entries_long : (xs : List X) (text : List ℕ) → SpellsEach Spells text xs → length text ≡ length xs * size
+  entries_long [] text s = let none : length text ≡ 0 = ap length s in omega (arith, none)
+  entries_long (x ∷ xs) text s =
+      let joined = ap length s.2 ∙ length-append s.0 s.1 in
+      let first = sized s.0 x s.3 in
+      let others = entries_long xs s.1 s.4 in
+      omega (arith, joined, first, others)
 
+  module _ (bytes : List ℕ) (h : ℕ) (p : Preamble) (xs : List X) (has : HasEntries key Spells bytes p h xs) where
+    text_long : length has.content.text ≡ p.count * size
+    text_long = entries_long xs has.content.text has.content.spelled ∙ ap (λ (n : ℕ). n * size) has.content.counted
+
+    room_for : p.start + p.count * size ≤ length bytes
+    room_for =
+        let parts = ap length has.content.there ∙ length-append has.content.text has.content.after in
+        let rest = length-drop p.start bytes in
+        omega (arith, parts, rest, text_long, has.whole)
+
+    has_alone : HasEntries key Spells (take (p.start + p.count * size) bytes) p h xs
+    has_alone =
+        let text = has.content.text in
+        let taken = length-take-le (p.start + p.count * size) bytes room_for in
+        let long : p.count * size ≤ length text = omega (arith, text_long) in
+        let short : length text ≤ p.count * size = omega (arith, text_long) in
+        let same : drop p.start (take (p.start + p.count * size) bytes) ≡ text ++ [] =
+        drop-take p.start (p.count * size) bytes ∙ ap (take (p.count * size)) has.content.there ∙ take-append-le (p.count * size) text has.content.after long ∙ take_all (p.count * size) text short ∙ sym (append-nil text) in record {
+          whole = omega (arith, taken);
+          content = record { text = text; after = []; there = same; spelled = has.content.spelled; counted = has.content.counted };
+          lawful = has.lawful;
+        }
+
+pub second_false : (t : Bool) → (t && false) ≡ false
+second_false true = refl
+second_false false = refl
+
+seed_same : (t : Bool) (a h : ℕ) → a ≡ h → (t && not (eqb a h)) ≡ false
+seed_same t a h same = ap (λ (b : Bool). t && not b) (eq-eqb a h same) ∙ second_false t
+
+-- what the preamble of version 3 says of bytes that are read: where their entries begin and how many there are, with which the
+-- image ends that alone is read as the same
+pub record IsAlone {X : Type 0} (key : X → ℕ) (Spells : List ℕ → X → Type 0) (size : ℕ) (bytes : List ℕ) (longs h : ℕ) (s : Compact X) : Type 0 where
+  pub start : ℕ
+  pub count : ℕ
+  pub start_is : cond (is_empty bytes) 8 (8 * longs) ≡ start
+  pub count_is : cond (is_empty bytes) 0 (cond (eqb longs 1) 1 (count_at bytes)) ≡ count
+  pub long : 8 ≤ start
+  pub within : start + count * size ≤ length bytes
+  pub alone : ReadsFlagged key Spells (take (start + count * size) bytes) longs h s
+  pub counted : length s.entries ≡ count
+  pub seed : (not (is_empty bytes) && not (eqb (seed_hash_at bytes) h)) ≡ false
+
+module _ {X : Type 0} (key : X → ℕ) (Spells : List ℕ → X → Type 0) (size : ℕ) (sized : (text : List ℕ) (x : X) → Spells text x → length text ≡ size) (bytes : List ℕ) (longs h : ℕ) where
+  abbrev Keeps : Preamble → (xs : List X) → (front : List ℕ) → Preamble → Type 0
+  Keeps p xs front r = HasEntries key Spells front r h xs → ReadsFlagged key Spells front longs h (state_after_preamble r h xs)
+
+  filled_alone : (p : Preamble) (xs : List X) → HasEntries key Spells bytes p h xs → is_empty bytes ≡ false → seed_hash_at bytes ≡ h → 8 ≤ p.start → 8 * longs ≡ p.start → cond (eqb longs 1) 1 (count_at bytes) ≡ p.count →
+      Keeps p xs (take (p.start + p.count * size) bytes) p → IsAlone key Spells size bytes longs h (state_after_preamble p h xs)
+  filled_alone p xs f e same long start count keeps = record {
+    start = p.start;
+    count = p.count;
+    start_is = ap (λ (b : Bool). cond b 8 (8 * longs)) e ∙ start;
+    count_is = ap (λ (b : Bool). cond b 0 (cond (eqb longs 1) 1 (count_at bytes))) e ∙ count;
+    long = long;
+    within = room_for key Spells size sized bytes h p xs f;
+    alone = keeps (has_alone key Spells size sized bytes h p xs f);
+    counted = f.content.counted;
+    seed = seed_same (not (is_empty bytes)) (seed_hash_at bytes) h same;
+  }
+
+  pub flagged_alone : {s : Compact X} → 8 ≤ length bytes → ReadsFlagged key Spells bytes longs h s → IsAlone key Spells size bytes longs h s
+  flagged_alone whole (empty_image e) = record {
+    start = 8;
+    count = 0;
+    start_is = ap (λ (b : Bool). cond b 8 (8 * longs)) e;
+    count_is = ap (λ (b : Bool). cond b 0 (cond (eqb longs 1) 1 (count_at bytes))) e;
+    long = omega arith;
+    within = omega (arith, whole);
+    alone = empty_image (bit_same bytes (8 + 0 * size) 4 (omega arith) ∙ e);
+    counted = refl;
+    seed = ap (λ (b : Bool). not b && not (eqb (seed_hash_at bytes) h)) e;
+  }
+  flagged_alone whole (single_image xs e same l f) =
+      let p = announced 1 1 MAX_THETA (is_ordered bytes) in
+      let n = p.start + p.count * size in
+      let le : 8 ≤ n = omega arith in
+      let front = take n bytes in
+      let q : announced 1 1 MAX_THETA (is_ordered front) ≡ p = ap (λ (o : Bool). announced 1 1 MAX_THETA o) (bit_same bytes n 16 le) in
+      filled_alone p xs f e same (omega arith) (ap (λ (m : ℕ). 8 * m) l) (ap (λ (m : ℕ). cond (eqb m 1) 1 (count_at bytes)) l)
+      (subst (Keeps p xs front) q (λ has. single_image xs (bit_same bytes n 4 le ∙ e) (number_same bytes n 2 6 (omega arith) ∙ same) l has))
+  flagged_alone whole (exact_image xs e same l f) =
+      let p = announced 2 (count_at bytes) MAX_THETA (is_ordered bytes) in
+      let n = p.start + p.count * size in
+      let le : 8 ≤ n = omega arith in
+      let counted : 8 + 4 ≤ n = omega arith in
+      let front = take n bytes in
+      let q : announced 2 (count_at front) MAX_THETA (is_ordered front) ≡ p = λ i. announced 2 (number_same bytes n 4 8 counted i) MAX_THETA (bit_same bytes n 16 le i) in
+      filled_alone p xs f e same (omega arith) (ap (λ (m : ℕ). 8 * m) l) (ap (λ (m : ℕ). cond (eqb m 1) 1 (count_at bytes)) l)
+      (subst (Keeps p xs front) q (λ has. exact_image xs (bit_same bytes n 4 le ∙ e) (number_same bytes n 2 6 (omega arith) ∙ same) l has))
+  flagged_alone whole (estimating_image xs e same l f) =
+      let p = announced 3 (count_at bytes) (theta_at bytes) (is_ordered bytes) in
+      let n = p.start + p.count * size in
+      let le : 8 ≤ n = omega arith in
+      let counted : 8 + 4 ≤ n = omega arith in
+      let bounded : 16 + 8 ≤ n = omega arith in
+      let front = take n bytes in
+      let q : announced 3 (count_at front) (theta_at front) (is_ordered front) ≡ p = λ i. announced 3 (number_same bytes n 4 8 counted i) (number_same bytes n 8 16 bounded i) (bit_same bytes n 16 le i) in
+      filled_alone p xs f e same (omega arith) (ap (λ (m : ℕ). 8 * m) l) (ap (λ (m : ℕ). cond (eqb m 1) 1 (count_at bytes)) l)
+      (subst (Keeps p xs front) q (λ has. estimating_image xs (bit_same bytes n 4 le ∙ e) (number_same bytes n 2 6 (omega arith) ∙ same) l has))
+
+-- .. for hashes
 module _ (bytes : List ℕ) (h : ℕ) (p : Preamble) (xs : List ℕ) (has : HasEntries hash_key SpellsHash bytes p h xs) where
-  text_long : length has.content.text ≡ 8 * p.count
-  text_long = hashes_long xs has.content.text has.content.spelled ∙ ap (λ (n : ℕ). 8 * n) has.content.counted
-
   enough : p.start + 8 * p.count ≤ length bytes
-  enough =
-      let parts = ap length has.content.there ∙ length-append has.content.text has.content.after in
-      let rest = length-drop p.start bytes in
-      omega (arith, parts, rest, text_long, has.whole)
+  enough = let room = room_for hash_key SpellsHash 8 (λ text x s. s.0) bytes h p xs has in omega (arith, room)
 
   alone_has : HasEntries hash_key SpellsHash (take (p.start + 8 * p.count) bytes) p h xs
   alone_has =
-      let text = has.content.text in
-      let taken = length-take-le (p.start + 8 * p.count) bytes enough in
-      let long : 8 * p.count ≤ length text = omega (arith, text_long) in
-      let short : length text ≤ 8 * p.count = omega (arith, text_long) in
-      let same : drop p.start (take (p.start + 8 * p.count) bytes) ≡ text ++ [] =
-      drop-take p.start (8 * p.count) bytes ∙ ap (take (8 * p.count)) has.content.there ∙ take-append-le (8 * p.count) text has.content.after long ∙ take_all (8 * p.count) text short ∙ sym (append-nil text) in record {
-        whole = omega (arith, taken);
-        content = record { text = text; after = []; there = same; spelled = has.content.spelled; counted = has.content.counted };
-        lawful = has.lawful;
-      }
+      let same : p.count * 8 ≡ 8 * p.count = omega arith in
+      subst (λ (n : ℕ). HasEntries hash_key SpellsHash (take (p.start + n) bytes) p h xs) same (has_alone hash_key SpellsHash 8 (λ text x s. s.0) bytes h p xs has)
 
 -- ---- what a preamble says, by its fields
 
@@ -96,13 +185,13 @@ record IsSaid (bytes : List ℕ) (start count : ℕ) : Type 0 where
   pub image : image_length bytes ≡ Some (start + 8 * count)
   pub entries : entry_count bytes ≡ count
 
-at_most : (a b : ℕ) → a ≤ b → leb a b ≡ true
+pub at_most : (a b : ℕ) → a ≤ b → leb a b ≡ true
 at_most a b le = grind (arith, nat_tests)
 
-not_below : (a b : ℕ) → b ≤ a → ltb a b ≡ false
+pub not_below : (a b : ℕ) → b ≤ a → ltb a b ≡ false
 not_below a b le = grind (arith, nat_tests)
 
-both_true : (a b : Bool) → a ≡ true → b ≡ true → (a && b) ≡ true
+pub both_true : (a b : Bool) → a ≡ true → b ≡ true → (a && b) ≡ true
 both_true a b p q = rw (p, q) refl
 
 -- behind a whole preamble that says so there is a count; an image of version 2 with more than a single long has as many longs as it says
@@ -144,13 +233,6 @@ pub record IsRead (bytes : List ℕ) (h : ℕ) (s : Compact ℕ) : Type 0 where
   pub version : has_version bytes ≡ true
   pub seed : (checks_seed bytes && not (eqb (seed_hash_at bytes) h)) ≡ false
 
-second_false : (t : Bool) → (t && false) ≡ false
-second_false true = refl
-second_false false = refl
-
-seed_same : (t : Bool) (a h : ℕ) → a ≡ h → (t && not (eqb a h)) ≡ false
-seed_same t a h same = ap (λ (b : Bool). t && not b) (eq-eqb a h same) ∙ second_false t
-
 unchecked : (t u : Bool) → t ≡ false → (t && u) ≡ false
 unchecked t u off = ap (λ (b : Bool). b && u) off
 
@@ -168,55 +250,18 @@ module _ (bytes : List ℕ) (h : ℕ) (nonzero : 0 < h) where
   }
 
   -- version 3
-  filled_read : (longs : ℕ) (p : Preamble) (xs : List ℕ) → Begins bytes longs 3 3 → IsSaid bytes p.start p.count → seed_hash_at bytes ≡ h → HasEntries hash_key SpellsHash bytes p h xs → 8 ≤ p.start + 8 * p.count →
-      ReadsFlagged hash_key SpellsHash (take (p.start + 8 * p.count) bytes) longs h (state_after_preamble p h xs) → IsRead bytes h (state_after_preamble p h xs)
-  filled_read longs p xs b said same f long reads =
-      let s = state_after_preamble p h xs in
-      let n = p.start + 8 * p.count in
-      read_so s longs 3 p.start p.count b (omega arith) (omega arith) said (enough bytes h p xs f)
-      (version_3 longs s (begins_same bytes n longs 3 long (enough bytes h p xs f) b) reads) f.content.counted (seed_same (checks_seed bytes) (seed_hash_at bytes) h same)
-
   flagged_read : {s : Compact ℕ} (longs : ℕ) → Begins bytes longs 3 3 → ReadsFlagged hash_key SpellsHash bytes longs h s → IsRead bytes h s
-  flagged_read longs b (empty_image e) =
-      let said = said_of bytes longs 3 true b (omega arith) (omega arith) e b.whole in
-      let le : 8 ≤ 8 = omega arith in
-      let front = begins_same bytes 8 longs 3 le b.whole b in
-      read_so (empty_compact h) longs 3 8 0 b (omega arith) (omega arith) said b.whole (version_3 longs (empty_compact h) front (empty_image (bit_same bytes 8 4 le ∙ e))) refl
-      (unchecked (checks_seed bytes) (not (eqb (seed_hash_at bytes) h)) (λ i. checks_by (b.version_is i) (e i) (is_vacant_image bytes)))
-  flagged_read longs b (single_image xs e same l f) =
-      let p = announced 1 1 MAX_THETA (is_ordered bytes) in
-      let le : 8 ≤ 16 = omega arith in
-      let said = said_of bytes 1 3 false (subst (λ (n : ℕ). Begins bytes n 3 3) l b) (omega arith) (omega arith) e b.whole in
-      let front = take 16 bytes in
-      let q : announced 1 1 MAX_THETA (is_ordered front) ≡ p = ap (λ (o : Bool). announced 1 1 MAX_THETA o) (bit_same bytes 16 16 le) in
-      filled_read longs p xs b said same f le
-      (subst (λ (r : Preamble). HasEntries hash_key SpellsHash front r h xs → ReadsFlagged hash_key SpellsHash front longs h (state_after_preamble r h xs)) q
-      (λ has. single_image xs (bit_same bytes 16 4 le ∙ e) (number_same bytes 16 2 6 (omega arith) ∙ same) l has) (alone_has bytes h p xs f))
-  flagged_read longs b (exact_image xs e same l f) =
-      let p = announced 2 (count_at bytes) MAX_THETA (is_ordered bytes) in
-      let n = 16 + 8 * count_at bytes in
-      let le : 8 ≤ n = omega arith in
-      let counted : 8 + 4 ≤ n = omega arith in
-      let seeded : 6 + 2 ≤ n = omega arith in
-      let said = said_of bytes 2 3 false (subst (λ (n : ℕ). Begins bytes n 3 3) l b) (omega arith) (omega arith) e f.whole in
-      let front = take n bytes in
-      let q : announced 2 (count_at front) MAX_THETA (is_ordered front) ≡ p = λ i. announced 2 (number_same bytes n 4 8 counted i) MAX_THETA (bit_same bytes n 16 le i) in
-      filled_read longs p xs b said same f le
-      (subst (λ (r : Preamble). HasEntries hash_key SpellsHash front r h xs → ReadsFlagged hash_key SpellsHash front longs h (state_after_preamble r h xs)) q
-      (λ has. exact_image xs (bit_same bytes n 4 le ∙ e) (number_same bytes n 2 6 seeded ∙ same) l has) (alone_has bytes h p xs f))
-  flagged_read longs b (estimating_image xs e same l f) =
-      let p = announced 3 (count_at bytes) (theta_at bytes) (is_ordered bytes) in
-      let n = 24 + 8 * count_at bytes in
-      let le : 8 ≤ n = omega arith in
-      let counted : 8 + 4 ≤ n = omega arith in
-      let seeded : 6 + 2 ≤ n = omega arith in
-      let bounded : 16 + 8 ≤ n = omega arith in
-      let said = said_of bytes 3 3 false (subst (λ (n : ℕ). Begins bytes n 3 3) l b) (omega arith) (omega arith) e f.whole in
-      let front = take n bytes in
-      let q : announced 3 (count_at front) (theta_at front) (is_ordered front) ≡ p = λ i. announced 3 (number_same bytes n 4 8 counted i) (number_same bytes n 8 16 bounded i) (bit_same bytes n 16 le i) in
-      filled_read longs p xs b said same f le
-      (subst (λ (r : Preamble). HasEntries hash_key SpellsHash front r h xs → ReadsFlagged hash_key SpellsHash front longs h (state_after_preamble r h xs)) q
-      (λ has. estimating_image xs (bit_same bytes n 4 le ∙ e) (number_same bytes n 2 6 seeded ∙ same) l has) (alone_has bytes h p xs f))
+  flagged_read {s} longs b r =
+      let a = flagged_alone hash_key SpellsHash 8 (λ text x spelled. spelled.0) bytes longs h b.whole r in
+      let same : a.count * 8 ≡ 8 * a.count = omega arith in
+      let within : a.start + 8 * a.count ≤ length bytes = omega (arith, a.within) in
+      let long : 8 ≤ a.start + 8 * a.count = omega (arith, a.long) in
+      let alone : ReadsFlagged hash_key SpellsHash (take (a.start + 8 * a.count) bytes) longs h s = subst (λ (n : ℕ). ReadsFlagged hash_key SpellsHash (take (a.start + n) bytes) longs h s) same a.alone in
+      let room : start_by 3 longs (is_empty bytes) ≤ length bytes = omega (arith, a.start_is, a.within) in
+      let said : IsSaid bytes a.start a.count =
+      subst (λ (n : ℕ). IsSaid bytes n a.count) a.start_is (subst (λ (n : ℕ). IsSaid bytes (start_by 3 longs (is_empty bytes)) n) a.count_is (said_of bytes longs 3 (is_empty bytes) b (omega arith) (omega arith) refl room)) in
+      read_so s longs 3 a.start a.count b (omega arith) (omega arith) said within (version_3 longs s (begins_same bytes (a.start + 8 * a.count) longs 3 long within b) alone) a.counted
+      ((λ i. checks_by (b.version_is i) (is_empty bytes) (is_vacant_image bytes) && not (eqb (seed_hash_at bytes) h)) ∙ a.seed)
 
 -- versions 1 and 2
 
@@ -315,10 +360,10 @@ read_facts bytes h s reads = spelled_read bytes h reads.seeded reads.spelled
 
 -- ---- flaws
 
-past : (t : Bool) (x y : Flaw) → t ≡ false → MayBeRead y → MayBeRead (cond t x y)
+pub past : (t : Bool) (x y : Flaw) → t ≡ false → MayBeRead y → MayBeRead (cond t x y)
 past t x y off may = subst (λ (b : Bool). MayBeRead (cond b x y)) (sym off) may
 
-either_way : (t : Bool) (x y : Flaw) → MayBeRead x → MayBeRead y → MayBeRead (cond t x y)
+pub either_way : (t : Bool) (x y : Flaw) → MayBeRead x → MayBeRead y → MayBeRead (cond t x y)
 either_way true x y a b = a
 either_way false x y a b = b
 
@@ -329,14 +374,14 @@ no_digit c low =
     let d : leb 65 c ≡ false = grind (arith, nat_tests) in
     rw (a, b, d) refl
 
-no_digits : (n : ℕ) (bytes : List ℕ) → 8 ≤ length bytes → slice_index bytes 0 ≤ 3 → are_digits (take (suc n) bytes) ≡ false
+pub no_digits : (n : ℕ) (bytes : List ℕ) → 8 ≤ length bytes → slice_index bytes 0 ≤ 3 → are_digits (take (suc n) bytes) ≡ false
 no_digits n [] whole low = absurd (omega arith)
 no_digits n (c ∷ bytes) whole low = ap (λ (b : Bool). b && are_digits (take n bytes)) (no_digit c low)
 
-not_other : (a b : ℕ) → a ≡ b → not (eqb a b) ≡ false
+pub not_other : (a b : ℕ) → a ≡ b → not (eqb a b) ≡ false
 not_other a b same = ap not (eq-eqb a b same)
 
-size_flaw : (size present : ℕ) → size ≤ present → MayBeRead (flaw_by_length (Some size) present)
+pub size_flaw : (size present : ℕ) → size ≤ present → MayBeRead (flaw_by_length (Some size) present)
 size_flaw size present le = past (ltb present size) Cut (cond (ltb size present) Longer Damaged) (not_below present size le) (either_way (ltb size present) Longer Damaged tt tt)
 
 pub flaw_read : (bytes : List ℕ) (h : ℕ) (s : Compact ℕ) → Reads bytes h s → MayBeRead (flaw_of h bytes)

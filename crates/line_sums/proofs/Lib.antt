@@ -8,3 +8,4 @@ pub mod Joined
 pub mod UnitedSums
 pub mod RefusedSums
 pub mod ReadOperands
+pub mod SumsPreambles

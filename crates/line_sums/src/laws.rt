@@ -1,8 +1,13 @@
-//! Laws of sums of lines: the contract of a function that does nothing, so that a caller can use it.
-ghost use Rattle.std.specs.Prelude.{◌≡◌, ◌≤◌, ℕ, List, true};
+//! Laws of sums of lines and of their images, each the contract of a function that does nothing, so that a caller can use it.
+ghost use Rattle.std.specs.Prelude.{◌≡◌, ◌≤◌, ℕ, List, true, length};
+ghost use Rattle.core_compact.specs.CompactState.{Compact};
 ghost use Rattle.core_laws.specs.declared.TheConstants.{MAX_THETA};
+ghost use Rattle.core_slots.specs.declared.entry.TupleEntry.{TupleEntry};
+ghost use Rattle.line_sketches.specs.Header.{MayBeRead};
+ghost use Rattle.line_sketches.specs.SumsHeader.{sums_count, sums_flaw_of};
 ghost use Rattle.lines.specs.declared.key.Hashing.{Hashing};
 ghost use Rattle.totals.specs.Totals.{sum_of, total_of};
+ghost use Rattle.line_sums.specs.Images.{AreReadableSums, BeginsWithSums, ReadsSums};
 ghost use Rattle.line_sums.specs.Sums.{sum_below, sketch_of_sums};
 
 /// The sums that a sketch retains have together what all lines add whose hashes are from 1 to below its theta. So an exact
@@ -16,4 +21,20 @@ pub fn sums_are_of_lines_below_theta()
         → lg_k ≤ 26
         → (total_of (sketch_of_sums hashing amount lg_k lines)).exact ≡ true
         → (total_of (sketch_of_sums hashing amount lg_k lines)).total ≡ sum_below hashing amount MAX_THETA lines }
+{}
+
+/// Bytes that are read as a sketch of sums begin with an image of `line_sketches::sums_length` bytes, which alone is read as
+/// the same sketch.
+pub fn sums_image_begins()
+    ensures { (bytes : List ℕ) (h : ℕ) (s : Compact (TupleEntry ℕ)) → ReadsSums bytes h s → BeginsWithSums bytes h s }
+{}
+
+/// Bytes that are read as a sketch of sums have `line_sketches::sums_count` sums.
+pub fn sums_counted()
+    ensures { (bytes : List ℕ) (h : ℕ) (s : Compact (TupleEntry ℕ)) → ReadsSums bytes h s → sums_count bytes ≡ length s.entries }
+{}
+
+/// Bytes that are read as a sketch of sums under a seed hash have no flaw but `BigEndian`, `Longer` or `Damaged`.
+pub fn flawed_is_no_sums()
+    ensures { (bytes : List ℕ) (h : ℕ) → AreReadableSums bytes h → MayBeRead (sums_flaw_of h bytes) }
 {}
