@@ -1,6 +1,6 @@
 //! The images in files: a file is one image and nothing else, or each of its lines is one in hexadecimal, with blanks
 //! allowed around it.
-ghost use Rattle.std.specs.Prelude.{◌≡◌, ◌≢◌, true, false,  Some, None, IfOk, IfSome, OnOk};
+ghost use Rattle.std.specs.Prelude.{◌≡◌, ◌≢◌, true, false, Some, None, IfOk, IfSome, OnOk};
 ghost use Rattle.std.specs.IoError.{error_kind};
 ghost use Rattle.std.specs.declared.io.ErrorKind.TheVariants.{InvalidData};
 ghost use Rattle.std.specs.Io.Buffered.{reader_remaining};
