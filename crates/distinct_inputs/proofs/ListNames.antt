@@ -1,5 +1,5 @@
 -- Names in lists, cut at NUL bytes.
-use Rattle.std.proofs.Common.{map, absurd, ◌≡◌, ℕ, suc, false, eqb, List, [], ◌∷◌, ◌++◌, length, refl, sym, ap, ◌∙◌, append-nil, arith}
+use Rattle.std.proofs.Common.{map, ◌≡◌, ℕ, suc, false, eqb, List, [], ◌∷◌, ◌++◌, length, refl, sym, ap, ◌∙◌, append-nil, arith}
 use Rattle.std.specs.List.{onto_first}
 use Rattle.std.proofs.lemmas.Bool.{ne_eqb}
 use Rattle.lines.specs.Lines.{Lacks}

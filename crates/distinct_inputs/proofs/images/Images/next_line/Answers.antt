@@ -1,4 +1,4 @@
-use Rattle.std.proofs.Common.{ℕ, List, Option, refl, Bool, Some, Vec, Global, sym, subst, ◌∙◌}
+use Rattle.std.proofs.Common.{ℕ, List, Option, refl, tt, Bool, Some, Vec, Global, sym, subst, ◌∙◌}
 use Rattle.line_sketches.specs.Sources.{GivesNext}
 use Rattle.distinct_inputs.specs.Images.{remaining_images, IsAlone, GivesOrCloses}
 use Rattle.distinct_inputs.proofs.ImageLines.{known_same, none_of, gives_first, opened, at_last}
@@ -14,7 +14,7 @@ pub returns-in-Some : goal.returns-in-Some
 returns-in-Some g c = record {
   next = subst (λ (n : Option (List (List ℕ))). GivesNext (λ (v : Vec ℕ Global). Some v.items) (remaining_images g.S.Source.Read.remaining g.S.Sources.texts c.args.self.now) n (Some c.in-Some.image)) (sym c.in_ok-note.ensures.left)
       (gives_first (remaining_images g.S.Source.Read.remaining g.S.Sources.texts c.args.self.now) (remaining_images g.S.Source.Read.remaining g.S.Sources.texts c.files.self) (remaining_images g.S.Source.Read.remaining g.S.Sources.texts c.line_of_open.new.self) (λ v. v.items) c.line_of_open.new.self.«open» c.in_ok-image.field-0 c.in-Some.image c.files.invariant.same c.in_ok-image.ensures.next c.in-Some.is);
-  alone = subst (λ (sums : Bool). IsAlone sums c.in-Some.image.items) (c.in_ok-image.ensures.sums ∙ c.files.invariant.sums) c.in_ok-note.ensures.alone;
+  alone = subst (λ (sums : Bool). IsAlone sums c.in-Some.image.items) (c.in_ok-image.ensures.sums ∙ c.files.invariant.sums) (subst (λ (bytes : List ℕ). IsAlone c.line_of_open.new.self.sums bytes) c.as_slice.ensures.value c.in_ok-note.ensures.alone);
 }
 
 pub returns-in_default-2 : goal.returns-in_default-2
@@ -25,6 +25,7 @@ returns-in_default-2 g c =
     record {
       next = at_last (remaining_images g.S.Source.Read.remaining g.S.Sources.texts c.args.self.now) now _ c.line_of_open.new.self.hex c.line_of_open.new.self.line g.S.Source.Read.remaining c.line_of_open.new.self.«open» _ _ _ c.files.invariant.same (c.in_ok-image.ensures.hex ∙ c.files.invariant.hex) closes
           (subst (GivesNext g.S.Source.Read.remaining _ _) (none_of c.in_ok-input.field-0 c.in_default-2.not-Some) c.in_ok-input.ensures.next);
+      alone = tt;
     }
 
 pub files-preserved : goal.files-preserved
