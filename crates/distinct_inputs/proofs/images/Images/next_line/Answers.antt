@@ -1,4 +1,4 @@
-use Rattle.std.proofs.Common.{ℕ, List, Option, refl, tt, Bool, Some, Vec, Global, sym, subst, ◌∙◌}
+use Rattle.std.proofs.Common.{ℕ, List, Option, refl, Bool, Some, Vec, Global, sym, subst, ◌∙◌}
 use Rattle.line_sketches.specs.Sources.{GivesNext}
 use Rattle.distinct_inputs.specs.Images.{remaining_images, IsAlone, GivesOrCloses}
 use Rattle.distinct_inputs.proofs.ImageLines.{known_same, none_of, gives_first, opened, at_last}
