@@ -161,7 +161,7 @@ distinct lines it has, exactly or estimated, how many hashes it retains, and its
 ";
 
 const VISITS: &str = "\
-distinct visits [OPTION..] [FILE..]: how many distinct lines occur once in the files together, twice,
+distinct visits [OPTION..] [FILE..]: how many distinct lines occur once in all files, twice,
 3 to 4 times, 5 to 8 times and so on: a line for each range up to the most frequent line retained
 
   --lg-k N            keep 2^N hashes, N from 4 to 26; default 12. The numbers are exact up to 2^N

@@ -101,6 +101,11 @@ gives_first None now new items reader o v same gives is = tt
 gives_first (Some images) now new items reader o v same gives is =
     subst (λ (n : Option (List (List ℕ))). GivesNext (λ w. Some (items w)) n new (Some v)) same (subst (GivesOrCloses items now new reader) is gives)
 
+-- a source with the same text is the first, too
+pub same_first : {V C : Type 0} (a : V → Option (List ℕ)) (b : C → Option (List ℕ)) (old new : Option (List (List ℕ))) (v : V) (c : C) → b c ≡ a v → GivesNext a old new (Some v) → GivesNext b old new (Some c)
+same_first a b None new v c same first = tt
+same_first a b (Some texts) new v c same first = record { text = first.text; texts_left = first.texts_left; parted = first.parted; has = same ∙ first.has; leaves = first.leaves }
+
 -- a new reader has all of its source
 reader_known : {R A : Type 0} (remaining : R → Option (List ℕ)) (reader : BufReader R A) (source : R) (text : List ℕ) → reader_inner reader ≡ source → reader_buffer reader ≡ [] → reader_capacity reader ≡ 8192 → remaining source ≡ Some text →
     reader_remaining remaining reader ≡ Some text
