@@ -2,7 +2,6 @@ use Rattle.std.proofs.Common.{Bool, sym, subst}
 use Rattle.std.specs.Prelude.{IfSome, IfOk}
 use Rattle.core_laws.specs.declared.TheConstants.{MAX_THETA}
 use Rattle.core_laws.specs.Settings.{settings_refusal}
-use Rattle.line_sketches.specs.Unions.{IsUnitedImage, UnitesTexts}
 use Rattle.line_sums.specs.Unions.{IsUnitedSumsImage, UnitesSumsOfTexts}
 use Rattle.distinct_commands.specs.Answers.{IsUnionOf}
 use Rattle.distinct_inputs.specs.Images.{remaining_images}
@@ -22,10 +21,3 @@ returns-then-options-clause-refused g c =
     let options = c.args.options.now in
     sums_refused c.unite_sums.result options.sums c.args.seed (settings_refusal options.lg_k MAX_THETA c.args.seed) (remaining_images g.S.Source.Read.remaining g.S.Sources.texts c.args.images.now)
     c.if-options.true (sized options.lg_k c.args.seed options.low options.high c.requires.seeded) c.unite_sums.ensures.refused
-
-pub returns-clause-united : goal.returns-clause-united
-returns-clause-united g c =
-    let left = remaining_images g.S.Source.Read.remaining g.S.Sources.texts c.args.images.now in
-    let options = c.args.options.now in
-    subst (λ (sums : Bool). IfSome left (λ all. IfOk c.unite_images.result (λ u. IsUnionOf sums c.args.seed options.lg_k all u.image.items))) (sym c.if-options.false)
-    (both_known left c.unite_images.result (λ all u. IsUnitedImage c.args.seed options.lg_k all u.image.items) (λ all u. UnitesTexts c.args.seed options.lg_k all u.image.items) c.unite_images.ensures.united c.unite_images.ensures.apart)
