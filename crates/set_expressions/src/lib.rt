@@ -17,8 +17,6 @@ mod expressions;
 mod family;
 pub mod laws;
 mod sums;
-#[cfg(test)]
-mod tests;
 mod theta;
 
 pub use expression_text::{MAX_LEVELS, Operator, Parsed, Reason, Step, SyntaxFault, parse};
