@@ -1,10 +1,10 @@
 -- Steps run on a stack, and when an evaluation is refused.
-use Rattle.std.specs.Prelude.{ℕ, ◌≡◌, ◌==◌, ◌||◌, ◌&&◌, ◌⊎◌, min, Bool, true, false, is_none, is_some, if◌then◌else◌, List, [], ◌∷◌, map, slice_get, Option, Some, None, option_map}
+use Rattle.std.specs.Prelude.{ℕ, ◌≡◌, ◌==◌, ◌||◌, ◌&&◌, ◌⊎◌, min, Bool, true, is_none, is_some, if◌then◌else◌, List, [], ◌∷◌, map, slice_get, Option, Some, None, option_map}
 use Rattle.std.specs.List.{AllByRecursion, list_all}
 use Rattle.sketch_base.specs.Seed.{seed_hash}
 use Rattle.sketch_base.specs.declared.error.ErrorKind.{ErrorKind}
 use Rattle.sketch_base.specs.declared.error.ErrorKind.TheVariants.{InvalidArgument, OutOfMemory, Policy}
-use Rattle.core_compact.specs.CompactState.{Compact, compact_value, empty_compact, IsAnswer}
+use Rattle.core_compact.specs.CompactState.{Compact, compact_value, IsAnswer}
 use Rattle.core_laws.specs.Entries.{hash_key}
 use Rattle.core_laws.specs.Maps.{below}
 use Rattle.core_laws.specs.Settings.{settings_refusal}
@@ -66,6 +66,14 @@ values_onto rules read (s ∷ sketches) stack = values_onto rules read sketches 
 -- each sketch is the ordered sketch of its value, of this seed hash
 abbrev pub AreOrderedSketches : {S X : Type 0} → Rules X → (read : S → Compact X) → (seed_hash : ℕ) → List S → Type 0
 AreOrderedSketches rules read h sketches = AllByRecursion (λ s. IsAnswer rules.key (compact_value rules.key (read s)) h true (read s)) sketches
+
+-- both sketches are of a seed
+abbrev pub AreOfSeed : {X : Type 0} → (seed : ℕ) → (a b : Compact X) → Type 0
+AreOfSeed seed a b = (a.seed_hash ≡ seed_hash seed) × (b.seed_hash ≡ seed_hash seed)
+
+-- a sketch of a seed is the ordered one of two others combined
+abbrev pub IsCombination : {X : Type 0} → Rules X → (lg_k seed : ℕ) → Operator → (a b combined : Compact X) → Type 0
+IsCombination rules lg_k seed operator a b combined = IsAnswer rules.key (applied rules lg_k operator (compact_value rules.key a) (compact_value rules.key b)) (seed_hash seed) true combined
 
 -- whether a sketch is empty or of this seed hash
 abbrev pub is_accepted : {X : Type 0} → (seed_hash : ℕ) → Compact X → Bool

@@ -6,8 +6,7 @@ ghost use Rattle.core_laws.specs.Refusal.{Refuses};
 ghost use Rattle.core_laws.specs.Settings.{settings_refusal};
 ghost use Rattle.core_laws.specs.declared.TheConstants.{MAX_THETA};
 ghost use Rattle.core_operators.specs.Intersection.{seed_refusal};
-ghost use Rattle.set_expressions.specs.Values.{applied};
-ghost use Rattle.set_expressions.specs.Running.{is_accepted, value_by, IsMergeError, MayRefuseTwo};
+ghost use Rattle.set_expressions.specs.Running.{is_accepted, value_by, AreOfSeed, IsCombination, IsMergeError, MayRefuseTwo};
 
 use expression_text::Operator;
 use sketch_base::Error;
@@ -58,12 +57,8 @@ pub trait SetFamily<A: Allocator, B: Allocator> {
         second: &Self::Sketch,
     ) -> Result<Self::Sketch, Error>
         requires settings { settings_refusal lg_k MAX_THETA seed ≡ None }
-        requires first_seed { (listed first.now).seed_hash ≡ seed_hash seed }
-        requires second_seed { (listed second.now).seed_hash ≡ seed_hash seed }
-        ensures value { IfOk result (λ s.
-            IsAnswer rules.key
-            (applied rules lg_k operator (value_by rules listed first.now) (value_by rules listed second.now))
-            (seed_hash seed) true (listed s)) }
+        requires seeds { AreOfSeed seed (listed first.now) (listed second.now) }
+        ensures value { IfOk result (λ s. IsCombination rules lg_k seed operator (listed first.now) (listed second.now) (listed s)) }
         ensures refused { IfErr result (IsMergeError (
             MayRefuseTwo rules operator (value_by rules listed first.now) (value_by rules listed second.now))) };
 

@@ -13,8 +13,8 @@ ghost use Rattle.core_slots.specs.Entry.{tuple_key};
 ghost use Rattle.core_slots.specs.declared.entry.TupleEntry.{TupleEntry};
 ghost use Rattle.expression_text.specs.declared.operator.Operator.TheVariants.{Union, Intersection, Difference};
 ghost use Rattle.set_expressions.specs.Sums.{IsRefusedMeet, IsRefusedJoin, HasPartOf};
-ghost use Rattle.set_expressions.specs.Values.{applied, sum_added, sum_rules};
-ghost use Rattle.set_expressions.specs.Running.{is_accepted, AreRefused, IsMergeError, MayRefuseTwo};
+ghost use Rattle.set_expressions.specs.Values.{sum_added, sum_rules};
+ghost use Rattle.set_expressions.specs.Running.{is_accepted, AreOfSeed, AreRefused, IsCombination, IsMergeError, MayRefuseTwo};
 
 use crate::family::SetFamily;
 use core_policies::DefaultUnionPolicy;
@@ -200,11 +200,8 @@ fn union_of<A: Allocator + Clone + Drop>(
     second: &CompactTupleSketch<u64, A>,
 ) -> Result<CompactTupleSketch<u64, A>, Error>
     requires settings { settings_refusal lg_k MAX_THETA seed ≡ None }
-    requires first_seed { first.now.seed_hash ≡ seed_hash seed }
-    requires second_seed { second.now.seed_hash ≡ seed_hash seed }
-    ensures value { IfOk result (IsAnswer tuple_key
-        (applied sum_rules lg_k Union (compact_value tuple_key first.now) (compact_value tuple_key second.now))
-        (seed_hash seed) true) }
+    requires seeds { AreOfSeed seed first.now second.now }
+    ensures value { IfOk result (IsCombination sum_rules lg_k seed Union first.now second.now) }
     ensures refused { IfErr result (IsMergeError (
         AreRefused sum_rules (compact_value tuple_key first.now) (compact_value tuple_key second.now))) }
 {
@@ -223,11 +220,8 @@ fn intersection_of<A: Allocator + Clone + Drop>(
     second: &CompactTupleSketch<u64, A>,
 ) -> Result<CompactTupleSketch<u64, A>, Error>
     requires seeded { seed_refusal seed ≡ None }
-    requires first_seed { first.now.seed_hash ≡ seed_hash seed }
-    requires second_seed { second.now.seed_hash ≡ seed_hash seed }
-    ensures value { IfOk result (IsAnswer tuple_key
-        (applied sum_rules 0 Intersection (compact_value tuple_key first.now) (compact_value tuple_key second.now))
-        (seed_hash seed) true) }
+    requires seeds { AreOfSeed seed first.now second.now }
+    ensures value { IfOk result (IsCombination sum_rules 0 seed Intersection first.now second.now) }
     ensures refused { IfErr result (IsMergeError (
         AreRefused sum_rules (compact_value tuple_key first.now) (compact_value tuple_key second.now))) }
 {
@@ -246,11 +240,8 @@ fn difference_of<A: Allocator + Clone + Drop>(
     second: &CompactTupleSketch<u64, A>,
 ) -> Result<CompactTupleSketch<u64, A>, Error>
     requires seeded { seed_refusal seed ≡ None }
-    requires first_seed { first.now.seed_hash ≡ seed_hash seed }
-    requires second_seed { second.now.seed_hash ≡ seed_hash seed }
-    ensures value { IfOk result (IsAnswer tuple_key
-        (applied sum_rules 0 Difference (compact_value tuple_key first.now) (compact_value tuple_key second.now))
-        (seed_hash seed) true) }
+    requires seeds { AreOfSeed seed first.now second.now }
+    ensures value { IfOk result (IsCombination sum_rules 0 seed Difference first.now second.now) }
     ensures refused { Refuses result None true }
 {
     let difference = TupleANotB::with_seed(seed)?;
@@ -267,11 +258,8 @@ fn combined<A: Allocator + Clone + Drop>(
     second: &CompactTupleSketch<u64, A>,
 ) -> Result<CompactTupleSketch<u64, A>, Error>
     requires settings { settings_refusal lg_k MAX_THETA seed ≡ None }
-    requires first_seed { first.now.seed_hash ≡ seed_hash seed }
-    requires second_seed { second.now.seed_hash ≡ seed_hash seed }
-    ensures value { IfOk result (IsAnswer tuple_key
-        (applied sum_rules lg_k operator (compact_value tuple_key first.now) (compact_value tuple_key second.now))
-        (seed_hash seed) true) }
+    requires seeds { AreOfSeed seed first.now second.now }
+    ensures value { IfOk result (IsCombination sum_rules lg_k seed operator first.now second.now) }
     ensures refused { IfErr result (IsMergeError (
         MayRefuseTwo sum_rules operator (compact_value tuple_key first.now) (compact_value tuple_key second.now))) }
 {

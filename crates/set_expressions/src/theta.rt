@@ -11,8 +11,8 @@ ghost use Rattle.core_laws.specs.declared.TheConstants.{MAX_THETA};
 ghost use Rattle.core_operators.specs.Intersection.{seed_refusal};
 ghost use Rattle.core_operators.specs.Union.{empty_union, union_value};
 ghost use Rattle.expression_text.specs.declared.operator.Operator.TheVariants.{Union, Intersection, Difference};
-ghost use Rattle.set_expressions.specs.Values.{applied, hash_rules};
-ghost use Rattle.set_expressions.specs.Running.{is_accepted};
+ghost use Rattle.set_expressions.specs.Values.{hash_rules};
+ghost use Rattle.set_expressions.specs.Running.{is_accepted, AreOfSeed, IsCombination};
 
 use crate::family::SetFamily;
 use core_slots::ThetaEntry;
@@ -155,10 +155,8 @@ fn union_of<A: Allocator + Clone + Drop>(
     second: &CompactThetaSketch<A>,
 ) -> Result<CompactThetaSketch<A>, Error>
     requires settings { settings_refusal lg_k MAX_THETA seed ≡ None }
-    requires first_seed { first.now.seed_hash ≡ seed_hash seed }
-    requires second_seed { second.now.seed_hash ≡ seed_hash seed }
-    ensures value { IfOk result (
-        IsAnswer hash_key (applied hash_rules lg_k Union (compact_value hash_key first.now) (compact_value hash_key second.now)) (seed_hash seed) true) }
+    requires seeds { AreOfSeed seed first.now second.now }
+    ensures value { IfOk result (IsCombination hash_rules lg_k seed Union first.now second.now) }
     ensures refused { Refuses result None true }
 {
     let mut union = new_union(alloc, seed, lg_k)?;
@@ -175,10 +173,8 @@ fn intersection_of<A: Allocator + Clone + Drop>(
     second: &CompactThetaSketch<A>,
 ) -> Result<CompactThetaSketch<A>, Error>
     requires seeded { seed_refusal seed ≡ None }
-    requires first_seed { first.now.seed_hash ≡ seed_hash seed }
-    requires second_seed { second.now.seed_hash ≡ seed_hash seed }
-    ensures value { IfOk result (
-        IsAnswer hash_key (applied hash_rules 0 Intersection (compact_value hash_key first.now) (compact_value hash_key second.now)) (seed_hash seed) true) }
+    requires seeds { AreOfSeed seed first.now second.now }
+    ensures value { IfOk result (IsCombination hash_rules 0 seed Intersection first.now second.now) }
     ensures refused { Refuses result None true }
 {
     let mut intersection = ThetaIntersection::with_seed(alloc, seed)?;
@@ -195,10 +191,8 @@ fn difference_of<A: Allocator + Clone + Drop>(
     second: &CompactThetaSketch<A>,
 ) -> Result<CompactThetaSketch<A>, Error>
     requires seeded { seed_refusal seed ≡ None }
-    requires first_seed { first.now.seed_hash ≡ seed_hash seed }
-    requires second_seed { second.now.seed_hash ≡ seed_hash seed }
-    ensures value { IfOk result (IsAnswer hash_key
-        (applied hash_rules 0 Difference (compact_value hash_key first.now) (compact_value hash_key second.now)) (seed_hash seed) true) }
+    requires seeds { AreOfSeed seed first.now second.now }
+    ensures value { IfOk result (IsCombination hash_rules 0 seed Difference first.now second.now) }
     ensures refused { Refuses result None true }
 {
     let difference = ThetaANotB::with_seed(seed)?;
@@ -215,10 +209,8 @@ fn combined<A: Allocator + Clone + Drop>(
     second: &CompactThetaSketch<A>,
 ) -> Result<CompactThetaSketch<A>, Error>
     requires settings { settings_refusal lg_k MAX_THETA seed ≡ None }
-    requires first_seed { first.now.seed_hash ≡ seed_hash seed }
-    requires second_seed { second.now.seed_hash ≡ seed_hash seed }
-    ensures value { IfOk result (IsAnswer hash_key
-        (applied hash_rules lg_k operator (compact_value hash_key first.now) (compact_value hash_key second.now)) (seed_hash seed) true) }
+    requires seeds { AreOfSeed seed first.now second.now }
+    ensures value { IfOk result (IsCombination hash_rules lg_k seed operator first.now second.now) }
     ensures refused { Refuses result None true }
 {
     match operator {

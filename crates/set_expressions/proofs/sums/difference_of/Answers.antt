@@ -19,4 +19,4 @@ returns-clause-value g c =
     let b = shows tuple_key two in
     same_answers tuple_key c.compute.result (minus tuple_key hash_key a (shown_value hash_key b b.hashes)) (minus tuple_key tuple_key (compact_value tuple_key first) (compact_value tuple_key second)) (shows tuple_key one).seed_hash (seed_hash c.args.seed)
     (difference_value tuple_key a b first second c.as_view.ensures.value c.as_view-2.ensures.shows)
-    (ap (λ s. s.seed_hash) c.as_view.ensures.shows ∙ c.requires.first_seed) c.compute.ensures.ok
+    (ap (λ s. s.seed_hash) c.as_view.ensures.shows ∙ c.requires.seeds.0) c.compute.ensures.ok
