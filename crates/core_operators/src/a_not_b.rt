@@ -9,13 +9,13 @@ ghost use Rattle.core_laws.specs.Operators.{lacking};
 ghost use Rattle.core_laws.specs.Refusal.{Refuses};
 ghost use Rattle.core_laws.specs.Shown.{IsShown};
 
-use crate::ascending::{ascending_entries, ascending_hashes};
+use crate::ascending::{ascending_entries, narrowed_hashes};
 use crate::scan::ascending_difference;
 use crate::share::cloned_entries;
 use crate::view::{EntrySketch, KeySketch, ThetaFamilySketchMetadata};
 use core_compact::{CompactSketchState, is_answer_ordered};
 use core_laws::{MAX_THETA, SketchEntry};
-use core_slots::{Count, ThetaEntry};
+use core_slots::{Count, SlotEntry, ThetaEntry};
 use core_table::sorted_by_hash;
 use sketch_base::{Error, ErrorKind};
 use std::alloc::{AllocError, Allocator};
@@ -201,8 +201,68 @@ where
             return kept_beside(alloc, a, a_ordered, hashes, theta, compared);
         }
     }
-    let keys = ascending_hashes(alloc.clone()?, b, theta, b_ordered, b_count)?;
-    kept_beside(alloc, a, a_ordered, &keys, theta, compared)
+    kept_without(alloc, a, a_ordered, b, b_ordered, b_count, theta, compared)
+}
+
+/// The same for any `b`, by a copy of its hashes below theta. Those that `a` surely lacks may be left out of the copy. If
+/// `a` isn't known to be ordered, clones of its entries below theta are sorted first.
+fn kept_without<S: EntrySketch, T: KeySketch, A: Allocator + Clone>(
+    alloc: A,
+    a: S,
+    a_ordered: bool,
+    b: T,
+    b_ordered: bool,
+    b_count: usize,
+    theta: u64,
+    compared: &mut Count,
+) -> Result<Vec<S::Entry, A>, Error>
+where
+    S::Entry: Clone,
+    requires clones_equal { ClonesEqual S.Entry.is_clone }
+    requires a_in_order { (S.shown a).ordered ≡ a_ordered }
+    requires b_in_order { (T.shown b).ordered ≡ b_ordered }
+    requires b_sound { IsShown (T.shown b) }
+    ensures listed { map S.Entry.key (S.listing a) ≡ (S.shown a).hashes }
+    ensures ok { IfOk result (λ v. v.items ≡ lacking S.Entry.key hash_key (below S.Entry.key (map_of S.Entry.key (S.listing a)) theta) (T.shown b).hashes) }
+    ensures refused { Refuses result None true }
+    ensures grows { compared.old ≤ compared.new }
+    ensures compared { compared.new ≤ compared.old + length (S.listing a) + length (T.shown b).hashes }
+{
+    let list = a.entries();
+    if a_ordered {
+        if let Some(entries) = list.as_slice() {
+            return lacking_hashes(alloc, entries, b, b_ordered, b_count, theta, compared);
+        }
+    }
+    let entries = ascending_entries(alloc.clone()?, a, theta, a_ordered, 0)?;
+    lacking_hashes(alloc, &entries, b, b_ordered, b_count, theta, compared)
+}
+
+/// Clones of ascending entries below theta whose hashes `b` lacks, by a copy of these hashes. Those that the entries
+/// surely lack may be left out of the copy.
+///
+/// Counts each comparison of two hashes in `compared`, but those of the sort: at most as many as there are entries and
+/// hashes.
+fn lacking_hashes<E: SlotEntry + Clone, T: KeySketch, A: Allocator + Clone>(
+    alloc: A,
+    entries: &[E],
+    b: T,
+    b_ordered: bool,
+    b_count: usize,
+    theta: u64,
+    compared: &mut Count,
+) -> Result<Vec<E, A>, Error>
+    requires clones_equal { ClonesEqual E.is_clone }
+    requires ascending { IsAscending E.key entries.now }
+    requires b_in_order { (T.shown b).ordered ≡ b_ordered }
+    requires b_sound { IsShown (T.shown b) }
+    ensures ok { IfOk result (λ v. v.items ≡ lacking E.key hash_key (below E.key entries.now theta) (T.shown b).hashes) }
+    ensures refused { Refuses result None true }
+    ensures grows { compared.old ≤ compared.new }
+    ensures compared { compared.new ≤ compared.old + length entries.now + length (T.shown b).hashes }
+{
+    let keys = narrowed_hashes(alloc.clone()?, b, entries, theta, b_ordered, b_count)?;
+    ascending_difference(alloc, entries, &keys, theta, compared)
 }
 
 /// Clones of the entries of `a` below theta whose hashes ascending `others` lack, in ascending order. If `a` isn't known

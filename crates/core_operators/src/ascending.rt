@@ -1,10 +1,12 @@
 //! The entries and the hashes of a sketch below a theta, in ascending order.
-ghost use Rattle.std.specs.Prelude.{◌≡◌, true, None, map, IfOk};
+ghost use Rattle.std.specs.Prelude.{◌≡◌, ◌<◌, true, None, map, IfOk};
 ghost use Rattle.core_laws.specs.Maps.{IsAscending, below, map_of};
 ghost use Rattle.core_laws.specs.Entries.{hash_key, ClonesEqual};
 ghost use Rattle.core_laws.specs.Refusal.{Refuses};
 ghost use Rattle.core_laws.specs.Shown.{IsShown};
+ghost use Rattle.core_operators.specs.Filter.{admitted, IsNarrowed};
 
+use crate::filter::{HashFilter, is_filtered};
 use crate::iter::EntryIter;
 use crate::merge::is_past;
 use crate::view::{EntrySketch, KeySketch};
@@ -68,6 +70,57 @@ where
     Ok(sorted_by_hash(entries))
 }
 
+/// Clones of the entries that a filter admits of those that an iterator has left, in its order. The vector has room for
+/// `room` entries from the start.
+fn entries_admitted<E: SlotEntry + Clone, A: Allocator, B: Allocator>(
+    alloc: A,
+    items: EntryIter<'_, E>,
+    filter: &HashFilter<B>,
+    room: usize,
+) -> Result<Vec<E, A>, Error>
+    requires clones_equal { ClonesEqual E.is_clone }
+    requires small { filter.now.shift < 64 }
+    ensures ok { IfOk result (λ v. v.items ≡ admitted E.key filter.now.words.items filter.now.shift items.entry.rest) }
+    ensures refused { Refuses result None true }
+{
+    let mut entries = Vec::with_capacity(alloc, room)?;
+    'clone_each: for entry in items {
+        if filter.admits(entry.hash()) {
+            entries.push(entry.clone()?)?;
+        }
+    }
+    Ok(entries)
+}
+
+/// Clones of the entries of a sketch below theta, in ascending order. If the sketch isn't known to be ordered, they are
+/// sorted, without some whose hashes `others` lack, if a filter makes that quicker. The vector has room for `room`
+/// entries from the start. Refused with `OutOfMemory` alone.
+pub(crate) fn narrowed_entries<S: EntrySketch, F: SketchEntry, A: Allocator + Clone>(
+    alloc: A,
+    sketch: S,
+    others: &[F],
+    theta: u64,
+    ordered: bool,
+    room: usize,
+) -> Result<Vec<S::Entry, A>, Error>
+where
+    S::Entry: Clone,
+    requires clones_equal { ClonesEqual S.Entry.is_clone }
+    requires in_order { (S.shown sketch).ordered ≡ ordered }
+    ensures ok { IfOk result (λ v. IsNarrowed S.Entry.key F.key others.now theta (S.listing sketch) v.items) }
+    ensures listed { map S.Entry.key (S.listing sketch) ≡ (S.shown sketch).hashes }
+    ensures sound { IsShown (S.shown sketch) }
+    ensures refused { Refuses result None true }
+{
+    let items = sketch.entries();
+    if ordered || !is_filtered(room, others.len()) {
+        return ascending_entries(alloc, sketch, theta, ordered, room);
+    }
+    let filter = HashFilter::of(alloc.clone()?, others, theta)?;
+    let entries = entries_admitted(alloc, items, &filter, room)?;
+    Ok(sorted_by_hash(entries))
+}
+
 /// The hashes below theta that an iterator has left, in its order. The vector has room for `room` hashes from the start.
 /// If the hashes ascend, it stops at the first that is not below theta.
 fn hashes_below<T: KeySketch, A: Allocator>(
@@ -112,5 +165,50 @@ pub(crate) fn ascending_hashes<T: KeySketch, A: Allocator>(
     if ordered {
         return Ok(keys);
     }
+    Ok(sorted_by_hash(keys))
+}
+
+/// The hashes that a filter admits of those that an iterator has left, in its order. The vector has room for `room`
+/// hashes from the start.
+fn hashes_admitted<T: KeySketch, A: Allocator, B: Allocator>(
+    alloc: A,
+    hashes: T::Hashes,
+    filter: &HashFilter<B>,
+    room: usize,
+) -> Result<Vec<ThetaEntry, A>, Error>
+    requires small { filter.now.shift < 64 }
+    ensures ok { IfOk result (λ v. v.items ≡ admitted hash_key filter.now.words.items filter.now.shift (T.rest hashes)) }
+    ensures refused { Refuses result None true }
+{
+    let mut keys = Vec::with_capacity(alloc, room)?;
+    'collect_each: for hash in hashes {
+        if filter.admits(hash) {
+            keys.push(ThetaEntry::of_hash(hash))?;
+        }
+    }
+    Ok(keys)
+}
+
+/// The hashes of a sketch below theta, in ascending order. If the sketch isn't known to be ordered, they are sorted,
+/// without some that `others` lack, if a filter makes that quicker. The vector has room for `room` hashes from the
+/// start. Refused with `OutOfMemory` alone.
+pub(crate) fn narrowed_hashes<T: KeySketch, F: SketchEntry, A: Allocator + Clone>(
+    alloc: A,
+    sketch: T,
+    others: &[F],
+    theta: u64,
+    ordered: bool,
+    room: usize,
+) -> Result<Vec<ThetaEntry, A>, Error>
+    requires { (T.shown sketch).ordered ≡ ordered }
+    ensures ok { IfOk result (λ v. IsNarrowed hash_key F.key others.now theta (T.shown sketch).hashes v.items) }
+    ensures refused { Refuses result None true }
+{
+    if ordered || !is_filtered(room, others.len()) {
+        return ascending_hashes(alloc, sketch, theta, ordered, room);
+    }
+    let filter = HashFilter::of(alloc.clone()?, others, theta)?;
+    let hashes = sketch.hashes();
+    let keys = hashes_admitted::<T, A, A>(alloc, hashes, &filter, room)?;
     Ok(sorted_by_hash(keys))
 }

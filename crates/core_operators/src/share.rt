@@ -9,7 +9,7 @@ ghost use Rattle.core_operators.specs.Union.{IsMergeRefusal};
 ghost use Rattle.core_operators.specs.Intersection.{AreSharedFolds, IsSharedFold, IsSharedPair, IsPairRefusal, IsFoundRefusal};
 ghost use Rattle.core_operators.specs.Search.{AreFewLookUps, is_much_longer};
 
-use crate::ascending::ascending_entries;
+use crate::ascending::narrowed_entries;
 use crate::iter::EntryIter;
 use crate::scan::number_if;
 use crate::search::{found_by_halves, is_much_longer};
@@ -254,7 +254,7 @@ where
         }
     }
     let spare = content.allocator().clone()?;
-    let arriving = ascending_entries(spare, sketch, theta, ordered, count)?;
+    let arriving = narrowed_entries(spare, sketch, content, theta, ordered, count)?;
     let alloc = content.allocator().clone()?;
     shared_entries(alloc, content, &arriving, policy, theta, compared)
 }
