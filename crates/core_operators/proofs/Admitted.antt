@@ -1,10 +1,10 @@
 -- Filters: bits that are set, what they admit, and lists from which a filter has dropped entries.
-use Rattle.std.proofs.Common.{◌≡◌, ℕ, suc, ◌+◌, ◌*◌, ◌/◌, ◌%◌, ◌^◌, ◌<◌, ◌≢◌, true, false, cond, ltb, eqb, List, [], ◌∷◌, length, get_or, set, take, refl, sym, ap, ◌∙◌, subst, arith}
+use Rattle.std.proofs.Common.{◌≡◌, ℕ, suc, ◌+◌, ◌*◌, ◌/◌, ◌%◌, ◌^◌, ◌<◌, ◌≢◌, Bool, true, false, cond, ltb, eqb, List, [], ◌∷◌, ◌++◌, length, get_or, set, take, refl, sym, ap, ◌∙◌, subst, arith}
 use Rattle.std.specs.Int.{bit_at, w64}
 use Rattle.std.specs.Prelude.{bit_or, ◌==◌}
 use Rattle.std.specs.List.{AllByRecursion}
 use Rattle.std.proofs.lemmas.Bool.Decides.{nat_tests}
-use Rattle.std.proofs.lemmas.List.{get_or-set_same, get_or-set_other}
+use Rattle.std.proofs.lemmas.List.{get_or-set_same, get_or-set_other, take_more_set, take-set, append-nil}
 use Rattle.std.proofs.lemmas.Nat.Bits.{bit_at_set_same, bit_at_set_other}
 use Rattle.std.proofs.Math.Seq.{take-suc}
 use Rattle.core_laws.specs.Maps.{IsAscending, below, map_of}
@@ -64,6 +64,11 @@ module _ {X : Type 0} (key : X → ℕ) (theta shift : ℕ) where
         | true ↦ λ e. (all.0 (grind (arith, nat_tests)), admits_below words xs all.1)
         | false ↦ λ e. admits_below words xs all.1
       ]) refl
+
+-- a hash is written behind the first ones, and counts if it is admitted
+pub put_one : (found : List ℕ) (count more hash : ℕ) (passes : Bool) → count < length found → more ≡ cond passes 1 0 → take (count + more) (set found count hash) ≡ take count found ++ cond passes (hash ∷ []) []
+put_one found count more hash true room more_is = rw more_is (take_more_set found count hash room)
+put_one found count more hash false room more_is = rw more_is (ap (λ (n : ℕ). take n (set found count hash)) (omega arith) ∙ take-set found count hash ∙ sym (append-nil (take count found)))
 
 -- lists from which a test of keys has dropped entries
 module _ {X Y : Type 0} (key : X → ℕ) (other : Y → ℕ) (others : List Y) (theta : ℕ) (listing items : List X) where

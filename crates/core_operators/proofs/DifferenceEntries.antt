@@ -234,6 +234,14 @@ pub was_found : {R Y : Type 0} (at : R → Y) (r : Option R) (b : Bool) → is_s
 was_found at None b tested e o is = absurd (let f : false ≡ not false = rw e at tested in cc)
 was_found at (Some r) b tested e o is = ap is_none (sym is)
 
+-- an entry is written behind the first ones, and counts or doesn't
+module _ {X R : Type 0} (at : R → X) (r : R) (kept : List R) (count : ℕ) where
+  pub written : count < length kept → map at (take (count + 1) (set kept count r)) ≡ map at (take count kept) ++ at r ∷ []
+  written room = ap (map at) (take_more_set kept count r room) ∙ map-append at (take count kept) (r ∷ [])
+
+  pub stays : map at (take (count + 0) (set kept count r)) ≡ map at (take count kept)
+  stays = ap (λ (n : ℕ). map at (take n (set kept count r))) (omega arith) ∙ ap (map at) (take-set kept count r)
+
 module _ {X Y : Type 0} (key : X → ℕ) (other : Y → ℕ) (theta : ℕ) where
   none_mapped : (o : Option Y) → is_none o ≡ is_none (option_map other o)
   none_mapped None = refl
@@ -303,12 +311,6 @@ module _ {X Y : Type 0} (key : X → ℕ) (other : Y → ℕ) (theta : ℕ) wher
     abbrev after : (more passed others_passed : ℕ) → Type 0
     after more passed others_passed = IsSifting whole (drop passed (at r ∷ left)) (drop others_passed (y ∷ others)) (map at (take more (set kept count r)))
 
-    written : map at (take (count + 1) (set kept count r)) ≡ map at (take count kept) ++ at r ∷ []
-    written = ap (map at) (take_more_set kept count r room) ∙ map-append at (take count kept) (r ∷ [])
-
-    stays : map at (take (count + 0) (set kept count r)) ≡ map at (take count kept)
-    stays = ap (λ (n : ℕ). map at (take n (set kept count r))) (omega arith) ∙ ap (map at) (take-set kept count r)
-
     pub sifted_more : after (count + cond (ltb (key (at r)) (other y)) 1 0) (cond (leb (key (at r)) (other y)) 1 0) (cond (leb (other y) (key (at r))) 1 0)
     sifted_more =
         elim (cases_lt (key (at r)) (other y)) [
@@ -316,18 +318,18 @@ module _ {X Y : Type 0} (key : X → ℕ) (other : Y → ℕ) (theta : ℕ) wher
               let a : ltb (key (at r)) (other y) ≡ true = grind (arith, nat_tests) in
               let b : leb (key (at r)) (other y) ≡ true = grind (arith, nat_tests) in
               let c : leb (other y) (key (at r)) ≡ false = grind (arith, nat_tests) in
-              rw (a, b, c, written) (sifted_less whole (at r) left y others (map at (take count kept)) lt was less)
+              rw (a, b, c, written at r kept count room) (sifted_less whole (at r) left y others (map at (take count kept)) lt was less)
           | inr no_less ↦ elim (cases_lt (other y) (key (at r))) [
             | inl greater ↦
                 let a : ltb (key (at r)) (other y) ≡ false = grind (arith, nat_tests) in
                 let b : leb (key (at r)) (other y) ≡ false = grind (arith, nat_tests) in
                 let c : leb (other y) (key (at r)) ≡ true = grind (arith, nat_tests) in
-                rw (a, b, c, stays) (sifted_greater whole (at r) left y others (map at (take count kept)) lt was greater)
+                rw (a, b, c, stays at r kept count) (sifted_greater whole (at r) left y others (map at (take count kept)) lt was greater)
             | inr no_greater ↦
                 let a : ltb (key (at r)) (other y) ≡ false = grind (arith, nat_tests) in
                 let b : leb (key (at r)) (other y) ≡ true = grind (arith, nat_tests) in
                 let c : leb (other y) (key (at r)) ≡ true = grind (arith, nat_tests) in
-                rw (a, b, c, stays) (sifted_same whole (at r) left y others (map at (take count kept)) lt was (omega (arith, no_less, no_greater)))
+                rw (a, b, c, stays at r kept count) (sifted_same whole (at r) left y others (map at (take count kept)) lt was (omega (arith, no_less, no_greater)))
           ]
         ]
 

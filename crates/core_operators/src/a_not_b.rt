@@ -27,8 +27,9 @@ use std::alloc::{AllocError, Allocator};
 /// lesser theta is `MAX_THETA`, the result is empty. The result is ordered if `ordered` is true or `a` is ordered, if
 /// it is empty, or if it has one entry at the greatest theta.
 ///
-/// An input that isn't known to be ordered is copied and sorted. Then both are read side by side: whatever the hashes
-/// are, this compares at most as many pairs of hashes as both have.
+/// An input that isn't known to be ordered is copied and sorted. If `b` is one and has 1024 hashes or more, most of its
+/// hashes that `a` lacks are dropped before that sort, by a test of one bit for each. Then both are read side by side:
+/// whatever the hashes are, this compares at most as many pairs of hashes as both have.
 ///
 /// Refused with `InvalidArgument` if `a` isn't empty and it, or a `b` that isn't empty, has another seed hash than
 /// `seed_hash`, and with `OutOfMemory`. The inputs don't change.
@@ -169,7 +170,7 @@ fn is_empty_result(count: usize, theta: u64) -> bool
 }
 
 /// Clones of the entries of `a` below theta whose hashes `b` lacks, in ascending order. `b` has `b_count` hashes. If it
-/// isn't known to be ordered, a copy of its hashes below theta is sorted first.
+/// isn't known to be ordered, a copy of its hashes below theta is sorted first, but for hashes that `a` surely lacks.
 ///
 /// Counts each comparison of two hashes in `compared`, but those of the sorts: at most as many as both sketches have.
 fn kept_entries<S: EntrySketch, T: KeySketch, F: SketchEntry, A: Allocator + Clone>(
@@ -204,8 +205,8 @@ where
     kept_without(alloc, a, a_ordered, b, b_ordered, b_count, theta, compared)
 }
 
-/// The same for any `b`, by a copy of its hashes below theta. Those that `a` surely lacks may be left out of the copy. If
-/// `a` isn't known to be ordered, clones of its entries below theta are sorted first.
+/// The same by a copy of the hashes of `b` below theta. If `a` isn't known to be ordered, clones of its entries below
+/// theta are sorted first.
 fn kept_without<S: EntrySketch, T: KeySketch, A: Allocator + Clone>(
     alloc: A,
     a: S,
@@ -238,11 +239,11 @@ where
     lacking_hashes(alloc, &entries, b, b_ordered, b_count, theta, compared)
 }
 
-/// Clones of ascending entries below theta whose hashes `b` lacks, by a copy of these hashes. Those that the entries
-/// surely lack may be left out of the copy.
+/// Clones of ascending entries below theta whose hashes `b` lacks, by a copy of the hashes of `b`. If `b` isn't known to
+/// be ordered, the copy is sorted, and hashes that the entries surely lack are dropped before.
 ///
 /// Counts each comparison of two hashes in `compared`, but those of the sort: at most as many as there are entries and
-/// hashes.
+/// hashes. The test of a bit is no such comparison.
 fn lacking_hashes<E: SlotEntry + Clone, T: KeySketch, A: Allocator + Clone>(
     alloc: A,
     entries: &[E],

@@ -1,4 +1,4 @@
-use Rattle.std.proofs.Common.{◌≡◌, ◌++◌}
+use Rattle.std.proofs.Common.{◌≡◌, ◌<◌, ◌++◌, length, take}
 use Rattle.core_laws.specs.Entries.{hash_key}
 use Rattle.core_operators.specs.Filter.{admitted}
 use Rattle.core_operators.proofs.ascending.hashes_admitted.Given as goal
@@ -10,5 +10,7 @@ invariant-collect_each g l =
     record {
       may_go_on : (goal.iterator-collect_each g).can_next l.hash-iterator;
       ends : (goal.iterator-collect_each g).is_finite l.hash-iterator;
-      rest : l.keys.items ++ among (g.T.KeySketch.rest l.hash-iterator) ≡ among (g.T.KeySketch.rest l.fn.hashes);
+      room : l.count < 64;
+      whole : length l.found ≡ 64;
+      rest : (l.keys.items ++ take l.count l.found) ++ among (g.T.KeySketch.rest l.hash-iterator) ≡ among (g.T.KeySketch.rest l.fn.hashes);
     }
