@@ -15,7 +15,7 @@ use Rattle.core_laws.specs.Shown.{Shown, IsShown, shown_value}
 use Rattle.core_laws.specs.Values.{Empty, NonEmpty}
 use Rattle.core_laws.specs.declared.TheConstants.{MAX_THETA}
 use Rattle.core_laws.proofs.maps.Ascending.{each-filter, each-weaker, each-passes, ascending-head, ascending-tail, ascending-nil, ascending-cons, ascending-filter}
-use Rattle.core_laws.proofs.operators.CommonMaps.{filter-and, filter-agree, lacking-nil}
+use Rattle.core_laws.proofs.operators.CommonMaps.{filter-agree, lacking-nil}
 use Rattle.core_laws.proofs.cuts.Cuts.{below_all}
 use Rattle.core_laws.proofs.maps.MapsOfLists.{distinct-apart, each-hash, apart-distinct, ascending-from_map, each-from_map, ascending-map, entry_at-map_of, ascending-map_of}
 use Rattle.core_laws.proofs.maps.ApartEntries.{apart-filter}
@@ -98,6 +98,15 @@ module _ {X : Type 0} where
   fewer p (x ∷ xs) = elim (p x) as (λ b. length (cond b (x ∷ filter p xs) (filter p xs)) ≤ suc (length xs)) [ true ↦ omega (arith, fewer p xs) | false ↦ omega (arith, fewer p xs) ]
 
 module _ {X : Type 0} (key : X → ℕ) where
+  -- filtering by a test of keys alone
+  pub entry_at-keyed : (f : ℕ → Bool) (xs : List X) (q : ℕ) → entry_at key (filter (λ x. f (key x)) xs) q ≡ cond (f q) (entry_at key xs q) None
+  entry_at-keyed f xs q =
+      (elim (f q) as (λ b. f q ≡ b → entry_at key (filter (λ x. f (key x)) xs) q ≡ cond b (entry_at key xs q) None) [
+        | true ↦ λ e. entry_at-filter_in key (λ x. f (key x)) xs q (λ x same. ap f same ∙ e)
+        | false ↦ λ e. entry_at-filter_out key (λ x. f (key x)) xs q (λ x same. ap f same ∙ e)
+      ]) refl
+
+module _ {X : Type 0} (key : X → ℕ) where
   none_low : (xs : List X) (theta : ℕ) → AllByRecursion (λ y. theta ≤ key y) xs → below key xs theta ≡ []
   none_low [] theta all = refl
   none_low (x ∷ xs) theta all = let e : ltb (key x) theta ≡ false = grind (arith, nat_tests, all.0) in rw e (none_low xs theta all.1)
@@ -105,14 +114,6 @@ module _ {X : Type 0} (key : X → ℕ) where
   -- if entries ascend and the first is not below theta, none is
   pub stops : (x : X) (left : List X) (theta : ℕ) → IsAscending key (x ∷ left) → theta ≤ key x → below key (x ∷ left) theta ≡ []
   stops x left theta up le = none_low (x ∷ left) theta (le, each-weaker _ _ (λ y lt. omega (arith, le, lt)) left (ascending-head key x left up))
-
-  -- filtering by a test of keys alone
-  entry_at-keyed : (f : ℕ → Bool) (xs : List X) (q : ℕ) → entry_at key (filter (λ x. f (key x)) xs) q ≡ cond (f q) (entry_at key xs q) None
-  entry_at-keyed f xs q =
-      (elim (f q) as (λ b. f q ≡ b → entry_at key (filter (λ x. f (key x)) xs) q ≡ cond b (entry_at key xs q) None) [
-        | true ↦ λ e. entry_at-filter_in key (λ x. f (key x)) xs q (λ x same. ap f same ∙ e)
-        | false ↦ λ e. entry_at-filter_out key (λ x. f (key x)) xs q (λ x same. ap f same ∙ e)
-      ]) refl
 
   both_tests : (a b : Bool) (o : Option X) → cond a (cond b o None) None ≡ cond b (cond a o None) None
   both_tests true true o = refl
@@ -124,16 +125,27 @@ module _ {X : Type 0} (key : X → ℕ) where
   abbrev pub kept_of : List X → List ℕ → ℕ → List X
   kept_of listing hashes theta = lacking key hash_key (below key listing theta) hashes
 
-  -- hashes that are not below theta make no difference
-  pub kept_by_map : (xs : List X) (hs : List ℕ) (theta : ℕ) → kept_of xs (map_of hash_key (below hash_key hs theta)) theta ≡ kept_of xs hs theta
-  kept_by_map xs hs theta =
-      filter-and (λ x. is_none (entry_at hash_key (map_of hash_key (below hash_key hs theta)) (key x))) (λ x. ltb (key x) theta) xs
-      ∙ filter-agree _ (λ x. ltb (key x) theta && is_none (entry_at hash_key hs (key x))) xs (λ x.
-      (elim (ltb (key x) theta) as (λ b. ltb (key x) theta ≡ b → (b && is_none (entry_at hash_key (map_of hash_key (below hash_key hs theta)) (key x))) ≡ (b && is_none (entry_at hash_key hs (key x)))) [
-        | true ↦ λ e. ap is_none (entry_at-map_of hash_key (below hash_key hs theta) (key x) ∙ entry_at-below hash_key hs theta (key x) ∙ ap (λ b. cond b (entry_at hash_key hs (key x)) None) e)
-        | false ↦ λ e. refl
-      ]) refl)
-      ∙ sym (filter-and (λ x. is_none (entry_at hash_key hs (key x))) (λ x. ltb (key x) theta) xs)
+  same_filter : (p q : X → Bool) (xs : List X) → AllByRecursion (λ x. p x ≡ q x) xs → filter p xs ≡ filter q xs
+  same_filter p q [] all = refl
+  same_filter p q (x ∷ xs) all = rw (all.0, same_filter p q xs all.1) refl
+
+  -- hashes that fail a test make no difference, if the keys of all entries below theta pass it
+  pub kept_tested : (test : ℕ → Bool) (xs : List X) (hs : List ℕ) (theta : ℕ) → AllByRecursion (λ x. test (key x) ≡ true) (below key xs theta) → kept_of xs (filter (λ h. test (hash_key h)) (map_of hash_key hs)) theta ≡ kept_of xs hs theta
+  kept_tested test xs hs theta passes =
+      let tested = filter (λ h. test (hash_key h)) (map_of hash_key hs) in
+      same_filter (λ x. is_none (entry_at hash_key tested (key x))) (λ x. is_none (entry_at hash_key hs (key x))) (below key xs theta)
+      (each-weaker (λ x. test (key x) ≡ true) (λ x. is_none (entry_at hash_key tested (key x)) ≡ is_none (entry_at hash_key hs (key x)))
+      (λ x e. ap is_none (entry_at-keyed hash_key test (map_of hash_key hs) (key x) ∙ ap (λ b. cond b (entry_at hash_key (map_of hash_key hs) (key x)) None) e ∙ entry_at-map_of hash_key hs (key x))) (below key xs theta) passes)
+
+  -- the map of the entries that pass a test of keys
+  pub map_of-tested : (test : ℕ → Bool) (xs : List X) → map_of key (filter (λ x. test (key x)) xs) ≡ filter (λ x. test (key x)) (map_of key xs)
+  map_of-tested test xs =
+      same_map key _ _ (ascending-map_of key (filter (λ x. test (key x)) xs)) (ascending-filter key _ _ (ascending-map_of key xs))
+      (λ q.
+      entry_at-map_of key (filter (λ x. test (key x)) xs) q
+      ∙ entry_at-keyed key test xs q
+      ∙ ap (λ o. cond (test q) o None) (sym (entry_at-map_of key xs q))
+      ∙ sym (entry_at-keyed key test (map_of key xs) q))
 
   -- without hashes all entries below theta are kept
   pub kept_all : (xs : List X) (theta : ℕ) → AllByRecursion (λ x. key x < theta) xs → kept_of xs [] theta ≡ xs
@@ -145,12 +157,12 @@ module _ {X : Type 0} (key : X → ℕ) where
       same_map key _ _ (ascending-map_of key (kept_of xs hs theta)) (ascending-filter key _ _ (ascending-filter key _ _ (ascending-map_of key xs)))
       (λ q.
       entry_at-map_of key (kept_of xs hs theta) q
-      ∙ entry_at-keyed (λ h. is_none (entry_at hash_key hs h)) (below key xs theta) q
+      ∙ entry_at-keyed key (λ h. is_none (entry_at hash_key hs h)) (below key xs theta) q
       ∙ ap (λ o. cond (is_none (entry_at hash_key hs q)) o None) (entry_at-below key xs theta q)
       ∙ both_tests (is_none (entry_at hash_key hs q)) (ltb q theta) (entry_at key xs q)
       ∙ ap (λ o. cond (ltb q theta) (cond (is_none o) (entry_at key xs q) None) None) (sym (entry_at-map_of hash_key hs q))
       ∙ ap (λ o. cond (ltb q theta) (cond (is_none (entry_at hash_key (map_of hash_key hs) q)) o None) None) (sym (entry_at-map_of key xs q))
-      ∙ ap (λ o. cond (ltb q theta) o None) (sym (entry_at-keyed (λ h. is_none (entry_at hash_key (map_of hash_key hs) h)) (map_of key xs) q))
+      ∙ ap (λ o. cond (ltb q theta) o None) (sym (entry_at-keyed key (λ h. is_none (entry_at hash_key (map_of hash_key hs) h)) (map_of key xs) q))
       ∙ sym (entry_at-below key (lacking key hash_key (map_of key xs) (map_of hash_key hs)) theta q))
 
   -- a state of the kept entries meets the laws of a sketch
@@ -174,13 +186,7 @@ module _ {X : Type 0} (key : X → ℕ) where
 
   -- the map of the entries below theta
   pub map_of_below : (xs : List X) (theta : ℕ) → map_of key (below key xs theta) ≡ below key (map_of key xs) theta
-  map_of_below xs theta =
-      same_map key _ _ (ascending-map_of key (below key xs theta)) (ascending-filter key _ _ (ascending-map_of key xs))
-      (λ q.
-      entry_at-map_of key (below key xs theta) q
-      ∙ entry_at-below key xs theta q
-      ∙ ap (λ o. cond (ltb q theta) o None) (sym (entry_at-map_of key xs q))
-      ∙ sym (entry_at-below key (map_of key xs) theta q))
+  map_of_below xs theta = map_of-tested (λ h. ltb h theta) xs
 
   -- what is below theta is below it again
   pub below_twice : (xs : List X) (theta : ℕ) → below key (below key xs theta) theta ≡ below key xs theta
@@ -207,8 +213,8 @@ module _ {X : Type 0} (key : X → ℕ) where
 pub apart_hashes : (hs : List ℕ) → AllPairs (λ x y. x ≢ y) hs → IsApart hash_key hs
 apart_hashes hs distinct = apart-distinct hash_key hs (rw (map-id hs) distinct)
 
-pub below_apart : (hs : List ℕ) (theta : ℕ) → AllPairs (λ x y. x ≢ y) hs → IsApart hash_key (below hash_key hs theta)
-below_apart hs theta distinct = apart-filter hash_key _ hs (apart_hashes hs distinct)
+pub some_apart : (p : ℕ → Bool) (hs : List ℕ) → AllPairs (λ x y. x ≢ y) hs → IsApart hash_key (filter p hs)
+some_apart p hs distinct = apart-filter hash_key p hs (apart_hashes hs distinct)
 
 pub below_more : (done : List ℕ) (h : ℕ) (left : List ℕ) (theta : ℕ) → h < theta → (done ++ h ∷ []) ++ below hash_key left theta ≡ done ++ below hash_key (h ∷ left) theta
 below_more done h left theta lt =
@@ -216,8 +222,8 @@ below_more done h left theta lt =
     rw e (append_assoc done (h ∷ []) (below hash_key left theta))
 
 -- at most as many ascending hashes as a sketch has
-pub few_hashes : (hs : List ℕ) (theta : ℕ) → AllPairs (λ x y. x ≢ y) hs → length (map_of hash_key (below hash_key hs theta)) ≤ length hs
-few_hashes hs theta distinct = omega (arith, count_sorted hash_key 1 0 (below hash_key hs theta) (below_apart hs theta distinct), fewer (λ h. ltb h theta) hs)
+pub few_hashes : (p : ℕ → Bool) (hs : List ℕ) → AllPairs (λ x y. x ≢ y) hs → length (filter p (map_of hash_key hs)) ≤ length hs
+few_hashes p hs distinct = omega (arith, count_sorted hash_key 1 0 hs (apart_hashes hs distinct), fewer p (map_of hash_key hs))
 
 -- a search that found nothing, and one that found something
 pub unfound : {R Y : Type 0} (at : R → Y) (r : Option R) (b : Bool) → is_some r ≡ not b → b ≡ true → (o : Option Y) → option_map at r ≡ o → o ≡ None
@@ -227,6 +233,14 @@ unfound at (Some r) b tested e o is = absurd (let f : true ≡ not true = rw e a
 pub was_found : {R Y : Type 0} (at : R → Y) (r : Option R) (b : Bool) → is_some r ≡ not b → b ≡ false → (o : Option Y) → option_map at r ≡ o → is_none o ≡ false
 was_found at None b tested e o is = absurd (let f : false ≡ not false = rw e at tested in cc)
 was_found at (Some r) b tested e o is = ap is_none (sym is)
+
+-- an entry is written behind the first ones, and counts or doesn't
+module _ {X R : Type 0} (at : R → X) (r : R) (kept : List R) (count : ℕ) where
+  pub written : count < length kept → map at (take (count + 1) (set kept count r)) ≡ map at (take count kept) ++ at r ∷ []
+  written room = ap (map at) (take_more_set kept count r room) ∙ map-append at (take count kept) (r ∷ [])
+
+  pub stays : map at (take (count + 0) (set kept count r)) ≡ map at (take count kept)
+  stays = ap (λ (n : ℕ). map at (take n (set kept count r))) (omega arith) ∙ ap (map at) (take-set kept count r)
 
 module _ {X Y : Type 0} (key : X → ℕ) (other : Y → ℕ) (theta : ℕ) where
   none_mapped : (o : Option Y) → is_none o ≡ is_none (option_map other o)
@@ -297,12 +311,6 @@ module _ {X Y : Type 0} (key : X → ℕ) (other : Y → ℕ) (theta : ℕ) wher
     abbrev after : (more passed others_passed : ℕ) → Type 0
     after more passed others_passed = IsSifting whole (drop passed (at r ∷ left)) (drop others_passed (y ∷ others)) (map at (take more (set kept count r)))
 
-    written : map at (take (count + 1) (set kept count r)) ≡ map at (take count kept) ++ at r ∷ []
-    written = ap (map at) (take_more_set kept count r room) ∙ map-append at (take count kept) (r ∷ [])
-
-    stays : map at (take (count + 0) (set kept count r)) ≡ map at (take count kept)
-    stays = ap (λ (n : ℕ). map at (take n (set kept count r))) (omega arith) ∙ ap (map at) (take-set kept count r)
-
     pub sifted_more : after (count + cond (ltb (key (at r)) (other y)) 1 0) (cond (leb (key (at r)) (other y)) 1 0) (cond (leb (other y) (key (at r))) 1 0)
     sifted_more =
         elim (cases_lt (key (at r)) (other y)) [
@@ -310,18 +318,18 @@ module _ {X Y : Type 0} (key : X → ℕ) (other : Y → ℕ) (theta : ℕ) wher
               let a : ltb (key (at r)) (other y) ≡ true = grind (arith, nat_tests) in
               let b : leb (key (at r)) (other y) ≡ true = grind (arith, nat_tests) in
               let c : leb (other y) (key (at r)) ≡ false = grind (arith, nat_tests) in
-              rw (a, b, c, written) (sifted_less whole (at r) left y others (map at (take count kept)) lt was less)
+              rw (a, b, c, written at r kept count room) (sifted_less whole (at r) left y others (map at (take count kept)) lt was less)
           | inr no_less ↦ elim (cases_lt (other y) (key (at r))) [
             | inl greater ↦
                 let a : ltb (key (at r)) (other y) ≡ false = grind (arith, nat_tests) in
                 let b : leb (key (at r)) (other y) ≡ false = grind (arith, nat_tests) in
                 let c : leb (other y) (key (at r)) ≡ true = grind (arith, nat_tests) in
-                rw (a, b, c, stays) (sifted_greater whole (at r) left y others (map at (take count kept)) lt was greater)
+                rw (a, b, c, stays at r kept count) (sifted_greater whole (at r) left y others (map at (take count kept)) lt was greater)
             | inr no_greater ↦
                 let a : ltb (key (at r)) (other y) ≡ false = grind (arith, nat_tests) in
                 let b : leb (key (at r)) (other y) ≡ true = grind (arith, nat_tests) in
                 let c : leb (other y) (key (at r)) ≡ true = grind (arith, nat_tests) in
-                rw (a, b, c, stays) (sifted_same whole (at r) left y others (map at (take count kept)) lt was (omega (arith, no_less, no_greater)))
+                rw (a, b, c, stays at r kept count) (sifted_same whole (at r) left y others (map at (take count kept)) lt was (omega (arith, no_less, no_greater)))
           ]
         ]
 

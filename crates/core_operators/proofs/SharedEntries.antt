@@ -1,6 +1,6 @@
 -- The entries that a table and a listing share.
 use Rattle.std.proofs.Common.{◌≡◌, ℕ, ◌<◌, ◌≤◌, ◌≢◌, ◌^◌, ◌+◌, Bool, true, false, cond, ltb, leb, eqb, List, [], ◌∷◌, ◌++◌, map, length, drop, min, Option, Some, None, inl, inr, refl, sym, ap, ◌∙◌, subst, arith}
-use Rattle.std.specs.List.{AllByRecursion, slice_get}
+use Rattle.std.specs.List.{filter, AllByRecursion, slice_get}
 use Rattle.std.specs.Option.{option_map, option_map_or}
 use Rattle.std.proofs.lemmas.Bool.{cases_lt}
 use Rattle.std.proofs.lemmas.Bool.Decides.{nat_tests}
@@ -21,7 +21,7 @@ use Rattle.core_laws.proofs.insertions.Unmarked.{fold_keeps, ascending-marked, e
 use Rattle.core_laws.proofs.maps.MapsOfLists.{entry_at-map_of, ascending-map_of, ascending-from_map, ascending-apart, apart-distinct, each-from_map}
 use Rattle.core_laws.proofs.cuts.Cuts.{below_all}
 use Rattle.core_table.proofs.OtherOrders.{map_of-ascending, each-map_of}
-use Rattle.core_operators.proofs.DifferenceEntries.{count_sorted, fewer, stops}
+use Rattle.core_operators.proofs.DifferenceEntries.{count_sorted, fewer, stops, entry_at-keyed}
 use Rattle.core_laws.proofs.cuts.WithinWholeMaps.{found_key}
 use Rattle.core_laws.specs.Entries.{KeepsKey}
 
@@ -309,16 +309,25 @@ module _ {X : Type 0} (key : X → ℕ) (merges : X → X → X) (refuses : X �
         | false ↦ refl
       ]
 
-  -- arriving entries that are not below a theta share nothing below it
-  pub read_below : (xs content : List X) (t : ℕ) → read_from key merges refuses (below key xs t) content t ≡ read_from key merges refuses xs content t
-  read_below [] content t = refl
-  read_below (x ∷ xs) content t =
+  absent_untested : (test : ℕ → Bool) (ys : List X) (q : ℕ) → AllByRecursion (λ y. test (key y) ≡ true) ys → test q ≡ false → entry_at key ys q ≡ None
+  absent_untested test [] q all fails = refl
+  absent_untested test (y ∷ ys) q all fails =
+      (elim (eqb (key y) q) as (λ b. eqb (key y) q ≡ b → cond b (Some y) (entry_at key ys q) ≡ None) [
+        | true ↦ λ e. let same : key y ≡ q = grind (arith, nat_tests) in let tie : true ≡ false = sym all.0 ∙ ap test same ∙ fails in absurd (cc)
+        | false ↦ λ e. absent_untested test ys q all.1 fails
+      ]) refl
+
+  -- arriving entries that fail a test of keys share nothing, if all retained entries below theta pass it
+  pub read_tested : (test : ℕ → Bool) (xs content : List X) (t : ℕ) → AllByRecursion (λ y. test (key y) ≡ true) (below key content t) → read_from key merges refuses (filter (λ x. test (key x)) xs) content t ≡ read_from key merges refuses xs content t
+  read_tested test [] content t passes = refl
+  read_tested test (x ∷ xs) content t passes =
       let fk = fold_key key in
       let m = turned_round (fold_merges key merges refuses) in
-      let on = read_below xs content t in
-      (elim (ltb (key x) t) as (λ b. ltb (key x) t ≡ b → read_from key merges refuses (cond b (x ∷ below key xs t) (below key xs t)) content t ≡ read_from key merges refuses (x ∷ xs) content t) [
-        | true ↦ λ e. common_behind fk m (Value x) (map Value (below key xs t)) (map Value xs) (map Value (below key content t)) on
-        | false ↦ λ e. on ∙ sym (read_none key merges refuses keeps xs content x t (one_past key merges refuses content t x (grind (arith, nat_tests))))
+      let others = filter (λ z. test (key z)) xs in
+      let on = read_tested test xs content t passes in
+      (elim (test (key x)) as (λ b. test (key x) ≡ b → read_from key merges refuses (cond b (x ∷ others) others) content t ≡ read_from key merges refuses (x ∷ xs) content t) [
+        | true ↦ λ e. common_behind fk m (Value x) (map Value others) (map Value xs) (map Value (below key content t)) on
+        | false ↦ λ e. on ∙ sym (read_none key merges refuses keeps xs content x t (sym (ap (option_map (λ w. fold_merges key merges refuses (Value w) (Value x))) (absent_untested test (below key content t) (key x) passes e))))
       ]) refl
 
   -- two ascending lists are read side by side: the entries shared so far, then those that the rest of both share, are
@@ -588,13 +597,13 @@ module _ {X : Type 0} (key : X → ℕ) (merges : X → X → X) (refuses : X �
 
 module _ {X : Type 0} (key : X → ℕ) where
   -- an entry at a key of a sorted listing below a theta is one of the listing
-  pub refused_below : (refuses : X → X → Bool) (content listing : List X) (t : ℕ) → IsMergeRefused key refuses content (below key (map_of key listing) t) → IsMergeRefused key refuses content listing
-  refused_below refuses content listing t refused = record {
+  pub refused_tested : (refuses : X → X → Bool) (content listing : List X) (test : ℕ → Bool) → IsMergeRefused key refuses content (filter (λ x. test (key x)) (map_of key listing)) → IsMergeRefused key refuses content listing
+  refused_tested refuses content listing test refused = record {
     at = refused.at;
     held_entry = refused.held_entry;
     new_entry = refused.new_entry;
     is_held = refused.is_held;
-    comes = sym (entry_at-map_of key listing refused.at) ∙ (elim (ltb refused.at t) as (λ b. cond b (entry_at key (map_of key listing) refused.at) None ≡ Some refused.new_entry → entry_at key (map_of key listing) refused.at ≡ Some refused.new_entry) [ true ↦ λ e. e | false ↦ λ e. absurd (cc) ]) (sym (entry_at-below key (map_of key listing) t refused.at) ∙ refused.comes);
+    comes = sym (entry_at-map_of key listing refused.at) ∙ (elim (test refused.at) as (λ b. cond b (entry_at key (map_of key listing) refused.at) None ≡ Some refused.new_entry → entry_at key (map_of key listing) refused.at ≡ Some refused.new_entry) [ true ↦ λ e. e | false ↦ λ e. absurd (cc) ]) (sym (entry_at-keyed key test (map_of key listing) refused.at) ∙ refused.comes);
     refused = refused.refused;
   }
 
@@ -623,6 +632,6 @@ module _ {X : Type 0} (key : X → ℕ) where
   pub ascending_listed : (s : Shown) (listing xs : List X) → xs ≡ listing → map key listing ≡ s.hashes → IsShown s → s.ordered ≡ true → IsAscending key xs
   ascending_listed s listing xs all hashes shown ordered = rw all (ascending-from_map key listing (rw hashes (shown.ascending ordered)))
 
-  -- how many entries of a listing are below a theta
-  pub few_below : (listing : List X) (t : ℕ) → IsApart key listing → length (below key (map_of key listing) t) ≤ length listing
-  few_below listing t apart = omega (arith, fewer (λ x. ltb (key x) t) (map_of key listing), count_sorted key 1 0 listing apart)
+  -- how many entries of a listing pass a test
+  pub few_passing : (p : X → Bool) (listing : List X) → IsApart key listing → length (filter p (map_of key listing)) ≤ length listing
+  few_passing p listing apart = omega (arith, fewer p (map_of key listing), count_sorted key 1 0 listing apart)

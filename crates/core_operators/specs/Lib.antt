@@ -4,3 +4,4 @@ pub mod Union
 pub mod Search
 pub mod Intersection
 pub mod ANotB
+pub mod Filter

@@ -9,13 +9,13 @@ ghost use Rattle.core_laws.specs.Operators.{lacking};
 ghost use Rattle.core_laws.specs.Refusal.{Refuses};
 ghost use Rattle.core_laws.specs.Shown.{IsShown};
 
-use crate::ascending::{ascending_entries, ascending_hashes};
+use crate::ascending::{ascending_entries, narrowed_hashes};
 use crate::scan::ascending_difference;
 use crate::share::cloned_entries;
 use crate::view::{EntrySketch, KeySketch, ThetaFamilySketchMetadata};
 use core_compact::{CompactSketchState, is_answer_ordered};
 use core_laws::{MAX_THETA, SketchEntry};
-use core_slots::{Count, ThetaEntry};
+use core_slots::{Count, SlotEntry, ThetaEntry};
 use core_table::sorted_by_hash;
 use sketch_base::{Error, ErrorKind};
 use std::alloc::{AllocError, Allocator};
@@ -27,8 +27,9 @@ use std::alloc::{AllocError, Allocator};
 /// lesser theta is `MAX_THETA`, the result is empty. The result is ordered if `ordered` is true or `a` is ordered, if
 /// it is empty, or if it has one entry at the greatest theta.
 ///
-/// An input that isn't known to be ordered is copied and sorted. Then both are read side by side: whatever the hashes
-/// are, this compares at most as many pairs of hashes as both have.
+/// An input that isn't known to be ordered is copied and sorted. If `b` is one and has 1024 hashes or more, most of its
+/// hashes that `a` lacks are dropped before that sort, by a test of one bit for each. Then both are read side by side:
+/// whatever the hashes are, this compares at most as many pairs of hashes as both have.
 ///
 /// Refused with `InvalidArgument` if `a` isn't empty and it, or a `b` that isn't empty, has another seed hash than
 /// `seed_hash`, and with `OutOfMemory`. The inputs don't change.
@@ -169,7 +170,7 @@ fn is_empty_result(count: usize, theta: u64) -> bool
 }
 
 /// Clones of the entries of `a` below theta whose hashes `b` lacks, in ascending order. `b` has `b_count` hashes. If it
-/// isn't known to be ordered, a copy of its hashes below theta is sorted first.
+/// isn't known to be ordered, a copy of its hashes below theta is sorted first, but for hashes that `a` surely lacks.
 ///
 /// Counts each comparison of two hashes in `compared`, but those of the sorts: at most as many as both sketches have.
 fn kept_entries<S: EntrySketch, T: KeySketch, F: SketchEntry, A: Allocator + Clone>(
@@ -201,8 +202,68 @@ where
             return kept_beside(alloc, a, a_ordered, hashes, theta, compared);
         }
     }
-    let keys = ascending_hashes(alloc.clone()?, b, theta, b_ordered, b_count)?;
-    kept_beside(alloc, a, a_ordered, &keys, theta, compared)
+    kept_without(alloc, a, a_ordered, b, b_ordered, b_count, theta, compared)
+}
+
+/// The same by a copy of the hashes of `b` below theta. If `a` isn't known to be ordered, clones of its entries below
+/// theta are sorted first.
+fn kept_without<S: EntrySketch, T: KeySketch, A: Allocator + Clone>(
+    alloc: A,
+    a: S,
+    a_ordered: bool,
+    b: T,
+    b_ordered: bool,
+    b_count: usize,
+    theta: u64,
+    compared: &mut Count,
+) -> Result<Vec<S::Entry, A>, Error>
+where
+    S::Entry: Clone,
+    requires clones_equal { ClonesEqual S.Entry.is_clone }
+    requires a_in_order { (S.shown a).ordered ≡ a_ordered }
+    requires b_in_order { (T.shown b).ordered ≡ b_ordered }
+    requires b_sound { IsShown (T.shown b) }
+    ensures listed { map S.Entry.key (S.listing a) ≡ (S.shown a).hashes }
+    ensures ok { IfOk result (λ v. v.items ≡ lacking S.Entry.key hash_key (below S.Entry.key (map_of S.Entry.key (S.listing a)) theta) (T.shown b).hashes) }
+    ensures refused { Refuses result None true }
+    ensures grows { compared.old ≤ compared.new }
+    ensures compared { compared.new ≤ compared.old + length (S.listing a) + length (T.shown b).hashes }
+{
+    let list = a.entries();
+    if a_ordered {
+        if let Some(entries) = list.as_slice() {
+            return lacking_hashes(alloc, entries, b, b_ordered, b_count, theta, compared);
+        }
+    }
+    let entries = ascending_entries(alloc.clone()?, a, theta, a_ordered, 0)?;
+    lacking_hashes(alloc, &entries, b, b_ordered, b_count, theta, compared)
+}
+
+/// Clones of ascending entries below theta whose hashes `b` lacks, by a copy of the hashes of `b`. If `b` isn't known to
+/// be ordered, the copy is sorted, and hashes that the entries surely lack are dropped before.
+///
+/// Counts each comparison of two hashes in `compared`, but those of the sort: at most as many as there are entries and
+/// hashes. The test of a bit is no such comparison.
+fn lacking_hashes<E: SlotEntry + Clone, T: KeySketch, A: Allocator + Clone>(
+    alloc: A,
+    entries: &[E],
+    b: T,
+    b_ordered: bool,
+    b_count: usize,
+    theta: u64,
+    compared: &mut Count,
+) -> Result<Vec<E, A>, Error>
+    requires clones_equal { ClonesEqual E.is_clone }
+    requires ascending { IsAscending E.key entries.now }
+    requires b_in_order { (T.shown b).ordered ≡ b_ordered }
+    requires b_sound { IsShown (T.shown b) }
+    ensures ok { IfOk result (λ v. v.items ≡ lacking E.key hash_key (below E.key entries.now theta) (T.shown b).hashes) }
+    ensures refused { Refuses result None true }
+    ensures grows { compared.old ≤ compared.new }
+    ensures compared { compared.new ≤ compared.old + length entries.now + length (T.shown b).hashes }
+{
+    let keys = narrowed_hashes(alloc.clone()?, b, entries, theta, b_ordered, b_count)?;
+    ascending_difference(alloc, entries, &keys, theta, compared)
 }
 
 /// Clones of the entries of `a` below theta whose hashes ascending `others` lack, in ascending order. If `a` isn't known

@@ -64,7 +64,8 @@ impl Outcome {
 ///
 /// It keeps its entries in ascending order. An update reads them and its input side by side: whatever the hashes are, it
 /// compares at most as many pairs of hashes as both have (`shared_with`), besides the sort of an input that isn't known
-/// to be ordered.
+/// to be ordered. Of an input with 1024 hashes or more, most hashes that the intersection lacks are dropped before that
+/// sort, by a test of one bit for each.
 #[derive(Drop)]
 pub struct IntersectionState<E: SlotEntry, P, A: Allocator = Global> {
     outcome: Outcome,

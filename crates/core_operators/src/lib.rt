@@ -6,6 +6,7 @@
 
 pub mod a_not_b;
 mod ascending;
+mod filter;
 mod intersection;
 mod iter;
 pub mod laws;

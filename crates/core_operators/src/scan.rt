@@ -13,8 +13,8 @@ use core_slots::Count;
 use sketch_base::Error;
 use std::alloc::{AllocError, Allocator};
 
-/// How many entries `sift` keeps at most before they are cloned.
-const BLOCK: usize = 64;
+/// How many entries are gathered at most before they are cloned.
+pub(crate) const BLOCK: usize = 64;
 
 /// How many entries `sift` kept, and what is left to compare.
 #[derive(Drop)]
@@ -92,7 +92,8 @@ fn sift<'a, 'b, E: SketchEntry, F: SketchEntry>(
 }
 
 /// Appends clones of entries.
-fn push_clones<E: Clone + Drop, A: Allocator>(
+#[inline(always)]
+pub(crate) fn push_clones<E: Clone + Drop, A: Allocator>(
     entries: &mut Vec<E, A>,
     borrowed: &[&E],
 ) -> Result<(), AllocError>

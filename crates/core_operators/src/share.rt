@@ -9,7 +9,7 @@ ghost use Rattle.core_operators.specs.Union.{IsMergeRefusal};
 ghost use Rattle.core_operators.specs.Intersection.{AreSharedFolds, IsSharedFold, IsSharedPair, IsPairRefusal, IsFoundRefusal};
 ghost use Rattle.core_operators.specs.Search.{AreFewLookUps, is_much_longer};
 
-use crate::ascending::ascending_entries;
+use crate::ascending::narrowed_entries;
 use crate::iter::EntryIter;
 use crate::scan::number_if;
 use crate::search::{found_by_halves, is_much_longer};
@@ -215,10 +215,11 @@ fn shared_entries<E: SketchEntry + Clone + Drop, P: IntersectionMergePolicy<E>, 
 }
 
 /// The entries that an ascending list and a sketch share below theta, combined by the policy, in ascending order. If the
-/// sketch isn't known to be ordered, clones of its entries below theta are sorted first. It has `count` entries.
+/// sketch isn't known to be ordered, clones of its entries below theta are sorted first, but for entries whose hashes the
+/// list surely lacks. It has `count` entries.
 ///
 /// Counts each comparison of two hashes in `compared`, but those of the sort: at least one for each shared entry, and at
-/// most as many as both have entries.
+/// most as many as both have entries. The test of a bit is no such comparison.
 pub(crate) fn shared_with<
     S: EntrySketch,
     P: IntersectionMergePolicy<S::Entry>,
@@ -254,7 +255,7 @@ where
         }
     }
     let spare = content.allocator().clone()?;
-    let arriving = ascending_entries(spare, sketch, theta, ordered, count)?;
+    let arriving = narrowed_entries(spare, sketch, content, theta, ordered, count)?;
     let alloc = content.allocator().clone()?;
     shared_entries(alloc, content, &arriving, policy, theta, compared)
 }

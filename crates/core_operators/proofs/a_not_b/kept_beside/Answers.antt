@@ -1,4 +1,4 @@
-use Rattle.std.proofs.Common.{◌≡◌, ◌∙◌, length, refl, sym, ap, arith}
+use Rattle.std.proofs.Common.{ltb, ◌≡◌, ◌∙◌, length, refl, sym, ap, arith}
 use Rattle.std.proofs.lemmas.Result.{IfOk-weaker}
 use Rattle.core_laws.specs.Maps.{below, map_of}
 use Rattle.core_laws.specs.Operators.{lacking}
@@ -6,7 +6,7 @@ use Rattle.core_laws.proofs.maps.Ascending.{ascending-filter}
 use Rattle.core_laws.proofs.maps.MapsOfLists.{ascending-map_of, apart-distinct}
 use Rattle.core_table.proofs.OtherOrders.{map_of-ascending}
 use Rattle.core_operators.proofs.DifferenceEntries.{below_twice}
-use Rattle.core_operators.proofs.SharedEntries.{ascending_listed, few_below}
+use Rattle.core_operators.proofs.SharedEntries.{ascending_listed, few_passing}
 use Rattle.core_operators.proofs.a_not_b.kept_beside.Goals as goal
 
 pub ascending_difference-requires-clause-ascending : goal.ascending_difference-requires-clause-ascending
@@ -41,5 +41,5 @@ returns-clause-compared g c =
     let key = g.S.Entry.SketchEntry.key in
     let listing = g.S.EntrySketch.listing c.args.a in
     let entries_are : c.deref.result.now ≡ below key (map_of key listing) c.args.theta = c.deref.ensures.value ∙ c.in_ok-entries.ensures.ok in
-    let few = few_below key listing c.args.theta (apart-distinct key listing (rw c.entries-list.ensures.hashes c.entries-list.ensures.sound.distinct)) in
+    let few = few_passing key (λ x. ltb (key x) c.args.theta) listing (apart-distinct key listing (rw c.entries-list.ensures.hashes c.entries-list.ensures.sound.distinct)) in
     omega (arith, few, ap length entries_are, c.ascending_difference-2.ensures.compared)

@@ -3,7 +3,7 @@ use Rattle.core_laws.specs.Maps.{IsAscending, below}
 use Rattle.core_laws.specs.Entries.{hash_key}
 use Rattle.core_laws.proofs.maps.Ascending.{ascending-filter}
 use Rattle.core_table.proofs.OtherOrders.{map_of-ascending}
-use Rattle.core_operators.proofs.DifferenceEntries.{below_apart}
+use Rattle.core_operators.proofs.DifferenceEntries.{some_apart}
 use Rattle.core_operators.proofs.ascending.ascending_hashes.Goals as goal
 
 pub hashes_below-requires : goal.hashes_below-requires
@@ -16,4 +16,4 @@ returns-then-ordered-clause-ok g c =
     (rw c.hashes-hashes.ensures.all at c.in_ok-keys.ensures.ok) ∙ sym (map_of-ascending hash_key (below hash_key hashes c.args.theta) up)
 
 pub sorted_by_hash-requires : goal.sorted_by_hash-requires
-sorted_by_hash-requires g c = rw (c.in_ok-keys.ensures.ok, c.hashes-hashes.ensures.all) (below_apart (g.T.KeySketch.shown c.args.sketch).hashes c.args.theta c.hashes-hashes.ensures.sound.distinct)
+sorted_by_hash-requires g c = rw (c.in_ok-keys.ensures.ok, c.hashes-hashes.ensures.all) (some_apart _ (g.T.KeySketch.shown c.args.sketch).hashes c.hashes-hashes.ensures.sound.distinct)

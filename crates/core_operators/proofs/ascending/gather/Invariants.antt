@@ -1,0 +1,18 @@
+use Rattle.std.proofs.Common.{◌≡◌, ◌≤◌, ◌++◌, map, take, length}
+use Rattle.core_operators.specs.Filter.{admitted}
+use Rattle.core_operators.proofs.ascending.gather.Given as goal
+
+-- the entries gathered so far, then those left that are admitted, are those at the start
+abbrev pub invariant-gather_each : goal.invariant-gather_each
+invariant-gather_each g l =
+    let among = admitted g.E.SketchEntry.key l.filter.words.items l.filter.shift in
+    record {
+      rest : map (λ x. x.now) (take l.gathered l.found) ++ among l.items.rest ≡ map (λ x. x.now) (take l.fn.count l.initial.found) ++ among l.initial.items.rest;
+      limited : l.gathered ≤ 64;
+      room : length l.found ≡ 64;
+      fewer : length l.items.rest ≤ length l.initial.items.rest;
+    }
+
+-- the entries that are left
+abbrev pub decreases-gather_each : goal.decreases-gather_each
+decreases-gather_each g l = length l.items.rest
