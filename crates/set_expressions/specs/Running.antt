@@ -68,8 +68,8 @@ abbrev pub AreOrderedSketches : {S X : Type 0} → Rules X → (read : S → Com
 AreOrderedSketches rules read h sketches = AllByRecursion (λ s. IsAnswer rules.key (compact_value rules.key (read s)) h true (read s)) sketches
 
 -- both sketches are of a seed
-abbrev pub AreOfSeed : {X : Type 0} → (seed : ℕ) → (a b : Compact X) → Type 0
-AreOfSeed seed a b = (a.seed_hash ≡ seed_hash seed) × (b.seed_hash ≡ seed_hash seed)
+abbrev pub BothHaveSeed : {X : Type 0} → (seed : ℕ) → (a b : Compact X) → Type 0
+BothHaveSeed seed a b = (a.seed_hash ≡ seed_hash seed) × (b.seed_hash ≡ seed_hash seed)
 
 -- a sketch of a seed is the ordered one of two others combined
 abbrev pub IsCombination : {X : Type 0} → Rules X → (lg_k seed : ℕ) → Operator → (a b combined : Compact X) → Type 0

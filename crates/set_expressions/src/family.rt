@@ -6,7 +6,7 @@ ghost use Rattle.core_laws.specs.Refusal.{Refuses};
 ghost use Rattle.core_laws.specs.Settings.{settings_refusal};
 ghost use Rattle.core_laws.specs.declared.TheConstants.{MAX_THETA};
 ghost use Rattle.core_operators.specs.Intersection.{seed_refusal};
-ghost use Rattle.set_expressions.specs.Running.{is_accepted, value_by, AreOfSeed, IsCombination, IsMergeError, MayRefuseTwo};
+ghost use Rattle.set_expressions.specs.Running.{is_accepted, value_by, BothHaveSeed, IsCombination, IsMergeError, MayRefuseTwo};
 
 use expression_text::Operator;
 use sketch_base::Error;
@@ -57,7 +57,7 @@ pub trait SetFamily<A: Allocator, B: Allocator> {
         second: &Self::Sketch,
     ) -> Result<Self::Sketch, Error>
         requires settings { settings_refusal lg_k MAX_THETA seed ≡ None }
-        requires seeds { AreOfSeed seed (listed first.now) (listed second.now) }
+        requires seeds { BothHaveSeed seed (listed first.now) (listed second.now) }
         ensures value { IfOk result (λ s. IsCombination rules lg_k seed operator (listed first.now) (listed second.now) (listed s)) }
         ensures refused { IfErr result (IsMergeError (
             MayRefuseTwo rules operator (value_by rules listed first.now) (value_by rules listed second.now))) };

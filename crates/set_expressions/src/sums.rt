@@ -14,7 +14,7 @@ ghost use Rattle.core_slots.specs.declared.entry.TupleEntry.{TupleEntry};
 ghost use Rattle.expression_text.specs.declared.operator.Operator.TheVariants.{Union, Intersection, Difference};
 ghost use Rattle.set_expressions.specs.Sums.{IsRefusedMeet, IsRefusedJoin, HasPartOf};
 ghost use Rattle.set_expressions.specs.Values.{sum_added, sum_rules};
-ghost use Rattle.set_expressions.specs.Running.{is_accepted, AreOfSeed, AreRefused, IsCombination, IsMergeError, MayRefuseTwo};
+ghost use Rattle.set_expressions.specs.Running.{is_accepted, BothHaveSeed, AreRefused, IsCombination, IsMergeError, MayRefuseTwo};
 
 use crate::family::SetFamily;
 use core_policies::DefaultUnionPolicy;
@@ -200,7 +200,7 @@ fn union_of<A: Allocator + Clone + Drop>(
     second: &CompactTupleSketch<u64, A>,
 ) -> Result<CompactTupleSketch<u64, A>, Error>
     requires settings { settings_refusal lg_k MAX_THETA seed ≡ None }
-    requires seeds { AreOfSeed seed first.now second.now }
+    requires seeds { BothHaveSeed seed first.now second.now }
     ensures value { IfOk result (IsCombination sum_rules lg_k seed Union first.now second.now) }
     ensures refused { IfErr result (IsMergeError (
         AreRefused sum_rules (compact_value tuple_key first.now) (compact_value tuple_key second.now))) }
@@ -220,7 +220,7 @@ fn intersection_of<A: Allocator + Clone + Drop>(
     second: &CompactTupleSketch<u64, A>,
 ) -> Result<CompactTupleSketch<u64, A>, Error>
     requires seeded { seed_refusal seed ≡ None }
-    requires seeds { AreOfSeed seed first.now second.now }
+    requires seeds { BothHaveSeed seed first.now second.now }
     ensures value { IfOk result (IsCombination sum_rules 0 seed Intersection first.now second.now) }
     ensures refused { IfErr result (IsMergeError (
         AreRefused sum_rules (compact_value tuple_key first.now) (compact_value tuple_key second.now))) }
@@ -240,7 +240,7 @@ fn difference_of<A: Allocator + Clone + Drop>(
     second: &CompactTupleSketch<u64, A>,
 ) -> Result<CompactTupleSketch<u64, A>, Error>
     requires seeded { seed_refusal seed ≡ None }
-    requires seeds { AreOfSeed seed first.now second.now }
+    requires seeds { BothHaveSeed seed first.now second.now }
     ensures value { IfOk result (IsCombination sum_rules 0 seed Difference first.now second.now) }
     ensures refused { Refuses result None true }
 {
@@ -258,7 +258,7 @@ fn combined<A: Allocator + Clone + Drop>(
     second: &CompactTupleSketch<u64, A>,
 ) -> Result<CompactTupleSketch<u64, A>, Error>
     requires settings { settings_refusal lg_k MAX_THETA seed ≡ None }
-    requires seeds { AreOfSeed seed first.now second.now }
+    requires seeds { BothHaveSeed seed first.now second.now }
     ensures value { IfOk result (IsCombination sum_rules lg_k seed operator first.now second.now) }
     ensures refused { IfErr result (IsMergeError (
         MayRefuseTwo sum_rules operator (compact_value tuple_key first.now) (compact_value tuple_key second.now))) }

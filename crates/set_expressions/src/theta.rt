@@ -12,7 +12,7 @@ ghost use Rattle.core_operators.specs.Intersection.{seed_refusal};
 ghost use Rattle.core_operators.specs.Union.{empty_union, union_value};
 ghost use Rattle.expression_text.specs.declared.operator.Operator.TheVariants.{Union, Intersection, Difference};
 ghost use Rattle.set_expressions.specs.Values.{hash_rules};
-ghost use Rattle.set_expressions.specs.Running.{is_accepted, AreOfSeed, IsCombination};
+ghost use Rattle.set_expressions.specs.Running.{is_accepted, BothHaveSeed, IsCombination};
 
 use crate::family::SetFamily;
 use core_slots::ThetaEntry;
@@ -155,7 +155,7 @@ fn union_of<A: Allocator + Clone + Drop>(
     second: &CompactThetaSketch<A>,
 ) -> Result<CompactThetaSketch<A>, Error>
     requires settings { settings_refusal lg_k MAX_THETA seed ≡ None }
-    requires seeds { AreOfSeed seed first.now second.now }
+    requires seeds { BothHaveSeed seed first.now second.now }
     ensures value { IfOk result (IsCombination hash_rules lg_k seed Union first.now second.now) }
     ensures refused { Refuses result None true }
 {
@@ -173,7 +173,7 @@ fn intersection_of<A: Allocator + Clone + Drop>(
     second: &CompactThetaSketch<A>,
 ) -> Result<CompactThetaSketch<A>, Error>
     requires seeded { seed_refusal seed ≡ None }
-    requires seeds { AreOfSeed seed first.now second.now }
+    requires seeds { BothHaveSeed seed first.now second.now }
     ensures value { IfOk result (IsCombination hash_rules 0 seed Intersection first.now second.now) }
     ensures refused { Refuses result None true }
 {
@@ -191,7 +191,7 @@ fn difference_of<A: Allocator + Clone + Drop>(
     second: &CompactThetaSketch<A>,
 ) -> Result<CompactThetaSketch<A>, Error>
     requires seeded { seed_refusal seed ≡ None }
-    requires seeds { AreOfSeed seed first.now second.now }
+    requires seeds { BothHaveSeed seed first.now second.now }
     ensures value { IfOk result (IsCombination hash_rules 0 seed Difference first.now second.now) }
     ensures refused { Refuses result None true }
 {
@@ -209,7 +209,7 @@ fn combined<A: Allocator + Clone + Drop>(
     second: &CompactThetaSketch<A>,
 ) -> Result<CompactThetaSketch<A>, Error>
     requires settings { settings_refusal lg_k MAX_THETA seed ≡ None }
-    requires seeds { AreOfSeed seed first.now second.now }
+    requires seeds { BothHaveSeed seed first.now second.now }
     ensures value { IfOk result (IsCombination hash_rules lg_k seed operator first.now second.now) }
     ensures refused { Refuses result None true }
 {
