@@ -1,12 +1,11 @@
 -- Merges of sums, and what is refused of them.
-use Rattle.std.proofs.Common.{◌≡◌, ℕ, ◌<◌, ◌≤◌, ◌+◌, ◌^◌, Bool, true, false, cond, ltb, leb, List, [], ◌∷◌, map, min, Option, Some, None, refl, sym, ap, subst, ◌∙◌, arith, inl, inr}
-use Rattle.std.specs.Prelude.{◌⊎◌, is_none, MatchOption}
+use Rattle.std.proofs.Common.{◌≡◌, ℕ, ◌<◌, ◌≤◌, ◌+◌, ◌^◌, true, false, cond, ltb, List, [], ◌∷◌, map, min, Option, Some, None, refl, sym, ap, subst, ◌∙◌, arith, inl, inr}
+use Rattle.std.specs.Prelude.{is_none, MatchOption}
 use Rattle.std.specs.Option.{option_map, option_map_or}
 use Rattle.std.proofs.lemmas.Bool.{cases_lt}
 use Rattle.std.proofs.lemmas.Bool.Decides.{nat_tests}
 use Rattle.std.proofs.Math.Nat.{min-le_left, min-le_right}
 use Rattle.sketch_base.specs.declared.error.ErrorKind.{ErrorKind}
-use Rattle.core_laws.specs.Cuts.{Retained}
 use Rattle.core_laws.specs.Folds.{Fold, Value, fold_key, fold_merges}
 use Rattle.core_laws.specs.Maps.{IsApart, below, entry_at, map_of}
 use Rattle.core_laws.specs.Operators.{joined}

@@ -1,10 +1,10 @@
 -- Steps run on a stack, and when an evaluation is refused.
-use Rattle.std.specs.Prelude.{ℕ, ◌≡◌, ◌==◌, ◌||◌, ◌&&◌, ◌⊎◌, min, Bool, true, false, is_none, is_some, if◌then◌else◌, List, [], ◌∷◌, map, slice_get, Option, Some, None, option_map}
+use Rattle.std.specs.Prelude.{ℕ, ◌≡◌, ◌==◌, ◌||◌, ◌&&◌, ◌⊎◌, min, Bool, true, is_none, is_some, if◌then◌else◌, List, [], ◌∷◌, map, slice_get, Option, Some, None, option_map}
 use Rattle.std.specs.List.{AllByRecursion, list_all}
 use Rattle.sketch_base.specs.Seed.{seed_hash}
 use Rattle.sketch_base.specs.declared.error.ErrorKind.{ErrorKind}
 use Rattle.sketch_base.specs.declared.error.ErrorKind.TheVariants.{InvalidArgument, OutOfMemory, Policy}
-use Rattle.core_compact.specs.CompactState.{Compact, compact_value, empty_compact, IsAnswer}
+use Rattle.core_compact.specs.CompactState.{Compact, compact_value, IsAnswer}
 use Rattle.core_laws.specs.Entries.{hash_key}
 use Rattle.core_laws.specs.Maps.{below}
 use Rattle.core_laws.specs.Settings.{settings_refusal}

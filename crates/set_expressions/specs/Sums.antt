@@ -1,5 +1,5 @@
 -- Operators on sketches of sums.
-use Rattle.std.specs.Prelude.{ℕ, ◌≡◌, ◌≤◌, min, List, [], Option, Some, None}
+use Rattle.std.specs.Prelude.{ℕ, ◌≡◌, ◌≤◌, min, [], Option, Some, None}
 use Rattle.core_laws.specs.Maps.{below, entry_at}
 use Rattle.core_laws.specs.Values.{Sketch, Empty, NonEmpty}
 use Rattle.core_operators.specs.Union.{Union, IsMergeRefused}

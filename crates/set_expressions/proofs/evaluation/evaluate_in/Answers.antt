@@ -5,7 +5,7 @@ use Rattle.core_compact.specs.CompactState.{compact_value, ordered_sketch}
 use Rattle.core_laws.specs.Samples.{IsSample}
 use Rattle.set_expressions.specs.Values.{whole_in}
 use Rattle.set_expressions.specs.Running.{values_by, values_onto, only_value, are_accepted, refusal_by, AreOrderedSketches, MayRefuse}
-use Rattle.set_expressions.proofs.RunSteps.{step_missing, refused_next, refused_later, all_run, many_left, one_left, last_value, no_result, one_result, answer_sketch, ordered-last}
+use Rattle.set_expressions.proofs.RunSteps.{step_missing, refused_next, all_run, many_left, one_left, last_value, no_result, one_result, answer_sketch, ordered-last}
 use Rattle.set_expressions.proofs.TwoSketches.{error_of_memory, error_of_kind, error_of_merge}
 use Rattle.set_expressions.proofs.WholeSets.{expression_sample}
 use Rattle.set_expressions.proofs.evaluation.evaluate_in.Goals as goal

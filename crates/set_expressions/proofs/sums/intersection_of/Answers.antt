@@ -1,4 +1,4 @@
-use Rattle.std.proofs.Common.{◌≡◌, Option, Some, None, ap, subst, sym, ◌∙◌}
+use Rattle.std.proofs.Common.{Option, subst}
 use Rattle.std.proofs.lemmas.Result.{err_from_is_err_and}
 use Rattle.core_compact.specs.CompactState.{compact_value}
 use Rattle.core_laws.specs.Values.{Sketch}
