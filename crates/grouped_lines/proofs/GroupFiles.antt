@@ -1,5 +1,5 @@
 -- Files of groups, one after another.
-use Rattle.std.proofs.Common.{ℕ, ◌≡◌, List, [], ◌∷◌, ◌++◌, map, sym, ap, ◌∙◌, append_assoc}
+use Rattle.std.proofs.Common.{ℕ, ◌≡◌, List, [], ◌∷◌, ◌++◌, sym, ap, ◌∙◌, append_assoc}
 use Rattle.std.proofs.lemmas.List.{map-append}
 use Rattle.grouped_lines.specs.Files.{contents_of}
 use Rattle.grouped_lines.specs.declared.files.GroupFile.{GroupFile}

@@ -6,14 +6,13 @@ use Rattle.std.specs.List.Sorted.{IsStrictlySortedBy}
 use Rattle.std.specs.Option.{option_map, unwrap_or}
 use Rattle.std.specs.Str.{bytes_eq}
 use Rattle.std.specs.Cmp.Lexicographic.{slice_cmp, bytes_decides, nat_list_eq_equiv}
-use Rattle.std.specs.Ordering.{nat_cmp, is_eq}
+use Rattle.std.specs.Ordering.{nat_cmp}
 use Rattle.std.specs.Map.{keys_of}
 use Rattle.std.specs.BTreeMap.{BTreeMap}
 use Rattle.core_state.specs.Updatable.{Updatable}
 use Rattle.lines.specs.Keys.{key_of}
 use Rattle.lines.specs.Lines.{lines_of, lines_of_all}
 use Rattle.lines.specs.declared.key.Hashing.{Hashing}
-use Rattle.lines.specs.declared.key.Key.{Key}
 use Rattle.line_sketches.specs.Keys.{LineState, IsAmong, line_state, new_state, with_line, with_lines}
 use Rattle.grouped_lines.specs.Groups.{lines_in, AreGroups, AreSketched}
 use Rattle.grouped_lines.specs.States.{state_at, AddsLine, state_of_lines, IsGrouped}

@@ -1,5 +1,5 @@
 -- Groups of lines that are sketched in parts, and united.
-use Rattle.std.proofs.Common.{ℕ, ◌≡◌, ◌<◌, ◌≤◌, Bool, true, false, cond, eqb, List, [], ◌∷◌, ◌++◌, map, Some, None, refl, sym, ap, subst, ◌∙◌, inl, inr, arith, append_assoc, append-nil, get_or, zero, suc, length}
+use Rattle.std.proofs.Common.{ℕ, ◌≡◌, ◌<◌, Bool, true, false, cond, eqb, List, [], ◌∷◌, ◌++◌, map, None, refl, sym, ap, subst, ◌∙◌, inl, inr, arith, append_assoc, append-nil, get_or, zero, suc, length}
 use Rattle.std.specs.Prelude.{◌⊎◌, flat_map, unwrap_or}
 use Rattle.std.specs.List.{AllByRecursion, filter, onto_first}
 use Rattle.std.specs.List.Sorted.{IsStrictlySortedBy}
@@ -29,9 +29,9 @@ use Rattle.line_sketches.proofs.Compacts.{compact}
 use Rattle.line_sketches.proofs.Rereads.{ReadsOne, ReadsAgain, reads_it, value_again}
 use Rattle.line_sketches.proofs.Shards.{all_lines, united_lines}
 use Rattle.line_sketches.proofs.Unions.{size_small, seeded}
-use Rattle.grouped_lines.specs.Tabs.{has_tab, before_tab, behind_tab}
+use Rattle.grouped_lines.specs.Tabs.{before_tab}
 use Rattle.grouped_lines.specs.Groups.{lines_in, AreGroups, group_sketch}
-use Rattle.grouped_lines.specs.United.{image_line, image_in, images_in, AreNames, AreUnitedLines, IsUnitedText, IsSketchedText, AreSketchedTexts}
+use Rattle.grouped_lines.specs.United.{image_line, image_in, images_in, AreUnitedLines, IsUnitedText, IsSketchedText, AreSketchedTexts}
 use Rattle.grouped_lines.specs.declared.groups.Grouping.{Grouping}
 use Rattle.grouped_lines.proofs.LastTabs.{before_last, behind_last}
 use Rattle.grouped_lines.proofs.UnitedInTurn.{among_front, among_back}

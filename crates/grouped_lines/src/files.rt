@@ -1,5 +1,5 @@
 //! A file for each group.
-ghost use Rattle.std.specs.Prelude.{◌≡◌, ◌++◌, ℕ, List, true, None, IfOk, IfErr, OnOk};
+ghost use Rattle.std.specs.Prelude.{◌≡◌, ◌++◌, ℕ, List, true, None, IfOk, OnOk};
 ghost use Rattle.core_laws.specs.Refusal.{Refuses};
 ghost use Rattle.grouped_lines.specs.Groups.{AreLeft};
 ghost use Rattle.grouped_lines.specs.Files.{is_plain, spelled, file_name, file_bytes, contents_of, files_of};

@@ -3,7 +3,6 @@ ghost use Rattle.std.specs.Prelude.{◌≡◌, ℕ, List, [], None, Some, IfOk, 
 ghost use Rattle.core_laws.specs.Refusal.{Refuses};
 ghost use Rattle.core_laws.specs.Settings.{settings_refusal};
 ghost use Rattle.core_laws.specs.declared.TheConstants.{MAX_THETA};
-ghost use Rattle.lines.specs.Keys.{key_of};
 ghost use Rattle.lines.specs.declared.key.Hashing.{Hashing};
 ghost use Rattle.line_sketches.specs.Keys.{line_state, new_state, with_line};
 ghost use Rattle.grouped_lines.specs.Groups.{AreLeft, HasGroups, IsNext};

@@ -10,7 +10,7 @@ ghost use Rattle.core_operators.specs.Union.{empty_union};
 ghost use Rattle.theta_sketches.specs.Image.{IsReadable};
 ghost use Rattle.grouped_lines.specs.Tabs.{before_tab};
 ghost use Rattle.grouped_lines.specs.United.{image_line, image_in, IsUniting, AreReady, UpdatesUnion, BeginsUnion};
-ghost use Rattle.grouped_lines.specs.United.{AreUnited, HasUnions, AreSound, IsNextUnited, IsFlawed, IsNotOneImage, IsNotAdded};
+ghost use Rattle.grouped_lines.specs.United.{AreUnited, HasUnions, AreSound, IsNextUnited, IsNotOneImage, IsNotAdded};
 
 use crate::tabs::cut_last;
 use line_sketches::{

@@ -12,7 +12,7 @@ use Rattle.core_images.specs.declared.preamble.Preamble.{Preamble}
 use Rattle.core_laws.specs.Entries.{hash_key}
 use Rattle.core_laws.specs.declared.TheConstants.{MAX_THETA}
 use Rattle.theta_sketches.specs.Image.{Reads, SpellsSketch, version_3, version_2_empty, version_2_exact, version_2_estimating, version_1, ReadsUnflagged, vacant_image, filled_image, is_vacant}
-use Rattle.line_sketches.specs.Header.{longs_at, version_at, family_at, has_longs, has_version, preamble_length, has_preamble, announced_count, image_length, entry_count, BeginsWithImage, is_vacant_image, checks_seed, flaw_by_length, flaw_of_preamble, flaw_of, MayBeRead}
+use Rattle.line_sketches.specs.Header.{longs_at, version_at, family_at, has_longs, has_version, preamble_length, has_preamble, announced_count, image_length, entry_count, BeginsWithImage, is_vacant_image, checks_seed, flaw_by_length, flaw_of, MayBeRead}
 use Rattle.line_sketches.specs.Hex.{digit_of, are_digits}
 use Rattle.line_sketches.specs.declared.header.Flaw.{Flaw}
 use Rattle.line_sketches.specs.declared.header.Flaw.TheVariants.{Hexadecimal, Short, Family, Version, BigEndian, Seed, Cut, Longer, Damaged}

@@ -1,7 +1,7 @@
 -- The hashes of lines, and their sketch.
 use Rattle.std.specs.Prelude.{ℕ, ◌≡◌, ◌⊎◌, ◌^◌, Bool, true, false, List, [], ◌∷◌, map}
 use Rattle.sketch_base.specs.Seed.{seed_hash}
-use Rattle.core_compact.specs.CompactState.{Compact, empty_compact, ordered_sketch}
+use Rattle.core_compact.specs.CompactState.{Compact, ordered_sketch}
 use Rattle.core_laws.specs.Entries.{hash_step, hash_key}
 use Rattle.core_laws.specs.declared.leaf.LeafStep.{LeafStep}
 use Rattle.core_laws.specs.declared.leaf.LeafStep.TheVariants.{Add}

@@ -1,7 +1,7 @@
 //! What the preamble of an image says: how long the image is, how many hashes it has, and why bytes are not read. The
 //! rules are those of `CompactThetaSketch::deserialize_with_seed`.
 ghost use Rattle.std.specs.Prelude.{◌≡◌, ◌≤◌, ◌*◌, true, length};
-ghost use Rattle.line_sketches.specs.Header.{longs_at, version_at, has_longs, has_version, is_flagged_empty, preamble_length, has_preamble, is_single, announced_count, image_length, entry_count, is_vacant_image, checks_seed, flaw_by_length, flaw_of_preamble, flaw_of};
+ghost use Rattle.line_sketches.specs.Header.{version_at, has_longs, has_version, is_flagged_empty, preamble_length, has_preamble, is_single, announced_count, image_length, entry_count, is_vacant_image, checks_seed, flaw_by_length, flaw_of_preamble, flaw_of};
 
 use crate::hex::are_digits;
 use core_images::{count_at, seed_hash_at, theta_at};

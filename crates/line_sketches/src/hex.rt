@@ -1,5 +1,5 @@
 //! Images as text: two hexadecimal digits per byte.
-ghost use Rattle.std.specs.Prelude.{◌≡◌, ◌++◌, ◌∷◌, ◌<◌, ℕ, List, [], Option, Some, None, IfOk, IfSome, OnOk, MatchOption};
+ghost use Rattle.std.specs.Prelude.{◌≡◌, ◌++◌, ◌∷◌, ◌<◌, [], Option, Some, None, IfOk, IfSome, OnOk, MatchOption};
 ghost use Rattle.std.specs.Char.{digit_char};
 ghost use Rattle.line_sketches.specs.Hex.{hex_of, digit_of, are_digits, pair_of, bytes_of_hex};
 

@@ -1,6 +1,6 @@
 -- Sketches of sums of lines that were sketched apart: their union, in folds, has the sums of all lines.
-use Rattle.std.proofs.Common.{◌≡◌, ℕ, ◌+◌, ◌^◌, ◌≤◌, ◌<◌, Bool, true, false, cond, eqb, ltb, List, [], ◌∷◌, ◌++◌, map, Option, Some, None, IsSome, inl, inr, refl, sym, ap, subst, ◌∙◌, arith}
-use Rattle.std.specs.Prelude.{◌⊎◌, ⊤, is_none}
+use Rattle.std.proofs.Common.{◌≡◌, ℕ, ◌+◌, ◌^◌, ◌≤◌, ◌<◌, true, false, cond, eqb, ltb, List, [], ◌∷◌, ◌++◌, map, Option, Some, None, IsSome, inl, inr, refl, sym, ap, subst, ◌∙◌, arith}
+use Rattle.std.specs.Prelude.{⊤, is_none}
 use Rattle.std.specs.List.{AllByRecursion}
 use Rattle.std.specs.Option.{option_map, option_map_or}
 use Rattle.std.proofs.lemmas.Bool.Decides.{nat_tests}
@@ -21,7 +21,7 @@ use Rattle.core_laws.proofs.maps.Ascending.{ascending-nil}
 use Rattle.core_laws.proofs.maps.LookUps.{same_map}
 use Rattle.core_laws.proofs.maps.MapsOfLists.{ascending-apart, ascending-map, ascending-from_map}
 use Rattle.core_laws.proofs.maps.MappedEntries.{below-map, entry_at-map, rank-map}
-use Rattle.core_laws.proofs.operators.JoinedMaps.{either, entry_at-joined, ascending-joined}
+use Rattle.core_laws.proofs.operators.JoinedMaps.{either, entry_at-joined}
 use Rattle.core_laws.proofs.operators.Samples.{lawful_less, union_lawful}
 use Rattle.core_laws.proofs.operators.Unions.{ascending-joined_all}
 use Rattle.core_policies.specs.Summaries.{combined, combine_refused, combined-keeps}
@@ -30,7 +30,7 @@ use Rattle.core_slots.specs.Entry.{tuple_key, tuple_of, with_summary}
 use Rattle.core_slots.specs.declared.entry.TupleEntry.{TupleEntry}
 use Rattle.lines.specs.Keys.{line_hash}
 use Rattle.lines.specs.declared.key.Hashing.{Hashing}
-use Rattle.line_sketches.specs.Keys.{key_set, value_of_lines, IsAmong}
+use Rattle.line_sketches.specs.Keys.{key_set, IsAmong}
 use Rattle.line_sketches.proofs.Compacts.{set_retained}
 use Rattle.line_sketches.proofs.Shards.{all_lines, lawful, sample, sets-joined}
 use Rattle.line_sums.specs.Sums.{sum_at, sums_of_lines}

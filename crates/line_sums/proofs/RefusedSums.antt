@@ -1,9 +1,8 @@
 -- When images of sums are not read, or not added to a union.
-use Rattle.std.proofs.Common.{◌≡◌, ℕ, List, Option, Some, None, inl, inr, refl, subst}
-use Rattle.std.specs.Prelude.{◌⊎◌, IfSome, MatchOption, min}
+use Rattle.std.proofs.Common.{◌≡◌, ℕ, List, Option, Some, None, inl, inr, subst}
+use Rattle.std.specs.Prelude.{IfSome, MatchOption}
 use Rattle.sketch_base.specs.Seed.{seed_hash}
 use Rattle.sketch_base.specs.declared.error.ErrorKind.{ErrorKind}
-use Rattle.sketch_base.specs.declared.error.ErrorKind.TheVariants.{OutOfMemory, Policy}
 use Rattle.core_compact.specs.CompactState.{Compact}
 use Rattle.core_images.specs.Read.{IsRefused}
 use Rattle.core_images.specs.Summary.{SpellsNumber, SpellsTuple}

@@ -1,5 +1,5 @@
 -- The preambles of images of sums that are read: what they say is true, and the image alone is read too.
-use Rattle.std.proofs.Common.{◌≡◌, ℕ, ◌+◌, ◌*◌, ◌≤◌, Bool, true, false, cond, not, ◌&&◌, ◌||◌, eqb, ltb, leb, List, length, take, Option, Some, None, refl, sym, ap, subst, ◌∙◌, inl, inr, arith, length-append}
+use Rattle.std.proofs.Common.{◌≡◌, ℕ, ◌+◌, ◌*◌, ◌≤◌, Bool, true, false, cond, not, ◌&&◌, ◌||◌, eqb, ltb, leb, List, length, take, Option, Some, None, sym, ap, subst, ◌∙◌, inl, inr, arith, length-append}
 use Rattle.core_compact.specs.CompactState.{Compact}
 use Rattle.core_images.specs.Preamble.{has_bit, is_empty, seed_hash_at, count_at}
 use Rattle.core_images.specs.Read.{ReadsFlagged}
@@ -10,7 +10,6 @@ use Rattle.tuple_sketches.specs.Image.{IsVersion, IsSketchType}
 use Rattle.line_sketches.specs.Header.{longs_at, version_at, family_at, has_longs, flaw_by_length, MayBeRead}
 use Rattle.line_sketches.specs.Hex.{are_digits}
 use Rattle.line_sketches.specs.SumsHeader.{has_sums_version, has_sums_type, sums_preamble_length, has_sums_preamble, announced_sums, sums_length, sums_count, sums_flaw_of}
-use Rattle.line_sketches.specs.declared.header.Flaw.{Flaw}
 use Rattle.line_sketches.specs.declared.header.Flaw.TheVariants.{Hexadecimal, Short, Family, Version, BigEndian, Seed, Damaged}
 use Rattle.line_sketches.proofs.Preambles.{flagged_alone, begins_same, byte_at, at_most, not_below, both_true, second_false, past, either_way, no_digits, not_other, size_flaw}
 use Rattle.line_sums.specs.Images.{ReadsSums, BeginsWithSums}

@@ -1,10 +1,9 @@
 -- Images of sums that are read, and united one after another.
-use Rattle.std.proofs.Common.{◌≡◌, ℕ, ◌^◌, ◌<◌, ◌≤◌, true, false, cond, List, [], ◌∷◌, ◌++◌, map, Option, Some, None, Result, Ok, Err, arith, refl, sym, ap, subst, ◌∙◌, append-nil}
+use Rattle.std.proofs.Common.{◌≡◌, ℕ, ◌^◌, ◌<◌, true, false, cond, List, [], ◌∷◌, ◌++◌, map, Result, Ok, Err, arith, refl, sym, ap, subst, ◌∙◌, append-nil}
 use Rattle.std.specs.Prelude.{IfOk, OnOk}
 use Rattle.sketch_base.specs.Seed.{seed_hash}
 use Rattle.sketch_base.specs.declared.error.ErrorKind.{ErrorKind}
 use Rattle.core_compact.specs.CompactState.{Compact, IsCompact, compact_value, ordered_sketch}
-use Rattle.core_images.specs.Summary.{SpellsNumber}
 use Rattle.core_laws.specs.Cuts.{Retained}
 use Rattle.core_laws.specs.Entries.{hash_key}
 use Rattle.core_laws.specs.Folds.{Fold, fold_key, unmarked_value}
@@ -20,7 +19,7 @@ use Rattle.core_operators.specs.Union.{Union, union_value, empty_union}
 use Rattle.core_slots.specs.Entry.{tuple_key, tuple_of}
 use Rattle.core_slots.specs.declared.entry.TupleEntry.{TupleEntry}
 use Rattle.core_table.proofs.OtherOrders.{map_of-ascending}
-use Rattle.tuple_sketches.specs.Image.{Reads, HasValues}
+use Rattle.tuple_sketches.specs.Image.{HasValues}
 use Rattle.lines.specs.Lines.{lines_of, lines_of_all}
 use Rattle.lines.specs.declared.key.Hashing.{Hashing}
 use Rattle.line_sketches.specs.Keys.{key_set}
@@ -29,7 +28,7 @@ use Rattle.line_sketches.proofs.Shards.{lines_apart, sample}
 use Rattle.line_sketches.proofs.Unions.{Joins, made_same, value_more}
 use Rattle.line_sums.specs.Images.{AreReadSums, AreImagesOfTexts, ReadsSums, written_sums}
 use Rattle.line_sums.specs.Sums.{sum_at, sums_of_lines, sketch_of_sums}
-use Rattle.line_sums.specs.Unions.{add_folds, folds_of_sketches, united_sums, HasUnitedSums, IsUnitedSums}
+use Rattle.line_sums.specs.Unions.{add_folds, folds_of_sketches, HasUnitedSums, IsUnitedSums}
 use Rattle.line_sums.proofs.Joined.{add_keeps, AreValues, map_self, united_exact}
 
 -- bytes are read as one sketch of sums at most

@@ -4,7 +4,7 @@ ghost use Rattle.lines.specs.Keys.{key_of, line_hash};
 ghost use Rattle.lines.specs.declared.key.Hashing.{Hashing};
 ghost use Rattle.lines.specs.declared.key.Key.{Key};
 ghost use Rattle.lines.specs.declared.key.Key.TheVariants.{Field};
-ghost use Rattle.line_sums.specs.Amounts.{amount_in, IsRead, IsOpenNumber, IsCounted, IsOpenAddend};
+ghost use Rattle.line_sums.specs.Amounts.{amount_in, IsRead, IsOpenNumber, IsOpenAddend};
 ghost use Rattle.line_sums.specs.declared.addends.Amount.{Amount};
 ghost use Rattle.line_sums.specs.declared.addends.Amount.TheVariants.{One};
 

@@ -1,7 +1,5 @@
 //! How many keys have their sum in each bin: 1, 2, 3 to 4, 5 to 8, and so on.
-ghost use Rattle.std.specs.Prelude.{◌≡◌, ◌≤◌, ◌<◌, ◌^◌, length};
-ghost use Rattle.core_compact.specs.CompactState.{IsCompact};
-ghost use Rattle.core_slots.specs.Entry.{tuple_key};
+ghost use Rattle.std.specs.Prelude.{◌≡◌, ◌<◌, ◌^◌, length};
 ghost use Rattle.line_sums.specs.Bins.{least_of, greatest_of, is_in, greatest, sums_in, keys_in};
 
 use std::alloc::Allocator;

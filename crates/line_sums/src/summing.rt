@@ -6,7 +6,7 @@ ghost use Rattle.core_laws.specs.declared.TheConstants.{MAX_THETA};
 ghost use Rattle.lines.specs.Keys.{line_hash};
 ghost use Rattle.lines.specs.Lines.{lines_of, lines_after};
 ghost use Rattle.lines.specs.declared.key.Hashing.{Hashing};
-ghost use Rattle.line_sums.specs.Amounts.{amount_in, IsOpenAddend};
+ghost use Rattle.line_sums.specs.Amounts.{IsOpenAddend};
 ghost use Rattle.line_sums.specs.Sums.{HasAdded, HasSummed, sketch_of_sums};
 ghost use Rattle.line_sums.specs.Reading.{HasTaken};
 ghost use Rattle.line_sums.specs.Refusals.{IsAddRefusal, IsLastingFailure, IsUnsummed, LacksNumber, LacksNumberIn, RefusesSums};

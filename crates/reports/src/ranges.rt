@@ -1,6 +1,6 @@
 //! The lines that are written of the values of a stream that come from some number of times to another. Each ends in LF,
 //! and fails only if memory is refused.
-ghost use Rattle.std.specs.Prelude.{◌≡◌, ◌++◌, IfOk, OnOk, string_bytes};
+ghost use Rattle.std.specs.Prelude.{◌≡◌, IfOk, string_bytes};
 ghost use Rattle.reports.specs.Ranges.{range_json_line, range_line, range_text, range_tsv_head, range_tsv_row};
 
 use crate::forms::{count_line, put_fields, tsv_head, tsv_row};

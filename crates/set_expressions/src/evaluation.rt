@@ -1,5 +1,5 @@
 //! Evaluates expressions over sketches of any family.
-ghost use Rattle.std.specs.Prelude.{◌≡◌, ℕ, List, [], length, true, false, None, Some, IfOk, IfErr, OnOk};
+ghost use Rattle.std.specs.Prelude.{◌≡◌, List, [], length, true, false, None, Some, IfOk, IfErr, OnOk};
 ghost use Rattle.sketch_base.specs.Seed.{seed_hash};
 ghost use Rattle.core_compact.specs.CompactState.{ordered_sketch};
 ghost use Rattle.core_laws.specs.Refusal.{Refuses};

@@ -1,5 +1,5 @@
 //! The calls of a family of sketches that expressions need.
-ghost use Rattle.std.specs.Prelude.{◌≡◌, ◌∷◌, [], None, true, IfOk, IfErr};
+ghost use Rattle.std.specs.Prelude.{◌≡◌, None, true, IfOk, IfErr};
 ghost use Rattle.sketch_base.specs.Seed.{seed_hash};
 ghost use Rattle.core_compact.specs.CompactState.{IsAnswer};
 ghost use Rattle.core_laws.specs.Refusal.{Refuses};

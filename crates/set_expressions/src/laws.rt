@@ -1,5 +1,5 @@
 //! Laws of expressions, each the contract of a function that does nothing.
-ghost use Rattle.std.specs.Prelude.{◌≡◌, ℕ, List, Some};
+ghost use Rattle.std.specs.Prelude.{ℕ, List};
 ghost use Rattle.core_laws.specs.Entries.{hash_key};
 ghost use Rattle.core_laws.specs.Samples.{IsSample, AreSamples};
 ghost use Rattle.core_laws.specs.Values.{Sketch};

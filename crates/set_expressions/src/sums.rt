@@ -7,7 +7,7 @@ ghost use Rattle.core_laws.specs.Values.{Sketch};
 ghost use Rattle.core_laws.specs.Refusal.{Refuses};
 ghost use Rattle.core_laws.specs.Settings.{settings_refusal};
 ghost use Rattle.core_laws.specs.declared.TheConstants.{MAX_THETA};
-ghost use Rattle.core_operators.specs.Intersection.{seed_refusal, new_intersection};
+ghost use Rattle.core_operators.specs.Intersection.{seed_refusal};
 ghost use Rattle.core_operators.specs.Union.{empty_union, union_value};
 ghost use Rattle.core_slots.specs.Entry.{tuple_key};
 ghost use Rattle.core_slots.specs.declared.entry.TupleEntry.{TupleEntry};

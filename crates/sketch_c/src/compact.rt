@@ -2,11 +2,11 @@
 ghost use Rattle.std.specs.Prelude.{◌≡◌, true, None, option_map};
 ghost use Rattle.sketch_objects.specs.Bounds.{is_state};
 ghost use Rattle.sketch_objects.specs.Buffer.{WritesOf};
-ghost use Rattle.sketch_c.specs.Calls.{Fills, FillsFrom, WritesValue};
+ghost use Rattle.c_handles.specs.Calls.{Fills, FillsFrom, WritesValue};
 ghost use Rattle.sketch_objects.specs.Status.{IsMemoryRefusal};
 ghost use Rattle.sketch_objects.specs.Thetas.{compact_state, IsCompactImage, IsCopy, IsReadFrom, IsReadRefusal};
 
-use crate::handles::CompactHandle;
+use c_handles::handles::CompactHandle;
 use sketch_objects::state::State;
 use std::alloc::Global;
 

@@ -2,11 +2,11 @@
 ghost use Rattle.std.specs.Prelude.{◌≡◌, true, None, option_map, length};
 ghost use Rattle.sketch_objects.specs.Bounds.{is_state, wide};
 ghost use Rattle.sketch_objects.specs.Buffer.{WritesOf};
-ghost use Rattle.sketch_c.specs.Calls.{Fills, WritesValue};
+ghost use Rattle.c_handles.specs.Calls.{Fills, WritesValue};
 ghost use Rattle.sketch_objects.specs.CompactSums.{IsSumsReadFrom, IsSumsReadRefusal, compact_sums_state, IsCompactSumsImage, compact_total, CopiesEntries};
 ghost use Rattle.sketch_objects.specs.Status.{IsMemoryRefusal};
 
-use crate::handles::CompactSumsHandle;
+use c_handles::handles::CompactSumsHandle;
 use sketch_objects::bounds::Wide;
 use sketch_objects::compact_sums::put_entries;
 use sketch_objects::state::State;

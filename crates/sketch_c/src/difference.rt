@@ -1,9 +1,9 @@
 //! Differences of theta sketches.
 ghost use Rattle.std.specs.Prelude.{◌≡◌};
-ghost use Rattle.sketch_c.specs.Calls.{FillsFromTwo};
+ghost use Rattle.c_handles.specs.Calls.{FillsFromTwo};
 ghost use Rattle.sketch_objects.specs.Intersections.{IsDifferenceOf, IsDifferenceRefusal};
 
-use crate::handles::CompactHandle;
+use c_handles::handles::CompactHandle;
 use sketch_objects::difference::difference;
 use sketch_objects::status::INVALID_ARGUMENT;
 use std::alloc::Global;

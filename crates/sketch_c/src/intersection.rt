@@ -1,9 +1,9 @@
 //! Intersections of theta sketches.
 ghost use Rattle.std.specs.Prelude.{◌≡◌, None};
-ghost use Rattle.sketch_c.specs.Calls.{OnObject, OnObjectWith, Fills, FillsFrom};
+ghost use Rattle.c_handles.specs.Calls.{OnObject, OnObjectWith, Fills, FillsFrom};
 ghost use Rattle.sketch_objects.specs.Intersections.{IsNewIntersection, IsSeedRefusal, MeetsSketch, MeetsCompact, MeetsImage, IsIntersectionResult, IsNoResult};
 
-use crate::handles::{CompactHandle, IntersectionHandle, ThetaHandle};
+use c_handles::handles::{CompactHandle, IntersectionHandle, ThetaHandle};
 use sketch_objects::intersection::built;
 use std::alloc::Global;
 

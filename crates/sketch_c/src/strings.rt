@@ -1,8 +1,8 @@
 //! Many byte strings at a call.
-ghost use Rattle.sketch_c.specs.Calls.{OnObject};
+ghost use Rattle.c_handles.specs.Calls.{OnObject};
 ghost use Rattle.sketch_objects.specs.Strings.{UpdatesStrings};
 
-use crate::handles::ThetaHandle;
+use c_handles::handles::ThetaHandle;
 use sketch_objects::status::INVALID_ARGUMENT;
 use sketch_objects::strings::update_strings;
 use std::alloc::Global;

@@ -3,12 +3,12 @@ ghost use Rattle.std.specs.Prelude.{◌≡◌, true, None, option_map};
 ghost use Rattle.core_laws.specs.declared.TheConstants.{MAX_THETA};
 ghost use Rattle.sketch_objects.specs.Bounds.{is_state, wide};
 ghost use Rattle.sketch_objects.specs.Buffer.{WritesOf};
-ghost use Rattle.sketch_c.specs.Calls.{OnObject, Fills, FillsFrom, WritesValue};
+ghost use Rattle.c_handles.specs.Calls.{OnObject, Fills, FillsFrom, WritesValue};
 ghost use Rattle.sketch_objects.specs.Settings.{IsSettingsRefusal, IsNewRefusal};
 ghost use Rattle.sketch_objects.specs.Status.{IsMemoryRefusal};
 ghost use Rattle.sketch_objects.specs.Sums.{IsNewSums, IsSameSums, AddsValue, AddsAtBytes, AddsAtNumber, TrimsSums, ResetsSums, sums_state, sums_total, IsImageOfSums, IsCompactFormOfSums};
 
-use crate::handles::{CompactSumsHandle, SumsHandle};
+use c_handles::handles::{CompactSumsHandle, SumsHandle};
 use sketch_objects::bounds::Wide;
 use sketch_objects::settings::factor_of;
 use sketch_objects::state::State;

@@ -1,9 +1,9 @@
 //! Differences of tuple sketches of sums.
 ghost use Rattle.std.specs.Prelude.{◌≡◌};
-ghost use Rattle.sketch_c.specs.Calls.{FillsFromTwo};
+ghost use Rattle.c_handles.specs.Calls.{FillsFromTwo};
 ghost use Rattle.sketch_objects.specs.SumsIntersections.{IsDifferenceOfSums, IsSumsDifferenceRefusal};
 
-use crate::handles::CompactSumsHandle;
+use c_handles::handles::CompactSumsHandle;
 use sketch_objects::status::INVALID_ARGUMENT;
 use sketch_objects::sums_difference::difference;
 use std::alloc::Global;

@@ -1,10 +1,10 @@
 //! Intersections of tuple sketches of sums.
 ghost use Rattle.std.specs.Prelude.{◌≡◌, None};
-ghost use Rattle.sketch_c.specs.Calls.{OnObject, OnObjectWith, Fills, FillsFrom};
+ghost use Rattle.c_handles.specs.Calls.{OnObject, OnObjectWith, Fills, FillsFrom};
 ghost use Rattle.sketch_objects.specs.Intersections.{IsSeedRefusal};
 ghost use Rattle.sketch_objects.specs.SumsIntersections.{IsNewSumsIntersection, MeetsSketchOfSums, MeetsCompactSums, MeetsSumsImage, IsSumsIntersectionResult, IsNoSumsResult};
 
-use crate::handles::{CompactSumsHandle, SumsHandle, SumsIntersectionHandle};
+use c_handles::handles::{CompactSumsHandle, SumsHandle, SumsIntersectionHandle};
 use sketch_objects::sums_intersection::built;
 use std::alloc::Global;
 

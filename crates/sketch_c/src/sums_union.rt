@@ -1,11 +1,11 @@
 //! Unions of tuple sketches of sums.
 ghost use Rattle.std.specs.Prelude.{◌≡◌, None};
 ghost use Rattle.sketch_objects.specs.Buffer.{WritesOf};
-ghost use Rattle.sketch_c.specs.Calls.{OnObject, OnObjectWith, Fills, FillsFrom};
+ghost use Rattle.c_handles.specs.Calls.{OnObject, OnObjectWith, Fills, FillsFrom};
 ghost use Rattle.sketch_objects.specs.Settings.{IsSettingsRefusal};
 ghost use Rattle.sketch_objects.specs.SumsUnions.{IsNewSumsUnion, AddsSums, AddsCompactSums, AddsSumsImage, IsSumsUnionResult, IsSumsUnionImage, IsSumsResultRefusal, ResetsSumsUnion};
 
-use crate::handles::{CompactSumsHandle, SumsHandle, SumsUnionHandle};
+use c_handles::handles::{CompactSumsHandle, SumsHandle, SumsUnionHandle};
 use sketch_objects::sums_union::built;
 use std::alloc::Global;
 

@@ -3,12 +3,12 @@ ghost use Rattle.std.specs.Prelude.{◌≡◌, true, None, Some, option_map};
 ghost use Rattle.core_laws.specs.declared.TheConstants.{MAX_THETA};
 ghost use Rattle.sketch_objects.specs.Bounds.{is_state};
 ghost use Rattle.sketch_objects.specs.Buffer.{WritesOf};
-ghost use Rattle.sketch_c.specs.Calls.{OnObject, Fills, FillsFrom, WritesValue};
+ghost use Rattle.c_handles.specs.Calls.{OnObject, Fills, FillsFrom, WritesValue};
 ghost use Rattle.sketch_objects.specs.Settings.{IsSettingsRefusal, IsNewRefusal};
 ghost use Rattle.sketch_objects.specs.Status.{IsMemoryRefusal};
 ghost use Rattle.sketch_objects.specs.Thetas.{IsNewSketch, IsSameSketch, UpdatesHash, UpdatesNumber, UpdatesBytes, UpdatesHashes, Trims, Resets, theta_state, IsImageOf, IsCompactForm};
 
-use crate::handles::{CompactHandle, ThetaHandle};
+use c_handles::handles::{CompactHandle, ThetaHandle};
 use sketch_objects::settings::factor_of;
 use sketch_objects::state::State;
 use sketch_objects::status::INVALID_ARGUMENT;

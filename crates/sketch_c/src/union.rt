@@ -1,11 +1,11 @@
 //! Unions of theta sketches.
 ghost use Rattle.std.specs.Prelude.{◌≡◌, None};
 ghost use Rattle.sketch_objects.specs.Buffer.{WritesOf};
-ghost use Rattle.sketch_c.specs.Calls.{OnObject, OnObjectWith, Fills, FillsFrom};
+ghost use Rattle.c_handles.specs.Calls.{OnObject, OnObjectWith, Fills, FillsFrom};
 ghost use Rattle.sketch_objects.specs.Settings.{IsSettingsRefusal};
 ghost use Rattle.sketch_objects.specs.Unions.{IsNewUnion, AddsSketch, AddsCompact, AddsImage, IsUnionResult, IsUnionImage, IsResultRefusal, ResetsUnion};
 
-use crate::handles::{CompactHandle, ThetaHandle, UnionHandle};
+use c_handles::handles::{CompactHandle, ThetaHandle, UnionHandle};
 use sketch_objects::union::built;
 use std::alloc::Global;
 

@@ -1,7 +1,6 @@
-use Rattle.std.proofs.Common.{ℕ, ◌≡◌, List, ◌∷◌, ◌++◌, sym, ap, subst, ◌∙◌}
+use Rattle.std.proofs.Common.{◌≡◌, ◌∷◌, ◌++◌, sym, ap, subst, ◌∙◌}
 use Rattle.grouped_lines.specs.Groups.{group_sketch, IsNext}
 use Rattle.grouped_lines.specs.Files.{file_name, file_bytes, contents_of, files_of}
-use Rattle.grouped_lines.specs.declared.files.GroupFile.{GroupFile}
 use Rattle.grouped_lines.proofs.GroupFiles.{file_added}
 use Rattle.grouped_lines.proofs.files.files_of.Goals as goal
 

@@ -1,4 +1,4 @@
-use Rattle.std.proofs.Common.{◌≡◌, ◌++◌, sym, ap, ◌∙◌, append-nil}
+use Rattle.std.proofs.Common.{◌++◌, sym, ap, ◌∙◌}
 use Rattle.std.specs.Prelude.{flat_map}
 use Rattle.grouped_lines.specs.declared.ranked.Ranked.{Ranked}
 use Rattle.grouped_lines.proofs.Ranking.{text_joined, all_joined}

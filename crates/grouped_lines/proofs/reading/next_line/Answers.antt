@@ -1,4 +1,4 @@
-use Rattle.std.proofs.Common.{ℕ, arith}
+use Rattle.std.proofs.Common.{arith}
 use Rattle.std.specs.Io.Buffered.{reader_remaining}
 use Rattle.grouped_lines.proofs.WholeLines.{line_read}
 use Rattle.grouped_lines.proofs.reading.next_line.Goals as goal

@@ -1,4 +1,4 @@
-use Rattle.std.proofs.Common.{refl, ap, sym, ◌∙◌, cond, ◌++◌, ◌∷◌, [], ne_eqb}
+use Rattle.std.proofs.Common.{ap, sym, ◌∙◌, cond, ◌++◌, ◌∷◌, [], ne_eqb}
 use Rattle.std.proofs.lemmas.Bool.{eq-eqb}
 use Rattle.grouped_lines.specs.Groups.{without_lf}
 use Rattle.grouped_lines.proofs.WholeLines.{without_last}

@@ -1,9 +1,7 @@
-use Rattle.std.proofs.Common.{ℕ, List, Option, None, [], ◌++◌, ◌∷◌, true, eqb, sym, ap, subst, ◌∙◌, append-nil, append_assoc}
+use Rattle.std.proofs.Common.{ℕ, List, [], ◌++◌, ◌∷◌, eqb, sym, ap, subst, ◌∙◌, append-nil, append_assoc}
 use Rattle.std.specs.Option.{option_map}
-use Rattle.std.specs.Prelude.{IfSome}
 use Rattle.std.specs.Io.Buffered.{reader_remaining}
 use Rattle.lines.specs.Lines.{lines_of}
-use Rattle.line_sketches.specs.Keys.{IsAmong}
 use Rattle.grouped_lines.specs.Groups.{without_lf}
 use Rattle.grouped_lines.specs.Reading.{ReadsLine}
 use Rattle.grouped_lines.specs.United.{IsUniting, IsNotAdded}

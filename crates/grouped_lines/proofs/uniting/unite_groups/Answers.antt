@@ -1,4 +1,4 @@
-use Rattle.std.proofs.Common.{ℕ, ◌≡◌, List, Some, None, [], ◌++◌, ◌∷◌, sym, subst}
+use Rattle.std.proofs.Common.{ℕ, List, [], ◌++◌, ◌∷◌, sym, subst}
 use Rattle.std.specs.Prelude.{IfErr}
 use Rattle.std.specs.Option.{option_map}
 use Rattle.std.proofs.lemmas.Result.{err_from_is_err_and}

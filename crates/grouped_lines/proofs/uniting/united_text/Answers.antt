@@ -1,6 +1,6 @@
-use Rattle.std.proofs.Common.{ℕ, ◌≡◌, ◌++◌, List, refl, sym, ap, subst, ◌∙◌}
+use Rattle.std.proofs.Common.{◌≡◌, ◌++◌, sym, ap, subst, ◌∙◌}
 use Rattle.lines.specs.Lines.{lines_of_all}
-use Rattle.grouped_lines.specs.United.{image_line, AreUnitedLines, IsNextUnited}
+use Rattle.grouped_lines.specs.United.{image_line, IsNextUnited}
 use Rattle.grouped_lines.proofs.UnitedInTurn.{Completes, line_written, all_written}
 use Rattle.grouped_lines.proofs.uniting.united_text.Goals as goal
 

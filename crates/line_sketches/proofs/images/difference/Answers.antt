@@ -6,7 +6,7 @@ use Rattle.core_laws.specs.Entries.{hash_key}
 use Rattle.core_operators.specs.ANotB.{difference_refusal}
 use Rattle.core_operators.specs.Intersection.{seed_refusal}
 use Rattle.line_sketches.specs.Meeting.{refusal_of_difference}
-use Rattle.line_sketches.proofs.Refused.{only_kind, refuses_kind, first_none, first_some}
+use Rattle.line_sketches.proofs.Refused.{only_kind, refuses_kind, first_some}
 use Rattle.line_sketches.proofs.images.difference.Goals as goal
 
 pub returns-in_err-operator-clause-refused : goal.returns-in_err-operator-clause-refused

@@ -1,4 +1,4 @@
-use Rattle.std.proofs.Common.{◌≡◌, ℕ, List}
+use Rattle.std.proofs.Common.{◌≡◌}
 use Rattle.std.specs.List.{AllByRecursion}
 use Rattle.sketch_base.specs.Seed.{seed_hash}
 use Rattle.line_sketches.specs.Sources.{Continues}

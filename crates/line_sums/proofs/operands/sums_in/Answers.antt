@@ -1,5 +1,4 @@
 use Rattle.sketch_base.specs.Seed.{seed_hash}
-use Rattle.line_sums.proofs.ReadOperands.{read_of_reader, unread_image}
 use Rattle.line_sums.proofs.RefusedSums.{sums_seed}
 use Rattle.line_sums.proofs.operands.sums_in.Goals as goal
 

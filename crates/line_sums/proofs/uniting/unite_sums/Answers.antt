@@ -1,6 +1,4 @@
 use Rattle.std.proofs.Common.{ap, ◌∙◌}
-use Rattle.core_compact.specs.CompactState.{Compact}
-use Rattle.core_slots.specs.declared.entry.TupleEntry.{TupleEntry}
 use Rattle.line_sketches.proofs.Turns.{if_some}
 use Rattle.line_sums.specs.Images.{written_sums}
 use Rattle.line_sums.specs.Unions.{IsUnitedSums, AreSumsOfTexts}

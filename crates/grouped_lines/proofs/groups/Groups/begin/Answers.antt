@@ -1,4 +1,4 @@
-use Rattle.std.proofs.Common.{◌≡◌, ◌∙◌, ap, sym, subst}
+use Rattle.std.proofs.Common.{◌∙◌, ap, subst}
 use Rattle.std.specs.Prelude.{Some}
 use Rattle.std.specs.BTreeMap.{UpdatesBy}
 use Rattle.std.specs.Cmp.Lexicographic.{slice_cmp}

@@ -1,7 +1,7 @@
-use Rattle.std.proofs.Common.{ℕ, List, ◌∷◌, [], ◌++◌, true, false, subst}
+use Rattle.std.proofs.Common.{ℕ, List, true, false, subst}
 use Rattle.std.proofs.lemmas.Result.{on_ok_weaker}
 use Rattle.grouped_lines.specs.Tabs.{before_tab}
-use Rattle.grouped_lines.specs.United.{IsUniting, UpdatesUnion, BeginsUnion}
+use Rattle.grouped_lines.specs.United.{UpdatesUnion, BeginsUnion}
 use Rattle.grouped_lines.proofs.ImagesInGroups.{updated_more, begun_more}
 use Rattle.grouped_lines.proofs.united.UnitedGroups.add_image.Goals as goal
 

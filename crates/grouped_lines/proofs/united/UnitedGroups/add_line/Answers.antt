@@ -1,8 +1,8 @@
-use Rattle.std.proofs.Common.{ℕ, ◌≡◌, ◌<◌, List, [], ◌∷◌, ◌++◌, length, subst, sym, ap, ◌∙◌, inr}
+use Rattle.std.proofs.Common.{ℕ, ◌<◌, List, length, subst, sym, ◌∙◌, inr}
 use Rattle.std.specs.Prelude.{IfErr, IfSome}
 use Rattle.std.proofs.lemmas.Result.{err_from_is_err_and}
 use Rattle.line_sketches.specs.Header.{image_length}
-use Rattle.grouped_lines.specs.United.{IsUniting, IsNotAdded, image_in}
+use Rattle.grouped_lines.specs.United.{IsNotAdded}
 use Rattle.grouped_lines.proofs.united.UnitedGroups.add_line.Goals as goal
 
 pub returns-in_err-name-clause-failed : goal.returns-in_err-name-clause-failed

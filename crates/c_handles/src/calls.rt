@@ -1,0 +1,152 @@
+//! Calls on objects of several kinds, once for all.
+ghost use Rattle.std.specs.Prelude.{◌≡◌, true, option_map};
+ghost use Rattle.c_handles.specs.Calls.{OnObject, OnObjectWith, Fills, FillsFrom, WritesValue};
+ghost use Rattle.sketch_objects.specs.Bounds.{is_state, wide};
+ghost use Rattle.sketch_objects.specs.Buffer.{WritesOf};
+ghost use Rattle.sketch_objects.specs.Status.{IsMemoryRefusal};
+
+use crate::owned::Owned;
+use sketch_objects::bounds::Wide;
+use sketch_objects::buffer::put_made;
+use sketch_objects::objects::{
+    Accepts, AcceptsImages, CanCopy, CanReset, CanTrim, FromImage, HasCompact, HasImage, HasState,
+    HasTotal,
+};
+use sketch_objects::state::State;
+use sketch_objects::status::{INVALID_ARGUMENT, OK};
+use std::alloc::Global;
+
+impl<T: HasState> Owned<T> {
+    /// Writes the state of the object.
+    pub fn state(&mut self, out: &mut State) -> u32
+        ensures state { WritesValue (option_map T.shown self.old.value) out.old result out.new }
+        ensures usable { result ≡ 0 → is_state out.new.retained out.new.theta ≡ true }
+        ensures unchanged { self.new.value ≡ self.old.value }
+    {
+        match self.get() {
+            Some(object) => {
+                *out = object.state();
+                OK
+            }
+            None => INVALID_ARGUMENT,
+        }
+    }
+}
+
+impl<T: HasTotal> Owned<T> {
+    /// Writes the sum of all sums of the sketch.
+    pub fn total(&mut self, out: &mut Wide) -> u32
+        ensures total { WritesValue (option_map (λ s. wide (T.total_sum s)) self.old.value) out.old result out.new }
+        ensures unchanged { self.new.value ≡ self.old.value }
+    {
+        match self.get() {
+            Some(sketch) => {
+                *out = sketch.total();
+                OK
+            }
+            None => INVALID_ARGUMENT,
+        }
+    }
+}
+
+impl<T: HasImage> Owned<T> {
+    /// Writes the image of the object to the front of a buffer, and its length.
+    pub fn image(&mut self, out: &mut [u8], length: &mut u64) -> u32
+        ensures image { WritesOf T.is_image T.no_image self.old.value out.old length.old result out.new length.new }
+        ensures unchanged { self.new.value ≡ self.old.value }
+    {
+        match self.get() {
+            Some(object) => put_made(object.image(), out, length),
+            None => INVALID_ARGUMENT,
+        }
+    }
+}
+
+impl<T: HasCompact> Owned<T> {
+    /// Puts the compact sketch of the object into another pointer.
+    pub fn compact(&mut self, alloc: Global, out: &mut Owned<T::Compact>) -> u32
+        ensures made { FillsFrom T.is_compact T.no_compact self.old.value out.old.value result out.new.value }
+        ensures unchanged { self.new.value ≡ self.old.value }
+    {
+        match self.get() {
+            Some(object) => out.put_or(alloc, object.compact()),
+            None => INVALID_ARGUMENT,
+        }
+    }
+}
+
+impl<T: CanCopy> Owned<T> {
+    /// Puts a copy of the object into another pointer.
+    pub fn copy(&mut self, alloc: Global, out: &mut Owned<T>) -> u32
+        ensures copied { FillsFrom T.is_copy (λ _. IsMemoryRefusal) self.old.value out.old.value result out.new.value }
+        ensures unchanged { self.new.value ≡ self.old.value }
+    {
+        match self.get() {
+            Some(object) => out.put_or(alloc, object.copied()),
+            None => INVALID_ARGUMENT,
+        }
+    }
+}
+
+impl<T: CanTrim> Owned<T> {
+    /// Cuts the sketch to its nominal entries.
+    pub fn trim(&mut self) -> u32
+        ensures { OnObject T.trims self.old.value result self.new.value }
+    {
+        match self.get() {
+            Some(sketch) => sketch.trim(),
+            None => INVALID_ARGUMENT,
+        }
+    }
+}
+
+impl<T: CanReset> Owned<T> {
+    /// Makes the object empty again.
+    pub fn reset(&mut self) -> u32
+        ensures { OnObject T.resets self.old.value result self.new.value }
+    {
+        match self.get() {
+            Some(object) => object.reset(),
+            None => INVALID_ARGUMENT,
+        }
+    }
+}
+
+impl<T> Owned<T> {
+    /// Adds the sketch behind another pointer to the inputs of the operator.
+    pub fn add<S>(&mut self, sketch: &mut Owned<S>) -> u32
+    where
+        T: Accepts<S>,
+        ensures added { OnObjectWith T.adds sketch.old.value self.old.value result self.new.value }
+        ensures unchanged { sketch.new.value ≡ sketch.old.value }
+    {
+        match sketch.get() {
+            Some(input) => match self.get() {
+                Some(operator) => operator.add(input),
+                None => INVALID_ARGUMENT,
+            },
+            None => INVALID_ARGUMENT,
+        }
+    }
+}
+
+impl<T: AcceptsImages> Owned<T> {
+    /// Adds the sketch that bytes begin with to the inputs of the operator.
+    pub fn add_image(&mut self, alloc: Global, image: &[u8]) -> u32
+        ensures { OnObject (T.adds_image image.now) self.old.value result self.new.value }
+    {
+        match self.get() {
+            Some(operator) => operator.add_image(alloc, image),
+            None => INVALID_ARGUMENT,
+        }
+    }
+}
+
+impl<T: FromImage> Owned<T> {
+    /// Puts the sketch that bytes begin with into the pointer, read under a seed.
+    pub fn read(&mut self, alloc: Global, image: &[u8], seed: u64) -> u32
+        ensures { Fills (T.is_read image.now seed) (T.is_unread image.now seed) self.old.value result self.new.value }
+    {
+        self.put_or(alloc, T::read(alloc, image, seed))
+    }
+}

@@ -1,0 +1,111 @@
+//! The handles of C, one type for each kind of object.
+ghost use Rattle.std.specs.Prelude.{Option};
+ghost use Rattle.std.specs.Coded.{coded_option};
+ghost use Rattle.c_handles.specs.Handle.{handle_owns};
+ghost use Rattle.sketch_objects.specs.contracts.compact.CompactSketch as compact_sketch;
+ghost use Rattle.sketch_objects.specs.contracts.compact_sums.CompactSums as compact_sums;
+ghost use Rattle.sketch_objects.specs.contracts.intersection.SeededIntersection as seeded_intersection;
+ghost use Rattle.sketch_objects.specs.contracts.sums.SeededSums as seeded_sums;
+ghost use Rattle.sketch_objects.specs.contracts.sums_intersection.SeededSumsIntersection as seeded_sums_intersection;
+ghost use Rattle.sketch_objects.specs.contracts.sums_union.SeededSumsUnion as seeded_sums_union;
+ghost use Rattle.sketch_objects.specs.contracts.theta.SeededSketch as seeded_sketch;
+ghost use Rattle.sketch_objects.specs.contracts.union.SeededUnion as seeded_union;
+ghost use Rattle.sketch_objects.specs.declared.compact.CompactSketch.{CompactSketch};
+ghost use Rattle.sketch_objects.specs.declared.compact_sums.CompactSums.{CompactSums};
+ghost use Rattle.sketch_objects.specs.declared.intersection.SeededIntersection.{SeededIntersection};
+ghost use Rattle.sketch_objects.specs.declared.sums.SeededSums.{SeededSums};
+ghost use Rattle.sketch_objects.specs.declared.sums_intersection.SeededSumsIntersection.{SeededSumsIntersection};
+ghost use Rattle.sketch_objects.specs.declared.sums_union.SeededSumsUnion.{SeededSumsUnion};
+ghost use Rattle.sketch_objects.specs.declared.theta.SeededSketch.{SeededSketch};
+ghost use Rattle.sketch_objects.specs.declared.union.SeededUnion.{SeededUnion};
+
+use crate::opaque::Opaque;
+use std::marker::Model;
+
+/// A handle of C: a theta sketch that takes updates, or none.
+#[repr(C)]
+pub struct ThetaHandle {
+    at: *mut Opaque,
+    pub ghost value: { Option SeededSketch } by { coded_option seeded_sketch.the_row.coded },
+}
+
+impl Model for ThetaHandle {
+    ghost also_owns = { λ h. handle_owns seeded_sketch.the_row h.at h.value };
+}
+
+/// A handle of C: a compact theta sketch, or none.
+#[repr(C)]
+pub struct CompactHandle {
+    at: *mut Opaque,
+    pub ghost value: { Option CompactSketch } by { coded_option compact_sketch.the_row.coded },
+}
+
+impl Model for CompactHandle {
+    ghost also_owns = { λ h. handle_owns compact_sketch.the_row h.at h.value };
+}
+
+/// A handle of C: a union, or none.
+#[repr(C)]
+pub struct UnionHandle {
+    at: *mut Opaque,
+    pub ghost value: { Option SeededUnion } by { coded_option seeded_union.the_row.coded },
+}
+
+impl Model for UnionHandle {
+    ghost also_owns = { λ h. handle_owns seeded_union.the_row h.at h.value };
+}
+
+/// A handle of C: an intersection, or none.
+#[repr(C)]
+pub struct IntersectionHandle {
+    at: *mut Opaque,
+    pub ghost value: { Option SeededIntersection } by { coded_option seeded_intersection.the_row.coded },
+}
+
+impl Model for IntersectionHandle {
+    ghost also_owns = { λ h. handle_owns seeded_intersection.the_row h.at h.value };
+}
+
+/// A handle of C: a tuple sketch of sums, or none.
+#[repr(C)]
+pub struct SumsHandle {
+    at: *mut Opaque,
+    pub ghost value: { Option SeededSums } by { coded_option seeded_sums.the_row.coded },
+}
+
+impl Model for SumsHandle {
+    ghost also_owns = { λ h. handle_owns seeded_sums.the_row h.at h.value };
+}
+
+/// A handle of C: a compact tuple sketch of sums, or none.
+#[repr(C)]
+pub struct CompactSumsHandle {
+    at: *mut Opaque,
+    pub ghost value: { Option CompactSums } by { coded_option compact_sums.the_row.coded },
+}
+
+impl Model for CompactSumsHandle {
+    ghost also_owns = { λ h. handle_owns compact_sums.the_row h.at h.value };
+}
+
+/// A handle of C: a union of sketches of sums, or none.
+#[repr(C)]
+pub struct SumsUnionHandle {
+    at: *mut Opaque,
+    pub ghost value: { Option SeededSumsUnion } by { coded_option seeded_sums_union.the_row.coded },
+}
+
+impl Model for SumsUnionHandle {
+    ghost also_owns = { λ h. handle_owns seeded_sums_union.the_row h.at h.value };
+}
+
+/// A handle of C: an intersection of sketches of sums, or none.
+#[repr(C)]
+pub struct SumsIntersectionHandle {
+    at: *mut Opaque,
+    pub ghost value: { Option SeededSumsIntersection } by { coded_option seeded_sums_intersection.the_row.coded },
+}
+
+impl Model for SumsIntersectionHandle {
+    ghost also_owns = { λ h. handle_owns seeded_sums_intersection.the_row h.at h.value };
+}
