@@ -153,13 +153,22 @@ module _ {S X : Type 0} (rules : Rules X) (read : S → Compact X) where
   onto_some [] v stack = (v, stack, refl)
   onto_some (s ∷ sketches) v stack = onto_some sketches (compact_value rules.key (read s)) (v ∷ stack)
 
-  pub many_left : (rest : List S) (w : Sketch X) → false ≡ eqb (length rest) 0 → only_value (Some (w ∷ values_onto rules read rest [])) ≡ None
+  many_left : (rest : List S) (w : Sketch X) → false ≡ eqb (length rest) 0 → only_value (Some (w ∷ values_onto rules read rest [])) ≡ None
   many_left [] w some = absurd (cc)
   many_left (s ∷ rest) w some = let more = onto_some rest (compact_value rules.key (read s)) [] in ap (λ vs. only_value (Some (w ∷ vs))) more.2
 
-  pub one_left : (rest : List S) (w : Sketch X) → true ≡ eqb (length rest) 0 → only_value (Some (w ∷ values_onto rules read rest [])) ≡ Some w
+  one_left : (rest : List S) (w : Sketch X) → true ≡ eqb (length rest) 0 → only_value (Some (w ∷ values_onto rules read rest [])) ≡ Some w
   one_left [] w none = refl
   one_left (s ∷ rest) w none = absurd (let e : eqb (length (s ∷ rest)) 0 ≡ true = sym none in grind (arith, nat_tests))
+
+  -- a run that leaves more than one value has no result, and one that leaves one value has it
+  pub no_result_left : (lg_k : ℕ) (values : List (Sketch X)) (steps : List Step) (i : ℕ) (items rest : List S) (last : S) → length steps ≤ i → after_steps rules lg_k values steps (Some []) ≡ after_steps rules lg_k values (drop i steps) (Some (values_onto rules read items [])) →
+      items ≡ rest ++ last ∷ [] → false ≡ eqb (length rest) 0 → result_of rules lg_k values steps ≡ None
+  no_result_left lg_k values steps i items rest last le so_far is some = ap only_value (all_run lg_k values steps i items rest last le so_far is) ∙ many_left rest (compact_value rules.key (read last)) some
+
+  pub result_left : (lg_k : ℕ) (values : List (Sketch X)) (steps : List Step) (i : ℕ) (items rest : List S) (last : S) → length steps ≤ i → after_steps rules lg_k values steps (Some []) ≡ after_steps rules lg_k values (drop i steps) (Some (values_onto rules read items [])) →
+      items ≡ rest ++ last ∷ [] → true ≡ eqb (length rest) 0 → result_of rules lg_k values steps ≡ Some (compact_value rules.key (read last))
+  result_left lg_k values steps i items rest last le so_far is none = ap only_value (all_run lg_k values steps i items rest last le so_far is) ∙ one_left rest (compact_value rules.key (read last)) none
 
   first_value : Option (List (Sketch X)) → Sketch X
   first_value None = Empty

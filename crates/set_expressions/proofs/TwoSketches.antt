@@ -1,27 +1,24 @@
 -- Two sketches combined, and when that is refused.
-use Rattle.std.proofs.Common.{◌≡◌, ℕ, ◌^◌, min, Bool, true, false, cond, is_none, List, [], ◌∷◌, ◌++◌, map, Option, Some, None, Result, Ok, Err, refl, ap, sym, subst, ◌∙◌, arith, inl, inr}
+use Rattle.std.proofs.Common.{◌≡◌, ℕ, ◌^◌, Bool, true, false, cond, List, [], ◌∷◌, ◌++◌, Option, Some, None, Result, Ok, Err, refl, ap, sym, subst, ◌∙◌, arith, inl, inr}
 use Rattle.std.specs.Prelude.{◌⊎◌, ◌==◌, ◌||◌, not, IsTrue, IfOk, IfErr, OnOk, MatchOption}
 use Rattle.std.proofs.lemmas.Bool.Decides.{nat_tests}
 use Rattle.sketch_base.specs.Seed.{seed_hash}
 use Rattle.sketch_base.specs.declared.error.ErrorKind.{ErrorKind}
 use Rattle.sketch_base.specs.declared.error.ErrorKind.TheVariants.{OutOfMemory, InvalidArgument, Failed, Policy}
-use Rattle.std.specs.Option.{option_map}
 use Rattle.core_compact.specs.CompactState.{Compact, shown_of, IsAnswer, compact_value}
-use Rattle.core_laws.specs.Cuts.{retained}
-use Rattle.core_laws.specs.Maps.{entry_at, map_of}
+use Rattle.core_laws.specs.Maps.{map_of}
 use Rattle.core_laws.specs.Entries.{KeepsKey, hash_key}
-use Rattle.core_laws.specs.Operators.{unite, unite_nonempty, meet, meet_next, minus, lacking, unless_nothing}
+use Rattle.core_laws.specs.Operators.{unite, unite_nonempty, meet, meet_next, minus}
 use Rattle.core_laws.specs.Refusal.{Refuses}
 use Rattle.core_laws.specs.Settings.{settings_refusal}
 use Rattle.core_laws.specs.Shown.{Shown, shown_value}
 use Rattle.core_laws.specs.Values.{Sketch, Empty, NonEmpty}
 use Rattle.core_laws.specs.declared.TheConstants.{MAX_THETA}
-use Rattle.core_laws.proofs.maps.MappedEntries.{entry_at-map}
-use Rattle.core_laws.proofs.maps.MapsOfLists.{entry_at-map_of}
 use Rattle.core_laws.proofs.operators.Unions.{nonempties-more, union_of_union}
 use Rattle.core_operators.specs.ANotB.{difference_refusal}
 use Rattle.core_operators.specs.Intersection.{Intersection, is_settled, intersect_refusal, seed_refusal, IsAnswerIfAny}
 use Rattle.core_operators.specs.Union.{Union, union_value, empty_union, update_refusal}
+use Rattle.core_operators.proofs.DifferencesByKeys.{minus_of_keys}
 use Rattle.set_expressions.specs.Running.{is_accepted, IsEvaluationError, IsMergeError}
 
 -- ---- refusals
@@ -134,30 +131,11 @@ module _ {X : Type 0} (key : X → ℕ) where
 
   -- ---- differences
 
-  none_mapped : {Y : Type 0} (f : X → Y) (o : Option X) → is_none (option_map f o) ≡ is_none o
-  none_mapped f None = refl
-  none_mapped f (Some x) = refl
-
-  same_lack : (xs ys : List X) (hs : List ℕ) → ((q : ℕ) → is_none (entry_at hash_key hs q) ≡ is_none (entry_at key ys q)) → lacking key hash_key xs hs ≡ lacking key key xs ys
-  same_lack [] ys hs same = refl
-  same_lack (x ∷ xs) ys hs same =
-      ap (λ (b : Bool). cond b (x ∷ lacking key hash_key xs hs) (lacking key hash_key xs hs)) (same (key x))
-      ∙ ap (λ zs. cond (is_none (entry_at key ys (key x))) (x ∷ zs) zs) (same_lack xs ys hs same)
-
-  of_keys : (empty : Bool) (theta : ℕ) (a : Sketch X) (listing : List X) →
-      minus key hash_key a (cond empty Empty (NonEmpty (record { entries = map_of hash_key (map key listing); theta = theta }))) ≡ minus key key a (cond empty Empty (NonEmpty (record { entries = map_of key listing; theta = theta })))
-  of_keys empty theta Empty listing = refl
-  of_keys true theta (NonEmpty v) listing = refl
-  of_keys false theta (NonEmpty v) listing =
-      let same : (q : ℕ) → is_none (entry_at hash_key (map_of hash_key (map key listing)) q) ≡ is_none (entry_at key (map_of key listing) q) =
-      λ q. ap is_none (entry_at-map_of hash_key (map key listing) q ∙ entry_at-map key key hash_key (λ x. refl) listing q) ∙ none_mapped key (entry_at key listing q) ∙ ap is_none (sym (entry_at-map_of key listing q)) in
-      ap (λ ys. unless_nothing (retained key ys (min v.theta theta))) (same_lack v.entries (map_of key listing) (map_of hash_key (map key listing)) same)
-
   -- the difference of a value and the keys of a sketch is that of their values
   pub difference_value : (a : Sketch X) (b : Shown) (first second : Compact X) → a ≡ compact_value key first → b ≡ shown_of key second →
       minus key hash_key a (shown_value hash_key b b.hashes) ≡ minus key key (compact_value key first) (compact_value key second)
   difference_value a b first second is_a is_b =
-      ap (λ (s : Shown). minus key hash_key a (shown_value hash_key s s.hashes)) is_b ∙ of_keys second.empty second.theta a second.entries ∙ ap (λ u. minus key key u (compact_value key second)) is_a
+      ap (λ (s : Shown). minus key hash_key a (shown_value hash_key s s.hashes)) is_b ∙ minus_of_keys key second.empty second.theta a second.entries ∙ ap (λ u. minus key key u (compact_value key second)) is_a
 
 module _ {X : Type 0} (key : X → ℕ) (merges : X → X → X) where
   pub one_met : (v : Sketch X) → meet key merges (v ∷ []) ≡ v

@@ -4,8 +4,8 @@ use Rattle.sketch_base.specs.Seed.{seed_hash}
 use Rattle.core_compact.specs.CompactState.{compact_value, ordered_sketch}
 use Rattle.core_laws.specs.Samples.{IsSample}
 use Rattle.set_expressions.specs.Values.{whole_in}
-use Rattle.set_expressions.specs.Running.{values_by, values_onto, only_value, are_accepted, refusal_by, AreOrderedSketches, MayRefuse}
-use Rattle.set_expressions.proofs.RunSteps.{step_missing, refused_next, all_run, many_left, one_left, last_value, no_result, one_result, answer_sketch, ordered-last}
+use Rattle.set_expressions.specs.Running.{values_by, values_onto, are_accepted, refusal_by, AreOrderedSketches, MayRefuse}
+use Rattle.set_expressions.proofs.RunSteps.{step_missing, refused_next, all_run, no_result_left, result_left, last_value, no_result, one_result, answer_sketch, ordered-last}
 use Rattle.set_expressions.proofs.TwoSketches.{error_of_memory, error_of_kind, error_of_merge}
 use Rattle.set_expressions.proofs.WholeSets.{expression_sample}
 use Rattle.set_expressions.proofs.evaluation.evaluate_in.Goals as goal
@@ -35,13 +35,10 @@ returns-then-not-is_empty-clause-refused g c =
     let f = g.F.SetFamily in
     let steps = c.args.steps.now in
     let sketches = c.args.sketches.now in
-    let values = values_by f.rules f.named sketches in
-    let lg = c.args.lg_k in
-    let last = c.in-Some.last in
     let rest = c.pop.new.self.items in
-    let ran = all_run f.rules f.listed lg values steps c.loop-step.step-index c.loop-step.stack.items rest last c.loop-step-test.false c.loop-step.invariant.ran c.in-Some.ensures.items in
     let some : false ≡ eqb (length rest) 0 = c.if-not-is_empty.ensures ∙ ap (λ xs. eqb (length xs) 0) c.as_slice.ensures.value in
-    inl (no_result f.rules f.named c.args.seed lg steps sketches (ap only_value ran ∙ many_left f.rules f.listed rest (compact_value f.rules.key (f.listed last)) some) ∙ ap (λ e. Some e) (sym c.new-then-not-is_empty.ensures))
+    let none = no_result_left f.rules f.listed c.args.lg_k (values_by f.rules f.named sketches) steps c.loop-step.step-index c.loop-step.stack.items rest c.in-Some.last c.loop-step-test.false c.loop-step.invariant.ran c.in-Some.ensures.items some in
+    inl (no_result f.rules f.named c.args.seed c.args.lg_k steps sketches none ∙ ap (λ e. Some e) (sym c.new-then-not-is_empty.ensures))
 
 pub returns-clause-value : goal.returns-clause-value
 returns-clause-value g c = λ e is within.
@@ -75,12 +72,9 @@ returns-clause-accepted g c =
     let f = g.F.SetFamily in
     let steps = c.args.steps.now in
     let sketches = c.args.sketches.now in
-    let values = values_by f.rules f.named sketches in
-    let lg = c.args.lg_k in
     let last = c.in-Some.last in
     let rest = c.pop.new.self.items in
-    let v = compact_value f.rules.key (f.listed last) in
-    let ran = all_run f.rules f.listed lg values steps c.loop-step.step-index c.loop-step.stack.items rest last c.loop-step-test.false c.loop-step.invariant.ran c.in-Some.ensures.items in
     let none : true ≡ eqb (length rest) 0 = c.if-not-is_empty.ensures ∙ ap (λ xs. eqb (length xs) 0) c.as_slice.ensures.value in
     let accepted : are_accepted f.named (seed_hash c.args.seed) sketches ≡ true = ap (λ h. are_accepted f.named h sketches) (sym c.in_ok-hash.ensures.hash) ∙ sym c.are_accepted.ensures ∙ c.if-not-are_accepted.false in
-    one_result f.rules f.named c.args.seed lg steps sketches v c.in_ok-hash.ensures.refused accepted (ap only_value ran ∙ one_left f.rules f.listed rest v none)
+    let left = result_left f.rules f.listed c.args.lg_k (values_by f.rules f.named sketches) steps c.loop-step.step-index c.loop-step.stack.items rest last c.loop-step-test.false c.loop-step.invariant.ran c.in-Some.ensures.items none in
+    one_result f.rules f.named c.args.seed c.args.lg_k steps sketches (compact_value f.rules.key (f.listed last)) c.in_ok-hash.ensures.refused accepted left
