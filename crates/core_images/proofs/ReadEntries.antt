@@ -41,11 +41,11 @@ module _ {X : Type 0} (Spells : List ℕ → X → Type 0) (least : ℕ) (is_lon
 
 module _ {X : Type 0} (Spells : List ℕ → X → Type 0) (one : (a b u v : List ℕ) (x y : X) → Spells a x → Spells b y → a ++ u ≡ b ++ v → (a ≡ b) × (x ≡ y)) where
   -- if no entry follows those that were read, there are no more
-  pub next_of : (bytes text rest : List ℕ) (count : ℕ) (xs : List X) → bytes ≡ text ++ rest → SpellsEach Spells text xs → length xs < count
+  pub next_of : (bytes text rest : List ℕ) (count n : ℕ) (xs : List X) → bytes ≡ text ++ rest → SpellsEach Spells text xs → length xs ≡ n → n < count
       → (ys : List X) × Holds Spells bytes count ys → (x : X) × (after : List ℕ) × ((first : List ℕ) × Spells first x × (rest ≡ first ++ after))
-  next_of bytes text rest count xs e s less found =
+  next_of bytes text rest count n xs e s read less found =
       let counted = found.1.counted in
-      let more : length xs < length found.0 = omega arith in
+      let more : length xs < length found.0 = omega (arith, read, less, counted) in
       let next = next_one Spells one xs found.0 text found.1.text rest found.1.after s found.1.spelled (sym e ∙ found.1.there) more in
       (next.2, next.1, (next.0, next.3, next.4))
 

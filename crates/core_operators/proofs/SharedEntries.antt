@@ -14,6 +14,7 @@ use Rattle.core_laws.specs.Folds.{Fold, Value, Refused, fold_key, fold_merges, u
 use Rattle.core_operators.specs.Union.{IsMergeRefused}
 use Rattle.core_operators.specs.Intersection.{IsSharedFold, IsSharedPair, IsRefusedPair}
 use Rattle.core_laws.proofs.maps.MappedEntries.{map-append, below-map, entry_at-map, with_entry-map}
+use Rattle.core_laws.proofs.maps.ApartEntries.{apart-filter}
 use Rattle.core_laws.proofs.maps.Ascending.{ascending-filter, ascending-tail, ascending-head, ascending-nil, ascending-cons, each-weaker}
 use Rattle.core_laws.proofs.operators.CommonMaps.{entry_at-common, each-common, ascending-common, common-nil}
 use Rattle.core_laws.proofs.maps.LookUps.{entry_at-below, entry_at_head, entry_at_rest, past, same_map}
@@ -631,6 +632,10 @@ module _ {X : Type 0} (key : X → ℕ) where
   -- the entries of an ordered sketch ascend
   pub ascending_listed : (s : Shown) (listing xs : List X) → xs ≡ listing → map key listing ≡ s.hashes → IsShown s → s.ordered ≡ true → IsAscending key xs
   ascending_listed s listing xs all hashes shown ordered = rw all (ascending-from_map key listing (rw hashes (shown.ascending ordered)))
+
+  -- the entries of a sketch that pass a test have different keys
+  pub apart_listed : (p : X → Bool) (s : Shown) (listing : List X) → map key listing ≡ s.hashes → IsShown s → IsApart key (filter p listing)
+  apart_listed p s listing hashes shown = apart-filter key p listing (apart-distinct key listing (rw hashes shown.distinct))
 
   -- how many entries of a listing pass a test
   pub few_passing : (p : X → Bool) (listing : List X) → IsApart key listing → length (filter p (map_of key listing)) ≤ length listing

@@ -1,9 +1,9 @@
 use Rattle.std.proofs.Common.{◌∙◌, sym, ap}
 use Rattle.core_laws.specs.Maps.{IsAscending, below}
-use Rattle.core_laws.proofs.maps.ApartEntries.{apart-filter}
-use Rattle.core_laws.proofs.maps.MapsOfLists.{apart-distinct, ascending-from_map}
+use Rattle.core_laws.proofs.maps.MapsOfLists.{ascending-from_map}
 use Rattle.core_table.proofs.OtherOrders.{map_of-ascending}
 use Rattle.core_operators.proofs.DifferenceEntries.{map_of_below}
+use Rattle.core_operators.proofs.SharedEntries.{apart_listed}
 use Rattle.core_operators.proofs.ascending.ascending_entries.Goals as goal
 
 pub entries_below-requires-clause-in_order : goal.entries_below-requires-clause-in_order
@@ -20,12 +20,8 @@ returns-then-ordered-clause-ok g c =
 
 pub sorted_by_hash-requires : goal.sorted_by_hash-requires
 sorted_by_hash-requires g c =
-    let key = g.S.Entry.SketchEntry.key in
-    let listing = g.S.EntrySketch.listing c.args.sketch in
-    rw (c.in_ok-entries.ensures.ok, c.entries-items.ensures.all) (apart-filter key _ listing (apart-distinct key listing (rw c.entries-items.ensures.hashes c.entries-items.ensures.sound.distinct)))
+    rw (c.in_ok-entries.ensures.ok, c.entries-items.ensures.all) (apart_listed g.S.Entry.SketchEntry.key _ (g.S.KeySketch.shown c.args.sketch) (g.S.EntrySketch.listing c.args.sketch) c.entries-items.ensures.hashes c.entries-items.ensures.sound)
 
 pub returns-clause-ok : goal.returns-clause-ok
 returns-clause-ok g c =
-    let key = g.S.Entry.SketchEntry.key in
-    let listing = g.S.EntrySketch.listing c.args.sketch in
-    rw (c.sorted_by_hash.ensures, c.in_ok-entries.ensures.ok, c.entries-items.ensures.all) (map_of_below key listing c.args.theta)
+    rw (c.sorted_by_hash.ensures, c.in_ok-entries.ensures.ok, c.entries-items.ensures.all) (map_of_below g.S.Entry.SketchEntry.key (g.S.EntrySketch.listing c.args.sketch) c.args.theta)

@@ -1,7 +1,6 @@
 use Rattle.std.proofs.Common.{refl}
 use Rattle.std.proofs.lemmas.Result.{IfOk-weaker}
-use Rattle.core_laws.proofs.maps.ApartEntries.{apart-filter}
-use Rattle.core_laws.proofs.maps.MapsOfLists.{apart-distinct}
+use Rattle.core_operators.proofs.SharedEntries.{apart_listed}
 use Rattle.core_operators.proofs.Admitted.{narrowed_below, narrowed_admitted}
 use Rattle.core_operators.proofs.ascending.narrowed_entries.Goals as goal
 
@@ -11,9 +10,7 @@ returns-then-ordered-clause-ok g c =
 
 pub sorted_by_hash-requires : goal.sorted_by_hash-requires
 sorted_by_hash-requires g c =
-    let key = g.S.Entry.SketchEntry.key in
-    let listing = g.S.EntrySketch.listing c.args.sketch in
-    rw (c.in_ok-entries.ensures.ok, c.entries-items.ensures.all) (apart-filter key _ listing (apart-distinct key listing (rw c.entries-items.ensures.hashes c.entries-items.ensures.sound.distinct)))
+    rw (c.in_ok-entries.ensures.ok, c.entries-items.ensures.all) (apart_listed g.S.Entry.SketchEntry.key _ (g.S.KeySketch.shown c.args.sketch) (g.S.EntrySketch.listing c.args.sketch) c.entries-items.ensures.hashes c.entries-items.ensures.sound)
 
 pub returns-clause-ok : goal.returns-clause-ok
 returns-clause-ok g c =

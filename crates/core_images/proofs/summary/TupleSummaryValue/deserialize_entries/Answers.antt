@@ -1,4 +1,4 @@
-use Rattle.std.proofs.Common.{◌<◌, inr, arith, length}
+use Rattle.std.proofs.Common.{inr, arith}
 use Rattle.std.proofs.lemmas.Result.{err_from_is_err_and}
 use Rattle.core_images.specs.Summary.{SpellsTuple}
 use Rattle.core_images.specs.SummarySpelling.{one_tuple, tuple_long}
@@ -15,24 +15,15 @@ pub returns-in_err-hash-clause-refused : goal.returns-in_err-hash-clause-refused
 returns-in_err-hash-clause-refused g c =
     let p = err_from_is_err_and c.from_residual-in_err-hash.result c.from_residual-in_err-hash.ensures.1 in
     let value = g.Self.TupleSummaryValue in
-    let spells = SpellsTuple value.spells in
-    let one = one_tuple value.spells g.met.Self.TupleSummaryValue.one_spelling in
     let inv = c.read_each.invariant in
-    let less : c.read_each._i < c.args.count = c.read_each-test.true in
-    let fewer : length c.read_each.entries.items < c.args.count = rw inv.3 less in
-    let next = next_of spells one c.args.bytes.now inv.0 c.read_each.slice c.args.count c.read_each.entries.items inv.1 inv.2 fewer in
-    rw (p.1, p.2) (inr (c.in_err-hash.ensures.refused, λ q. none_short value.spells c.read_each.slice c.in_err-hash.ensures.short.limited (next q)))
+    rw (p.1, p.2) (inr (c.in_err-hash.ensures.refused, λ q. none_short value.spells c.read_each.slice c.in_err-hash.ensures.short.limited (next_of (SpellsTuple value.spells) (one_tuple value.spells g.met.Self.TupleSummaryValue.one_spelling) c.args.bytes.now inv.0 c.read_each.slice c.args.count c.read_each._i c.read_each.entries.items inv.1 inv.2 inv.3 c.read_each-test.true q)))
 
 pub returns-in_err-summary-clause-refused : goal.returns-in_err-summary-clause-refused
 returns-in_err-summary-clause-refused g c =
     let p = err_from_is_err_and c.from_residual-in_err-summary.result c.from_residual-in_err-summary.ensures.1 in
     let value = g.Self.TupleSummaryValue in
-    let spells = SpellsTuple value.spells in
-    let one = one_tuple value.spells g.met.Self.TupleSummaryValue.one_spelling in
     let inv = c.read_each.invariant in
-    let less : c.read_each._i < c.args.count = c.read_each-test.true in
-    let fewer : length c.read_each.entries.items < c.args.count = rw inv.3 less in
-    let next = next_of spells one c.args.bytes.now inv.0 c.read_each.slice c.args.count c.read_each.entries.items inv.1 inv.2 fewer in
+    let next = next_of (SpellsTuple value.spells) (one_tuple value.spells g.met.Self.TupleSummaryValue.one_spelling) c.args.bytes.now inv.0 c.read_each.slice c.args.count c.read_each._i c.read_each.entries.items inv.1 inv.2 inv.3 c.read_each-test.true in
     let behind = summary_behind value.spells c.read_each.slice c.read_u64_le.new.self c.in_ok-hash.hash c.in_ok-hash.ensures.ok in
     rw (p.1, p.2) (refused_weaker c.in_err-summary.field-0.0 (λ q. behind (next q)) c.in_err-summary.ensures)
 
