@@ -12,7 +12,7 @@ use Rattle.core_images.specs.declared.preamble.Preamble.{Preamble}
 use Rattle.core_laws.specs.Entries.{hash_key}
 use Rattle.core_laws.specs.declared.TheConstants.{MAX_THETA}
 use Rattle.theta_sketches.specs.Image.{Reads, SpellsSketch, version_3, version_2_empty, version_2_exact, version_2_estimating, version_1, ReadsUnflagged, vacant_image, filled_image, is_vacant}
-use Rattle.line_sketches.specs.Header.{longs_at, version_at, family_at, has_longs, has_version, preamble_length, has_preamble, announced_count, image_length, entry_count, BeginsWithImage, is_vacant_image, checks_seed, flaw_by_length, flaw_of, MayBeRead}
+use Rattle.line_sketches.specs.Header.{longs_at, version_at, family_at, has_longs, has_version, preamble_length, has_preamble, announced_count, image_length, entry_count, BeginsWithImage, is_vacant_image, checks_seed, first_flaw, flaw_by_length, flaw_of, MayBeRead}
 use Rattle.line_sketches.specs.Hex.{digit_of, are_digits}
 use Rattle.line_sketches.specs.declared.header.Flaw.{Flaw}
 use Rattle.line_sketches.specs.declared.header.Flaw.TheVariants.{Hexadecimal, Short, Family, Version, BigEndian, Seed, Cut, Longer, Damaged}
@@ -384,6 +384,12 @@ not_other a b same = ap not (eq-eqb a b same)
 pub size_flaw : (size present : ℕ) → size ≤ present → MayBeRead (flaw_by_length (Some size) present)
 size_flaw size present le = past (ltb present size) Cut (cond (ltb size present) Longer Damaged) (not_below present size le) (either_way (ltb size present) Longer Damaged tt tt)
 
+-- bytes that begin with a whole preamble are neither digits nor too short
+pub whole_read : (bytes : List ℕ) (flaw : Flaw) → 8 ≤ length bytes → longs_at bytes ≤ 3 → MayBeRead flaw → MayBeRead (first_flaw flaw bytes)
+whole_read bytes flaw whole longs_high may =
+    let no_hexadecimal : (leb 16 (length bytes) && are_digits (take 16 bytes)) ≡ false = ap (λ (b : Bool). leb 16 (length bytes) && b) (no_digits 15 bytes whole longs_high) ∙ second_false (leb 16 (length bytes)) in
+    past (leb 16 (length bytes) && are_digits (take 16 bytes)) Hexadecimal (cond (ltb (length bytes) 8) Short flaw) no_hexadecimal (past (ltb (length bytes) 8) Short flaw (not_below (length bytes) 8 whole) may)
+
 pub flaw_read : (bytes : List ℕ) (h : ℕ) (s : Compact ℕ) → Reads bytes h s → MayBeRead (flaw_of h bytes)
 flaw_read bytes h s reads =
     let f = read_facts bytes h s reads in
@@ -393,12 +399,9 @@ flaw_read bytes h s reads =
     let by_flag = cond (eqb (version_at bytes) 3 && has_bit bytes 5 1) BigEndian by_seed in
     let by_version = cond (not (has_version bytes)) (Version (version_at bytes)) by_flag in
     let by_family = cond (not (eqb (family_at bytes) 3)) (Family (family_at bytes)) by_version in
-    let by_eight = cond (ltb (length bytes) 8) Short by_family in
-    let no_hexadecimal : (leb 16 (length bytes) && are_digits (take 16 bytes)) ≡ false = ap (λ (b : Bool). leb 16 (length bytes) && b) (no_digits 15 bytes f.whole f.longs_high) ∙ second_false (leb 16 (length bytes)) in
-    past (leb 16 (length bytes) && are_digits (take 16 bytes)) Hexadecimal by_eight no_hexadecimal
-    (past (ltb (length bytes) 8) Short by_family (not_below (length bytes) 8 f.whole)
+    whole_read bytes by_family f.whole f.longs_high
     (past (not (eqb (family_at bytes) 3)) (Family (family_at bytes)) by_version (not_other (family_at bytes) 3 f.family)
     (past (not (has_version bytes)) (Version (version_at bytes)) by_flag (ap not f.version)
     (either_way (eqb (version_at bytes) 3 && has_bit bytes 5 1) BigEndian by_seed tt
     (past (checks_seed bytes && not (eqb (seed_hash_at bytes) h)) Seed by_longs f.seed
-    (either_way (not (has_longs bytes)) Damaged (flaw_by_length (image_length bytes) (length bytes)) tt by_length))))))
+    (either_way (not (has_longs bytes)) Damaged (flaw_by_length (image_length bytes) (length bytes)) tt by_length)))))

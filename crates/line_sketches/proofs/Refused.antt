@@ -97,8 +97,13 @@ read_seed bytes h s reads = elim reads.spelled as (λ s spelled. s.seed_hash ≡
 
 -- ---- intersections
 
-pub one_of : {P : Type 0} (seed : ℕ) (i : Intersection ℕ P) (s : Compact ℕ) (shows : Shown) → i.seed_hash ≡ seed_hash seed → shows ≡ shown_of hash_key s → intersect_refusal i shows ≡ one_refusal seed i.result s
+one_of : {P : Type 0} (seed : ℕ) (i : Intersection ℕ P) (s : Compact ℕ) (shows : Shown) → i.seed_hash ≡ seed_hash seed → shows ≡ shown_of hash_key s → intersect_refusal i shows ≡ one_refusal seed i.result s
 one_of seed i s shows same is = ap (intersect_refusal i) is ∙ ap (λ h. cond (is_settled i.result || s.empty) None (cond (h == s.seed_hash) None (Some InvalidArgument))) same
+
+-- the refusal of the sketch at a place
+pub one_at : {P : Type 0} (seed : ℕ) (now : Intersection ℕ P) (sketches : List (Compact ℕ)) (i : ℕ) (s : Compact ℕ) (shows : Shown) → now.seed_hash ≡ seed_hash seed → s ≡ get_or sketches i s → shows ≡ shown_of hash_key s →
+    one_refusal seed now.result (get_or sketches i s) ≡ intersect_refusal now shows
+one_at seed now sketches i s shows same there is = ap (one_refusal seed now.result) (sym there) ∙ sym (one_of seed now s shows same is)
 
 split_at : (sketches : List (Compact ℕ)) (i : ℕ) (d : Compact ℕ) → i < length sketches → drop i sketches ≡ get_or sketches i d ∷ drop (i + 1) sketches
 split_at sketches i d lt = rw add-one (drop-cons sketches i d lt)

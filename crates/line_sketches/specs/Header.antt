@@ -88,12 +88,16 @@ flaw_of_preamble h bytes =
     else if not (has_longs bytes) then Damaged
     else flaw_by_length (image_length bytes) (length bytes)
 
--- the flaw of bytes, the first that applies, for a reader of this seed hash
-abbrev pub flaw_of : (h : ℕ) → List ℕ → Flaw
-flaw_of h bytes =
+-- the flaw of bytes, the first that applies, if at least eight that aren't digits have this flaw
+abbrev pub first_flaw : Flaw → List ℕ → Flaw
+first_flaw flaw bytes =
     if nat_le 16 (length bytes) && are_digits (take 16 bytes) then Hexadecimal
     else if nat_lt (length bytes) 8 then Short
-    else flaw_of_preamble h bytes
+    else flaw
+
+-- the flaw of bytes, the first that applies, for a reader of this seed hash
+abbrev pub flaw_of : (h : ℕ) → List ℕ → Flaw
+flaw_of h bytes = first_flaw (flaw_of_preamble h bytes) bytes
 
 -- bytes may be read in spite of this flaw
 abbrev pub MayBeRead : Flaw → Type 0

@@ -1,11 +1,10 @@
 -- What the preamble of an image of sums says: the image's length, its number of sums, and why bytes are not read. An entry has
 -- eight bytes for its hash and eight for its sum, and both versions have flags.
-use Rattle.std.specs.Prelude.{ℕ, ◌+◌, ◌*◌, ◌==◌, ◌&&◌, ◌||◌, not, nat_lt, nat_le, Bool, List, length, take, slice_index, Option, Some, None, if◌then◌else◌}
+use Rattle.std.specs.Prelude.{ℕ, ◌+◌, ◌*◌, ◌==◌, ◌&&◌, ◌||◌, not, nat_le, Bool, List, length, slice_index, Option, Some, None, if◌then◌else◌}
 use Rattle.core_images.specs.Preamble.{is_empty, has_bit, seed_hash_at, count_at}
-use Rattle.line_sketches.specs.Hex.{are_digits}
-use Rattle.line_sketches.specs.Header.{longs_at, version_at, family_at, has_longs, flaw_by_length}
+use Rattle.line_sketches.specs.Header.{longs_at, version_at, family_at, has_longs, first_flaw, flaw_by_length}
 use Rattle.line_sketches.specs.declared.header.Flaw.{Flaw}
-use Rattle.line_sketches.specs.declared.header.Flaw.TheVariants.{Hexadecimal, Short, Family, Version, BigEndian, Seed, Damaged}
+use Rattle.line_sketches.specs.declared.header.Flaw.TheVariants.{Family, Version, BigEndian, Seed, Damaged}
 
 -- whether the version is 3 or 1
 abbrev pub has_sums_version : List ℕ → Bool
@@ -47,7 +46,4 @@ sums_flaw_of_preamble h bytes =
 
 -- the flaw of bytes, the first that applies, for a reader of this seed hash
 abbrev pub sums_flaw_of : (h : ℕ) → List ℕ → Flaw
-sums_flaw_of h bytes =
-    if nat_le 16 (length bytes) && are_digits (take 16 bytes) then Hexadecimal
-    else if nat_lt (length bytes) 8 then Short
-    else sums_flaw_of_preamble h bytes
+sums_flaw_of h bytes = first_flaw (sums_flaw_of_preamble h bytes) bytes

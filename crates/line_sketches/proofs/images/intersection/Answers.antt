@@ -1,4 +1,4 @@
-use Rattle.std.proofs.Common.{◌≡◌, None, Some, get_or, ap, sym, ◌∙◌, inl, inr}
+use Rattle.std.proofs.Common.{None, Some, ap, sym, ◌∙◌, inl, inr}
 use Rattle.std.proofs.lemmas.List.{take_all}
 use Rattle.std.proofs.lemmas.Result.{err_from_is_err_and}
 use Rattle.core_laws.specs.Entries.{hash_key, first_hash}
@@ -6,10 +6,10 @@ use Rattle.core_laws.specs.Operators.{meet, meet_next}
 use Rattle.core_laws.specs.Shown.{shown_value}
 use Rattle.core_operators.specs.Intersection.{seed_refusal}
 use Rattle.theta_sketches.specs.View.{view_shows, view_sequence}
-use Rattle.line_sketches.specs.Meeting.{result_or_empty, met_of, one_refusal, meet_refusal, refusal_of_intersection}
+use Rattle.line_sketches.specs.Meeting.{result_or_empty, met_of, meet_refusal, refusal_of_intersection}
 use Rattle.line_sketches.specs.Shards.{values_of_sketches}
 use Rattle.line_sketches.proofs.Meets.{met_next, result_or_empty-met, same_result, same_item}
-use Rattle.line_sketches.proofs.Refused.{one_of, met_further, met_refused, met_all, update_kind, only_kind, refuses_kind, refuses_memory, refuses_same, first_none, first_some}
+use Rattle.line_sketches.proofs.Refused.{one_at, met_further, met_refused, met_all, update_kind, only_kind, refuses_kind, refuses_memory, refuses_same, first_none, first_some}
 use Rattle.line_sketches.proofs.images.intersection.Goals as goal
 
 pub loop-sketch-preserved : goal.loop-sketch-preserved
@@ -21,11 +21,10 @@ loop-sketch-preserved g c = record {
       let seed = c.args.seed in
       let now = c.loop-sketch.so_far in
       let i = c.loop-sketch.sketch-index in
-      let item = c.sketch-item.result in
       let sketches = c.args.sketches.now in
-      let shows = view_shows c.as_view.result in
+      let item = c.sketch-item.result in
       let same = c.loop-sketch.invariant.same_seed ∙ ap (λ x. x.seed_hash) c.in_ok-so_far.ensures.made in
-      let accepted : one_refusal seed now.result (get_or sketches i item) ≡ None = ap (one_refusal seed now.result) (sym c.sketch-item.is) ∙ sym (one_of seed now item shows same c.as_view.ensures.shows) ∙ c.in_ok-update.ensures.accepted in
+      let accepted = one_at seed now sketches i item (view_shows c.as_view.result) same c.sketch-item.is c.as_view.ensures.shows ∙ c.in_ok-update.ensures.accepted in
       met_further seed None now.result c.update.new.self.result sketches i item c.loop-sketch-test.true c.loop-sketch.invariant.refusal accepted
       (c.in_ok-update.ensures.met ∙ ap (λ v. Some (meet_next hash_key first_hash now.result v)) (c.as_view.ensures.value ∙ same_item sketches i item c.sketch-item.is));
 }
@@ -60,7 +59,6 @@ pub returns-in_err-update-clause-refused : goal.returns-in_err-update-clause-ref
 returns-in_err-update-clause-refused g c =
     let seed = c.args.seed in
     let now = c.loop-sketch.so_far in
-    let i = c.loop-sketch.sketch-index in
     let item = c.sketch-item.result in
     let sketches = c.args.sketches.now in
     let shows = view_shows c.as_view.result in
@@ -70,8 +68,8 @@ returns-in_err-update-clause-refused g c =
     let same = c.loop-sketch.invariant.same_seed ∙ ap (λ x. x.seed_hash) c.in_ok-so_far.ensures.made in
     elim (update_kind now shows e c.in_err-update.ensures.refused.1) [
       | inl kind ↦
-          let one : one_refusal seed now.result (get_or sketches i item) ≡ Some e = ap (one_refusal seed now.result) (sym c.sketch-item.is) ∙ sym (one_of seed now item shows same c.as_view.ensures.shows) ∙ kind in
-          let all = met_refused seed None now.result sketches i item e c.loop-sketch-test.true c.loop-sketch.invariant.refusal one in
+          let one = one_at seed now sketches c.loop-sketch.sketch-index item shows same c.sketch-item.is c.as_view.ensures.shows ∙ kind in
+          let all = met_refused seed None now.result sketches c.loop-sketch.sketch-index item e c.loop-sketch-test.true c.loop-sketch.invariant.refusal one in
           refuses_kind result (refusal_of_intersection seed sketches) p.0 p.1
           (first_none (seed_refusal seed) (meet_refusal seed None sketches) c.in_ok-so_far.ensures.refused ∙ all ∙ ap (λ k. Some k) (sym p.2))
       | inr memory ↦ refuses_memory result (refusal_of_intersection seed sketches) p.0 p.1 (p.2 ∙ memory)
