@@ -1,5 +1,5 @@
 -- The preambles of images of sums that are read: what they say is true, and the image alone is read too.
-use Rattle.std.proofs.Common.{◌≡◌, ℕ, ◌+◌, ◌*◌, ◌≤◌, Bool, true, false, cond, not, ◌&&◌, ◌||◌, eqb, ltb, leb, List, length, take, Option, Some, None, sym, ap, subst, ◌∙◌, inl, inr, arith, length-append}
+use Rattle.std.proofs.Common.{◌≡◌, ℕ, ◌+◌, ◌*◌, ◌≤◌, Bool, true, false, cond, not, ◌&&◌, ◌||◌, eqb, leb, List, length, take, Option, Some, None, sym, ap, subst, ◌∙◌, inl, inr, arith, length-append}
 use Rattle.core_compact.specs.CompactState.{Compact}
 use Rattle.core_images.specs.Preamble.{has_bit, is_empty, seed_hash_at, count_at}
 use Rattle.core_images.specs.Read.{ReadsFlagged}
@@ -8,10 +8,9 @@ use Rattle.core_slots.specs.Entry.{tuple_key}
 use Rattle.core_slots.specs.declared.entry.TupleEntry.{TupleEntry}
 use Rattle.tuple_sketches.specs.Image.{IsVersion, IsSketchType}
 use Rattle.line_sketches.specs.Header.{longs_at, version_at, family_at, has_longs, flaw_by_length, MayBeRead}
-use Rattle.line_sketches.specs.Hex.{are_digits}
 use Rattle.line_sketches.specs.SumsHeader.{has_sums_version, has_sums_type, sums_preamble_length, has_sums_preamble, announced_sums, sums_length, sums_count, sums_flaw_of}
-use Rattle.line_sketches.specs.declared.header.Flaw.TheVariants.{Hexadecimal, Short, Family, Version, BigEndian, Seed, Damaged}
-use Rattle.line_sketches.proofs.Preambles.{flagged_alone, begins_same, byte_at, at_most, not_below, both_true, second_false, past, either_way, no_digits, not_other, size_flaw}
+use Rattle.line_sketches.specs.declared.header.Flaw.TheVariants.{Family, Version, BigEndian, Seed, Damaged}
+use Rattle.line_sketches.proofs.Preambles.{flagged_alone, begins_same, byte_at, at_most, both_true, past, either_way, not_other, size_flaw, whole_read}
 use Rattle.line_sums.specs.Images.{ReadsSums, BeginsWithSums}
 
 sum_long : (text : List ℕ) (e : TupleEntry ℕ) → SpellsTuple (SpellsNumber 8) text e → length text ≡ 16
@@ -91,12 +90,9 @@ sums_flaw_read bytes h s reads =
     let by_flag = cond (has_bit bytes 5 1) BigEndian by_seed in
     let by_version = cond (not (has_sums_version bytes)) (Version (version_at bytes)) by_flag in
     let by_family = cond (not (eqb (family_at bytes) 9)) (Family (family_at bytes)) by_version in
-    let by_eight = cond (ltb (length bytes) 8) Short by_family in
-    let no_hexadecimal : (leb 16 (length bytes) && are_digits (take 16 bytes)) ≡ false = ap (λ (b : Bool). leb 16 (length bytes) && b) (no_digits 15 bytes f.whole f.longs_high) ∙ second_false (leb 16 (length bytes)) in
-    past (leb 16 (length bytes) && are_digits (take 16 bytes)) Hexadecimal by_eight no_hexadecimal
-    (past (ltb (length bytes) 8) Short by_family (not_below (length bytes) 8 f.whole)
+    whole_read bytes by_family f.whole f.longs_high
     (past (not (eqb (family_at bytes) 9)) (Family (family_at bytes)) by_version (not_other (family_at bytes) 9 f.family)
     (past (not (has_sums_version bytes)) (Version (version_at bytes)) by_flag (ap not f.version)
     (either_way (has_bit bytes 5 1) BigEndian by_seed tt
     (past (not (is_empty bytes) && not (eqb (seed_hash_at bytes) h)) Seed by_longs f.seed
-    (either_way (not (has_longs bytes) || not (has_sums_type bytes)) Damaged whole tt by_length))))))
+    (either_way (not (has_longs bytes) || not (has_sums_type bytes)) Damaged whole tt by_length)))))
