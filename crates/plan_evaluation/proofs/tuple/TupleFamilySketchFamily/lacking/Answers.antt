@@ -5,7 +5,8 @@ use Rattle.core_laws.specs.Entries.{hash_key}
 use Rattle.core_laws.specs.Operators.{minus}
 use Rattle.core_laws.specs.Shown.{shown_value}
 use Rattle.core_slots.specs.Entry.{tuple_key}
-use Rattle.plan_evaluation.proofs.families.Lacking.{fold_answer, minus_of_keys}
+use Rattle.core_operators.proofs.DifferencesByKeys.{minus_of_keys}
+use Rattle.plan_evaluation.proofs.families.Lacking.{fold_answer}
 use Rattle.plan_evaluation.proofs.families.Shown.{hashes_lent}
 use Rattle.plan_evaluation.proofs.tuple.TupleFamilySketchFamily.lacking.Goals as goal
 
