@@ -1,5 +1,5 @@
 //! Tests of what the program writes by its arguments, of texts in memory.
-ghost use Rattle.std.specs.Prelude.{◌≡◌, ◌≢◌, ℕ, List, [], Some, IfOk, map, string_bytes};
+ghost use Rattle.std.specs.Prelude.{◌≡◌, ◌≢◌, ℕ, List, [], Some, IfOk};
 ghost use Rattle.sketch_base.specs.Seed.{seed_hash};
 ghost use Rattle.theta_sketches.specs.Image.{written};
 ghost use Rattle.distinct_arguments.specs.Arguments.{action_of};
@@ -7,13 +7,10 @@ ghost use Rattle.distinct_arguments.specs.declared.commands.Operator.TheVariants
 ghost use Rattle.distinct_arguments.specs.Faults.{options_of};
 ghost use Rattle.distinct_arguments.specs.Settings.{chosen_group, chosen_value};
 ghost use Rattle.distinct_inputs.specs.Failures.{chosen_amount};
-ghost use Rattle.distinct_commands.specs.Answers.{sketch_of};
 ghost use Rattle.distinct_inputs.specs.Lists.{names_of, texts_of};
-ghost use Rattle.distinct_inputs.specs.Images.{in_form};
-ghost use Rattle.distinct_commands.specs.Answers.{IsIntersectionImage, IsDifferenceImage, IsShownOf, IsCountOf, IsSketchText, IsCommandAnswer, IsCombinedText, Performs};
+ghost use Rattle.distinct_commands.specs.Answers.{sketch_of, IsIntersectionImage, IsDifferenceImage, IsShownOf, IsCountOf, IsSketchText, IsCommandAnswer, IsCombinedText, Performs};
 ghost use Rattle.distinct_commands.specs.Evaluations.{IsEvaluatedOf};
-ghost use Rattle.distinct_inputs.specs.Images.{images_of};
-ghost use Rattle.distinct_commands.specs.Texts.{count_text};
+ghost use Rattle.distinct_inputs.specs.Images.{images_of, in_form};
 ghost use Rattle.distinct_commands.specs.Sums.{IsTotalText};
 ghost use Rattle.distinct_commands.specs.Visits.{IsVisitsText};
 
