@@ -1,6 +1,7 @@
 -- The values of a command's options.
 use Rattle.std.specs.Prelude.{ℕ, ◌-◌, Bool, true, false, List, Option, Some, None, Result, Ok, Err}
 use Rattle.std.specs.Option.{option_map, option_map_or, unwrap_or}
+use Rattle.sketch_base.specs.declared.seed.TheConstants.{DEFAULT_UPDATE_SEED}
 use Rattle.lines.specs.declared.key.Key.{Key}
 use Rattle.lines.specs.declared.key.Key.TheVariants.{Line, Field as FieldKey}
 use Rattle.estimates.specs.declared.bounds.Deviations.{Deviations}
@@ -51,7 +52,7 @@ default_options = record {
   visits = false;
   groups = false;
   sums = false;
-  seed = seed_number 9001;
+  seed = seed_number DEFAULT_UPDATE_SEED;
   hex = false;
   keys = false;
   progress = false;

@@ -1,9 +1,14 @@
 -- Names in lists, cut at NUL bytes.
-use Rattle.std.proofs.Common.{map, ◌≡◌, ℕ, suc, false, eqb, List, [], ◌∷◌, ◌++◌, length, refl, sym, ap, ◌∙◌, append-nil, arith}
+use Rattle.std.proofs.Common.{map, min, ◌≡◌, ◌+◌, ◌-◌, ◌^◌, ℕ, suc, false, eqb, List, [], ◌∷◌, ◌++◌, length, refl, sym, ap, subst, ◌∙◌, append-nil, arith}
 use Rattle.std.specs.List.{onto_first}
 use Rattle.std.proofs.lemmas.Bool.{ne_eqb}
 use Rattle.lines.specs.Lines.{Lacks}
-use Rattle.distinct_inputs.specs.Lists.{names_in}
+use Rattle.std.specs.List.{AllByRecursion}
+use Rattle.std.specs.Prelude.{String, string_bytes}
+use Rattle.std.proofs.lemmas.List.{length-map}
+use Rattle.distinct_inputs.specs.Lists.{names_of, names_in, IsName, IsNotPut, IsUnlisted}
+use Rattle.distinct_inputs.specs.declared.lists.Unlisted.{Unlisted}
+use Rattle.distinct_inputs.specs.declared.lists.Unlisted.TheVariants.{Name, Memory}
 
 lacks-rest : (b : ℕ) (bs : List ℕ) → Lacks 0 (b ∷ bs) → Lacks 0 bs
 lacks-rest b bs h i lt = h (suc i) (omega arith)
@@ -34,3 +39,30 @@ last_named names new (b ∷ bs) all so_far lacks some put = put ∙ sym (so_far 
 pub nothing_named : {T : Type 0} (f : T → List ℕ) (xs : List T) → length xs ≡ 0 → map f xs ≡ []
 nothing_named f [] none = refl
 nothing_named f (x ∷ xs) none = absurd (omega arith)
+
+-- one name more
+named_behind : (names : List (List ℕ)) (name : List ℕ) → AllByRecursion IsName names → IsName name → AllByRecursion IsName (names ++ name ∷ [])
+named_behind [] name all is = (is, tt)
+named_behind (first ∷ names) name all is = (all.0, named_behind names name all.1 is)
+
+pub named_more : (names : List (List ℕ)) (name : List ℕ) (new : List (List ℕ)) → AllByRecursion IsName names → IsName name → new ≡ names ++ name ∷ [] → AllByRecursion IsName new
+named_more names name new all is put = subst (AllByRecursion IsName) (sym put) (named_behind names name all is)
+
+-- behind names a text that can't be one
+pub unlisted : {A : Type 0} (names : List (String A)) (text : List ℕ) (back all : List (List ℕ)) (u : Unlisted) → all ≡ names_of names ++ text ∷ back →
+    AllByRecursion IsName (names_of names) → IsNotPut (length names) text u → IsUnlisted all u
+unlisted names text back all Memory parted named not_put = tt
+unlisted names text back all (Name number) parted named not_put = record {
+  front = names_of names;
+  text = text;
+  back = back;
+  parted = parted;
+  named = named;
+  unnamed = not_put.0;
+  numbered = not_put.1 ∙ ap (λ n. min (n + 1) (2 ^ 64 - 1)) (sym (length-map names string_bytes));
+}
+
+-- what is left in a list is its last name, if it is something
+pub rest_named : (rest : List ℕ) → Lacks 0 rest → (length rest ≡ 0 → ⊥) → names_in rest ≡ rest ∷ []
+rest_named [] lacks some = absurd (some refl)
+rest_named (b ∷ bs) lacks some = last_name b bs lacks

@@ -1,6 +1,8 @@
 -- Lists of names of files.
-use Rattle.std.specs.Prelude.{ℕ, ◌==◌, List, [], ◌∷◌, if◌then◌else◌, map, String, Vec, string_bytes}
-use Rattle.std.specs.List.{onto_first}
+use Rattle.std.specs.Prelude.{ℕ, ◌≡◌, ◌≢◌, ◌==◌, ◌+◌, ◌-◌, ◌^◌, min, ⊤, List, [], ◌∷◌, ◌++◌, length, if◌then◌else◌, map, String, Vec, string_bytes, IsUtf8}
+use Rattle.std.specs.List.{onto_first, AllByRecursion}
+use Rattle.distinct_inputs.specs.declared.lists.Unlisted.{Unlisted}
+use Rattle.distinct_inputs.specs.declared.lists.Unlisted.TheVariants.{Name, Memory}
 
 -- the names of files, and the texts of files in memory
 abbrev pub names_of : {A : Type 0} → List (String A) → List (List ℕ)
@@ -13,3 +15,27 @@ texts_of texts = map (λ text. text.items) texts
 abbrev pub names_in : List ℕ → List (List ℕ)
 names_in [] = []
 names_in (byte ∷ list) = if byte == 0 then [] ∷ names_in list else onto_first byte (names_in list)
+
+-- a text can be the name of a file: it isn't empty, and is UTF-8
+abbrev pub IsName : List ℕ → Type 0
+IsName text = (text ≢ []) × IsUtf8 text
+
+-- a text behind this many others was not put into a list: memory was refused, or it can't be a name
+abbrev pub IsNotPut : (count : ℕ) → List ℕ → Unlisted → Type 0
+IsNotPut count text Memory = ⊤
+IsNotPut count text (Name number) = (IsName text → ⊥) × (number ≡ min (count + 1) (2 ^ 64 - 1))
+
+-- the first of these texts that can't be a name has this number, from 1
+pub record IsFirstUnnamed (number : ℕ) (texts : List (List ℕ)) : Type 0 where
+  pub front : List (List ℕ)
+  pub text : List ℕ
+  pub back : List (List ℕ)
+  pub parted : texts ≡ front ++ text ∷ back
+  pub named : AllByRecursion IsName front
+  pub unnamed : IsName text → ⊥
+  pub numbered : number ≡ min (length front + 1) (2 ^ 64 - 1)
+
+-- texts are not read as names: memory was refused, or one can't be a name, of which the first is reported
+abbrev pub IsUnlisted : (texts : List (List ℕ)) → Unlisted → Type 0
+IsUnlisted texts Memory = ⊤
+IsUnlisted texts (Name number) = IsFirstUnnamed number texts

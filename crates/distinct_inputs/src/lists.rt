@@ -1,7 +1,6 @@
 //! Lists of names of files.
-ghost use Rattle.std.specs.Prelude.{◌≡◌, ◌++◌, ◌∷◌, [], IfOk, OnOk};
-ghost use Rattle.distinct_inputs.specs.Lists.{names_of, texts_of};
-ghost use Rattle.distinct_inputs.specs.Lists.{names_in};
+ghost use Rattle.std.specs.Prelude.{◌≡◌, ◌++◌, ◌∷◌, [], length, IfOk, IfErr, OnOk};
+ghost use Rattle.distinct_inputs.specs.Lists.{names_of, texts_of, names_in, IsName, IsNotPut, IsUnlisted};
 
 use lines::cut_at;
 use std::alloc::{AllocError, AllocFailed, Global};
@@ -16,12 +15,20 @@ pub enum Unlisted {
 }
 
 impl From<AllocError> for Unlisted {
+    ghost use Rattle.distinct_inputs.specs.declared.lists.Unlisted.TheVariants.{Memory};
+
+    ghost from_gives = { λ _ e. e ≡ Memory };
+
     fn from(_e: AllocError) -> Unlisted {
         Unlisted::Memory
     }
 }
 
 impl<T: Drop> From<AllocFailed<T>> for Unlisted {
+    ghost use Rattle.distinct_inputs.specs.declared.lists.Unlisted.TheVariants.{Memory};
+
+    ghost from_gives = { λ _ e. e ≡ Memory };
+
     fn from(_e: AllocFailed<T>) -> Unlisted {
         Unlisted::Memory
     }
@@ -29,7 +36,9 @@ impl<T: Drop> From<AllocFailed<T>> for Unlisted {
 
 /// Appends a name to a list. It fails if the name is empty or not UTF-8 text, or if memory is refused.
 fn put_name(alloc: Global, names: &mut Vec<String>, name: &[u8]) -> Result<(), Unlisted>
-    ensures { OnOk result (names_of names.new.items ≡ names_of names.old.items ++ name.now ∷ []) }
+    ensures put { OnOk result (names_of names.new.items ≡ names_of names.old.items ++ name.now ∷ []) }
+    ensures named { OnOk result (IsName name.now) }
+    ensures failed { IfErr result (IsNotPut (length names.old.items) name.now) }
 {
     let number = (names.len() as u64).saturating_add(1);
     if name.is_empty() {
@@ -44,9 +53,11 @@ fn put_name(alloc: Global, names: &mut Vec<String>, name: &[u8]) -> Result<(), U
     }
 }
 
-/// The names in a list. A NUL byte ends each, which the last may lack.
+/// The names in a list. A NUL byte ends each, which the last may lack. It fails with the number, from 1, of the first name
+/// that is empty or not UTF-8 text, or if memory is refused.
 pub fn names_in(alloc: Global, list: &[u8]) -> Result<Vec<String>, Unlisted>
-    ensures { IfOk result (λ v. names_of v.items ≡ names_in list.now) }
+    ensures names { IfOk result (λ v. names_of v.items ≡ names_in list.now) }
+    ensures failed { IfErr result (IsUnlisted (names_in list.now)) }
 {
     let mut names = Vec::new(alloc);
     let mut rest = list;
@@ -61,9 +72,11 @@ pub fn names_in(alloc: Global, list: &[u8]) -> Result<Vec<String>, Unlisted>
     Ok(names)
 }
 
-/// Names as texts. It fails with the number of a name, from 1, that is empty or not UTF-8 text, or if memory is refused.
+/// Names as texts. It fails with the number, from 1, of the first name that is empty or not UTF-8 text, or if memory is
+/// refused.
 pub fn texts_of(alloc: Global, names: &[Vec<u8>]) -> Result<Vec<String>, Unlisted>
-    ensures { IfOk result (λ v. names_of v.items ≡ texts_of names.now) }
+    ensures names { IfOk result (λ v. names_of v.items ≡ texts_of names.now) }
+    ensures failed { IfErr result (IsUnlisted (texts_of names.now)) }
 {
     let mut texts = Vec::new(alloc);
     let mut left = names;

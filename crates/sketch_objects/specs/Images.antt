@@ -1,6 +1,8 @@
 -- Calls on images alone.
-use Rattle.std.specs.Prelude.{◌≡◌, ◌⊎◌, ℕ, List, true, Some, None}
+use Rattle.std.specs.Prelude.{◌≡◌, ◌≢◌, ◌⊎◌, ℕ, List, true, false, Some, None}
 use Rattle.sketch_base.specs.Seed.{seed_hash}
+use Rattle.sketch_base.specs.declared.error.ErrorKind.{ErrorKind}
+use Rattle.sketch_base.specs.declared.error.ErrorKind.TheVariants.{InvalidArgument, OutOfMemory}
 use Rattle.core_compact.specs.CompactState.{IsAnswer, compact_value}
 use Rattle.core_laws.specs.Entries.{hash_key, first_hash}
 use Rattle.core_laws.specs.Operators.{meet_next}
@@ -18,6 +20,15 @@ common_value a b = meet_next hash_key first_hash (Some (meet_next hash_key first
 -- the intersection of two compact sketches, ordered
 abbrev pub IsIntersectionOf : (seed : ℕ) → (first second : CompactSketch) → CompactSketch → Type 0
 IsIntersectionOf seed first second s = IsAnswer hash_key (common_value (compact_value hash_key first.sketch) (compact_value hash_key second.sketch)) (seed_hash seed) true s.sketch
+
+-- a sketch that isn't empty is of another seed
+abbrev pub IsOfAnotherSeed : (seed : ℕ) → CompactSketch → Type 0
+IsOfAnotherSeed seed s = (s.sketch.empty ≡ false) × (s.sketch.seed_hash ≢ seed_hash seed)
+
+-- the refusal of the intersection of two sketches: memory; or the hash of the seed is 0, or one of them is of another seed
+abbrev pub IsIntersectionRefusal : (seed : ℕ) → (first second : CompactSketch) → ErrorKind → Type 0
+IsIntersectionRefusal seed first second e =
+    (e ≡ OutOfMemory) ⊎ ((e ≡ InvalidArgument) × ((seed_hash seed ≡ 0) ⊎ (IsOfAnotherSeed seed first ⊎ IsOfAnotherSeed seed second)))
 
 -- the image of an operation on the sketches that two images begin with
 abbrev pub IsImageOfBoth : (IsResult : CompactSketch → CompactSketch → CompactSketch → Type 0) → (seed : ℕ) → (first second : List ℕ) → (image : List ℕ) → Type 0

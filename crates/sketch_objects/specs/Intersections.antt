@@ -71,3 +71,9 @@ IsDifferenceOf first second s = IsHashDifference (shown_of hash_key first.sketch
 abbrev pub IsDifferenceRefusal : (seed : ℕ) → (first second : CompactSketch) → (status : ℕ) → Type 0
 IsDifferenceRefusal seed first second status =
     IsRefusal (seed_refusal seed) false status ⊎ IsRefusal (difference_refusal (seed_hash seed) (shown_of hash_key first.sketch) (shown_of hash_key second.sketch)) true status
+
+-- a difference is not refused: the hash of its seed isn't 0, and the first sketch, if it isn't empty, is of this seed, and so is a
+-- second that isn't empty
+abbrev pub AreOfSeed : (seed : ℕ) → (first second : CompactSketch) → Type 0
+AreOfSeed seed first second =
+    (seed_refusal seed ≡ None) × (difference_refusal (seed_hash seed) (shown_of hash_key first.sketch) (shown_of hash_key second.sketch) ≡ None)

@@ -83,3 +83,9 @@ abbrev pub IsSumsDifferenceRefusal : (seed : ℕ) → (first second : CompactSum
 IsSumsDifferenceRefusal seed first second status =
     IsRefusal (seed_refusal seed) false status
     ⊎ IsRefusal (difference_refusal (seed_hash seed) (shown_of tuple_key first.sketch) (shown_of tuple_key second.sketch)) true status
+
+-- a difference is not refused: the hash of its seed isn't 0, and the first sketch, if it isn't empty, is of this seed, and so is a
+-- second that isn't empty
+abbrev pub AreSumsOfSeed : (seed : ℕ) → (first second : CompactSums) → Type 0
+AreSumsOfSeed seed first second =
+    (seed_refusal seed ≡ None) × (difference_refusal (seed_hash seed) (shown_of tuple_key first.sketch) (shown_of tuple_key second.sketch) ≡ None)

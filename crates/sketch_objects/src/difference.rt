@@ -1,6 +1,6 @@
 //! Differences of theta sketches.
-ghost use Rattle.std.specs.Prelude.{IfOk, IfErr};
-ghost use Rattle.sketch_objects.specs.Intersections.{IsDifferenceOf, IsDifferenceRefusal};
+ghost use Rattle.std.specs.Prelude.{IfOk, IfErr, OnOk};
+ghost use Rattle.sketch_objects.specs.Intersections.{IsDifferenceOf, IsDifferenceRefusal, AreOfSeed};
 
 use crate::compact::CompactSketch;
 use crate::status::status_of;
@@ -15,6 +15,7 @@ pub fn difference(
     second: &CompactSketch,
 ) -> Result<CompactSketch, u32>
     ensures made { IfOk result (λ s. IsDifferenceOf first.now second.now s) }
+    ensures accepted { OnOk result (AreOfSeed seed first.now second.now) }
     ensures refused { IfErr result (λ status. IsDifferenceRefusal seed first.now second.now status) }
 {
     let difference = match ThetaANotB::with_seed(seed) {

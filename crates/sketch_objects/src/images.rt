@@ -1,7 +1,7 @@
 //! Operations on images alone.
 ghost use Rattle.std.specs.Prelude.{true, IfOk, IfErr};
 ghost use Rattle.sketch_objects.specs.Buffer.{Writes};
-ghost use Rattle.sketch_objects.specs.Images.{IsRefusalOfEither, IsIntersectionOf};
+ghost use Rattle.sketch_objects.specs.Images.{IsRefusalOfEither, IsIntersectionOf, IsIntersectionRefusal};
 ghost use Rattle.sketch_objects.specs.Status.{IsMemoryRefusal};
 ghost use Rattle.sketch_objects.specs.Thetas.{IsCompactImage, IsReadFrom};
 
@@ -33,14 +33,16 @@ pub fn read_both(
     }
 }
 
-/// The hashes that two sketches have in common. Refused memory alone, as both are of this seed.
+/// The hashes that two sketches have in common. Refused with `InvalidArgument` only for a seed whose seed hash is 0 or a
+/// sketch of another seed that isn't empty, and with `OutOfMemory`.
 pub fn intersected(
     alloc: Global,
     seed: u64,
     first: &CompactSketch,
     second: &CompactSketch,
 ) -> Result<CompactSketch, Error>
-    ensures { IfOk result (λ s. IsIntersectionOf seed first.now second.now s) }
+    ensures made { IfOk result (λ s. IsIntersectionOf seed first.now second.now s) }
+    ensures refused { IfErr result (IsIntersectionRefusal seed first.now second.now) }
 {
     let mut intersection = ThetaIntersection::with_seed(alloc, seed)?;
     intersection.update(first.sketch.as_view())?;

@@ -1,6 +1,6 @@
 //! Differences of tuple sketches of sums.
-ghost use Rattle.std.specs.Prelude.{IfOk, IfErr};
-ghost use Rattle.sketch_objects.specs.SumsIntersections.{IsDifferenceOfSums, IsSumsDifferenceRefusal};
+ghost use Rattle.std.specs.Prelude.{IfOk, IfErr, OnOk};
+ghost use Rattle.sketch_objects.specs.SumsIntersections.{IsDifferenceOfSums, IsSumsDifferenceRefusal, AreSumsOfSeed};
 
 use crate::compact_sums::CompactSums;
 use crate::status::status_of;
@@ -15,6 +15,7 @@ pub fn difference(
     second: &CompactSums,
 ) -> Result<CompactSums, u32>
     ensures made { IfOk result (λ s. IsDifferenceOfSums first.now second.now s) }
+    ensures accepted { OnOk result (AreSumsOfSeed seed first.now second.now) }
     ensures refused { IfErr result (λ status. IsSumsDifferenceRefusal seed first.now second.now status) }
 {
     let difference = match TupleANotB::with_seed(seed) {
