@@ -1,11 +1,10 @@
 //! Intersections.
 ghost use Rattle.std.specs.Prelude.{◌≡◌, ◌==◌, ◌<◌, ◌^◌, ◌⊎◌, Some, None, true, false, is_some, if◌then◌else◌, length, min, IfOk, IfErr, OnOk};
-ghost use Rattle.std.specs.Option.{option_map_or};
 ghost use Rattle.sketch_base.specs.Seed.{seed_hash};
 ghost use Rattle.core_operators.specs.Intersection.{Intersection, IsIntersection, IsMet, IsAnswerIfAny, new_intersection, outcome_value, content_of, seed_refusal, intersect_refusal, is_settled_outcome, is_begun, is_nothing_left, IsIntersectError, IsMetMap};
 ghost use Rattle.core_operators.specs.declared.intersection.Outcome.TheVariants.{Nothing, Held};
 ghost use Rattle.core_laws.specs.Refusal.{Refuses};
-ghost use Rattle.core_laws.specs.Values.{NonEmpty, count_of};
+ghost use Rattle.core_laws.specs.Values.{NonEmpty};
 ghost use Rattle.core_laws.specs.Cuts.{IsRetained};
 ghost use Rattle.core_laws.specs.Shown.{IsShown};
 ghost use Rattle.core_laws.specs.Entries.{ClonesEqual};

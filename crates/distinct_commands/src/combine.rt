@@ -4,7 +4,6 @@ ghost use Rattle.sketch_base.specs.Seed.{seed_hash};
 ghost use Rattle.sketch_base.specs.declared.error.ErrorKind.TheVariants.{OutOfMemory, InvalidData, Policy};
 ghost use Rattle.theta_sketches.specs.Image.{written};
 ghost use Rattle.line_sketches.specs.Shards.{AreRead};
-ghost use Rattle.line_sketches.specs.Unions.{IsUnitedImage};
 ghost use Rattle.distinct_arguments.specs.Faults.{options_of};
 ghost use Rattle.distinct_arguments.specs.Settings.{OptionValues};
 ghost use Rattle.distinct_commands.specs.Answers.{intersection_of, difference_of, IsCombinedOf, IsExpected, IsUnionOf};

@@ -4,7 +4,7 @@ ghost use Rattle.sketch_base.specs.Seed.{seed_hash};
 ghost use Rattle.sketch_base.specs.declared.error.ErrorKind.TheVariants.{OutOfMemory, Policy};
 ghost use Rattle.core_compact.specs.CompactState.{ordered_sketch};
 ghost use Rattle.expression_text.specs.Grammar.{IsExpressionText};
-ghost use Rattle.line_sums.specs.Images.{AreReadSums, written_sums};
+ghost use Rattle.line_sums.specs.Images.{AreReadSums};
 ghost use Rattle.set_expressions.specs.Values.{sums_value};
 ghost use Rattle.set_expressions.specs.Running.{sums_values};
 ghost use Rattle.distinct_arguments.specs.Faults.{options_of};

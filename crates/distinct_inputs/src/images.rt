@@ -3,7 +3,6 @@
 ghost use Rattle.std.specs.Prelude.{◌≡◌, ◌≢◌, true, false, Some, None, IfOk, IfSome, OnOk};
 ghost use Rattle.std.specs.IoError.{error_kind};
 ghost use Rattle.std.specs.declared.io.ErrorKind.TheVariants.{InvalidData};
-ghost use Rattle.std.specs.Io.Buffered.{reader_remaining};
 ghost use Rattle.sketch_base.specs.Seed.{seed_hash};
 ghost use Rattle.line_sketches.specs.Sources.{GivesNext};
 ghost use Rattle.distinct_inputs.specs.Images.{remaining_images, image_flaw, length_of, IsAlone, GivesOrCloses, IsSameReader};
