@@ -2,10 +2,12 @@
 ghost use Rattle.std.specs.Prelude.{Some, false};
 
 use crate::common::sums_below;
+use std::alloc::Global;
 use std::cell::Cell;
 use std::test::Fail;
 use tuple_sketches::{
-    Error, MAX_THETA, SummaryCombinePolicy, SummaryPolicy, TupleIntersection, TupleUnionBuilder,
+    Error, MAX_THETA, SummaryCombinePolicy, SummaryPolicy, TupleIntersection, TupleSketchView,
+    TupleUnionBuilder,
 };
 
 /// Keeps the held summary, and counts the calls.
@@ -35,20 +37,41 @@ impl<'a> SummaryCombinePolicy for Counting<'a> {
     }
 }
 
+/// The calls after each of two updates of an intersection.
+fn calls_of_an_intersection(
+    alloc: Global,
+    a: TupleSketchView<'_, u64>,
+    b: TupleSketchView<'_, u64>,
+) -> Result<[u64; 2], Error> {
+    let calls = Cell::new(0);
+    let mut intersection = TupleIntersection::new(alloc, Counting { calls: &calls })?;
+    intersection.update(a)?;
+    let first = calls.get();
+    intersection.update(b)?;
+    Ok([first, calls.get()])
+}
+
+/// The calls after each of two updates of a union.
+fn calls_of_a_union(
+    alloc: Global,
+    a: TupleSketchView<'_, u64>,
+    b: TupleSketchView<'_, u64>,
+) -> Result<[u64; 2], Error> {
+    let calls = Cell::new(0);
+    let mut union = TupleUnionBuilder::new(Counting { calls: &calls }).build(alloc)?;
+    union.update(a)?;
+    let first = calls.get();
+    union.update(b)?;
+    Ok([first, calls.get()])
+}
+
 #[test]
 fn policies_are_called_below_theta_alone(rt: HostRuntime) -> Result<(), Fail> {
     // The first sketch lowers theta to 6, so that the hash 7 is not combined.
     let a = sums_below(rt.alloc(), 6, &[(2, 1), (5, 1)])?;
     let b = sums_below(rt.alloc(), MAX_THETA, &[(2, 1), (5, 1), (7, 1)])?;
-    let met = Cell::new(0);
-    let united = Cell::new(0);
-    let mut intersection = TupleIntersection::new(rt.alloc(), Counting { calls: &met })?;
-    let mut union = TupleUnionBuilder::new(Counting { calls: &united }).build(rt.alloc())?;
-    intersection.update(a.as_view())?;
-    union.update(a.as_view())?;
-    assert_eq!(rt; (met.get(), united.get()), (0, 0));
-    intersection.update(b.as_view())?;
-    union.update(b.as_view())?;
-    assert_eq!(rt; (met.get(), united.get()), (2, 2));
+    let met = calls_of_an_intersection(rt.alloc(), a.as_view(), b.as_view())?;
+    let united = calls_of_a_union(rt.alloc(), a.as_view(), b.as_view())?;
+    assert_eq!(rt; (met, united), ([0, 2], [0, 2]));
     Ok(())
 }

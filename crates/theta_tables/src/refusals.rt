@@ -42,21 +42,26 @@ fn values_in_turn(alloc: Global, commands: &[TableCommand]) -> Result<Vec<Value>
     Ok(values)
 }
 
-/// Whether a run over the table in slots, or over the plain one, is refused if this request is, and what the table then
-/// retains.
-fn run_refused(
+/// Whether a run over the table in slots is refused if this request is, and what the table then retains.
+fn run_in_slots(
     alloc: Global,
-    in_slots: bool,
     request: u64,
     commands: &[TableCommand],
 ) -> Result<(bool, Value), Error> {
     let heap = Refusing::new(alloc);
-    if in_slots {
-        let mut table = ThetaHashTable::new(&heap, 5, ResizeFactor::X2, MAX_THETA, 9001)?;
-        heap.restart(Refusal::Only(request));
-        let refused = run_table(&heap, &mut table, commands).is_err();
-        return Ok((refused, value_in_slots(alloc, &table)?));
-    }
+    let mut table = ThetaHashTable::new(&heap, 5, ResizeFactor::X2, MAX_THETA, 9001)?;
+    heap.restart(Refusal::Only(request));
+    let refused = run_table(&heap, &mut table, commands).is_err();
+    Ok((refused, value_in_slots(alloc, &table)?))
+}
+
+/// Whether a run over the plain table is refused if this request is, and what the table then retains.
+fn run_in_a_list(
+    alloc: Global,
+    request: u64,
+    commands: &[TableCommand],
+) -> Result<(bool, Value), Error> {
+    let heap = Refusing::new(alloc);
     let mut table = PlainTable::<ThetaEntry, _>::new(&heap, 5, ResizeFactor::X2, MAX_THETA, 9001)?;
     heap.restart(Refusal::Only(request));
     let refused = run_table(&heap, &mut table, commands).is_err();
@@ -69,6 +74,19 @@ fn is_after_beginning(values: &[Value], refused: bool, value: &Value) -> bool {
         return values.iter().any(|it| it == value);
     }
     values.last() == Some(value)
+}
+
+/// A run over one of the two tables.
+fn run_refused(
+    alloc: Global,
+    in_slots: bool,
+    request: u64,
+    commands: &[TableCommand],
+) -> Result<(bool, Value), Error> {
+    if in_slots {
+        return run_in_slots(alloc, request, commands);
+    }
+    run_in_a_list(alloc, request, commands)
 }
 
 #[test]
