@@ -1,7 +1,7 @@
 #!/usr/bin/env python3
-"""What a plan comes to, read from docs/SPECIFICATION.md alone: checks/answers.py < PLAN prints the answer.
+"""The answer to a plan, by docs/SPECIFICATION.md alone: checks/answers.py < PLAN prints it.
 
-It shares no code with the program, and holds a leaf's whole list of steps. It tells no fault but `error argument`, and
+It shares no code with the program, and keeps a leaf's whole list of steps. It reports no fault but `error argument`, and
 knows theta plans alone.
 """
 import struct

@@ -1,14 +1,14 @@
 #!/usr/bin/env python3
 """Unpacks the cases of examples/*.cases: checks/cases.py FOLDER writes each as FOLDER/FILE_NAME, its plan, and FOLDER/FILE_NAME.stdout,
-what the plan comes to.
+its answer.
 
 A case is a line NAME | PLAN | ANSWER. In both texts:
 - a comma ends a line, and a text without words has no lines;
-- a line with (A to B) or (A to B by S) stands for one with each number from A up or down to B, S apart or 1;
-- a line with (N times) behind it stands for N of it;
-- a word that a line WORD = TEXT told before stands for its text, and \\r for a carriage return.
+- a line with (A to B) or (A to B by S) means one line with each number from A up or down to B, S apart or 1;
+- a line with (N times) behind it means N of it;
+- a word that an earlier line WORD = TEXT defines means its text, and \\r a carriage return.
 
-A case whose name ends in _in_any_order stands for six, one for each order of the words a, b and c in its plan.
+A case whose name ends in _in_any_order means six cases, one for each order of the words a, b and c in its plan.
 """
 import itertools
 import os
@@ -20,7 +20,7 @@ LEAVES = "abc"
 
 
 def lines_of(text, words):
-    """The lines that a text stands for."""
+    """The lines that a text means."""
     found = []
     for line in text.split(",") if text else []:
         line = line.strip().replace("\\r", "\r")

@@ -1,5 +1,5 @@
 #!/usr/bin/env python3
-"""Vectors of MurmurHash3 x64 128 for src/tests.rt, from the hash's public description.
+"""Vectors of MurmurHash3 x64 128 for src/base.rt, from the hash's public description.
 
 It shares no code with the crate. `python3 vectors.py` prints:
 - both halves of the hash of the bytes 3, 40, 77, .. (byte i is 37 * i + 3, modulo 256), for each length

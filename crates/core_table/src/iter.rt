@@ -171,7 +171,7 @@ pub(crate) fn first_in<'a, E: SlotEntry + 'a>(
     (E::in_slot(&rest.slots[at]), behind)
 }
 
-/// How many slots are passed over at once.
+/// How many slots are skipped at once.
 const PASSED: usize = 8;
 
 /// Whether some of a few slots hold an entry below theta. It takes no branch on what a slot holds.
@@ -209,7 +209,7 @@ fn slots_from_below<'a, E: SlotEntry + 'a>(slots: &'a [E::Slot], theta: u64) -> 
 }
 
 impl<'a, E: SlotEntry + 'a> SketchHashTableIter<'a, E> {
-    /// Passes over the entries in front whose hashes are not below theta.
+    /// Skips the entries in front whose hashes are not below theta.
     #[inline(always)]
     pub fn pass_to_below(&mut self, theta: u64)
         ensures { self.new ≡ from_below E.key theta self.old }

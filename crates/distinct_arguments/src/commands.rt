@@ -19,7 +19,7 @@ pub enum Command {
     Show,
     /// Evaluates an expression over the sketches of files.
     Eval,
-    /// Prints how many keys come how often.
+    /// Prints how many keys occur how often.
     Visits,
     /// Prints the total of the numbers in a field of lines.
     Sum,

@@ -117,7 +117,7 @@ CanFollow levels after_operand (sign op) = after_operand ≡ true
 CanFollow levels after_operand opening = (after_operand ≡ false) × (levels < most_levels)
 CanFollow levels after_operand closing = (after_operand ≡ true) × (0 < levels)
 
--- no expression goes on with a text: its next token, if it has one, may not follow
+-- no expression continues with a text: its next token, if it has one, may not follow
 abbrev pub CannotGoOn : (levels : ℕ) → (after_operand : Bool) → (text : List ℕ) → Type 0
 CannotGoOn levels after_operand text = (t : Lexeme) (rest : List ℕ) → IsToken t text rest → CanFollow levels after_operand t → ⊥
 

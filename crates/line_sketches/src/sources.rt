@@ -93,7 +93,8 @@ pub fn add_sources<A: Allocator + Clone, B: Allocator + Clone + Drop, S: Sources
     sources: &mut S,
     watch: &mut W,
 ) -> Result<(), Unread>
-    ensures lines { IfSome (S.texts sources.old) (λ texts. OnOk result (line_state sketch.new ≡ with_lines hashing (line_state sketch.old) (lines_of_all texts))) }
+    ensures lines { IfSome (S.texts sources.old) (λ texts.
+        OnOk result (line_state sketch.new ≡ with_lines hashing (line_state sketch.old) (lines_of_all texts))) }
     ensures refused { RefusesRead result None }
 {
     for _ in 0..u64::MAX {

@@ -70,8 +70,8 @@ pub fn evaluate_theta<A: Allocator + Clone, B: Allocator>(
     ordered(&ThetaFamily, &alloc, plan, seed)
 }
 
-/// The sketch of a plan of tuples under a seed and two policies, ordered: `update_policy` makes and updates the summaries of
-/// leaves, `combine_policy` combines those of a key that parts of a union or an intersection share, in the order of the
+/// The sketch of a plan of tuples under a seed and two policies, ordered. In leaves, `update_policy` makes and updates
+/// summaries. In unions and intersections, `combine_policy` combines those of a key that parts share, in the order of the
 /// parts. Its value is the plan's, in folds, none of which is a refusal: it retains all of the whole streams' map below its
 /// theta, and if it is empty that map has no keys.
 ///

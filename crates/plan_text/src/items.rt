@@ -39,11 +39,10 @@ fn greatest_levels<T: Levels>(items: &[T]) -> u8 {
 }
 
 impl<T: Levels + Drop, A: Allocator> Items<T, A> {
-    /// Wraps the parts of a plan and checks each one. If one has `MAX_LEVELS` levels, all are refused and dropped.
+    /// Wraps the parts of a plan and checks each one.
     ///
-    /// # Errors
-    ///
-    /// `InvalidArgument` if a part has `MAX_LEVELS` levels, since a plan around it would have one more.
+    /// Refused with `InvalidArgument` if a part has `MAX_LEVELS` levels, since a plan around it would have one more; then all
+    /// parts are dropped.
     pub fn from_parts(parts: Vec<T, A>) -> Result<Items<T, A>, Error>
         ensures { MatchResult result (λ it. it ≡ parts.items) (λ e. e ≡ InvalidArgument) }
     {

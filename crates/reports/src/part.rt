@@ -32,7 +32,7 @@ fn part_fraction(is_empty: bool, retained: usize, theta: u64) -> (u128, u128)
     }
 }
 
-/// What a sketch says of a part of the values of its stream, such as those that come twice, by the number of those that it
+/// What a sketch says of a part of the values of its stream, such as those that occur twice, by the number of those that it
 /// retains, fewer than 2^32, and by its theta, from 1 to `MAX_THETA`. It is the report of any sketch that retains so many
 /// values below this theta.
 pub fn report_of_part(is_empty: bool, retained: usize, theta: u64, deviations: Deviations) -> Report

@@ -1,4 +1,4 @@
-//! The lines that are written of the values of a stream that come from some number of times to another. Each ends in LF,
+//! The lines that are written of the values of a stream that occur from some number of times to another. Each ends in LF,
 //! and fails only if memory is refused.
 ghost use Rattle.std.specs.Prelude.{◌≡◌, IfOk, string_bytes};
 ghost use Rattle.reports.specs.Ranges.{range_json_line, range_line, range_text, range_tsv_head, range_tsv_row};
@@ -18,7 +18,7 @@ fn range_text<A: Allocator>(alloc: A, least: u128, greatest: u128) -> Result<Str
     }
 }
 
-/// The line of the values that come from `least` to `greatest` times, both included: these numbers, and the line of a count.
+/// The line of the values that occur from `least` to `greatest` times, both included: these numbers, and the line of a count.
 pub fn range_line<A: Allocator + Clone>(
     alloc: A,
     with_bounds: bool,
@@ -45,7 +45,7 @@ pub fn range_tsv_head<A: Allocator + Clone>(alloc: A) -> Result<String<A>, Alloc
     Ok(head)
 }
 
-/// The row of the values that come from `least` to `greatest` times: these numbers, and the values of a report.
+/// The row of the values that occur from `least` to `greatest` times: these numbers, and the values of a report.
 pub fn range_tsv_row<A: Allocator + Clone>(
     alloc: A,
     least: u128,
@@ -60,7 +60,7 @@ pub fn range_tsv_row<A: Allocator + Clone>(
     Ok(row)
 }
 
-/// The values that come from `least` to `greatest` times as a JSON object on a line.
+/// The values that occur from `least` to `greatest` times as a JSON object on a line.
 pub fn range_json_line<A: Allocator>(
     alloc: A,
     least: u128,

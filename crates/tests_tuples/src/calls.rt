@@ -10,7 +10,7 @@ use tuple_sketches::{
     TupleUnionBuilder,
 };
 
-/// Keeps the held summary, and counts the calls.
+/// Keeps the stored summary, and counts the calls.
 #[derive(Clone, Copy)]
 struct Counting<'a> {
     calls: &'a Cell<u64>,

@@ -59,7 +59,7 @@ module _ {X : Type 0} (key : X → ℕ) where
         rw tie (elim (is_settled i.result || s.empty) as (λ b. ◌≡◌ {A = Option ErrorKind} (cond b None None) None) [ true ↦ refl | false ↦ refl ])
 
 module _ {X V : Type 0} (f : Family X V) (refuses : X → X → Bool) (keeps : KeepsKey f.key f.merges) where
-  -- a refused merge of a held entry and a new one leaves a mark in the joined whole maps
+  -- a refused merge of a stored entry and a new one leaves a mark in the joined whole maps
   joined_mark : (content : Retained X) (listing : List X) (theta t : ℕ) (whole arriving : List (Fold X)) → IsMergeRefused f.key refuses (below f.key content.entries t) listing →
       IsAscending (fold_key f.key) arriving → map Value content.entries ≡ below (fold_key f.key) whole content.theta → map Value (map_of f.key listing) ≡ below (fold_key f.key) arriving theta →
       has_mark (joined (fold_key f.key) (fold_merges f.key f.merges refuses) whole arriving) ≡ true
