@@ -731,7 +731,11 @@ def run(words, files, messages):
         listed = text_of(files, options["--files0-from"])
         if b"\n" in listed and b"\0" not in listed:
             raise Failure(f"{escaped(called(options['--files0-from']))}: has no NUL byte; each name ends in one (find -print0)")
-        names = [it.decode() for it in listed.split(b"\0") if it]
+        listed = listed.removesuffix(b"\0").split(b"\0") if listed else []
+        for number, name in enumerate(listed, 1):
+            if not name or name.decode(errors="ignore").encode() != name:
+                raise Failure(f"{escaped(called(options['--files0-from']))}: name {number} is empty or not UTF-8 text")
+        names = [name.decode() for name in listed]
     if command == "visits" and not options["--sums"]:
         sketch, counts = visits_of([text_of(files, name) for name in names], options, seed)
         return printed_ranges(ranges_of(sketch, counts, options["--bounds"] or 2), options).encode()

@@ -1,12 +1,12 @@
-//! The audience of the library's second example (docs/LIBRARY.md), and an intersection.
+//! The audience of the library's second example (docs/LIBRARY.md).
 
 use crate::common::{add, ascending};
 use sketch_base::Error;
 use std::alloc::Global;
 use std::test::Fail;
 use theta_sketches::{
-    CompactThetaSketch, ThetaANotB, ThetaIntersection, ThetaSketch, ThetaSketchBuilder,
-    ThetaSketchView, ThetaUnionBuilder,
+    CompactThetaSketch, ThetaANotB, ThetaSketch, ThetaSketchBuilder, ThetaSketchView,
+    ThetaUnionBuilder,
 };
 
 fn visitors(alloc: Global, hashes: &[u64]) -> Result<ThetaSketch, Error> {
@@ -48,33 +48,5 @@ fn audience_example(rt: HostRuntime) -> Result<(), Fail> {
     let found = found(rt.alloc())?;
     assert_eq!(rt; found.0.as_slice(), [11, 13, 14].as_slice());
     assert_eq!(rt; found.1, (27670116110564327421, 9223372036854775807));
-    Ok(())
-}
-
-/// Updates an intersection with a sketch.
-fn see(shared: &mut ThetaIntersection, sketch: ThetaSketch) -> Result<(), Error> {
-    shared.update(sketch.as_view())
-}
-
-/// The hashes of an intersection, if it has seen a sketch.
-fn shared_by(alloc: Global, shared: &ThetaIntersection) -> Result<Option<Vec<u64>>, Error> {
-    match shared.to_sketch(true)? {
-        Some(answer) => Ok(Some(ascending(alloc, answer.iter())?)),
-        None => Ok(None),
-    }
-}
-
-/// The visitors of A that also are visitors of B.
-fn shared(alloc: Global) -> Result<Option<Vec<u64>>, Error> {
-    let mut shared = ThetaIntersection::default(alloc)?;
-    see(&mut shared, visitors(alloc, &[11, 12, 13])?)?;
-    see(&mut shared, visitors(alloc, &[13, 14])?)?;
-    shared_by(alloc, &shared)
-}
-
-#[test]
-fn shared_visitors(rt: HostRuntime) -> Result<(), Fail> {
-    let hashes = shared(rt.alloc())?.ok_or("no sketch was seen")?;
-    assert_eq!(rt; hashes.as_slice(), [13].as_slice());
     Ok(())
 }

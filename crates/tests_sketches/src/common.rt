@@ -79,24 +79,3 @@ pub fn value_of<A: Allocator>(
     let hashes = ascending(alloc, sketch.iter())?;
     Ok((sketch.is_empty(), sketch.theta64(), hashes))
 }
-
-/// The bytes that a text of hexadecimal digits and spaces spells.
-pub fn bytes_of(alloc: Global, text: &str) -> Result<Vec<u8>, AllocError> {
-    let mut bytes = Vec::new(alloc);
-    let mut high = None;
-    for letter in text.bytes() {
-        let digit = match letter {
-            b'0'..=b'9' => letter - b'0',
-            b'a'..=b'f' => letter - b'a' + 10,
-            _ => continue,
-        };
-        match high {
-            None => high = Some(digit),
-            Some(first) => {
-                bytes.push(first << 4 | digit)?;
-                high = None;
-            }
-        }
-    }
-    Ok(bytes)
-}

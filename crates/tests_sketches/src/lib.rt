@@ -1,6 +1,5 @@
-//! Tests over the public calls of the theta sketches, and of the hash and the bytes below them, with values from outside;
-//! of memory: the number and the bytes of a call's requests, and how a call ends if each of its requests is refused; and of
-//! images whose hashes were chosen.
+//! Tests over the public calls of the theta sketches, and of the hash and the bytes below them, with values from outside,
+//! and of images whose hashes were chosen. Requests for memory are counted and refused by the tests of the C library.
 #![tactic(auto)]
 
 #[cfg(test)]
@@ -16,14 +15,6 @@ mod family;
 #[cfg(test)]
 mod mapped;
 #[cfg(test)]
-mod operator_requests;
-#[cfg(test)]
-mod operators_without_memory;
-#[cfg(test)]
-mod reading_requests;
-#[cfg(test)]
-mod requests;
-#[cfg(test)]
 mod sketches;
 #[cfg(test)]
 mod sketches_without_memory;
@@ -31,5 +22,3 @@ mod sketches_without_memory;
 mod slots;
 #[cfg(test)]
 mod steps;
-#[cfg(test)]
-mod table_requests;

@@ -1,5 +1,5 @@
-//! Tests over the public calls of the tuple sketches: policies for tests, a summary of variable
-//! width, and memory that is requested or refused.
+//! Tests over the public calls of the tuple sketches: policies for tests, one of which allocates memory that is refused,
+//! and a summary of variable width.
 #![tactic(auto)]
 
 #[cfg(test)]
@@ -20,5 +20,3 @@ mod policies;
 mod requests;
 #[cfg(test)]
 mod tables;
-#[cfg(test)]
-mod tuple_requests;

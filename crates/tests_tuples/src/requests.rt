@@ -7,8 +7,7 @@ use std::alloc::{AllocError, Allocator, Global};
 use std::marker::Model;
 use std::test::Fail;
 use tuple_sketches::{
-    DefaultUpdatePolicy, Error, ErrorKind, ResizeFactor, SummaryPolicy, SummaryUpdatePolicy,
-    TupleSketch, TupleSketchBuilder,
+    Error, ErrorKind, SummaryPolicy, SummaryUpdatePolicy, TupleSketch, TupleSketchBuilder,
 };
 
 /// The values that a key was seen with, in their order.
@@ -176,55 +175,4 @@ fn builds_are_refused(rt: HostRuntime) {
         heap.restart(Refusal::Only(refused));
         assert_eq!(rt; kind_of(lists(&heap, true)), wanted, "at {refused}");
     }
-}
-
-/// A sketch of sums in memory whose requests are counted.
-type Sums<'a> = TupleSketch<DefaultUpdatePolicy<u64>, &'a Heap>;
-
-/// A sketch that starts with all its slots, updated with `count` spread hashes, and the next hash.
-fn filled_sums<'a>(heap: &'a Heap, lg_k: u8, count: u64) -> Result<(Sums<'a>, u64), Error> {
-    let builder = TupleSketchBuilder::new(DefaultUpdatePolicy::<u64>::default());
-    let builder = builder.lg_k(lg_k);
-    let mut sketch = builder.resize_factor(ResizeFactor::X1).build(heap)?;
-    let mut hash = 0u64;
-    for _update in 0..=count {
-        sketch.update_hash(hash, 1)?;
-        hash = hash.wrapping_add(5700357409661599241) & 0x7fff_ffff_ffff_ffff;
-    }
-    Ok((sketch, hash))
-}
-
-/// The requests of a rebuild after `count` sums, their bytes, and the number of sums then.
-fn rebuilt(heap: &Heap, lg_k: u8, count: u64) -> Result<(u64, u64, usize), Error> {
-    let (mut sketch, next) = filled_sums(heap, lg_k, count)?;
-    heap.restart(Refusal::Never);
-    sketch.update_hash(next, 1)?;
-    Ok((heap.seen(), heap.bytes(), sketch.num_retained()))
-}
-
-/// The bytes of a slot of a sum: a hash, a sum, and a word that marks a used slot.
-const SLOT: u64 = 24;
-
-// A rebuild requests one slot more than it keeps entries, or one byte per slot if there are more than 2^16 slots; and
-// hashes of eight bytes to select from: one more than there are slots if these are few, and at most a sixteenth of them
-// if they are many.
-#[test]
-fn rebuilds_of_sums_request_little(rt: HostRuntime) -> Result<(), Fail> {
-    let heap = Refusing::new(rt.alloc());
-    // The logarithm of k, the number of entries before the rebuild, the bytes for the new layout of slots, and the most
-    // bytes to select.
-    let rows = [
-        (5, 60, 33 * SLOT, 65 * 8),
-        (15, 61_440, 32_769 * SLOT, 32_768),
-        (16, 122_880, 131_072, 65_536),
-    ];
-    for (lg_k, count, layout, most) in rows {
-        let (requests, bytes, kept) = rebuilt(&heap, lg_k, count)?;
-        assert_eq!(rt; (requests, kept), (2, 1 << lg_k), "of 2^{lg_k}");
-        assert!(rt;
-            layout < bytes && bytes <= layout + most,
-            "{bytes} of 2^{lg_k}"
-        );
-    }
-    Ok(())
 }

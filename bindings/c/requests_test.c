@@ -1,0 +1,211 @@
+/* The requests for memory of calls, their number and their bytes: what docs/DECISIONS.md says of them, no request of a call that
+ * needs no memory, and none for more entries than the bytes of an image can hold. An object takes one request of its own, so
+ * calls that make one are counted without it. */
+#include "kaftanclay.h"
+#include <stdio.h>
+#include <stdlib.h>
+#include <string.h>
+
+void *__real_malloc(size_t);
+void *__real_realloc(void *, size_t);
+static uint64_t requests, bytes;
+
+static void *seen(uint64_t n, void *p) { return requests++, bytes += n, p; }
+void *__wrap_malloc(size_t n) { return seen(n, __real_malloc(n)); }
+void *__wrap_realloc(void *p, size_t n) { return seen(n, __real_realloc(p, n)); }
+
+static int faults, checks;
+#define WANT(c) do { checks++; if (!(c)) { printf("requests_test.c:%d: %s\n", __LINE__, #c); faults++; } } while (0)
+/* A call, its status, the number of its requests and their bytes. */
+#define ASKS(status, count, size, call) do { \
+        requests = bytes = 0; \
+        kc_status found = (call); \
+        uint64_t asked = requests, of = bytes; \
+        checks++; \
+        if (found != (status) || asked != (uint64_t)(count) || of != (uint64_t)(size)) { \
+            printf("requests_test.c:%d: %s: status %u, %lu requests of %lu bytes\n", __LINE__, #call, found, (unsigned long)asked, (unsigned long)of); \
+            faults++; \
+        } } while (0)
+#define NOTHING(status, call) ASKS(status, 0, 0, call)
+#define SEED KC_DEFAULT_SEED
+#define SLOT 8      /* of a hash */
+#define SUM_SLOT 24 /* a hash, a sum, and a word that marks a used slot */
+#define ROOM (1 << 16)
+
+static unsigned char out[ROOM];
+
+/* The bytes that hexadecimal digits spell; blanks are passed over. */
+static size_t spelled(const char *text, unsigned char *to) {
+    size_t count = 0;
+    for (unsigned digit; *text != 0; text += text[0] == ' ' ? 1 : 2)
+        if (*text != ' ' && sscanf(text, "%2x", &digit) == 1) to[count++] = (unsigned char)digit;
+    return count;
+}
+
+/* A sketch of 2^5 nominal entries, whose slots double. At the 17th hash it requests 64 slots. At the 61st hash and at the 90th
+ * it selects among these and gathers 32 hashes. */
+static void theta(void) {
+    kc_theta s = {0};
+    kc_state state;
+    uint64_t length, all = 0, count = 0;
+    WANT(kc_theta_new_with(&s, 5, SEED, 2, KC_MAX_THETA) == KC_OK);
+    for (uint64_t hash = 100; hash > 0; hash--) {
+        requests = bytes = 0;
+        WANT(kc_theta_update_hash(&s, hash) == KC_OK);
+        count += requests, all += bytes;
+    }
+    WANT(count == 1 + 2 + 2 && all == 64 * SLOT + 2 * (65 + 33) * SLOT);
+    NOTHING(KC_OK, kc_theta_update_hash(&s, 0));
+    NOTHING(KC_OK, kc_theta_update_hash(&s, 1));
+    NOTHING(KC_OK, kc_theta_update_hash(&s, KC_MAX_THETA));
+    NOTHING(KC_OK, kc_theta_update_hash(&s, UINT64_MAX));
+    NOTHING(KC_OK, kc_theta_state(&s, &state));
+    WANT(state.retained == 42);
+    ASKS(KC_OK, 2, 42 * SLOT + 360, kc_theta_image(&s, out, ROOM, &length));
+    WANT(length == 360);
+    ASKS(KC_OK, 1, 42 * SLOT, kc_image_state(out, length, SEED, &state));
+    ASKS(KC_OK, 2, 65 * SLOT + 64, kc_theta_trim(&s));
+    NOTHING(KC_OK, kc_theta_trim(&s));
+    NOTHING(KC_OK, kc_theta_reset(&s));
+    NOTHING(KC_OK, kc_theta_trim(&s));
+    WANT(kc_theta_update_bytes(&s, "apple", 5) == KC_OK);
+    NOTHING(KC_OK, kc_theta_update_bytes(&s, "apple", 5));
+    NOTHING(KC_OK, kc_theta_free(&s));
+    /* refused settings */
+    NOTHING(KC_INVALID_ARGUMENT, kc_theta_new_with(&s, 3, SEED, 8, 1));
+    NOTHING(KC_INVALID_ARGUMENT, kc_theta_new_with(&s, 27, SEED, 8, 1));
+    NOTHING(KC_INVALID_ARGUMENT, kc_theta_new_with(&s, 5, SEED, 8, 0));
+    NOTHING(KC_INVALID_ARGUMENT, kc_theta_new_with(&s, 5, SEED, 8, KC_MAX_THETA + 1));
+    NOTHING(KC_INVALID_ARGUMENT, kc_theta_new_with(&s, 5, 50541, 8, 1));
+}
+
+/* An image, and its reading: one request for the entries, and one more for their hashes if these don't ascend. */
+static void readings(void) {
+    static const struct { const char *text; uint64_t requests, bytes; kc_status status; } rows[] = {
+        {"01030300001e0000", 0, 0, KC_OK},
+        {"01030300001acc93 0500000000000000", 1, SLOT, KC_OK},
+        {"0202030000003412 0000000000000000", 0, 0, KC_OK},
+        {"02030300000acc93 0200000000000000 0900000000000000 0700000000000000", 2, 4 * SLOT, KC_OK},
+        {"02030300001acc93 0200000000000000 0900000000000000 0700000000000000", 1, 2 * SLOT, KC_INVALID_DATA},
+        /* a count beyond the bytes, in each layout; one byte too few; another seed; no whole preamble */
+        {"", 0, 0, KC_INVALID_DATA},
+        {"01030300001acc93", 0, 0, KC_INVALID_DATA},
+        {"01030300001acd93 0500000000000000", 0, 0, KC_INVALID_DATA},
+        {"02030300001acc93 0300000000000000 0700000000000000 0900000000000000", 0, 0, KC_INVALID_DATA},
+        {"03030300000acc93 ffffffff00000000 6400000000000000 0700000000000000", 0, 0, KC_INVALID_DATA},
+        {"020203000000cc93 1000000000000000 0700000000000000 0900000000000000", 0, 0, KC_INVALID_DATA},
+        {"030203000000cc93 0200000000000000 6400000000000000 0700000000000000", 0, 0, KC_INVALID_DATA},
+        {"0301030000000000 ffffffff00000000 6400000000000000 0700000000000000", 0, 0, KC_INVALID_DATA},
+        {"02030300001acc93 0200000000000000 0700000000000000 09000000000000", 0, 0, KC_INVALID_DATA},
+    };
+    for (size_t n = 0; n < sizeof rows / sizeof *rows; n++) {
+        unsigned char image[64];
+        kc_state state;
+        size_t count = spelled(rows[n].text, image);
+        ASKS(rows[n].status, rows[n].requests, rows[n].bytes, kc_image_state(image, count, SEED, &state));
+    }
+}
+
+/* A sketch of the hashes from a first to a last. */
+static void fill(kc_theta *s, uint8_t lg_k, uint64_t seed, uint64_t first, uint64_t last) {
+    WANT(kc_theta_new(s, lg_k, seed) == KC_OK);
+    for (uint64_t hash = first; hash <= last; hash++) WANT(kc_theta_update_hash(s, hash) == KC_OK);
+}
+
+static void operators(void) {
+    kc_theta few = {0}, none = {0}, other = {0};
+    kc_compact c = {0}, d = {0}, e = {0}, r = {0};
+    kc_union u = {0};
+    kc_intersection i = {0};
+    uint64_t length, object;
+    fill(&few, 5, SEED, 1, 60), fill(&none, 5, SEED, 1, 0), fill(&other, 5, 123, 1, 9);
+    WANT(kc_theta_compact(&few, &c) == KC_OK && kc_theta_compact(&none, &d) == KC_OK && kc_theta_compact(&other, &e) == KC_OK);
+    WANT(kc_union_new(&u, 5, SEED) == KC_OK && kc_intersection_new(&i, SEED) == KC_OK);
+    NOTHING(KC_OK, kc_union_add(&u, &none));
+    NOTHING(KC_INVALID_ARGUMENT, kc_union_add(&u, &other));
+    NOTHING(KC_INVALID_ARGUMENT, kc_union_add_compact(&u, &e));
+    NOTHING(KC_OK, kc_union_reset(&u));
+    /* Slots grow by 8, to 64 here. An answer that is cut requests hashes to select from, one more than there are slots, and its own. */
+    WANT(kc_union_add(&u, &few) == KC_OK);
+    ASKS(KC_OK, 3, (65 + 32) * SLOT + 24 + 32 * SLOT, kc_union_image(&u, out, ROOM, &length));
+    NOTHING(KC_OK, kc_union_reset(&u));
+    NOTHING(KC_INVALID_ARGUMENT, kc_intersection_result(&i, &r));
+    NOTHING(KC_INVALID_ARGUMENT, kc_intersection_add(&i, &other));
+    NOTHING(KC_OK, kc_intersection_add(&i, &none));
+    NOTHING(KC_OK, kc_intersection_add(&i, &other));
+    /* the empty answer takes an object, and nothing else */
+    requests = bytes = 0;
+    WANT(kc_intersection_result(&i, &r) == KC_OK && requests == 1 && kc_compact_free(&r) == KC_OK);
+    object = bytes;
+    NOTHING(KC_INVALID_ARGUMENT, kc_difference(&e, &d, SEED, &r));
+    ASKS(KC_OK, 1, object, kc_difference(&d, &e, SEED, &r));
+    NOTHING(KC_INVALID_ARGUMENT, kc_difference(&e, &d, SEED, &r));
+    kc_theta_free(&few), kc_theta_free(&none), kc_theta_free(&other), kc_union_free(&u), kc_intersection_free(&i);
+    kc_compact_free(&c), kc_compact_free(&d), kc_compact_free(&e), kc_compact_free(&r);
+}
+
+static uint64_t next(uint64_t hash) { return (hash + UINT64_C(5700357409661599241)) & KC_MAX_THETA; }
+
+/* A rebuild requests one slot more than it keeps entries, and hashes to select from: one more than there are slots if these are
+ * few, and at most a sixteenth of them if they are many. More than 2^16 slots of sums request one byte for each slot instead. */
+static void rebuilds(void) {
+    static const struct { uint8_t lg_k; uint64_t count, layout, sums_layout, most; } rows[] = {
+        {5, 60, 33 * SLOT, 33 * SUM_SLOT, 65 * 8},
+        {15, 61440, 32769 * SLOT, 32769 * SUM_SLOT, 32768},
+        {16, 122880, 65537 * SLOT, 131072, 65536},
+    };
+    for (size_t n = 0; n < sizeof rows / sizeof *rows; n++) {
+        kc_theta s = {0};
+        kc_sums m = {0};
+        kc_state state;
+        uint64_t hash = 0;
+        WANT(kc_theta_new_with(&s, rows[n].lg_k, SEED, 1, KC_MAX_THETA) == KC_OK && kc_sums_new_with(&m, rows[n].lg_k, SEED, 1, KC_MAX_THETA) == KC_OK);
+        requests = 0;
+        for (uint64_t made = 0; made <= rows[n].count; made++, hash = next(hash))
+            WANT(kc_theta_update_hash(&s, hash) == KC_OK && kc_sums_add_hash(&m, hash, 1) == KC_OK);
+        WANT(requests == 0);
+        requests = bytes = 0;
+        WANT(kc_theta_update_hash(&s, hash) == KC_OK && requests == 2 && rows[n].layout < bytes && bytes <= rows[n].layout + rows[n].most);
+        WANT(kc_theta_state(&s, &state) == KC_OK && state.retained == UINT64_C(1) << rows[n].lg_k);
+        requests = bytes = 0;
+        WANT(kc_sums_add_hash(&m, hash, 1) == KC_OK && requests == 2 && rows[n].sums_layout < bytes && bytes <= rows[n].sums_layout + rows[n].most);
+        WANT(kc_sums_state(&m, &state) == KC_OK && state.retained == UINT64_C(1) << rows[n].lg_k);
+        kc_theta_free(&s), kc_sums_free(&m);
+    }
+}
+
+/* Images of sums. A reading requests an object, 16 bytes for each entry, and eight more if the hashes don't ascend. A writing
+ * makes one request. */
+static void images_of_sums(void) {
+    static const struct { const char *text; uint64_t requests, bytes; kc_status status; } rows[] = {
+        {"01030901001e0000", 0, 0, KC_OK},
+        {"02030901001acc93 ffffffff00000000 0500000000000000 0700000000000000", 0, 0, KC_INVALID_DATA},
+        {"02030901001acc93 0300000000000000 0500000000000000 0700000000000000", 0, 0, KC_INVALID_DATA},
+        {"02030901001acc93 0100000000000000 0500000000000000 0700000000000000", 1, 16, KC_OK},
+        {"02030901000acc93 0200000000000000 0900000000000000 0200000000000000 0700000000000000 0100000000000000", 2, 2 * 24, KC_OK},
+    };
+    uint64_t object = 0, length;
+    for (size_t n = 0; n < sizeof rows / sizeof *rows; n++) {
+        unsigned char image[64];
+        kc_compact_sums c = {0};
+        size_t count = spelled(rows[n].text, image);
+        requests = bytes = 0;
+        kc_status status = kc_compact_sums_read(&c, image, count, SEED);
+        WANT(status == rows[n].status);
+        if (n == 0) object = bytes;
+        uint64_t made = status == KC_OK;
+        WANT(requests == rows[n].requests + made && bytes == rows[n].bytes + made * object);
+        if (made) ASKS(KC_OK, 1, n == 0 ? 24 : 24 + 16 * rows[n].bytes / (n == 3 ? 16 : 24), kc_compact_sums_image(&c, out, ROOM, &length));
+        kc_compact_sums_free(&c);
+    }
+}
+
+int main(void) {
+    theta();
+    readings();
+    operators();
+    rebuilds();
+    images_of_sums();
+    printf("requests_test: %d checks, %d faults\n", checks, faults);
+    return faults != 0;
+}
