@@ -60,6 +60,7 @@ module _ {X : Type 0} (key : X → ℕ) (Spells : List ℕ → X → Type 0) (by
   comes_one one (Some Empty) r s p q = p ∙ sym q
   comes_one one (Some (Filled m)) r s p q = p.1 ∙ ap (λ xs. state_after_preamble m h xs) (lists_one Spells one key bytes m h p.0 q.0 p.2 q.2) ∙ sym q.1
 
+  -- equal layouts allow the same readings
   pub along : (l m : Option Layout) (s : Compact X) → l ≡ m → Comes m s → Comes l s
   along l m s e p = rw e p
 
@@ -103,14 +104,17 @@ module _ {X : Type 0} (key : X → ℕ) (Spells : List ℕ → X → Type 0) (by
       ]
 
 module _ (bytes : List ℕ) (h : ℕ) where
+  -- a layout that is chosen by a test is whole if both are
   pub either_whole : (t : Bool) (a b : Option Layout) → (t ≡ true → IsWholeLayout bytes a) → (t ≡ false → IsWholeLayout bytes b) → IsWholeLayout bytes (cond t a b)
   either_whole true a b f g = f refl
   either_whole false a b f g = g refl
 
+  -- the layout with a preamble is whole if the bytes have all of the preamble
   pub admitted_whole : (p : Preamble) → p.start ≤ length bytes → IsWholeLayout bytes (admitted p)
   unfolding admitted
   admitted_whole p w = either_whole (ltb 0 p.theta && leb p.theta MAX_THETA) (Some (Filled p)) None (λ e. (w, grind (arith, nat_tests, e), grind (arith, nat_tests, e))) (λ e. tt)
 
+  -- the layout of version 3 with 1 to 3 preamble longs is whole
   pub flagged_whole : (longs : ℕ) → 1 ≤ longs → longs ≤ 3 → IsWholeLayout bytes (flagged_layout bytes longs h)
   unfolding flagged_layout
   flagged_whole longs low high =

@@ -141,6 +141,7 @@ module _ {X : Type 0} (key : X → ℕ) (Spells : List ℕ → X → Type 0) (te
   reads_none h =
       (1, record { whole = omega arith; longs_are = refl; longs_low = omega arith; longs_high = omega arith; version_is = refl; family_is = refl }, refl, empty_image refl)
 
+  -- a written image is read again as its state, whatever follows it
   pub written_again : (s : Compact X) → IsCompact key s → AllByRecursion IsValue s.entries → s.seed_hash < 2 ^ 16 → Back (written_image text family kind s ++ rest) s
   written_again s w v small =
       (elim s.empty as (λ b. s.empty ≡ b → Back (written_image text family kind s ++ rest) s) [

@@ -13,6 +13,7 @@ use Rattle.core_images.specs.declared.preamble.Preamble.{Preamble}
 use Rattle.core_images.proofs.SpelledEntries.{each_more, next_one, holds_one}
 use Rattle.core_images.proofs.AscendingTests.{hashes_from, lawful_from}
 
+-- bytes that are refused, since they can't be read in one way, can't be read in a way that implies it
 pub refused_weaker : {P Q : Type 0} (e : ErrorKind) → (Q → P) → IsRefused e P → IsRefused e Q
 refused_weaker e f r = elim r [ inl memory ↦ inl memory | inr none ↦ inr (none.0, λ q. none.1 (f q)) ]
 

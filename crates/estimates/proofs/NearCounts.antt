@@ -85,6 +85,7 @@ near_to_upper z r t n low near =
     let many : n ≤ (middle z r t + reach z r t) / (2 * t) = le-div n _ (2 * t) (omega (arith, low)) (omega (arith, (near_within z r t n near).0)) in
     omega (arith, many)
 
+-- the lower bound is at least the number of retained entries
 pub retained_within : (z r t : ℕ) → r ≤ (count_bounds z r t).lower
 unfolding count_bounds
 retained_within z r t = omega arith
@@ -110,13 +111,16 @@ upper_fits z r t low = div_ceil_times (middle z r t + reach z r t) (2 * t) (omeg
 pub upper_times : (z r t : ℕ) → 0 < t → r * MAX_THETA ≤ (count_bounds z r t).upper * t
 upper_times z r t low = omega (arith, (upper_fits z r t low).0)
 
+-- the lower bound is at most the nearest whole number to the estimate
 pub lower_nearest : (z r t : ℕ) → 0 < t → t ≤ MAX_THETA → (count_bounds z r t).lower ≤ nearest (r * MAX_THETA) t
 lower_nearest z r t low high = le-div (count_bounds z r t).lower _ (2 * t) (omega (arith, low)) (omega (arith, lower_times z r t high))
 
+-- the upper bound is at least the nearest whole number to the estimate
 pub upper_nearest : (z r t : ℕ) → 0 < t → nearest (r * MAX_THETA) t ≤ (count_bounds z r t).upper
 upper_nearest z r t low =
     omega (arith, div_below (2 * (r * MAX_THETA) + t) (2 * t) ((count_bounds z r t).upper + 1) (omega (arith, low)) (omega (arith, low, upper_times z r t low)))
 
+-- below the greatest theta, for one deviation or more, the upper bound is above the number of retained entries
 pub upper_above : (z r t : ℕ) → 0 < z → 0 < t → t < MAX_THETA → r < (count_bounds z r t).upper
 upper_above z r t some low less =
     let square : 1 ≤ z * z = mul-le 1 1 z z some some in
@@ -141,6 +145,7 @@ lower_exact z r = omega (arith, lower_times z r MAX_THETA (omega arith), retaine
 upper_exact : (z r : ℕ) → (count_bounds z r MAX_THETA).upper ≡ r
 upper_exact z r = omega (arith, upper_times z r MAX_THETA (omega arith), (upper_fits z r MAX_THETA (omega arith)).1, no_reach z r)
 
+-- at the greatest theta both bounds are the number of retained entries
 pub exact_bounds : (z r : ℕ) → count_bounds z r MAX_THETA ≡ record { lower = r; upper = r }
 unfolding count_bounds
 exact_bounds z r = λ i. record { lower = lower_exact z r i; upper = upper_exact z r i }

@@ -51,6 +51,7 @@ module _ (hashing : Hashing) where
     theta_high = omega arith;
   }
 
+  -- the sketch of lines keeps the laws of compact states
   pub compact : (lg_k : ℕ) (lines : List (List ℕ)) → lg_k ≤ 26 → IsCompact hash_key (sketch_of_value hashing.seed (value_of_lines hashing lg_k lines))
   compact lg_k [] small = record { shown = IsShown-none MAX_THETA (seed_hash hashing.seed) true true (omega arith) (omega arith) (λ _. refl); empty_ordered = λ _. refl }
   compact lg_k (line ∷ lines) small =

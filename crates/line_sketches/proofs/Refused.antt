@@ -86,6 +86,7 @@ unflagged_seed bytes p reported h s reads = elim reads as (λ s reads. s.seed_ha
   | filled_image xs filled same has ↦ refl
 ]
 
+-- a sketch that is read has the reader's seed hash
 pub read_seed : (bytes : List ℕ) (h : ℕ) (s : Compact ℕ) → Reads bytes h s → s.seed_hash ≡ h
 read_seed bytes h s reads = elim reads.spelled as (λ s spelled. s.seed_hash ≡ h) [
   | version_3 longs s begins flagged ↦ flagged_seed hash_key bytes longs h s SpellsHash flagged
@@ -145,6 +146,7 @@ pub union_memory : {P : Type 0} (old new : Union ℕ P) (shows : Shown) (e : Err
     MatchOption (update_refusal old shows) ((shows.empty ≡ false) × (e ≡ OutOfMemory) × (new ≡ record old { failed = true; content = new.content })) (λ kind. (e ≡ kind) × (new ≡ old)) → e ≡ OutOfMemory
 union_memory old new shows e none refused = memory_of (shows.empty ≡ false) (new ≡ record old { failed = true; content = new.content }) (new ≡ old) (update_refusal old shows) e none refused
 
+-- a union that has not failed accepts a sketch of its seed
 pub ready_accepts : {X P : Type 0} (key : X → ℕ) (seed : ℕ) (u : Union X P) (s : Compact X) (shows : Shown) → IsReady seed u → s.seed_hash ≡ seed_hash seed → shows ≡ shown_of key s → update_refusal u shows ≡ None
 ready_accepts key seed u s shows ready same is = ap (update_refusal u) is ∙ accepts_of u.failed s.empty u.seed_hash s.seed_hash ready.sound (ready.seeded ∙ sym same)
 

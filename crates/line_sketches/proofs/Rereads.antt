@@ -27,6 +27,7 @@ module _ (hashing : Hashing) where
       let up : IsAscending hash_key v.entries = subst (IsAscending hash_key) (sym s.all_below) (ascending-filter hash_key _ whole s.ascending) in
       ap (λ xs. NonEmpty (record { entries = xs; theta = v.theta })) (map_of-ascending hash_key v.entries up)
 
+  -- the sketch of the value of lines has that value
   pub value_again : (lg_k : ℕ) (lines : List (List ℕ)) → compact_value hash_key (sketch_of_value hashing.seed (value_of_lines hashing lg_k lines)) ≡ value_of_lines hashing lg_k lines
   value_again lg_k [] = refl
   value_again lg_k (line ∷ lines) = again _ (key_set hashing (line ∷ lines)) (sample hashing lg_k (line ∷ lines))
@@ -47,9 +48,11 @@ pub seed_hash-small : (seed : ℕ) → seed_hash seed < 2 ^ 16
 unfolding seed_hash
 seed_hash-small seed = omega arith
 
+-- a written sketch is read again, whatever follows it
 abbrev pub ReadsAgain : Type 0
 ReadsAgain = (s : Compact ℕ) (rest : List ℕ) → IsCompact hash_key s → 0 < s.seed_hash → s.seed_hash < 2 ^ 16 → Reads (written s ++ rest) s.seed_hash s
 
+-- bytes that are written of a sketch are read as that sketch
 pub reads_it : ReadsAgain → (s : Compact ℕ) (seed : ℕ) (bytes : List ℕ) → IsCompact hash_key s → s.seed_hash ≡ seed_hash seed → 0 < seed_hash seed → bytes ≡ written s → Reads bytes (seed_hash seed) s
 reads_it anew s seed bytes compact same seeded image =
     let low : 0 < s.seed_hash = omega (arith, same, seeded) in

@@ -136,6 +136,7 @@ module _ (hashing : Hashing) where
     trim-whole [] w = refl
     trim-whole (step ∷ steps) w = trim-whole steps (whole_step hash_key hash_step_of step w)
 
+    -- the value of lines is a sample of the set of their hashes
     pub sample : (lines : List (List ℕ)) → IsSample hash_key (value lines) (key_set hashing lines)
     sample lines = rw (value_is_leaf hashing lg_k lines, ← trim-whole (line_steps hashing lines) []) (leaf-sample hash_key hash_step_of hash_keeps (2 ^ lg_k) MAX_THETA (line_steps hashing lines ++ Trim ∷ []) (omega arith))
 

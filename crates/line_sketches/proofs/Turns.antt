@@ -6,6 +6,7 @@ use Rattle.lines.specs.declared.key.Hashing.{Hashing}
 use Rattle.line_sketches.specs.Keys.{LineState, with_line, with_lines}
 use Rattle.line_sketches.specs.Sources.{IsFirst, GivesNext, LeadsTo, Continues}
 
+-- a fact about a value that may be there implies another one if it does for each value
 pub if_some : {T : Type 0} (o : Option T) (P Q : T → Type 0) → ((x : T) → P x → Q x) → IfSome o P → IfSome o Q
 if_some None P Q step holds = tt
 if_some (Some x) P Q step holds = step x holds
@@ -15,10 +16,12 @@ length-more : {T : Type 0} (xs : List T) (x : T) → length (xs ++ x ∷ []) ≡
 length-more [] x = refl
 length-more (y ∷ xs) x = omega (arith, length-more xs x)
 
+-- the count of a list is one more after one more element
 pub count_more : {T : Type 0} (o : Option T) (n : ℕ) (xs : List T) → n ≡ length xs → IfSome o (λ x. n + 1 ≡ length (xs ++ x ∷ []))
 count_more None n xs counted = tt
 count_more (Some x) n xs counted = ap (λ m. m + 1) counted ∙ sym (length-more xs x)
 
+-- the fact that claims nothing
 pub if_any : {T : Type 0} (o : Option T) → IfSome o (λ x. Unit {0})
 if_any None = tt
 if_any (Some x) = tt
@@ -71,6 +74,7 @@ module _ {S : Type 0} (remaining : S → Option (List ℕ)) (P Q : List (List �
         then,
       )
 
+  -- after one more text the fact on the texts so far has its next step
   pub continues_next : (old now new : Option (List (List ℕ))) (o : Option S) (source : S) → Continues old now P → GivesNext remaining now new o → o ≡ Some source →
       ((done : List (List ℕ)) → P done → IfSome (remaining source) (λ text. Q (done ++ text ∷ []))) → Continues old new Q
   continues_next None now new o source so_far gives is step = tt
@@ -78,6 +82,7 @@ module _ {S : Type 0} (remaining : S → Option (List ℕ)) (P Q : List (List �
   continues_next (Some texts) (Some left) new o source so_far gives is step =
       one_taken texts so_far.0 left source new so_far.1 so_far.2 (subst (GivesNext remaining (Some left) new) is gives) step
 
+  -- at the end the fact holds of all texts
   pub continues_end : (old now new : Option (List (List ℕ))) (o : Option S) → Continues old now P → GivesNext remaining now new o → o ≡ None → IfSome old P
   continues_end None now new o so_far gives is = tt
   continues_end (Some texts) None new o so_far gives is = absurd so_far

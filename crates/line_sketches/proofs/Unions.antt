@@ -93,5 +93,6 @@ nothing_united {P} seed lg_k u is =
 pub size_small : (seed lg_k : ℕ) → settings_refusal lg_k MAX_THETA seed ≡ None → lg_k ≤ 26
 size_small seed lg_k is = grind (arith, nat_tests)
 
+-- the seed hash of accepted settings is not 0
 pub seeded : (seed lg_k : ℕ) → settings_refusal lg_k MAX_THETA seed ≡ None → 0 < seed_hash seed
 seeded seed lg_k is = grind (arith, nat_tests)

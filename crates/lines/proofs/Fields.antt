@@ -125,12 +125,14 @@ module _ (c : ℕ) where
     pub key_put : (front piece : List ℕ) → Lacks c piece → (passed_of (Field before c) front ≡ 0) ⊎ (passed_of (Field before c) front ≡ before) → key_of (Field before c) (front ++ piece) ≡ key_of (Field before c) front ++ piece
     key_put front piece lacks wanted = ap (key (front ++ piece)) (fields-piece front piece lacks) ∙ put_fields front piece (fields_of c front) (some_field front) wanted
 
+    -- a piece of another field than the key leaves the key
     pub key_skip : (front piece : List ℕ) → Lacks c piece → (passed_of (Field before c) front ≡ 0 → ⊥) → (passed_of (Field before c) front ≡ before → ⊥) → key_of (Field before c) (front ++ piece) ≡ key_of (Field before c) front
     key_skip front piece lacks not_first not_it = ap (key (front ++ piece)) (fields-piece front piece lacks) ∙ skip_fields front piece (fields_of c front) (some_field front) not_first not_it
 
     put_passed : (piece : List ℕ) (fs : List (List ℕ)) → Nonempty fs → passed (onto_last piece fs) ≡ passed fs
     put_passed piece _ (some f fs) = ap (λ n. min (n - 1) (before + 1)) (length-onto_last piece f fs)
 
+    -- a piece of a field leaves the count of separators
     pub passed_put : (front piece : List ℕ) → Lacks c piece → passed_of (Field before c) (front ++ piece) ≡ passed_of (Field before c) front
     passed_put front piece lacks = ap passed (fields-piece front piece lacks) ∙ put_passed piece (fields_of c front) (some_field front)
 
@@ -147,6 +149,7 @@ module _ (c : ℕ) where
     reset_fields line _ (some f []) first some_before = nothing_after f before some_before
     reset_fields line _ (some f (g ∷ fs)) first some_before = absurd (not_none (length fs) first)
 
+    -- the first separator empties the key, if a later field is the key
     pub key_reset : (front : List ℕ) → passed_of (Field before c) front ≡ 0 → (before ≡ 0 → ⊥) → key_of (Field before c) (front ++ c ∷ []) ≡ []
     key_reset front first some_before = ap (key (front ++ c ∷ [])) (fields-next front) ∙ reset_fields front (fields_of c front) (some_field front) first some_before
 
@@ -157,6 +160,7 @@ module _ (c : ℕ) where
         more_than_one (line ++ c ∷ []) ((f ∷ g ∷ fs) ++ [] ∷ []) (suc (length fs)) (length-snoc (f ∷ g ∷ fs)) ∙ get_snoc (f ∷ g ∷ fs) before
         ∙ sym (more_than_one line (f ∷ g ∷ fs) (length fs) refl)
 
+    -- any other separator leaves the key
     pub key_keep : (front : List ℕ) → (passed_of (Field before c) front ≡ 0 → before ≡ 0) → key_of (Field before c) (front ++ c ∷ []) ≡ key_of (Field before c) front
     key_keep front first = ap (key (front ++ c ∷ [])) (fields-next front) ∙ keep_fields front (fields_of c front) (some_field front) (one_whole front) first
 
@@ -166,5 +170,6 @@ module _ (c : ℕ) where
     pass_passed : (fs : List (List ℕ)) → Nonempty fs → passed (fs ++ [] ∷ []) ≡ min (passed fs + 1) (before + 1)
     pass_passed _ (some f fs) = ap (λ n. min (n - 1) (before + 1)) (length-snoc (f ∷ fs)) ∙ one_more (length fs)
 
+    -- a separator is counted, up to the one behind the key
     pub passed_pass : (front : List ℕ) → passed_of (Field before c) (front ++ c ∷ []) ≡ min (passed_of (Field before c) front + 1) (before + 1)
     passed_pass front = ap passed (fields-next front) ∙ pass_passed (fields_of c front) (some_field front)

@@ -53,6 +53,7 @@ lines_after-prepended front (b ∷ text) =
       | false ↦ lines_after-prepended (front ++ b ∷ []) text ∙ prepended-more front b (lines_of text)
     ]
 
+-- the lines after no bytes are the lines of the text
 pub lines_whole : (text : List ℕ) → lines_after [] text ≡ lines_of text
 lines_whole text = lines_after-prepended [] text ∙ prepended-nil (lines_of text)
 

@@ -6,18 +6,22 @@ use Rattle.sketch_base.specs.declared.error.ErrorKind.TheVariants.{InvalidArgume
 use Rattle.core_laws.specs.declared.TheConstants.{MAX_THETA}
 use Rattle.core_laws.specs.Settings.{settings_refusal}
 
+-- a test that refuses nothing is true
 pub accepted : (c : Bool) → cond c None (Some InvalidArgument) ≡ None → c ≡ true
 accepted true e = refl
 accepted false e = absurd (cc)
 
+-- the first part of a conjunction that is true
 pub and_left : (a b : Bool) → (a && b) ≡ true → a ≡ true
 and_left true b e = refl
 and_left false b e = cc
 
+-- the second part of a conjunction that is true
 pub and_right : (a b : Bool) → (a && b) ≡ true → b ≡ true
 and_right true b e = e
 and_right false b e = absurd (cc)
 
+-- a number that a test finds at most another one is
 pub at_most : (a b : ℕ) → nat_le a b ≡ true → a ≤ b
 at_most a b e = grind (arith, nat_tests)
 

@@ -47,8 +47,10 @@ module _ {X V : Type 0} (f : Family X V) (lawful : IsFamily f) (makes_some : (h 
       ap (map f.key) (sym (whole_leaf Z f 0 0 steps)) ∙ keys_are_hashes {Z = Z} (plan.Leaf 0 0 steps) (unites_leaf Z 0 0 steps) ∙ whole_leaf Z hashes 0 0 steps
 
 module _ {S U : Type 0} (creates : Option S) (updates : S → U → Option S) (combines : S → S → Option S) where
+  -- the keys of the whole map of tuples are the hashes that were added, whatever the policies
   pub tuple_keys : {Z : Type 0} (p : Plan U Z) → only_unites p ≡ true → map (tuple_folds creates updates combines).key (whole_in (tuple_folds creates updates combines) p) ≡ whole_hashes p
   tuple_keys p unites = keys_are_hashes (tuple_folds creates updates combines) (tuple_folds_keep creates updates combines) (makes_fold creates updates combines) p unites
 
+  -- so are those of a leaf of tuples
   pub tuple_leaf_keys : (Z : Type 0) (steps : List (LeafStep U)) → map (tuple_folds creates updates combines).key (whole (tuple_folds creates updates combines).key (tuple_folds creates updates combines).step_of steps) ≡ added steps
   tuple_leaf_keys Z steps = leaf_keys (tuple_folds creates updates combines) (tuple_folds_keep creates updates combines) (makes_fold creates updates combines) Z steps

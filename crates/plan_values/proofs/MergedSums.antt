@@ -159,6 +159,7 @@ module _ {S : Type 0} (whole_number : S → ℤ) (least greatest : ℤ) (zero : 
   no_value : (o : Option (Fold (TupleEntry S))) (e : TupleEntry S) → o ≡ None → o ≡ Some (Value e) → ⊥
   no_value o e none some = cc
 
+  -- in a plan of leaves and unions alone, a sum of the whole map is that of all values that were added at its hash
   pub merged_sums : {Z : Type 0} (h : ℕ) (p : Plan S Z) (e : TupleEntry S) → only_unites p ≡ true → entry_at (fold_key tuple_key) (whole_in folds p) h ≡ Some (Value e) → whole_number e.summary ≡ total (map whole_number (added_values h p))
   merged_sums {Z} h p e unites found =
       (elim (is_carried h) as (λ b. is_carried h ≡ b → whole_number e.summary ≡ total (map whole_number (added_values h p))) [
@@ -174,6 +175,7 @@ module _ {S : Type 0} (whole_number : S → ℤ) (least greatest : ℤ) (zero : 
         | false ↦ λ e. absurd (cc)
       ]) (sym (entry_at-below key xs t q) ∙ found)
 
+  -- so is a sum that is retained
   pub retained_sums : {Z : Type 0} (seed h : ℕ) (p : Plan S Z) (v : Retained (TupleEntry S)) (e : TupleEntry S) → plan_refusal seed p ≡ None → only_unites p ≡ true → value_in folds p ≡ unmarked_value (NonEmpty v) → entry_at tuple_key v.entries h ≡ Some e → whole_number e.summary ≡ total (map whole_number (added_values h p))
   retained_sums {Z} seed h p v e accepts unites is found =
       let sample : IsSample (fold_key tuple_key) (unmarked_value (NonEmpty v)) (whole_in folds p) = subst (λ u. IsSample (fold_key tuple_key) u (whole_in folds p)) is (sampled Z folds (tuple_folds_keep (Some zero) sums sums) seed p accepts) in

@@ -19,12 +19,15 @@ use Rattle.plan_values.proofs.Samples.{sampled}
 use Rattle.plan_values.proofs.TrimmedLeaf.{trimmed_plan}
 
 module _ {Z : Type 0} (seed : ℕ) (p : Plan (Unit {0}) Z) (accepts : plan_refusal seed p ≡ None) where
+  -- the value of a theta plan has all of its whole map below its theta
   pub whole_kept : IsAllBelow hash_key (value_of p) (whole_of p)
   whole_kept = (sampled Z hashes hashes_keep seed p accepts).all_below
 
+  -- a merge plan is the k-minimum of what was added
   pub merge_kept : (lg_k start : ℕ) → IsMergePlan lg_k start p → value_of p ≡ NonEmpty (kmin (2 ^ lg_k) (whole_of p) start)
   merge_kept = merge_plan hashes hashes_keep seed p accepts
 
 module _ {Z : Type 0} (seed lg_k start : ℕ) (steps : List (LeafStep (Unit {0}))) (p : Plan (Unit {0}) Z) (is : p ≡ plan.Leaf lg_k start (steps ++ Trim ∷ [])) (updated : is_updated steps false ≡ true) where
+  -- so is a leaf that is updated and then trimmed
   pub value_trimmed : plan_refusal seed p ≡ None → value_of p ≡ NonEmpty (kmin (2 ^ lg_k) (added steps) start)
   value_trimmed = trimmed_plan hashes hashes_keep seed lg_k start steps p is updated

@@ -17,6 +17,7 @@ use Rattle.plan_values.proofs.NodeEquations.{value_leaf, whole_leaf}
 use Rattle.plan_values.proofs.RefusedPlans.{refused_leaf}
 
 module _ {X V Z : Type 0} (f : Family X V) (lawful : IsFamily f) (seed lg_k start : ℕ) (steps : List (LeafStep V)) (p : Plan V Z) (is : p ≡ plan.Leaf lg_k start (steps ++ Trim ∷ [])) (updated : is_updated steps false ≡ true) where
+  -- a leaf that is updated and then trimmed is the cut of its whole map at its start
   pub trimmed_plan : plan_refusal seed p ≡ None → value_in f p ≡ NonEmpty (cut f.key (2 ^ lg_k) (whole f.key f.step_of steps) start)
   trimmed_plan accepts =
       let own : settings_refusal lg_k start seed ≡ None = sym (refused_leaf Z seed lg_k start (steps ++ Trim ∷ [])) ∙ sym (ap (plan_refusal seed) is) ∙ accepts in

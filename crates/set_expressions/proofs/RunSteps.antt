@@ -191,6 +191,7 @@ module _ {S X : Type 0} (rules : Rules X) (read : S → Compact X) where
       ap (λ o. cond (is_none (settings_refusal lg_k MAX_THETA seed) && are_accepted read (seed_hash seed) sketches && is_some o) None (Some InvalidArgument)) none
       ∙ refused_none (is_none (settings_refusal lg_k MAX_THETA seed) && are_accepted read (seed_hash seed) sketches)
 
+  -- steps with a result, over accepted settings and sketches, are not refused
   pub one_result : (seed lg_k : ℕ) (steps : List Step) (sketches : List S) (v : Sketch X) → settings_refusal lg_k MAX_THETA seed ≡ None → are_accepted read (seed_hash seed) sketches ≡ true → result_of rules lg_k (values_by rules read sketches) steps ≡ Some v →
       refusal_by rules read seed lg_k steps sketches ≡ None
   one_result seed lg_k steps sketches v settings accepted has = accepted_some (settings_refusal lg_k MAX_THETA seed) (are_accepted read (seed_hash seed) sketches) (result_of rules lg_k (values_by rules read sketches) steps) v settings accepted has

@@ -27,6 +27,7 @@ module _ {X : Type 0} (rules : Rules X) (keeps : KeepsKey rules.key rules.merges
   combined_sample lg_k Intersection a b ws ys sa sb = meet_samples rules.key rules.merges keeps a (b ∷ []) ws (ys ∷ []) sa (sb, tt)
   combined_sample lg_k Difference a b ws ys sa sb = minus_samples rules.key rules.key a b ws ys sa sb
 
+  -- the value of an expression over samples is a sample of the same expression of the whole maps
   pub expression_sample : (lg_k : ℕ) (values : List (Sketch X)) (wholes : List (List X)) (e : Expression) → AreSamples rules.key values wholes → IsSample rules.key (value_in rules lg_k values e) (whole_in rules wholes e)
   expression_sample lg_k values wholes (Named i) all = sample_at values wholes i all
   expression_sample lg_k values wholes (Grouped e) all = expression_sample lg_k values wholes e all

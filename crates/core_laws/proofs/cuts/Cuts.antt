@@ -44,14 +44,17 @@ module _ {X : Type 0} (key : X → ℕ) where
         )
       ]
 
+  -- the rank of a key parts a map: the keys before it are smaller, the others are not
   pub parts_rank : (xs : List X) (t : ℕ) → IsAscending key xs → Parts key xs t (rank key xs t)
   parts_rank xs t up =
       let parts : (n : ℕ) × Parts key xs t n = parts_exist xs t up in
       rw (rank_parts key xs t parts.0 parts.1) parts.1
 
+  -- the entries below a key are as many first ones as its rank
   pub below_rank : (xs : List X) (t : ℕ) → IsAscending key xs → below key xs t ≡ take (rank key xs t) xs
   below_rank xs t up = below_parts key xs t _ (parts_rank xs t up)
 
+  -- the rank of the key at a position of a map is the position
   pub rank_at : (xs : List X) (i : ℕ) (d : X) → IsAscending key xs → i < length xs → rank key xs (key (get_or xs i d)) ≡ i
   rank_at xs i d up lt = rank_parts key xs _ i (parts_at key xs i d up lt)
 
@@ -91,6 +94,7 @@ module _ {X : Type 0} (key : X → ℕ) where
   pub below_all : (xs : List X) (t : ℕ) → AllByRecursion (λ x. key x < t) xs → below key xs t ≡ xs
   below_all xs t all = filter_each _ xs (each-weaker _ _ (λ x lt. lt-ltb _ _ lt) xs all)
 
+  -- the rank of a bound above all keys is the number of entries
   pub rank_all : (xs : List X) (t : ℕ) → AllByRecursion (λ x. key x < t) xs → rank key xs t ≡ length xs
   rank_all xs t all = sym (length-below xs t) ∙ ap length (below_all xs t all)
 

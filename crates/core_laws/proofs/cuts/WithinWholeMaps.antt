@@ -220,6 +220,7 @@ module _ {X : Type 0} (key : X → ℕ) where
         | false ↦ within
       ]
 
+  -- the entry that is found at a key has that key
   pub found_key : (xs : List X) (h : ℕ) (x : X) → entry_at key xs h ≡ Some x → key x ≡ h
   found_key [] h x e = absurd (cc)
   found_key (y ∷ ys) h x e =

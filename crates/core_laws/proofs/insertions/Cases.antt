@@ -17,18 +17,22 @@ or_false : (b : Bool) → (b || false) ≡ b
 or_false true = refl
 or_false false = refl
 
+-- a disjunction is true if its first part is
 pub or_left : (a b : Bool) → a ≡ true → (a || b) ≡ true
 or_left true b e = refl
 or_left false b e = cc
 
+-- a disjunction is true if its second part is
 pub or_right : (a b : Bool) → b ≡ true → (a || b) ≡ true
 or_right true b e = refl
 or_right false b e = e
 
+-- a hash of 0, or at or above theta, is screened
 pub is_screened_true : (h theta : ℕ) → (h ≡ 0) ⊎ (theta ≤ h) → is_screened h theta ≡ true
 is_screened_true h theta (inl e) = grind (arith, nat_tests)
 is_screened_true h theta (inr e) = grind (arith, nat_tests)
 
+-- any other hash is not screened
 pub is_screened_false : (h theta : ℕ) → h ≢ 0 → h < theta → is_screened h theta ≡ false
 is_screened_false h theta a b = grind (arith, nat_tests)
 
@@ -76,14 +80,17 @@ module _ {X : Type 0} (key : X → ℕ) where
   IsRetained-rebuilt k xs theta v =
       elim (leb 8 k && ltb (15 * k / 8) (length xs)) as (λ b. IsRetained key (cond b (cut key k xs theta) (record { entries = xs; theta = theta }))) [ true ↦ IsRetained-cut k xs theta v | false ↦ v ]
 
+  -- more than 15k/8 entries are cut to k, if k is at least 8
   pub rebuilt_full : (k : ℕ) (xs : List X) (theta : ℕ) → 8 ≤ k → 15 * k / 8 < length xs → rebuilt key k xs theta ≡ cut key k xs theta
   unfolding rebuilt
   rebuilt_full k xs theta large full = grind (arith, nat_tests)
 
+  -- below a k of 8 nothing is cut
   pub rebuilt_small : (k : ℕ) (xs : List X) (theta : ℕ) → k < 8 → rebuilt key k xs theta ≡ record { entries = xs; theta = theta }
   unfolding rebuilt
   rebuilt_small k xs theta small = grind (arith, nat_tests)
 
+  -- at most 15k/8 entries are not cut
   pub rebuilt_free : (k : ℕ) (xs : List X) (theta : ℕ) → length xs ≤ 15 * k / 8 → rebuilt key k xs theta ≡ record { entries = xs; theta = theta }
   unfolding rebuilt
   rebuilt_free k xs theta free = grind (arith, nat_tests)
@@ -96,14 +103,17 @@ module _ {X : Type 0} (key : X → ℕ) where
     pub allocates_is : upsert_allocates key h step v ≡ allocates
 
   module _ (k h : ℕ) (step : Step X) (v : Retained X) where
+    -- a screened hash changes nothing
     pub screened_case : is_screened h v.theta ≡ true → IsCase k h step v false v None false
     unfolding creates after_upsert upsert_refusal upsert_allocates
     screened_case e = record { creates_is = rw e refl; after_is = rw e refl; refusal_is = rw e refl; allocates_is = rw e refl }
 
+    -- at an existing entry the step writes it
     pub existing_case : (x : X) → is_screened h v.theta ≡ false → entry_at key v.entries h ≡ Some x → IsCase k h step v false (record { entries = with_entry key v.entries (step.writes x); theta = v.theta }) (step.refuses_existing x) step.allocates
     unfolding creates after_upsert upsert_refusal upsert_allocates
     existing_case x e at = record { creates_is = rw (e, at) refl; after_is = rw (e, at) refl; refusal_is = rw (e, at) refl; allocates_is = rw (e, at) (or_false step.allocates) }
 
+    -- without an entry the step makes one, or declines
     pub absent_case : is_screened h v.theta ≡ false → entry_at key v.entries h ≡ None → IsCase k h step v (is_some step.makes) (after_absent key k step v) step.refuses_absent (step.allocates || is_some step.makes)
     unfolding creates after_upsert upsert_refusal upsert_allocates
     absent_case e at = record { creates_is = rw (e, at) refl; after_is = rw (e, at) refl; refusal_is = rw (e, at) refl; allocates_is = rw (e, at) refl }

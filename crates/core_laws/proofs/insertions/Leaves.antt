@@ -100,6 +100,7 @@ module _ {X V : Type 0} (key : X → ℕ) (step_of : ℕ → V → Step X) (keep
   leaf_from-append k start [] ys v = refl
   leaf_from-append k start (x ∷ xs) ys v = leaf_from-append k start xs ys (leaf_step key step_of k start x v)
 
+  -- a leaf that is updated and then trimmed is the cut of its whole map at its start
   pub trimmed : (k start : ℕ) (steps : List (LeafStep V)) → start ≤ MAX_THETA → is_updated steps false ≡ true → leaf key step_of k start (steps ++ Trim ∷ []) ≡ NonEmpty (cut key k (whole key step_of steps) start)
   trimmed k start steps high updated =
       let within = within-leaf k start steps high in
@@ -111,5 +112,6 @@ module _ {X V : Type 0} (key : X → ℕ) (step_of : ℕ → V → Step X) (keep
       ∙ cut_lawful key (whole key step_of steps) k start v.theta within.ascending within.lawful in
       ap (λ b. cond b (NonEmpty (leaf_from key step_of k start (steps ++ Trim ∷ []) (none_below start))) Empty) (is_updated-append steps (Trim ∷ []) false ∙ updated) ∙ ap NonEmpty kept
 
+-- steps of hashes keep hashes
 pub hash_keeps : {V : Type 0} → KeepsHashes {V = V} hash_key hash_step_of
 hash_keeps = record { writes = λ h x e same. same; makes = λ h x e made. cc }

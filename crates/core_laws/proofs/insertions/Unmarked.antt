@@ -18,11 +18,13 @@ pub not_refused : (refused : Bool) → policy_refusal refused ≡ None → refus
 not_refused true e = absurd (cc)
 not_refused false e = refl
 
+-- if there is a refusal, the policy has refused, with `Policy`
 pub was_refused : (refused : Bool) (kind : ErrorKind) → policy_refusal refused ≡ Some kind → (refused ≡ true) × (kind ≡ Policy)
 was_refused true kind e = (refl, (cc))
 was_refused false kind e = absurd (cc)
 
 module _ {X : Type 0} (key : X → ℕ) (merges : X → X → X) (refuses : X → X → Bool) where
+  -- merges of folds keep the key if merges of entries do
   pub fold_keeps : KeepsKey key merges → (x y : Fold X) → fold_key key x ≡ fold_key key y → fold_key key (fold_merges key merges refuses x y) ≡ fold_key key y
   fold_keeps keeps (Refused h) y same = same
   fold_keeps keeps (Value x) (Refused h) same = same

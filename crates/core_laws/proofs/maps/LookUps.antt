@@ -62,12 +62,15 @@ module _ {X : Type 0} (key : X → ℕ) where
   entry_at_past [] q all = refl
   entry_at_past (x ∷ xs) q all = let e : eqb (key x) q ≡ false = grind (arith, nat_tests, all.0) in rw e (entry_at_past xs q all.1)
 
+  -- the first entry is found at its key
   pub entry_at_head : (x : X) (xs : List X) (q : ℕ) → key x ≡ q → entry_at key (x ∷ xs) q ≡ Some x
   entry_at_head x xs q same = let e : eqb (key x) q ≡ true = grind (arith, nat_tests) in rw e refl
 
+  -- at another key than that of the first entry the others decide
   pub entry_at_rest : (x : X) (xs : List X) (q : ℕ) → key x ≢ q → entry_at key (x ∷ xs) q ≡ entry_at key xs q
   entry_at_rest x xs q differs = let e : eqb (key x) q ≡ false = grind (arith, nat_tests) in rw e refl
 
+  -- nothing is found below the first key of a map
   pub past : (x : X) (xs : List X) (q : ℕ) → IsAscending key (x ∷ xs) → q < key x → entry_at key (x ∷ xs) q ≡ None
   past x xs q up lt = entry_at_past (x ∷ xs) q (lt, each-weaker _ _ (λ y less. omega (arith, lt, less)) xs (ascending-head key x xs up))
 

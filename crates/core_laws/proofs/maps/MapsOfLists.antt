@@ -16,6 +16,7 @@ use Rattle.std.proofs.lemmas.List.Sorted.{IsPermutation-refl, All-permutation}
 pub apart : (xs : List ℕ) → AllPairs (λ x y. x ≢ y) xs → IsDistinct eqb xs
 apart xs pairs = IsDistinct-from_apart eqb xs (λ i j d lt in_range. ne_eqb _ _ (pairs i j d lt in_range))
 
+-- hashes that a test finds different are pairwise different
 pub pairs_of : (xs : List ℕ) → IsDistinct eqb xs → AllPairs (λ x y. x ≢ y) xs
 pairs_of xs different = λ i j d lt in_range same.
     let differ = apart_from_distinct eqb xs i j d different lt in_range in

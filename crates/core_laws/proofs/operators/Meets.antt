@@ -20,6 +20,7 @@ module _ {X : Type 0} (key : X → ℕ) (merges : X → X → X) where
         | false ↦ meet_from_more values (shared key merges u v) last
       ]
 
+  -- meeting a list at once is meeting its last value with the meet of the others
   pub meet_of_meet : (first : Sketch X) (values : List (Sketch X)) (last : Sketch X) → meet key merges ((first ∷ values) ++ last ∷ []) ≡ meet key merges (meet key merges (first ∷ values) ∷ last ∷ [])
   meet_of_meet Empty values last = refl
   meet_of_meet (NonEmpty v) values last = meet_from_more values v last

@@ -201,6 +201,7 @@ module _ {X : Type 0} (key : X → ℕ) (merges : X → X → X) (keeps : KeepsK
   meet_samples_below Empty values whole wholes sample samples = rw sample.all_below (none_common wholes)
   meet_samples_below (NonEmpty v) values whole wholes sample samples = meet_from_samples values wholes v whole samples sample
 
+  -- the meet of samples is a sample of the common part of their whole maps
   pub meet_samples : (first : Sketch X) (values : List (Sketch X)) (whole : List X) (wholes : List (List X)) → IsSample key first whole → AreSamples key values wholes → IsSample key (meet key merges (first ∷ values)) (common_all key merges whole wholes)
   meet_samples first values whole wholes sample samples =
       let good = common_all-good wholes whole sample.ascending sample.carried in
@@ -233,5 +234,6 @@ module _ {X Y : Type 0} (key : X → ℕ) (other : Y → ℕ) where
         | false ↦ λ e. same
       ]) refl
 
+  -- the difference of samples is a sample of the difference of their whole maps
   pub minus_samples : (a : Sketch X) (b : Sketch Y) (ws : List X) (ys : List Y) → IsSample key a ws → IsSample other b ys → IsSample key (minus key other a b) (lacking key other ws ys)
   minus_samples a b ws ys sa sb = record { ascending = ascending-filter key _ ws sa.ascending; carried = each-filter _ _ ws sa.carried; all_below = minus_below a b ws ys sa sb }

@@ -166,6 +166,7 @@ module _ {X : Type 0} (key : X → ℕ) (merges : X → X → X) (keeps : KeepsK
 -- ---- merges of folds
 
 module _ {X : Type 0} (key : X → ℕ) (merges : X → X → X) (refuses : X → X → Bool) where
+  -- merges of folds are commutative if refusals don't depend on the order and the merges that aren't refused are
   pub folds_commute : ((x y : X) → key x ≡ key y → refuses x y ≡ refuses y x) → ((x y : X) → key x ≡ key y → refuses x y ≡ false → merges x y ≡ merges y x) → Commutes (fold_key key) (fold_merges key merges refuses)
   folds_commute alike commutes (Refused g) (Refused h) same = ap Refused same
   folds_commute alike commutes (Refused g) (Value y) same = ap Refused same

@@ -96,6 +96,7 @@ module _ {X : Type 0} (key : X → ℕ) (merges : X → X → X) (keeps : KeepsK
       ∙ ap (λ (t : ℕ). NonEmpty (cut key k (joined key merges whole w.entries) t)) (least-append (map (λ u. u.theta) (v ∷ vs)) start w.theta)
       ∙ ap NonEmpty (cut-joined k m start whole w (ascending-joined_all (map (λ u. u.entries) (v ∷ vs)) [] (ascending-nil key)) (least-le (map (λ u. u.theta) (v ∷ vs)) start))
 
+  -- uniting a list at once is uniting its last value with the union of the others
   pub union_of_union : (k start : ℕ) (values : List (Sketch X)) (last : Sketch X) → unite key merges k start (values ++ last ∷ []) ≡ unite key merges k start (unite key merges k start values ∷ last ∷ [])
   union_of_union k start values Empty = ap (unite_nonempty key merges k start) (nonempties-more values) ∙ union_with_empty k start (nonempties values)
   union_of_union k start values (NonEmpty w) = ap (unite_nonempty key merges k start) (nonempties-append values w) ∙ union_with k start (nonempties values) w
