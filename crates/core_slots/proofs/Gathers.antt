@@ -1,12 +1,9 @@
 -- Entries below a theta that are gathered in front of other slots.
 use Rattle.std.proofs.Common.{◌≡◌, ◌⊎◌, ℕ, zero, suc, ◌+◌, ◌<◌, ◌≤◌, Bool, true, false, cond, ltb, List, [], ◌∷◌, ◌++◌, length, length-append, map, get_or, set, take, drop, Option, Some, None, inl, inr, refl, sym, ap, subst, ◌∙◌, arith}
-use Rattle.std.specs.List.{count_by}
 use Rattle.std.proofs.lemmas.List.{take-set, take_at, get_or-drop, map-append, append-nil}
 use Rattle.std.proofs.Math.Seq.{take-suc-set}
 use Rattle.std.proofs.lemmas.List.Elements.{filter-append}
 use Rattle.core_laws.specs.Maps.{IsApart, below, map_of, entry_at}
-use Rattle.core_laws.proofs.cuts.Cuts.{length-below}
-use Rattle.core_laws.proofs.cuts.WithinWholeMaps.{filter-filter}
 use Rattle.core_laws.proofs.maps.Ascending.{ascending-filter}
 use Rattle.core_laws.proofs.maps.LookUps.{entry_at-below, same_map}
 use Rattle.core_laws.proofs.maps.MapsOfLists.{entry_at-map_of, ascending-map_of}
@@ -88,24 +85,6 @@ module _ {X : Type 0} (key : X → ℕ) where
         → filled (map content (take count arriving)) ≡ below key (filled (map content first)) theta → filled (map content kept) ≡ below key (filled (map content first)) theta
     front_gathered first arriving others kept n count theta long is taken =
         ap (λ xs. filled (map content xs)) (is ∙ ap (λ xs. take count xs) (take_at arriving (drop (length arriving) others) n (sym long))) ∙ taken
-
-  -- counting the entries below theta among those below theta
-  pub count-below : (xs : List X) (theta : ℕ) → count_by (λ x. ltb (key x) theta) (below key xs theta) ≡ count_by (λ x. ltb (key x) theta) xs
-  count-below xs theta =
-      sym (length-below key (below key xs theta) theta) ∙ ap length (filter-filter (λ x. ltb (key x) theta) (λ x. ltb (key x) theta) xs (λ x e. e)) ∙ length-below key xs theta
-
-  pub map_of-below-below : (xs : List X) (theta : ℕ) → below key (map_of key (below key xs theta)) theta ≡ below key (map_of key xs) theta
-  map_of-below-below xs theta =
-      same_map key _ _ (ascending-filter key _ _ (ascending-map_of key (below key xs theta))) (ascending-filter key _ _ (ascending-map_of key xs))
-      (λ q. entry_at-below key (map_of key (below key xs theta)) theta q
-      ∙ ap (λ o. cond (ltb q theta) o None) (entry_at-map_of key (below key xs theta) q ∙ entry_at-below key xs theta q)
-      ∙ again (ltb q theta) (entry_at key xs q)
-      ∙ ap (λ o. cond (ltb q theta) o None) (sym (entry_at-map_of key xs q))
-      ∙ sym (entry_at-below key (map_of key xs) theta q))
-    where
-      again : (b : Bool) (o : Option X) → cond b (cond b o None) None ≡ cond b o None
-      again true o = refl
-      again false o = refl
 
   -- the map of the entries below theta
   pub map_of-below : (xs : List X) (theta : ℕ) → map_of key (below key xs theta) ≡ below key (map_of key xs) theta

@@ -9,3 +9,4 @@ pub mod Rounds
 pub mod Rank
 pub mod HashSlots
 pub mod Lookup
+pub mod TwoPlaces

@@ -9,7 +9,7 @@ ghost use Rattle.core_slots.specs.Placing.{LooksForEach, LooksAtPlaced};
 use crate::count::Count;
 use crate::rounds::settle_all;
 use crate::slot_entry::SlotEntry;
-use crate::slots::{number_below, spread};
+use crate::slots::number_below;
 use std::alloc::Allocator;
 use std::mem;
 
@@ -33,19 +33,9 @@ fn gather_below<E: SlotEntry>(slots: &mut [E::Slot], theta: u64, others: &mut [E
     count
 }
 
-/// How many bytes a word of memory has.
-const WORD: usize = 8;
-
-/// Whether slots are at most one word each. No clause speaks of memory: this chooses between two ways to the same
-/// result.
-#[inline(always)]
-pub(crate) fn are_words<T>(slots: &[T]) -> bool {
-    size_of_val(slots) / WORD <= slots.len()
-}
-
 /// Lays the slots out anew with the entries below theta and drops the rest. They are gathered in `others` first, which
-/// has at least one slot more than these entries. Slots of one word are filled in rounds, larger ones one by one.
-/// Counts the placed entries in `placed` and the looks at slots in `looks`.
+/// has at least one slot more than these entries, and put back in rounds. Counts the placed entries in `placed` and the
+/// looks at slots in `looks`.
 pub(crate) fn gather<E: SlotEntry, A: Allocator>(
     slots: &mut [E::Slot],
     others: Vec<E::Slot, A>,
@@ -68,9 +58,5 @@ where
     let mut gathered = others;
     let count = gather_below::<E>(slots, theta, &mut gathered);
     gathered.truncate(count);
-    if are_words(slots) {
-        settle_all::<E, A>(&mut gathered, slots, lg, placed, looks);
-        return;
-    }
-    spread::<E, A>(&mut gathered, theta, slots, lg, placed, looks);
+    settle_all::<E, A>(&mut gathered, slots, lg, placed, looks);
 }

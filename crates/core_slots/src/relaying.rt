@@ -11,7 +11,7 @@ ghost use Rattle.core_slots.specs.Placing.{IsFreeFor, LooksForEach, LooksAtPlace
 ghost use Rattle.core_slots.specs.Relaying.{marked, IsFirstUnmarked};
 
 use crate::count::Count;
-use crate::gathering::{are_words, gather};
+use crate::gathering::gather;
 use crate::slot_entry::SlotEntry;
 use crate::slots::{hash_or_zero, power_of_two, slot_of, stride_of};
 use std::alloc::{AllocError, Allocator};
@@ -129,6 +129,16 @@ pub fn keep_below<E: SlotEntry + Drop, A: Allocator + Clone>(
     let mut marks = no_marks(slots.allocator().clone()?, lg)?;
     relay::<E>(slots, &mut marks, lg, theta, placed, looks);
     Ok(())
+}
+
+/// How many bytes a word of memory has.
+const WORD: usize = 8;
+
+/// Whether slots are at most one word each. No clause speaks of memory: this chooses between two ways to the same
+/// result.
+#[inline(always)]
+fn are_words<T>(slots: &[T]) -> bool {
+    size_of_val(slots) / WORD <= slots.len()
 }
 
 /// The binary logarithm up to which a rebuild gathers the kept entries into other slots, whatever the size of a slot.

@@ -2,7 +2,7 @@
 //!
 //! The counts take no memory, so in compiled code no branch depends on whether a slot is free. If entries were put one
 //! by one, each search would end with a mispredicted branch.
-ghost use Rattle.std.specs.Prelude.{◌≡◌, ℕ, ◌+◌, ◌-◌, ◌<◌, ◌≤◌, ◌^◌, ◌*◌, [], ◌++◌, None, is_none, if◌then◌else◌, length, map, set};
+ghost use Rattle.std.specs.Prelude.{◌≡◌, ℕ, ◌+◌, ◌-◌, ◌<◌, ◌≤◌, ◌^◌, ◌*◌, [], ◌++◌, is_none, if◌then◌else◌, length, map, set};
 ghost use Rattle.core_laws.specs.Maps.{IsApart, entry_at};
 ghost use Rattle.core_slots.specs.SlotLayout.{slot, IsLaidOut, entries_in, slot_map};
 ghost use Rattle.core_slots.specs.Placing.{LooksForEach, LooksAtPlaced};
@@ -13,41 +13,60 @@ use crate::count::Count;
 use crate::slot_entry::{PathEntry, SlotEntry};
 use crate::slots::{hash_in, slot_after, slot_of};
 use std::alloc::Allocator;
-use std::mem;
 
-/// The two values, exchanged if `is_exchanged`. If they are words, it takes no branch.
-#[inline(always)]
-fn exchanged_if<T>(is_exchanged: bool, first: T, second: T) -> (T, T)
-    ensures first { result.0 ≡ if is_exchanged then second else first }
-    ensures second { result.1 ≡ if is_exchanged then first else second }
-{
-    if is_exchanged {
-        (second, first)
-    } else {
-        (first, second)
+/// Two places, of which one is to be written.
+#[derive(Drop)]
+struct TwoPlaces<'a, T> {
+    first: &'a mut T,
+    second: &'a mut T,
+}
+
+impl<'a, T> TwoPlaces<'a, T> {
+    ghost use Rattle.core_slots.specs.TwoPlaces.{ends_chosen};
+    ghost use Rattle.std.specs.Borrow.{sem};
+
+    /// One of them.
+    #[inline(always)]
+    fn chosen(&mut self, is_first: bool) -> &mut T
+        ensures* writes_back { sem 𝓛 (ends_chosen T.row is_first self.entry result) }
+    {
+        if is_first {
+            return &mut *self.first;
+        }
+        &mut *self.second
     }
 }
 
-/// Puts an entry into a slot if the slot is free. Returns whether it was free, and what still waits: nothing, or the
-/// entry. It is one look.
+/// Writes a value to one of two places. Compiled code has one store, to an address that it chooses without a branch,
+/// whatever the size of the value: two stores in two branches would stay two.
+#[inline(always)]
+fn put_either<T: Drop>(is_first: bool, first: &mut T, second: &mut T, value: T)
+    ensures first { first.new ≡ if is_first then value else first.old }
+    ensures second { second.new ≡ if is_first then second.old else value }
+{
+    let mut places = TwoPlaces { first, second };
+    *places.chosen(is_first) = value;
+}
+
+/// Puts an entry into a slot if the slot is free, and otherwise into `waiting`. Returns whether the slot was free. It is
+/// one look.
 #[inline(always)]
 fn put_if_free<E: PathEntry>(
     slots: &mut [E::Slot],
     at: usize,
     entry: E::Slot,
+    waiting: &mut E::Slot,
     looks: &mut Count,
-) -> (bool, E::Slot)
+) -> bool
     requires { at < length slots.old }
-    ensures free { result.0 ≡ is_none (slot (map E.content slots.old) at) }
-    ensures written { map E.content slots.new ≡ if result.0 then set (map E.content slots.old) at (E.content entry) else map E.content slots.old }
-    ensures waits { E.content result.1 ≡ if result.0 then None else E.content entry }
+    ensures free { result ≡ is_none (slot (map E.content slots.old) at) }
+    ensures written { map E.content slots.new ≡ if result then set (map E.content slots.old) at (E.content entry) else map E.content slots.old }
+    ensures waits { waiting.new ≡ if result then waiting.old else entry }
     ensures looks { looks.new ≡ looks.old + 1 }
 {
     let is_free = E::look(&slots[at], looks).is_none();
-    let content = mem::replace(&mut slots[at], E::free_slot());
-    let (written, waits) = exchanged_if(is_free, content, entry);
-    slots[at] = written;
-    (is_free, waits)
+    put_either(is_free, &mut slots[at], waiting, entry);
+    is_free
 }
 
 /// The slot that a hash looks at in a round, below 2^`lg`. The first is that of its low bits, where most entries
@@ -104,8 +123,7 @@ fn settle<E: SlotEntry>(
             let entry = E::take_out(&mut left[at]);
             if let Some(hash) = hash_in::<E>(&entry) {
                 let next = slot_in_round(hash, lg, round);
-                let (is_settled, waits) = put_if_free::<E>(slots, next, entry, looks);
-                left[kept] = waits;
+                let is_settled = put_if_free::<E>(slots, next, entry, &mut left[kept], looks);
                 if is_settled {
                     placed.tick();
                 } else {

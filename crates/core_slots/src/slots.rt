@@ -164,7 +164,7 @@ fn put_slot<E: PathEntry>(
 }
 
 /// Moves the entries with a hash below theta into free slots.
-pub(crate) fn spread<E: SlotEntry, A: Allocator>(
+fn spread<E: SlotEntry, A: Allocator>(
     from: &mut Vec<E::Slot, A>,
     theta: u64,
     slots: &mut [E::Slot],

@@ -119,8 +119,8 @@ look_on-preserved g c =
           let first : in_wait content at count left ≡ one.0 ∷ wait = next_waits ∙ ap (λ o. filled (o ∷ []) ++ wait) one.1 in
           let is : IsInRound key lg whole stay (one.0 ∷ wait) slots (length begun) round i.0 i.1 = subst (λ xs. IsInRound key lg whole stay xs slots (length begun) round i.0 i.1) first i.5 in
           let looks = looks_put (c.args.looks.now + i.1) round (length stay) (length (in_wait content at count left)) (length wait) c.look_on.looks (omega (arith, ap length first)) i.4 in
-          let stay_is : in_front content kept (set (set left at dest) kept put.result.1) ≡ stay = front_before content (set left at dest) kept kept put.result.1 (omega arith) ∙ cleared_stay in
-          let wait_is : in_wait content (at + 1) count (set (set left at dest) kept put.result.1) ≡ wait = wait_behind content (set left at dest) at count kept put.result.1 i.7 ∙ cleared_wait in
+          let stay_is : in_front content kept (set (set left at dest) kept put.new.waiting) ≡ stay = front_before content (set left at dest) kept kept put.new.waiting (omega arith) ∙ cleared_stay in
+          let wait_is : in_wait content (at + 1) count (set (set left at dest) kept put.new.waiting) ≡ wait = wait_behind content (set left at dest) at count kept put.new.waiting i.7 ∙ cleared_wait in
           rw (w.left-is, w.slots-is, w.placed-is, w.looks-is, w.kept-is, stay_is, wait_is, written) (
             i.0 + 1,
             i.1 + round + 1,
@@ -128,7 +128,7 @@ look_on-preserved g c =
             omega (arith, i.3, put.ensures.looks),
             omega (arith, looks, put.ensures.looks),
             round_puts key lg whole stay slots (length begun) round i.0 i.1 one.0 wait is next way low free,
-            length-set (set left at dest) kept put.result.1 ∙ long ∙ i.6,
+            length-set (set left at dest) kept put.new.waiting ∙ long ∙ i.6,
             omega (arith, i.7),
             i.8,
           )
@@ -139,15 +139,15 @@ look_on-preserved g c =
           let put = w.put_if_free-is_settled in
           let other = is_taken (slot slots next) (sym put.ensures.free ∙ w.if-is_settled.false) in
           let written : map content put.new.slots ≡ slots = rw w.if-is_settled.false at put.ensures.written in
-          let same : content put.result.1 ≡ Some one.0 = (rw w.if-is_settled.false at put.ensures.waits) ∙ one.1 in
+          let same : content put.new.waiting ≡ Some one.0 = ap content (rw w.if-is_settled.false at put.ensures.waits) ∙ one.1 in
           let first : in_wait content at count left ≡ one.0 ∷ wait = next_waits ∙ ap (λ o. filled (o ∷ []) ++ wait) one.1 in
           let is : IsInRound key lg whole stay (one.0 ∷ wait) slots (length begun) round i.0 i.1 = subst (λ xs. IsInRound key lg whole stay xs slots (length begun) round i.0 i.1) first i.5 in
           let looks = looks_kept (c.args.looks.now + i.1) round (length stay) (length (in_wait content at count left)) (length wait) c.look_on.looks (omega (arith, ap length first)) i.4 in
           let more : length (stay ++ one.0 ∷ []) ≡ length stay + 1 = length-append stay (one.0 ∷ []) in
           let inside : kept < length (set left at dest) = omega (arith, i.7, c.look_on-test.true, within, long) in
-          let stay_is : in_front content (kept + 1) (set (set left at dest) kept put.result.1) ≡ stay ++ one.0 ∷ [] =
-          front_more content (set left at dest) kept put.result.1 inside ∙ ap (λ xs. xs ++ filled (content put.result.1 ∷ [])) cleared_stay ∙ ap (λ o. stay ++ filled (o ∷ [])) same in
-          let wait_is : in_wait content (at + 1) count (set (set left at dest) kept put.result.1) ≡ wait = wait_behind content (set left at dest) at count kept put.result.1 i.7 ∙ cleared_wait in
+          let stay_is : in_front content (kept + 1) (set (set left at dest) kept put.new.waiting) ≡ stay ++ one.0 ∷ [] =
+          front_more content (set left at dest) kept put.new.waiting inside ∙ ap (λ xs. xs ++ filled (content put.new.waiting ∷ [])) cleared_stay ∙ ap (λ o. stay ++ filled (o ∷ [])) same in
+          let wait_is : in_wait content (at + 1) count (set (set left at dest) kept put.new.waiting) ≡ wait = wait_behind content (set left at dest) at count kept put.new.waiting i.7 ∙ cleared_wait in
           rw (w.left-is, w.slots-is, w.placed-is, w.looks-is, w.kept-is, stay_is, wait_is, written) (
             i.0,
             i.1,
@@ -155,7 +155,7 @@ look_on-preserved g c =
             omega (arith, i.3, put.ensures.looks),
             rw more (omega (arith, looks, put.ensures.looks)),
             round_keeps key lg whole stay slots (length begun) round i.0 i.1 one.0 wait is next way other.0 other.1,
-            length-set (set left at dest) kept put.result.1 ∙ long ∙ i.6,
+            length-set (set left at dest) kept put.new.waiting ∙ long ∙ i.6,
             omega (arith, i.7),
             omega (arith, more, i.8),
           )
