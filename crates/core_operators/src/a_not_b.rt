@@ -169,8 +169,9 @@ fn is_empty_result(count: usize, theta: u64) -> bool
     count == 0 && theta == MAX_THETA
 }
 
-/// Clones of the entries of `a` below theta whose hashes `b` lacks, in ascending order. `b` has `b_count` hashes. If it
-/// isn't known to be ordered, a copy of its hashes below theta is sorted first, but for hashes that `a` surely lacks.
+/// Clones of the entries of `a` below theta whose hashes `b` lacks, in ascending order. If `a` isn't known to be ordered,
+/// clones of its entries below theta are sorted first. `b` has `b_count` hashes, and `others` are its entries in their
+/// order, if they are in a slice.
 ///
 /// Counts each comparison of two hashes in `compared`, but those of the sorts: at most as many as both sketches have.
 fn kept_entries<S: EntrySketch, T: KeySketch, F: SketchEntry, A: Allocator + Clone>(
@@ -191,38 +192,6 @@ where
     requires b_in_order { (T.shown b).ordered ≡ b_ordered }
     requires b_sound { IsShown (T.shown b) }
     requires others { ForSome others (λ entries. map F.key entries.now ≡ (T.shown b).hashes) }
-    ensures listed { IfOk result (λ _. map S.Entry.key (S.listing a) ≡ (S.shown a).hashes) }
-    ensures ok { IfOk result (λ v. v.items ≡ lacking S.Entry.key hash_key (below S.Entry.key (map_of S.Entry.key (S.listing a)) theta) (T.shown b).hashes) }
-    ensures refused { Refuses result None true }
-    ensures grows { compared.old ≤ compared.new }
-    ensures compared { compared.new ≤ compared.old + length (S.listing a) + length (T.shown b).hashes }
-{
-    if b_ordered {
-        if let Some(hashes) = others {
-            return kept_beside(alloc, a, a_ordered, hashes, theta, compared);
-        }
-    }
-    kept_without(alloc, a, a_ordered, b, b_ordered, b_count, theta, compared)
-}
-
-/// The same by a copy of the hashes of `b` below theta. If `a` isn't known to be ordered, clones of its entries below
-/// theta are sorted first.
-fn kept_without<S: EntrySketch, T: KeySketch, A: Allocator + Clone>(
-    alloc: A,
-    a: S,
-    a_ordered: bool,
-    b: T,
-    b_ordered: bool,
-    b_count: usize,
-    theta: u64,
-    compared: &mut Count,
-) -> Result<Vec<S::Entry, A>, Error>
-where
-    S::Entry: Clone,
-    requires clones_equal { ClonesEqual S.Entry.is_clone }
-    requires a_in_order { (S.shown a).ordered ≡ a_ordered }
-    requires b_in_order { (T.shown b).ordered ≡ b_ordered }
-    requires b_sound { IsShown (T.shown b) }
     ensures listed { map S.Entry.key (S.listing a) ≡ (S.shown a).hashes }
     ensures ok { IfOk result (λ v. v.items ≡ lacking S.Entry.key hash_key (below S.Entry.key (map_of S.Entry.key (S.listing a)) theta) (T.shown b).hashes) }
     ensures refused { Refuses result None true }
@@ -232,24 +201,30 @@ where
     let list = a.entries();
     if a_ordered {
         if let Some(entries) = list.as_slice() {
-            return lacking_hashes(alloc, entries, b, b_ordered, b_count, theta, compared);
+            return lacking_hashes(
+                alloc, entries, b, b_ordered, b_count, others, theta, compared,
+            );
         }
     }
     let entries = ascending_entries(alloc.clone()?, a, theta, a_ordered, 0)?;
-    lacking_hashes(alloc, &entries, b, b_ordered, b_count, theta, compared)
+    lacking_hashes(
+        alloc, &entries, b, b_ordered, b_count, others, theta, compared,
+    )
 }
 
-/// Clones of ascending entries below theta whose hashes `b` lacks, by a copy of the hashes of `b`. If `b` isn't known to
-/// be ordered, the copy is sorted, and hashes that the entries surely lack are dropped before.
+/// Clones of ascending entries below theta whose hashes `b` lacks. If `b` is known to be ordered and its entries `others`
+/// are in a slice, they are read as they are. Otherwise a copy of its hashes below theta is read; if `b` isn't known to be
+/// ordered, it is sorted, and hashes that the entries surely lack are dropped before.
 ///
 /// Counts each comparison of two hashes in `compared`, but those of the sort: at most as many as there are entries and
 /// hashes. The test of a bit is no such comparison.
-fn lacking_hashes<E: SlotEntry + Clone, T: KeySketch, A: Allocator + Clone>(
+fn lacking_hashes<E: SlotEntry + Clone, T: KeySketch, F: SketchEntry, A: Allocator + Clone>(
     alloc: A,
     entries: &[E],
     b: T,
     b_ordered: bool,
     b_count: usize,
+    others: Option<&[F]>,
     theta: u64,
     compared: &mut Count,
 ) -> Result<Vec<E, A>, Error>
@@ -257,46 +232,19 @@ fn lacking_hashes<E: SlotEntry + Clone, T: KeySketch, A: Allocator + Clone>(
     requires ascending { IsAscending E.key entries.now }
     requires b_in_order { (T.shown b).ordered ≡ b_ordered }
     requires b_sound { IsShown (T.shown b) }
+    requires others { ForSome others (λ entries. map F.key entries.now ≡ (T.shown b).hashes) }
     ensures ok { IfOk result (λ v. v.items ≡ lacking E.key hash_key (below E.key entries.now theta) (T.shown b).hashes) }
     ensures refused { Refuses result None true }
     ensures grows { compared.old ≤ compared.new }
     ensures compared { compared.new ≤ compared.old + length entries.now + length (T.shown b).hashes }
 {
-    let keys = narrowed_hashes(alloc.clone()?, b, entries, theta, b_ordered, b_count)?;
-    ascending_difference(alloc, entries, &keys, theta, compared)
-}
-
-/// Clones of the entries of `a` below theta whose hashes ascending `others` lack, in ascending order. If `a` isn't known
-/// to be ordered, clones of its entries below theta are sorted first.
-///
-/// Counts each comparison of two hashes in `compared`, but those of the sort: at most as many as `a` and `others` have.
-fn kept_beside<S: EntrySketch, F: SketchEntry, A: Allocator + Clone>(
-    alloc: A,
-    a: S,
-    ordered: bool,
-    others: &[F],
-    theta: u64,
-    compared: &mut Count,
-) -> Result<Vec<S::Entry, A>, Error>
-where
-    S::Entry: Clone,
-    requires clones_equal { ClonesEqual S.Entry.is_clone }
-    requires in_order { (S.shown a).ordered ≡ ordered }
-    requires others_ascend { IsAscending F.key others.now }
-    ensures listed { map S.Entry.key (S.listing a) ≡ (S.shown a).hashes }
-    ensures ok { IfOk result (λ v. v.items ≡ lacking S.Entry.key F.key (below S.Entry.key (map_of S.Entry.key (S.listing a)) theta) others.now) }
-    ensures refused { Refuses result None true }
-    ensures grows { compared.old ≤ compared.new }
-    ensures compared { compared.new ≤ compared.old + length (S.listing a) + length others.now }
-{
-    let list = a.entries();
-    if ordered {
-        if let Some(entries) = list.as_slice() {
-            return ascending_difference(alloc, entries, others, theta, compared);
+    if b_ordered {
+        if let Some(hashes) = others {
+            return ascending_difference(alloc, entries, hashes, theta, compared);
         }
     }
-    let entries = ascending_entries(alloc.clone()?, a, theta, ordered, 0)?;
-    ascending_difference(alloc, &entries, others, theta, compared)
+    let keys = narrowed_hashes(alloc.clone()?, b, entries, theta, b_ordered, b_count)?;
+    ascending_difference(alloc, entries, &keys, theta, compared)
 }
 
 /// A state of these entries. They are sorted if `requested` is true and they aren't known to ascend.

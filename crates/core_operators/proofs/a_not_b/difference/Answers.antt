@@ -30,7 +30,7 @@ pub state_of-requires-in-NonEmpty : goal.state_of-requires-in-NonEmpty
 state_of-requires-in-NonEmpty g c =
     let reported = reported_nonempty (g.T.KeySketch.shown c.args.b) _ c.in-NonEmpty.b_theta _ _ c.in-NonEmpty.ensures.metadata in
     let kept = c.in_ok-kept-in-NonEmpty.ensures in
-    let below = kept_below g.S.Entry.SketchEntry.key (g.S.KeySketch.shown c.args.a) (g.T.KeySketch.shown c.args.b) (g.S.EntrySketch.listing c.args.a) c.min-theta.result c.args.a_theta c.in-NonEmpty.b_theta c.args.seed_hash c.requires.sound c.metadata.ensures.is_sound kept.listed c.min-theta.ensures c.requires.of_theta reported.theta_is in
+    let below = kept_below g.S.Entry.SketchEntry.key (g.S.KeySketch.shown c.args.a) (g.T.KeySketch.shown c.args.b) (g.S.EntrySketch.listing c.args.a) c.min-theta.result c.args.a_theta c.in-NonEmpty.b_theta c.args.seed_hash c.requires.sound c.metadata.ensures.is_sound c.kept_entries.ensures.listed c.min-theta.ensures c.requires.of_theta reported.theta_is in
     rw kept.ok (below.shown c.if-requested.state_of)
 
 pub returns-then-is_empty_result-clause-ok : goal.returns-then-is_empty_result-clause-ok
@@ -41,7 +41,7 @@ returns-then-is_empty_result-clause-ok g c =
     let reported = reported_nonempty b _ c.in-NonEmpty.b_theta _ _ c.in-NonEmpty.ensures.metadata in
     let kept = c.in_ok-kept-in-NonEmpty.ensures in
     let listing = g.S.EntrySketch.listing c.args.a in
-    let below = kept_below key a b listing c.min-theta.result c.args.a_theta c.in-NonEmpty.b_theta c.args.seed_hash c.requires.sound c.metadata.ensures.is_sound kept.listed c.min-theta.ensures c.requires.of_theta reported.theta_is in
+    let below = kept_below key a b listing c.min-theta.result c.args.a_theta c.in-NonEmpty.b_theta c.args.seed_hash c.requires.sound c.metadata.ensures.is_sound c.kept_entries.ensures.listed c.min-theta.ensures c.requires.of_theta reported.theta_is in
     let count : c.len.result ≡ length c.in_ok-kept-in-NonEmpty.kept.items = search rules in
     let nothing : (length (kept_of key (map_of key listing) b.hashes c.min-theta.result) == 0 && c.min-theta.result == MAX_THETA) ≡ true = rw (← kept.ok, ← count) (sym c.is_empty_result.ensures ∙ c.if-is_empty_result.true) in
     rw (c.empty.ensures, c.requires.of_seed) (answer_nothing_sorted key a b listing b.hashes c.min-theta.result c.args.seed_hash _ c.requires.nonempty reported.nonempty below.theta_is below.apart nothing)
@@ -54,7 +54,7 @@ returns-after-requested-clause-ok g c =
     let key = g.S.Entry.SketchEntry.key in
     let a = g.S.KeySketch.shown c.args.a in
     let listing = g.S.EntrySketch.listing c.args.a in
-    let below = kept_below key a b listing c.min-theta.result c.args.a_theta c.in-NonEmpty.b_theta c.args.seed_hash c.requires.sound c.metadata.ensures.is_sound kept.listed c.min-theta.ensures c.requires.of_theta reported.theta_is in
+    let below = kept_below key a b listing c.min-theta.result c.args.a_theta c.in-NonEmpty.b_theta c.args.seed_hash c.requires.sound c.metadata.ensures.is_sound c.kept_entries.ensures.listed c.min-theta.ensures c.requires.of_theta reported.theta_is in
     let count : c.len.result ≡ length c.in_ok-kept-in-NonEmpty.kept.items = search rules in
     let some : (length (kept_of key (map_of key listing) b.hashes c.min-theta.result) == 0 && c.min-theta.result == MAX_THETA) ≡ false = rw (← kept.ok, ← count) (sym c.is_empty_result.ensures ∙ c.if-is_empty_result.false) in
     let requested : c.if-requested.state_of ≡ (c.args.requested || c.args.a_ordered) = elim c.if-requested.branch [ then-requested w ↦ rw w.if-requested.true (w.state_of-is ∙ w.if-requested.true) | else-requested w ↦ rw w.if-requested.false w.state_of-is ] in
