@@ -7,7 +7,7 @@ ghost use Rattle.distinct_arguments.specs.Settings.{chosen_group};
 ghost use Rattle.distinct_commands.specs.Answers.{sketch_of, lines_text, IsLinesText, IsSketchText, IsCommandAnswer, WritesAnswer, Performs};
 ghost use Rattle.distinct_inputs.specs.Lists.{names_of};
 ghost use Rattle.distinct_inputs.specs.Images.{in_form};
-ghost use Rattle.distinct_inputs.specs.Failures.{chosen_amount, IsOfReading, IsOfSketch, IsOfCommand, IsOfRequest, IsUnwritten};
+ghost use Rattle.distinct_inputs.specs.Failures.{chosen_amount, IsOfReading, IsOfSketch, IsOfCommand, IsOfAnswer, IsOfRequest, IsUnwritten};
 ghost use Rattle.distinct_inputs.specs.declared.failure.Failure.TheVariants as failure;
 
 use crate::groups::GroupPrinter;
@@ -27,13 +27,14 @@ use theta_sketches::CompactThetaSketch;
 const STANDARD_OUTPUT: &str = "standard output";
 
 /// Runs a command under a seed on the files that sources give, under these names, and writes its whole answer and nothing
-/// else. For `eval` the only name is the expression. It fails with `NoFiles` only if it reads images and no file is named;
-/// with `NotTwo` only for `minus` and, if contracts know the files' bytes, only if two files aren't named (without `--hex`)
-/// or their images aren't two; with `WrongCount` only if `--expect` names another number than it reports to have found;
-/// with `NotOneEach`, `NoExpression` or `NotOneExpression` only for `eval`; with `PastUnion` only for images of sums; and with
-/// `NotANumber` only for `sum`, which fails with `LoneSum` if its options have no field of numbers, and for `sketch` if its
-/// lines add their numbers. Any other failure has status 1: memory, a file, its contents or the writer is at fault. Only if
-/// the writer fails may a part of the answer have been written.
+/// else. For `eval` the only name is the expression. Any command may fail with `Memory`, with `Unreadable`, and with
+/// `NotWritten` for standard output. Each other failure only some commands have: those of images, lines of images and groups
+/// only a command that reads images; `NoFiles` only if it reads images and no file is named; `NotTwo` only `minus` and, if
+/// contracts know the files' bytes, only if two files aren't named (without `--hex`) or their images aren't two;
+/// `WrongCount` only a command on images, if `--expect` names another number than it reports to have found; `NoName`,
+/// `NotOneEach`, `NoExpression` and `NotOneExpression` only `eval`; `PastUnion` only a command on images of sums; `LoneSum`
+/// only `sum`, if its options have no field of numbers; `PastGreatest` and `NotANumber` only a command that sums lines. Only
+/// if the writer fails may a part of the answer have been written.
 pub fn answer<S: Sources + Drop, C: Console, O: Write>(
     alloc: Global,
     command: Command,
@@ -47,7 +48,7 @@ pub fn answer<S: Sources + Drop, C: Console, O: Write>(
     requires seeded { seed_hash seed ≢ 0 }
     ensures answered { IfSome (S.texts sources) (λ texts.
         OnOk result (WritesAnswer command (options_of options.now) seed (names_of files.now) texts (O.contents writer.old) (O.contents writer.new))) }
-    ensures failed { IfErr result (IsOfCommand command (options_of options.now) (length files.now) (S.texts sources)) }
+    ensures failed { IfErr result (IsOfAnswer command (options_of options.now) (length files.now) (S.texts sources)) }
     ensures unwritten { IfErr result (IsUnwritten (O.contents writer.old) (O.contents writer.new)) }
 {
     let inputs = Inputs::new(sources, files);

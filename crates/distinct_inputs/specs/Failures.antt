@@ -19,7 +19,7 @@ use Rattle.distinct_arguments.specs.Settings.{OptionValues, SeedValue, seed_numb
 use Rattle.distinct_inputs.specs.Images.{images_of}
 use Rattle.distinct_inputs.specs.declared.images.Images.{Images}
 use Rattle.distinct_arguments.specs.declared.commands.Command.{Command}
-use Rattle.distinct_arguments.specs.declared.commands.Command.TheVariants.{Count, Sketch, Combine, Eval, Visits, Sum}
+use Rattle.distinct_arguments.specs.declared.commands.Command.TheVariants.{Count, Sketch, Combine, Show, Eval, Visits, Sum}
 use Rattle.distinct_arguments.specs.declared.commands.Operator.{Operator}
 use Rattle.distinct_arguments.specs.declared.commands.Operator.TheVariants.{Minus}
 use Rattle.grouped_lines.specs.declared.united.LineFlaw.{LineFlaw}
@@ -203,30 +203,30 @@ IsOfEvaluation count (NotOneEach found names) = found ≢ names
 IsOfEvaluation count (PastResult text) = ⊤
 IsOfEvaluation count failure = IsOfImages failure
 
--- a command reads numbers of lines
-abbrev pub ReadsNumbers : Command → OptionValues → Type 0
-ReadsNumbers Sum options = ⊤
-ReadsNumbers Sketch options = (chosen_amount options ≢ None) × (chosen_amount options ≢ Some One)
-ReadsNumbers _ options = ⊥
+-- no image is named, if this may be, or another failure
+abbrev pub OrUnnamed : (IsUnnamed : Type 0) → (IsOther : Failure → Type 0) → Failure → Type 0
+OrUnnamed IsUnnamed IsOther NoFiles = IsUnnamed
+OrUnnamed IsUnnamed IsOther failure = IsOther failure
 
--- a command fails: what it reads or writes is at fault, it has no image, there are not as many as are expected, `minus` doesn't have two,
--- `eval` doesn't have one expression, or `sum` doesn't have the field of its numbers
+-- a command fails before it writes: what it reads is at fault, or memory was refused; and by command, no image is named, there are not as
+-- many as are expected, `minus` doesn't have two, `eval` doesn't have one expression, or `sum` doesn't have the field of its numbers
 abbrev pub IsOfCommand : Command → OptionValues → (count : ℕ) → (texts : Option (List (List ℕ))) → Failure → Type 0
-IsOfCommand command options count texts NoFiles = (count ≡ 0) × (command ≡ Count → ⊥) × (command ≡ Sketch → ⊥) × (command ≡ Eval → ⊥) × (command ≡ Visits → options.sums ≡ true) × (command ≡ Sum → ⊥)
-IsOfCommand command options count texts NotTwo = (command ≡ Combine Minus) × AreNotTwo options.hex count texts
-IsOfCommand command options count texts (WrongCount counted number) = (options.expected ≡ Some number) × (number ≢ counted)
-IsOfCommand command options count texts (NotOneEach found names) = (command ≡ Eval) × (found ≢ names)
-IsOfCommand command options count texts (NoExpression text fault) = command ≡ Eval
-IsOfCommand command options count texts (Arguments NotOneExpression) = (command ≡ Eval) × (count ≢ 1)
-IsOfCommand command options count texts (Arguments LoneSum) = (command ≡ Sum) × (options.value ≡ None)
-IsOfCommand command options count texts (NotANumber name line) = ReadsNumbers command options
-IsOfCommand command options count texts (PastUnion name line) = options.sums ≡ true
-IsOfCommand command options count texts failure = failure_status failure ≡ 1
+IsOfCommand Count options count texts failure = IsOfReading failure
+IsOfCommand Sketch options count texts failure = IsOfSketch options failure
+IsOfCommand (Combine operator) options count texts failure = OrUnnamed (count ≡ 0) (IsOfCombining operator options count texts) failure
+IsOfCommand Show options count texts failure = OrUnnamed (count ≡ 0) IsOfImages failure
+IsOfCommand Eval options count texts failure = IsOfEvaluation count failure
+IsOfCommand Visits options count texts failure = OrUnnamed ((count ≡ 0) × (options.sums ≡ true)) (IsOfVisits options) failure
+IsOfCommand Sum options count texts failure = IsOfTotal options failure
+
+-- a command fails, or its answer can't be written to standard output
+abbrev pub IsOfAnswer : Command → OptionValues → (count : ℕ) → (texts : Option (List (List ℕ))) → Failure → Type 0
+IsOfAnswer command options count texts failure = IsOfCommand command options count texts failure ⊎ IsOfWriting (codes "standard output") failure
 
 -- a request fails as its command does, or its text can't be written to standard output
 abbrev pub IsOfRequest : Action → (count : ℕ) → (texts : Option (List (List ℕ))) → Failure → Type 0
 IsOfRequest (prints topic) count texts failure = IsOfWriting (codes "standard output") failure
-IsOfRequest (runs command options files) count texts failure = IsOfCommand command options count texts failure
+IsOfRequest (runs command options files) count texts failure = IsOfAnswer command options count texts failure
 IsOfRequest (fails mistake) count texts failure = ⊥
 
 -- nothing was written to the writer, or it is the writer that failed

@@ -125,7 +125,8 @@ impl<'a, S: Sources> Images<'a, S> {
         self.inputs.name()
     }
 
-    /// The failure if the file can't be read, or isn't an image.
+    /// The failure if the file can't be read, or isn't an image: then the error has the kind `InvalidData`, which no error of
+    /// a file itself has.
     pub fn unreadable(&self, error: io::Error) -> Failure
         ensures data { error_kind error ≡ InvalidData → ReportsNoSketch self.now result }
         ensures read { error_kind error ≢ InvalidData → ReportsUnreadable (called self.now.inputs.current.now) error result }

@@ -9,8 +9,12 @@ use Rattle.std.specs.Ordering.{nat_cmp}
 use Rattle.std.specs.Map.{keys_of}
 use Rattle.std.specs.BTreeMap.{BTreeMap}
 use Rattle.std.proofs.lemmas.List.{map-append}
+use Rattle.sketch_base.specs.Seed.{seed_hash}
+use Rattle.core_compact.specs.CompactState.{Compact}
 use Rattle.core_operators.specs.Union.{Union}
+use Rattle.theta_sketches.specs.Image.{IsReadable}
 use Rattle.line_sketches.specs.Keys.{IsAmong}
+use Rattle.line_sketches.specs.Shards.{AreRead}
 use Rattle.line_sketches.specs.Unions.{IsReady, HasUnited}
 use Rattle.grouped_lines.specs.Tabs.{before_tab}
 use Rattle.grouped_lines.specs.United.{image_in, images_in, AreNames, union_at, IsGroupUnion, IsUniting, AreReady, SetsUnion, UpdatesUnion, BeginsUnion, AreUnited}
@@ -81,6 +85,17 @@ some_images : {P : Type 0} (seed lg_k : ℕ) (images : List (List ℕ)) (o : Opt
 some_images seed lg_k images None is some none = cc
 some_images seed lg_k images (Some u) is some none = is.0 none
 
+-- the last of the images of a group was read
+last_image : (seed : ℕ) (images : List (List ℕ)) (image : List ℕ) (sketches : List (Compact ℕ)) → AreRead seed (images ++ image ∷ []) sketches → IsReadable image (seed_hash seed)
+last_image seed [] image [] read = absurd read
+last_image seed [] image (s ∷ sketches) read = (s, read.0)
+last_image seed (first ∷ images) image [] read = absurd read
+last_image seed (first ∷ images) image (s ∷ sketches) read = last_image seed images image sketches read.1
+
+united_read : {P : Type 0} (seed lg_k : ℕ) (images : List (List ℕ)) (image : List ℕ) (o : Option (Union ℕ P)) → IsGroupUnion seed lg_k (images ++ image ∷ []) o → IsReadable image (seed_hash seed)
+united_read seed lg_k images image None is = absurd (some_more images image is)
+united_read seed lg_k images image (Some u) is = last_image seed images image is.1.sketches is.1.are_read
+
 module _ {A P : Type 0} (seed lg_k : ℕ) where
   -- the union of one group was set
   uniting_more : (lines : List (List ℕ)) (line : List ℕ) (m n : BTreeMap (Vec ℕ A) (Union ℕ P)) (w : Union ℕ P) → IsUniting seed lg_k lines m → SetsUnion (before_tab line) w m n →
@@ -110,6 +125,14 @@ module _ {A P : Type 0} (seed lg_k : ℕ) where
       let none : images_in (before_tab line) lines ≡ [] = subst (IsGroupUnion seed lg_k (images_in (before_tab line) lines)) same.1 (uniting (before_tab line)) in
       uniting_more lines line k n begun.0 (subst (IsUniting seed lg_k lines) (sym same.0) uniting) begun.3
       (subst (λ images. HasUnited seed lg_k images begun.0) (ap (λ images. images ++ image_in line ∷ []) (sym none)) begun.1)
+
+  -- the image of the last line was read
+  pub last_read : (lines : List (List ℕ)) (line : List ℕ) (m : BTreeMap (Vec ℕ A) (Union ℕ P)) → IsUniting seed lg_k (lines ++ line ∷ []) m → IsReadable (image_in line) (seed_hash seed)
+  last_read lines line m uniting =
+      let own = before_tab line in
+      let is : images_in own (lines ++ line ∷ []) ≡ images_in own lines ++ image_in line ∷ [] =
+      images_more own lines line ∙ ap (λ b. cond b (images_in own lines ++ image_in line ∷ []) (images_in own lines)) (nat_list_eq_equiv.refl own) in
+      united_read seed lg_k (images_in own lines) (image_in line) (union_at m own) (subst (λ images. IsGroupUnion seed lg_k images (union_at m own)) is (uniting own))
 
   -- all groups stay ready
   pub ready_more : (m n : BTreeMap (Vec ℕ A) (Union ℕ P)) (name : List ℕ) (w : Union ℕ P) → AreReady seed m → SetsUnion name w m n → IsReady seed w → AreReady seed n

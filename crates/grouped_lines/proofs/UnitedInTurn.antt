@@ -1,18 +1,28 @@
 -- Images that are united line by line, and lines that are written one after another.
-use Rattle.std.proofs.Common.{ℕ, ◌≡◌, true, List, [], ◌∷◌, ◌++◌, Option, Some, None, refl, sym, ap, subst, inl, inr, append_assoc, append-nil}
+use Rattle.std.proofs.Common.{ℕ, ◌≡◌, ◌+◌, ◌-◌, ◌^◌, min, length, true, false, List, [], ◌∷◌, ◌++◌, Option, Some, None, Vec, refl, sym, ap, ◌∙◌, subst, inl, inr, arith, append_assoc, append-nil, length-append}
 use Rattle.std.specs.Prelude.{IfSome}
 use Rattle.std.specs.Option.{option_map}
-use Rattle.lines.specs.Lines.{lines_of, lines_of_all}
+use Rattle.std.specs.BTreeMap.{BTreeMap}
+use Rattle.sketch_base.specs.Seed.{seed_hash}
 use Rattle.sketch_base.specs.declared.error.ErrorKind.{ErrorKind}
+use Rattle.core_operators.specs.Union.{Union}
+use Rattle.theta_sketches.specs.Image.{IsReadable}
+use Rattle.lines.specs.Lines.{lines_of, lines_of_all}
+use Rattle.line_sketches.specs.Hex.{bytes_of_hex}
 use Rattle.line_sketches.specs.Keys.{IsAmong}
 use Rattle.line_sketches.specs.Sources.{GivesNext, Continues}
 use Rattle.line_sketches.specs.Unions.{IsUnitedImage}
 use Rattle.grouped_lines.specs.Groups.{without_lf}
 use Rattle.grouped_lines.specs.Reading.{ReadsLine, ContinuesLines}
-use Rattle.grouped_lines.specs.United.{image_line, images_in, AreUnitedLines, HasFlawed, IsUnunited}
+use Rattle.grouped_lines.specs.Tabs.{has_tab, behind_tab}
+use Rattle.grouped_lines.specs.United.{image_line, image_in, images_in, AreUnitedLines, IsUniting, is_followed, IsFlawed, IsFlawless, AreFlawless, AreAdded}
+use Rattle.grouped_lines.specs.United.{IsFirstFlawed, HasFirstFlawed, IsOfLine, IsOfLines, ReportsFirst, IsUnunited}
 use Rattle.grouped_lines.specs.declared.united.LineFlaw.{LineFlaw}
+use Rattle.grouped_lines.specs.declared.united.LineFlaw.TheVariants.{NoTab, NoHex, NoImage}
 use Rattle.grouped_lines.specs.declared.uniting.Ununited.{Ununited}
 use Rattle.grouped_lines.specs.declared.uniting.Ununited.TheVariants.{Refused, Failed, Flawed}
+use Rattle.grouped_lines.proofs.LinesInGroups.{lines_of_more}
+use Rattle.grouped_lines.proofs.WrittenImages.{all_joined}
 
 -- ---- a line among others
 
@@ -25,39 +35,94 @@ pub among_back : (line : List ℕ) (front back : List (List ℕ)) → IsAmong li
 among_back line [] back among = among
 among_back line (first ∷ front) back among = inr (among_back line front back among)
 
--- the line that was read is one of those of its text
-pub read_among : (old now new : Option (List ℕ)) (bytes : List ℕ) → ContinuesLines old now (λ taken. Unit {0}) → ReadsLine now new bytes true → IfSome (option_map lines_of old) (IsAmong (without_lf bytes))
-read_among None now new bytes so_far read = tt
-read_among (Some text) None new bytes so_far read = absurd so_far
-read_among (Some text) (Some left) new bytes so_far read =
-    let line = without_lf bytes in
-    subst (IsAmong line) (sym so_far.1) (among_back line so_far.0 (lines_of left) (subst (IsAmong line) (sym read.2) (inl refl)))
+-- ---- lines without a flaw, and the first with one
 
-among_texts : (line text : List ℕ) (texts : List (List ℕ)) → IsAmong text texts → IsAmong line (lines_of text) → IsAmong line (lines_of_all texts)
-among_texts line text [] here among = absurd here
-among_texts line text (first ∷ texts) (inl same) among = among_front line (lines_of first) (lines_of_all texts) (subst (λ (t : List ℕ). IsAmong line (lines_of t)) same among)
-among_texts line text (first ∷ texts) (inr later) among = among_back line (lines_of first) (lines_of_all texts) (among_texts line text texts later among)
+-- a line with a tab, whose digits spell one image that is read, has no flaw
+pub no_flaw : (seed : ℕ) (line image : List ℕ) → has_tab line ≡ true → bytes_of_hex (behind_tab line) ≡ Some image → is_followed (image_in line) ≡ false → IsReadable (image_in line) (seed_hash seed) → (flaw : LineFlaw) → IsFlawed seed line flaw → ⊥
+no_flaw seed line image tab spelled alone read NoTab flawed = let e : true ≡ false = sym tab ∙ flawed in cc
+no_flaw seed line image tab spelled alone read NoHex flawed = let e : Some image ≡ None = sym spelled ∙ flawed in cc
+no_flaw seed line image tab spelled alone read (NoImage flaw) flawed = elim flawed.1 [ inl unread ↦ unread read | inr longer ↦ (let e : true ≡ false = sym longer ∙ alone in cc) ]
 
-module _ (seed : ℕ) (flaw : LineFlaw) where
-  flawed_text : (text : List ℕ) (texts : List (List ℕ)) → IsAmong text texts → HasFlawed seed flaw (lines_of text) → HasFlawed seed flaw (lines_of_all texts)
-  flawed_text text texts here flawed = (flawed.0, among_texts flawed.0 text texts here flawed.1, flawed.2)
+-- the lines so far are as many as were passed
+pub record AreCounted {A P : Type 0} (seed lg_k passed : ℕ) (before lines : List (List ℕ)) (groups : BTreeMap (Vec ℕ A) (Union ℕ P)) : Type 0 where
+  pub added : AreAdded seed lg_k before lines groups
+  pub count : length lines ≡ passed
 
-  -- the next source has a line with this flaw
-  flawed_next : {S : Type 0} (remaining : S → Option (List ℕ)) (old now new : Option (List (List ℕ))) (source : S) → Continues old now (λ taken. Unit {0}) → GivesNext remaining now new (Some source) →
-      IfSome (option_map lines_of (remaining source)) (HasFlawed seed flaw) → IfSome (option_map lines_of_all old) (HasFlawed seed flaw)
-  flawed_next remaining None now new source so_far next flawed = tt
-  flawed_next remaining (Some texts) None new source so_far next flawed = absurd so_far
-  flawed_next remaining (Some texts) (Some left) new source so_far next flawed =
-      let here : IsAmong next.text texts = subst (IsAmong next.text) (sym so_far.1) (among_back next.text so_far.0 left (subst (IsAmong next.text) (sym next.parted) (inl refl))) in
-      flawed_text next.text texts here (subst (λ (o : Option (List ℕ)). IfSome (option_map lines_of o) (HasFlawed seed flaw)) next.has flawed)
+-- the line behind as many lines without a flaw
+pub record IsBehind (seed passed : ℕ) (line : List ℕ) (lines : List (List ℕ)) : Type 0 where
+  pub before : List (List ℕ)
+  pub others : List (List ℕ)
+  pub parted : lines ≡ before ++ line ∷ others
+  pub flawless : AreFlawless seed before
+  pub count : length before ≡ passed
 
--- a source fails: so do all
-pub failed_next : {S : Type 0} (seed : ℕ) (remaining : S → Option (List ℕ)) (old now new : Option (List (List ℕ))) (found : Option S) (source : S) (refusal : Option ErrorKind) (reason : Ununited) → Continues old now (λ taken. Unit {0}) → GivesNext remaining now new found → found ≡ Some source →
-    refusal ≡ None → IsUnunited seed None (option_map lines_of (remaining source)) reason → IsUnunited seed refusal (option_map lines_of_all old) reason
-failed_next seed remaining old now new found source refusal (Refused kind) so_far next is settled failed = elim failed [ inl same ↦ absurd (cc) | inr memory ↦ inr memory ]
-failed_next seed remaining old now new found source refusal (Failed error) so_far next is settled failed = settled
-failed_next {S} seed remaining old now new found source refusal (Flawed number flaw) so_far next is settled failed =
-    (settled, flawed_next seed flaw remaining old now new source so_far (subst (λ (o : Option S). GivesNext remaining now new o) is next) failed.1)
+module _ {A P : Type 0} (seed lg_k : ℕ) where
+  -- one more line
+  pub counted_more : (passed : ℕ) (before lines : List (List ℕ)) (line : List ℕ) (was now : BTreeMap (Vec ℕ A) (Union ℕ P)) → AreCounted seed lg_k passed before lines was → IsUniting seed lg_k ((before ++ lines) ++ line ∷ []) now → IsFlawless seed line → AreCounted seed lg_k (passed + 1) before (lines ++ line ∷ []) now
+  counted_more passed before lines line was now so_far uniting flawless = record {
+    added = record {
+      uniting = subst (λ (ls : List (List ℕ)). IsUniting seed lg_k ls now) (append_assoc before lines (line ∷ [])) uniting;
+      flawless = all_joined (IsFlawless seed) lines (line ∷ []) so_far.added.flawless (flawless, tt);
+    };
+    count = omega (arith, length-append lines (line ∷ []), so_far.count);
+  }
+
+  -- one more text
+  pub added_more : (texts : List (List ℕ)) (text : List ℕ) (was now : BTreeMap (Vec ℕ A) (Union ℕ P)) → AreAdded seed lg_k [] (lines_of_all texts) was → AreAdded seed lg_k (lines_of_all texts) (lines_of text) now → AreAdded seed lg_k [] (lines_of_all (texts ++ text ∷ [])) now
+  added_more texts text was now so_far more = record {
+    uniting = subst (λ (ls : List (List ℕ)). IsUniting seed lg_k ls now) (sym (lines_of_more texts text)) more.uniting;
+    flawless = subst (AreFlawless seed) (sym (lines_of_more texts text)) (all_joined (IsFlawless seed) (lines_of_all texts) (lines_of text) so_far.flawless more.flawless);
+  }
+
+  -- the line that was read is behind those so far
+  pub read_behind : (passed : ℕ) (before : List (List ℕ)) (groups : BTreeMap (Vec ℕ A) (Union ℕ P)) (old now new : Option (List ℕ)) (bytes : List ℕ) → ContinuesLines old now (λ lines. AreCounted seed lg_k passed before lines groups) → ReadsLine now new bytes true →
+      IfSome (option_map lines_of old) (IsBehind seed passed (without_lf bytes))
+  read_behind passed before groups None now new bytes so_far read = tt
+  read_behind passed before groups (Some text) None new bytes so_far read = absurd so_far
+  read_behind passed before groups (Some text) (Some left) new bytes so_far read = record {
+    before = so_far.0;
+    others = lines_of read.0;
+    parted = so_far.1 ∙ ap (λ ls. so_far.0 ++ ls) read.2;
+    flawless = so_far.2.added.flawless;
+    count = so_far.2.count;
+  }
+
+  -- the next source has the first line with a flaw
+  first_next : {S : Type 0} (number : ℕ) (flaw : LineFlaw) (remaining : S → Option (List ℕ)) (groups : BTreeMap (Vec ℕ A) (Union ℕ P)) (old now new : Option (List (List ℕ))) (source : S) → Continues old now (λ taken. AreAdded seed lg_k [] (lines_of_all taken) groups) → GivesNext remaining now new (Some source) →
+      ((before : List (List ℕ)) → IsUniting seed lg_k before groups → IfSome (option_map lines_of (remaining source)) (IsFirstFlawed seed number flaw)) → IfSome old (HasFirstFlawed seed number flaw)
+  first_next number flaw remaining groups None now new source so_far next first = tt
+  first_next number flaw remaining groups (Some texts) None new source so_far next first = absurd so_far
+  first_next number flaw remaining groups (Some texts) (Some left) new source so_far next first = record {
+    before = so_far.0;
+    text = next.text;
+    others = next.texts_left;
+    parted = so_far.1 ∙ ap (λ ts. so_far.0 ++ ts) next.parted;
+    flawless = so_far.2.flawless;
+    flawed = subst (λ (o : Option (List ℕ)). IfSome (option_map lines_of o) (IsFirstFlawed seed number flaw)) next.has (first (lines_of_all so_far.0) so_far.2.uniting);
+  }
+
+  -- a source fails: so do all
+  pub failed_next : {S : Type 0} (remaining : S → Option (List ℕ)) (groups : BTreeMap (Vec ℕ A) (Union ℕ P)) (old now new : Option (List (List ℕ))) (found : Option S) (source : S) (refusal : Option ErrorKind) (reason : Ununited) → Continues old now (λ taken. AreAdded seed lg_k [] (lines_of_all taken) groups) → GivesNext remaining now new found → found ≡ Some source →
+      refusal ≡ None → IsOfLines reason → ((before : List (List ℕ)) → IsUniting seed lg_k before groups → ReportsFirst seed (option_map lines_of (remaining source)) reason) → IsUnunited seed refusal old reason
+  failed_next remaining groups old now new found source refusal (Refused kind) so_far next is settled memory first = inr memory
+  failed_next remaining groups old now new found source refusal (Failed error) so_far next is settled memory first = settled
+  failed_next {S} remaining groups old now new found source refusal (Flawed number flaw) so_far next is settled memory first =
+      (settled, first_next number flaw remaining groups old now new source so_far (subst (λ (o : Option S). GivesNext remaining now new o) is next) first)
+
+-- what is reported of the line behind those without a flaw is reported of the first with one
+pub first_at : (seed passed : ℕ) (line : List ℕ) (lines : Option (List (List ℕ))) (reason : Ununited) → IsOfLine seed passed line reason → IfSome lines (IsBehind seed passed line) → ReportsFirst seed lines reason
+first_at seed passed line lines (Refused kind) is behind = tt
+first_at seed passed line lines (Failed error) is behind = tt
+first_at seed passed line None (Flawed number flaw) is behind = tt
+first_at seed passed line (Some all) (Flawed number flaw) is behind = record {
+  before = behind.before;
+  line = line;
+  others = behind.others;
+  parted = behind.parted;
+  flawless = behind.flawless;
+  numbered = is.0 ∙ ap (λ (n : ℕ). min (n + 1) (2 ^ 64 - 1)) (sym behind.count);
+  flawed = is.1;
+}
 
 -- ---- lines that are written one after another
 

@@ -1,6 +1,7 @@
 -- Groups of images in lines, and their unions.
-use Rattle.std.specs.Prelude.{ℕ, ◌≡◌, ◌⊎◌, ◌+◌, ◌-◌, ◌^◌, ◌<◌, min, ⊤, Bool, true, false, List, [], ◌∷◌, ◌++◌, map, Option, Some, None, IfSome, Vec, length, flat_map, unwrap_or, if◌then◌else◌}
+use Rattle.std.specs.Prelude.{ℕ, ◌≡◌, ◌⊎◌, ◌+◌, ◌-◌, ◌^◌, nat_lt, min, ⊤, Bool, true, false, List, [], ◌∷◌, ◌++◌, map, Option, Some, None, IfSome, Vec, length, flat_map, unwrap_or, if◌then◌else◌}
 use Rattle.std.specs.List.{filter, AllByRecursion}
+use Rattle.std.specs.Option.{option_map_or}
 use Rattle.std.specs.List.Sorted.{IsStrictlySortedBy}
 use Rattle.std.specs.BTreeMap.{BTreeMap, get_by}
 use Rattle.std.specs.Ordering.{nat_cmp}
@@ -11,8 +12,8 @@ use Rattle.sketch_base.specs.declared.error.ErrorKind.{ErrorKind}
 use Rattle.sketch_base.specs.declared.error.ErrorKind.TheVariants.{OutOfMemory}
 use Rattle.core_operators.specs.Union.{Union}
 use Rattle.theta_sketches.specs.Image.{IsReadable, written}
-use Rattle.lines.specs.Lines.{lines_of_all}
-use Rattle.line_sketches.specs.Keys.{HaveSameLines, IsAmong}
+use Rattle.lines.specs.Lines.{lines_of, lines_of_all}
+use Rattle.line_sketches.specs.Keys.{HaveSameLines}
 use Rattle.line_sketches.specs.Header.{flaw_of, image_length}
 use Rattle.line_sketches.specs.Hex.{hex_of, bytes_of_hex}
 use Rattle.line_sketches.specs.Unions.{IsReady, HasUnited, IsUnitedImage}
@@ -141,9 +142,13 @@ IsNextUnited seed lg_k lines names new (Some group) =
 
 -- ---- lines that can't be united
 
+-- whether something follows the image that bytes begin, if they begin one
+abbrev pub is_followed : List ℕ → Bool
+is_followed image = option_map_or (λ size. nat_lt size (length image)) (image_length image) false
+
 -- bytes are not read as one sketch of this seed, or something follows its image
 abbrev pub IsNotOneImage : (seed : ℕ) → List ℕ → Type 0
-IsNotOneImage seed image = (IsReadable image (seed_hash seed) → ⊥) ⊎ IfSome (image_length image) (λ size. size < length image)
+IsNotOneImage seed image = (IsReadable image (seed_hash seed) → ⊥) ⊎ (is_followed image ≡ true)
 
 -- a line has this flaw
 abbrev pub IsFlawed : (seed : ℕ) → (line : List ℕ) → LineFlaw → Type 0
@@ -156,18 +161,57 @@ abbrev pub IsNotAdded : (seed : ℕ) → (line : List ℕ) → NotAdded → Type
 IsNotAdded seed line Memory = ⊤
 IsNotAdded seed line (FlawedLine flaw) = IsFlawed seed line flaw
 
--- one of these lines has this flaw
-abbrev pub HasFlawed : (seed : ℕ) → LineFlaw → (lines : List (List ℕ)) → Type 0
-HasFlawed seed flaw lines = (line : List ℕ) × IsAmong line lines × IsFlawed seed line flaw
+-- a line has no flaw, and none of these has one
+abbrev pub IsFlawless : (seed : ℕ) → (line : List ℕ) → Type 0
+IsFlawless seed line = (flaw : LineFlaw) → IsFlawed seed line flaw → ⊥
 
--- a flaw is reported with the number of its line, which is behind this many others: the greatest number of 64 bits also for each later line
-abbrev pub IsAtLine : (passed : ℕ) → Ununited → Type 0
-IsAtLine passed (Flawed number flaw) = number ≡ min (passed + 1) (2 ^ 64 - 1)
-IsAtLine passed (Refused kind) = ⊤
-IsAtLine passed (Failed error) = ⊤
+abbrev pub AreFlawless : (seed : ℕ) → (lines : List (List ℕ)) → Type 0
+AreFlawless seed lines = AllByRecursion (IsFlawless seed) lines
 
--- images are not united: by a refusal before any is read, or by refused memory, or because a source failed or a line has a flaw
-abbrev pub IsUnunited : (seed : ℕ) → Option ErrorKind → (lines : Option (List (List ℕ))) → Ununited → Type 0
-IsUnunited seed refusal lines (Refused kind) = (refusal ≡ Some kind) ⊎ (kind ≡ OutOfMemory)
-IsUnunited seed refusal lines (Failed error) = refusal ≡ None
-IsUnunited seed refusal lines (Flawed number flaw) = (refusal ≡ None) × IfSome lines (HasFlawed seed flaw)
+-- lines are united, behind those before, and none of them has a flaw
+pub record AreAdded {A P : Type 0} (seed lg_k : ℕ) (before lines : List (List ℕ)) (groups : BTreeMap (Vec ℕ A) (Union ℕ P)) : Type 0 where
+  pub uniting : IsUniting seed lg_k (before ++ lines) groups
+  pub flawless : AreFlawless seed lines
+
+-- the first of these lines that has a flaw has this one, and this number: the greatest number of 64 bits also for each later line
+pub record IsFirstFlawed (seed number : ℕ) (flaw : LineFlaw) (lines : List (List ℕ)) : Type 0 where
+  pub before : List (List ℕ)
+  pub line : List ℕ
+  pub others : List (List ℕ)
+  pub parted : lines ≡ before ++ line ∷ others
+  pub flawless : AreFlawless seed before
+  pub numbered : number ≡ min (length before + 1) (2 ^ 64 - 1)
+  pub flawed : IsFlawed seed line flaw
+
+-- the first line of these texts that has a flaw has this one, and this number in its text
+pub record HasFirstFlawed (seed number : ℕ) (flaw : LineFlaw) (texts : List (List ℕ)) : Type 0 where
+  pub before : List (List ℕ)
+  pub text : List ℕ
+  pub others : List (List ℕ)
+  pub parted : texts ≡ before ++ text ∷ others
+  pub flawless : AreFlawless seed (lines_of_all before)
+  pub flawed : IsFirstFlawed seed number flaw (lines_of text)
+
+-- the line behind this many others has the flaw that is reported, with its number
+abbrev pub IsOfLine : (seed passed : ℕ) → (line : List ℕ) → Ununited → Type 0
+IsOfLine seed passed line (Flawed number flaw) = (number ≡ min (passed + 1) (2 ^ 64 - 1)) × IsFlawed seed line flaw
+IsOfLine seed passed line (Refused kind) = ⊤
+IsOfLine seed passed line (Failed error) = ⊤
+
+-- lines are not united: memory was refused, or their source failed, or a line has a flaw
+abbrev pub IsOfLines : Ununited → Type 0
+IsOfLines (Refused kind) = kind ≡ OutOfMemory
+IsOfLines (Failed error) = ⊤
+IsOfLines (Flawed number flaw) = ⊤
+
+-- .. and this is then the first line with a flaw
+abbrev pub ReportsFirst : (seed : ℕ) → (lines : Option (List (List ℕ))) → Ununited → Type 0
+ReportsFirst seed lines (Flawed number flaw) = IfSome lines (IsFirstFlawed seed number flaw)
+ReportsFirst seed lines (Refused kind) = ⊤
+ReportsFirst seed lines (Failed error) = ⊤
+
+-- images are not united: by a refusal before any is read, or by refused memory, or because a source failed or a line has a flaw, the first that has one
+abbrev pub IsUnunited : (seed : ℕ) → Option ErrorKind → (texts : Option (List (List ℕ))) → Ununited → Type 0
+IsUnunited seed refusal texts (Refused kind) = (refusal ≡ Some kind) ⊎ (kind ≡ OutOfMemory)
+IsUnunited seed refusal texts (Failed error) = refusal ≡ None
+IsUnunited seed refusal texts (Flawed number flaw) = (refusal ≡ None) × IfSome texts (HasFirstFlawed seed number flaw)

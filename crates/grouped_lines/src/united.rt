@@ -1,6 +1,6 @@
 //! Groups of images, each with the union of its images.
-ghost use Rattle.std.specs.Prelude.{◌≡◌, ◌<◌, ◌++◌, ◌∷◌, ℕ, List, [], length, true, None, IfOk, IfErr, IfSome, OnOk};
-ghost use Rattle.line_sketches.specs.Header.{image_length};
+ghost use Rattle.std.specs.Prelude.{◌≡◌, ◌++◌, ◌∷◌, ℕ, List, [], true, Some, None, IfOk, IfErr, OnOk};
+ghost use Rattle.line_sketches.specs.Hex.{bytes_of_hex};
 ghost use Rattle.sketch_base.specs.Seed.{seed_hash};
 ghost use Rattle.core_images.specs.Read.{IsRefused};
 ghost use Rattle.core_laws.specs.Refusal.{Refuses};
@@ -8,9 +8,9 @@ ghost use Rattle.core_laws.specs.Settings.{settings_refusal};
 ghost use Rattle.core_laws.specs.declared.TheConstants.{MAX_THETA};
 ghost use Rattle.core_operators.specs.Union.{empty_union};
 ghost use Rattle.theta_sketches.specs.Image.{IsReadable};
-ghost use Rattle.grouped_lines.specs.Tabs.{before_tab};
+ghost use Rattle.grouped_lines.specs.Tabs.{has_tab, before_tab, behind_tab};
 ghost use Rattle.grouped_lines.specs.United.{image_line, image_in, IsUniting, AreReady, UpdatesUnion, BeginsUnion};
-ghost use Rattle.grouped_lines.specs.United.{AreUnited, HasUnions, AreSound, IsNextUnited, IsNotOneImage, IsNotAdded};
+ghost use Rattle.grouped_lines.specs.United.{AreUnited, HasUnions, AreSound, IsNextUnited, is_followed, IsNotOneImage, IsNotAdded, IsFlawless};
 
 use crate::tabs::cut_last;
 use line_sketches::{
@@ -107,7 +107,7 @@ fn hash_of_seed(seed: u64) -> u16
 
 /// Whether something follows an image, since a second image there would be ignored.
 fn is_longer(image: &[u8]) -> bool
-    ensures { result ≡ true → IfSome (image_length image.now) (λ size. size < length image.now) }
+    ensures { result ≡ is_followed image.now }
 {
     match image_length(image) {
         Some(size) => size < image.len() as u64,
@@ -118,6 +118,8 @@ fn is_longer(image: &[u8]) -> bool
 /// The name of the group of a line, and the bytes that its digits spell.
 fn parts_of(alloc: Global, line: &[u8]) -> Result<(&[u8], Vec<u8>), NotAdded>
     ensures name { IfOk result (λ parts. parts.0.now ≡ before_tab line.now) }
+    ensures tab { OnOk result (has_tab line.now ≡ true) }
+    ensures digits { IfOk result (λ parts. bytes_of_hex (behind_tab line.now) ≡ Some parts.1.items) }
     ensures image { IfOk result (λ parts. parts.1.items ≡ image_in line.now) }
     ensures failed { (seed : ℕ) → IfErr result (IsNotAdded seed line.now) }
 {
@@ -217,6 +219,7 @@ impl UnitedGroups {
         ensures uniting { (lines : List (List ℕ))
             → IsUniting seed lg_k lines self.old.map
             → OnOk result (IsUniting seed lg_k (lines ++ line.now ∷ []) self.new.map) }
+        ensures flawless { (lines : List (List ℕ)) → IsUniting seed lg_k lines self.old.map → OnOk result (IsFlawless seed line.now) }
         ensures ready { OnOk result (AreReady seed self.new.map) }
         ensures failed { IfErr result (IsNotAdded seed line.now) }
     {

@@ -1,12 +1,12 @@
 //! Lines of readers, each with a group and its image, united by groups.
-ghost use Rattle.std.specs.Prelude.{◌≡◌, ◌++◌, ℕ, List, Option, flat_map, true, None, IfOk, IfErr, IfSome, OnOk};
+ghost use Rattle.std.specs.Prelude.{◌≡◌, ℕ, List, flat_map, true, None, IfOk, IfErr, IfSome, OnOk};
 ghost use Rattle.std.specs.Option.{option_map};
 ghost use Rattle.core_laws.specs.Refusal.{Refuses};
 ghost use Rattle.core_laws.specs.Settings.{settings_refusal};
 ghost use Rattle.core_laws.specs.declared.TheConstants.{MAX_THETA};
 ghost use Rattle.lines.specs.Lines.{lines_of, lines_of_all};
-ghost use Rattle.line_sketches.specs.Keys.{IsAmong};
-ghost use Rattle.grouped_lines.specs.United.{IsAtLine, IsNotAdded, IsUniting, AreReady, HasUnions, AreSound, AreUnited, AreUnitedLines, IsUnunited};
+ghost use Rattle.grouped_lines.specs.United.{IsNotAdded, IsUniting, AreReady, AreAdded, HasUnions, AreSound, AreUnited, AreUnitedLines};
+ghost use Rattle.grouped_lines.specs.United.{IsOfLine, IsOfLines, ReportsFirst, IsUnunited};
 ghost use Rattle.grouped_lines.specs.United.{AreSketchedTexts, IsSketchedText};
 ghost use Rattle.grouped_lines.specs.declared.groups.Grouping.{Grouping};
 
@@ -42,11 +42,8 @@ impl From<Error> for Ununited {
 
 /// The failure at the line behind this many others.
 fn failure_at(passed: u64, reason: NotAdded) -> Ununited
-    ensures failed { (seed : ℕ) (line : List ℕ) (lines : Option (List (List ℕ)))
-        → IsNotAdded seed line reason
-        → IfSome lines (IsAmong line)
-        → IsUnunited seed None lines result }
-    ensures numbered { IsAtLine passed result }
+    ensures memory { IsOfLines result }
+    ensures line { (seed : ℕ) (line : List ℕ) → IsNotAdded seed line reason → IsOfLine seed passed line result }
 {
     match reason {
         NotAdded::Memory => Ununited::Refused(Error::from(AllocError)),
@@ -66,9 +63,12 @@ fn add_lines<R: Read + Drop>(
     requires ready { AreReady seed groups.old.map }
     ensures lines { (before : List (List ℕ))
         → IsUniting seed lg_k before groups.old.map
-        → IfSome (R.remaining reader) (λ text. OnOk result (IsUniting seed lg_k (before ++ lines_of text) groups.new.map)) }
+        → IfSome (R.remaining reader) (λ text. OnOk result (AreAdded seed lg_k before (lines_of text) groups.new.map)) }
     ensures ready { OnOk result (AreReady seed groups.new.map) }
-    ensures failed { IfErr result (IsUnunited seed None (option_map lines_of (R.remaining reader))) }
+    ensures memory { IfErr result IsOfLines }
+    ensures first { (before : List (List ℕ))
+        → IsUniting seed lg_k before groups.old.map
+        → IfErr result (ReportsFirst seed (option_map lines_of (R.remaining reader))) }
 {
     let mut buffered = match BufReader::with_capacity(alloc, BLOCK, reader) {
         Ok(buffered) => buffered,
@@ -100,7 +100,7 @@ fn add_lines<R: Read + Drop>(
 ///
 /// Refused with `InvalidArgument` only for an `lg_k` that isn't from 4 to 26 or a seed whose seed hash is 0, and with
 /// `OutOfMemory`. If a source fails, or can't be opened, its error is returned, and for a wrong `lg_k` or seed nothing is
-/// read; no clause says so. A flaw is returned only if some line has it.
+/// read; no clause says so. A flaw is returned only for the first line that has one, with its number in its text.
 pub fn unite_groups<S: Sources>(
     alloc: Global,
     seed: u64,
@@ -110,7 +110,7 @@ pub fn unite_groups<S: Sources>(
     ensures united { IfSome (S.texts sources.old) (λ texts. IfOk result (HasUnions seed lg_k (lines_of_all texts))) }
     ensures sound { IfOk result AreSound }
     ensures accepted { OnOk result (settings_refusal lg_k MAX_THETA seed ≡ None) }
-    ensures failed { IfErr result (IsUnunited seed (settings_refusal lg_k MAX_THETA seed) (option_map lines_of_all (S.texts sources.old))) }
+    ensures failed { IfErr result (IsUnunited seed (settings_refusal lg_k MAX_THETA seed) (S.texts sources.old)) }
 {
     check_union(alloc, seed, lg_k)?;
     let mut groups = UnitedGroups::new(alloc);

@@ -1,11 +1,12 @@
 -- What a sketch of sums has after one line more, in folds, and what it returns after a trim.
-use Rattle.std.proofs.Common.{◌≡◌, ℕ, ◌^◌, Bool, true, false, cond, List, [], ◌∷◌, ◌++◌, length, Some, None, Result, Ok, Err, is_none, inl, inr, sym, ap, ◌∙◌}
-use Rattle.std.specs.Prelude.{◌==◌, IfOk, IfErr, OnOk}
+use Rattle.std.proofs.Common.{◌≡◌, ℕ, ◌+◌, ◌^◌, ◌≤◌, Bool, true, false, cond, eqb, List, [], ◌∷◌, ◌++◌, length, Some, None, Result, Ok, Err, is_none, inl, inr, refl, sym, ap, ◌∙◌, arith}
+use Rattle.std.specs.Prelude.{◌==◌, nat_lt, IfOk, IfErr, OnOk}
 use Rattle.std.specs.Option.{option_map_or}
+use Rattle.std.proofs.lemmas.Bool.Decides.{nat_tests}
 use Rattle.std.proofs.lemmas.List.{map-append}
 use Rattle.sketch_base.specs.Seed.{seed_hash}
 use Rattle.sketch_base.specs.declared.error.ErrorKind.{ErrorKind}
-use Rattle.sketch_base.specs.declared.error.ErrorKind.TheVariants.{Policy}
+use Rattle.sketch_base.specs.declared.error.ErrorKind.TheVariants.{OutOfMemory, Policy}
 use Rattle.core_compact.specs.CompactState.{Compact, IsAnswer}
 use Rattle.core_laws.specs.Cuts.{Retained, none_below}
 use Rattle.core_laws.specs.Folds.{Fold, fold_key, folded, folded_of, unmarked}
@@ -27,9 +28,10 @@ use Rattle.core_state.specs.Updatable.{Updatable, sketch_value}
 use Rattle.core_table.specs.HashTable.{MapTable, empty_table, after_insertion, trimmed_table}
 use Rattle.lines.specs.Keys.{line_hash}
 use Rattle.lines.specs.declared.key.Hashing.{Hashing}
-use Rattle.line_sums.specs.Sums.{folds_of_lines, sum_steps, sums_of_lines, sketch_of_sums, HasSummed}
-use Rattle.line_sums.specs.Refusals.{IsAddRefusal}
-use Rattle.line_sums.proofs.Exact.{folds_keep, not_none, trimmed_exact, ordered_result}
+use Rattle.line_sums.specs.Sums.{folds_of_lines, sum_at, sum_steps, sums_of_lines, sketch_of_sums, HasSummed}
+use Rattle.line_sums.specs.Refusals.{IsAddRefusal, IsPast}
+use Rattle.line_sums.proofs.Amounts.{sum_append}
+use Rattle.line_sums.proofs.Exact.{folds_keep, not_none, retained_number, trimmed_exact, ordered_result}
 
 has_one : {T : Type 0} (xs : List T) (x : T) → (length (xs ++ x ∷ []) == 0) ≡ false
 has_one [] x = not_none x []
@@ -53,6 +55,14 @@ add_refusal (Err e) hash value v takes is = elim is [
   | inl refused ↦ inr (upsert_policy hash value v e refused)
   | inr memory ↦ inl memory.0
 ]
+
+-- a sum that doesn't fit
+not_fitting : (b : Bool) (n : ℕ) → is_none (cond b (Some n) None) ≡ true → b ≡ false
+not_fitting true n e = sym e
+not_fitting false n e = refl
+
+not_within : (x y : ℕ) → is_none (unsigned_sum 64 x y) ≡ true → 2 ^ 64 ≤ x + y
+not_within x y none = let b : nat_lt (x + y) (2 ^ 64) ≡ false = not_fitting (nat_lt (x + y) (2 ^ 64)) (x + y) none in grind (arith, nat_tests, b)
 
 module _ (hashing : Hashing) (amount : List ℕ → ℕ) (lg_k : ℕ) where
   -- a new sketch has had no lines
@@ -93,6 +103,41 @@ module _ (hashing : Hashing) (amount : List ℕ → ℕ) (lg_k : ℕ) where
       → OnOk r (t.map ≡ after_insertion tuple_key hash (adds hash value) s.map) → OnOk r (t.empty ≡ false) → Refuses r (upsert_refusal tuple_key hash (adds hash value) s.map.kept) takes → OnOk r (HasSummed hashing amount lg_k (lines ++ line ∷ []) t)
   added_line (Ok x) lines line s t hash value takes hashed valued has after some allowed = more_summed lines line s t hash value hashed valued has after some allowed
   added_line (Err e) lines line s t hash value takes hashed valued has after some allowed = tt
+
+  -- the sum at the hash of one line more
+  sum_more : (lines : List (List ℕ)) (line : List ℕ) (hash value : ℕ) → hash ≡ line_hash hashing line → amount line ≡ value → sum_at hashing amount (lines ++ line ∷ []) hash ≡ sum_at hashing amount lines hash + value
+  sum_more lines line hash value hashed valued =
+      let itself : eqb (line_hash hashing line) hash ≡ true = grind (arith, nat_tests) in
+      let last : sum_at hashing amount (line ∷ []) hash ≡ amount line + 0 = ap (λ (b : Bool). cond b (amount line) 0 + 0) itself in
+      omega (arith, sum_append hashing amount lines (line ∷ []) hash, last, valued)
+
+  -- an addition is refused only if the sum would be 2^64 or more
+  great_sum : (lines : List (List ℕ)) (line : List ℕ) (s : Updatable (TupleEntry ℕ)) (hash value : ℕ) (kind : ErrorKind) → hash ≡ line_hash hashing line → amount line ≡ value → HasSummed hashing amount lg_k lines s →
+      upsert_refusal tuple_key hash (adds hash value) s.map.kept ≡ Some kind → 2 ^ 64 ≤ sum_at hashing amount (lines ++ line ∷ []) hash
+  unfolding upsert_refusal
+  great_sum lines line s hash value kind hashed valued has is =
+      let v : Retained (TupleEntry ℕ) = s.map.kept in
+      let total : sum_at hashing amount (lines ++ line ∷ []) hash ≡ sum_at hashing amount lines hash + value = sum_more lines line hash value hashed valued in
+      (elim (is_screened hash v.theta) as (λ b. cond b None (option_map_or (adds hash value).refuses_existing (entry_at tuple_key v.entries hash) (adds hash value).refuses_absent) ≡ Some kind → 2 ^ 64 ≤ sum_at hashing amount (lines ++ line ∷ []) hash) [
+        | true ↦ λ e. absurd (cc)
+        | false ↦ (elim (entry_at tuple_key v.entries hash) as (λ o. entry_at tuple_key v.entries hash ≡ o → option_map_or (adds hash value).refuses_existing o (adds hash value).refuses_absent ≡ Some kind → 2 ^ 64 ≤ sum_at hashing amount (lines ++ line ∷ []) hash) [
+          | Some x ↦ λ found e.
+              let so_far : x.summary ≡ sum_at hashing amount lines hash = retained_number hashing amount lines lg_k v hash x has.folds found in
+              let great : 2 ^ 64 ≤ x.summary + value = not_within x.summary value (was_refused (is_none (unsigned_sum 64 x.summary value)) kind e).0 in
+              omega (arith, total, so_far, great)
+          | None ↦ λ found e.
+              let great : 2 ^ 64 ≤ 0 + value = not_within 0 value (was_refused (is_none (unsigned_sum 64 0 value)) kind e).0 in
+              omega (arith, total, great)
+        ]) refl
+      ]) is
+
+  pub past_line : {T : Type 0} (r : Result T ErrorKind) (lines : List (List ℕ)) (line : List ℕ) (s : Updatable (TupleEntry ℕ)) (hash value : ℕ) (takes : Bool) → hash ≡ line_hash hashing line → amount line ≡ value → HasSummed hashing amount lg_k lines s
+      → Refuses r (upsert_refusal tuple_key hash (adds hash value) s.map.kept) takes → IfErr r (λ e. e ≡ Policy → IsPast hashing amount (lines ++ line ∷ []))
+  past_line (Ok x) lines line s hash value takes hashed valued has is = tt
+  past_line (Err e) lines line s hash value takes hashed valued has is = λ policy. elim is [
+    | inl refused ↦ (hash, great_sum lines line s hash value e hashed valued has refused)
+    | inr memory ↦ let none : OutOfMemory ≡ Policy = sym memory.0 ∙ policy in absurd (cc)
+  ]
 
   trimmed_value : (lines : List (List ℕ)) (s t : Updatable (TupleEntry ℕ)) → HasSummed hashing amount lg_k lines s → t.empty ≡ s.empty → t.map ≡ trimmed_table tuple_key s.map → sketch_value t ≡ sums_of_lines hashing amount lg_k lines
   trimmed_value lines s t has same after =

@@ -25,6 +25,10 @@ total_of [] = refl
 total_of (n ∷ ns) = ap (λ (z : ℤ). pos n +ℤ z) (total_of ns)
 
 module _ (hashing : Hashing) (amount : List ℕ → ℕ) where
+  pub sum_append : (xs ys : List (List ℕ)) (q : ℕ) → sum_at hashing amount xs q + sum_at hashing amount ys q ≡ sum_at hashing amount (xs ++ ys) q
+  sum_append [] ys q = omega arith
+  sum_append (x ∷ xs) ys q = omega (arith, sum_append xs ys q)
+
   more_at : (line : List ℕ) (lines : List (List ℕ)) (h : ℕ) (us : List ℕ) → sum_of (cond (eqb (line_hash hashing line) h) (us ++ amount line ∷ []) us) + sum_at hashing amount lines h ≡ sum_of us + sum_at hashing amount (line ∷ lines) h
   more_at line lines h us =
       elim (eqb (line_hash hashing line) h) as (λ b. sum_of (cond b (us ++ amount line ∷ []) us) + sum_at hashing amount lines h ≡ sum_of us + (cond b (amount line) 0 + sum_at hashing amount lines h)) [

@@ -1,7 +1,8 @@
 -- A sketch of sums, after a trim: the hashes that the theta sketch of the same lines retains, each with its exact sum.
-use Rattle.std.proofs.Common.{◌≡◌, ℕ, ◌^◌, true, false, cond, eqb, List, [], ◌∷◌, ◌++◌, length, map, Some, None, Result, Ok, Err, refl, sym, ap, subst, ◌∙◌, arith}
+use Rattle.std.proofs.Common.{◌≡◌, ℕ, ◌^◌, true, false, cond, eqb, ltb, List, [], ◌∷◌, ◌++◌, length, map, Some, None, Result, Ok, Err, refl, sym, ap, subst, ◌∙◌, arith}
 use Rattle.std.specs.Prelude.{pos, ⊤, ◌==◌, ◌-◌, IfOk, Bool}
 use Rattle.std.specs.List.{AllByRecursion}
+use Rattle.std.specs.Option.{option_map}
 use Rattle.std.proofs.lemmas.Bool.Decides.{nat_tests}
 use Rattle.std.proofs.lemmas.Int.{ints}
 use Rattle.sketch_base.specs.declared.error.ErrorKind.{ErrorKind}
@@ -10,17 +11,17 @@ use Rattle.core_laws.specs.Cuts.{Retained, cut, none_below}
 use Rattle.core_laws.specs.Entries.{hash_key}
 use Rattle.core_laws.specs.Folds.{Fold, Value, Refused, fold_key, folded_of, unmarked}
 use Rattle.core_laws.specs.Leaf.{KeepsHashes, kmin, leaf_from, is_updated, whole}
-use Rattle.core_laws.specs.Maps.{IsAscending, entry_at}
+use Rattle.core_laws.specs.Maps.{IsAscending, below, entry_at}
 use Rattle.core_laws.specs.Values.{Sketch, Empty, NonEmpty}
 use Rattle.core_laws.specs.declared.TheConstants.{MAX_THETA}
 use Rattle.core_laws.specs.declared.leaf.LeafStep.{LeafStep}
 use Rattle.core_laws.specs.declared.leaf.LeafStep.TheVariants.{Trim}
 use Rattle.core_laws.proofs.cuts.WithinWholeMaps.{found_key}
 use Rattle.core_laws.proofs.insertions.FoldedSteps.{folded-keeps}
-use Rattle.core_laws.proofs.insertions.Leaves.{leaf-sample, leaf_from-append, is_updated-append, trimmed}
+use Rattle.core_laws.proofs.insertions.Leaves.{leaf-sample, within-leaf, leaf_from-append, is_updated-append, trimmed}
 use Rattle.core_laws.proofs.maps.Ascending.{ascending-head, ascending-tail, each-filter}
-use Rattle.core_laws.proofs.maps.LookUps.{entry_at_head, entry_at_past, entry_at_rest}
-use Rattle.core_laws.proofs.maps.MappedEntries.{cut-map}
+use Rattle.core_laws.proofs.maps.LookUps.{entry_at-below, entry_at_head, entry_at_past, entry_at_rest}
+use Rattle.core_laws.proofs.maps.MappedEntries.{cut-map, entry_at-map}
 use Rattle.core_policies.specs.Sums.{adds, unsigned_sum, unsigned-summed}
 use Rattle.core_policies.proofs.FoldedValues.{updates-keep}
 use Rattle.core_slots.specs.Entry.{tuple_key, tuple_of}
@@ -76,6 +77,11 @@ cut_each key P k xs t all = each-filter P _ xs all
 pub folds_keep : KeepsHashes (fold_key tuple_key) (folded_of tuple_key adds)
 folds_keep = folded-keeps tuple_key adds (updates-keep (Some 0) (unsigned_sum 64))
 
+-- what is found below a theta is there
+found_below : {X : Type 0} (key : X → ℕ) (xs : List X) (t q : ℕ) (x : X) → entry_at key (below key xs t) q ≡ Some x → entry_at key xs q ≡ Some x
+found_below key xs t q x found =
+    (elim (ltb q t) as (λ b. cond b (entry_at key xs q) None ≡ Some x → entry_at key xs q ≡ Some x) [ true ↦ λ e. e | false ↦ λ e. absurd (cc) ]) (sym (entry_at-below key xs t q) ∙ found)
+
 module _ (hashing : Hashing) (amount : List ℕ → ℕ) (lines : List (List ℕ)) where
   abbrev steps : List (LeafStep ℕ)
   steps = sum_steps hashing amount lines
@@ -94,6 +100,16 @@ module _ (hashing : Hashing) (amount : List ℕ → ℕ) (lines : List (List ℕ
       ∙ ap (λ (us : List ℕ). total (map pos us)) (values_leaf (Unit {0}) q 0 0 steps)
       ∙ total_at hashing amount lines q in
       omega (arith, ints)
+
+  -- the number beside a hash that is retained, before a trim too
+  pub retained_number : (lg_k : ℕ) (v : Retained (TupleEntry ℕ)) (q : ℕ) (e : TupleEntry ℕ) → unmarked v ≡ folds_of_lines hashing amount lg_k lines → entry_at tuple_key v.entries q ≡ Some e → e.summary ≡ sum_at hashing amount lines q
+  retained_number lg_k v q e is found =
+      let folds : Retained (Fold (TupleEntry ℕ)) = folds_of_lines hashing amount lg_k lines in
+      let within = within-leaf (fold_key tuple_key) (folded_of tuple_key adds) folds_keep (2 ^ lg_k) MAX_THETA steps (omega arith) in
+      let marked : entry_at (fold_key tuple_key) (unmarked v).entries q ≡ Some (Value e) = entry_at-map Value tuple_key (fold_key tuple_key) (λ x. refl) v.entries q ∙ ap (option_map Value) found in
+      let kept : entry_at (fold_key tuple_key) (below (fold_key tuple_key) whole_map folds.theta) q ≡ Some (Value e) =
+      ap (λ (fs : List (Fold (TupleEntry ℕ))). entry_at (fold_key tuple_key) fs q) (sym within.entries_are) ∙ ap (λ (r : Retained (Fold (TupleEntry ℕ))). entry_at (fold_key tuple_key) r.entries q) (sym is) ∙ marked in
+      number_at q e (found_below (fold_key tuple_key) whole_map folds.theta q (Value e) kept)
 
   each_number : AllByRecursion (HasNumber (sum_at hashing amount lines)) whole_map
   each_number =

@@ -35,6 +35,7 @@ use Rattle.line_sketches.proofs.Compacts.{set_retained}
 use Rattle.line_sketches.proofs.Shards.{all_lines, lawful, sample, sets-joined}
 use Rattle.line_sums.specs.Sums.{sum_at, sums_of_lines}
 use Rattle.line_sums.specs.Unions.{add_folds}
+use Rattle.line_sums.proofs.Amounts.{sum_append}
 use Rattle.line_sums.proofs.Below.{is_found}
 use Rattle.line_sums.proofs.Exact.{HasNumber, each_found, injected, retained_by}
 
@@ -211,10 +212,6 @@ module _ (hashing : Hashing) (amount : List ℕ → ℕ) where
         | None ↦ λ none. λ c. no_sum lines q none c lines (λ line among. among)
       ]) refl)
 
-  sum_append : (xs ys : List (List ℕ)) (q : ℕ) → sum_at hashing amount xs q + sum_at hashing amount ys q ≡ sum_at hashing amount (xs ++ ys) q
-  sum_append [] ys q = omega arith
-  sum_append (x ∷ xs) ys q = omega (arith, sum_append xs ys q)
-
   -- parts joined to lines before them
   matches_parts : (parts : List (List (List ℕ))) (folds : List (Fold (TupleEntry ℕ))) (set : List ℕ) (n q : ℕ) → Matches q (entry_at (fold_key tuple_key) folds q) (entry_at hash_key set q) n →
       Matches q (entry_at (fold_key tuple_key) (joined_all (fold_key tuple_key) add_folds folds (map sum_map parts)) q) (entry_at hash_key (joined_all hash_key first_hash set (map (key_set hashing) parts)) q) (n + sum_at hashing amount (all_lines hashing parts) q)
@@ -227,7 +224,7 @@ module _ (hashing : Hashing) (amount : List ℕ → ℕ) where
       (subst (λ (p : Option ℕ). Matches q (either add_folds (entry_at (fold_key tuple_key) folds q) (entry_at (fold_key tuple_key) (sum_map part) q)) p (n + sum_at hashing amount part q)) (sym (entry_at-joined hash_key first_hash (λ x y same. same) (key_set hashing part) set q (ascending-apart hash_key (key_set hashing part) (up_set part))))
       (matches_both q n (sum_at hashing amount part q) (entry_at (fold_key tuple_key) folds q) (entry_at (fold_key tuple_key) (sum_map part) q) (entry_at hash_key set q) (entry_at hash_key (key_set hashing part) q) is (matches_part part q))) in
       let same : (n + sum_at hashing amount part q) + sum_at hashing amount (all_lines hashing parts) q ≡ n + sum_at hashing amount (all_lines hashing (part ∷ parts)) q =
-      omega (arith, sum_append part (all_lines hashing parts) q) in
+      omega (arith, sum_append hashing amount part (all_lines hashing parts) q) in
       subst (λ (m : ℕ). Matches q (entry_at (fold_key tuple_key) (joined_all (fold_key tuple_key) add_folds folds (map sum_map (part ∷ parts))) q) (entry_at hash_key (joined_all hash_key first_hash set (map (key_set hashing) (part ∷ parts))) q) m)
       same
       (matches_parts parts (joined (fold_key tuple_key) add_folds folds (sum_map part)) (joined hash_key first_hash set (key_set hashing part)) (n + sum_at hashing amount part q) q here)

@@ -1,17 +1,21 @@
 -- Pieces of a text, read one after another, and texts.
-use Rattle.std.proofs.Common.{◌≡◌, ℕ, List, [], ◌∷◌, ◌++◌, refl, sym, ap, subst, ◌∙◌, append_assoc, append-nil}
+use Rattle.std.proofs.Common.{◌≡◌, ℕ, List, [], ◌∷◌, ◌++◌, refl, sym, ap, subst, ◌∙◌, arith, append_assoc, append-nil}
 use Rattle.std.specs.Prelude.{IsTrue, is_some, IfSome, IfErr, Option, Some, None, Result, Ok, Err}
 use Rattle.std.specs.Io.KnownBytes.{Consumes}
+use Rattle.sketch_base.specs.declared.error.ErrorKind.{ErrorKind}
+use Rattle.sketch_base.specs.declared.error.ErrorKind.TheVariants.{Policy}
 use Rattle.core_slots.specs.declared.entry.TupleEntry.{TupleEntry}
 use Rattle.core_state.specs.Updatable.{Updatable}
 use Rattle.line_sketches.specs.Refusals.{HasFault}
+use Rattle.line_sketches.specs.Sources.{IsFirst, GivesNext, Continues}
 use Rattle.lines.specs.Lines.{lines_of, lines_of_all, lines_after, Lacks}
 use Rattle.lines.specs.declared.key.Hashing.{Hashing}
 use Rattle.lines.proofs.Texts.{lines_after-line, lines_after-lacking, lines_whole}
-use Rattle.line_sums.specs.Amounts.{amount_in, AreNumbers, IsOpenAddend}
-use Rattle.line_sums.specs.Sums.{HasAdded}
+use Rattle.line_sums.specs.Amounts.{amount_in, added_by, AreNumbers, IsOpenAddend}
+use Rattle.line_sums.specs.Sums.{sum_at, HasAdded}
 use Rattle.line_sums.specs.Reading.{Ends, HasTaken}
-use Rattle.line_sums.specs.Refusals.{LacksNumber, LacksNumberIn}
+use Rattle.line_sums.specs.Refusals.{LacksNumber, LacksNumberIn, IsPast, IsByPolicy, IsPastIn}
+use Rattle.line_sums.proofs.Amounts.{sum_append}
 use Rattle.line_sums.specs.declared.summing.Unsummed.{Unsummed}
 use Rattle.line_sums.specs.declared.summing.Unsummed.TheVariants.{Refused, Failed, PastGreatest, NotANumber}
 use Rattle.line_sums.specs.declared.addends.Amount.{Amount}
@@ -75,6 +79,26 @@ pub lacking_texts : (amount : Amount) (u : Unsummed) (texts : List (List ℕ)) �
 lacking_texts amount u texts fault = lacking_among amount (lines_of_all fault.front) (lines_of fault.faulty) (lines_of_all fault.back) (lines_of_all texts) u
     (sym (all_parted fault.front fault.faulty fault.back) ∙ ap lines_of_all (sym fault.parted)) fault.is_faulty
 
+-- ---- a sum of 2^64 or more among the sums of lines
+
+past_before : (hashing : Hashing) (amount : List ℕ → ℕ) (lines back all : List (List ℕ)) → lines ++ back ≡ all → IsPast hashing amount lines → IsPast hashing amount all
+past_before hashing amount lines back all whole past =
+    let same : sum_at hashing amount (lines ++ back) past.0 ≡ sum_at hashing amount all past.0 = ap (λ (ls : List (List ℕ)). sum_at hashing amount ls past.0) whole in
+    (past.0, omega (arith, sum_append hashing amount lines back past.0, same, past.1))
+
+past_among : (hashing : Hashing) (amount : Amount) (lines back all : List (List ℕ)) (u : Unsummed) → lines ++ back ≡ all → IsPastIn hashing amount lines u → IsPastIn hashing amount all u
+past_among hashing amount lines back all (PastGreatest number) whole past = past_before hashing (added_by amount) lines back all whole past
+past_among hashing amount lines back all (Refused kind) whole past = tt
+past_among hashing amount lines back all (Failed error) whole past = tt
+past_among hashing amount lines back all (NotANumber number) whole past = tt
+
+-- what is reported of an addition that the policy refused
+pub past_policy : (hashing : Hashing) (amount : Amount) (lines : List (List ℕ)) (kind : ErrorKind) (u : Unsummed) → IsByPolicy kind u → (kind ≡ Policy → IsPast hashing (added_by amount) lines) → IsPastIn hashing amount lines u
+past_policy hashing amount lines kind (PastGreatest number) policy past = past policy
+past_policy hashing amount lines kind (Refused other) policy past = tt
+past_policy hashing amount lines kind (Failed error) policy past = tt
+past_policy hashing amount lines kind (NotANumber number) policy past = tt
+
 module _ (hashing : Hashing) (amount : Amount) where
   -- nothing was read yet
   pub taken_nothing : (front : List ℕ) (s : Updatable (TupleEntry ℕ)) (last : OpenAddend) → IsOpenAddend hashing amount front last → HasTaken hashing amount front [] s s last
@@ -137,6 +161,17 @@ module _ (hashing : Hashing) (amount : Amount) where
   pub lacking_end : (text : List ℕ) (u : Unsummed) (r s : Updatable (TupleEntry ℕ)) (last : OpenAddend) (all : HasTaken hashing amount [] text r s last) → LacksNumberIn amount (lines_after all.left []) u → LacksNumberIn amount (lines_of text) u
   lacking_end text u r s last all lacking = lacking_behind amount all.ended (lines_after all.left []) (lines_of text) u (whole_text text r s last all) lacking
 
+  -- the lines around one that a block ends
+  line_parted : (front taken line others more block : List ℕ) (r s : Updatable (TupleEntry ℕ)) (last : OpenAddend) (was : HasTaken hashing amount front taken r s last) → Lacks 10 line → block ≡ taken ++ (line ++ 10 ∷ others) →
+      lines_after front (block ++ more) ≡ was.ended ++ (was.left ++ line) ∷ lines_after [] (others ++ more)
+  line_parted front taken line others more block r s last was lacks parted =
+      ap (λ (bs : List ℕ). lines_after front (bs ++ more)) parted
+      ∙ ap (lines_after front) (
+      append_assoc taken (line ++ 10 ∷ others) more ∙ ap (λ bs. taken ++ bs) (append_assoc line (10 ∷ others) more ∙ sym (append_assoc line (10 ∷ []) (others ++ more))) ∙ sym (append_assoc taken (line ++ 10 ∷ []) (others ++ more))
+      )
+      ∙ ends_line front taken was.left line was.ended was.ends lacks (others ++ more)
+      ∙ append_assoc was.ended ((was.left ++ line) ∷ []) (lines_after [] (others ++ more))
+
   -- .. is one of the lines that a block ends
   pub lacking_line : (front taken line others more block : List ℕ) (count : ℕ) (u : Unsummed) (r s : Updatable (TupleEntry ℕ)) (last : OpenAddend) (was : HasTaken hashing amount front taken r s last) → Lacks 10 line →
       block ≡ taken ++ (line ++ 10 ∷ others) → LacksNumber amount (was.left ++ line) count u → LacksNumberIn amount (lines_after front (block ++ more)) u
@@ -144,18 +179,17 @@ module _ (hashing : Hashing) (amount : Amount) where
     front = was.ended;
     faulty = was.left ++ line;
     back = lines_after [] (others ++ more);
-    parted =
-        ap (λ (bs : List ℕ). lines_after front (bs ++ more)) parted
-        ∙ ap (lines_after front) (
-        append_assoc taken (line ++ 10 ∷ others) more ∙ ap (λ bs. taken ++ bs) (append_assoc line (10 ∷ others) more ∙ sym (append_assoc line (10 ∷ []) (others ++ more))) ∙ sym (append_assoc taken (line ++ 10 ∷ []) (others ++ more))
-        )
-        ∙ ends_line front taken was.left line was.ended was.ends lacks (others ++ more)
-        ∙ append_assoc was.ended ((was.left ++ line) ∷ []) (lines_after [] (others ++ more));
+    parted = line_parted front taken line others more block r s last was lacks parted;
     is_faulty = lacking.0;
   }
   lacking_line front taken line others more block count (Refused kind) r s last was lacks parted lacking = tt
   lacking_line front taken line others more block count (Failed error) r s last was lacks parted lacking = tt
   lacking_line front taken line others more block count (PastGreatest number) r s last was lacks parted lacking = tt
+
+  -- the lines of a text, by those of its first bytes
+  text_parted : (text more read block : List ℕ) (r s : Updatable (TupleEntry ℕ)) (last : OpenAddend) (was : HasTaken hashing amount [] read r s last) → text ≡ (read ++ block) ++ more → was.ended ++ lines_after was.left (block ++ more) ≡ lines_of text
+  text_parted text more read block r s last was parted =
+      sym (was.ends (block ++ more)) ∙ ap (lines_after []) (sym (append_assoc read block more) ∙ sym parted) ∙ lines_whole text
 
   -- .. is one of the lines of a text whose first bytes are read
   pub lacking_text : (o new : Option (List ℕ)) (read block : List ℕ) (u : Unsummed) (r s : Updatable (TupleEntry ℕ)) (last : OpenAddend) (was : HasTaken hashing amount [] read r s last) → Consumes o new (read ++ block) →
@@ -163,9 +197,47 @@ module _ (hashing : Hashing) (amount : Amount) where
   lacking_text None new read block u r s last was consumes lacking = tt
   lacking_text (Some text) None read block u r s last was consumes lacking = absurd consumes
   lacking_text (Some text) (Some more) read block u r s last was consumes lacking =
-      let whole : was.ended ++ lines_after was.left (block ++ more) ≡ lines_of text =
-      sym (was.ends (block ++ more)) ∙ ap (lines_after []) (sym (append_assoc read block more) ∙ sym consumes) ∙ lines_whole text in
-      lacking_behind amount was.ended (lines_after was.left (block ++ more)) (lines_of text) u whole (lacking more)
+      lacking_behind amount was.ended (lines_after was.left (block ++ more)) (lines_of text) u (text_parted text more read block r s last was consumes) (lacking more)
+
+  -- ---- a sum of 2^64 or more
+
+  -- .. with a line that a block ends
+  pub past_block : (lines : List (List ℕ)) (front taken line others more block : List ℕ) (u : Unsummed) (r s : Updatable (TupleEntry ℕ)) (last : OpenAddend) (was : HasTaken hashing amount front taken r s last) → Lacks 10 line →
+      block ≡ taken ++ (line ++ 10 ∷ others) → IsPastIn hashing amount ((lines ++ was.ended) ++ (was.left ++ line) ∷ []) u → IsPastIn hashing amount (lines ++ lines_after front (block ++ more)) u
+  past_block lines front taken line others more block u r s last was lacks parted past =
+      let back : List (List ℕ) = lines_after [] (others ++ more) in
+      past_among hashing amount ((lines ++ was.ended) ++ (was.left ++ line) ∷ []) back (lines ++ lines_after front (block ++ more)) u
+      (append_assoc (lines ++ was.ended) ((was.left ++ line) ∷ []) back ∙ append_assoc lines was.ended ((was.left ++ line) ∷ back) ∙ ap (λ ls. lines ++ ls) (sym (line_parted front taken line others more block r s last was lacks parted)))
+      past
+
+  -- .. with the last line of a text
+  pub past_end : (lines : List (List ℕ)) (text : List ℕ) (u : Unsummed) (r s : Updatable (TupleEntry ℕ)) (last : OpenAddend) (all : HasTaken hashing amount [] text r s last) →
+      IsPastIn hashing amount ((lines ++ all.ended) ++ lines_after all.left []) u → IsPastIn hashing amount (lines ++ lines_of text) u
+  past_end lines text u r s last all past =
+      subst (λ (ls : List (List ℕ)). IsPastIn hashing amount ls u) (append_assoc lines all.ended (lines_after all.left []) ∙ ap (λ ls. lines ++ ls) (whole_text text r s last all)) past
+
+  -- .. with a line of a text whose first bytes are read
+  pub past_text : (lines : List (List ℕ)) (o new : Option (List ℕ)) (read block : List ℕ) (u : Unsummed) (r s : Updatable (TupleEntry ℕ)) (last : OpenAddend) (was : HasTaken hashing amount [] read r s last) → Consumes o new (read ++ block) →
+      ((more : List ℕ) → IsPastIn hashing amount ((lines ++ was.ended) ++ lines_after was.left (block ++ more)) u) → IfSome o (λ text. IsPastIn hashing amount (lines ++ lines_of text) u)
+  past_text lines None new read block u r s last was consumes past = tt
+  past_text lines (Some text) None read block u r s last was consumes past = absurd consumes
+  past_text lines (Some text) (Some more) read block u r s last was consumes past =
+      subst (λ (ls : List (List ℕ)). IsPastIn hashing amount ls u)
+      (append_assoc lines was.ended (lines_after was.left (block ++ more)) ∙ ap (λ ls. lines ++ ls) (text_parted text more read block r s last was consumes)) (past more)
+
+  -- .. with a line of the next text
+  pub past_next : {S : Type 0} (lg_k : ℕ) (remaining : S → Option (List ℕ)) (old now new : Option (List (List ℕ))) (o : Option S) (source : S) (u : Unsummed) (s : Updatable (TupleEntry ℕ)) →
+      Continues old now (λ taken. HasAdded hashing amount lg_k (lines_of_all taken) s) → GivesNext remaining now new o → o ≡ Some source →
+      ((lines : List (List ℕ)) → HasAdded hashing amount lg_k lines s → IfSome (remaining source) (λ text. IsPastIn hashing amount (lines ++ lines_of text) u)) → IfSome old (λ all. IsPastIn hashing amount (lines_of_all all) u)
+  past_next lg_k remaining None now new o source u s so_far gives is past = tt
+  past_next lg_k remaining (Some texts) None new o source u s so_far gives is past = absurd so_far
+  past_next lg_k remaining (Some texts) (Some left) new o source u s so_far gives is past =
+      let first : IsFirst remaining left source new = subst (GivesNext remaining (Some left) new) is gives in
+      let here : IsPastIn hashing amount (lines_of_all so_far.0 ++ lines_of first.text) u =
+      subst (λ (t : Option (List ℕ)). IfSome t (λ text. IsPastIn hashing amount (lines_of_all so_far.0 ++ lines_of text) u)) first.has (past (lines_of_all so_far.0) so_far.2) in
+      past_among hashing amount (lines_of_all so_far.0 ++ lines_of first.text) (lines_of_all first.texts_left) (lines_of_all texts) u
+      (append_assoc (lines_of_all so_far.0) (lines_of first.text) (lines_of_all first.texts_left) ∙ sym (all_parted so_far.0 first.text first.texts_left) ∙ ap lines_of_all (sym (so_far.1 ∙ ap (λ ts. so_far.0 ++ ts) first.parted)))
+      here
 
 -- the lines of texts and of one more
 pub lines_more : (texts : List (List ℕ)) (text : List ℕ) → lines_of_all texts ++ lines_of text ≡ lines_of_all (texts ++ text ∷ [])

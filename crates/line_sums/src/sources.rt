@@ -5,7 +5,7 @@ ghost use Rattle.core_laws.specs.declared.TheConstants.{MAX_THETA};
 ghost use Rattle.lines.specs.Lines.{lines_of, lines_of_all};
 ghost use Rattle.line_sums.specs.Sums.{HasAdded, sketch_of_sums};
 ghost use Rattle.line_sums.specs.Amounts.{added_by, AreNumbers};
-ghost use Rattle.line_sums.specs.Refusals.{LacksNumberIn, RefusesSums};
+ghost use Rattle.line_sums.specs.Refusals.{IsPastIn, LacksNumberIn, RefusesSums};
 
 use crate::addends::Amount;
 use crate::summing::{SumSketch, Unsummed, add_lines, finished, new_sketch};
@@ -29,6 +29,10 @@ fn add_source<A: Allocator + Clone, B: Allocator, R: Read>(
         → IfSome (R.remaining reader.old) (λ text.
         OnOk result (HasAdded hashing amount lg_k (lines ++ lines_of text) sketch.new.state)) }
     ensures numbered { IfSome (R.remaining reader.old) (λ text. IfErr result (LacksNumberIn amount (lines_of text))) }
+    ensures past { (lg_k : ℕ) (lines : List (List ℕ))
+        → HasAdded hashing amount lg_k lines sketch.old.state
+        → IfSome (R.remaining reader.old) (λ text.
+        IfErr result (IsPastIn hashing amount (lines ++ lines_of text))) }
     ensures refused { RefusesSums amount result None }
 {
     let mut block = vec![in alloc; 0u8; BLOCK]?;
@@ -49,6 +53,9 @@ fn add_sources<A: Allocator + Clone, B: Allocator + Clone + Drop, S: Sources>(
         → IfSome (S.texts sources.old) (λ texts.
         OnOk result (HasAdded hashing amount lg_k (lines_of_all texts) sketch.new.state)) }
     ensures numbered { IfSome (S.texts sources.old) (λ texts. IfErr result (LacksNumberIn amount (lines_of_all texts))) }
+    ensures past { (lg_k : ℕ)
+        → HasAdded hashing amount lg_k [] sketch.old.state
+        → IfSome (S.texts sources.old) (λ texts. IfErr result (IsPastIn hashing amount (lines_of_all texts))) }
     ensures refused { RefusesSums amount result None }
 {
     for _ in 0..u64::MAX {
@@ -68,7 +75,8 @@ fn add_sources<A: Allocator + Clone, B: Allocator + Clone + Drop, S: Sources>(
 ///
 /// Refused with `InvalidArgument` only for an `lg_k` that isn't from 4 to 26 or a seed whose seed hash is 0, and with
 /// `OutOfMemory`. A line that would make a sum 2^64 or more, or that adds no number, is an error that has the line's number
-/// in its text; a line is reported to add no number only if some line adds none. If a source fails, or can't be opened, its error is returned, and for a wrong `lg_k` or seed nothing is
+/// in its text. A line is reported to add no number only if some line adds none, and a sum to be 2^64 or more only if one of
+/// all lines is. If a source fails, or can't be opened, its error is returned, and for a wrong `lg_k` or seed nothing is
 /// read; no clause says so.
 pub fn sum_sources<A: Allocator + Clone + Drop, S: Sources>(
     alloc: A,
@@ -81,6 +89,7 @@ pub fn sum_sources<A: Allocator + Clone + Drop, S: Sources>(
         IfOk result (λ s. s ≡ sketch_of_sums hashing (added_by amount) lg_k (lines_of_all texts))) }
     ensures numbers { IfSome (S.texts sources.old) (λ texts. IfOk result (λ _. AreNumbers amount (lines_of_all texts))) }
     ensures numbered { IfSome (S.texts sources.old) (λ texts. IfErr result (LacksNumberIn amount (lines_of_all texts))) }
+    ensures past { IfSome (S.texts sources.old) (λ texts. IfErr result (IsPastIn hashing amount (lines_of_all texts))) }
     ensures refused { RefusesSums amount result (settings_refusal lg_k MAX_THETA hashing.seed) }
 {
     let mut sketch = new_sketch(alloc.clone()?, hashing.seed, lg_k)?;

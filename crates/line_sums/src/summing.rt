@@ -1,5 +1,6 @@
 //! Sketches of sums of the lines of a reader.
 ghost use Rattle.std.specs.Prelude.{◌≡◌, ◌<◌, ◌++◌, ◌∷◌, ℕ, List, [], length, IfOk, IfErr, OnOk, IfSome, None, true};
+ghost use Rattle.sketch_base.specs.declared.error.ErrorKind.TheVariants.{Policy};
 ghost use Rattle.core_laws.specs.Refusal.{Refuses};
 ghost use Rattle.core_laws.specs.Settings.{settings_refusal};
 ghost use Rattle.core_laws.specs.declared.TheConstants.{MAX_THETA};
@@ -9,7 +10,7 @@ ghost use Rattle.lines.specs.declared.key.Hashing.{Hashing};
 ghost use Rattle.line_sums.specs.Amounts.{IsOpenAddend};
 ghost use Rattle.line_sums.specs.Sums.{HasAdded, HasSummed, sketch_of_sums};
 ghost use Rattle.line_sums.specs.Reading.{HasTaken};
-ghost use Rattle.line_sums.specs.Refusals.{IsAddRefusal, IsLastingFailure, IsUnsummed, LacksNumber, LacksNumberIn, RefusesSums};
+ghost use Rattle.line_sums.specs.Refusals.{IsAddRefusal, IsByPolicy, IsLastingFailure, IsPast, IsPastIn, IsUnsummed, LacksNumber, LacksNumberIn, RefusesSums};
 ghost use Rattle.line_sums.specs.declared.addends.Amount.{Amount};
 
 use crate::addends::{Amount, OpenAddend};
@@ -82,6 +83,11 @@ fn add_value<A: Allocator + Clone>(
         → amount line ≡ value
         → HasSummed hashing amount lg_k lines sketch.old.state
         → OnOk result (HasSummed hashing amount lg_k (lines ++ line ∷ []) sketch.new.state) }
+    ensures past { (hashing : Hashing) (amount : List ℕ → ℕ) (lg_k : ℕ) (lines : List (List ℕ)) (line : List ℕ)
+        → hash ≡ line_hash hashing line
+        → amount line ≡ value
+        → HasSummed hashing amount lg_k lines sketch.old.state
+        → IfErr result (λ e. e ≡ Policy → IsPast hashing amount (lines ++ line ∷ [])) }
     ensures refused { IfErr result IsAddRefusal }
 {
     sketch.update_hash(hash, value)
@@ -92,6 +98,7 @@ fn not_added(error: Error, count: u64) -> Unsummed
     requires { IsAddRefusal error }
     ensures unsummed { (amount : Amount) → IsUnsummed amount None result }
     ensures number { (amount : Amount) (line : List ℕ) → LacksNumber amount line count result }
+    ensures policy { IsByPolicy error result }
     ensures retried { IsLastingFailure result }
 {
     if error.kind() == ErrorKind::Policy {
@@ -115,6 +122,10 @@ fn add_line<A: Allocator + Clone>(
     ensures number { (hashing : Hashing) (line : List ℕ)
         → IsOpenAddend hashing amount line last.now
         → IfErr result (LacksNumber amount line count) }
+    ensures past { (hashing : Hashing) (lg_k : ℕ) (lines : List (List ℕ)) (line : List ℕ)
+        → IsOpenAddend hashing amount line last.now
+        → HasAdded hashing amount lg_k lines sketch.old.state
+        → IfErr result (IsPastIn hashing amount (lines ++ line ∷ [])) }
     ensures refused { RefusesSums amount result None }
     ensures retried { IfErr result IsLastingFailure }
 {
@@ -143,6 +154,10 @@ fn take_block<A: Allocator + Clone>(
     ensures numbered { (front more : List ℕ)
         → IsOpenAddend hashing amount front last.old
         → IfErr result (LacksNumberIn amount (lines_after front (block.now ++ more))) }
+    ensures past { (front more : List ℕ) (lg_k : ℕ) (lines : List (List ℕ))
+        → IsOpenAddend hashing amount front last.old
+        → HasAdded hashing amount lg_k lines sketch.old.state
+        → IfErr result (IsPastIn hashing amount (lines ++ lines_after front (block.now ++ more))) }
     ensures refused { RefusesSums amount result None }
     ensures retried { IfErr result IsLastingFailure }
 {
@@ -173,6 +188,10 @@ fn take_last<A: Allocator + Clone>(
     ensures numbered { (hashing : Hashing) (front : List ℕ)
         → IsOpenAddend hashing amount front last.now
         → IfErr result (LacksNumberIn amount (lines_after front [])) }
+    ensures past { (hashing : Hashing) (lg_k : ℕ) (lines : List (List ℕ)) (front : List ℕ)
+        → IsOpenAddend hashing amount front last.now
+        → HasAdded hashing amount lg_k lines sketch.old.state
+        → IfErr result (IsPastIn hashing amount (lines ++ lines_after front [])) }
     ensures refused { RefusesSums amount result None }
     ensures retried { IfErr result IsLastingFailure }
 {
@@ -186,7 +205,8 @@ fn take_last<A: Allocator + Clone>(
 /// should be the sketch's, which is not checked. An interrupted read is repeated.
 ///
 /// Refused only with `OutOfMemory`. A line that would make a sum 2^64 or more, or that adds no number, is an error that
-/// has its number; a line is reported to add no number only if some line adds none. If the reader fails, its error is returned. After an error some first part of the lines is added; no
+/// has its number. A line is reported to add no number only if some line adds none, and a sum to be 2^64 or more only if one
+/// of all lines is. If the reader fails, its error is returned. After an error some first part of the lines is added; no
 /// clause says so.
 ///
 /// `block` has at least one byte, and its length is the most that one read gets. Its old contents are not used.
@@ -203,6 +223,10 @@ pub fn add_lines<A: Allocator + Clone, R: Read>(
         → IfSome (R.remaining reader.old) (λ text.
         OnOk result (HasAdded hashing amount lg_k (lines ++ lines_of text) sketch.new.state)) }
     ensures numbered { IfSome (R.remaining reader.old) (λ text. IfErr result (LacksNumberIn amount (lines_of text))) }
+    ensures past { (lg_k : ℕ) (lines : List (List ℕ))
+        → HasAdded hashing amount lg_k lines sketch.old.state
+        → IfSome (R.remaining reader.old) (λ text.
+        IfErr result (IsPastIn hashing amount (lines ++ lines_of text))) }
     ensures refused { RefusesSums amount result None }
     ensures retried { IfErr result IsLastingFailure }
 {

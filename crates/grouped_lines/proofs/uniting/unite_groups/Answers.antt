@@ -1,51 +1,49 @@
-use Rattle.std.proofs.Common.{ℕ, List, [], ◌++◌, ◌∷◌, sym, subst}
+use Rattle.std.proofs.Common.{[], ◌++◌, ◌∷◌, sym, subst}
 use Rattle.std.specs.Prelude.{IfErr}
-use Rattle.std.specs.Option.{option_map}
 use Rattle.std.proofs.lemmas.Result.{err_from_is_err_and}
 use Rattle.core_laws.specs.Settings.{settings_refusal}
 use Rattle.core_laws.specs.declared.TheConstants.{MAX_THETA}
 use Rattle.lines.specs.Lines.{lines_of, lines_of_all}
-use Rattle.line_sketches.proofs.Turns.{continues_itself, continues_next, continues_end, if_any}
-use Rattle.grouped_lines.specs.United.{IsUniting, HasUnions, IsUnunited}
-use Rattle.grouped_lines.proofs.LinesInGroups.{lines_of_more}
+use Rattle.line_sketches.proofs.Turns.{continues_itself, continues_next, continues_end}
+use Rattle.grouped_lines.specs.United.{HasUnions, AreAdded, IsUnunited}
 use Rattle.grouped_lines.proofs.ReadInTurn.{if_some}
-use Rattle.grouped_lines.proofs.UnitedInTurn.{failed_next}
+use Rattle.grouped_lines.proofs.UnitedInTurn.{added_more, failed_next}
 use Rattle.grouped_lines.proofs.uniting.unite_groups.Goals as goal
 
 pub each_source-init : goal.each_source-init
 each_source-init g c = record {
-  uniting = continues_itself (g.S.Sources.texts c.args.sources.now) (λ taken. IsUniting c.args.seed c.args.lg_k (lines_of_all taken) c.new-groups.result.map) (c.new-groups.ensures.uniting c.args.seed c.args.lg_k);
+  added = continues_itself (g.S.Sources.texts c.args.sources.now) (λ taken. AreAdded c.args.seed c.args.lg_k [] (lines_of_all taken) c.new-groups.result.map)
+      (record {
+        uniting = c.new-groups.ensures.uniting c.args.seed c.args.lg_k;
+        flawless = tt;
+      });
   ready = c.new-groups.ensures.ready c.args.seed;
-  parted = continues_itself (g.S.Sources.texts c.args.sources.now) (λ taken. Unit {0}) tt;
 }
 
 pub each_source-preserved : goal.each_source-preserved
 each_source-preserved g c =
     let seed = c.args.seed in
     let lg_k = c.args.lg_k in
+    let was = c.each_source.groups.map in
     let now = c.add_lines.new.groups.map in record {
-      uniting =
-          continues_next g.S.Source.Read.remaining (λ taken. IsUniting seed lg_k (lines_of_all taken) c.each_source.groups.map) (λ taken. IsUniting seed lg_k (lines_of_all taken) now)
-          (g.S.Sources.texts c.args.sources.now) (g.S.Sources.texts c.each_source.sources) (g.S.Sources.texts c.next_source.new.self) c.in-Ok-Some.field-0 c.in-Ok-Some.source c.each_source.invariant.uniting c.in-Ok-Some.ensures c.in-Ok-Some.field-0-is
+      added =
+          continues_next g.S.Source.Read.remaining (λ taken. AreAdded seed lg_k [] (lines_of_all taken) was) (λ taken. AreAdded seed lg_k [] (lines_of_all taken) now)
+          (g.S.Sources.texts c.args.sources.now) (g.S.Sources.texts c.each_source.sources) (g.S.Sources.texts c.next_source.new.self) c.in-Ok-Some.field-0 c.in-Ok-Some.source c.each_source.invariant.added c.in-Ok-Some.ensures c.in-Ok-Some.field-0-is
           (λ done holds.
-          if_some (g.S.Source.Read.remaining c.in-Ok-Some.source) (λ text. IsUniting seed lg_k (lines_of_all done ++ lines_of text) now) (λ text. IsUniting seed lg_k (lines_of_all (done ++ text ∷ [])) now)
-          (λ text more. subst (λ (lines : List (List ℕ)). IsUniting seed lg_k lines now) (sym (lines_of_more done text)) more)
-          (c.in_ok-add_lines-in-Ok-Some.ensures.lines (lines_of_all done) holds));
+          if_some (g.S.Source.Read.remaining c.in-Ok-Some.source) (λ text. AreAdded seed lg_k (lines_of_all done) (lines_of text) now) (λ text. AreAdded seed lg_k [] (lines_of_all (done ++ text ∷ [])) now)
+          (λ text more. added_more seed lg_k done text was now holds more)
+          (c.in_ok-add_lines-in-Ok-Some.ensures.lines (lines_of_all done) holds.uniting));
       ready = c.in_ok-add_lines-in-Ok-Some.ensures.ready;
-      parted =
-          continues_next g.S.Source.Read.remaining (λ taken. Unit {0}) (λ taken. Unit {0})
-          (g.S.Sources.texts c.args.sources.now) (g.S.Sources.texts c.each_source.sources) (g.S.Sources.texts c.next_source.new.self) c.in-Ok-Some.field-0 c.in-Ok-Some.source c.each_source.invariant.parted c.in-Ok-Some.ensures c.in-Ok-Some.field-0-is
-          (λ done one. if_any (g.S.Source.Read.remaining c.in-Ok-Some.source));
     }
 
 pub returns-in-Ok-None-clause-united : goal.returns-in-Ok-None-clause-united
 returns-in-Ok-None-clause-united g c =
     let seed = c.args.seed in
     let lg_k = c.args.lg_k in
-    if_some (g.S.Sources.texts c.args.sources.now) (λ texts. IsUniting seed lg_k (lines_of_all texts) c.each_source.groups.map) (λ texts. HasUnions seed lg_k (lines_of_all texts) c.sorted.result)
-    (λ texts uniting. c.sorted.ensures.unions seed lg_k (lines_of_all texts) uniting)
-    (continues_end g.S.Source.Read.remaining (λ taken. IsUniting seed lg_k (lines_of_all taken) c.each_source.groups.map) (λ taken. IsUniting seed lg_k (lines_of_all taken) c.each_source.groups.map)
-    (g.S.Sources.texts c.args.sources.now) (g.S.Sources.texts c.each_source.sources) (g.S.Sources.texts c.next_source.new.self) c.in-Ok-None.field-0 c.each_source.invariant.uniting c.in-Ok-None.ensures c.in-Ok-None.field-0-is)
+    if_some (g.S.Sources.texts c.args.sources.now) (λ texts. AreAdded seed lg_k [] (lines_of_all texts) c.each_source.groups.map) (λ texts. HasUnions seed lg_k (lines_of_all texts) c.sorted.result)
+    (λ texts added. c.sorted.ensures.unions seed lg_k (lines_of_all texts) added.uniting)
+    (continues_end g.S.Source.Read.remaining (λ taken. AreAdded seed lg_k [] (lines_of_all taken) c.each_source.groups.map) (λ taken. AreAdded seed lg_k [] (lines_of_all taken) c.each_source.groups.map)
+    (g.S.Sources.texts c.args.sources.now) (g.S.Sources.texts c.each_source.sources) (g.S.Sources.texts c.next_source.new.self) c.in-Ok-None.field-0 c.each_source.invariant.added c.in-Ok-None.ensures c.in-Ok-None.field-0-is)
 
 pub returns-in_err-add_lines-in-Ok-Some-clause-failed : goal.returns-in_err-add_lines-in-Ok-Some-clause-failed
 returns-in_err-add_lines-in-Ok-Some-clause-failed g c =
@@ -54,6 +52,6 @@ returns-in_err-add_lines-in-Ok-Some-clause-failed g c =
     let texts = g.S.Sources.texts c.args.sources.now in
     let result = c.from_residual-in_err-add_lines-in-Ok-Some.result in
     let p = err_from_is_err_and result c.from_residual-in_err-add_lines-in-Ok-Some.ensures.1 in
-    let failed = failed_next seed g.S.Source.Read.remaining texts (g.S.Sources.texts c.each_source.sources) (g.S.Sources.texts c.next_source.new.self) c.in-Ok-Some.field-0 c.in-Ok-Some.source refusal c.in_err-add_lines-in-Ok-Some.field-0.0
-    c.each_source.invariant.parted c.in-Ok-Some.ensures c.in-Ok-Some.field-0-is c.in_ok-check_union.ensures.refused c.in_err-add_lines-in-Ok-Some.ensures.failed in
-    subst (λ r. IfErr r (IsUnunited seed refusal (option_map lines_of_all texts))) (sym p.1) (subst (IsUnunited seed refusal (option_map lines_of_all texts)) (sym p.2) failed)
+    let failed = failed_next seed c.args.lg_k g.S.Source.Read.remaining c.each_source.groups.map texts (g.S.Sources.texts c.each_source.sources) (g.S.Sources.texts c.next_source.new.self) c.in-Ok-Some.field-0 c.in-Ok-Some.source refusal c.in_err-add_lines-in-Ok-Some.field-0.0
+    c.each_source.invariant.added c.in-Ok-Some.ensures c.in-Ok-Some.field-0-is c.in_ok-check_union.ensures.refused c.in_err-add_lines-in-Ok-Some.ensures.memory c.in_err-add_lines-in-Ok-Some.ensures.first in
+    subst (λ r. IfErr r (IsUnunited seed refusal texts)) (sym p.1) (subst (IsUnunited seed refusal texts) (sym p.2) failed)

@@ -5,8 +5,8 @@ use Rattle.std.proofs.lemmas.Result.{err_from_is_err_and}
 use Rattle.std.proofs.KnownBytes.{Consumes-nil, Consumes-whole, Consumes-trans, Consumes-kept}
 use Rattle.lines.specs.Lines.{lines_of}
 use Rattle.line_sums.specs.Sums.{HasAdded}
-use Rattle.line_sums.specs.Refusals.{LacksNumberIn}
-use Rattle.line_sums.proofs.Pieces.{taken_nothing, taken_both, taken_all, lacking_end, lacking_text}
+use Rattle.line_sums.specs.Refusals.{LacksNumberIn, IsPastIn}
+use Rattle.line_sums.proofs.Pieces.{taken_nothing, taken_both, taken_all, lacking_end, lacking_text, past_end, past_text}
 use Rattle.line_sums.proofs.summing.add_lines.Goals.{in-Ok+in_ok-count-in-Ok, in-Err+else-ne}
 use Rattle.line_sums.proofs.summing.add_lines.Goals as goal
 
@@ -74,3 +74,37 @@ returns-in_err-count-in-Ok-clause-numbered g c =
     (lacking_text c.args.hashing amount known left inv.0 block u c.args.sketch.now.state c.loop.sketch.state c.loop.last inv.2
     (Consumes-trans known (g.R.Read.remaining c.loop.reader) left inv.0 block inv.1 c.in-Ok.ensures.bytes.0)
     (λ more. c.in_err-count-in-Ok.ensures.numbered inv.2.left more inv.2.is_open)))
+
+pub returns-in_err-take_last-in-Ok-eq0-clause-past : goal.returns-in_err-take_last-in-Ok-eq0-clause-past
+returns-in_err-take_last-in-Ok-eq0-clause-past g c = λ lg_k lines has.
+    let inv = c.loop.invariant in
+    let known = g.R.Read.remaining c.args.reader.now in
+    let left = g.R.Read.remaining c.read.new.self in
+    let hashing = c.args.hashing in
+    let amount = c.args.amount in
+    let u = c.in_err-take_last-in-Ok-eq0.field-0.0 in
+    let p = err_from_is_err_and c.from_residual.result c.from_residual.ensures.1 in
+    let all = inv.0 ++ take c.in-Ok-eq0.field-0 c.read.new.buf in
+    let none : all ≡ inv.0 = ap (λ n. inv.0 ++ take n c.read.new.buf) c.in-Ok-eq0.field-0-test ∙ append-nil inv.0 in
+    subst (λ r. IfSome known (λ text. IfErr r (IsPastIn hashing amount (lines ++ lines_of text)))) (sym p.1) (subst (λ v. IfSome known (λ text. IsPastIn hashing amount (lines ++ lines_of text) v)) (sym p.2)
+    (Consumes-whole known left all (λ text. IsPastIn hashing amount (lines ++ lines_of text) u)
+    (Consumes-trans known (g.R.Read.remaining c.loop.reader) left inv.0 (take c.in-Ok-eq0.field-0 c.read.new.buf) inv.1 c.in-Ok-eq0.ensures.bytes.0)
+    (c.in-Ok-eq0.ensures.bytes.1 c.in-Ok-eq0.field-0-test (omega arith))
+    (subst (λ bs. IsPastIn hashing amount (lines ++ lines_of bs) u) (sym none)
+    (past_end hashing amount lines inv.0 u c.args.sketch.now.state c.loop.sketch.state c.loop.last inv.2
+    (c.in_err-take_last-in-Ok-eq0.ensures.past hashing lg_k (lines ++ inv.2.ended) inv.2.left inv.2.is_open (inv.2.added lg_k lines has))))))
+
+pub returns-in_err-count-in-Ok-clause-past : goal.returns-in_err-count-in-Ok-clause-past
+returns-in_err-count-in-Ok-clause-past g c = λ lg_k lines has.
+    let inv = c.loop.invariant in
+    let known = g.R.Read.remaining c.args.reader.now in
+    let left = g.R.Read.remaining c.read.new.self in
+    let hashing = c.args.hashing in
+    let amount = c.args.amount in
+    let block = take c.in-Ok.length c.read.new.buf in
+    let u = c.in_err-count-in-Ok.field-0.0 in
+    let p = err_from_is_err_and c.from_residual-in_err-count-in-Ok.result c.from_residual-in_err-count-in-Ok.ensures.1 in
+    subst (λ r. IfSome known (λ text. IfErr r (IsPastIn hashing amount (lines ++ lines_of text)))) (sym p.1) (subst (λ v. IfSome known (λ text. IsPastIn hashing amount (lines ++ lines_of text) v)) (sym p.2)
+    (past_text hashing amount lines known left inv.0 block u c.args.sketch.now.state c.loop.sketch.state c.loop.last inv.2
+    (Consumes-trans known (g.R.Read.remaining c.loop.reader) left inv.0 block inv.1 c.in-Ok.ensures.bytes.0)
+    (λ more. c.in_err-count-in-Ok.ensures.past inv.2.left more lg_k (lines ++ inv.2.ended) inv.2.is_open (inv.2.added lg_k lines has))))

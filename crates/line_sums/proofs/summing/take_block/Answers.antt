@@ -3,8 +3,8 @@ use Rattle.std.specs.Prelude.{IfErr}
 use Rattle.std.proofs.lemmas.Result.{err_from_is_err_and}
 use Rattle.lines.specs.Lines.{lines_after}
 use Rattle.line_sums.specs.Reading.{HasTaken}
-use Rattle.line_sums.specs.Refusals.{LacksNumberIn}
-use Rattle.line_sums.proofs.Pieces.{taken_nothing, taken_line, taken_rest, lacking_line}
+use Rattle.line_sums.specs.Refusals.{LacksNumberIn, IsPastIn}
+use Rattle.line_sums.proofs.Pieces.{taken_nothing, taken_line, taken_rest, lacking_line, past_block}
 use Rattle.line_sums.proofs.summing.take_block.Goals as goal
 
 pub take_each-init : goal.take_each-init
@@ -39,3 +39,15 @@ returns-in_err-add_line-clause-numbered g c = λ front more is.
     subst (λ r. IfErr r (LacksNumberIn c.args.amount lines)) (sym p.1) (subst (LacksNumberIn c.args.amount lines) (sym p.2)
     (lacking_line c.args.hashing c.args.amount front inv.0 line c.in-Some.others.now more c.args.block.now c.take_each.count c.in_err-add_line.field-0.0 c.args.sketch.now.state c.take_each.sketch.state c.take_each.last was
     c.in-Some.ensures.line (inv.1 ∙ ap (λ bs. inv.0 ++ bs) c.in-Some.ensures.parts) (c.in_err-add_line.ensures.number c.args.hashing (was.left ++ line) (c.extend.ensures c.args.hashing was.left was.is_open))))
+
+pub returns-in_err-add_line-clause-past : goal.returns-in_err-add_line-clause-past
+returns-in_err-add_line-clause-past g c = λ front more lg_k lines is has.
+    let p = err_from_is_err_and c.from_residual.result c.from_residual.ensures.1 in
+    let inv = c.take_each.invariant in
+    let was = inv.2 front is in
+    let line = c.in-Some.piece.now in
+    let all = lines ++ lines_after front (c.args.block.now ++ more) in
+    subst (λ r. IfErr r (IsPastIn c.args.hashing c.args.amount all)) (sym p.1) (subst (IsPastIn c.args.hashing c.args.amount all) (sym p.2)
+    (past_block c.args.hashing c.args.amount lines front inv.0 line c.in-Some.others.now more c.args.block.now c.in_err-add_line.field-0.0 c.args.sketch.now.state c.take_each.sketch.state c.take_each.last was
+    c.in-Some.ensures.line (inv.1 ∙ ap (λ bs. inv.0 ++ bs) c.in-Some.ensures.parts)
+    (c.in_err-add_line.ensures.past c.args.hashing lg_k (lines ++ was.ended) (was.left ++ line) (c.extend.ensures c.args.hashing was.left was.is_open) (was.added lg_k lines has))))

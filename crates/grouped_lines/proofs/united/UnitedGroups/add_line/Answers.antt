@@ -1,8 +1,9 @@
-use Rattle.std.proofs.Common.{ℕ, ◌<◌, List, length, subst, sym, ◌∙◌, inr}
-use Rattle.std.specs.Prelude.{IfErr, IfSome}
+use Rattle.std.proofs.Common.{subst, sym, ap, ◌∙◌, inr}
+use Rattle.std.specs.Prelude.{IfErr}
 use Rattle.std.proofs.lemmas.Result.{err_from_is_err_and}
-use Rattle.line_sketches.specs.Header.{image_length}
-use Rattle.grouped_lines.specs.United.{IsNotAdded}
+use Rattle.grouped_lines.specs.United.{is_followed, IsNotAdded}
+use Rattle.grouped_lines.proofs.ImagesInGroups.{last_read}
+use Rattle.grouped_lines.proofs.UnitedInTurn.{no_flaw}
 use Rattle.grouped_lines.proofs.united.UnitedGroups.add_line.Goals as goal
 
 pub returns-in_err-name-clause-failed : goal.returns-in_err-name-clause-failed
@@ -16,8 +17,14 @@ returns-then-is_longer-clause-failed c =
     let image = c.in_ok-name.image.items in
     let line = c.args.line.now in
     c.not_one_image.ensures line (c.as_slice-then-is_longer.ensures.value ∙ c.in_ok-name.ensures.image)
-    (inr (subst (λ (bytes : List ℕ). IfSome (image_length bytes) (λ size. size < length bytes)) (c.as_slice.ensures.value ∙ sym c.as_slice-then-is_longer.ensures.value) (c.is_longer.ensures c.if-is_longer.true)))
+    (inr (ap is_followed (c.as_slice-then-is_longer.ensures.value ∙ sym c.as_slice.ensures.value) ∙ sym c.is_longer.ensures ∙ c.if-is_longer.true))
 
 pub returns-in-Ok-clause-uniting : goal.returns-in-Ok-clause-uniting
 returns-in-Ok-clause-uniting c = λ lines uniting.
     c.in-Ok.ensures.uniting lines c.args.line.now c.in_ok-name.ensures.name (c.as_slice-3.ensures.value ∙ c.in_ok-name.ensures.image) uniting
+
+pub returns-in-Ok-clause-flawless : goal.returns-in-Ok-clause-flawless
+returns-in-Ok-clause-flawless c = λ lines uniting.
+    let alone = ap is_followed (sym c.in_ok-name.ensures.image ∙ sym c.as_slice.ensures.value) ∙ sym c.is_longer.ensures ∙ c.if-is_longer.false in
+    no_flaw c.args.seed c.args.line.now _ c.in_ok-name.ensures.tab c.in_ok-name.ensures.digits alone
+    (last_read c.args.seed c.args.lg_k lines c.args.line.now c.add_image.new.self.map (returns-in-Ok-clause-uniting c lines uniting))
