@@ -42,9 +42,10 @@ abbrev pub WritesValue : {V : Type 0} → Option V → (before : V) → (status 
 WritesValue None before status after = (status ≡ 1) × (after ≡ before)
 WritesValue (Some value) before status after = (status ≡ 0) × (after ≡ value)
 
--- a call that fills a handle from two objects: without either it is refused with 1, and the handle is as before
-abbrev pub FillsFromTwo : {S T : Type 0} → (IsMade : S → S → T → Type 0) → (IsRefused : S → S → ℕ → Type 0)
+-- a call that fills a handle from two objects, only if it accepts them: without either it is refused with 1, and the handle is as
+-- before
+abbrev pub FillsFromTwo : {S T : Type 0} → (AreAccepted : S → S → Type 0) → (IsMade : S → S → T → Type 0) → (IsRefused : S → S → ℕ → Type 0)
     → (first second : Option S) → (old : Option T) → (status : ℕ) → (new : Option T) → Type 0
-FillsFromTwo IsMade IsRefused None second old status new = (status ≡ 1) × (new ≡ old)
-FillsFromTwo IsMade IsRefused (Some a) None old status new = (status ≡ 1) × (new ≡ old)
-FillsFromTwo IsMade IsRefused (Some a) (Some b) old status new = Fills (IsMade a b) (IsRefused a b) old status new
+FillsFromTwo AreAccepted IsMade IsRefused None second old status new = (status ≡ 1) × (new ≡ old)
+FillsFromTwo AreAccepted IsMade IsRefused (Some a) None old status new = (status ≡ 1) × (new ≡ old)
+FillsFromTwo AreAccepted IsMade IsRefused (Some a) (Some b) old status new = Fills (λ made. AreAccepted a b × IsMade a b made) (IsRefused a b) old status new

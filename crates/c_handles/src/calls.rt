@@ -1,6 +1,6 @@
 //! Calls on objects of several kinds, once for all.
 ghost use Rattle.std.specs.Prelude.{◌≡◌, true, option_map};
-ghost use Rattle.c_handles.specs.Calls.{OnObject, OnObjectWith, Fills, FillsFrom, WritesValue};
+ghost use Rattle.c_handles.specs.Calls.{OnObject, OnObjectWith, Fills, FillsFrom, FillsFromTwo, WritesValue};
 ghost use Rattle.sketch_objects.specs.Bounds.{is_state, wide};
 ghost use Rattle.sketch_objects.specs.Buffer.{WritesOf};
 ghost use Rattle.sketch_objects.specs.Status.{IsMemoryRefusal};
@@ -9,8 +9,8 @@ use crate::owned::Owned;
 use sketch_objects::bounds::Wide;
 use sketch_objects::buffer::put_made;
 use sketch_objects::objects::{
-    Accepts, AcceptsImages, CanCopy, CanReset, CanTrim, FromImage, HasCompact, HasImage, HasState,
-    HasTotal,
+    Accepts, AcceptsImages, CanCopy, CanReset, CanTrim, FromImage, HasCompact, HasDifference,
+    HasImage, HasState, HasTotal,
 };
 use sketch_objects::state::State;
 use sketch_objects::status::{INVALID_ARGUMENT, OK};
@@ -83,6 +83,29 @@ impl<T: CanCopy> Owned<T> {
     {
         match self.get() {
             Some(object) => out.put_or(alloc, object.copied()),
+            None => INVALID_ARGUMENT,
+        }
+    }
+}
+
+impl<T: HasDifference> Owned<T> {
+    /// Puts the difference of the sketch and the one behind another pointer into a third pointer.
+    pub fn difference(
+        &mut self,
+        alloc: Global,
+        other: &mut Owned<T>,
+        seed: u64,
+        out: &mut Owned<T>,
+    ) -> u32
+        ensures made { FillsFromTwo (T.are_of_seed seed) T.is_difference (T.no_difference seed) self.old.value other.old.value out.old.value result out.new.value }
+        ensures unchanged { self.new.value ≡ self.old.value }
+        ensures same_other { other.new.value ≡ other.old.value }
+    {
+        match self.get() {
+            Some(first) => match other.get() {
+                Some(second) => out.put_or(alloc, first.difference(alloc, seed, second)),
+                None => INVALID_ARGUMENT,
+            },
             None => INVALID_ARGUMENT,
         }
     }

@@ -1,11 +1,9 @@
 //! Differences of theta sketches.
 ghost use Rattle.std.specs.Prelude.{◌≡◌};
 ghost use Rattle.c_handles.specs.Calls.{FillsFromTwo};
-ghost use Rattle.sketch_objects.specs.Intersections.{IsDifferenceOf, IsDifferenceRefusal};
+ghost use Rattle.sketch_objects.specs.Intersections.{AreOfSeed, IsDifferenceOf, IsDifferenceRefusal};
 
 use c_handles::handles::CompactHandle;
-use sketch_objects::difference::difference;
-use sketch_objects::status::INVALID_ARGUMENT;
 use std::alloc::Global;
 
 /// Puts the hashes of the first sketch that the second lacks into a handle, below the lesser theta, as an ordered compact
@@ -22,15 +20,11 @@ pub extern "C" fn kcp_difference(
     seed: u64,
     out: &mut CompactHandle,
 ) -> u32
-    ensures made { FillsFromTwo IsDifferenceOf (IsDifferenceRefusal seed) first.old.value second.old.value out.old.value result out.new.value }
+    ensures made { FillsFromTwo (AreOfSeed seed) IsDifferenceOf (IsDifferenceRefusal seed) first.old.value second.old.value out.old.value result out.new.value }
     ensures same_first { first.new.value ≡ first.old.value }
     ensures same_second { second.new.value ≡ second.old.value }
 {
-    match first.owned().get() {
-        Some(a) => match second.owned().get() {
-            Some(b) => out.owned().put_or(alloc, difference(alloc, seed, a, b)),
-            None => INVALID_ARGUMENT,
-        },
-        None => INVALID_ARGUMENT,
-    }
+    first
+        .owned()
+        .difference(alloc, second.owned(), seed, out.owned())
 }

@@ -5,9 +5,8 @@ ghost use Rattle.sketch_objects.specs.Images.{WritesIntersection, WritesDifferen
 ghost use Rattle.sketch_objects.specs.Thetas.{ReadsImageState};
 
 use sketch_objects::compact::CompactSketch;
-use sketch_objects::difference::difference;
 use sketch_objects::images::{intersected, put_image, read_both};
-use sketch_objects::objects::{FromImage, HasState};
+use sketch_objects::objects::{FromImage, HasDifference, HasState};
 use sketch_objects::state::State;
 use sketch_objects::status::{OK, OUT_OF_MEMORY};
 use std::alloc::Global;
@@ -69,7 +68,7 @@ pub extern "C" fn kcp_images_difference(
     ensures { WritesDifference seed first.now second.now out.old length.old result out.new length.new }
 {
     match read_both(alloc, first, second, seed) {
-        Ok((a, b)) => match difference(alloc, seed, &a, &b) {
+        Ok((a, b)) => match a.difference(alloc, seed, &b) {
             Ok(sketch) => put_image(&sketch, out, length),
             // Both are of this seed, so only memory is refused.
             Err(_) => OUT_OF_MEMORY,

@@ -1,7 +1,8 @@
 //! Intersections of theta sketches.
 ghost use Rattle.std.specs.Prelude.{◌≡◌, None};
 ghost use Rattle.c_handles.specs.Calls.{OnObject, OnObjectWith, Fills, FillsFrom};
-ghost use Rattle.sketch_objects.specs.Intersections.{IsNewIntersection, IsSeedRefusal, MeetsSketch, MeetsCompact, MeetsImage, IsIntersectionResult, IsNoResult};
+ghost use Rattle.sketch_objects.specs.Intersections.{IsNewIntersection, MeetsShown, IsSeedRefusal, IsIntersectionResult, IsNoResult};
+ghost use Rattle.sketch_objects.specs.Thetas.{OfSketch, OfCompact, OfImage};
 
 use c_handles::handles::{CompactHandle, IntersectionHandle, ThetaHandle};
 use sketch_objects::intersection::built;
@@ -40,7 +41,7 @@ pub extern "C" fn kcp_intersection_add(
     intersection: &mut IntersectionHandle,
     sketch: &mut ThetaHandle,
 ) -> u32
-    ensures met { OnObjectWith MeetsSketch sketch.old.value intersection.old.value result intersection.new.value }
+    ensures met { OnObjectWith (OfSketch MeetsShown) sketch.old.value intersection.old.value result intersection.new.value }
     ensures unchanged { sketch.new.value ≡ sketch.old.value }
 {
     intersection.owned().add(sketch.owned())
@@ -52,7 +53,7 @@ pub extern "C" fn kcp_intersection_add_compact(
     intersection: &mut IntersectionHandle,
     sketch: &mut CompactHandle,
 ) -> u32
-    ensures met { OnObjectWith MeetsCompact sketch.old.value intersection.old.value result intersection.new.value }
+    ensures met { OnObjectWith (OfCompact MeetsShown) sketch.old.value intersection.old.value result intersection.new.value }
     ensures unchanged { sketch.new.value ≡ sketch.old.value }
 {
     intersection.owned().add(sketch.owned())
@@ -68,7 +69,7 @@ pub extern "C" fn kcp_intersection_add_image(
     intersection: &mut IntersectionHandle,
     image: &[u8],
 ) -> u32
-    ensures { OnObject (MeetsImage image.now) intersection.old.value result intersection.new.value }
+    ensures { OnObject (OfImage MeetsShown (λ i. i.seed) image.now) intersection.old.value result intersection.new.value }
 {
     intersection.owned().add_image(alloc, image)
 }

@@ -1,8 +1,9 @@
 //! Intersections of tuple sketches of sums.
 ghost use Rattle.std.specs.Prelude.{◌≡◌, None};
 ghost use Rattle.c_handles.specs.Calls.{OnObject, OnObjectWith, Fills, FillsFrom};
+ghost use Rattle.sketch_objects.specs.CompactSums.{OfSums, OfCompactSums, OfSumsImage};
 ghost use Rattle.sketch_objects.specs.Intersections.{IsSeedRefusal};
-ghost use Rattle.sketch_objects.specs.SumsIntersections.{IsNewSumsIntersection, MeetsSketchOfSums, MeetsCompactSums, MeetsSumsImage, IsSumsIntersectionResult, IsNoSumsResult};
+ghost use Rattle.sketch_objects.specs.SumsIntersections.{IsNewSumsIntersection, MeetsShownSums, IsSumsIntersectionResult, IsNoSumsResult};
 
 use c_handles::handles::{CompactSumsHandle, SumsHandle, SumsIntersectionHandle};
 use sketch_objects::sums_intersection::built;
@@ -38,7 +39,7 @@ pub extern "C" fn kcp_sums_intersection_add(
     intersection: &mut SumsIntersectionHandle,
     sketch: &mut SumsHandle,
 ) -> u32
-    ensures met { OnObjectWith MeetsSketchOfSums sketch.old.value intersection.old.value result intersection.new.value }
+    ensures met { OnObjectWith (OfSums MeetsShownSums) sketch.old.value intersection.old.value result intersection.new.value }
     ensures unchanged { sketch.new.value ≡ sketch.old.value }
 {
     intersection.owned().add(sketch.owned())
@@ -50,7 +51,7 @@ pub extern "C" fn kcp_sums_intersection_add_compact(
     intersection: &mut SumsIntersectionHandle,
     sketch: &mut CompactSumsHandle,
 ) -> u32
-    ensures met { OnObjectWith MeetsCompactSums sketch.old.value intersection.old.value result intersection.new.value }
+    ensures met { OnObjectWith (OfCompactSums MeetsShownSums) sketch.old.value intersection.old.value result intersection.new.value }
     ensures unchanged { sketch.new.value ≡ sketch.old.value }
 {
     intersection.owned().add(sketch.owned())
@@ -64,7 +65,7 @@ pub extern "C" fn kcp_sums_intersection_add_image(
     intersection: &mut SumsIntersectionHandle,
     image: &[u8],
 ) -> u32
-    ensures { OnObject (MeetsSumsImage image.now) intersection.old.value result intersection.new.value }
+    ensures { OnObject (OfSumsImage MeetsShownSums (λ i. i.seed) image.now) intersection.old.value result intersection.new.value }
 {
     intersection.owned().add_image(alloc, image)
 }

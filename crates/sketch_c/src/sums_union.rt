@@ -1,9 +1,10 @@
 //! Unions of tuple sketches of sums.
 ghost use Rattle.std.specs.Prelude.{◌≡◌, None};
 ghost use Rattle.sketch_objects.specs.Buffer.{WritesOf};
+ghost use Rattle.sketch_objects.specs.CompactSums.{OfSums, OfCompactSums, OfSumsImage};
 ghost use Rattle.c_handles.specs.Calls.{OnObject, OnObjectWith, Fills, FillsFrom};
 ghost use Rattle.sketch_objects.specs.Settings.{IsSettingsRefusal};
-ghost use Rattle.sketch_objects.specs.SumsUnions.{IsNewSumsUnion, AddsSums, AddsCompactSums, AddsSumsImage, IsSumsUnionResult, IsSumsUnionImage, IsSumsResultRefusal, ResetsSumsUnion};
+ghost use Rattle.sketch_objects.specs.SumsUnions.{IsNewSumsUnion, AddsShownSums, IsSumsUnionResult, IsSumsUnionImage, IsSumsResultRefusal, ResetsSumsUnion};
 
 use c_handles::handles::{CompactSumsHandle, SumsHandle, SumsUnionHandle};
 use sketch_objects::sums_union::built;
@@ -34,7 +35,7 @@ pub extern "C" fn kcp_sums_union_free(alloc: Global, union: &mut SumsUnionHandle
 /// are 2^64 or more together; then the union has failed until it is reset.
 #[unsafe(no_mangle)]
 pub extern "C" fn kcp_sums_union_add(union: &mut SumsUnionHandle, sketch: &mut SumsHandle) -> u32
-    ensures added { OnObjectWith AddsSums sketch.old.value union.old.value result union.new.value }
+    ensures added { OnObjectWith (OfSums AddsShownSums) sketch.old.value union.old.value result union.new.value }
     ensures unchanged { sketch.new.value ≡ sketch.old.value }
 {
     union.owned().add(sketch.owned())
@@ -46,7 +47,7 @@ pub extern "C" fn kcp_sums_union_add_compact(
     union: &mut SumsUnionHandle,
     sketch: &mut CompactSumsHandle,
 ) -> u32
-    ensures added { OnObjectWith AddsCompactSums sketch.old.value union.old.value result union.new.value }
+    ensures added { OnObjectWith (OfCompactSums AddsShownSums) sketch.old.value union.old.value result union.new.value }
     ensures unchanged { sketch.new.value ≡ sketch.old.value }
 {
     union.owned().add(sketch.owned())
@@ -59,7 +60,7 @@ pub extern "C" fn kcp_sums_union_add_image(
     union: &mut SumsUnionHandle,
     image: &[u8],
 ) -> u32
-    ensures { OnObject (AddsSumsImage image.now) union.old.value result union.new.value }
+    ensures { OnObject (OfSumsImage AddsShownSums (λ u. u.seed) image.now) union.old.value result union.new.value }
 {
     union.owned().add_image(alloc, image)
 }

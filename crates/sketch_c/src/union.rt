@@ -3,7 +3,8 @@ ghost use Rattle.std.specs.Prelude.{◌≡◌, None};
 ghost use Rattle.sketch_objects.specs.Buffer.{WritesOf};
 ghost use Rattle.c_handles.specs.Calls.{OnObject, OnObjectWith, Fills, FillsFrom};
 ghost use Rattle.sketch_objects.specs.Settings.{IsSettingsRefusal};
-ghost use Rattle.sketch_objects.specs.Unions.{IsNewUnion, AddsSketch, AddsCompact, AddsImage, IsUnionResult, IsUnionImage, IsResultRefusal, ResetsUnion};
+ghost use Rattle.sketch_objects.specs.Thetas.{OfSketch, OfCompact, OfImage};
+ghost use Rattle.sketch_objects.specs.Unions.{IsNewUnion, AddsShown, IsUnionResult, IsUnionImage, IsResultRefusal, ResetsUnion};
 
 use c_handles::handles::{CompactHandle, ThetaHandle, UnionHandle};
 use sketch_objects::union::built;
@@ -36,7 +37,7 @@ pub extern "C" fn kcp_union_free(alloc: Global, union: &mut UnionHandle)
 /// failed until it is reset.
 #[unsafe(no_mangle)]
 pub extern "C" fn kcp_union_add(union: &mut UnionHandle, sketch: &mut ThetaHandle) -> u32
-    ensures added { OnObjectWith AddsSketch sketch.old.value union.old.value result union.new.value }
+    ensures added { OnObjectWith (OfSketch AddsShown) sketch.old.value union.old.value result union.new.value }
     ensures unchanged { sketch.new.value ≡ sketch.old.value }
 {
     union.owned().add(sketch.owned())
@@ -45,7 +46,7 @@ pub extern "C" fn kcp_union_add(union: &mut UnionHandle, sketch: &mut ThetaHandl
 /// Merges a compact sketch into a union, as `kcp_union_add` does.
 #[unsafe(no_mangle)]
 pub extern "C" fn kcp_union_add_compact(union: &mut UnionHandle, sketch: &mut CompactHandle) -> u32
-    ensures added { OnObjectWith AddsCompact sketch.old.value union.old.value result union.new.value }
+    ensures added { OnObjectWith (OfCompact AddsShown) sketch.old.value union.old.value result union.new.value }
     ensures unchanged { sketch.new.value ≡ sketch.old.value }
 {
     union.owned().add(sketch.owned())
@@ -57,7 +58,7 @@ pub extern "C" fn kcp_union_add_compact(union: &mut UnionHandle, sketch: &mut Co
 /// is refused while the image is read, nothing has changed.
 #[unsafe(no_mangle)]
 pub extern "C" fn kcp_union_add_image(alloc: Global, union: &mut UnionHandle, image: &[u8]) -> u32
-    ensures { OnObject (AddsImage image.now) union.old.value result union.new.value }
+    ensures { OnObject (OfImage AddsShown (λ u. u.seed) image.now) union.old.value result union.new.value }
 {
     union.owned().add_image(alloc, image)
 }

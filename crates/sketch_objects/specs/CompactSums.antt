@@ -2,15 +2,20 @@
 use Rattle.std.specs.Prelude.{◌≡◌, ◌⊎◌, ◌≤◌, ◌<◌, ◌++◌, ℕ, List, length, drop, map, Option, Some, None}
 use Rattle.std.specs.Int.{w64, to_le_bytes}
 use Rattle.sketch_base.specs.Seed.{seed_hash}
+use Rattle.core_compact.specs.CompactState.{Compact, shown_of}
 use Rattle.core_images.specs.Summary.{SpellsNumber}
+use Rattle.core_laws.specs.Shown.{Shown}
 use Rattle.core_slots.specs.Entry.{tuple_key}
 use Rattle.core_slots.specs.declared.entry.TupleEntry.{TupleEntry}
+use Rattle.core_state.specs.Updatable.{sketch_shows}
 use Rattle.totals.specs.Totals.{sum_of}
 use Rattle.tuple_sketches.specs.Image.{Reads, IsReadable, written}
 use Rattle.sketch_objects.specs.Status.{IsUnread}
+use Rattle.sketch_objects.specs.Sums.{sums_of}
 use Rattle.sketch_objects.specs.Thetas.{state_of}
 use Rattle.sketch_objects.specs.declared.compact_sums.CompactSums.{CompactSums}
 use Rattle.sketch_objects.specs.declared.state.State.{State}
+use Rattle.sketch_objects.specs.declared.sums.SeededSums.{SeededSums}
 
 -- the sketch that bytes begin with, read under a seed: behind each hash its sum's eight bytes, the lowest first
 abbrev pub IsSumsReadFrom : (bytes : List ℕ) → (seed : ℕ) → CompactSums → Type 0
@@ -50,3 +55,17 @@ CopiesEntries None hashes_before sums_before count_before status hashes sums cou
     (status ≡ 1) × (hashes ≡ hashes_before) × (sums ≡ sums_before) × (count ≡ count_before)
 CopiesEntries (Some s) hashes_before sums_before count_before status hashes sums count =
     PutsEntries s.sketch.entries hashes_before sums_before status hashes sums count
+
+-- an operator got a sketch that takes updates, by what a call does with what a sketch shows and lists
+abbrev pub OfSums : {O : Type 0} → (Does : Shown → List (TupleEntry ℕ) → O → ℕ → O → Type 0) → SeededSums → (old : O) → (status : ℕ) → (new : O) → Type 0
+OfSums Does t old status new = Does (sketch_shows tuple_key (sums_of t)) (sums_of t).sequence old status new
+
+-- .. a compact sketch
+abbrev pub OfCompactSums : {O : Type 0} → (Does : Shown → List (TupleEntry ℕ) → O → ℕ → O → Type 0) → CompactSums → (old : O) → (status : ℕ) → (new : O) → Type 0
+OfCompactSums Does s old status new = Does (shown_of tuple_key s.sketch) s.sketch.entries old status new
+
+-- .. the sketch that bytes begin with, read under the operator's seed; or reading was refused, with 2 or 3, and nothing has changed
+abbrev pub OfSumsImage : {O : Type 0} → (Does : Shown → List (TupleEntry ℕ) → O → ℕ → O → Type 0) → (seed_in : O → ℕ) → (image : List ℕ) → (old : O) → (status : ℕ) → (new : O) → Type 0
+OfSumsImage Does seed_in image old status new =
+    ((s : Compact (TupleEntry ℕ)) × Reads (SpellsNumber 8) image (seed_hash (seed_in old)) s × Does (shown_of tuple_key s) s.entries old status new)
+    ⊎ (IsSumsReadRefusal image (seed_in old) status × (new ≡ old))

@@ -2,19 +2,15 @@
 use Rattle.std.specs.Prelude.{◌≡◌, ◌⊎◌, ℕ, List, true, false, Option, None, Some}
 use Rattle.sketch_base.specs.Seed.{seed_hash}
 use Rattle.sketch_base.specs.declared.error.ErrorKind.{ErrorKind}
-use Rattle.core_compact.specs.CompactState.{Compact, shown_of}
+use Rattle.core_compact.specs.CompactState.{shown_of}
 use Rattle.core_laws.specs.Entries.{hash_key, first_hash}
 use Rattle.core_laws.specs.Operators.{meet_next}
 use Rattle.core_laws.specs.Shown.{Shown, shown_value}
 use Rattle.core_laws.specs.Values.{Sketch}
 use Rattle.core_operators.specs.ANotB.{IsHashDifference, difference_refusal}
 use Rattle.core_operators.specs.Intersection.{new_intersection, seed_refusal, intersect_refusal, IsAnswerIfAny, IsHashIntersectError}
-use Rattle.core_state.specs.Updatable.{sketch_shows}
-use Rattle.theta_sketches.specs.Image.{Reads}
 use Rattle.sketch_objects.specs.Status.{status_of, IsRefusal}
-use Rattle.sketch_objects.specs.Thetas.{IsReadRefusal}
 use Rattle.sketch_objects.specs.declared.compact.CompactSketch.{CompactSketch}
-use Rattle.sketch_objects.specs.declared.theta.SeededSketch.{SeededSketch}
 use Rattle.sketch_objects.specs.declared.intersection.SeededIntersection.{SeededIntersection}
 
 -- a new intersection, without a value
@@ -38,20 +34,6 @@ MeetsShown shown listing old status new =
     (new.seed ≡ old.seed)
     × (((status ≡ 0) × Meets shown listing old new) ⊎ ((e : ErrorKind) × (status ≡ status_of e) × IsHashIntersectError old.intersection new.intersection shown e))
 
--- a sketch that takes updates was intersected
-abbrev pub MeetsSketch : SeededSketch → (old : SeededIntersection) → (status : ℕ) → (new : SeededIntersection) → Type 0
-MeetsSketch t old status new = MeetsShown (sketch_shows hash_key t.sketch) t.sketch.sequence old status new
-
--- a compact sketch was intersected
-abbrev pub MeetsCompact : CompactSketch → (old : SeededIntersection) → (status : ℕ) → (new : SeededIntersection) → Type 0
-MeetsCompact s old status new = MeetsShown (shown_of hash_key s.sketch) s.sketch.entries old status new
-
--- the sketch that bytes begin with was intersected; or reading was refused, with 2 or 3, and nothing has changed
-abbrev pub MeetsImage : (image : List ℕ) → (old : SeededIntersection) → (status : ℕ) → (new : SeededIntersection) → Type 0
-MeetsImage image old status new =
-    ((s : Compact ℕ) × Reads image (seed_hash old.seed) s × MeetsShown (shown_of hash_key s) s.entries old status new)
-    ⊎ (IsReadRefusal image old.seed status × (new ≡ old))
-
 -- the intersection's value as an ordered compact sketch
 abbrev pub IsIntersectionResult : SeededIntersection → CompactSketch → Type 0
 IsIntersectionResult i s = IsAnswerIfAny hash_key i.intersection.result i.intersection.seed_hash true (Some s.sketch)
@@ -67,13 +49,19 @@ IsNoResult i status = IsNoValue i.intersection.result status
 abbrev pub IsDifferenceOf : (first second : CompactSketch) → CompactSketch → Type 0
 IsDifferenceOf first second s = IsHashDifference (shown_of hash_key first.sketch) first.sketch.entries (shown_of hash_key second.sketch) second.sketch.entries true s.sketch
 
--- the refusal of a difference: a seed whose hash is 0, sketches of another seed, or memory
-abbrev pub IsDifferenceRefusal : (seed : ℕ) → (first second : CompactSketch) → (status : ℕ) → Type 0
-IsDifferenceRefusal seed first second status =
-    IsRefusal (seed_refusal seed) false status ⊎ IsRefusal (difference_refusal (seed_hash seed) (shown_of hash_key first.sketch) (shown_of hash_key second.sketch)) true status
+-- the refusal of a difference of sketches that show this: a seed whose hash is 0, sketches of another seed, or memory
+abbrev pub RefusesDifference : (seed : ℕ) → (first second : Shown) → (status : ℕ) → Type 0
+RefusesDifference seed first second status =
+    IsRefusal (seed_refusal seed) false status ⊎ IsRefusal (difference_refusal (seed_hash seed) first second) true status
 
--- a difference is not refused: the hash of its seed isn't 0, and the first sketch, if it isn't empty, is of this seed, and so is a
--- second that isn't empty
+-- a difference of sketches that show this is not refused: the hash of its seed isn't 0, and the first sketch, if it isn't empty, is
+-- of this seed, and so is a second that isn't empty
+abbrev pub AcceptsDifference : (seed : ℕ) → (first second : Shown) → Type 0
+AcceptsDifference seed first second = (seed_refusal seed ≡ None) × (difference_refusal (seed_hash seed) first second ≡ None)
+
+-- these of compact sketches
+abbrev pub IsDifferenceRefusal : (seed : ℕ) → (first second : CompactSketch) → (status : ℕ) → Type 0
+IsDifferenceRefusal seed first second status = RefusesDifference seed (shown_of hash_key first.sketch) (shown_of hash_key second.sketch) status
+
 abbrev pub AreOfSeed : (seed : ℕ) → (first second : CompactSketch) → Type 0
-AreOfSeed seed first second =
-    (seed_refusal seed ≡ None) × (difference_refusal (seed_hash seed) (shown_of hash_key first.sketch) (shown_of hash_key second.sketch) ≡ None)
+AreOfSeed seed first second = AcceptsDifference seed (shown_of hash_key first.sketch) (shown_of hash_key second.sketch)

@@ -3,8 +3,7 @@ use Rattle.std.specs.Prelude.{◌≡◌, ◌⊎◌, ℕ, List, true, not, None}
 use Rattle.std.specs.Int.{w64, to_le_bytes}
 use Rattle.sketch_base.specs.Seed.{seed_hash}
 use Rattle.sketch_base.specs.declared.error.ErrorKind.{ErrorKind}
-use Rattle.core_compact.specs.CompactState.{Compact, IsAnswer, shown_of}
-use Rattle.core_images.specs.Summary.{SpellsNumber}
+use Rattle.core_compact.specs.CompactState.{Compact, IsAnswer}
 use Rattle.core_laws.specs.Shown.{Shown}
 use Rattle.core_laws.specs.declared.TheConstants.{MAX_THETA}
 use Rattle.core_operators.specs.Union.{Union, empty_union, union_value, update_refusal, failure, JoinsSummaries, UnitesSummaries, IsUpdateError}
@@ -13,14 +12,10 @@ use Rattle.core_policies.specs.Sums.{unsigned_sum}
 use Rattle.core_policies.specs.declared.default_union.DefaultUnionPolicy.{DefaultUnionPolicy}
 use Rattle.core_slots.specs.Entry.{tuple_key}
 use Rattle.core_slots.specs.declared.entry.TupleEntry.{TupleEntry}
-use Rattle.core_state.specs.Updatable.{sketch_shows}
-use Rattle.tuple_sketches.specs.Image.{Reads, written}
+use Rattle.tuple_sketches.specs.Image.{written}
 use Rattle.tuple_sketches.specs.Sketch.{union_state}
-use Rattle.sketch_objects.specs.CompactSums.{IsSumsReadRefusal}
 use Rattle.sketch_objects.specs.Status.{status_of, IsRefusal}
-use Rattle.sketch_objects.specs.Sums.{sums_of}
 use Rattle.sketch_objects.specs.declared.compact_sums.CompactSums.{CompactSums}
-use Rattle.sketch_objects.specs.declared.sums.SeededSums.{SeededSums}
 use Rattle.sketch_objects.specs.declared.sums_union.SeededSumsUnion.{SeededSumsUnion}
 
 -- what contracts see of a union
@@ -53,20 +48,6 @@ AddsShownSums shown listing old status new =
     (new.seed ≡ old.seed)
     × (((status ≡ 0) × MergesSums shown listing (sums_union_of old) (sums_union_of new))
     ⊎ ((e : ErrorKind) × (status ≡ status_of e) × IsSumsMergeError shown listing (sums_union_of old) (sums_union_of new) e))
-
--- a sketch that takes updates was added
-abbrev pub AddsSums : SeededSums → (old : SeededSumsUnion) → (status : ℕ) → (new : SeededSumsUnion) → Type 0
-AddsSums t old status new = AddsShownSums (sketch_shows tuple_key (sums_of t)) (sums_of t).sequence old status new
-
--- a compact sketch was added
-abbrev pub AddsCompactSums : CompactSums → (old : SeededSumsUnion) → (status : ℕ) → (new : SeededSumsUnion) → Type 0
-AddsCompactSums s old status new = AddsShownSums (shown_of tuple_key s.sketch) s.sketch.entries old status new
-
--- the sketch that bytes begin with was added; or reading was refused, with 2 or 3, and the union is unchanged
-abbrev pub AddsSumsImage : (image : List ℕ) → (old : SeededSumsUnion) → (status : ℕ) → (new : SeededSumsUnion) → Type 0
-AddsSumsImage image old status new =
-    ((s : Compact (TupleEntry ℕ)) × Reads (SpellsNumber 8) image (seed_hash old.seed) s × AddsShownSums (shown_of tuple_key s) s.entries old status new)
-    ⊎ (IsSumsReadRefusal image old.seed status × (new ≡ old))
 
 -- an ordered compact sketch of the union's value
 abbrev pub IsValueOfSums : SeededSumsUnion → Compact (TupleEntry ℕ) → Type 0

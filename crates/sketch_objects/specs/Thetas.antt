@@ -2,10 +2,11 @@
 use Rattle.std.specs.Prelude.{◌≡◌, ◌≢◌, ◌⊎◌, ◌^◌, ◌==◌, ◌&&◌, ℕ, Bool, List, length, true, false, nat_lt, if◌then◌else◌, IsTrue}
 use Rattle.std.specs.Int.{w64, to_le_bytes}
 use Rattle.sketch_base.specs.Seed.{hash_of, seed_hash}
-use Rattle.core_compact.specs.CompactState.{Compact, IsAnswer}
+use Rattle.core_compact.specs.CompactState.{Compact, IsAnswer, shown_of}
 use Rattle.core_laws.specs.Entries.{hash_key}
+use Rattle.core_laws.specs.Shown.{Shown}
 use Rattle.core_laws.specs.Values.{Sketch, theta_of, count_of}
-use Rattle.core_state.specs.Updatable.{sketch_value, StopsUpdates}
+use Rattle.core_state.specs.Updatable.{sketch_value, sketch_shows, StopsUpdates}
 use Rattle.core_table.specs.HashTable.{empty_table, after_hash, after_hashes, after_reset, hash_allocates, trimmed_table}
 use Rattle.theta_sketches.specs.Image.{Reads, IsReadable, written}
 use Rattle.sketch_objects.specs.Status.{IsUnread}
@@ -100,3 +101,17 @@ IsReadRefusal bytes seed status = IsUnread (IsReadable bytes (seed_hash seed)) s
 abbrev pub ReadsImageState : (bytes : List ℕ) → (seed : ℕ) → (before : State) → (status : ℕ) → (after : State) → Type 0
 ReadsImageState bytes seed before status after =
     ((status ≡ 0) × ((s : CompactSketch) × IsReadFrom bytes seed s × (after ≡ compact_state s))) ⊎ (IsReadRefusal bytes seed status × (after ≡ before))
+
+-- an operator got a sketch that takes updates, by what a call does with what a sketch shows and lists
+abbrev pub OfSketch : {O : Type 0} → (Does : Shown → List ℕ → O → ℕ → O → Type 0) → SeededSketch → (old : O) → (status : ℕ) → (new : O) → Type 0
+OfSketch Does t old status new = Does (sketch_shows hash_key t.sketch) t.sketch.sequence old status new
+
+-- .. a compact sketch
+abbrev pub OfCompact : {O : Type 0} → (Does : Shown → List ℕ → O → ℕ → O → Type 0) → CompactSketch → (old : O) → (status : ℕ) → (new : O) → Type 0
+OfCompact Does s old status new = Does (shown_of hash_key s.sketch) s.sketch.entries old status new
+
+-- .. the sketch that bytes begin with, read under the operator's seed; or reading was refused, with 2 or 3, and nothing has changed
+abbrev pub OfImage : {O : Type 0} → (Does : Shown → List ℕ → O → ℕ → O → Type 0) → (seed_in : O → ℕ) → (image : List ℕ) → (old : O) → (status : ℕ) → (new : O) → Type 0
+OfImage Does seed_in image old status new =
+    ((s : Compact ℕ) × Reads image (seed_hash (seed_in old)) s × Does (shown_of hash_key s) s.entries old status new)
+    ⊎ (IsReadRefusal image (seed_in old) status × (new ≡ old))

@@ -2,17 +2,14 @@
 use Rattle.std.specs.Prelude.{◌≡◌, ◌⊎◌, ℕ, List, true, not, None}
 use Rattle.sketch_base.specs.Seed.{seed_hash}
 use Rattle.sketch_base.specs.declared.error.ErrorKind.{ErrorKind}
-use Rattle.core_compact.specs.CompactState.{Compact, IsAnswer, shown_of}
+use Rattle.core_compact.specs.CompactState.{Compact, IsAnswer}
 use Rattle.core_laws.specs.Entries.{hash_key}
 use Rattle.core_laws.specs.Shown.{Shown}
 use Rattle.core_laws.specs.declared.TheConstants.{MAX_THETA}
 use Rattle.core_operators.specs.Union.{empty_union, union_value, update_refusal, failure, JoinsHashes, UnitesHashes, IsHashUpdateError}
-use Rattle.core_state.specs.Updatable.{sketch_shows}
-use Rattle.theta_sketches.specs.Image.{Reads, written}
+use Rattle.theta_sketches.specs.Image.{written}
 use Rattle.sketch_objects.specs.Status.{status_of, IsRefusal}
-use Rattle.sketch_objects.specs.Thetas.{IsReadRefusal}
 use Rattle.sketch_objects.specs.declared.compact.CompactSketch.{CompactSketch}
-use Rattle.sketch_objects.specs.declared.theta.SeededSketch.{SeededSketch}
 use Rattle.sketch_objects.specs.declared.union.SeededUnion.{SeededUnion}
 
 -- a new union, without sketches
@@ -35,20 +32,6 @@ abbrev pub AddsShown : Shown → (listing : List ℕ) → (old : SeededUnion) �
 AddsShown shown listing old status new =
     (new.seed ≡ old.seed)
     × (((status ≡ 0) × Merges shown listing old new) ⊎ ((e : ErrorKind) × (status ≡ status_of e) × IsHashUpdateError old.union new.union shown e))
-
--- a sketch that takes updates was added
-abbrev pub AddsSketch : SeededSketch → (old : SeededUnion) → (status : ℕ) → (new : SeededUnion) → Type 0
-AddsSketch t old status new = AddsShown (sketch_shows hash_key t.sketch) t.sketch.sequence old status new
-
--- a compact sketch was added
-abbrev pub AddsCompact : CompactSketch → (old : SeededUnion) → (status : ℕ) → (new : SeededUnion) → Type 0
-AddsCompact s old status new = AddsShown (shown_of hash_key s.sketch) s.sketch.entries old status new
-
--- the sketch that bytes begin with was added; or reading was refused, with 2 or 3, and the union is unchanged
-abbrev pub AddsImage : (image : List ℕ) → (old : SeededUnion) → (status : ℕ) → (new : SeededUnion) → Type 0
-AddsImage image old status new =
-    ((s : Compact ℕ) × Reads image (seed_hash old.seed) s × AddsShown (shown_of hash_key s) s.entries old status new)
-    ⊎ (IsReadRefusal image old.seed status × (new ≡ old))
 
 -- the union's value as an ordered compact sketch
 abbrev pub IsUnionResult : SeededUnion → CompactSketch → Type 0

@@ -1,13 +1,14 @@
 //! Compact theta sketches, which are immutable.
+ghost use Rattle.sketch_objects.specs.Intersections.{IsDifferenceOf, AreOfSeed, IsDifferenceRefusal};
 ghost use Rattle.sketch_objects.specs.Status.{IsMemoryRefusal};
 ghost use Rattle.sketch_objects.specs.Thetas.{compact_state, IsCompactImage, IsCopy, IsReadFrom, IsReadRefusal};
 ghost use Rattle.sketch_objects.specs.declared.compact.CompactSketch.{CompactSketch};
 
-use crate::objects::{CanCopy, FromImage, HasImage, HasState};
+use crate::objects::{CanCopy, FromImage, HasDifference, HasImage, HasState};
 use crate::state::State;
 use crate::status::{OUT_OF_MEMORY, status_of};
 use std::alloc::Global;
-use theta_sketches::CompactThetaSketch;
+use theta_sketches::{CompactThetaSketch, ThetaANotB};
 
 /// A compact sketch.
 #[derive(Drop)]
@@ -60,6 +61,30 @@ impl CanCopy for CompactSketch {
         match self.sketch.clone() {
             Ok(sketch) => Ok(CompactSketch { sketch }),
             Err(_) => Err(OUT_OF_MEMORY),
+        }
+    }
+}
+
+impl HasDifference for CompactSketch {
+    ghost is_difference = { IsDifferenceOf };
+
+    ghost are_of_seed = { AreOfSeed };
+
+    ghost no_difference = { IsDifferenceRefusal };
+
+    fn difference(
+        &self,
+        alloc: Global,
+        seed: u64,
+        other: &CompactSketch,
+    ) -> Result<CompactSketch, u32> {
+        let difference = match ThetaANotB::with_seed(seed) {
+            Ok(difference) => difference,
+            Err(error) => return Err(status_of(error.kind())),
+        };
+        match difference.compute(alloc, self.sketch.as_view(), other.sketch.as_view(), true) {
+            Ok(sketch) => Ok(CompactSketch { sketch }),
+            Err(error) => Err(status_of(error.kind())),
         }
     }
 }

@@ -2,16 +2,17 @@
 ghost use Rattle.std.specs.Prelude.{◌≡◌, ◌≤◌, ◌++◌, None, length, drop, map};
 ghost use Rattle.core_slots.specs.Entry.{tuple_key};
 ghost use Rattle.sketch_objects.specs.Status.{IsMemoryRefusal};
+ghost use Rattle.sketch_objects.specs.SumsIntersections.{IsDifferenceOfSums, AreSumsOfSeed, IsSumsDifferenceRefusal};
 ghost use Rattle.sketch_objects.specs.CompactSums.{IsCompactSumsImage, IsSumsReadFrom, IsSumsReadRefusal, compact_sums_state, compact_total, PutsEntries};
 ghost use Rattle.sketch_objects.specs.declared.compact_sums.CompactSums.{CompactSums};
 
 use crate::bounds::{Wide, split};
-use crate::objects::{FromImage, HasImage, HasState, HasTotal};
+use crate::objects::{FromImage, HasDifference, HasImage, HasState, HasTotal};
 use crate::state::State;
 use crate::status::{OK, OUT_OF_MEMORY, TOO_SMALL, status_of};
 use std::alloc::Global;
 use totals::sum_of;
-use tuple_sketches::{CompactTupleSketch, TupleEntry};
+use tuple_sketches::{CompactTupleSketch, TupleANotB, TupleEntry};
 
 /// A compact sketch of sums.
 #[derive(Drop)]
@@ -63,6 +64,30 @@ impl HasImage for CompactSums {
         match self.sketch.serialize() {
             Ok(image) => Ok(image),
             Err(_) => Err(OUT_OF_MEMORY),
+        }
+    }
+}
+
+impl HasDifference for CompactSums {
+    ghost is_difference = { IsDifferenceOfSums };
+
+    ghost are_of_seed = { AreSumsOfSeed };
+
+    ghost no_difference = { IsSumsDifferenceRefusal };
+
+    fn difference(
+        &self,
+        alloc: Global,
+        seed: u64,
+        other: &CompactSums,
+    ) -> Result<CompactSums, u32> {
+        let difference = match TupleANotB::with_seed(seed) {
+            Ok(difference) => difference,
+            Err(error) => return Err(status_of(error.kind())),
+        };
+        match difference.compute(alloc, self.sketch.as_view(), other.sketch.as_view(), true) {
+            Ok(sketch) => Ok(CompactSums { sketch }),
+            Err(error) => Err(status_of(error.kind())),
         }
     }
 }

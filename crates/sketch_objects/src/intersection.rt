@@ -3,7 +3,8 @@ ghost use Rattle.std.specs.Prelude.{true, None, IfOk};
 ghost use Rattle.core_laws.specs.Refusal.{Refuses};
 ghost use Rattle.core_operators.specs.Intersection.{seed_refusal};
 ghost use Rattle.theta_sketches.specs.View.{view_shows, view_sequence};
-ghost use Rattle.sketch_objects.specs.Intersections.{IsNewIntersection, MeetsShown, MeetsSketch, MeetsCompact, MeetsImage, IsIntersectionResult, IsNoResult};
+ghost use Rattle.sketch_objects.specs.Intersections.{IsNewIntersection, MeetsShown, IsIntersectionResult, IsNoResult};
+ghost use Rattle.sketch_objects.specs.Thetas.{OfSketch, OfCompact, OfImage};
 ghost use Rattle.sketch_objects.specs.declared.intersection.SeededIntersection.{SeededIntersection};
 
 use crate::compact::CompactSketch;
@@ -40,7 +41,7 @@ fn add(object: &mut SeededIntersection, view: ThetaSketchView<'_, Global>) -> u3
 }
 
 impl Accepts<SeededSketch> for SeededIntersection {
-    ghost adds = { MeetsSketch };
+    ghost adds = { OfSketch MeetsShown };
 
     fn add(&mut self, sketch: &SeededSketch) -> u32 {
         add(self, sketch.sketch.as_view())
@@ -48,7 +49,7 @@ impl Accepts<SeededSketch> for SeededIntersection {
 }
 
 impl Accepts<CompactSketch> for SeededIntersection {
-    ghost adds = { MeetsCompact };
+    ghost adds = { OfCompact MeetsShown };
 
     fn add(&mut self, sketch: &CompactSketch) -> u32 {
         add(self, sketch.sketch.as_view())
@@ -56,7 +57,7 @@ impl Accepts<CompactSketch> for SeededIntersection {
 }
 
 impl AcceptsImages for SeededIntersection {
-    ghost adds_image = { MeetsImage };
+    ghost adds_image = { OfImage MeetsShown (λ i. i.seed) };
 
     fn add_image(&mut self, alloc: Global, image: &[u8]) -> u32 {
         match CompactSketch::read(alloc, image, self.seed) {

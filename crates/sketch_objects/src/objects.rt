@@ -77,6 +77,27 @@ pub trait CanCopy: Drop {
         ensures refused { IfErr result (λ status. status ≡ 3) };
 }
 
+/// A compact sketch that can be subtracted from another.
+pub trait HasDifference: Drop {
+    ghost use Rattle.std.specs.Prelude.{ℕ};
+
+    /// Whether a sketch is the difference of two, whether those two are of a seed as far as a difference checks that, and
+    /// whether a status is that of a refusal.
+    ghost is_difference: { Self → Self → Self → Type 0 };
+
+    ghost are_of_seed: { ℕ → Self → Self → Type 0 };
+
+    ghost no_difference: { ℕ → Self → Self → ℕ → Type 0 };
+
+    /// The entries of this sketch whose hashes the other lacks, ordered, or the status of the refusal. Whoever gets a sketch
+    /// may still be refused memory for it.
+    fn difference(&self, alloc: Global, seed: u64, other: &Self) -> Result<Self, u32>
+        ensures made { IfOk result (is_difference self.now other.now) }
+        ensures accepted { OnOk result (are_of_seed seed self.now other.now) }
+        ensures refused { IfErr result (no_difference seed self.now other.now) }
+        ensures room { OnOk result (no_difference seed self.now other.now 3) };
+}
+
 /// A sketch that can be cut to its nominal entries.
 pub trait CanTrim {
     ghost use Rattle.std.specs.Prelude.{ℕ};

@@ -4,7 +4,8 @@ ghost use Rattle.core_laws.specs.Refusal.{Refuses};
 ghost use Rattle.core_operators.specs.Intersection.{seed_refusal};
 ghost use Rattle.core_slots.specs.Entry.{tuple_key};
 ghost use Rattle.core_state.specs.View.{shows, sequence};
-ghost use Rattle.sketch_objects.specs.SumsIntersections.{IsNewSumsIntersection, MeetsShownSums, MeetsSketchOfSums, MeetsCompactSums, MeetsSumsImage, IsSumsIntersectionResult, IsNoSumsResult};
+ghost use Rattle.sketch_objects.specs.CompactSums.{OfSums, OfCompactSums, OfSumsImage};
+ghost use Rattle.sketch_objects.specs.SumsIntersections.{IsNewSumsIntersection, MeetsShownSums, IsSumsIntersectionResult, IsNoSumsResult};
 ghost use Rattle.sketch_objects.specs.declared.sums_intersection.SeededSumsIntersection.{SeededSumsIntersection};
 
 use crate::compact_sums::CompactSums;
@@ -43,7 +44,7 @@ fn add(object: &mut SeededSumsIntersection, view: TupleSketchView<'_, u64>) -> u
 }
 
 impl Accepts<SeededSums> for SeededSumsIntersection {
-    ghost adds = { MeetsSketchOfSums };
+    ghost adds = { OfSums MeetsShownSums };
 
     fn add(&mut self, sketch: &SeededSums) -> u32 {
         add(self, sketch.sketch.as_view())
@@ -51,7 +52,7 @@ impl Accepts<SeededSums> for SeededSumsIntersection {
 }
 
 impl Accepts<CompactSums> for SeededSumsIntersection {
-    ghost adds = { MeetsCompactSums };
+    ghost adds = { OfCompactSums MeetsShownSums };
 
     fn add(&mut self, sketch: &CompactSums) -> u32 {
         add(self, sketch.sketch.as_view())
@@ -59,7 +60,7 @@ impl Accepts<CompactSums> for SeededSumsIntersection {
 }
 
 impl AcceptsImages for SeededSumsIntersection {
-    ghost adds_image = { MeetsSumsImage };
+    ghost adds_image = { OfSumsImage MeetsShownSums (λ i. i.seed) };
 
     fn add_image(&mut self, alloc: Global, image: &[u8]) -> u32 {
         match CompactSums::read(alloc, image, self.seed) {

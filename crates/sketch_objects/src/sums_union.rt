@@ -5,7 +5,8 @@ ghost use Rattle.core_laws.specs.Settings.{settings_refusal};
 ghost use Rattle.core_laws.specs.declared.TheConstants.{MAX_THETA};
 ghost use Rattle.core_slots.specs.Entry.{tuple_key};
 ghost use Rattle.core_state.specs.View.{shows, sequence};
-ghost use Rattle.sketch_objects.specs.SumsUnions.{IsNewSumsUnion, AddsShownSums, AddsSums, AddsCompactSums, AddsSumsImage, IsSumsUnionResult, IsSumsUnionImage, IsSumsResultRefusal, ResetsSumsUnion};
+ghost use Rattle.sketch_objects.specs.CompactSums.{OfSums, OfCompactSums, OfSumsImage};
+ghost use Rattle.sketch_objects.specs.SumsUnions.{IsNewSumsUnion, AddsShownSums, IsSumsUnionResult, IsSumsUnionImage, IsSumsResultRefusal, ResetsSumsUnion};
 ghost use Rattle.sketch_objects.specs.declared.sums_union.SeededSumsUnion.{SeededSumsUnion};
 
 use crate::compact_sums::CompactSums;
@@ -47,7 +48,7 @@ fn add(union: &mut SeededSumsUnion, view: TupleSketchView<'_, u64>) -> u32
 }
 
 impl Accepts<SeededSums> for SeededSumsUnion {
-    ghost adds = { AddsSums };
+    ghost adds = { OfSums AddsShownSums };
 
     fn add(&mut self, sketch: &SeededSums) -> u32 {
         add(self, sketch.sketch.as_view())
@@ -55,7 +56,7 @@ impl Accepts<SeededSums> for SeededSumsUnion {
 }
 
 impl Accepts<CompactSums> for SeededSumsUnion {
-    ghost adds = { AddsCompactSums };
+    ghost adds = { OfCompactSums AddsShownSums };
 
     fn add(&mut self, sketch: &CompactSums) -> u32 {
         add(self, sketch.sketch.as_view())
@@ -63,7 +64,7 @@ impl Accepts<CompactSums> for SeededSumsUnion {
 }
 
 impl AcceptsImages for SeededSumsUnion {
-    ghost adds_image = { AddsSumsImage };
+    ghost adds_image = { OfSumsImage AddsShownSums (λ u. u.seed) };
 
     fn add_image(&mut self, alloc: Global, image: &[u8]) -> u32 {
         match CompactSums::read(alloc, image, self.seed) {

@@ -4,7 +4,8 @@ ghost use Rattle.core_laws.specs.Refusal.{Refuses};
 ghost use Rattle.core_laws.specs.Settings.{settings_refusal};
 ghost use Rattle.core_laws.specs.declared.TheConstants.{MAX_THETA};
 ghost use Rattle.theta_sketches.specs.View.{view_shows, view_sequence};
-ghost use Rattle.sketch_objects.specs.Unions.{IsNewUnion, AddsShown, AddsSketch, AddsCompact, AddsImage, IsUnionResult, IsUnionImage, IsResultRefusal, ResetsUnion};
+ghost use Rattle.sketch_objects.specs.Thetas.{OfSketch, OfCompact, OfImage};
+ghost use Rattle.sketch_objects.specs.Unions.{IsNewUnion, AddsShown, IsUnionResult, IsUnionImage, IsResultRefusal, ResetsUnion};
 ghost use Rattle.sketch_objects.specs.declared.union.SeededUnion.{SeededUnion};
 
 use crate::compact::CompactSketch;
@@ -45,7 +46,7 @@ fn add(union: &mut SeededUnion, view: ThetaSketchView<'_, Global>) -> u32
 }
 
 impl Accepts<SeededSketch> for SeededUnion {
-    ghost adds = { AddsSketch };
+    ghost adds = { OfSketch AddsShown };
 
     fn add(&mut self, sketch: &SeededSketch) -> u32 {
         add(self, sketch.sketch.as_view())
@@ -53,7 +54,7 @@ impl Accepts<SeededSketch> for SeededUnion {
 }
 
 impl Accepts<CompactSketch> for SeededUnion {
-    ghost adds = { AddsCompact };
+    ghost adds = { OfCompact AddsShown };
 
     fn add(&mut self, sketch: &CompactSketch) -> u32 {
         add(self, sketch.sketch.as_view())
@@ -61,7 +62,7 @@ impl Accepts<CompactSketch> for SeededUnion {
 }
 
 impl AcceptsImages for SeededUnion {
-    ghost adds_image = { AddsImage };
+    ghost adds_image = { OfImage AddsShown (λ u. u.seed) };
 
     fn add_image(&mut self, alloc: Global, image: &[u8]) -> u32 {
         match CompactSketch::read(alloc, image, self.seed) {
