@@ -1,6 +1,7 @@
 -- What a command answers.
 use Rattle.std.proofs.Common.{◌≡◌, ◌++◌, ℕ, Bool, true, false, List, Option, Some, None, refl, sym, ap, subst, ◌∙◌}
 use Rattle.std.specs.Prelude.{IfSome, IfOk, Result, Ok, Err}
+use Rattle.std.specs.Option.{option_map}
 use Rattle.core_compact.specs.CompactState.{Compact, ordered_sketch}
 use Rattle.theta_sketches.specs.Image.{written}
 use Rattle.sketch_base.specs.Seed.{seed_hash}
@@ -13,6 +14,7 @@ use Rattle.line_sums.specs.Images.{written_sums, ReadsSums}
 use Rattle.line_sums.specs.Sums.{one_each}
 use Rattle.line_sums.specs.Unions.{IsUnitedSums, AreSumsOfTexts}
 use Rattle.line_sums.specs.declared.addends.Amount.{Amount}
+use Rattle.line_sums.specs.declared.addends.Amount.TheVariants.{Number}
 use Rattle.distinct_commands.specs.Sums.{sums_of, IsSumsText}
 use Rattle.distinct_commands.specs.Answers.{sketch_of, lines_text, IsLinesText}
 use Rattle.distinct_commands.specs.Groups.{grouping_of, group_estimate, chosen_order, AreOrdered, groups_head, groups_text, IsGroupedText}
@@ -20,7 +22,11 @@ use Rattle.distinct_commands.specs.Texts.{count_text}
 use Rattle.distinct_commands.specs.Visits.{visits_text, IsVisitsOfImages}
 use Rattle.grouped_lines.specs.Groups.{AreGroups}
 use Rattle.distinct_inputs.specs.Images.{in_form}
-use Rattle.distinct_arguments.specs.Settings.{OptionValues}
+use Rattle.distinct_arguments.specs.Settings.{OptionValues, chosen_value}
+use Rattle.distinct_arguments.specs.declared.fault.Fault.TheVariants.{LoneSum}
+use Rattle.distinct_inputs.specs.Failures.{IsOfSums, IsOfTotal, IsOfTotalOf}
+use Rattle.distinct_inputs.specs.declared.failure.Failure.{Failure}
+use Rattle.distinct_inputs.specs.declared.failure.Failure.TheVariants.{Arguments}
 
 -- the sketch of lines that are in no groups, or their groups, as they are printed or written
 ungrouped : (images : Bool) (options : OptionValues) (seed : ℕ) (texts : List (List ℕ)) (s : Compact ℕ) (out : List ℕ) → s ≡ sketch_of options seed texts → out ≡ lines_text images options s → IsLinesText images None options seed texts out
@@ -79,3 +85,18 @@ visited (Some all) options seed s out united apart text = record {
   text = text;
   apart = λ key texts are. text ∙ ap (visits_text options) (apart key one_each texts are);
 }
+
+-- ---- failures of `sum`
+
+unmapped : {X Y : Type 0} (f : X → Y) (o : Option X) → option_map f o ≡ None → o ≡ None
+unmapped f None is = refl
+unmapped f (Some x) is = absurd (cc)
+
+-- no field has the numbers
+pub lone_sum : (options : OptionValues) (seed : ℕ) (texts : Option (List (List ℕ))) (value : Option Key) → value ≡ chosen_value options → ((field : Key) → value ≡ Some field → ⊥) → IsOfTotal options seed texts (Arguments LoneSum)
+lone_sum options seed texts None is none = subst (λ (value : Option Key). IsOfTotalOf value options seed texts (Arguments LoneSum)) is (unmapped _ options.value (sym is))
+lone_sum options seed texts (Some field) is none = absurd (none field refl)
+
+-- lines are not summed by the field that has them
+pub not_summed : (options : OptionValues) (seed : ℕ) (texts : Option (List (List ℕ))) (field : Key) (f : Failure) → chosen_value options ≡ Some field → IsOfSums options seed (Number field) texts f → IsOfTotal options seed texts f
+not_summed options seed texts field f is failed = subst (λ (value : Option Key). IsOfTotalOf value options seed texts f) (sym is) failed

@@ -33,8 +33,8 @@ const STANDARD_OUTPUT: &str = "standard output";
 /// contracts know the files' bytes, only if two files aren't named (without `--hex`) or their images aren't two;
 /// `WrongCount` only a command on images, if `--expect` names another number than it reports to have found; `NoName`,
 /// `NotOneEach`, `NoExpression` and `NotOneExpression` only `eval`; `PastUnion` only a command on images of sums; `LoneSum`
-/// only `sum`, if its options have no field of numbers; `PastGreatest` and `NotANumber` only a command that sums lines. Only
-/// if the writer fails may a part of the answer have been written.
+/// only `sum`, if its options have no field of numbers; `NotANumber` only a command that sums lines, and `PastGreatest` too,
+/// if a sum is 2^64 or more. Only if the writer fails may a part of the answer have been written.
 pub fn answer<S: Sources + Drop, C: Console, O: Write>(
     alloc: Global,
     command: Command,
@@ -48,7 +48,7 @@ pub fn answer<S: Sources + Drop, C: Console, O: Write>(
     requires seeded { seed_hash seed ≢ 0 }
     ensures answered { IfSome (S.texts sources) (λ texts.
         OnOk result (WritesAnswer command (options_of options.now) seed (names_of files.now) texts (O.contents writer.old) (O.contents writer.new))) }
-    ensures failed { IfErr result (IsOfAnswer command (options_of options.now) (length files.now) (S.texts sources)) }
+    ensures failed { IfErr result (IsOfAnswer command (options_of options.now) seed (length files.now) (S.texts sources)) }
     ensures unwritten { IfErr result (IsUnwritten (O.contents writer.old) (O.contents writer.new)) }
 {
     let inputs = Inputs::new(sources, files);
@@ -76,7 +76,7 @@ pub fn perform<S: Sources + Drop, C: Console, O: Write>(
     requires seeded { seed_hash seed ≢ 0 }
     ensures performed { IfSome (S.texts sources) (λ texts.
         OnOk result (Performs (request_action request.entry) seed (names_of files.now) texts (O.contents writer.old) (O.contents writer.new))) }
-    ensures failed { IfErr result (IsOfRequest (request_action request.entry) (length files.now) (S.texts sources)) }
+    ensures failed { IfErr result (IsOfRequest (request_action request.entry) seed (length files.now) (S.texts sources)) }
     ensures unwritten { IfErr result (IsUnwritten (O.contents writer.old) (O.contents writer.new)) }
 {
     match request {
@@ -118,7 +118,7 @@ impl<'a, S: Sources + Drop> Job<'a, S> {
         requires seeded { seed_hash self.seed ≢ 0 }
         ensures answer { IfSome (S.texts self.entry.inputs.sources) (λ texts. IfOk result (λ v.
             IsCommandAnswer command (options_of self.entry.options.now) self.entry.seed (names_of files.now) texts v.items)) }
-        ensures failed { IfErr result (IsOfCommand command (options_of self.entry.options.now) (length files.now) (S.texts self.entry.inputs.sources)) }
+        ensures failed { IfErr result (IsOfCommand command (options_of self.entry.options.now) self.entry.seed (length files.now) (S.texts self.entry.inputs.sources)) }
     {
         let (alloc, options) = (self.alloc, self.options);
         match command {
@@ -184,7 +184,7 @@ impl<'a, S: Sources + Drop> Job<'a, S> {
             IfOk result (λ v.
             IsSketchText (chosen_amount (options_of self.entry.options.now)) (chosen_group (options_of self.entry.options.now))
             (options_of self.entry.options.now) self.entry.seed texts v.items)) }
-        ensures failed { IfErr result (IsOfSketch (options_of self.entry.options.now)) }
+        ensures failed { IfErr result (IsOfSketch (options_of self.entry.options.now) self.entry.seed (S.texts self.entry.inputs.sources)) }
     {
         match chosen_amount(self.options) {
             Some(amount) => self.write_sums(amount),

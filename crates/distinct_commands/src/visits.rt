@@ -118,7 +118,7 @@ impl<'a, S: Sources + Drop> Job<'a, S> {
         requires seeded { seed_hash self.seed ≢ 0 }
         ensures printed { IfSome (S.texts self.entry.inputs.sources) (λ texts. IfOk result (λ v.
             v.items ≡ visits_text (options_of self.entry.options.now) (visits_of (options_of self.entry.options.now) self.entry.seed texts))) }
-        ensures failed { IfErr result (IsOfSums One) }
+        ensures failed { IfErr result (IsOfSums (options_of self.entry.options.now) self.entry.seed One (S.texts self.entry.inputs.sources)) }
     {
         let (alloc, options) = (self.alloc, self.options);
         let visits = self.sums_of(Amount::One)?;
@@ -153,7 +153,7 @@ impl<'a, S: Sources + Drop> Job<'a, S> {
         requires seeded { seed_hash self.seed ≢ 0 }
         ensures printed { IfSome (S.texts self.entry.inputs.sources) (λ texts. IfOk result (λ v.
             IsVisitsText self.entry.options.now.sums (options_of self.entry.options.now) self.entry.seed texts v.items)) }
-        ensures failed { IfErr result (IsOfVisits (options_of self.entry.options.now)) }
+        ensures failed { IfErr result (IsOfVisits (options_of self.entry.options.now) self.entry.seed (S.texts self.entry.inputs.sources)) }
     {
         if self.options.sums {
             return self.visit_images(console);

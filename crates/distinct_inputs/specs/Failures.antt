@@ -4,9 +4,14 @@ use Rattle.std.specs.Option.{option_map}
 use Rattle.std.specs.Str.{bytes_eq}
 use Rattle.sketch_base.specs.declared.error.ErrorKind.TheVariants.{OutOfMemory, InvalidData, Policy}
 use Rattle.sketch_base.specs.Seed.{seed_hash}
+use Rattle.lines.specs.Lines.{lines_of_all}
 use Rattle.lines.specs.declared.key.Hashing.{Hashing}
+use Rattle.lines.specs.declared.key.Key.{Key}
+use Rattle.line_sketches.specs.Refusals.{HasFault}
 use Rattle.line_sketches.specs.declared.sketching.Unread.{Unread}
 use Rattle.line_sketches.specs.declared.sketching.Unread.TheVariants.{Refused, Failed}
+use Rattle.line_sums.specs.Amounts.{added_by}
+use Rattle.line_sums.specs.Refusals.{HasNoNumber, IsPast}
 use Rattle.line_sums.specs.declared.addends.Amount.{Amount}
 use Rattle.line_sums.specs.declared.addends.Amount.TheVariants.{One, Number}
 use Rattle.expression_text.specs.Grammar.{SpellsNothing}
@@ -93,6 +98,14 @@ ReportsNotWritten name error _ = ⊥
 abbrev pub chosen_amount : OptionValues → Option Amount
 chosen_amount options = if options.visits then Some One else option_map (λ field. Number field) (chosen_value options)
 
+-- how lines are hashed: by the field of the number that options choose, the first being 1, or the whole line
+abbrev pub chosen_hashing : OptionValues → (seed : ℕ) → Hashing
+chosen_hashing options seed = record { key = chosen_key options; seed = seed }
+
+-- the sum of what the lines of some hash add in texts is 2^64 or more, if the texts are known
+abbrev pub HasGreatSum : OptionValues → (seed : ℕ) → Amount → (texts : Option (List (List ℕ))) → Type 0
+HasGreatSum options seed amount texts = IfSome texts (λ all. IsPast (chosen_hashing options seed) (added_by amount) (lines_of_all all))
+
 -- memory was refused, or a file can't be read
 abbrev pub IsOfReading : Failure → Type 0
 IsOfReading Memory = ⊤
@@ -108,24 +121,36 @@ IsOfImages (NoTab name line) = ⊤
 IsOfImages (NoLine name) = ⊤
 IsOfImages failure = IsOfReading failure
 
--- lines are not summed: memory was refused, a file can't be read, a sum would be 2^64 or more, or a line has no number to add
-abbrev pub IsOfSums : Amount → Failure → Type 0
-IsOfSums amount (PastGreatest name line) = ⊤
-IsOfSums amount (NotANumber name line) = amount ≢ One
-IsOfSums amount failure = IsOfReading failure
+-- some line of texts has no number to add, if the texts are known
+abbrev pub HasNoNumberIn : Amount → (texts : Option (List (List ℕ))) → Type 0
+HasNoNumberIn amount texts = IfSome texts (λ all. HasFault (HasNoNumber amount) (lines_of_all all))
 
--- .. or a sum would be 2^64 or more, or a line has no number, if lines are summed, and their numbers
-abbrev pub IsOfSketch : OptionValues → Failure → Type 0
-IsOfSketch options (PastGreatest name line) = chosen_amount options ≢ None
-IsOfSketch options (NotANumber name line) = (chosen_amount options ≢ None) × (chosen_amount options ≢ Some One)
-IsOfSketch options failure = IsOfReading failure
+-- lines are not summed: memory was refused, a file can't be read, a sum is 2^64 or more, or a line has no number to add
+abbrev pub IsOfSums : OptionValues → (seed : ℕ) → Amount → (texts : Option (List (List ℕ))) → Failure → Type 0
+IsOfSums options seed amount texts (PastGreatest name line) = HasGreatSum options seed amount texts
+IsOfSums options seed amount texts (NotANumber name line) = (amount ≢ One) × HasNoNumberIn amount texts
+IsOfSums options seed amount texts failure = IsOfReading failure
 
--- lines are not summed, or no field has their numbers
-abbrev pub IsOfTotal : OptionValues → Failure → Type 0
-IsOfTotal options (Arguments LoneSum) = options.value ≡ None
-IsOfTotal options (PastGreatest name line) = ⊤
-IsOfTotal options (NotANumber name line) = ⊤
-IsOfTotal options failure = IsOfReading failure
+-- lines are not sketched, or not summed if they add something
+abbrev pub IsOfChosen : Option Amount → OptionValues → (seed : ℕ) → (texts : Option (List (List ℕ))) → Failure → Type 0
+IsOfChosen None options seed texts failure = IsOfReading failure
+IsOfChosen (Some amount) options seed texts failure = IsOfSums options seed amount texts failure
+
+abbrev pub IsOfSketch : OptionValues → (seed : ℕ) → (texts : Option (List (List ℕ))) → Failure → Type 0
+IsOfSketch options seed texts failure = IsOfChosen (chosen_amount options) options seed texts failure
+
+-- no field has the numbers of lines
+abbrev pub IsLone : OptionValues → Failure → Type 0
+IsLone options (Arguments LoneSum) = options.value ≡ None
+IsLone options failure = ⊥
+
+-- .. or lines are not summed by the field that has their numbers
+abbrev pub IsOfTotalOf : (value : Option Key) → OptionValues → (seed : ℕ) → (texts : Option (List (List ℕ))) → Failure → Type 0
+IsOfTotalOf None options seed texts failure = IsLone options failure
+IsOfTotalOf (Some field) options seed texts failure = IsOfSums options seed (Number field) texts failure
+
+abbrev pub IsOfTotal : OptionValues → (seed : ℕ) → (texts : Option (List (List ℕ))) → Failure → Type 0
+IsOfTotal options seed texts failure = IsOfTotalOf (chosen_value options) options seed texts failure
 
 -- no seed: a number has a seed hash of 0, or a file can't be read or has no seed
 abbrev pub IsOfSeed : SeedValue → Failure → Type 0
@@ -160,9 +185,9 @@ IsOfEitherUnion options (PastUnion name line) = options.sums ≡ true
 IsOfEitherUnion options failure = IsOfUnion options.expected failure
 
 -- `visits` fails: lines, or images of sums, are at fault
-abbrev pub IsOfVisits : OptionValues → Failure → Type 0
-IsOfVisits options (PastGreatest name line) = ⊤
-IsOfVisits options failure = IsOfEitherUnion options failure
+abbrev pub IsOfVisits : OptionValues → (seed : ℕ) → (texts : Option (List (List ℕ))) → Failure → Type 0
+IsOfVisits options seed texts (PastGreatest name line) = (options.sums ≡ false) × HasGreatSum options seed One texts
+IsOfVisits options seed texts failure = IsOfEitherUnion options failure
 
 -- a union of images, of sums or of theta sketches, is refused for memory, for an image, or, if they are of sums, for a sum of 2^64 or more
 abbrev pub IsOfUniting : (sums : Bool) → Unread → Type 0
@@ -210,31 +235,27 @@ OrUnnamed IsUnnamed IsOther failure = IsOther failure
 
 -- a command fails before it writes: what it reads is at fault, or memory was refused; and by command, no image is named, there are not as
 -- many as are expected, `minus` doesn't have two, `eval` doesn't have one expression, or `sum` doesn't have the field of its numbers
-abbrev pub IsOfCommand : Command → OptionValues → (count : ℕ) → (texts : Option (List (List ℕ))) → Failure → Type 0
-IsOfCommand Count options count texts failure = IsOfReading failure
-IsOfCommand Sketch options count texts failure = IsOfSketch options failure
-IsOfCommand (Combine operator) options count texts failure = OrUnnamed (count ≡ 0) (IsOfCombining operator options count texts) failure
-IsOfCommand Show options count texts failure = OrUnnamed (count ≡ 0) IsOfImages failure
-IsOfCommand Eval options count texts failure = IsOfEvaluation count failure
-IsOfCommand Visits options count texts failure = OrUnnamed ((count ≡ 0) × (options.sums ≡ true)) (IsOfVisits options) failure
-IsOfCommand Sum options count texts failure = IsOfTotal options failure
+abbrev pub IsOfCommand : Command → OptionValues → (seed count : ℕ) → (texts : Option (List (List ℕ))) → Failure → Type 0
+IsOfCommand Count options seed count texts failure = IsOfReading failure
+IsOfCommand Sketch options seed count texts failure = IsOfSketch options seed texts failure
+IsOfCommand (Combine operator) options seed count texts failure = OrUnnamed (count ≡ 0) (IsOfCombining operator options count texts) failure
+IsOfCommand Show options seed count texts failure = OrUnnamed (count ≡ 0) IsOfImages failure
+IsOfCommand Eval options seed count texts failure = IsOfEvaluation count failure
+IsOfCommand Visits options seed count texts failure = OrUnnamed ((count ≡ 0) × (options.sums ≡ true)) (IsOfVisits options seed texts) failure
+IsOfCommand Sum options seed count texts failure = IsOfTotal options seed texts failure
 
 -- a command fails, or its answer can't be written to standard output
-abbrev pub IsOfAnswer : Command → OptionValues → (count : ℕ) → (texts : Option (List (List ℕ))) → Failure → Type 0
-IsOfAnswer command options count texts failure = IsOfCommand command options count texts failure ⊎ IsOfWriting (codes "standard output") failure
+abbrev pub IsOfAnswer : Command → OptionValues → (seed count : ℕ) → (texts : Option (List (List ℕ))) → Failure → Type 0
+IsOfAnswer command options seed count texts failure = IsOfCommand command options seed count texts failure ⊎ IsOfWriting (codes "standard output") failure
 
 -- a request fails as its command does, or its text can't be written to standard output
-abbrev pub IsOfRequest : Action → (count : ℕ) → (texts : Option (List (List ℕ))) → Failure → Type 0
-IsOfRequest (prints topic) count texts failure = IsOfWriting (codes "standard output") failure
-IsOfRequest (runs command options files) count texts failure = IsOfAnswer command options count texts failure
-IsOfRequest (fails mistake) count texts failure = ⊥
+abbrev pub IsOfRequest : Action → (seed count : ℕ) → (texts : Option (List (List ℕ))) → Failure → Type 0
+IsOfRequest (prints topic) seed count texts failure = IsOfWriting (codes "standard output") failure
+IsOfRequest (runs command options files) seed count texts failure = IsOfAnswer command options seed count texts failure
+IsOfRequest (fails mistake) seed count texts failure = ⊥
 
 -- nothing was written to the writer, or it is the writer that failed
 abbrev pub IsUnwritten : (old new : Option (List ℕ)) → Failure → Type 0
 IsUnwritten old new Memory = ⊤
 IsUnwritten old new (NotWritten output error) = ⊤
 IsUnwritten old new _ = new ≡ old
-
--- how lines are hashed: by the field of the number that options choose, the first being 1, or the whole line
-abbrev pub chosen_hashing : OptionValues → (seed : ℕ) → Hashing
-chosen_hashing options seed = record { key = chosen_key options; seed = seed }

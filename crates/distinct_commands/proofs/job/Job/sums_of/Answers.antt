@@ -1,11 +1,12 @@
 use Rattle.std.proofs.Common.{◌≡◌, ap, subst, ◌∙◌}
+use Rattle.std.specs.Prelude.{IfSome}
 use Rattle.lines.specs.Lines.{lines_of_all}
 use Rattle.lines.specs.declared.key.Key.{Key}
 use Rattle.line_sketches.proofs.Turns.{if_some}
 use Rattle.line_sums.specs.Amounts.{added_by}
 use Rattle.core_laws.specs.Settings.{settings_refusal}
 use Rattle.core_laws.specs.declared.TheConstants.{MAX_THETA}
-use Rattle.line_sums.specs.Refusals.{IsUnsummed}
+use Rattle.line_sums.specs.Refusals.{IsUnsummed, LacksNumberIn, IsPast, IsPastIn}
 use Rattle.line_sums.specs.Sums.{sketch_of_sums}
 use Rattle.line_sums.specs.declared.summing.Unsummed.{Unsummed}
 use Rattle.distinct_arguments.specs.Faults.{options_of}
@@ -18,10 +19,19 @@ returns-in-Ok-clause-sums g c =
     (λ texts is. is ∙ ap (λ (k : Key). sketch_of_sums (record { key = k; seed = c.args.self.seed }) (added_by c.args.amount) c.args.self.options.now.lg_k (lines_of_all texts)) c.key.ensures) c.in-Ok.ensures.sketch
 
 pub returns-in-Err-PastGreatest-clause-failed : goal.returns-in-Err-PastGreatest-clause-failed
-returns-in-Err-PastGreatest-clause-failed g c = c.past_greatest.ensures c.args.amount
+returns-in-Err-PastGreatest-clause-failed g c =
+    let options = options_of c.args.self.options.now in
+    let seed = c.args.self.seed in
+    let amount = c.args.amount in
+    let texts = g.S.Sources.texts c.args.self.inputs.sources in
+    let past = subst (λ (u : Unsummed). IfSome texts (λ all. IsPastIn (record { key = c.key.result; seed = seed }) amount (lines_of_all all) u)) c.in-Err-PastGreatest.field-0-is c.in-Err-PastGreatest.ensures.past in
+    c.past_greatest.ensures options seed amount texts (subst (λ (k : Key). IfSome texts (λ all. IsPast (record { key = k; seed = seed }) (added_by amount) (lines_of_all all))) c.key.ensures past)
 
 pub returns-in-Err-NotANumber-clause-failed : goal.returns-in-Err-NotANumber-clause-failed
 returns-in-Err-NotANumber-clause-failed g c =
     let refusal = settings_refusal c.args.self.options.now.lg_k MAX_THETA c.args.self.seed in
-    let is = subst (λ (u : Unsummed). IsUnsummed c.args.amount refusal u) c.in-Err-NotANumber.field-0-is c.in-Err-NotANumber.ensures.refused in
-    c.not_a_number.ensures c.args.amount is.1
+    let amount = c.args.amount in
+    let texts = g.S.Sources.texts c.args.self.inputs.sources in
+    let is = subst (λ (u : Unsummed). IsUnsummed amount refusal u) c.in-Err-NotANumber.field-0-is c.in-Err-NotANumber.ensures.refused in
+    let lacking = subst (λ (u : Unsummed). IfSome texts (λ all. LacksNumberIn amount (lines_of_all all) u)) c.in-Err-NotANumber.field-0-is c.in-Err-NotANumber.ensures.numbered in
+    c.not_a_number.ensures (options_of c.args.self.options.now) c.args.self.seed amount texts is.1 lacking
