@@ -97,7 +97,8 @@ impl<T: HasDifference> Owned<T> {
         seed: u64,
         out: &mut Owned<T>,
     ) -> u32
-        ensures made { FillsFromTwo (T.are_of_seed seed) T.is_difference (T.no_difference seed) self.old.value other.old.value out.old.value result out.new.value }
+        ensures made { FillsFromTwo (T.are_of_seed seed) T.is_difference (T.no_difference seed)
+            self.old.value other.old.value out.old.value result out.new.value }
         ensures unchanged { self.new.value ≡ self.old.value }
         ensures same_other { other.new.value ≡ other.old.value }
     {

@@ -118,7 +118,9 @@ impl<'a, S: Sources + Drop> Job<'a, S> {
         requires seeded { seed_hash self.seed ≢ 0 }
         ensures answer { IfSome (S.texts self.entry.inputs.sources) (λ texts. IfOk result (λ v.
             IsCommandAnswer command (options_of self.entry.options.now) self.entry.seed (names_of files.now) texts v.items)) }
-        ensures failed { IfErr result (IsOfCommand command (options_of self.entry.options.now) self.entry.seed (length files.now) (S.texts self.entry.inputs.sources)) }
+        ensures failed { IfErr result (
+            IsOfCommand command (options_of self.entry.options.now) self.entry.seed (length files.now)
+            (S.texts self.entry.inputs.sources)) }
     {
         let (alloc, options) = (self.alloc, self.options);
         match command {

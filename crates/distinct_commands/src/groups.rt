@@ -173,7 +173,8 @@ impl<'a> GroupPrinter<'a> {
             → AreLeft grouping lines names groups.old
             → IfOk result (λ v. (ordered : List (List ℕ))
             × AreOrdered (chosen_order (options_of self.entry.options.now)) (group_estimate (options_of self.entry.options.now) grouping lines) names ordered
-            × (v.items ≡ groups_head self.entry.images (options_of self.entry.options.now) ++ groups_text self.entry.images (options_of self.entry.options.now) grouping lines ordered)) }
+            × (v.items ≡ groups_head self.entry.images (options_of self.entry.options.now)
+            ++ groups_text self.entry.images (options_of self.entry.options.now) grouping lines ordered)) }
         ensures memory { IfErr result (λ f. f ≡ failure.Memory) }
     {
         let head = self.head()?;

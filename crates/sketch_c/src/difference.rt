@@ -20,7 +20,8 @@ pub extern "C" fn kcp_difference(
     seed: u64,
     out: &mut CompactHandle,
 ) -> u32
-    ensures made { FillsFromTwo (AreOfSeed seed) IsDifferenceOf (IsDifferenceRefusal seed) first.old.value second.old.value out.old.value result out.new.value }
+    ensures made { FillsFromTwo (AreOfSeed seed) IsDifferenceOf (IsDifferenceRefusal seed)
+        first.old.value second.old.value out.old.value result out.new.value }
     ensures same_first { first.new.value ≡ first.old.value }
     ensures same_second { second.new.value ≡ second.old.value }
 {

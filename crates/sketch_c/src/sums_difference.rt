@@ -16,7 +16,8 @@ pub extern "C" fn kcp_sums_difference(
     seed: u64,
     out: &mut CompactSumsHandle,
 ) -> u32
-    ensures made { FillsFromTwo (AreSumsOfSeed seed) IsDifferenceOfSums (IsSumsDifferenceRefusal seed) first.old.value second.old.value out.old.value result out.new.value }
+    ensures made { FillsFromTwo (AreSumsOfSeed seed) IsDifferenceOfSums (IsSumsDifferenceRefusal seed)
+        first.old.value second.old.value out.old.value result out.new.value }
     ensures same_first { first.new.value ≡ first.old.value }
     ensures same_second { second.new.value ≡ second.old.value }
 {
