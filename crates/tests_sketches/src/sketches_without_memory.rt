@@ -14,7 +14,11 @@ fn seen_of<'a>(sketch: &ThetaSketch<&'a Heap>) -> usize {
     let _numbers = (sketch.theta64(), sketch.lg_k(), sketch.seed_hash());
     let _fraction = sketch.estimate_fraction();
     let _size = sketch.estimated_size();
-    sketch.iter().count()
+    let mut iterated = 0usize;
+    for _entry in sketch.iter() {
+        iterated = iterated.saturating_add(1);
+    }
+    iterated
 }
 
 /// The number of entries of a view, summed over its three iterators.
