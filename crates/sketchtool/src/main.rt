@@ -6,8 +6,6 @@
 
 mod answer;
 mod run;
-#[cfg(test)]
-mod tests;
 
 use std::process::ExitCode;
 
