@@ -1,19 +1,10 @@
-//! Helpers for all tests: sketches, values from outside, and memory that is refused.
+//! Helpers for all tests: sketches, and values from outside.
 
-use refusing_allocator::Refusing;
-use sketch_base::{Error, ErrorKind};
+use sketch_base::Error;
 use std::alloc::{AllocError, Allocator, Global};
 use theta_sketches::{
     CompactThetaSketch, ThetaSketch, ThetaSketchBuilder, ThetaSketchIter, ThetaUnion,
 };
-
-/// Memory whose requests are counted, and refused if a test wants that.
-pub type Heap = Refusing<Global>;
-
-/// Why a call was refused.
-pub fn kind_of<T: Drop>(answer: Result<T, Error>) -> Option<ErrorKind> {
-    answer.err().map(|e| e.kind())
-}
 
 /// The hashes of a sketch, ascending.
 pub fn ascending(alloc: Global, entries: ThetaSketchIter<'_>) -> Result<Vec<u64>, AllocError> {

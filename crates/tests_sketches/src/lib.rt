@@ -17,8 +17,6 @@ mod mapped;
 #[cfg(test)]
 mod sketches;
 #[cfg(test)]
-mod sketches_without_memory;
-#[cfg(test)]
 mod slots;
 #[cfg(test)]
 mod steps;
