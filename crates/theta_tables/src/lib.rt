@@ -4,8 +4,6 @@
 
 mod command;
 mod plain_table;
-#[cfg(test)]
-mod refusals;
 mod run;
 #[cfg(test)]
 mod runs;
