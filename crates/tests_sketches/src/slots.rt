@@ -40,11 +40,9 @@ fn builders_pass_the_resize_factor(rt: HostRuntime) -> Result<(), Fail> {
     Ok(())
 }
 
-/// A hash of 63 bits for a number from 1 to 2^63 - 1, different for each number.
+/// A hash of 63 bits for a number, different for each up to 2^20.
 fn hash_of(number: u64) -> u64 {
-    let first = number.wrapping_mul(0x9e37_79b9_7f4a_7c15) & MAX_THETA;
-    let second = (first ^ first >> 31).wrapping_mul(0xbf58_476d_1ce4_e5b9) & MAX_THETA;
-    second ^ second >> 29
+    number.wrapping_mul(11400714819323198485) >> 1
 }
 
 /// The hashes of the numbers from 1 to the last, ascending.

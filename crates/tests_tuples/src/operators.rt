@@ -5,7 +5,7 @@ use std::alloc::Global;
 use std::test::Fail;
 use tuple_sketches::{
     CompactTupleSketch, DefaultUnionPolicy, Error, MAX_THETA, TupleANotB, TupleIntersection,
-    TupleSketchView, TupleUnionBuilder,
+    TupleSketchView, TupleUnion, TupleUnionBuilder,
 };
 
 /// The number of keys of a sketch, and the sum of all their summaries.
@@ -13,6 +13,11 @@ pub fn total(sketch: &CompactTupleSketch<u64>) -> (usize, u64) {
     let sums = sketch.iter().map(|entry| *entry.summary());
     let total = sums.fold(0, |total: u64, sum| total.saturating_add(sum));
     (sketch.num_retained(), total)
+}
+
+/// The total of the answer of a union.
+fn total_of(union: &TupleUnion<DefaultUnionPolicy<u64>>) -> Result<(usize, u64), Error> {
+    Ok(total(&union.to_sketch(true)?))
 }
 
 /// The total of the union of two views.
@@ -25,7 +30,7 @@ fn united(
     let mut union = TupleUnionBuilder::new(sums).build(alloc)?;
     union.update(a)?;
     union.update(b)?;
-    Ok(total(&union.to_sketch(true)?))
+    total_of(&union)
 }
 
 /// The total of the intersection of two views, if it has seen a sketch.
