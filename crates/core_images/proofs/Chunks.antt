@@ -1,10 +1,12 @@
 -- Entries in lists of bytes, N bytes each, and in blocks.
-use Rattle.std.proofs.Common.{◌≡◌, ℕ, zero, suc, ◌+◌, ◌*◌, ◌≤◌, List, [], ◌∷◌, ◌++◌, length, map, take, drop, refl, sym, ap, ◌∙◌, arith, append_assoc, append-nil, take-append-drop}
-use Rattle.std.proofs.lemmas.List.{drop-drop, length-take-le, length-drop, length-map}
+use Rattle.std.proofs.Common.{◌≡◌, ℕ, Bool, ◌&&◌, zero, suc, ◌+◌, ◌*◌, ◌≤◌, List, [], ◌∷◌, ◌++◌, length, map, take, drop, refl, sym, ap, ◌∙◌, arith, append_assoc, append-nil, take-append-drop}
+use Rattle.std.proofs.Math.Bool.{and_assoc, and-true}
+use Rattle.std.proofs.lemmas.List.{drop-drop, length-take-le, length-drop, length-map, map-append}
 use Rattle.std.proofs.lemmas.List.Concat.{flat_map-append}
 use Rattle.std.proofs.lemmas.List.Folds.{flat_map-map}
 use Rattle.std.specs.List.{AllByRecursion, flat_map}
 use Rattle.std.specs.Simd.{first_chunks}
+use Rattle.core_images.specs.Check.{ascends_from}
 use Rattle.core_images.specs.Entry.{SpellsEach, Holds}
 
 module _ {X : Type 0} where
@@ -31,6 +33,32 @@ module _ {X : Type 0} where
       ap (λ l. l ++ others) (e ∙ ap (λ t. bytes ++ flat_map (λ w. w) t) spelled ∙ ap (λ t. bytes ++ t) (flat_map-map (λ w. w) f block))
       ∙ append_assoc bytes (flat_map f block) others
       ∙ ap (λ l. bytes ++ l) (sym (flat_map-append f block (drop n rest)) ∙ ap (flat_map f) (take-append-drop n rest))
+
+  -- what a block maps to is appended
+  pub block_mapped : {Y : Type 0} (f : X → Y) (n : ℕ) (ys new : List Y) (rest : List X) → new ≡ ys ++ map f (take n rest) → new ++ map f (drop n rest) ≡ ys ++ map f rest
+  block_mapped f n ys new rest e =
+      let block = map f (take n rest) in
+      let others = map f (drop n rest) in
+      ap (λ l. l ++ others) e ∙ append_assoc ys block others ∙ ap (λ l. ys ++ l) (sym (map-append f (take n rest) (drop n rest)) ∙ ap (map f) (take-append-drop n rest))
+
+  -- a block ascends, whatever is behind it, and so do all before it
+  pub block_compared : (key : X → ℕ) (n : ℕ) (ascends above : Bool) (last end : ℕ) (rest : List X)
+      → ((others : List ℕ) → (above && ascends_from end others) ≡ ascends_from last (map key (take n rest) ++ others))
+      → ((ascends && above) && ascends_from end (map key (drop n rest))) ≡ (ascends && ascends_from last (map key rest))
+  block_compared key n ascends above last end rest block =
+      let others = map key (drop n rest) in
+      let whole = sym (map-append key (take n rest) (drop n rest)) ∙ ap (map key) (take-append-drop n rest) in
+      and_assoc ascends above (ascends_from end others) ∙ ap (λ b. ascends && b) (block others ∙ ap (ascends_from last) whole)
+
+  -- all ascend if no text is left
+  pub all_compared : (key : X → ℕ) (ascends whole : Bool) (last : ℕ) (rest : List X) → length rest ≡ 0 → (ascends && ascends_from last (map key rest)) ≡ whole → ascends ≡ whole
+  all_compared key ascends whole last [] e all = sym (and-true ascends) ∙ all
+  all_compared key ascends whole last (x ∷ rest) e all = absurd (omega arith)
+
+  -- all are mapped if no text is left
+  pub all_mapped : {Y : Type 0} (f : X → Y) (ys whole : List Y) (rest : List X) → length rest ≡ 0 → ys ++ map f rest ≡ whole → ys ≡ whole
+  all_mapped f ys whole [] e all = sym (append-nil ys) ∙ all
+  all_mapped f ys whole (x ∷ rest) e all = absurd (omega arith)
 
   -- the texts of all are appended
   pub none_left : (f : X → List ℕ) (bytes whole : List ℕ) (rest : List X) → length rest ≡ 0 → bytes ++ flat_map f rest ≡ whole → bytes ≡ whole

@@ -10,7 +10,7 @@ use std::alloc::Allocator;
 
 /// Whether each hash is above the one before it, and the first above 0. It reads all hashes without a branch, so that
 /// it can become vector code.
-fn ascends_from_zero<E: SketchEntry>(entries: &[E]) -> bool
+pub(crate) fn ascends_from_zero<E: SketchEntry>(entries: &[E]) -> bool
     ensures { result ≡ ascends_from 0 (map E.key entries.now) }
 {
     let mut last = 0;
@@ -69,18 +69,20 @@ fn are_distinct<E: SketchEntry, A: Allocator + Drop>(alloc: A, entries: &[E]) ->
     Ok(hashes.is_sorted_by(|hash, next| hash < next))
 }
 
-/// Whether the hashes are distinct and from 1 to below theta, and ascend if `ordered` is true. It allocates only if
-/// they don't ascend.
+/// Whether the hashes are distinct and from 1 to below theta, and ascend if `ordered` is true; `ascends` is whether
+/// they ascend from above 0. It allocates only if they don't.
 pub(crate) fn are_entries<E: SketchEntry, A: Allocator + Drop>(
     alloc: A,
     entries: &[E],
     theta: u64,
     ordered: bool,
+    ascends: bool,
 ) -> Result<bool, Error>
+    requires { ascends ≡ ascends_from 0 (map E.key entries.now) }
     ensures ok { IfOk result (λ b. Decides b (AreHashes theta ordered (map E.key entries.now))) }
     ensures refused { Refuses result None true }
 {
-    if ascends_from_zero(entries) {
+    if ascends {
         return Ok(is_last_below(entries, theta));
     }
     if ordered {

@@ -1,11 +1,13 @@
 //! Entries, and how images spell them.
-ghost use Rattle.std.specs.Prelude.{◌≡◌, ℕ, ◌<◌, ◌≤◌, ◌^◌, ◌++◌, List, length, None, true, IfOk, IfErr, OnOk};
+ghost use Rattle.std.specs.Prelude.{◌≡◌, ℕ, ◌<◌, ◌≤◌, ◌^◌, ◌++◌, List, length, map, None, true, IfOk, IfErr, OnOk};
 ghost use Rattle.std.specs.List.{AllByRecursion, flat_map};
+ghost use Rattle.core_images.specs.Check.{ascends_from};
 ghost use Rattle.core_images.specs.Entry.{Holds};
 ghost use Rattle.core_images.specs.Read.{ReadsPrefix, IsRefused};
 ghost use Rattle.core_laws.specs.Refusal.{Refuses};
 
-use crate::blocks::{FixedEntry, read_in_blocks, write_in_blocks};
+use crate::blocks::{FixedEntry, read_and_compare_in_blocks, read_in_blocks, write_in_blocks};
+use crate::check::ascends_from_zero;
 use core_laws::SketchEntry;
 use core_slots::ThetaEntry;
 use sketch_base::{Error, SketchBytes, SketchSlice};
@@ -37,6 +39,21 @@ pub trait ImageEntry<A: Allocator>: SketchEntry {
         A: Drop,
         ensures ok { IfOk result (λ v. Holds spells bytes.now count v.items) }
         ensures refused { IfErr result (λ e. IsRefused e ((xs : List Self) × Holds spells bytes.now count xs)) };
+
+    /// Reads as `read_each` does, and returns beside the entries whether each hash is above the one before it, and the
+    /// first above 0. It refuses as `read_each` does. Entries of one size may be compared while they are in a near cache.
+    fn read_and_compare(alloc: A, bytes: &[u8], count: u32) -> Result<(Vec<Self, A>, bool), Error>
+    where
+        Self: Drop,
+        A: Drop,
+        ensures ok { IfOk result (λ r. Holds spells bytes.now count r.0.items) }
+        ensures ascends { IfOk result (λ r. r.1 ≡ ascends_from 0 (map Self.key r.0.items)) }
+        ensures refused { IfErr result (λ e. IsRefused e ((xs : List Self) × Holds spells bytes.now count xs)) }
+    {
+        let entries = Self::read_each(alloc, bytes, count)?;
+        let ascends = ascends_from_zero(entries.as_slice());
+        Ok((entries, ascends))
+    }
 
     /// No spelling is a prefix of another, and each spells one entry.
     ghost one_spelling: { (a b u v : List ℕ) (x y : Self) → spells a x → spells b y → a ++ u ≡ b ++ v → (a ≡ b) × (x ≡ y) };
@@ -103,6 +120,18 @@ impl<A: Allocator> ImageEntry<A> for ThetaEntry {
         A: Drop,
     {
         read_in_blocks::<ThetaEntry, 8, A>(alloc, bytes, count)
+    }
+
+    #[inline(always)]
+    fn read_and_compare(
+        alloc: A,
+        bytes: &[u8],
+        count: u32,
+    ) -> Result<(Vec<ThetaEntry, A>, bool), Error>
+    where
+        A: Drop,
+    {
+        read_and_compare_in_blocks::<ThetaEntry, 8, A>(alloc, bytes, count)
     }
 
     ghost one_spelling = { one_hash };

@@ -26,8 +26,8 @@ pub fn read_after_preamble<E: ImageEntry<A> + Drop, A: Allocator + Clone + Drop>
         Some(Layout::Empty) => Ok(CompactSketchState::empty(alloc, seed_hash)),
         Some(Layout::Filled(p)) => {
             let (_, rest) = bytes.split_at(p.start);
-            let entries = E::read_each(alloc.clone()?, rest, p.count)?;
-            if are_entries(alloc, &entries, p.theta, p.ordered)? {
+            let (entries, ascends) = E::read_and_compare(alloc.clone()?, rest, p.count)?;
+            if are_entries(alloc, &entries, p.theta, p.ordered, ascends)? {
                 Ok(CompactSketchState::non_empty(entries, p.theta, seed_hash, p.ordered))
             } else {
                 Err(Error::new(ErrorKind::InvalidData))

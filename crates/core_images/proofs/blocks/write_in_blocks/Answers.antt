@@ -20,9 +20,9 @@ write_blocks-preserved g c =
     let block = c.split_at.ensures.front in
     let others = c.split_at.ensures.back in
     let appended = c.in_ok-write.ensures.ok ∙ ap (λ l. c.write_blocks.bytes.bytes ++ l) c.as_flattened.ensures.value in
-    let spelled = c.split_at-in-write_blocks.ensures.front ∙ c.texts_of-texts.ensures.texts ∙ ap (map fixed.text) block in
+    let spelled = c.split_at-in-write_blocks.ensures.front ∙ c.spell_block.ensures.texts ∙ ap (map fixed.text) block in
     let written = one_block fixed.text _ c.write_blocks.bytes.bytes c.write.new.self.bytes c.split_at-in-write_blocks.result.0.now rest appended spelled in
-    let values = subst (AllByRecursion fixed.is_value) block c.texts_of-texts.ensures.values in (
+    let values = subst (AllByRecursion fixed.is_value) block c.spell_block.ensures.values in (
       ap (λ l. c.write.new.self.bytes ++ flat_map fixed.text l) others ∙ written ∙ c.write_blocks.invariant.0,
       λ behind. c.write_blocks.invariant.1 (all_values fixed.is_value _ rest values (subst (AllByRecursion fixed.is_value) others behind)),
     )

@@ -3,13 +3,13 @@ use Rattle.std.proofs.lemmas.Result.{IfOk-weaker}
 use Rattle.core_images.proofs.AscendingTests.{outside, up_from_zero, not_from_zero, by_distinct}
 use Rattle.core_images.proofs.check.are_entries.Goals as goal
 
-pub returns-then-ascends_from_zero-clause-ok : goal.returns-then-ascends_from_zero-clause-ok
-returns-then-ascends_from_zero-clause-ok g c =
-    up_from_zero c.args.theta c.args.ordered (map g.E.SketchEntry.key c.args.entries.now) c.is_last_below.result (sym c.ascends_from_zero.ensures ∙ c.if-ascends_from_zero.true) c.is_last_below.ensures
+pub returns-then-ascends-clause-ok : goal.returns-then-ascends-clause-ok
+returns-then-ascends-clause-ok g c =
+    up_from_zero c.args.theta c.args.ordered (map g.E.SketchEntry.key c.args.entries.now) c.is_last_below.result (sym c.requires ∙ c.if-ascends.true) c.is_last_below.ensures
 
 pub returns-then-ordered-clause-ok : goal.returns-then-ordered-clause-ok
 returns-then-ordered-clause-ok g c =
-    rw c.if-ordered.true (not_from_zero c.args.theta (map g.E.SketchEntry.key c.args.entries.now) (sym c.ascends_from_zero.ensures ∙ c.if-ascends_from_zero.false))
+    rw c.if-ordered.true (not_from_zero c.args.theta (map g.E.SketchEntry.key c.args.entries.now) (sym c.requires ∙ c.if-ascends.false))
 
 pub returns-then-not-are_below-clause-ok : goal.returns-then-not-are_below-clause-ok
 returns-then-not-are_below-clause-ok g c = outside c.args.theta c.args.ordered (map g.E.SketchEntry.key c.args.entries.now) (sym c.are_below.ensures ∙ c.if-not-are_below.true)

@@ -1,6 +1,6 @@
 use Rattle.std.proofs.Common.{◌≡◌, length, take, map, ap, sym, ◌∙◌, subst, take_all, arith}
 use Rattle.std.specs.List.{AllByRecursion}
-use Rattle.core_images.proofs.blocks.texts_of.Goals as goal
+use Rattle.core_images.proofs.blocks.spell_block.Goals as goal
 
 pub returns-clause-texts : goal.returns-clause-texts
 returns-clause-texts g c =

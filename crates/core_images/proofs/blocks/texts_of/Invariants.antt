@@ -1,7 +1,0 @@
-use Rattle.std.proofs.Common.{◌≡◌, length, take, map}
-use Rattle.std.specs.List.{AllByRecursion}
-use Rattle.core_images.proofs.blocks.texts_of.Given as goal
-
--- the texts so far; their entries are values
-abbrev pub invariant-spell_each : goal.invariant-spell_each
-invariant-spell_each g l = (length l.texts ≡ 64) × (take l.at l.texts ≡ map g.E.FixedEntry.text (take l.at l.block)) × AllByRecursion g.E.FixedEntry.is_value (take l.at l.block)
