@@ -1,12 +1,17 @@
 -- Entries in lists of bytes, N bytes each, and in blocks.
-use Rattle.std.proofs.Common.{◌≡◌, ℕ, Bool, ◌&&◌, zero, suc, ◌+◌, ◌*◌, ◌≤◌, List, [], ◌∷◌, ◌++◌, length, map, take, drop, refl, sym, ap, ◌∙◌, arith, append_assoc, append-nil, take-append-drop}
+use Rattle.std.proofs.Common.{◌≡◌, ℕ, Bool, ◌&&◌, zero, suc, ◌+◌, ◌*◌, ◌≤◌, ◌<◌, ◌^◌, ◌%◌, ◌-◌, get_or, List, [], ◌∷◌, ◌++◌, length, map, take, drop, refl, sym, ap, ◌∙◌, arith, append_assoc, append-nil, take-append-drop}
 use Rattle.std.proofs.Math.Bool.{and_assoc, and-true}
-use Rattle.std.proofs.lemmas.List.{drop-drop, length-take-le, length-drop, length-map, map-append}
+use Rattle.std.proofs.Math.Seq.{drop-cons}
+use Rattle.std.proofs.lemmas.Bool.{lt-ltb}
+use Rattle.std.proofs.lemmas.List.{drop-drop, length-take-le, length-drop, length-map, map-append, drop_all}
 use Rattle.std.proofs.lemmas.List.Concat.{flat_map-append}
 use Rattle.std.proofs.lemmas.List.Folds.{flat_map-map}
 use Rattle.std.specs.List.{AllByRecursion, flat_map}
 use Rattle.std.specs.Simd.{first_chunks}
+use Rattle.std.specs.Int.Bits.{bit_and, bit_or}
+use Rattle.std.proofs.lemmas.Nat.{and_le_l, and_le_r, le_or_l, le_or_r}
 use Rattle.core_images.specs.Check.{ascends_from}
+use Rattle.core_laws.specs.declared.TheConstants.{MAX_THETA}
 use Rattle.core_images.specs.Entry.{SpellsEach, Holds}
 
 module _ {X : Type 0} where
@@ -50,6 +55,23 @@ module _ {X : Type 0} where
       let whole = sym (map-append key (take n rest) (drop n rest)) ∙ ap (map key) (take-append-drop n rest) in
       and_assoc ascends above (ascends_from end others) ∙ ap (λ b. ascends && b) (block others ∙ ap (ascends_from last) whole)
 
+  -- the next text is above the last one
+  pub next_above : (key : X → ℕ) (texts : List X) (i : ℕ) (text : X) (last : ℕ) (whole : List ℕ → Bool) → i < length texts → text ≡ get_or texts i text → last < key text
+      → ((others : List ℕ) → ascends_from last (map key (drop i texts) ++ others) ≡ whole others)
+      → (others : List ℕ) → ascends_from (key text) (map key (drop (i + 1) texts) ++ others) ≡ whole others
+  next_above key texts i text last whole within is above all others =
+      let next : suc i ≡ i + 1 = omega arith in
+      let shape = drop-cons texts i text within ∙ ap (λ x. x ∷ drop (suc i) texts) (sym is) ∙ ap (λ n. text ∷ drop n texts) next in
+      let behind = ascends_from (key text) (map key (drop (i + 1) texts) ++ others) in
+      let first : ascends_from last (map key (text ∷ drop (i + 1) texts) ++ others) ≡ behind = ap (λ b. b && behind) (lt-ltb last (key text) above) in
+      sym first ∙ ap (λ l. ascends_from last (map key l ++ others)) (sym shape) ∙ all others
+
+  -- no text is left
+  pub none_above : (key : X → ℕ) (texts : List X) (i last : ℕ) (whole : List ℕ → Bool) → length texts ≤ i
+      → ((others : List ℕ) → ascends_from last (map key (drop i texts) ++ others) ≡ whole others)
+      → (others : List ℕ) → ascends_from last others ≡ whole others
+  none_above key texts i last whole past all others = ap (λ l. ascends_from last (map key l ++ others)) (sym (drop_all i texts past)) ∙ all others
+
   -- all ascend if no text is left
   pub all_compared : (key : X → ℕ) (ascends whole : Bool) (last : ℕ) (rest : List X) → length rest ≡ 0 → (ascends && ascends_from last (map key rest)) ≡ whole → ascends ≡ whole
   all_compared key ascends whole last [] e all = sym (and-true ascends) ∙ all
@@ -78,6 +100,17 @@ module _ {X : Type 0} where
   length-chunks : (n k : ℕ) (xs : List X) → length (first_chunks n k xs) ≡ k
   length-chunks n zero xs = refl
   length-chunks n (suc k) xs = ap (λ (j : ℕ). suc j) (length-chunks n k (drop n xs))
+
+-- of numbers below 2^63 the difference is 2^63 or more only if it is negative
+pub differs_up : (differences last hash hashes : ℕ) → last ≤ hashes → last < 2 ^ 64 → hash < 2 ^ 64
+    → MAX_THETA < bit_and differences ((last + (2 ^ 64 - hash)) % 2 ^ 64) → bit_or hashes hash ≤ MAX_THETA → (last < hash) × (MAX_THETA < differences) × (hashes ≤ MAX_THETA)
+differs_up differences last hash hashes among small limited high low =
+    let difference = (last + (2 ^ 64 - hash)) % 2 ^ 64 in
+    let first = and_le_l differences difference in
+    let second = and_le_r differences difference in
+    let before = le_or_l hashes hash in
+    let after = le_or_r hashes hash in
+    (omega (arith, second, before, after, high, low, among, small, limited), omega (arith, first, high), omega (arith, before, low))
 
 module _ (n : ℕ) where
   -- the first bytes, n by n, and the bytes after them

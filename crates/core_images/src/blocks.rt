@@ -7,7 +7,7 @@ ghost use Rattle.core_images.specs.Entry.{Holds};
 ghost use Rattle.core_images.specs.Read.{IsRefused};
 ghost use Rattle.core_laws.specs.Refusal.{Refuses};
 
-use core_laws::SketchEntry;
+use core_laws::{MAX_THETA, SketchEntry};
 use sketch_base::{Error, ErrorKind, SketchBytes};
 use std::alloc::Allocator;
 
@@ -118,14 +118,38 @@ pub(crate) fn read_in_blocks<E: FixedEntry<N> + Drop, const N: usize, A: Allocat
     Ok(entries)
 }
 
-/// Whether the hash of each text is above the one before it, and the first above `before`; and the last hash. It reads
-/// all texts without a branch, so that it can become vector code.
+/// The last hash of the texts, and a test. If it is true, the hash of each text is above the one before it, and the first
+/// above `before`; it is false if one of them has 64 bits. Of two numbers of 63 bits the difference has the highest bit
+/// only if it is negative. So vector code subtracts, which takes fewer steps than a comparison.
+fn subtract_block<E: FixedEntry<N> + SketchEntry + Drop, const N: usize>(
+    before: u64,
+    block: &[[u8; N]],
+) -> (bool, u64)
+    ensures { result.0 ≡ true → (others : List ℕ) → ascends_from result.1 others ≡ ascends_from before (map (λ text. E.key (E.entry_of text)) block.now ++ others) }
+{
+    let mut last = before;
+    let mut differences = u64::MAX;
+    let mut hashes = before;
+    'subtract_each: for text in block {
+        let hash = E::of_text(text).hash();
+        differences = differences & last.wrapping_sub(hash);
+        hashes = hashes | hash;
+        last = hash;
+    }
+    ((differences > MAX_THETA) & (hashes <= MAX_THETA), last)
+}
+
+/// Whether the hash of each text is above the one before it, and the first above `before`; and the last hash.
 fn compare_block<E: FixedEntry<N> + SketchEntry + Drop, const N: usize>(
     before: u64,
     block: &[[u8; N]],
 ) -> (bool, u64)
     ensures { (others : List ℕ) → (result.0 && ascends_from result.1 others) ≡ ascends_from before (map (λ text. E.key (E.entry_of text)) block.now ++ others) }
 {
+    let (ascending, end) = subtract_block::<E, N>(before, block);
+    if ascending {
+        return (true, end);
+    }
     let mut last = before;
     let mut ascends = true;
     'compare_each: for text in block {
