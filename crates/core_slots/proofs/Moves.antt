@@ -62,10 +62,6 @@ module _ {X : Type 0} (key : X → ℕ) (lg theta : ℕ) where
     longer : length (filled from) ≡ length (filled rest) + 1
     longer = ap length one ∙ length-append (filled rest) (x ∷ [])
 
-    -- while one is left, not all are put
-    pub one_left : length (filled slots) + 1 ≤ length (filled whole)
-    one_left = omega (arith, is.room, longer)
-
     -- an entry at theta or above is dropped
     pub passes_high : theta ≤ key x → IsMoving key lg theta whole rest slots put looked
     passes_high high =

@@ -225,13 +225,6 @@ module _ {X : Type 0} where
   filled-append (None ∷ xs) ys = filled-append xs ys
   filled-append (Some x ∷ xs) ys = ap (λ zs. x ∷ zs) (filled-append xs ys)
 
-  pub filled_more : (slots : List (Option X)) (p : ℕ) (x : X) → length (filled (set slots p (Some x))) ≤ length (filled slots) + 1
-  filled_more [] p x = omega arith
-  filled_more (None ∷ slots) zero x = omega arith
-  filled_more (Some y ∷ slots) zero x = omega arith
-  filled_more (None ∷ slots) (suc p) x = filled_more slots p x
-  filled_more (Some y ∷ slots) (suc p) x = omega (arith, filled_more slots p x)
-
   pub filled_new : (slots : List (Option X)) (p : ℕ) (x : X) → p < length slots → slot slots p ≡ None → length (filled (set slots p (Some x))) ≡ length (filled slots) + 1
   filled_new [] p x inside free = absurd (omega (arith, inside))
   filled_new (None ∷ slots) zero x inside free = omega arith

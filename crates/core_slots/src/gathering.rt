@@ -33,6 +33,23 @@ fn gather_below<E: SlotEntry>(slots: &mut [E::Slot], theta: u64, others: &mut [E
     count
 }
 
+/// Moves the entries below theta to the front of the slots, in their order. Returns how many it moved; the slots behind
+/// them are unspecified.
+pub(crate) fn pack_below<E: SlotEntry>(slots: &mut [E::Slot], theta: u64) -> usize
+    ensures size { length slots.new ≡ length slots.old }
+    ensures limited { result ≤ length slots.old }
+    ensures taken { filled (map E.content (take result slots.new)) ≡ below E.key (entries_in E.content slots.old) theta }
+{
+    let mut count = 0;
+    'pack_each: for at in 0..slots.len() {
+        let slot = mem::replace(&mut slots[at], E::free_slot());
+        let more = number_below::<E>(&slot, theta);
+        slots[count] = slot;
+        count += more;
+    }
+    count
+}
+
 /// Lays the slots out anew with the entries below theta and drops the rest. They are gathered in `others` first, which
 /// has at least one slot more than these entries, and put back in rounds. Counts the placed entries in `placed` and the
 /// looks at slots in `looks`.

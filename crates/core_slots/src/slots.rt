@@ -3,12 +3,14 @@ ghost use Rattle.std.specs.Prelude.{◌≡◌, ℕ, ◌+◌, ◌-◌, ◌<◌, �
 ghost use Rattle.std.specs.List.{count_by};
 ghost use Rattle.std.specs.Option.{option_copied};
 ghost use Rattle.core_laws.specs.Entries.{hash_key};
-ghost use Rattle.core_laws.specs.Maps.{rank, entry_at, below, with_entry};
+ghost use Rattle.core_laws.specs.Maps.{rank, IsApart, below, with_entry};
 ghost use Rattle.core_slots.specs.SlotLayout.{filled, slot, is_other, IsOnPath, IsLaidOut, entries_in, slot_map};
 ghost use Rattle.core_slots.specs.Placing.{IsFreeFor, LooksForEach, LooksAtPlaced};
 ghost use Rattle.core_slots.specs.Probe.{probe, stride};
 
 use crate::count::Count;
+use crate::gathering::pack_below;
+use crate::rounds::settle_all;
 use crate::slot_entry::{PathEntry, SlotEntry};
 use std::alloc::{AllocError, Allocator};
 
@@ -140,30 +142,8 @@ pub(crate) fn number_below<E: SlotEntry>(slot: &E::Slot, bound: u64) -> usize
     E::is_below(slot, bound) as usize
 }
 
-/// Puts an entry, already in a slot of its own, into the slot where a search for its hash ends.
-#[inline(always)]
-fn put_slot<E: PathEntry>(
-    slots: &mut [E::Slot],
-    lg: u8,
-    filled_slot: E::Slot,
-    hash: u64,
-    looks: &mut Count,
-)
-    requires small { lg < 40 }
-    requires holds { option_map E.key (E.content filled_slot) ≡ Some hash }
-    requires laid_out { IsLaidOut E.key lg (map E.content slots.old) }
-    requires room { length (entries_in E.content slots.old) < 2 ^ lg }
-    ensures laid_out { IsLaidOut E.key lg (map E.content slots.new) }
-    ensures found { (q : ℕ) → entry_at E.key (entries_in E.content slots.new) q ≡ entry_at E.key (filled (E.content filled_slot ∷ map E.content slots.old)) q }
-    ensures count { length (entries_in E.content slots.new) ≤ length (entries_in E.content slots.old) + 1 }
-    ensures looked { looks.old < looks.new }
-    ensures looks { looks.new ≤ looks.old + length (entries_in E.content slots.old) + 1 }
-{
-    let place = seek::<E>(slots, lg, hash, looks);
-    slots[place.at] = filled_slot;
-}
-
-/// Moves the entries with a hash below theta into free slots.
+/// Moves the entries with a hash below theta into free slots, in rounds. They are packed first, without a branch on a
+/// hash; afterwards the contents of `from` are unspecified.
 fn spread<E: SlotEntry, A: Allocator>(
     from: &mut Vec<E::Slot, A>,
     theta: u64,
@@ -175,6 +155,7 @@ fn spread<E: SlotEntry, A: Allocator>(
     requires small { lg < 40 }
     requires size { length slots.old ≡ 2 ^ lg }
     requires free { entries_in E.content slots.old ≡ [] }
+    requires apart { IsApart E.key (entries_in E.content from.old.items) }
     requires room { length (entries_in E.content from.old.items) ≤ 2 ^ lg }
     ensures laid_out { IsLaidOut E.key lg (map E.content slots.new) }
     ensures map { slot_map E.key E.content slots.new ≡ below E.key (slot_map E.key E.content from.old.items) theta }
@@ -182,14 +163,9 @@ fn spread<E: SlotEntry, A: Allocator>(
     ensures looked { LooksForEach (placed.new - placed.old) looks.old looks.new }
     ensures looks { LooksAtPlaced (placed.new - placed.old) looks.old looks.new }
 {
-    while let Some(slot) = from.pop() {
-        if let Some(hash) = hash_in::<E>(&slot) {
-            if hash < theta {
-                put_slot::<E>(slots, lg, slot, hash, looks);
-                placed.tick();
-            }
-        }
-    }
+    let count = pack_below::<E>(from, theta);
+    from.truncate(count);
+    settle_all::<E, A>(from, slots, lg, placed, looks);
 }
 
 /// 2^`lg` free slots, in one request for memory. It fails only if memory runs out.

@@ -2,8 +2,15 @@ use Rattle.std.proofs.Common.{rules, map, refl, arith}
 use Rattle.std.proofs.lemmas.List.{places}
 use Rattle.core_slots.proofs.Held.{map-set, length-content}
 use Rattle.core_slots.proofs.SlotLayouts.{filled_new}
-use Rattle.core_slots.proofs.Moves.{kept_map, kept_count}
+use Rattle.core_slots.proofs.Moves.{put_laid_out, kept_map, kept_count}
+use Rattle.core_slots.proofs.Ranks.{apart-laid_out}
 use Rattle.core_slots.proofs.slots.put_spread.Goals as goal
+
+pub spread-requires-clause-apart : goal.spread-requires-clause-apart
+spread-requires-clause-apart g c =
+    let key = g.E.SketchEntry.key in
+    let content = g.E.PathEntry.content in
+    apart-laid_out key c.args.lg _ (put_laid_out key content _ _ _ _ _ c.requires.place.laid_out c.requires.inside c.requires.place.free c.requires.place.on_path c.into_slot.ensures _ refl)
 
 pub spread-requires-clause-room : goal.spread-requires-clause-room
 spread-requires-clause-room g c =
