@@ -5,7 +5,7 @@ use Rattle.expression_text.specs.declared.parsing.Pending.{Pending}
 use Rattle.expression_text.specs.Expressions.{Expression, Named, Grouped, Combined}
 use Rattle.expression_text.specs.Grammar.{tokens_of, depth, most_levels, IsExpressionText, SpellsNothing}
 use Rattle.expression_text.specs.Tokens.{Lexeme, name, sign, opening, closing, IsText, IsToken, IsAfterBlanks, NoBlankFirst}
-use Rattle.expression_text.specs.Reading.{Frame, group, left, tokens_before, open_groups, AreFrames, WantsOperand, HasOperand, IsReading, HasRead, CanFollow, CannotGoOn, CanEnd}
+use Rattle.expression_text.specs.Reading.{Frame, group, left, tokens_before, open_groups, AreFrames, WantsOperand, HasOperand, IsReading, HasRead, CanFollow, NothingFollows, CanEnd}
 use Rattle.expression_text.proofs.NextToken.{same_token, same_tokens, same_rest, token_unblank}
 
 -- how many parentheses are open after a token, and whether it ends an operand
@@ -91,7 +91,7 @@ spelled_follows text names steps spelled =
 blank_text : (before rest : List ℕ) → IsAfterBlanks before rest → NoBlankFirst rest → IsAfterBlanks before [] → rest ≡ []
 blank_text before rest blanks trimmed none = same_rest before rest [] blanks none trimmed tt
 
-stuck_at : (text rest before : List ℕ) (levels : ℕ) (after : Bool) (more : List Lexeme) → IsAfterBlanks before rest → NoBlankFirst rest → (rest ≡ [] → ⊥) → CannotGoOn levels after rest → IsText more before → Follow more levels after 0 true → ⊥
+stuck_at : (text rest before : List ℕ) (levels : ℕ) (after : Bool) (more : List Lexeme) → IsAfterBlanks before rest → NoBlankFirst rest → (rest ≡ [] → ⊥) → NothingFollows levels after rest → IsText more before → Follow more levels after 0 true → ⊥
 stuck_at text rest before levels after [] blanks trimmed some stuck is follow = some (blank_text before rest blanks trimmed is)
 stuck_at text rest before levels after (t ∷ more) blanks trimmed some stuck is follow =
     let from : is.1.from ≡ rest = same_rest before is.1.from rest is.1.after_blanks blanks (token_unblank t is.1.from is.0 is.1.token) trimmed in
@@ -99,7 +99,7 @@ stuck_at text rest before levels after (t ∷ more) blanks trimmed some stuck is
     stuck t is.0 (subst T from is.1.token) follow.0
 
 -- the next token of a text may not follow
-pub stuck : (text rest : List ℕ) (names : List (List ℕ)) (pending : List Pending) (steps : List Step) (levels : ℕ) (after : Bool) → HasRead text rest names pending steps levels after → (rest ≡ [] → ⊥) → CannotGoOn levels after rest → SpellsNothing text
+pub stuck : (text rest : List ℕ) (names : List (List ℕ)) (pending : List Pending) (steps : List Step) (levels : ℕ) (after : Bool) → HasRead text rest names pending steps levels after → (rest ≡ [] → ⊥) → NothingFollows levels after rest → SpellsNothing text
 stuck text rest names pending steps levels after has some cannot = λ others all_steps spelled.
     let end = has.parted spelled.tokens spelled.is_text in
     let T : List Lexeme → Type 0 = λ ts. Follow ts 0 false 0 true in
@@ -116,6 +116,6 @@ unended text tokens names pending steps levels after is reading cannot = λ othe
     cannot (last.0, last.1)
 
 -- a text's token may not follow
-pub only_token : (text rest : List ℕ) (t : Lexeme) (levels : ℕ) (after : Bool) → IsToken t text rest → (CanFollow levels after t → ⊥) → CannotGoOn levels after text
+pub only_token : (text rest : List ℕ) (t : Lexeme) (levels : ℕ) (after : Bool) → IsToken t text rest → (CanFollow levels after t → ⊥) → NothingFollows levels after text
 only_token text rest t levels after token never = λ u more other follow.
     never (subst (CanFollow levels after) (sym (same_token t u text rest more token other).0) follow)

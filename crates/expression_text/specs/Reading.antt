@@ -117,9 +117,9 @@ CanFollow levels after_operand (sign op) = after_operand ≡ true
 CanFollow levels after_operand opening = (after_operand ≡ false) × (levels < most_levels)
 CanFollow levels after_operand closing = (after_operand ≡ true) × (0 < levels)
 
--- no expression continues with a text: its next token, if it has one, may not follow
-abbrev pub CannotGoOn : (levels : ℕ) → (after_operand : Bool) → (text : List ℕ) → Type 0
-CannotGoOn levels after_operand text = (t : Lexeme) (rest : List ℕ) → IsToken t text rest → CanFollow levels after_operand t → ⊥
+-- nothing may follow: the next token of a text, if it has one, may not
+abbrev pub NothingFollows : (levels : ℕ) → (after_operand : Bool) → (text : List ℕ) → Type 0
+NothingFollows levels after_operand text = (t : Lexeme) (rest : List ℕ) → IsToken t text rest → CanFollow levels after_operand t → ⊥
 
 -- an expression may end: every parenthesis is closed, behind an operand
 abbrev pub CanEnd : (levels : ℕ) → (after_operand : Bool) → Type 0

@@ -2,7 +2,7 @@
 ghost use Rattle.std.specs.Prelude.{◌≡◌, ◌≢◌, ◌++◌, ◌∷◌, ◌<◌, ◌≤◌, ℕ, [], List, map, length, IfOk, IfErr, IfSome, OnOk, MatchOption};
 ghost use Rattle.expression_text.specs.Grammar.{strength, IsExpressionText, SpellsNothing};
 ghost use Rattle.expression_text.specs.Tokens.{Lexeme, name, sign, opening, closing, lexeme_of, IsText, IsToken, NoBlankFirst};
-ghost use Rattle.expression_text.specs.Reading.{HasName, IsIndexed, HasOperand, IsSettled, LacksSign, HasTokens, CanFollow, CannotGoOn, CanEnd};
+ghost use Rattle.expression_text.specs.Reading.{HasName, IsIndexed, HasOperand, IsSettled, LacksSign, HasTokens, CanFollow, NothingFollows, CanEnd};
 ghost use Rattle.expression_text.specs.declared.parsing.Pending.TheVariants.{Sign};
 ghost use Rattle.expression_text.specs.declared.fault.Reason.TheVariants.{Memory};
 
@@ -213,7 +213,7 @@ impl<A: Allocator + Clone + Drop> Reading<A> {
         ensures shorter { IfOk result (λ o. IfSome o (λ rest. length rest.now < length text.now)) }
         ensures some { IfErr result (λ reason. reason ≢ Memory → text.now ≢ []) }
         ensures refused { (tokens : List Lexeme) → HasTokens tokens self.old → NoBlankFirst text.now
-            → IfErr result (λ reason. reason ≢ Memory → CannotGoOn self.old.levels self.old.after_operand text.now) }
+            → IfErr result (λ reason. reason ≢ Memory → NothingFollows self.old.levels self.old.after_operand text.now) }
     {
         match first_token(text)? {
             None => Ok(None),
