@@ -14,14 +14,16 @@ use Rattle.distinct_arguments.specs.declared.commands.Request.TheVariants.{Print
 use Rattle.distinct_arguments.specs.declared.commands.Topic.TheVariants.{Help as HelpOn}
 use Rattle.distinct_arguments.specs.declared.fault.Fault.{Fault}
 use Rattle.distinct_arguments.specs.declared.fault.Fault.TheVariants.{NoCommand, UnknownCommand, UnknownOption, BehindFile, NoValue, UnneededValue, WrongSize, WrongField, WrongGroup, WrongValue, WrongOrder, WrongSeparator, WrongSeed, ZeroSeed, WrongDeviations, WrongCount, NotOneExpression, LoneField, LoneSum, LoneSeparator, TwoAmounts, PlainSums, LoneDigits, SummedKeys, SummedField, SummedGroups, SummedBounds, LoneGroups, LoneOrder, LoneUnions, CountedGroups, LoneFolder, TwoOutputs, FilesAndList, StandardTwice, Memory}
+use Rattle.distinct_arguments.specs.declared.fault.WrongWord.{WrongWord}
+use Rattle.distinct_arguments.specs.declared.fault.WrongWord.TheVariants as wrong_word
 use Rattle.distinct_arguments.specs.declared.options.Options.{Options}
 use Rattle.distinct_arguments.specs.declared.options.Seed.{Seed}
 use Rattle.distinct_arguments.specs.declared.options.Seed.TheVariants.{Number, File}
 
 -- the exit status: 1 if memory was refused, else 2
-abbrev pub status_of : Fault → ℕ
-status_of Memory = 1
-status_of _ = 2
+abbrev pub fault_status : Fault → ℕ
+fault_status Memory = 1
+fault_status _ = 2
 
 -- the values of options
 abbrev pub seed_value : Seed → SeedValue
@@ -89,6 +91,14 @@ mistake_of TwoOutputs = Some two_outputs
 mistake_of FilesAndList = Some files_and_list
 mistake_of StandardTwice = Some standard_twice
 mistake_of Memory = None
+
+-- the mistake of a word that a fault quotes
+abbrev pub mistake_with : WrongWord → (word : List ℕ) → Mistake
+mistake_with wrong_word.UnknownCommand word = unknown_command word
+mistake_with wrong_word.UnknownOption name = unknown_option name
+mistake_with wrong_word.BehindFile word = behind_file word
+mistake_with wrong_word.NoValue name = no_value name
+mistake_with wrong_word.UnneededValue name = unneeded_value name
 
 -- whether a mistake has a text, which needs memory to report
 abbrev pub has_text : Mistake → Bool

@@ -7,7 +7,7 @@ ghost use Rattle.distinct_arguments.specs.Faults.{options_of, IsMeaning, IsStep,
 ghost use Rattle.distinct_arguments.specs.Words.{Setting, is_option, words_of};
 
 use crate::commands::{Command, Request, Topic};
-use crate::fault::{Fault, no_value, unknown_command, unknown_option, unneeded_value};
+use crate::fault::{Fault, WrongWord, quoting};
 use crate::files::{files_request, run_request};
 use crate::options::{OptionName, Options};
 use crate::settings::{with_flag, with_value};
@@ -39,7 +39,7 @@ fn meaning_of_option<'a>(
         IsMeaning name.now result (option_meaning command (options_of options.entry) setting option) }
 {
     if !has_option(command, option) {
-        return Meaning::Wrong(unknown_option(alloc, name));
+        return Meaning::Wrong(quoting(alloc, WrongWord::UnknownOption, name));
     }
     match value {
         Some(text) => match with_value(alloc, options, option, name, text) {
@@ -66,13 +66,13 @@ fn meaning_of<'a>(
 {
     if is_help(name) {
         return match value {
-            Some(_) => Meaning::Wrong(unneeded_value(alloc, name)),
+            Some(_) => Meaning::Wrong(quoting(alloc, WrongWord::UnneededValue, name)),
             None => Meaning::Help,
         };
     }
     match option_called(name) {
         Some(option) => meaning_of_option(alloc, command, options, option, name, value),
-        None => Meaning::Wrong(unknown_option(alloc, name)),
+        None => Meaning::Wrong(quoting(alloc, WrongWord::UnknownOption, name)),
     }
 }
 
@@ -101,7 +101,7 @@ fn read_value<'a>(
         result }
 {
     let Some((value, behind)) = words.split_first() else {
-        return Step::Wrong(no_value(alloc, name));
+        return Step::Wrong(quoting(alloc, WrongWord::NoValue, name));
     };
     match with_value(alloc, options, option, name, value.as_str()) {
         Ok(changed) => Step::Next(changed, behind),
@@ -185,6 +185,6 @@ pub fn read_arguments(words: &[String]) -> Result<Request<'_>, Fault>
     }
     match command_of(word) {
         Some(command) => read_command(command, Options::new(), rest),
-        None => Err(unknown_command(*first.allocator(), word)),
+        None => Err(quoting(*first.allocator(), WrongWord::UnknownCommand, word)),
     }
 }

@@ -1,7 +1,7 @@
 //! What is wrong with arguments.
 ghost use Rattle.std.specs.Prelude.{◌≡◌};
-ghost use Rattle.distinct_arguments.specs.Settings.{unknown_command, unknown_option, behind_file, no_value, unneeded_value, wrong_seed};
-ghost use Rattle.distinct_arguments.specs.Faults.{Reports, status_of};
+ghost use Rattle.distinct_arguments.specs.Settings.{wrong_seed};
+ghost use Rattle.distinct_arguments.specs.Faults.{Reports, fault_status, mistake_with};
 
 use crate::words::number_of;
 use std::alloc::Global;
@@ -87,7 +87,7 @@ pub enum Fault {
 impl Fault {
     /// The exit status: 1 if memory was refused, else 2.
     pub fn status(&self) -> u8
-        ensures { result ≡ status_of self.now }
+        ensures { result ≡ fault_status self.now }
     {
         match self {
             Fault::Memory => 1,
@@ -96,53 +96,34 @@ impl Fault {
     }
 }
 
-/// The fault of a first word that is no command; `Memory` if memory for the word is refused.
-pub(crate) fn unknown_command(alloc: Global, word: &str) -> Fault
-    ensures { Reports result (unknown_command word.now) }
-{
-    match String::from_str(alloc, word) {
-        Ok(text) => Fault::UnknownCommand(text),
-        Err(_) => Fault::Memory,
-    }
+/// What is wrong with a word that a fault quotes.
+#[derive(Clone, Copy)]
+pub(crate) enum WrongWord {
+    /// It is the first and no command.
+    UnknownCommand,
+    /// It is an option that the command doesn't have.
+    UnknownOption,
+    /// It is behind a file and looks like an option.
+    BehindFile,
+    /// It is an option whose value is missing.
+    NoValue,
+    /// It is an option that takes no value and has one.
+    UnneededValue,
 }
 
-/// The fault of an option that the command doesn't have; `Memory` if memory for its name is refused.
-pub(crate) fn unknown_option(alloc: Global, name: &str) -> Fault
-    ensures { Reports result (unknown_option name.now) }
+/// The fault that quotes a word; `Memory` if memory for the word is refused.
+pub(crate) fn quoting(alloc: Global, wrong: WrongWord, word: &str) -> Fault
+    ensures { Reports result (mistake_with wrong word.now) }
 {
-    match String::from_str(alloc, name) {
-        Ok(text) => Fault::UnknownOption(text),
-        Err(_) => Fault::Memory,
-    }
-}
-
-/// The fault of a word behind a file; `Memory` if memory for the word is refused.
-pub(crate) fn behind_file(alloc: Global, word: &str) -> Fault
-    ensures { Reports result (behind_file word.now) }
-{
-    match String::from_str(alloc, word) {
-        Ok(text) => Fault::BehindFile(text),
-        Err(_) => Fault::Memory,
-    }
-}
-
-/// The fault of an option whose value is missing; `Memory` if memory for its name is refused.
-pub(crate) fn no_value(alloc: Global, name: &str) -> Fault
-    ensures { Reports result (no_value name.now) }
-{
-    match String::from_str(alloc, name) {
-        Ok(text) => Fault::NoValue(text),
-        Err(_) => Fault::Memory,
-    }
-}
-
-/// The fault of an option that takes no value and has one; `Memory` if memory for its name is refused.
-pub(crate) fn unneeded_value(alloc: Global, name: &str) -> Fault
-    ensures { Reports result (unneeded_value name.now) }
-{
-    match String::from_str(alloc, name) {
-        Ok(text) => Fault::UnneededValue(text),
-        Err(_) => Fault::Memory,
+    let Ok(text) = String::from_str(alloc, word) else {
+        return Fault::Memory;
+    };
+    match wrong {
+        WrongWord::UnknownCommand => Fault::UnknownCommand(text),
+        WrongWord::UnknownOption => Fault::UnknownOption(text),
+        WrongWord::BehindFile => Fault::BehindFile(text),
+        WrongWord::NoValue => Fault::NoValue(text),
+        WrongWord::UnneededValue => Fault::UnneededValue(text),
     }
 }
 

@@ -10,7 +10,7 @@ ghost use Rattle.distinct_arguments.specs.Faults.{options_of, seed_value, Parses
 ghost use Rattle.distinct_arguments.specs.Words.{is_option, is_standard, reads_lines, reads_expression, words_of};
 
 use crate::commands::{Command, Request};
-use crate::fault::{Fault, behind_file};
+use crate::fault::{Fault, WrongWord, quoting};
 use crate::options::{Options, Seed};
 use crate::words::is_option;
 
@@ -305,7 +305,7 @@ pub(crate) fn files_request<'a>(
     ensures { ParsesAs result (files_action command (options_of options.entry) (words_of files.now)) }
 {
     match first_option(files) {
-        Some(word) => Err(behind_file(*word.allocator(), word.as_str())),
+        Some(word) => Err(quoting(*word.allocator(), WrongWord::BehindFile, word.as_str())),
         None => run_request(command, options, files),
     }
 }

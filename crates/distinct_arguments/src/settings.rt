@@ -3,8 +3,9 @@ ghost use Rattle.std.specs.Prelude.{◌≡◌};
 ghost use Rattle.std.specs.Option.{option_map};
 ghost use Rattle.distinct_arguments.specs.Settings.{default_options, chosen_key, chosen_group, chosen_value, with_flag, with_value};
 ghost use Rattle.distinct_arguments.specs.Faults.{options_of, SetsOptions};
+ghost use Rattle.distinct_arguments.specs.Words.{number_of};
 
-use crate::fault::{Fault, unneeded_value, wrong_seed};
+use crate::fault::{Fault, WrongWord, quoting, wrong_seed};
 use crate::options::{Form, OptionName, Options, Seed};
 use crate::words::{byte_of, deviations_of, number_of, order_of, seed_of};
 use core_laws::{DEFAULT_LG_K, MAX_LG_K, MIN_LG_K};
@@ -95,6 +96,26 @@ pub(crate) fn with_flag<'a>(options: Options<'a>, option: OptionName) -> Option<
     Some(changed)
 }
 
+/// The number that a word spells, if it is from 1 to 2^32 - 1.
+fn number_from_one(word: &str) -> Option<u32>
+    ensures { result ≡ number_of 1 4294967295 word.now }
+{
+    match number_of(word, 1, u32::MAX as u64) {
+        Some(number) => Some(number as u32),
+        None => None,
+    }
+}
+
+/// The `lg_k` that a word spells, if it is from 4 to 26.
+fn lg_k_of(word: &str) -> Option<u8>
+    ensures { result ≡ number_of 4 26 word.now }
+{
+    match number_of(word, MIN_LG_K as u64, MAX_LG_K as u64) {
+        Some(lg_k) => Some(lg_k as u8),
+        None => None,
+    }
+}
+
 /// The options after an option and its value, which replaces an earlier value of that option. `name` is the option's name,
 /// for the fault of an option that takes no value.
 pub(crate) fn with_value<'a>(
@@ -108,47 +129,30 @@ pub(crate) fn with_value<'a>(
 {
     let mut changed = options;
     match option {
-        OptionName::LgK => match number_of(value, MIN_LG_K as u64, MAX_LG_K as u64) {
-            Some(lg_k) => changed.lg_k = lg_k as u8,
-            None => return Err(Fault::WrongSize),
-        },
-        OptionName::Field => match number_of(value, 1, u32::MAX as u64) {
-            Some(number) => changed.field = Some(number as u32),
-            None => return Err(Fault::WrongField),
-        },
-        OptionName::By => match number_of(value, 1, u32::MAX as u64) {
-            Some(number) => changed.by = Some(number as u32),
-            None => return Err(Fault::WrongGroup),
-        },
-        OptionName::Sort => match order_of(value) {
-            Some(order) => changed.sort = Some(order),
-            None => return Err(Fault::WrongOrder),
-        },
-        OptionName::Value => match number_of(value, 1, u32::MAX as u64) {
-            Some(number) => changed.value = Some(number as u32),
-            None => return Err(Fault::WrongValue),
-        },
-        OptionName::Separator => match byte_of(value) {
-            Some(byte) => changed.separator = Some(byte),
-            None => return Err(Fault::WrongSeparator),
-        },
+        OptionName::LgK => changed.lg_k = lg_k_of(value).ok_or(Fault::WrongSize)?,
+        OptionName::Field => changed.field = Some(number_from_one(value).ok_or(Fault::WrongField)?),
+        OptionName::By => changed.by = Some(number_from_one(value).ok_or(Fault::WrongGroup)?),
+        OptionName::Sort => changed.sort = Some(order_of(value).ok_or(Fault::WrongOrder)?),
+        OptionName::Value => changed.value = Some(number_from_one(value).ok_or(Fault::WrongValue)?),
+        OptionName::Separator => {
+            changed.separator = Some(byte_of(value).ok_or(Fault::WrongSeparator)?);
+        }
         OptionName::Seed => match seed_of(value) {
             Some(seed) => changed.seed = Seed::Number(seed),
             None => return Err(wrong_seed(value)),
         },
-        OptionName::Expect => match number_of(value, 1, u32::MAX as u64) {
-            Some(count) => changed.expected = Some(count),
-            None => return Err(Fault::WrongCount),
-        },
-        OptionName::Bounds => match deviations_of(value) {
-            Some(deviations) => changed.bounds = Some(deviations),
-            None => return Err(Fault::WrongDeviations),
-        },
+        OptionName::Expect => {
+            let count = number_from_one(value).ok_or(Fault::WrongCount)?;
+            changed.expected = Some(count as u64);
+        }
+        OptionName::Bounds => {
+            changed.bounds = Some(deviations_of(value).ok_or(Fault::WrongDeviations)?);
+        }
         OptionName::SeedFile => changed.seed = Seed::File(value),
         OptionName::FileList => changed.list = Some(value),
         OptionName::Output => changed.output = Some(value),
         OptionName::OutputDir => changed.folder = Some(value),
-        _ => return Err(unneeded_value(alloc, name)),
+        _ => return Err(quoting(alloc, WrongWord::UnneededValue, name)),
     }
     Ok(changed)
 }

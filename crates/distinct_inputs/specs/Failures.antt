@@ -15,7 +15,7 @@ use Rattle.line_sums.specs.Refusals.{HasNoNumber, IsPast}
 use Rattle.line_sums.specs.declared.addends.Amount.{Amount}
 use Rattle.line_sums.specs.declared.addends.Amount.TheVariants.{One, Number}
 use Rattle.expression_text.specs.Grammar.{SpellsNothing}
-use Rattle.distinct_arguments.specs.Faults.{status_of as fault_status}
+use Rattle.distinct_arguments.specs.Faults.{fault_status}
 use Rattle.distinct_arguments.specs.declared.fault.Fault.TheVariants.{NotOneExpression, LoneSum, ZeroSeed}
 use Rattle.distinct_arguments.specs.Arguments.{Action, prints, runs, fails}
 use Rattle.distinct_arguments.specs.Settings.{chosen_key, chosen_value}

@@ -10,7 +10,7 @@ pub returns-in_default : goal.returns-in_default
 returns-in_default c =
     let words = map (λ word. string_bytes word) c.args.words.now in
     let awaiting : Awaiting = record { option = c.args.option; name = c.args.name.now } in
-    subst (ReportsMistake c.no_value.result) (missing_at c.args.command (options_of c.args.options) awaiting words (length-map c.args.words.now (λ word. string_bytes word) ∙ c.in_default.ensures.cases)) c.no_value.ensures
+    subst (ReportsMistake c.quoting.result) (missing_at c.args.command (options_of c.args.options) awaiting words (length-map c.args.words.now (λ word. string_bytes word) ∙ c.in_default.ensures.cases)) c.quoting.ensures
 
 pub returns-in-Ok : goal.returns-in-Ok
 returns-in-Ok c =
