@@ -47,7 +47,3 @@ ends None now new bytes P so_far read = tt
 ends (Some text) None new bytes P so_far read = absurd so_far
 ends (Some text) (Some left) new bytes P so_far read =
     subst P (sym (so_far.1 ∙ ap (λ ls. so_far.0 ++ ls) read ∙ append-nil so_far.0)) so_far.2
-
-pub if_some : {T : Type 0} (o : Option T) (P Q : T → Type 0) → ((x : T) → P x → Q x) → IfSome o P → IfSome o Q
-if_some None P Q step holds = tt
-if_some (Some x) P Q step holds = step x holds

@@ -14,7 +14,7 @@ ghost use Rattle.grouped_lines.specs.United.{AreUnited, HasUnions, AreSound, IsN
 
 use crate::tabs::cut_last;
 use line_sketches::{
-    Flaw, add_image, entry_count, flaw_of, hex_line, image_length, read_hex, united_image,
+    Flaw, ImageUnion, entry_count, flaw_of, hex_line, image_length, read_hex, united_image,
 };
 use sketch_base::{Error, ErrorKind, compute_seed_hash};
 use std::alloc::{AllocError, Global};
@@ -152,7 +152,7 @@ impl UnitedGroups {
     {
         match self.map.get_mut(name) {
             Some(union) => {
-                add_image(union, alloc, seed, image)?;
+                union.add_image(alloc, seed, image)?;
                 Ok(true)
             }
             None => Ok(false),
@@ -173,7 +173,7 @@ impl UnitedGroups {
         ensures refused { IfErr result (λ e. IsRefused e (IsReadable image.now (seed_hash seed))) }
     {
         let mut union = small_union(alloc, seed, lg_k)?;
-        add_image(&mut union, alloc, seed, image)?;
+        union.add_image(alloc, seed, image)?;
         let key = Vec::from_slice(alloc, name)?;
         self.map.insert(key, union)?;
         Ok(())

@@ -24,7 +24,7 @@ use Rattle.core_laws.specs.Settings.{settings_refusal}
 use Rattle.lines.specs.Lines.{lines_of}
 use Rattle.lines.specs.declared.key.Hashing.{Hashing}
 use Rattle.line_sketches.specs.Keys.{value_of_lines, sketch_of_value, image_of_text}
-use Rattle.line_sketches.specs.Refusals.{IsNoImage, HasNoImage, HasFault, IsImageRefusal, IsImagesRefusal}
+use Rattle.line_sketches.specs.Refusals.{HasFault, IsImageRefusal, IsImageFailure}
 use Rattle.line_sketches.specs.Shards.{AreRead, sketches_of_texts, images_of_texts}
 use Rattle.line_sketches.proofs.Compacts.{images_read}
 use Rattle.line_sketches.proofs.Rereads.{ReadsAgain}
@@ -165,10 +165,16 @@ faulty_next IsFaulty remaining (Some texts) (Some left) new o source so_far give
       is_faulty = subst (λ (t : Option (List ℕ)). IfSome t IsFaulty) first.has faulty;
     }
 
-pub images_refused : (seed : ℕ) (image : Option (List ℕ)) (images : Option (List (List ℕ))) (u : Unread) → (IfSome image (IsNoImage seed) → IfSome images (HasNoImage seed)) → IsImageRefusal seed image u → IsImagesRefusal seed images u
-images_refused seed image images (unread.Refused kind) step (inl memory) = inl memory
-images_refused seed image images (unread.Refused kind) step (inr none) = inr (none.0, step none.1)
-images_refused seed image images (unread.Failed error) step refused = tt
+-- a refusal for a fault is one for each fault that follows from it
+fault_refused : (refusal : Option ErrorKind) (F G : Type 0) (kind : ErrorKind) → (F → G) → IsImageRefusal refusal F kind → IsImageRefusal refusal G kind
+fault_refused refusal F G kind step (inl memory) = inl memory
+fault_refused None F G kind step (inr none) = inr (none.0, step none.1)
+fault_refused (Some other) F G kind step (inr (inl merge)) = inr (inl merge)
+fault_refused (Some other) F G kind step (inr (inr none)) = inr (inr (none.0, step none.1))
+
+pub fault_failed : (refusal : Option ErrorKind) (F G : Type 0) (u : Unread) → (F → G) → IsImageFailure refusal F u → IsImageFailure refusal G u
+fault_failed refusal F G (unread.Refused kind) step refused = fault_refused refusal F G kind step refused
+fault_failed refusal F G (unread.Failed error) step refused = tt
 
 -- ---- images of texts
 

@@ -39,15 +39,19 @@ pub record HasFault (IsFaulty : List ℕ → Type 0) (texts : List (List ℕ)) :
 abbrev pub HasNoImage : (seed : ℕ) → (texts : List (List ℕ)) → Type 0
 HasNoImage seed texts = HasFault (IsNoImage seed) texts
 
--- one image is not read: memory ran out, or it is not an image, or its source failed
-abbrev pub IsImageRefusal : (seed : ℕ) → Option (List ℕ) → Unread → Type 0
-IsImageRefusal seed image (Refused kind) = (kind ≡ OutOfMemory) ⊎ ((kind ≡ InvalidData) × IfSome image (IsNoImage seed))
-IsImageRefusal seed image (Failed error) = ⊤
+-- an image has this fault, or a union that may refuse a merge with some kind has refused it
+abbrev pub IsMergeOrFault : (merge_refusal : Option ErrorKind) → (Fault : Type 0) → ErrorKind → Type 0
+IsMergeOrFault None Fault kind = (kind ≡ InvalidData) × Fault
+IsMergeOrFault (Some refusal) Fault kind = (kind ≡ refusal) ⊎ ((kind ≡ InvalidData) × Fault)
 
--- images are not read, one after another
-abbrev pub IsImagesRefusal : (seed : ℕ) → Option (List (List ℕ)) → Unread → Type 0
-IsImagesRefusal seed images (Refused kind) = (kind ≡ OutOfMemory) ⊎ ((kind ≡ InvalidData) × IfSome images (HasNoImage seed))
-IsImagesRefusal seed images (Failed error) = ⊤
+-- an image is not added to a union: memory ran out, the merge is refused, or the image has this fault
+abbrev pub IsImageRefusal : (merge_refusal : Option ErrorKind) → (Fault : Type 0) → ErrorKind → Type 0
+IsImageRefusal merge_refusal Fault kind = (kind ≡ OutOfMemory) ⊎ IsMergeOrFault merge_refusal Fault kind
+
+-- .. or its source failed
+abbrev pub IsImageFailure : (merge_refusal : Option ErrorKind) → (Fault : Type 0) → Unread → Type 0
+IsImageFailure merge_refusal Fault (Refused kind) = IsImageRefusal merge_refusal Fault kind
+IsImageFailure merge_refusal Fault (Failed error) = ⊤
 
 -- images are not united: by a refusal before any is read, or because one is not read
 abbrev pub IsUniteRefusal : (seed : ℕ) → Option ErrorKind → Option (List (List ℕ)) → Unread → Type 0

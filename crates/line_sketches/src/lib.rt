@@ -16,6 +16,7 @@
 
 mod header;
 mod hex;
+mod image_union;
 mod images;
 pub mod laws;
 mod sketching;
@@ -25,8 +26,9 @@ mod uniting;
 
 pub use header::{Flaw, entry_count, flaw_of, image_length};
 pub use hex::{hex_line, put_byte, read_hex};
+pub use image_union::{ImageUnion, add_images};
 pub use images::{difference, image_of, intersection, read_image};
 pub use sketching::{Unread, Watch, add_lines, finished, new_sketch, sketch_lines};
 pub use sources::{BLOCK, Sources, Texts, add_sources, sketch_sources};
 pub use sums_header::{sums_count, sums_flaw_of, sums_length};
-pub use uniting::{United, add_image, image_of_texts, unite_images, united_image};
+pub use uniting::{United, image_of_texts, unite_images, united_image};

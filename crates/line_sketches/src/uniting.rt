@@ -1,5 +1,5 @@
 //! Unions of images, and which lines they are the images of.
-ghost use Rattle.std.specs.Prelude.{◌≡◌, ◌++◌, ◌∷◌, ℕ, List, [], map, true, None, IfOk, IfErr, OnOk, IfSome, length};
+ghost use Rattle.std.specs.Prelude.{◌≡◌, ℕ, List, map, true, None, IfOk, IfErr, OnOk, IfSome, length};
 ghost use Rattle.std.specs.List.{concat};
 ghost use Rattle.lines.specs.Keys.{hashing_of};
 ghost use Rattle.lines.specs.Lines.{lines_of_all, AreWhole};
@@ -7,89 +7,44 @@ ghost use Rattle.lines.specs.declared.key.Key.{Key};
 ghost use Rattle.line_sketches.specs.Keys.{image_of_text, image_of_lines, HaveSameLines};
 ghost use Rattle.line_sketches.specs.Shards.{images_of_texts};
 ghost use Rattle.line_sketches.specs.Unions.{HasUnited, IsReady, IsUnitedImage, UnitesTexts};
-ghost use Rattle.line_sketches.specs.Refusals.{IsImageRefusal, IsImagesRefusal, IsUniteRefusal};
-ghost use Rattle.sketch_base.specs.Seed.{seed_hash};
-ghost use Rattle.core_images.specs.Read.{IsRefused};
+ghost use Rattle.line_sketches.specs.Refusals.{IsUniteRefusal};
 ghost use Rattle.core_laws.specs.Refusal.{Refuses};
 ghost use Rattle.core_laws.specs.declared.TheConstants.{MAX_THETA};
-ghost use Rattle.theta_sketches.specs.Image.{IsReadable};
 ghost use Rattle.core_laws.specs.Settings.{settings_refusal};
 
+use crate::image_union::{ImageUnion, add_images};
 use crate::images::{image_of, new_union, read_image};
 use crate::sketching::{Unread, Watch, add_text, finished, new_sketch};
 use crate::sources::Sources;
 use lines::Hashing;
 use sketch_base::Error;
-use std::alloc::{AllocError, Allocator, Global};
-use std::io::Read;
+use std::alloc::{Allocator, Global};
 use theta_sketches::ThetaUnion;
 use theta_sketches::laws::{one_reading, read_again};
 
-/// Adds an image to a union of sketches of this seed. If the union has not failed, it is refused only with `InvalidData`,
-/// if the bytes aren't an image of a theta sketch of this seed, and with `OutOfMemory`. What the union has after a refusal
-/// is unspecified.
-pub fn add_image<A: Allocator + Clone, B: Allocator + Clone + Drop>(
-    union: &mut ThetaUnion<A>,
-    alloc: B,
-    seed: u64,
-    image: &[u8],
-) -> Result<(), Error>
-    ensures united { (lg_k : ℕ) (images : List (List ℕ))
-        → HasUnited seed lg_k images union.old
-        → OnOk result (HasUnited seed lg_k (images ++ image.now ∷ []) union.new) }
-    ensures refused { IsReady seed union.old → IfErr result (λ e. IsRefused e (IsReadable image.now (seed_hash seed))) }
-    ensures ready { IsReady seed union.old → OnOk result (IsReady seed union.new) }
-{
-    let sketch = read_image(alloc, seed, image)?;
-    union.update(sketch.as_view())?;
-    Ok(())
-}
+impl<A: Allocator + Clone> ImageUnion for ThetaUnion<A> {
+    ghost use Rattle.std.specs.Prelude.{None};
+    ghost use Rattle.line_sketches.specs.Refusals.{IsNoImage};
+    ghost use Rattle.line_sketches.specs.Unions.{HasUnited, IsReady};
 
-/// Adds the image in a reader to a union.
-fn add_reader<A: Allocator + Clone, B: Allocator + Clone + Drop, R: Read>(
-    union: &mut ThetaUnion<A>,
-    alloc: B,
-    seed: u64,
-    reader: &mut R,
-) -> Result<(), Unread>
-    ensures united { (lg_k : ℕ) (images : List (List ℕ))
-        → HasUnited seed lg_k images union.old
-        → IfSome (R.remaining reader.old) (λ image. OnOk result (HasUnited seed lg_k (images ++ image ∷ []) union.new)) }
-    ensures refused { IsReady seed union.old → IfErr result (IsImageRefusal seed (R.remaining reader.old)) }
-    ensures ready { IsReady seed union.old → OnOk result (IsReady seed union.new) }
-{
-    let mut image = Vec::new(alloc.clone()?);
-    if let Err(error) = reader.read_to_end(&mut image) {
-        return Err(Unread::Failed(error));
-    }
-    add_image(union, alloc, seed, image.as_slice())?;
-    Ok(())
-}
+    ghost has_united = { HasUnited };
 
-/// Adds images one after another to a union. Returns their number.
-fn add_images<A: Allocator + Clone, B: Allocator + Clone + Drop, S: Sources>(
-    union: &mut ThetaUnion<A>,
-    alloc: B,
-    seed: u64,
-    sources: &mut S,
-) -> Result<u64, Unread>
-    ensures united { (lg_k : ℕ) (images : List (List ℕ))
-        → HasUnited seed lg_k images union.old
-        → IfSome (S.texts sources.old) (λ more. OnOk result (HasUnited seed lg_k (images ++ more) union.new)) }
-    ensures counted { IfSome (S.texts sources.old) (λ more. IfOk result (λ count. count ≡ length more)) }
-    ensures refused { IsReady seed union.old → IfErr result (IsImagesRefusal seed (S.texts sources.old)) }
-    ensures ready { IsReady seed union.old → OnOk result (IsReady seed union.new) }
-{
-    for count in 0..u64::MAX {
-        match sources.next_source() {
-            Ok(Some(mut source)) => {
-                add_reader(union, alloc.clone()?, seed, &mut source)?;
-            }
-            Ok(None) => return Ok(count),
-            Err(error) => return Err(Unread::Failed(error)),
-        }
+    ghost is_ready = { IsReady };
+
+    ghost is_no_image = { IsNoImage };
+
+    ghost merge_refusal = { None };
+
+    fn add_image<B: Allocator + Clone + Drop>(
+        &mut self,
+        alloc: B,
+        seed: u64,
+        image: &[u8],
+    ) -> Result<(), Error> {
+        let sketch = read_image(alloc, seed, image)?;
+        self.update(sketch.as_view())?;
+        Ok(())
     }
-    Err(Unread::Refused(Error::from(AllocError)))
 }
 
 /// The image of the result of a union, ordered. If the union has not failed, it is refused only with `OutOfMemory`.
@@ -185,7 +140,7 @@ pub fn image_of_texts<W: Watch>(
     let mut left = texts;
     while let Some((text, others)) = left.split_first() {
         let image = image_of_text(alloc, hashing, lg_k, text.as_slice(), watch)?;
-        add_image(&mut union, alloc, hashing.seed, image.as_slice())?;
+        union.add_image(alloc, hashing.seed, image.as_slice())?;
         left = others;
     }
     united_image(&union)

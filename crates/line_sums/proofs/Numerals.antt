@@ -5,6 +5,7 @@ use Rattle.std.specs.Char.{is_ascii_digit, digit_value}
 use Rattle.std.specs.Str.{all_ascii_digits}
 use Rattle.std.specs.Str.Parse.{digits_value, digits_value_after}
 use Rattle.std.proofs.lemmas.Bool.Decides.{nat_tests}
+use Rattle.plan_text.proofs.words.Digits.{digit_is}
 use Rattle.line_sums.specs.Amounts.{number_in}
 
 -- ---- digits, one behind another
@@ -21,9 +22,6 @@ all_append : (xs ys : List ℕ) → all_ascii_digits (xs ++ ys) ≡ (all_ascii_d
 all_append [] ys = refl
 all_append (x ∷ xs) ys =
     (elim (is_ascii_digit x) as (λ b. (b && all_ascii_digits (xs ++ ys)) ≡ ((b && all_ascii_digits xs) && all_ascii_digits ys)) [ true ↦ all_append xs ys | false ↦ refl ])
-
-digit_is : (c : ℕ) → is_ascii_digit c ≡ true → digit_value c ≡ c - 48
-digit_is c digit = grind (arith, nat_tests)
 
 -- ---- what bytes spell
 

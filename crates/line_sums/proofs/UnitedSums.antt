@@ -30,6 +30,7 @@ use Rattle.line_sums.specs.Images.{AreReadSums, AreImagesOfTexts, ReadsSums, wri
 use Rattle.line_sums.specs.Sums.{sum_at, sums_of_lines, sketch_of_sums}
 use Rattle.line_sums.specs.Unions.{add_folds, folds_of_sketches, HasUnitedSums, IsUnitedSums}
 use Rattle.line_sums.proofs.Joined.{add_keeps, AreValues, map_self, united_exact}
+use Rattle.line_sums.proofs.ReadOperands.{read_one_more}
 
 -- bytes are read as one sketch of sums at most
 abbrev pub ReadsOneSums : Type 0
@@ -53,13 +54,6 @@ reads_written anew items (Ok v) s seed compact fits same seeded image = reads_su
 reads_written anew items (Err e) s seed compact fits same seeded image = tt
 
 -- ---- unions
-
--- one more image
-read_more : (seed : ℕ) (images : List (List ℕ)) (sketches : List (Compact (TupleEntry ℕ))) (image : List ℕ) (s : Compact (TupleEntry ℕ)) → AreReadSums seed images sketches → ReadsSums image (seed_hash seed) s → AreReadSums seed (images ++ image ∷ []) (sketches ++ s ∷ [])
-read_more seed [] [] image s all one = (one, tt)
-read_more seed [] (t ∷ ts) image s all one = absurd all
-read_more seed (b ∷ bs) [] image s all one = absurd all
-read_more seed (b ∷ bs) (t ∷ ts) image s all one = (all.0, read_more seed bs ts image s all.1 one)
 
 folds_more : (sketches : List (Compact (TupleEntry ℕ))) (s : Compact (TupleEntry ℕ)) → folds_of_sketches (sketches ++ s ∷ []) ≡ folds_of_sketches sketches ++ unmarked_value (compact_value tuple_key s) ∷ []
 folds_more [] s = refl
@@ -85,7 +79,7 @@ module _ {P : Type 0} where
       shown_value tuple_key shows listing ≡ compact_value tuple_key s → new ≡ record old { empty = new.empty; content = new.content } → HasUnitedSums seed lg_k (images ++ image ∷ []) new
   sums_more seed lg_k images image s old new shows listing has reads skipped joins is made = record {
     sketches = has.sketches ++ s ∷ [];
-    are_read = read_more seed images has.sketches image s has.are_read reads;
+    are_read = read_one_more seed images has.sketches image s has.are_read reads;
     value =
         value_more (fold_key tuple_key) add_folds add_keeps folds_in lg_k MAX_THETA old new (folds_of_sketches has.sketches) (unmarked_value (shown_value tuple_key shows listing)) (ap (λ u. u.lg_k) has.made) (ap (λ u. u.start) has.made) has.value
         (joins_sums old new shows listing skipped joins)

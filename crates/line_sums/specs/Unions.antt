@@ -1,5 +1,5 @@
 -- Unions of images of sums.
-use Rattle.std.specs.Prelude.{ℕ, ◌≡◌, ◌⊎◌, ◌^◌, ⊤, List, map, Option, Some, None, IfSome}
+use Rattle.std.specs.Prelude.{ℕ, ◌≡◌, ◌⊎◌, ◌^◌, List, map, Option, Some, None, IfSome}
 use Rattle.sketch_base.specs.Seed.{seed_hash}
 use Rattle.sketch_base.specs.declared.error.ErrorKind.{ErrorKind}
 use Rattle.sketch_base.specs.declared.error.ErrorKind.TheVariants.{OutOfMemory, InvalidData, Policy}
@@ -76,20 +76,6 @@ AreNoSums seed bytes = AreReadableSums bytes (seed_hash seed) → ⊥
 -- some of these are not an image of sums
 abbrev pub HasNoSums : (seed : ℕ) → (texts : List (List ℕ)) → Type 0
 HasNoSums seed texts = HasFault (AreNoSums seed) texts
-
--- an image is not added: memory ran out, a sum would be 2^64 or more, or it is no image of sums
-abbrev pub IsAddSumsRefusal : (seed : ℕ) → (image : List ℕ) → ErrorKind → Type 0
-IsAddSumsRefusal seed image kind = (kind ≡ OutOfMemory) ⊎ ((kind ≡ Policy) ⊎ ((kind ≡ InvalidData) × AreNoSums seed image))
-
--- .. or its source failed
-abbrev pub IsSumsRefusal : (seed : ℕ) → Option (List ℕ) → Unread → Type 0
-IsSumsRefusal seed image (Refused kind) = (kind ≡ OutOfMemory) ⊎ ((kind ≡ Policy) ⊎ ((kind ≡ InvalidData) × IfSome image (AreNoSums seed)))
-IsSumsRefusal seed image (Failed error) = ⊤
-
--- images are not added, one after another
-abbrev pub IsAllSumsRefusal : (seed : ℕ) → Option (List (List ℕ)) → Unread → Type 0
-IsAllSumsRefusal seed images (Refused kind) = (kind ≡ OutOfMemory) ⊎ ((kind ≡ Policy) ⊎ ((kind ≡ InvalidData) × IfSome images (HasNoSums seed)))
-IsAllSumsRefusal seed images (Failed error) = ⊤
 
 -- images are not united: by a refusal before any is read, or because one is not added
 abbrev pub IsUniteSumsRefusal : (seed : ℕ) → Option ErrorKind → Option (List (List ℕ)) → Unread → Type 0

@@ -1,10 +1,11 @@
 //! Sums of the lines of texts, each with its own reader.
-ghost use Rattle.std.specs.Prelude.{◌≡◌, ◌++◌, ℕ, List, [], IfOk, IfErr, OnOk, IfSome, None};
+ghost use Rattle.std.specs.Prelude.{◌≡◌, ℕ, [], IfOk, IfErr, OnOk, IfSome, None};
 ghost use Rattle.core_laws.specs.Settings.{settings_refusal};
 ghost use Rattle.core_laws.specs.declared.TheConstants.{MAX_THETA};
 ghost use Rattle.lines.specs.Lines.{lines_of, lines_of_all};
 ghost use Rattle.line_sums.specs.Sums.{HasAdded, sketch_of_sums};
 ghost use Rattle.line_sums.specs.Amounts.{added_by, AreNumbers};
+ghost use Rattle.line_sums.specs.Reading.{AddsText, ReportsPastText};
 ghost use Rattle.line_sums.specs.Refusals.{IsPastIn, LacksNumberIn, RefusesSums};
 
 use crate::addends::Amount;
@@ -24,15 +25,9 @@ fn add_source<A: Allocator + Clone, B: Allocator, R: Read>(
     amount: Amount,
     reader: &mut R,
 ) -> Result<(), Unsummed>
-    ensures added { (lg_k : ℕ) (lines : List (List ℕ))
-        → HasAdded hashing amount lg_k lines sketch.old.state
-        → IfSome (R.remaining reader.old) (λ text.
-        OnOk result (HasAdded hashing amount lg_k (lines ++ lines_of text) sketch.new.state)) }
+    ensures added { AddsText hashing amount (R.remaining reader.old) sketch.old.state result sketch.new.state }
     ensures numbered { IfSome (R.remaining reader.old) (λ text. IfErr result (LacksNumberIn amount (lines_of text))) }
-    ensures past { (lg_k : ℕ) (lines : List (List ℕ))
-        → HasAdded hashing amount lg_k lines sketch.old.state
-        → IfSome (R.remaining reader.old) (λ text.
-        IfErr result (IsPastIn hashing amount (lines ++ lines_of text))) }
+    ensures past { ReportsPastText hashing amount (R.remaining reader.old) sketch.old.state result }
     ensures refused { RefusesSums amount result None }
 {
     let mut block = vec![in alloc; 0u8; BLOCK]?;

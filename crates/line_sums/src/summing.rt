@@ -8,9 +8,9 @@ ghost use Rattle.lines.specs.Keys.{line_hash};
 ghost use Rattle.lines.specs.Lines.{lines_of, lines_after};
 ghost use Rattle.lines.specs.declared.key.Hashing.{Hashing};
 ghost use Rattle.line_sums.specs.Amounts.{IsOpenAddend};
-ghost use Rattle.line_sums.specs.Sums.{HasAdded, HasSummed, sketch_of_sums};
-ghost use Rattle.line_sums.specs.Reading.{HasTaken};
-ghost use Rattle.line_sums.specs.Refusals.{IsAddRefusal, IsByPolicy, IsLastingFailure, IsPast, IsPastIn, IsUnsummed, LacksNumber, LacksNumberIn, RefusesSums};
+ghost use Rattle.line_sums.specs.Sums.{HasSummed, sketch_of_sums};
+ghost use Rattle.line_sums.specs.Reading.{HasTaken, AddsLines, AddsText, ReportsPast, ReportsPastText};
+ghost use Rattle.line_sums.specs.Refusals.{IsAddRefusal, IsByPolicy, IsLastingFailure, IsPast, IsUnsummed, LacksNumber, LacksNumberIn, RefusesSums};
 ghost use Rattle.line_sums.specs.declared.addends.Amount.{Amount};
 
 use crate::addends::{Amount, OpenAddend};
@@ -115,17 +115,15 @@ fn add_line<A: Allocator + Clone>(
     last: &OpenAddend,
     count: u64,
 ) -> Result<(), Unsummed>
-    ensures added { (hashing : Hashing) (lg_k : ℕ) (lines : List (List ℕ)) (line : List ℕ)
+    ensures added { (hashing : Hashing) (line : List ℕ)
         → IsOpenAddend hashing amount line last.now
-        → HasAdded hashing amount lg_k lines sketch.old.state
-        → OnOk result (HasAdded hashing amount lg_k (lines ++ line ∷ []) sketch.new.state) }
+        → AddsLines hashing amount (line ∷ []) sketch.old.state result sketch.new.state }
     ensures number { (hashing : Hashing) (line : List ℕ)
         → IsOpenAddend hashing amount line last.now
         → IfErr result (LacksNumber amount line count) }
-    ensures past { (hashing : Hashing) (lg_k : ℕ) (lines : List (List ℕ)) (line : List ℕ)
+    ensures past { (hashing : Hashing) (line : List ℕ)
         → IsOpenAddend hashing amount line last.now
-        → HasAdded hashing amount lg_k lines sketch.old.state
-        → IfErr result (IsPastIn hashing amount (lines ++ line ∷ [])) }
+        → ReportsPast hashing amount (line ∷ []) sketch.old.state result }
     ensures refused { RefusesSums amount result None }
     ensures retried { IfErr result IsLastingFailure }
 {
@@ -154,10 +152,9 @@ fn take_block<A: Allocator + Clone>(
     ensures numbered { (front more : List ℕ)
         → IsOpenAddend hashing amount front last.old
         → IfErr result (LacksNumberIn amount (lines_after front (block.now ++ more))) }
-    ensures past { (front more : List ℕ) (lg_k : ℕ) (lines : List (List ℕ))
+    ensures past { (front more : List ℕ)
         → IsOpenAddend hashing amount front last.old
-        → HasAdded hashing amount lg_k lines sketch.old.state
-        → IfErr result (IsPastIn hashing amount (lines ++ lines_after front (block.now ++ more))) }
+        → ReportsPast hashing amount (lines_after front (block.now ++ more)) sketch.old.state result }
     ensures refused { RefusesSums amount result None }
     ensures retried { IfErr result IsLastingFailure }
 {
@@ -181,17 +178,15 @@ fn take_last<A: Allocator + Clone>(
     last: &OpenAddend,
     count: u64,
 ) -> Result<(), Unsummed>
-    ensures taken { (hashing : Hashing) (lg_k : ℕ) (lines : List (List ℕ)) (front : List ℕ)
+    ensures taken { (hashing : Hashing) (front : List ℕ)
         → IsOpenAddend hashing amount front last.now
-        → HasAdded hashing amount lg_k lines sketch.old.state
-        → OnOk result (HasAdded hashing amount lg_k (lines ++ lines_after front []) sketch.new.state) }
+        → AddsLines hashing amount (lines_after front []) sketch.old.state result sketch.new.state }
     ensures numbered { (hashing : Hashing) (front : List ℕ)
         → IsOpenAddend hashing amount front last.now
         → IfErr result (LacksNumberIn amount (lines_after front [])) }
-    ensures past { (hashing : Hashing) (lg_k : ℕ) (lines : List (List ℕ)) (front : List ℕ)
+    ensures past { (hashing : Hashing) (front : List ℕ)
         → IsOpenAddend hashing amount front last.now
-        → HasAdded hashing amount lg_k lines sketch.old.state
-        → IfErr result (IsPastIn hashing amount (lines ++ lines_after front [])) }
+        → ReportsPast hashing amount (lines_after front []) sketch.old.state result }
     ensures refused { RefusesSums amount result None }
     ensures retried { IfErr result IsLastingFailure }
 {
@@ -218,15 +213,9 @@ pub fn add_lines<A: Allocator + Clone, R: Read>(
     block: &mut [u8],
 ) -> Result<(), Unsummed>
     requires room { 0 < length block.old }
-    ensures added { (lg_k : ℕ) (lines : List (List ℕ))
-        → HasAdded hashing amount lg_k lines sketch.old.state
-        → IfSome (R.remaining reader.old) (λ text.
-        OnOk result (HasAdded hashing amount lg_k (lines ++ lines_of text) sketch.new.state)) }
+    ensures added { AddsText hashing amount (R.remaining reader.old) sketch.old.state result sketch.new.state }
     ensures numbered { IfSome (R.remaining reader.old) (λ text. IfErr result (LacksNumberIn amount (lines_of text))) }
-    ensures past { (lg_k : ℕ) (lines : List (List ℕ))
-        → HasAdded hashing amount lg_k lines sketch.old.state
-        → IfSome (R.remaining reader.old) (λ text.
-        IfErr result (IsPastIn hashing amount (lines ++ lines_of text))) }
+    ensures past { ReportsPastText hashing amount (R.remaining reader.old) sketch.old.state result }
     ensures refused { RefusesSums amount result None }
     ensures retried { IfErr result IsLastingFailure }
 {

@@ -1,5 +1,5 @@
 //! Unions of images of sums, and which lines they are the images of.
-ghost use Rattle.std.specs.Prelude.{◌≡◌, ◌++◌, ◌∷◌, ℕ, List, [], true, None, IfOk, IfErr, OnOk, IfSome, length};
+ghost use Rattle.std.specs.Prelude.{◌≡◌, ℕ, List, true, None, IfOk, IfErr, OnOk, IfSome, length};
 ghost use Rattle.sketch_base.specs.Seed.{seed_hash};
 ghost use Rattle.core_laws.specs.Refusal.{Refuses};
 ghost use Rattle.core_laws.specs.Settings.{settings_refusal};
@@ -7,97 +7,57 @@ ghost use Rattle.core_laws.specs.declared.TheConstants.{MAX_THETA};
 ghost use Rattle.core_operators.specs.Union.{empty_union};
 ghost use Rattle.line_sketches.specs.Unions.{IsReady};
 ghost use Rattle.line_sums.specs.Unions.{HasUnitedSums, IsUnitedSums, IsUnitedSumsImage, AreSumsOfTexts, UnitesSumsOfTexts};
-ghost use Rattle.line_sums.specs.Unions.{IsAddSumsRefusal, IsSumsRefusal, IsAllSumsRefusal, IsUniteSumsRefusal};
+ghost use Rattle.line_sums.specs.Unions.{IsUniteSumsRefusal};
 
 use crate::images::{read_sums, sums_image};
-use line_sketches::{Sources, United, Unread};
+use line_sketches::{ImageUnion, Sources, United, Unread, add_images};
 use sketch_base::Error;
-use std::alloc::{AllocError, Allocator, Global};
-use std::io::Read;
+use std::alloc::{Allocator, Global};
 use tuple_sketches::laws::one_reading;
 use tuple_sketches::{CompactTupleSketch, DefaultUnionPolicy, TupleUnion, TupleUnionBuilder};
 
 /// A union of sketches of sums.
-type SumsUnion<A> = TupleUnion<DefaultUnionPolicy<u64>, A>;
+#[derive(Drop)]
+struct SumsUnion<A: Allocator> {
+    union: TupleUnion<DefaultUnionPolicy<u64>, A>,
+}
 
 /// A new union of 2^`lg_k` nominal entries, of sketches of this seed.
 fn new_union<A: Allocator + Drop>(alloc: A, seed: u64, lg_k: u8) -> Result<SumsUnion<A>, Error>
-    ensures made { IfOk result (λ u. u.state ≡ empty_union lg_k MAX_THETA (seed_hash seed) u.state.policy) }
+    ensures made { IfOk result (λ u. u.union.state ≡ empty_union lg_k MAX_THETA (seed_hash seed) u.union.state.policy) }
     ensures refused { Refuses result (settings_refusal lg_k MAX_THETA seed) true }
 {
-    TupleUnionBuilder::new(DefaultUnionPolicy::<u64>::default())
+    let union = TupleUnionBuilder::new(DefaultUnionPolicy::<u64>::default())
         .lg_k(lg_k)
         .seed(seed)
-        .build(alloc)
+        .build(alloc)?;
+    Ok(SumsUnion { union })
 }
 
-/// Adds an image to a union of sketches of this seed. If the union has not failed, it is refused only with `InvalidData`, if
-/// the bytes aren't an image of sums of this seed, with `Policy`, if a sum would be 2^64 or more, and with `OutOfMemory`.
-/// What the union has after a refusal is unspecified.
-fn add_image<A: Allocator + Clone, B: Allocator + Clone + Drop>(
-    union: &mut SumsUnion<A>,
-    alloc: B,
-    seed: u64,
-    image: &[u8],
-) -> Result<(), Error>
-    ensures united { (lg_k : ℕ) (images : List (List ℕ))
-        → HasUnitedSums seed lg_k images union.old.state
-        → OnOk result (HasUnitedSums seed lg_k (images ++ image.now ∷ []) union.new.state) }
-    ensures refused { IsReady seed union.old.state → IfErr result (IsAddSumsRefusal seed image.now) }
-    ensures ready { IsReady seed union.old.state → OnOk result (IsReady seed union.new.state) }
-{
-    let sketch = read_sums(alloc, seed, image)?;
-    union.update(sketch.as_view())?;
-    Ok(())
-}
+impl<A: Allocator + Clone> ImageUnion for SumsUnion<A> {
+    ghost use Rattle.std.specs.Prelude.{Some};
+    ghost use Rattle.sketch_base.specs.declared.error.ErrorKind.TheVariants.{Policy};
+    ghost use Rattle.line_sketches.specs.Unions.{IsReady};
+    ghost use Rattle.line_sums.specs.Unions.{HasUnitedSums, AreNoSums};
 
-/// Adds the image in a reader to a union.
-fn add_reader<A: Allocator + Clone, B: Allocator + Clone + Drop, R: Read>(
-    union: &mut SumsUnion<A>,
-    alloc: B,
-    seed: u64,
-    reader: &mut R,
-) -> Result<(), Unread>
-    ensures united { (lg_k : ℕ) (images : List (List ℕ))
-        → HasUnitedSums seed lg_k images union.old.state
-        → IfSome (R.remaining reader.old) (λ image.
-        OnOk result (HasUnitedSums seed lg_k (images ++ image ∷ []) union.new.state)) }
-    ensures refused { IsReady seed union.old.state → IfErr result (IsSumsRefusal seed (R.remaining reader.old)) }
-    ensures ready { IsReady seed union.old.state → OnOk result (IsReady seed union.new.state) }
-{
-    let mut image = Vec::new(alloc.clone()?);
-    if let Err(error) = reader.read_to_end(&mut image) {
-        return Err(Unread::Failed(error));
+    ghost has_united = { λ seed lg_k images u. HasUnitedSums seed lg_k images u.union.state };
+
+    ghost is_ready = { λ seed u. IsReady seed u.union.state };
+
+    ghost is_no_image = { AreNoSums };
+
+    ghost merge_refusal = { Some Policy };
+
+    fn add_image<B: Allocator + Clone + Drop>(
+        &mut self,
+        alloc: B,
+        seed: u64,
+        image: &[u8],
+    ) -> Result<(), Error> {
+        let sketch = read_sums(alloc, seed, image)?;
+        self.union.update(sketch.as_view())?;
+        Ok(())
     }
-    add_image(union, alloc, seed, image.as_slice())?;
-    Ok(())
-}
-
-/// Adds images one after another to a union. Returns their number.
-fn add_images<A: Allocator + Clone, B: Allocator + Clone + Drop, S: Sources>(
-    union: &mut SumsUnion<A>,
-    alloc: B,
-    seed: u64,
-    sources: &mut S,
-) -> Result<u64, Unread>
-    ensures united { (lg_k : ℕ) (images : List (List ℕ))
-        → HasUnitedSums seed lg_k images union.old.state
-        → IfSome (S.texts sources.old) (λ more.
-        OnOk result (HasUnitedSums seed lg_k (images ++ more) union.new.state)) }
-    ensures counted { IfSome (S.texts sources.old) (λ more. IfOk result (λ count. count ≡ length more)) }
-    ensures refused { IsReady seed union.old.state → IfErr result (IsAllSumsRefusal seed (S.texts sources.old)) }
-    ensures ready { IsReady seed union.old.state → OnOk result (IsReady seed union.new.state) }
-{
-    for count in 0..u64::MAX {
-        match sources.next_source() {
-            Ok(Some(mut source)) => {
-                add_reader(union, alloc.clone()?, seed, &mut source)?;
-            }
-            Ok(None) => return Ok(count),
-            Err(error) => return Err(Unread::Failed(error)),
-        }
-    }
-    Err(Unread::Refused(Error::from(AllocError)))
 }
 
 /// The result of a union, ordered. If the union has not failed, it is refused only with `OutOfMemory`.
@@ -105,11 +65,11 @@ fn united_sketch<A: Allocator + Clone + Drop>(
     union: &SumsUnion<A>,
 ) -> Result<CompactTupleSketch<u64, A>, Error>
     ensures sketch { (seed lg_k : ℕ) (images : List (List ℕ))
-        → HasUnitedSums seed lg_k images union.now.state
+        → HasUnitedSums seed lg_k images union.now.union.state
         → IfOk result (IsUnitedSums seed lg_k images) }
-    ensures refused { (seed : ℕ) → IsReady seed union.now.state → Refuses result None true }
+    ensures refused { (seed : ℕ) → IsReady seed union.now.union.state → Refuses result None true }
 {
-    union.to_sketch(true)
+    union.union.to_sketch(true)
 }
 
 /// The sketch of a union of images of sums, ordered, and how many images were united.

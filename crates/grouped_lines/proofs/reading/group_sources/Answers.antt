@@ -4,7 +4,7 @@ use Rattle.grouped_lines.specs.Groups.{HasGroups}
 use Rattle.grouped_lines.specs.States.{IsGrouped}
 use Rattle.line_sketches.proofs.Turns.{continues_itself, continues_next, continues_end}
 use Rattle.grouped_lines.proofs.LinesInGroups.{lines_of_more}
-use Rattle.grouped_lines.proofs.ReadInTurn.{if_some}
+use Rattle.line_sketches.proofs.Turns.{if_some}
 use Rattle.grouped_lines.proofs.reading.group_sources.Goals as goal
 
 pub each_source-init : goal.each_source-init

@@ -5,7 +5,8 @@ use Rattle.lines.specs.Lines.{lines_of}
 use Rattle.grouped_lines.specs.Groups.{without_lf}
 use Rattle.grouped_lines.specs.Reading.{ReadsLine}
 use Rattle.grouped_lines.specs.United.{IsUniting, AreAdded, IsFlawless, IsNotAdded}
-use Rattle.grouped_lines.proofs.ReadInTurn.{begins, continues, ends, if_some}
+use Rattle.grouped_lines.proofs.ReadInTurn.{begins, continues, ends}
+use Rattle.line_sketches.proofs.Turns.{if_some}
 use Rattle.grouped_lines.proofs.UnitedInTurn.{AreCounted, counted_more, read_behind, first_at}
 use Rattle.grouped_lines.proofs.uniting.add_lines.Goals as goal
 

@@ -6,7 +6,7 @@ use Rattle.core_laws.specs.declared.TheConstants.{MAX_THETA}
 use Rattle.lines.specs.Lines.{lines_of, lines_of_all}
 use Rattle.line_sketches.proofs.Turns.{continues_itself, continues_next, continues_end}
 use Rattle.grouped_lines.specs.United.{HasUnions, AreAdded, IsUnunited}
-use Rattle.grouped_lines.proofs.ReadInTurn.{if_some}
+use Rattle.line_sketches.proofs.Turns.{if_some}
 use Rattle.grouped_lines.proofs.UnitedInTurn.{added_more, failed_next}
 use Rattle.grouped_lines.proofs.uniting.unite_groups.Goals as goal
 

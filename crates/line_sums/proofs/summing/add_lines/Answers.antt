@@ -24,7 +24,7 @@ returns-in-Ok-eq0-clause-added g c = λ lg_k lines has.
     (c.in-Ok-eq0.ensures.bytes.1 c.in-Ok-eq0.field-0-test (omega arith))
     (subst (λ bs. HasAdded c.args.hashing c.args.amount lg_k (lines ++ lines_of bs) c.take_last.new.sketch.state) (sym none)
     (taken_all c.args.hashing c.args.amount lg_k lines inv.0 c.args.sketch.now.state c.loop.sketch.state c.take_last.new.sketch.state c.loop.last taken
-    (c.in_ok-take_last-in-Ok-eq0.ensures.taken c.args.hashing lg_k (lines ++ taken.ended) taken.left taken.is_open (taken.added lg_k lines has))))
+    (c.in_ok-take_last-in-Ok-eq0.ensures.taken c.args.hashing taken.left taken.is_open lg_k (lines ++ taken.ended) (taken.added lg_k lines has))))
 
 pub loop-preserved : goal.loop-preserved
 loop-preserved g c = let inv = c.loop.invariant in elim c.match-read.branch [
@@ -92,7 +92,7 @@ returns-in_err-take_last-in-Ok-eq0-clause-past g c = λ lg_k lines has.
     (c.in-Ok-eq0.ensures.bytes.1 c.in-Ok-eq0.field-0-test (omega arith))
     (subst (λ bs. IsPastIn hashing amount (lines ++ lines_of bs) u) (sym none)
     (past_end hashing amount lines inv.0 u c.args.sketch.now.state c.loop.sketch.state c.loop.last inv.2
-    (c.in_err-take_last-in-Ok-eq0.ensures.past hashing lg_k (lines ++ inv.2.ended) inv.2.left inv.2.is_open (inv.2.added lg_k lines has))))))
+    (c.in_err-take_last-in-Ok-eq0.ensures.past hashing inv.2.left inv.2.is_open lg_k (lines ++ inv.2.ended) (inv.2.added lg_k lines has))))))
 
 pub returns-in_err-count-in-Ok-clause-past : goal.returns-in_err-count-in-Ok-clause-past
 returns-in_err-count-in-Ok-clause-past g c = λ lg_k lines has.
@@ -107,4 +107,4 @@ returns-in_err-count-in-Ok-clause-past g c = λ lg_k lines has.
     subst (λ r. IfSome known (λ text. IfErr r (IsPastIn hashing amount (lines ++ lines_of text)))) (sym p.1) (subst (λ v. IfSome known (λ text. IsPastIn hashing amount (lines ++ lines_of text) v)) (sym p.2)
     (past_text hashing amount lines known left inv.0 block u c.args.sketch.now.state c.loop.sketch.state c.loop.last inv.2
     (Consumes-trans known (g.R.Read.remaining c.loop.reader) left inv.0 block inv.1 c.in-Ok.ensures.bytes.0)
-    (λ more. c.in_err-count-in-Ok.ensures.past inv.2.left more lg_k (lines ++ inv.2.ended) inv.2.is_open (inv.2.added lg_k lines has))))
+    (λ more. c.in_err-count-in-Ok.ensures.past inv.2.left more inv.2.is_open lg_k (lines ++ inv.2.ended) (inv.2.added lg_k lines has))))

@@ -19,7 +19,7 @@ take_each-preserved g c =
       λ front is.
           let was = inv.2 front is in
           taken_line c.args.hashing c.args.amount front inv.0 line c.args.sketch.now.state c.take_each.sketch.state c.add_line.new.sketch.state c.take_each.last c.new.result was c.in-Some.ensures.line (c.new.ensures c.args.amount)
-          (λ lg_k lines has. c.in_ok-add_line.ensures.added c.args.hashing lg_k lines (was.left ++ line) (c.extend.ensures c.args.hashing was.left was.is_open) has),
+          (λ lg_k lines has. c.in_ok-add_line.ensures.added c.args.hashing (was.left ++ line) (c.extend.ensures c.args.hashing was.left was.is_open) lg_k lines has),
     )
 
 pub returns-clause-taken : goal.returns-clause-taken
@@ -41,7 +41,7 @@ returns-in_err-add_line-clause-numbered g c = λ front more is.
     c.in-Some.ensures.line (inv.1 ∙ ap (λ bs. inv.0 ++ bs) c.in-Some.ensures.parts) (c.in_err-add_line.ensures.number c.args.hashing (was.left ++ line) (c.extend.ensures c.args.hashing was.left was.is_open))))
 
 pub returns-in_err-add_line-clause-past : goal.returns-in_err-add_line-clause-past
-returns-in_err-add_line-clause-past g c = λ front more lg_k lines is has.
+returns-in_err-add_line-clause-past g c = λ front more is lg_k lines has.
     let p = err_from_is_err_and c.from_residual.result c.from_residual.ensures.1 in
     let inv = c.take_each.invariant in
     let was = inv.2 front is in
@@ -50,4 +50,4 @@ returns-in_err-add_line-clause-past g c = λ front more lg_k lines is has.
     subst (λ r. IfErr r (IsPastIn c.args.hashing c.args.amount all)) (sym p.1) (subst (IsPastIn c.args.hashing c.args.amount all) (sym p.2)
     (past_block c.args.hashing c.args.amount lines front inv.0 line c.in-Some.others.now more c.args.block.now c.in_err-add_line.field-0.0 c.args.sketch.now.state c.take_each.sketch.state c.take_each.last was
     c.in-Some.ensures.line (inv.1 ∙ ap (λ bs. inv.0 ++ bs) c.in-Some.ensures.parts)
-    (c.in_err-add_line.ensures.past c.args.hashing lg_k (lines ++ was.ended) (was.left ++ line) (c.extend.ensures c.args.hashing was.left was.is_open) (was.added lg_k lines has))))
+    (c.in_err-add_line.ensures.past c.args.hashing (was.left ++ line) (c.extend.ensures c.args.hashing was.left was.is_open) lg_k (lines ++ was.ended) (was.added lg_k lines has))))

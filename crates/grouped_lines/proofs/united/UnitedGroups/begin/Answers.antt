@@ -10,7 +10,7 @@ pub returns-clause-begun : goal.returns-clause-begun
 returns-clause-begun c =
     let new = c.in_ok-union.union in
     let made = c.in_ok-union.ensures.made in
-    let now = c.add_image.new.union in (
+    let now = c.add_image.new.self in (
       now,
       c.in_ok-add_image.ensures.united c.args.lg_k [] (nothing_united c.args.seed c.args.lg_k new made),
       c.in_ok-add_image.ensures.ready (record { sound = ap (λ u. u.failed) made; seeded = ap (λ u. u.seed_hash) made }),

@@ -11,7 +11,7 @@ use Rattle.grouped_lines.proofs.united.UnitedGroups.update.Goals as goal
 pub returns-in_ok-add_image-in-Some-clause-updated : goal.returns-in_ok-add_image-in-Some-clause-updated
 returns-in_ok-add_image-in-Some-clause-updated c =
     let was = c.in-Some.union.now in
-    let now = c.add_image.new.union in
+    let now = c.add_image.new.self in
     let value = c.in-Some.ensures.value in
     let made = c.in_ok-add_image-in-Some.ensures in (
       was,
