@@ -5,7 +5,7 @@ use Rattle.core_laws.specs.Cuts.{Retained}
 use Rattle.core_table.specs.HashTable.{MapTable}
 use Rattle.theta_tables.specs.declared.command.TableCommand.{TableCommand}
 use Rattle.theta_tables.specs.declared.command.TableReply.{TableReply}
-use Rattle.theta_tables.specs.Commands.{after_command, after_commands, reply, replies}
+use Rattle.theta_tables.specs.Command.{after_command, after_commands, reply, replies}
 
 module _ (k start : ℕ) where
   after_append : (cs : List TableCommand) (c : TableCommand) (v : Retained ℕ) → after_commands k start (cs ++ c ∷ []) v ≡ after_command k start c (after_commands k start cs v)

@@ -1,2 +1,2 @@
-pub mod Commands
+pub mod Command
 pub mod PlainTable

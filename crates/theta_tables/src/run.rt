@@ -1,7 +1,7 @@
 //! Runs of commands over a table.
 ghost use Rattle.std.specs.Prelude.{◌≡◌, ◌≤◌, ◌^◌, None, true, nat_lt, length, IfOk, OnOk, OnErr};
 ghost use Rattle.core_laws.specs.Refusal.{Refuses};
-ghost use Rattle.theta_tables.specs.Commands.{after_command, after_commands, done, reply, replies, IsAfterBeginning};
+ghost use Rattle.theta_tables.specs.Command.{after_command, after_commands, done, reply, replies, IsAfterBeginning};
 
 use crate::command::{TableCommand, TableReply};
 use crate::table::ThetaTable;

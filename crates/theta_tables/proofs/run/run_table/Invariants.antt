@@ -1,5 +1,5 @@
 use Rattle.std.proofs.Common.{◌≡◌, ◌^◌, take}
-use Rattle.theta_tables.specs.Commands.{after_commands, replies}
+use Rattle.theta_tables.specs.Command.{after_commands, replies}
 use Rattle.theta_tables.proofs.run.run_table.Given as goal
 
 -- the commands so far are replied to, and the table is as after them
