@@ -1,5 +1,5 @@
 pub mod Folds
-pub mod Lacking
+pub mod Differences
 pub mod Shown
 pub mod Joining
 pub mod Held

@@ -80,7 +80,7 @@ pub fn evaluate<F: SketchFamily<A>, A: Allocator + Clone, B: Allocator>(
             let two = second.get();
             let a = evaluate(family, alloc, one, seed, false)?;
             let b = evaluate(family, alloc, two, seed, false)?;
-            let answer = family.lacking(&difference, alloc.clone()?, &a, &b, ordered)?;
+            let answer = family.a_not_b(&difference, alloc.clone()?, &a, &b, ordered)?;
             Ok(Evaluated::Compact(answer))
         }
         Plan::Via { ordered: own, part } => {

@@ -227,7 +227,7 @@ pub trait SketchFamily<A: Allocator> {
 
     /// The difference of two parts of this seed, ordered if `ordered` is set or the first part is ordered. Refused with
     /// `OutOfMemory` alone.
-    fn lacking(
+    fn a_not_b(
         &self,
         difference: &Self::Difference,
         alloc: A,

@@ -20,7 +20,7 @@ ghost use Rattle.plan_values.specs.LawfulLeaf.{IsLawfulLeaf};
 ghost use Rattle.plan_values.specs.MergePlan.{only_unites, IsMergePlan};
 ghost use Rattle.plan_values.specs.Refusals.{may_refuse, must_refuse};
 ghost use Rattle.plan_values.specs.Value.{value_in, value_of, plan_refusal};
-ghost use Rattle.plan_values.specs.WholeStreams.{whole_in, whole_of, whole_hashes};
+ghost use Rattle.plan_values.specs.WholeStreams.{whole_in, whole_hashes};
 ghost use Rattle.core_compact.specs.CompactState.{ordered_sketch};
 ghost use Rattle.plan_evaluation.specs.Answered.{HasKeys, IsOrderedSketchOf};
 ghost use Rattle.plan_evaluation.specs.Refused.{IsPlanRefused};
@@ -56,10 +56,10 @@ pub fn evaluate_theta<A: Allocator + Clone, B: Allocator>(
     seed: u64,
 ) -> Result<CompactThetaSketch<A>, Error>
     ensures value { IfOk result (λ s. s ≡ ordered_sketch (value_of plan.now) (seed_hash seed)) }
-    ensures whole { OnOk result (IsAllBelow hash_key (value_of plan.now) (whole_of plan.now)) }
+    ensures whole { OnOk result (IsAllBelow hash_key (value_of plan.now) (whole_hashes plan.now)) }
     ensures merged { (lg_k start : ℕ)
         → IsMergePlan lg_k start plan.now
-        → OnOk result (value_of plan.now ≡ NonEmpty (kmin (2 ^ lg_k) (whole_of plan.now) start)) }
+        → OnOk result (value_of plan.now ≡ NonEmpty (kmin (2 ^ lg_k) (whole_hashes plan.now) start)) }
     ensures lawful { OnOk result (IsLawfulLeaf hashes plan.now) }
     ensures trimmed { (lg_k start : ℕ) (steps : List (LeafStep (Unit {0})))
         → plan.now ≡ plans.Leaf lg_k start (steps ++ Trim ∷ [])

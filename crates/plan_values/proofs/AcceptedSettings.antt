@@ -21,6 +21,10 @@ pub and_right : (a b : Bool) → (a && b) ≡ true → b ≡ true
 and_right true b e = e
 and_right false b e = absurd (cc)
 
+-- a conjunction of two that are true
+pub both : (a b : Bool) → a ≡ true → b ≡ true → (a && b) ≡ true
+both a b one two = rw (one, two) refl
+
 -- a number that a test finds at most another one is
 pub at_most : (a b : ℕ) → nat_le a b ≡ true → a ≤ b
 at_most a b e = grind (arith, nat_tests)

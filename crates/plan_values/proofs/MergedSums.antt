@@ -25,7 +25,7 @@ use Rattle.plan_values.specs.AddedValues.{added_values, total}
 use Rattle.plan_values.specs.Family.{Family, hashes, tuple_folds}
 use Rattle.plan_values.specs.MergePlan.{only_unites}
 use Rattle.plan_values.specs.Value.{value_in, plan_refusal}
-use Rattle.plan_values.specs.WholeStreams.{whole_in, whole_of}
+use Rattle.plan_values.specs.WholeStreams.{whole_in, whole_hashes}
 use Rattle.plan_values.proofs.AddedValues.{Told, merge_relation, any_value, merge_lacks, merge_has}
 use Rattle.plan_values.proofs.KnownFamilies.{hashes_keep, tuple_folds_keep}
 use Rattle.plan_values.proofs.Samples.{sampled}
@@ -61,13 +61,13 @@ module _ {S U : Type 0} (creates : Option S) (updates : S → U → Option S) (c
   no_fold h p uncarried unites = merge_lacks (tuple_folds creates updates combines) (tuple_folds_keep creates updates combines) h p uncarried unites
 
 module _ {Z : Type 0} where
-  pub hash_added : (h : ℕ) (p : Plan (Unit {0}) Z) → is_carried h ≡ true → only_unites p ≡ true → IsSome (entry_at hash_key (whole_of p) h) → added_values h p ≢ []
+  pub hash_added : (h : ℕ) (p : Plan (Unit {0}) Z) → is_carried h ≡ true → only_unites p ≡ true → IsSome (entry_at hash_key (whole_hashes p) h) → added_values h p ≢ []
   hash_added h p carried unites some = any_there (added_values h p) (sym (merge_has hashes hashes_keep (λ g u. refl) h p carried unites) ∙ some)
 
-  pub added_hash : (h : ℕ) (p : Plan (Unit {0}) Z) → is_carried h ≡ true → only_unites p ≡ true → added_values h p ≢ [] → IsSome (entry_at hash_key (whole_of p) h)
+  pub added_hash : (h : ℕ) (p : Plan (Unit {0}) Z) → is_carried h ≡ true → only_unites p ≡ true → added_values h p ≢ [] → IsSome (entry_at hash_key (whole_hashes p) h)
   added_hash h p carried unites there = merge_has hashes hashes_keep (λ g u. refl) h p carried unites ∙ there_any (added_values h p) there
 
-  pub no_hash : (h : ℕ) (p : Plan (Unit {0}) Z) → is_carried h ≡ false → only_unites p ≡ true → entry_at hash_key (whole_of p) h ≡ None
+  pub no_hash : (h : ℕ) (p : Plan (Unit {0}) Z) → is_carried h ≡ false → only_unites p ≡ true → entry_at hash_key (whole_hashes p) h ≡ None
   no_hash h p uncarried unites = merge_lacks hashes hashes_keep h p uncarried unites
 
 -- ---- sums

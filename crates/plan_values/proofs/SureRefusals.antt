@@ -18,9 +18,8 @@ use Rattle.plan_values.specs.Family.{Family}
 use Rattle.plan_values.specs.Refusals.{Traced, step_refused, parts_marked, turns_marked, parts_refused, turns_refused, traced, may_refuse, must_refuse}
 use Rattle.plan_values.specs.Value.{may_be_built, may_have_seed, may_be_lowered, fits, plan_refusal}
 use Rattle.plan_values.specs.WholeStreams.{joined_of, shared_of}
-use Rattle.plan_values.proofs.AcceptedSettings.{accepted, and_left, and_right}
+use Rattle.plan_values.proofs.AcceptedSettings.{both, accepted, and_left, and_right}
 use Rattle.plan_values.proofs.EveryPlan.{every_plan}
-use Rattle.plan_values.proofs.Marks.{both}
 use Rattle.plan_values.proofs.NodeEquations.{traced_leaf, traced_union, traced_meet, traced_minus, traced_via, fits_leaf, fits_union, fits_meet}
 use Rattle.plan_values.proofs.PlanOutcome.{traced_fits}
 use Rattle.plan_values.proofs.RefusedSteps.{in_turn}

@@ -55,11 +55,11 @@ module _ {S Z : Type 0} (whole_number : S → ℤ) (least greatest : ℤ) (zero 
   abbrev IsSum : State (TupleEntry S) → Type 0
   IsSum s = (h : ℕ) (e : TupleEntry S) → entry_at tuple_key s.entries h ≡ Some e → whole_number e.summary ≡ total (map whole_number (added_values h p))
 
-  sums_of : (w : Sketch (TupleEntry S)) (hash : ℕ) (s : State (TupleEntry S)) → plan_refusal seed p ≡ None → only_unites p ≡ true → s ≡ ordered_sketch w hash → unmarked_value w ≡ value_in (tuple_folds (Some zero) sums sums) p → IsSum s
-  sums_of Empty hash s accepted unites is value h e found = absurd (let none : None ≡ Some e = sym (ap (λ (t : State (TupleEntry S)). entry_at tuple_key t.entries h) is) ∙ found in cc)
-  sums_of (NonEmpty v) hash s accepted unites is value h e found =
+  summed_value : (w : Sketch (TupleEntry S)) (hash : ℕ) (s : State (TupleEntry S)) → plan_refusal seed p ≡ None → only_unites p ≡ true → s ≡ ordered_sketch w hash → unmarked_value w ≡ value_in (tuple_folds (Some zero) sums sums) p → IsSum s
+  summed_value Empty hash s accepted unites is value h e found = absurd (let none : None ≡ Some e = sym (ap (λ (t : State (TupleEntry S)). entry_at tuple_key t.entries h) is) ∙ found in cc)
+  summed_value (NonEmpty v) hash s accepted unites is value h e found =
       retained_sums whole_number least greatest zero sums zero_is summed seed h p v e accepted unites (sym value) (sym (ap (λ (t : State (TupleEntry S)). entry_at tuple_key t.entries h) is) ∙ found)
 
   pub summed_sketch : (hash : ℕ) (r : Result (State (TupleEntry S)) ErrorKind) → OnOk r (plan_refusal seed p ≡ None) → IfOk r (λ s. IsOrderedSketchOf tuple_key (value_in (tuple_folds (Some zero) sums sums) p) hash s) → only_unites p ≡ true → IfOk r IsSum
-  summed_sketch hash (Ok s) accepted is unites = sums_of (compact_value tuple_key s) hash s accepted unites is.1 is.0
+  summed_sketch hash (Ok s) accepted is unites = summed_value (compact_value tuple_key s) hash s accepted unites is.1 is.0
   summed_sketch hash (Err e) accepted is unites = tt

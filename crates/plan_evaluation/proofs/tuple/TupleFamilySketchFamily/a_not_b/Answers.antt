@@ -6,9 +6,9 @@ use Rattle.core_laws.specs.Operators.{minus}
 use Rattle.core_laws.specs.Shown.{shown_value}
 use Rattle.core_slots.specs.Entry.{tuple_key}
 use Rattle.core_operators.proofs.DifferencesByKeys.{minus_of_keys}
-use Rattle.plan_evaluation.proofs.families.Lacking.{fold_answer}
+use Rattle.plan_evaluation.proofs.families.Differences.{fold_answer}
 use Rattle.plan_evaluation.proofs.families.Shown.{hashes_lent}
-use Rattle.plan_evaluation.proofs.tuple.TupleFamilySketchFamily.lacking.Goals as goal
+use Rattle.plan_evaluation.proofs.tuple.TupleFamilySketchFamily.a_not_b.Goals as goal
 
 pub returns-clause-ok : goal.returns-clause-ok
 returns-clause-ok g c =

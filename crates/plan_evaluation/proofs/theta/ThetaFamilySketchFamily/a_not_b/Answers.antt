@@ -3,8 +3,8 @@ use Rattle.std.specs.Prelude.{◌||◌}
 use Rattle.core_laws.specs.Entries.{hash_key}
 use Rattle.core_laws.specs.Shown.{shown_value}
 use Rattle.theta_sketches.specs.View.{view_shows, view_sequence}
-use Rattle.plan_evaluation.proofs.families.Lacking.{fold_answer}
-use Rattle.plan_evaluation.proofs.theta.ThetaFamilySketchFamily.lacking.Goals as goal
+use Rattle.plan_evaluation.proofs.families.Differences.{fold_answer}
+use Rattle.plan_evaluation.proofs.theta.ThetaFamilySketchFamily.a_not_b.Goals as goal
 
 pub returns-clause-ok : goal.returns-clause-ok
 returns-clause-ok g c =
