@@ -1,7 +1,7 @@
 //! Differences of theta sketches.
 ghost use Rattle.std.specs.Prelude.{◌≡◌};
 ghost use Rattle.c_handles.specs.Calls.{FillsFromTwo};
-ghost use Rattle.sketch_objects.specs.Intersections.{AreOfSeed, IsDifferenceOf, IsDifferenceRefusal};
+ghost use Rattle.sketch_objects.specs.Intersection.{AreOfSeed, IsDifferenceOf, IsDifferenceRefusal};
 
 use c_handles::handles::CompactHandle;
 use std::alloc::Global;

@@ -1,7 +1,7 @@
 //! Intersections of theta sketches.
 ghost use Rattle.std.specs.Prelude.{◌≡◌, None};
 ghost use Rattle.c_handles.specs.Calls.{OnObject, OnObjectWith, Fills, FillsFrom};
-ghost use Rattle.sketch_objects.specs.Intersections.{IsNewIntersection, MeetsShown, IsSeedRefusal, IsIntersectionResult, IsNoResult};
+ghost use Rattle.sketch_objects.specs.Intersection.{IsNewIntersection, MeetsShown, IsSeedRefusal, IsIntersectionResult, IsNoResult};
 ghost use Rattle.sketch_objects.specs.Thetas.{OfSketch, OfCompact, OfImage};
 
 use c_handles::handles::{CompactHandle, IntersectionHandle, ThetaHandle};

@@ -1,7 +1,7 @@
 //! Differences of tuple sketches of sums.
 ghost use Rattle.std.specs.Prelude.{◌≡◌};
 ghost use Rattle.c_handles.specs.Calls.{FillsFromTwo};
-ghost use Rattle.sketch_objects.specs.SumsIntersections.{AreSumsOfSeed, IsDifferenceOfSums, IsSumsDifferenceRefusal};
+ghost use Rattle.sketch_objects.specs.SumsIntersection.{AreSumsOfSeed, IsDifferenceOfSums, IsSumsDifferenceRefusal};
 
 use c_handles::handles::CompactSumsHandle;
 use std::alloc::Global;

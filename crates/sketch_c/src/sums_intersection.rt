@@ -2,8 +2,8 @@
 ghost use Rattle.std.specs.Prelude.{◌≡◌, None};
 ghost use Rattle.c_handles.specs.Calls.{OnObject, OnObjectWith, Fills, FillsFrom};
 ghost use Rattle.sketch_objects.specs.CompactSums.{OfSums, OfCompactSums, OfSumsImage};
-ghost use Rattle.sketch_objects.specs.Intersections.{IsSeedRefusal};
-ghost use Rattle.sketch_objects.specs.SumsIntersections.{IsNewSumsIntersection, MeetsShownSums, IsSumsIntersectionResult, IsNoSumsResult};
+ghost use Rattle.sketch_objects.specs.Intersection.{IsSeedRefusal};
+ghost use Rattle.sketch_objects.specs.SumsIntersection.{IsNewSumsIntersection, MeetsShownSums, IsSumsIntersectionResult, IsNoSumsResult};
 
 use c_handles::handles::{CompactSumsHandle, SumsHandle, SumsIntersectionHandle};
 use sketch_objects::sums_intersection::built;

@@ -4,7 +4,7 @@ ghost use Rattle.sketch_objects.specs.Buffer.{WritesOf};
 ghost use Rattle.sketch_objects.specs.CompactSums.{OfSums, OfCompactSums, OfSumsImage};
 ghost use Rattle.c_handles.specs.Calls.{OnObject, OnObjectWith, Fills, FillsFrom};
 ghost use Rattle.sketch_objects.specs.Settings.{IsSettingsRefusal};
-ghost use Rattle.sketch_objects.specs.SumsUnions.{IsNewSumsUnion, AddsShownSums, IsSumsUnionResult, IsSumsUnionImage, IsSumsResultRefusal, ResetsSumsUnion};
+ghost use Rattle.sketch_objects.specs.SumsUnion.{IsNewSumsUnion, AddsShownSums, IsSumsUnionResult, IsSumsUnionImage, IsSumsResultRefusal, ResetsSumsUnion};
 
 use c_handles::handles::{CompactSumsHandle, SumsHandle, SumsUnionHandle};
 use sketch_objects::sums_union::built;

@@ -4,7 +4,7 @@ ghost use Rattle.sketch_objects.specs.Buffer.{WritesOf};
 ghost use Rattle.c_handles.specs.Calls.{OnObject, OnObjectWith, Fills, FillsFrom};
 ghost use Rattle.sketch_objects.specs.Settings.{IsSettingsRefusal};
 ghost use Rattle.sketch_objects.specs.Thetas.{OfSketch, OfCompact, OfImage};
-ghost use Rattle.sketch_objects.specs.Unions.{IsNewUnion, AddsShown, IsUnionResult, IsUnionImage, IsResultRefusal, ResetsUnion};
+ghost use Rattle.sketch_objects.specs.Union.{IsNewUnion, AddsShown, IsUnionResult, IsUnionImage, IsResultRefusal, ResetsUnion};
 
 use c_handles::handles::{CompactHandle, ThetaHandle, UnionHandle};
 use sketch_objects::union::built;

@@ -10,8 +10,8 @@ use Rattle.core_slots.specs.declared.entry.TupleEntry.{TupleEntry}
 use Rattle.core_state.specs.Updatable.{sketch_shows}
 use Rattle.totals.specs.Totals.{sum_of}
 use Rattle.tuple_sketches.specs.Image.{Reads, IsReadable, written}
-use Rattle.sketch_objects.specs.Status.{IsUnread}
-use Rattle.sketch_objects.specs.Sums.{sums_of}
+use Rattle.sketch_objects.specs.Status.{IsUnreadStatus}
+use Rattle.sketch_objects.specs.Sums.{sums_sketch}
 use Rattle.sketch_objects.specs.Thetas.{state_of}
 use Rattle.sketch_objects.specs.declared.compact_sums.CompactSums.{CompactSums}
 use Rattle.sketch_objects.specs.declared.state.State.{State}
@@ -23,7 +23,7 @@ IsSumsReadFrom bytes seed s = Reads (SpellsNumber 8) bytes (seed_hash seed) s.sk
 
 -- the refusal of reading: memory, with 3; or bytes that are read as no sketch, with 2
 abbrev pub IsSumsReadRefusal : (bytes : List ℕ) → (seed : ℕ) → (status : ℕ) → Type 0
-IsSumsReadRefusal bytes seed status = IsUnread (IsReadable (SpellsNumber 8) bytes (seed_hash seed)) status
+IsSumsReadRefusal bytes seed status = IsUnreadStatus (IsReadable (SpellsNumber 8) bytes (seed_hash seed)) status
 
 -- the state of a sketch
 abbrev pub compact_sums_state : CompactSums → State
@@ -58,7 +58,7 @@ CopiesEntries (Some s) hashes_before sums_before count_before status hashes sums
 
 -- an operator got a sketch that takes updates, by what a call does with what a sketch shows and lists
 abbrev pub OfSums : {O : Type 0} → (Does : Shown → List (TupleEntry ℕ) → O → ℕ → O → Type 0) → SeededSums → (old : O) → (status : ℕ) → (new : O) → Type 0
-OfSums Does t old status new = Does (sketch_shows tuple_key (sums_of t)) (sums_of t).sequence old status new
+OfSums Does t old status new = Does (sketch_shows tuple_key (sums_sketch t)) (sums_sketch t).sequence old status new
 
 -- .. a compact sketch
 abbrev pub OfCompactSums : {O : Type 0} → (Does : Shown → List (TupleEntry ℕ) → O → ℕ → O → Type 0) → CompactSums → (old : O) → (status : ℕ) → (new : O) → Type 0

@@ -9,7 +9,7 @@ use Rattle.core_laws.specs.Operators.{meet_next}
 use Rattle.core_laws.specs.Values.{Sketch}
 use Rattle.theta_sketches.specs.Image.{Reads, written}
 use Rattle.sketch_objects.specs.Buffer.{Writes}
-use Rattle.sketch_objects.specs.Intersections.{IsDifferenceOf}
+use Rattle.sketch_objects.specs.Intersection.{IsDifferenceOf}
 use Rattle.sketch_objects.specs.Thetas.{IsReadRefusal}
 use Rattle.sketch_objects.specs.declared.compact.CompactSketch.{CompactSketch}
 

@@ -2,13 +2,13 @@ pub mod Bounds
 pub mod Buffer
 pub mod CompactSums
 pub mod Images
-pub mod Intersections
+pub mod Intersection
 pub mod Settings
 pub mod Status
 pub mod Strings
 pub mod Sums
-pub mod SumsIntersections
-pub mod SumsUnions
+pub mod SumsIntersection
+pub mod SumsUnion
 pub mod Thetas
 pub mod Totals
-pub mod Unions
+pub mod Union

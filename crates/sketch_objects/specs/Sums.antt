@@ -19,16 +19,16 @@ use Rattle.sketch_objects.specs.declared.state.State.{State}
 use Rattle.sketch_objects.specs.declared.sums.SeededSums.{SeededSums}
 
 -- what contracts see of a tuple sketch
-abbrev pub sums_of : SeededSums → Updatable (TupleEntry ℕ)
-sums_of t = sketch_state t.sketch
+abbrev pub sums_sketch : SeededSums → Updatable (TupleEntry ℕ)
+sums_sketch t = sketch_state t.sketch
 
 -- a new sketch: empty, with these settings
 abbrev pub IsNewSums : (lg_k start seed : ℕ) → SeededSums → Type 0
-IsNewSums lg_k start seed t = (t.seed ≡ seed) × ((sums_of t).empty ≡ true) × ((sums_of t).map ≡ empty_table lg_k start seed)
+IsNewSums lg_k start seed t = (t.seed ≡ seed) × ((sums_sketch t).empty ≡ true) × ((sums_sketch t).map ≡ empty_table lg_k start seed)
 
 -- a copy of a sketch: the same entries, theta and settings
 abbrev pub IsSameSums : (old new : SeededSums) → Type 0
-IsSameSums old new = (new.seed ≡ old.seed) × ((sums_of new).empty ≡ (sums_of old).empty) × ((sums_of new).map ≡ (sums_of old).map)
+IsSameSums old new = (new.seed ≡ old.seed) × ((sums_sketch new).empty ≡ (sums_sketch old).empty) × ((sums_sketch new).map ≡ (sums_sketch old).map)
 
 -- a value was added to the sum at a hash
 abbrev pub AcceptsValue : (hash value : ℕ) → (old new : Updatable (TupleEntry ℕ)) → Type 0
@@ -48,8 +48,8 @@ RefusesValue hash value old status =
 abbrev pub AddsValue : (hash value : ℕ) → (old : SeededSums) → (status : ℕ) → (new : SeededSums) → Type 0
 AddsValue hash value old status new =
     (new.seed ≡ old.seed)
-    × (status ≡ 0 → AcceptsValue hash value (sums_of old) (sums_of new))
-    × (status ≢ 0 → RefusesValue hash value (sums_of old) status × ((sums_of new).empty ≡ (sums_of old).empty) × ((sums_of new).map ≡ (sums_of old).map))
+    × (status ≡ 0 → AcceptsValue hash value (sums_sketch old) (sums_sketch new))
+    × (status ≢ 0 → RefusesValue hash value (sums_sketch old) status × ((sums_sketch new).empty ≡ (sums_sketch old).empty) × ((sums_sketch new).map ≡ (sums_sketch old).map))
 
 -- a value was added to the sum of a number, by the hash of its eight bytes, the lowest first
 abbrev pub AddsAtNumber : (number value : ℕ) → (old : SeededSums) → (status : ℕ) → (new : SeededSums) → Type 0
@@ -63,26 +63,26 @@ AddsAtBytes bytes value old status new = AddsValue (hash_of old.seed bytes) valu
 abbrev pub TrimsSums : (old : SeededSums) → (status : ℕ) → (new : SeededSums) → Type 0
 TrimsSums old status new =
     (new.seed ≡ old.seed)
-    × ((sums_of new).empty ≡ (sums_of old).empty)
-    × (status ≡ 0 → (sums_of new).map ≡ trimmed_table tuple_key (sums_of old).map)
-    × (status ≢ 0 → (status ≡ 3) × ((sums_of new).map ≡ (sums_of old).map) × IsTrue (nat_lt (2 ^ (sums_of old).map.lg_nom) (length (sums_of old).map.kept.entries)))
+    × ((sums_sketch new).empty ≡ (sums_sketch old).empty)
+    × (status ≡ 0 → (sums_sketch new).map ≡ trimmed_table tuple_key (sums_sketch old).map)
+    × (status ≢ 0 → (status ≡ 3) × ((sums_sketch new).map ≡ (sums_sketch old).map) × IsTrue (nat_lt (2 ^ (sums_sketch old).map.lg_nom) (length (sums_sketch old).map.kept.entries)))
 
 -- the sketch is empty again, as when it was new
 abbrev pub ResetsSums : (old : SeededSums) → (status : ℕ) → (new : SeededSums) → Type 0
-ResetsSums old status new = (status ≡ 0) × (new.seed ≡ old.seed) × ((sums_of new).empty ≡ true) × ((sums_of new).map ≡ after_reset (sums_of old).map)
+ResetsSums old status new = (status ≡ 0) × (new.seed ≡ old.seed) × ((sums_sketch new).empty ≡ true) × ((sums_sketch new).map ≡ after_reset (sums_sketch old).map)
 
 -- the state of a sketch
 abbrev pub sums_state : SeededSums → State
-sums_state t = value_state (sums_of t).empty (sketch_value (sums_of t))
+sums_state t = value_state (sums_sketch t).empty (sketch_value (sums_sketch t))
 
 -- the image of the ordered compact form of a sketch: behind each hash its sum's eight bytes, the lowest first
 abbrev pub IsImageOfSums : SeededSums → List ℕ → Type 0
-IsImageOfSums t image = (s : Compact (TupleEntry ℕ)) × (image ≡ written (λ sum. to_le_bytes w64 sum) s) × IsAnswer tuple_key (sketch_value (sums_of t)) (sums_of t).map.seed_hash true s
+IsImageOfSums t image = (s : Compact (TupleEntry ℕ)) × (image ≡ written (λ sum. to_le_bytes w64 sum) s) × IsAnswer tuple_key (sketch_value (sums_sketch t)) (sums_sketch t).map.seed_hash true s
 
 -- the ordered compact form of a sketch
 abbrev pub IsCompactFormOfSums : SeededSums → CompactSums → Type 0
-IsCompactFormOfSums t s = IsAnswer tuple_key (sketch_value (sums_of t)) (sums_of t).map.seed_hash true s.sketch
+IsCompactFormOfSums t s = IsAnswer tuple_key (sketch_value (sums_sketch t)) (sums_sketch t).map.seed_hash true s.sketch
 
 -- the total of a sketch: the sum of its sums
 abbrev pub sums_total : SeededSums → ℕ
-sums_total t = sum_of (sums_of t).sequence
+sums_total t = sum_of (sums_sketch t).sequence

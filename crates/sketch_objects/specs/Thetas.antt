@@ -9,7 +9,7 @@ use Rattle.core_laws.specs.Values.{Sketch, theta_of, count_of}
 use Rattle.core_state.specs.Updatable.{sketch_value, sketch_shows, StopsUpdates}
 use Rattle.core_table.specs.HashTable.{empty_table, after_hash, after_hashes, after_reset, hash_allocates, trimmed_table}
 use Rattle.theta_sketches.specs.Image.{Reads, IsReadable, written}
-use Rattle.sketch_objects.specs.Status.{IsUnread}
+use Rattle.sketch_objects.specs.Status.{IsUnreadStatus}
 use Rattle.sketch_objects.specs.declared.compact.CompactSketch.{CompactSketch}
 use Rattle.sketch_objects.specs.declared.state.State.{State}
 use Rattle.sketch_objects.specs.declared.theta.SeededSketch.{SeededSketch}
@@ -95,7 +95,7 @@ IsReadFrom bytes seed s = Reads bytes (seed_hash seed) s.sketch
 
 -- the refusal of reading: memory, with 3; or bytes that are read as no sketch, with 2
 abbrev pub IsReadRefusal : (bytes : List ℕ) → (seed : ℕ) → (status : ℕ) → Type 0
-IsReadRefusal bytes seed status = IsUnread (IsReadable bytes (seed_hash seed)) status
+IsReadRefusal bytes seed status = IsUnreadStatus (IsReadable bytes (seed_hash seed)) status
 
 -- the state of the sketch that bytes begin with was written, with status 0; or reading was refused, and nothing is written
 abbrev pub ReadsImageState : (bytes : List ℕ) → (seed : ℕ) → (before : State) → (status : ℕ) → (after : State) → Type 0

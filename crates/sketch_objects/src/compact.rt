@@ -1,5 +1,5 @@
 //! Compact theta sketches, which are immutable.
-ghost use Rattle.sketch_objects.specs.Intersections.{IsDifferenceOf, AreOfSeed, IsDifferenceRefusal};
+ghost use Rattle.sketch_objects.specs.Intersection.{IsDifferenceOf, AreOfSeed, IsDifferenceRefusal};
 ghost use Rattle.sketch_objects.specs.Status.{IsMemoryRefusal};
 ghost use Rattle.sketch_objects.specs.Thetas.{compact_state, IsCompactImage, IsCopy, IsReadFrom, IsReadRefusal};
 ghost use Rattle.sketch_objects.specs.declared.compact.CompactSketch.{CompactSketch};

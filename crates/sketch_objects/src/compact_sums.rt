@@ -2,7 +2,7 @@
 ghost use Rattle.std.specs.Prelude.{◌≡◌, ◌≤◌, ◌++◌, None, length, drop, map};
 ghost use Rattle.core_slots.specs.Entry.{tuple_key};
 ghost use Rattle.sketch_objects.specs.Status.{IsMemoryRefusal};
-ghost use Rattle.sketch_objects.specs.SumsIntersections.{IsDifferenceOfSums, AreSumsOfSeed, IsSumsDifferenceRefusal};
+ghost use Rattle.sketch_objects.specs.SumsIntersection.{IsDifferenceOfSums, AreSumsOfSeed, IsSumsDifferenceRefusal};
 ghost use Rattle.sketch_objects.specs.CompactSums.{IsCompactSumsImage, IsSumsReadFrom, IsSumsReadRefusal, compact_sums_state, compact_total, PutsEntries};
 ghost use Rattle.sketch_objects.specs.declared.compact_sums.CompactSums.{CompactSums};
 

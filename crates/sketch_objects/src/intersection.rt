@@ -3,7 +3,7 @@ ghost use Rattle.std.specs.Prelude.{true, None, IfOk};
 ghost use Rattle.core_laws.specs.Refusal.{Refuses};
 ghost use Rattle.core_operators.specs.Intersection.{seed_refusal};
 ghost use Rattle.theta_sketches.specs.View.{view_shows, view_sequence};
-ghost use Rattle.sketch_objects.specs.Intersections.{IsNewIntersection, MeetsShown, IsIntersectionResult, IsNoResult};
+ghost use Rattle.sketch_objects.specs.Intersection.{IsNewIntersection, MeetsShown, IsIntersectionResult, IsNoResult};
 ghost use Rattle.sketch_objects.specs.Thetas.{OfSketch, OfCompact, OfImage};
 ghost use Rattle.sketch_objects.specs.declared.intersection.SeededIntersection.{SeededIntersection};
 

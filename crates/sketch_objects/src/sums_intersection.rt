@@ -5,7 +5,7 @@ ghost use Rattle.core_operators.specs.Intersection.{seed_refusal};
 ghost use Rattle.core_slots.specs.Entry.{tuple_key};
 ghost use Rattle.core_state.specs.View.{shows, sequence};
 ghost use Rattle.sketch_objects.specs.CompactSums.{OfSums, OfCompactSums, OfSumsImage};
-ghost use Rattle.sketch_objects.specs.SumsIntersections.{IsNewSumsIntersection, MeetsShownSums, IsSumsIntersectionResult, IsNoSumsResult};
+ghost use Rattle.sketch_objects.specs.SumsIntersection.{IsNewSumsIntersection, MeetsShownSums, IsSumsIntersectionResult, IsNoSumsResult};
 ghost use Rattle.sketch_objects.specs.declared.sums_intersection.SeededSumsIntersection.{SeededSumsIntersection};
 
 use crate::compact_sums::CompactSums;
@@ -33,7 +33,7 @@ pub fn built(alloc: Global, seed: u64) -> Result<SeededSumsIntersection, Error>
     Ok(SeededSumsIntersection { intersection, seed })
 }
 
-#[tactic(auto, unfolding(crate::specs::SumsIntersections::MeetsShownSums))]
+#[tactic(auto, unfolding(crate::specs::SumsIntersection::MeetsShownSums))]
 fn add(object: &mut SeededSumsIntersection, view: TupleSketchView<'_, u64>) -> u32
     ensures { MeetsShownSums (shows tuple_key view.entry) (sequence view.entry) object.old result object.new }
 {

@@ -6,7 +6,7 @@ ghost use Rattle.core_laws.specs.declared.TheConstants.{MAX_THETA};
 ghost use Rattle.core_slots.specs.Entry.{tuple_key};
 ghost use Rattle.core_state.specs.View.{shows, sequence};
 ghost use Rattle.sketch_objects.specs.CompactSums.{OfSums, OfCompactSums, OfSumsImage};
-ghost use Rattle.sketch_objects.specs.SumsUnions.{IsNewSumsUnion, AddsShownSums, IsSumsUnionResult, IsSumsUnionImage, IsSumsResultRefusal, ResetsSumsUnion};
+ghost use Rattle.sketch_objects.specs.SumsUnion.{IsNewSumsUnion, AddsShownSums, IsSumsUnionResult, IsSumsUnionImage, IsSumsResultRefusal, ResetsSumsUnion};
 ghost use Rattle.sketch_objects.specs.declared.sums_union.SeededSumsUnion.{SeededSumsUnion};
 
 use crate::compact_sums::CompactSums;
@@ -37,7 +37,7 @@ pub fn built(alloc: Global, lg_k: u8, seed: u64) -> Result<SeededSumsUnion, Erro
     Ok(SeededSumsUnion { union, seed })
 }
 
-#[tactic(auto, unfolding(crate::specs::SumsUnions::AddsShownSums))]
+#[tactic(auto, unfolding(crate::specs::SumsUnion::AddsShownSums))]
 fn add(union: &mut SeededSumsUnion, view: TupleSketchView<'_, u64>) -> u32
     ensures { AddsShownSums (shows tuple_key view.entry) (sequence view.entry) union.old result union.new }
 {

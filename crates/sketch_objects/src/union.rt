@@ -5,7 +5,7 @@ ghost use Rattle.core_laws.specs.Settings.{settings_refusal};
 ghost use Rattle.core_laws.specs.declared.TheConstants.{MAX_THETA};
 ghost use Rattle.theta_sketches.specs.View.{view_shows, view_sequence};
 ghost use Rattle.sketch_objects.specs.Thetas.{OfSketch, OfCompact, OfImage};
-ghost use Rattle.sketch_objects.specs.Unions.{IsNewUnion, AddsShown, IsUnionResult, IsUnionImage, IsResultRefusal, ResetsUnion};
+ghost use Rattle.sketch_objects.specs.Union.{IsNewUnion, AddsShown, IsUnionResult, IsUnionImage, IsResultRefusal, ResetsUnion};
 ghost use Rattle.sketch_objects.specs.declared.union.SeededUnion.{SeededUnion};
 
 use crate::compact::CompactSketch;

@@ -11,7 +11,7 @@ use Rattle.core_policies.specs.Sums.{unsigned_sum}
 use Rattle.core_policies.specs.declared.default_union.DefaultUnionPolicy.{DefaultUnionPolicy}
 use Rattle.core_slots.specs.Entry.{tuple_key}
 use Rattle.core_slots.specs.declared.entry.TupleEntry.{TupleEntry}
-use Rattle.sketch_objects.specs.Intersections.{IsNoValue, RefusesDifference, AcceptsDifference}
+use Rattle.sketch_objects.specs.Intersection.{IsNoValue, RefusesDifference, AcceptsDifference}
 use Rattle.sketch_objects.specs.Status.{status_of}
 use Rattle.sketch_objects.specs.declared.compact_sums.CompactSums.{CompactSums}
 use Rattle.sketch_objects.specs.declared.sums_intersection.SeededSumsIntersection.{SeededSumsIntersection}
