@@ -10,15 +10,15 @@ use Rattle.expression_text.specs.declared.operator.Step.{Step}
 use Rattle.expression_text.specs.Grammar.{IsExpressionText}
 use Rattle.core_slots.specs.declared.entry.TupleEntry.{TupleEntry}
 use Rattle.line_sums.specs.Images.{AreReadSums}
-use Rattle.set_expressions.specs.Values.{value_of, sum_rules, sums_value}
+use Rattle.set_expressions.specs.Values.{hashes_value, sum_rules, sums_value}
 use Rattle.set_expressions.specs.Running.{values_of, sums_values}
 use Rattle.set_expressions.proofs.WholeSets.{expression_sample}
 use Rattle.distinct_arguments.specs.Settings.{OptionValues}
 use Rattle.distinct_commands.proofs.WholeStreams.{whole_result}
 use Rattle.distinct_inputs.specs.Lists.{names_of}
 use Rattle.distinct_inputs.specs.Failures.{chosen_hashing}
-use Rattle.distinct_commands.specs.Evaluations.{sketch_of_text, SketchesFirst, SketchesNext, AreSketchesOfTexts, AreOperands, IsEvaluated, IsEvaluatedBy, IsEvaluatedOf, evaluated_text}
-use Rattle.distinct_commands.specs.EvaluatedSums.{IsSumsEvaluated, evaluated_sums_text}
+use Rattle.distinct_commands.specs.Eval.{sketch_of_text, SketchesFirst, SketchesNext, AreSketchesOfTexts, AreOperands, IsEvaluated, IsEvaluatedBy, IsEvaluatedOf, evaluated_text}
+use Rattle.distinct_commands.specs.EvalSums.{IsSumsEvaluated, evaluated_sums_text}
 use Rattle.distinct_inputs.specs.Images.{images_of}
 
 mapped-more : {X Y : Type 0} (f : X → Y) (xs : List X) (x : X) → map f (xs ++ x ∷ []) ≡ map f xs ++ f x ∷ []
@@ -75,7 +75,7 @@ module _ (options : OptionValues) (seed : ℕ) where
   -- the result of an expression
   pub evaluated : {V E A : Type 0} (r : Result V E) (items : V → List ℕ) (known : Option (List (List ℕ))) (text : List ℕ) (names : List (String A)) (steps : List Step) (sketches : List (Compact ℕ)) (s : Compact ℕ) →
       (spelled : IsExpressionText text (names_of names) steps) → IfSome known (λ texts. AreOperands options.keys options seed texts sketches) → length names ≡ length sketches →
-      s ≡ ordered_sketch (value_of options.lg_k (values_of sketches) spelled.tree) (seed_hash seed) → IfOk r (λ v. items v ≡ evaluated_text options text s) →
+      s ≡ ordered_sketch (hashes_value options.lg_k (values_of sketches) spelled.tree) (seed_hash seed) → IfOk r (λ v. items v ≡ evaluated_text options text s) →
       IfSome known (λ texts. IfOk r (λ v. IsEvaluated options seed text texts (items v)))
   evaluated r items None text names steps sketches s spelled operands counted value put = tt
   evaluated (Err e) items (Some texts) text names steps sketches s spelled operands counted value put = tt

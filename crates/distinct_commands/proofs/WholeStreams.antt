@@ -19,13 +19,13 @@ use Rattle.line_sketches.proofs.Shards.{sample}
 use Rattle.line_sketches.proofs.Rereads.{value_again}
 use Rattle.expression_text.specs.declared.operator.Step.{Step}
 use Rattle.expression_text.specs.Expressions.{Expression, postfix, HasIndicesBelow}
-use Rattle.set_expressions.specs.Values.{Rules, hash_rules, value_in, value_of, set_of}
+use Rattle.set_expressions.specs.Values.{Rules, hash_rules, expression_value, hashes_value, set_of}
 use Rattle.set_expressions.specs.Running.{values_of, values_by, after_steps, only_value, are_accepted, refusal_by, IsEvaluationError}
 use Rattle.set_expressions.proofs.RunSteps.{expression_result, one_result}
 use Rattle.set_expressions.proofs.WholeSets.{expression_sample}
 use Rattle.distinct_arguments.specs.Settings.{OptionValues}
 use Rattle.distinct_inputs.specs.Failures.{chosen_hashing}
-use Rattle.distinct_commands.specs.Evaluations.{AreOperands, AreWholeSets}
+use Rattle.distinct_commands.specs.Eval.{AreOperands, AreWholeSets}
 use Rattle.distinct_inputs.specs.Seeds.{AreSeeded}
 
 module _ (options : OptionValues) (seed : ℕ) where
@@ -46,7 +46,7 @@ module _ (options : OptionValues) (seed : ℕ) where
 
   -- the result is a sample of the expression of the whole streams
   pub whole_result : (texts : List (List ℕ)) (sketches : List (Compact ℕ)) (e : Expression) → AreOperands options.keys options seed texts sketches → (sets : List (List ℕ)) → AreWholeSets options.keys options seed texts sketches sets →
-      IsSample hash_key (value_of options.lg_k (values_of sketches) e) (set_of sets e)
+      IsSample hash_key (hashes_value options.lg_k (values_of sketches) e) (set_of sets e)
   whole_result texts sketches e operands sets are = expression_sample hash_rules (λ x y same. same) options.lg_k (values_of sketches) sets e (operand_samples options.keys texts sketches sets operands are)
 
 -- ---- sketches of one seed are accepted
@@ -67,7 +67,7 @@ module _ {X : Type 0} (rules : Rules X) where
   evaluation_accepted seed lg_k steps sketches e settings seeded within is =
       let values = values_by rules (λ s. s) sketches in
       let inside : HasIndicesBelow (length values) e = subst (λ (n : ℕ). HasIndicesBelow n e) (sym (length-map sketches (λ s. compact_value rules.key s))) within in
-      one_result rules (λ s. s) seed lg_k steps sketches (value_in rules lg_k values e) settings (seeds_accepted seed sketches seeded)
+      one_result rules (λ s. s) seed lg_k steps sketches (expression_value rules lg_k values e) settings (seeds_accepted seed sketches seeded)
       (ap (λ ss. only_value (after_steps rules lg_k values ss (Some []))) is ∙ ap only_value (expression_result rules lg_k values e inside))
 
 -- .. so the error is one of these

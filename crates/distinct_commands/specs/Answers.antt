@@ -16,7 +16,7 @@ use Rattle.distinct_arguments.specs.Settings.{OptionValues, chosen_group, chosen
 use Rattle.grouped_lines.specs.United.{IsUnitedText}
 use Rattle.distinct_arguments.specs.Arguments.{Action, prints, runs, fails}
 use Rattle.distinct_inputs.specs.Failures.{called, chosen_amount, chosen_hashing}
-use Rattle.distinct_commands.specs.Evaluations.{IsEvaluatedOf}
+use Rattle.distinct_commands.specs.Eval.{IsEvaluatedOf}
 use Rattle.distinct_inputs.specs.Images.{images_of, in_form}
 use Rattle.distinct_commands.specs.Groups.{IsGroupedText}
 use Rattle.lines.specs.declared.key.Key.{Key}

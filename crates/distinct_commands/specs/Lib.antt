@@ -1,6 +1,6 @@
 pub mod Texts
-pub mod EvaluatedSums
-pub mod Evaluations
+pub mod EvalSums
+pub mod Eval
 pub mod Visits
 pub mod Sums
 pub mod Groups

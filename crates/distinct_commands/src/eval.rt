@@ -6,12 +6,12 @@ ghost use Rattle.core_laws.specs.declared.TheConstants.{MAX_THETA};
 ghost use Rattle.line_sketches.specs.Refusals.{RefusesRead};
 ghost use Rattle.expression_text.specs.Grammar.{IsExpressionText, SpellsNothing};
 ghost use Rattle.expression_text.specs.declared.fault.Reason.TheVariants.{Memory};
-ghost use Rattle.set_expressions.specs.Values.{value_of};
+ghost use Rattle.set_expressions.specs.Values.{hashes_value};
 ghost use Rattle.core_compact.specs.CompactState.{ordered_sketch};
 ghost use Rattle.set_expressions.specs.Running.{values_of};
 ghost use Rattle.distinct_arguments.specs.Faults.{options_of};
 ghost use Rattle.distinct_inputs.specs.Lists.{names_of};
-ghost use Rattle.distinct_commands.specs.Evaluations.{sketch_of_text, SketchesNext, AreSketchesOfTexts, AreOperands, IsEvaluated, IsEvaluatedOf, evaluated_text};
+ghost use Rattle.distinct_commands.specs.Eval.{sketch_of_text, SketchesNext, AreSketchesOfTexts, AreOperands, IsEvaluated, IsEvaluatedOf, evaluated_text};
 ghost use Rattle.distinct_inputs.specs.Seeds.{AreSeeded};
 ghost use Rattle.distinct_inputs.specs.Failures.{IsOfReading, IsOfImages, IsOfExpression, IsOfOperands, IsOfEvaluation};
 ghost use Rattle.distinct_inputs.specs.declared.failure.Failure.TheVariants as failure;
@@ -144,7 +144,7 @@ fn result_of(
     requires counted { length expression.now.names.items ≡ length sketches.now }
     ensures value { (text : List ℕ)
         → (spelled : IsExpressionText text (names_of expression.now.names.items) expression.now.steps.items)
-        → IfOk result (λ s. s ≡ ordered_sketch (value_of options.now.lg_k (values_of sketches.now) spelled.tree) (seed_hash seed)) }
+        → IfOk result (λ s. s ≡ ordered_sketch (hashes_value options.now.lg_k (values_of sketches.now) spelled.tree) (seed_hash seed)) }
     ensures memory { IfErr result (λ f. f ≡ failure.Memory) }
 {
     let steps = expression.steps.as_slice();

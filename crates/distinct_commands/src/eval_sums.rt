@@ -9,7 +9,7 @@ ghost use Rattle.set_expressions.specs.Values.{sums_value};
 ghost use Rattle.set_expressions.specs.Running.{sums_values};
 ghost use Rattle.distinct_arguments.specs.Faults.{options_of};
 ghost use Rattle.distinct_inputs.specs.Lists.{names_of};
-ghost use Rattle.distinct_commands.specs.EvaluatedSums.{evaluated_sums_text, IsSumsEvaluated};
+ghost use Rattle.distinct_commands.specs.EvalSums.{evaluated_sums_text, IsSumsEvaluated};
 ghost use Rattle.distinct_inputs.specs.Failures.{IsOfImages, IsOfOperands, IsOfResult};
 ghost use Rattle.distinct_inputs.specs.Images.{images_of, in_form};
 ghost use Rattle.distinct_inputs.specs.Seeds.{AreSeeded};

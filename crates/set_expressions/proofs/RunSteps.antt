@@ -17,7 +17,7 @@ use Rattle.expression_text.specs.declared.operator.Step.{Step}
 use Rattle.expression_text.specs.declared.operator.Step.TheVariants.{Operand, Combine}
 use Rattle.expression_text.specs.Expressions.{Expression, Named, Grouped, Combined, postfix, HasIndicesBelow}
 use Rattle.expression_text.specs.declared.operator.Operator.TheVariants.{Union, Intersection, Difference}
-use Rattle.set_expressions.specs.Values.{Rules, applied, hash_rules, value_in}
+use Rattle.set_expressions.specs.Values.{Rules, applied, hash_rules, expression_value}
 use Rattle.set_expressions.specs.Running.{values_by, after_step, after_steps, only_value, result_of, values_onto, AreOrderedSketches, is_accepted, are_accepted, refusal_by, AreRefused, MayRefuse, MayRefuseStep, MayRefuseTwo}
 
 split_at : (steps : List Step) (i : ℕ) (d : Step) → i < length steps → drop i steps ≡ get_or steps i d ∷ drop (i + 1) steps
@@ -33,16 +33,16 @@ accepted_some o b r v settings accepted has = rw (settings, accepted, has) refl
 module _ {X : Type 0} (rules : Rules X) (lg_k : ℕ) (values : List (Sketch X)) where
   -- the steps of an expression push its value
   steps_run : (e : Expression) (rest : List Step) (stack : List (Sketch X)) → HasIndicesBelow (length values) e →
-      after_steps rules lg_k values (postfix e ++ rest) (Some stack) ≡ after_steps rules lg_k values rest (Some (value_in rules lg_k values e ∷ stack))
+      after_steps rules lg_k values (postfix e ++ rest) (Some stack) ≡ after_steps rules lg_k values rest (Some (expression_value rules lg_k values e ∷ stack))
   steps_run (Named i) rest stack within = ap (λ o. after_steps rules lg_k values rest (option_map (λ v. v ∷ stack) o)) (slice_get-get_or values i Empty within)
   steps_run (Grouped e) rest stack within = steps_run e rest stack within
   steps_run (Combined op a b) rest stack within =
       ap (λ steps. after_steps rules lg_k values steps (Some stack)) (append_assoc (postfix a) (postfix b ++ Combine op ∷ []) rest)
       ∙ steps_run a ((postfix b ++ Combine op ∷ []) ++ rest) stack within.0
-      ∙ ap (λ steps. after_steps rules lg_k values steps (Some (value_in rules lg_k values a ∷ stack))) (append_assoc (postfix b) (Combine op ∷ []) rest)
-      ∙ steps_run b (Combine op ∷ rest) (value_in rules lg_k values a ∷ stack) within.1
+      ∙ ap (λ steps. after_steps rules lg_k values steps (Some (expression_value rules lg_k values a ∷ stack))) (append_assoc (postfix b) (Combine op ∷ []) rest)
+      ∙ steps_run b (Combine op ∷ rest) (expression_value rules lg_k values a ∷ stack) within.1
 
-  pub expression_result : (e : Expression) → HasIndicesBelow (length values) e → after_steps rules lg_k values (postfix e) (Some []) ≡ Some (value_in rules lg_k values e ∷ [])
+  pub expression_result : (e : Expression) → HasIndicesBelow (length values) e → after_steps rules lg_k values (postfix e) (Some []) ≡ Some (expression_value rules lg_k values e ∷ [])
   expression_result e within = ap (λ steps. after_steps rules lg_k values steps (Some [])) (sym (append-nil (postfix e))) ∙ steps_run e [] [] within
 
   -- ---- steps one after another
@@ -177,7 +177,7 @@ module _ {S X : Type 0} (rules : Rules X) (read : S → Compact X) where
 
   -- the last value is that of the expression
   pub last_value : (lg_k : ℕ) (sketches : List S) (steps : List Step) (last : Sketch X) (stack : List (Sketch X)) (e : Expression) → after_steps rules lg_k (values_by rules read sketches) steps (Some []) ≡ Some (last ∷ stack) →
-      steps ≡ postfix e → HasIndicesBelow (length sketches) e → last ≡ value_in rules lg_k (values_by rules read sketches) e
+      steps ≡ postfix e → HasIndicesBelow (length sketches) e → last ≡ expression_value rules lg_k (values_by rules read sketches) e
   unfolding first_value
   last_value lg_k sketches steps last stack e ran is within =
       let inside : HasIndicesBelow (length (values_by rules read sketches)) e = subst (λ (n : ℕ). HasIndicesBelow n e) (sym (length-map sketches (λ s. compact_value rules.key (read s)))) within in

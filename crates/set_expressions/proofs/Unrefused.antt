@@ -3,13 +3,10 @@ use Rattle.std.proofs.Common.{◌≡◌, ℕ, Bool, true, false, cond, List, [],
 use Rattle.std.specs.Prelude.{◌||◌}
 use Rattle.std.specs.Option.{option_map}
 use Rattle.core_laws.specs.Folds.{Fold, Value, Refused, fold_key, fold_merges, unmarked_value}
+use Rattle.core_laws.specs.KeysOfValues.{entries_of}
 use Rattle.core_laws.specs.Operators.{unite, meet_next}
 use Rattle.core_laws.specs.Values.{Sketch, Empty, NonEmpty, theta_of}
 use Rattle.set_expressions.proofs.MappedOperators.{turned_value, unite-map, meet-map}
-
-abbrev entries_in : {Y : Type 0} → Sketch Y → List Y
-entries_in Empty = []
-entries_in (NonEmpty v) = v.entries
 
 -- an entry, and whether a merge in it was refused
 record Noted (X : Type 0) : Type 0 where
@@ -90,7 +87,7 @@ module _ {X : Type 0} (key : X → ℕ) (merges plain : X → X → X) (refuses 
   value_unmarked Empty (NonEmpty w) e = absurd (cc)
   value_unmarked (NonEmpty v) Empty e = absurd (cc)
   value_unmarked (NonEmpty v) (NonEmpty w) e =
-      let entries : map Value v.entries ≡ map fold_of w.entries = ap (λ u. entries_in u) e in
+      let entries : map Value v.entries ≡ map fold_of w.entries = ap (λ u. entries_of u) e in
       let theta : v.theta ≡ w.theta = ap (λ u. theta_of u) e in
       (λ i. NonEmpty (record { entries = all_unmarked v.entries w.entries entries i; theta = theta i }))
 

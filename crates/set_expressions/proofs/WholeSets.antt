@@ -9,7 +9,7 @@ use Rattle.core_laws.proofs.operators.Samples.{union_samples, meet_samples, minu
 use Rattle.expression_text.specs.declared.operator.Operator.{Operator}
 use Rattle.expression_text.specs.declared.operator.Operator.TheVariants.{Union, Intersection, Difference}
 use Rattle.expression_text.specs.Expressions.{Expression, Named, Grouped, Combined}
-use Rattle.set_expressions.specs.Values.{Rules, applied, value_in, combined_maps, whole_in}
+use Rattle.set_expressions.specs.Values.{Rules, applied, expression_value, combined_maps, expression_whole}
 
 module _ {X : Type 0} (rules : Rules X) (keeps : KeepsKey rules.key rules.merges) where
   no_sample : IsSample rules.key Empty []
@@ -28,8 +28,8 @@ module _ {X : Type 0} (rules : Rules X) (keeps : KeepsKey rules.key rules.merges
   combined_sample lg_k Difference a b ws ys sa sb = minus_samples rules.key rules.key a b ws ys sa sb
 
   -- the value of an expression over samples is a sample of the same expression of the whole maps
-  pub expression_sample : (lg_k : ℕ) (values : List (Sketch X)) (wholes : List (List X)) (e : Expression) → AreSamples rules.key values wholes → IsSample rules.key (value_in rules lg_k values e) (whole_in rules wholes e)
+  pub expression_sample : (lg_k : ℕ) (values : List (Sketch X)) (wholes : List (List X)) (e : Expression) → AreSamples rules.key values wholes → IsSample rules.key (expression_value rules lg_k values e) (expression_whole rules wholes e)
   expression_sample lg_k values wholes (Named i) all = sample_at values wholes i all
   expression_sample lg_k values wholes (Grouped e) all = expression_sample lg_k values wholes e all
   expression_sample lg_k values wholes (Combined op a b) all =
-      combined_sample lg_k op (value_in rules lg_k values a) (value_in rules lg_k values b) (whole_in rules wholes a) (whole_in rules wholes b) (expression_sample lg_k values wholes a all) (expression_sample lg_k values wholes b all)
+      combined_sample lg_k op (expression_value rules lg_k values a) (expression_value rules lg_k values b) (expression_whole rules wholes a) (expression_whole rules wholes b) (expression_sample lg_k values wholes a all) (expression_sample lg_k values wholes b all)

@@ -21,7 +21,7 @@ pub record Rules (X : Type 0) : Type 0 where
 abbrev pub hash_rules : Rules ℕ
 hash_rules = record { key = hash_key; merges = first_hash; refuses = never }
 
--- an entry to whose sum that of another is sum_added
+-- an entry to whose sum that of another is added
 abbrev pub sum_added : TupleEntry ℕ → TupleEntry ℕ → TupleEntry ℕ
 sum_added x y = with_summary x (x.summary + y.summary)
 
@@ -29,7 +29,7 @@ sum_added x y = with_summary x (x.summary + y.summary)
 abbrev pub is_too_great : TupleEntry ℕ → TupleEntry ℕ → Bool
 is_too_great x y = nat_le (2 ^ 64) (x.summary + y.summary)
 
--- sums: the sums of a key are sum_added, and a sum of 2^64 or more is refused
+-- sums: the sums of a key are added, and a sum of 2^64 or more is refused
 abbrev pub sum_rules : Rules (TupleEntry ℕ)
 sum_rules = record { key = tuple_key; merges = sum_added; refuses = is_too_great }
 
@@ -40,10 +40,10 @@ applied rules lg_k Intersection a b = meet rules.key rules.merges (a ∷ b ∷ [
 applied rules lg_k Difference a b = minus rules.key rules.key a b
 
 -- the value of an expression over the values of its names
-abbrev pub value_in : {X : Type 0} → Rules X → (lg_k : ℕ) → List (Sketch X) → Expression → Sketch X
-value_in rules lg_k values (Named i) = get_or values i Empty
-value_in rules lg_k values (Grouped e) = value_in rules lg_k values e
-value_in rules lg_k values (Combined op a b) = applied rules lg_k op (value_in rules lg_k values a) (value_in rules lg_k values b)
+abbrev pub expression_value : {X : Type 0} → Rules X → (lg_k : ℕ) → List (Sketch X) → Expression → Sketch X
+expression_value rules lg_k values (Named i) = get_or values i Empty
+expression_value rules lg_k values (Grouped e) = expression_value rules lg_k values e
+expression_value rules lg_k values (Combined op a b) = applied rules lg_k op (expression_value rules lg_k values a) (expression_value rules lg_k values b)
 
 -- two whole maps applied: their union, intersection or difference
 abbrev pub combined_maps : {X : Type 0} → Rules X → Operator → List X → List X → List X
@@ -52,21 +52,21 @@ combined_maps rules Intersection a b = common rules.key rules.merges a b
 combined_maps rules Difference a b = lacking rules.key rules.key a b
 
 -- the whole map of an expression over those of its names
-abbrev pub whole_in : {X : Type 0} → Rules X → List (List X) → Expression → List X
-whole_in rules wholes (Named i) = get_or wholes i []
-whole_in rules wholes (Grouped e) = whole_in rules wholes e
-whole_in rules wholes (Combined op a b) = combined_maps rules op (whole_in rules wholes a) (whole_in rules wholes b)
+abbrev pub expression_whole : {X : Type 0} → Rules X → List (List X) → Expression → List X
+expression_whole rules wholes (Named i) = get_or wholes i []
+expression_whole rules wholes (Grouped e) = expression_whole rules wholes e
+expression_whole rules wholes (Combined op a b) = combined_maps rules op (expression_whole rules wholes a) (expression_whole rules wholes b)
 
 -- the value of an expression over theta sketches, and the set of hashes of one over sets
-abbrev pub value_of : (lg_k : ℕ) → List (Sketch ℕ) → Expression → Sketch ℕ
-value_of lg_k values e = value_in hash_rules lg_k values e
+abbrev pub hashes_value : (lg_k : ℕ) → List (Sketch ℕ) → Expression → Sketch ℕ
+hashes_value lg_k values e = expression_value hash_rules lg_k values e
 
 abbrev pub set_of : List (List ℕ) → Expression → List ℕ
-set_of sets e = whole_in hash_rules sets e
+set_of sets e = expression_whole hash_rules sets e
 
 -- the value of an expression over sketches of sums, and the sums of one over whole streams, by their keys
 abbrev pub sums_value : (lg_k : ℕ) → List (Sketch (TupleEntry ℕ)) → Expression → Sketch (TupleEntry ℕ)
-sums_value lg_k values e = value_in sum_rules lg_k values e
+sums_value lg_k values e = expression_value sum_rules lg_k values e
 
 abbrev pub whole_sums_in : List (List (TupleEntry ℕ)) → Expression → List (TupleEntry ℕ)
-whole_sums_in wholes e = whole_in sum_rules wholes e
+whole_sums_in wholes e = expression_whole sum_rules wholes e

@@ -8,7 +8,7 @@ ghost use Rattle.core_laws.specs.Settings.{settings_refusal};
 ghost use Rattle.core_laws.specs.declared.TheConstants.{MAX_THETA};
 ghost use Rattle.expression_text.specs.Expressions.{Expression, postfix, HasIndicesBelow};
 ghost use Rattle.expression_text.specs.declared.operator.Step.TheVariants.{Combine};
-ghost use Rattle.set_expressions.specs.Values.{value_in, whole_in};
+ghost use Rattle.set_expressions.specs.Values.{expression_value, expression_whole};
 ghost use Rattle.set_expressions.specs.Running.{value_by, values_by, after_step, values_onto, AreOrderedSketches, are_accepted, refusal_by, IsStepRefused, IsEvaluationError, MayRefuseStep, MayRefuse};
 
 use crate::family::SetFamily;
@@ -130,12 +130,12 @@ pub fn evaluate_in<F: SetFamily<A, B>, A: Allocator + Clone, B: Allocator>(
         → steps.now ≡ postfix e
         → HasIndicesBelow (length sketches.now) e
         → IfOk result (λ s.
-        F.listed s ≡ ordered_sketch (value_in F.rules lg_k (values_by F.rules F.named sketches.now) e) (seed_hash seed)) }
+        F.listed s ≡ ordered_sketch (expression_value F.rules lg_k (values_by F.rules F.named sketches.now) e) (seed_hash seed)) }
     ensures whole { (e : Expression) (wholes : List (List F.Entry))
         → steps.now ≡ postfix e
         → AreSamples (F.rules).key (values_by F.rules F.named sketches.now) wholes
         → HasIndicesBelow (length sketches.now) e
-        → IfOk result (λ s. IsSample (F.rules).key (value_by F.rules F.listed s) (whole_in F.rules wholes e)) }
+        → IfOk result (λ s. IsSample (F.rules).key (value_by F.rules F.listed s) (expression_whole F.rules wholes e)) }
     ensures accepted { OnOk result (refusal_by F.rules F.named seed lg_k steps.now sketches.now ≡ None) }
     ensures refused { IfErr result (
         IsEvaluationError (refusal_by F.rules F.named seed lg_k steps.now sketches.now)

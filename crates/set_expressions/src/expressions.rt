@@ -8,7 +8,7 @@ ghost use Rattle.core_laws.specs.Samples.{IsSample, AreSamples};
 ghost use Rattle.core_slots.specs.Entry.{tuple_key};
 ghost use Rattle.core_slots.specs.declared.entry.TupleEntry.{TupleEntry};
 ghost use Rattle.expression_text.specs.Expressions.{Expression, postfix, HasIndicesBelow};
-ghost use Rattle.set_expressions.specs.Values.{value_of, set_of, sum_rules, sums_value, whole_sums_in};
+ghost use Rattle.set_expressions.specs.Values.{hashes_value, set_of, sum_rules, sums_value, whole_sums_in};
 ghost use Rattle.set_expressions.specs.Running.{values_of, sums_values, evaluation_refusal, sums_refusal, IsEvaluationError, MayRefuse};
 
 use crate::evaluation::evaluate_in;
@@ -39,7 +39,7 @@ pub fn evaluate<A: Allocator + Clone + Drop, B: Allocator>(
     ensures value { (e : Expression)
         → steps.now ≡ postfix e
         → HasIndicesBelow (length sketches.now) e
-        → IfOk result (λ s. s ≡ ordered_sketch (value_of lg_k (values_of sketches.now) e) (seed_hash seed)) }
+        → IfOk result (λ s. s ≡ ordered_sketch (hashes_value lg_k (values_of sketches.now) e) (seed_hash seed)) }
     ensures whole { (e : Expression) (sets : List (List ℕ))
         → steps.now ≡ postfix e
         → AreSamples hash_key (values_of sketches.now) sets

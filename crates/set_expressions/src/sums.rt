@@ -11,10 +11,10 @@ ghost use Rattle.core_operators.specs.Intersection.{seed_refusal};
 ghost use Rattle.core_operators.specs.Union.{empty_union, union_value};
 ghost use Rattle.core_slots.specs.Entry.{tuple_key};
 ghost use Rattle.core_slots.specs.declared.entry.TupleEntry.{TupleEntry};
-ghost use Rattle.expression_text.specs.declared.operator.Operator.TheVariants.{Union, Intersection, Difference};
+ghost use Rattle.expression_text.specs.declared.operator.Operator.TheVariants.{Union, Intersection};
 ghost use Rattle.set_expressions.specs.Sums.{IsRefusedMeet, IsRefusedJoin, HasPartOf};
 ghost use Rattle.set_expressions.specs.Values.{sum_added, sum_rules};
-ghost use Rattle.set_expressions.specs.Running.{is_accepted, BothHaveSeed, AreRefused, IsCombination, IsMergeError, MayRefuseTwo};
+ghost use Rattle.set_expressions.specs.Running.{is_accepted, BothHaveSeed, AreRefused, IsCombination, IsMergeError};
 
 use crate::family::SetFamily;
 use core_policies::DefaultUnionPolicy;
@@ -54,7 +54,9 @@ impl<A: Allocator + Clone + Drop, B: Allocator> SetFamily<A, B> for SumSets {
         seed: u64,
         sketch: &CompactTupleSketch<u64, B>,
     ) -> Result<CompactTupleSketch<u64, A>, Error> {
-        ordered(alloc, seed, sketch)
+        let mut intersection = new_meet(alloc, seed)?;
+        meet_sketch(&mut intersection, sketch)?;
+        met_sketch(&intersection)
     }
 
     fn combined(
@@ -66,7 +68,14 @@ impl<A: Allocator + Clone + Drop, B: Allocator> SetFamily<A, B> for SumSets {
         first: &CompactTupleSketch<u64, A>,
         second: &CompactTupleSketch<u64, A>,
     ) -> Result<CompactTupleSketch<u64, A>, Error> {
-        combined(alloc, seed, lg_k, operator, first, second)
+        match operator {
+            Operator::Union => union_of(alloc, seed, lg_k, first, second),
+            Operator::Intersection => intersection_of(alloc, seed, first, second),
+            Operator::Difference => {
+                let difference = TupleANotB::with_seed(seed)?;
+                difference.compute(alloc, first.as_view(), second.as_view(), true)
+            }
+        }
     }
 
     ghost keeps = { λ x y same. same };
@@ -116,22 +125,6 @@ fn new_meet<A: Allocator + Drop>(
 {
     let policy = DefaultUnionPolicy::<u64>::default();
     TupleIntersection::with_seed(alloc, policy, seed)
-}
-
-/// The ordered sketch with the value of a sketch.
-fn ordered<A: Allocator + Clone + Drop, B: Allocator>(
-    alloc: A,
-    seed: u64,
-    sketch: &CompactTupleSketch<u64, B>,
-) -> Result<CompactTupleSketch<u64, A>, Error>
-    requires seeded { seed_refusal seed ≡ None }
-    requires accepted { is_accepted (seed_hash seed) sketch.now ≡ true }
-    ensures value { IfOk result (IsAnswer tuple_key (compact_value tuple_key sketch.now) (seed_hash seed) true) }
-    ensures refused { Refuses result None true }
-{
-    let mut intersection = new_meet(alloc, seed)?;
-    meet_sketch(&mut intersection, sketch)?;
-    met_sketch(&intersection)
 }
 
 /// A new union of 2^`lg_k` nominal entries, of sketches of this seed.
@@ -230,45 +223,4 @@ fn intersection_of<A: Allocator + Clone + Drop>(
     meet_sketch(&mut intersection, second)?;
     let sketch = met_sketch(&intersection)?;
     Ok(sketch)
-}
-
-/// The difference of two sketches of this seed, ordered.
-fn difference_of<A: Allocator + Clone + Drop>(
-    alloc: A,
-    seed: u64,
-    first: &CompactTupleSketch<u64, A>,
-    second: &CompactTupleSketch<u64, A>,
-) -> Result<CompactTupleSketch<u64, A>, Error>
-    requires seeded { seed_refusal seed ≡ None }
-    requires seeds { BothHaveSeed seed first.now second.now }
-    ensures value { IfOk result (IsCombination sum_rules 0 seed Difference first.now second.now) }
-    ensures refused { Refuses result None true }
-{
-    let difference = TupleANotB::with_seed(seed)?;
-    difference.compute(alloc, first.as_view(), second.as_view(), true)
-}
-
-/// Two sketches of this seed combined, ordered.
-fn combined<A: Allocator + Clone + Drop>(
-    alloc: A,
-    seed: u64,
-    lg_k: u8,
-    operator: Operator,
-    first: &CompactTupleSketch<u64, A>,
-    second: &CompactTupleSketch<u64, A>,
-) -> Result<CompactTupleSketch<u64, A>, Error>
-    requires settings { settings_refusal lg_k MAX_THETA seed ≡ None }
-    requires seeds { BothHaveSeed seed first.now second.now }
-    ensures value { IfOk result (IsCombination sum_rules lg_k seed operator first.now second.now) }
-    ensures refused { IfErr result (IsMergeError (
-        MayRefuseTwo sum_rules operator (compact_value tuple_key first.now) (compact_value tuple_key second.now))) }
-{
-    match operator {
-        Operator::Union => union_of(alloc, seed, lg_k, first, second),
-        Operator::Intersection => intersection_of(alloc, seed, first, second),
-        Operator::Difference => {
-            let sketch = difference_of(alloc, seed, first, second)?;
-            Ok(sketch)
-        }
-    }
 }

@@ -10,7 +10,7 @@ ghost use Rattle.core_laws.specs.Settings.{settings_refusal};
 ghost use Rattle.core_laws.specs.declared.TheConstants.{MAX_THETA};
 ghost use Rattle.core_operators.specs.Intersection.{seed_refusal};
 ghost use Rattle.core_operators.specs.Union.{empty_union, union_value};
-ghost use Rattle.expression_text.specs.declared.operator.Operator.TheVariants.{Union, Intersection, Difference};
+ghost use Rattle.expression_text.specs.declared.operator.Operator.TheVariants.{Union, Intersection};
 ghost use Rattle.set_expressions.specs.Values.{hash_rules};
 ghost use Rattle.set_expressions.specs.Running.{is_accepted, BothHaveSeed, IsCombination};
 
@@ -51,7 +51,9 @@ impl<A: Allocator + Clone + Drop, B: Allocator> SetFamily<A, B> for ThetaSets {
         seed: u64,
         sketch: &CompactThetaSketch<B>,
     ) -> Result<CompactThetaSketch<A>, Error> {
-        ordered(alloc, seed, sketch)
+        let mut intersection = ThetaIntersection::with_seed(alloc, seed)?;
+        meet_sketch(&mut intersection, sketch)?;
+        met_sketch(&intersection)
     }
 
     fn combined(
@@ -63,7 +65,14 @@ impl<A: Allocator + Clone + Drop, B: Allocator> SetFamily<A, B> for ThetaSets {
         first: &CompactThetaSketch<A>,
         second: &CompactThetaSketch<A>,
     ) -> Result<CompactThetaSketch<A>, Error> {
-        combined(alloc, seed, lg_k, operator, first, second)
+        match operator {
+            Operator::Union => union_of(alloc, seed, lg_k, first, second),
+            Operator::Intersection => intersection_of(alloc, seed, first, second),
+            Operator::Difference => {
+                let difference = ThetaANotB::with_seed(seed)?;
+                difference.compute(alloc, first.as_view(), second.as_view(), true)
+            }
+        }
     }
 
     ghost keeps = { λ x y same. same };
@@ -98,22 +107,6 @@ fn met_sketch<A: Allocator + Clone>(
         Some(sketch) => Ok(sketch),
         None => Err(Error::from(AllocError)),
     }
-}
-
-/// The ordered sketch with the value of a sketch.
-fn ordered<A: Allocator + Clone + Drop, B: Allocator>(
-    alloc: A,
-    seed: u64,
-    sketch: &CompactThetaSketch<B>,
-) -> Result<CompactThetaSketch<A>, Error>
-    requires seeded { seed_refusal seed ≡ None }
-    requires accepted { is_accepted (seed_hash seed) sketch.now ≡ true }
-    ensures value { IfOk result (IsAnswer hash_key (compact_value hash_key sketch.now) (seed_hash seed) true) }
-    ensures refused { Refuses result None true }
-{
-    let mut intersection = ThetaIntersection::with_seed(alloc, seed)?;
-    meet_sketch(&mut intersection, sketch)?;
-    met_sketch(&intersection)
 }
 
 /// A new union of 2^`lg_k` nominal entries, of sketches of this seed.
@@ -181,41 +174,4 @@ fn intersection_of<A: Allocator + Clone + Drop>(
     meet_sketch(&mut intersection, first)?;
     meet_sketch(&mut intersection, second)?;
     met_sketch(&intersection)
-}
-
-/// The difference of two sketches of this seed, ordered.
-fn difference_of<A: Allocator + Clone + Drop>(
-    alloc: A,
-    seed: u64,
-    first: &CompactThetaSketch<A>,
-    second: &CompactThetaSketch<A>,
-) -> Result<CompactThetaSketch<A>, Error>
-    requires seeded { seed_refusal seed ≡ None }
-    requires seeds { BothHaveSeed seed first.now second.now }
-    ensures value { IfOk result (IsCombination hash_rules 0 seed Difference first.now second.now) }
-    ensures refused { Refuses result None true }
-{
-    let difference = ThetaANotB::with_seed(seed)?;
-    difference.compute(alloc, first.as_view(), second.as_view(), true)
-}
-
-/// Two sketches of this seed combined, ordered.
-fn combined<A: Allocator + Clone + Drop>(
-    alloc: A,
-    seed: u64,
-    lg_k: u8,
-    operator: Operator,
-    first: &CompactThetaSketch<A>,
-    second: &CompactThetaSketch<A>,
-) -> Result<CompactThetaSketch<A>, Error>
-    requires settings { settings_refusal lg_k MAX_THETA seed ≡ None }
-    requires seeds { BothHaveSeed seed first.now second.now }
-    ensures value { IfOk result (IsCombination hash_rules lg_k seed operator first.now second.now) }
-    ensures refused { Refuses result None true }
-{
-    match operator {
-        Operator::Union => union_of(alloc, seed, lg_k, first, second),
-        Operator::Intersection => intersection_of(alloc, seed, first, second),
-        Operator::Difference => difference_of(alloc, seed, first, second),
-    }
 }

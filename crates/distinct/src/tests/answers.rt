@@ -9,7 +9,7 @@ ghost use Rattle.distinct_arguments.specs.Settings.{chosen_group, chosen_value};
 ghost use Rattle.distinct_inputs.specs.Failures.{chosen_amount};
 ghost use Rattle.distinct_inputs.specs.Lists.{names_of, texts_of};
 ghost use Rattle.distinct_commands.specs.Answers.{sketch_of, IsIntersectionImage, IsDifferenceImage, IsShownOf, IsCountOf, IsSketchText, IsCommandAnswer, IsCombinedText, Performs};
-ghost use Rattle.distinct_commands.specs.Evaluations.{IsEvaluatedOf};
+ghost use Rattle.distinct_commands.specs.Eval.{IsEvaluatedOf};
 ghost use Rattle.distinct_inputs.specs.Images.{images_of, in_form};
 ghost use Rattle.distinct_commands.specs.Sums.{IsTotalText};
 ghost use Rattle.distinct_commands.specs.Visits.{IsVisitsText};

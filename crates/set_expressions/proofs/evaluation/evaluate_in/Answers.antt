@@ -3,7 +3,7 @@ use Rattle.std.proofs.lemmas.Result.{err_from_is_err_and}
 use Rattle.sketch_base.specs.Seed.{seed_hash}
 use Rattle.core_compact.specs.CompactState.{compact_value, ordered_sketch}
 use Rattle.core_laws.specs.Samples.{IsSample}
-use Rattle.set_expressions.specs.Values.{whole_in}
+use Rattle.set_expressions.specs.Values.{expression_whole}
 use Rattle.set_expressions.specs.Running.{values_by, values_onto, are_accepted, refusal_by, AreOrderedSketches, MayRefuse}
 use Rattle.set_expressions.proofs.RunSteps.{step_missing, refused_next, all_run, no_result_left, result_left, last_value, no_result, one_result, answer_sketch, ordered-last}
 use Rattle.set_expressions.proofs.TwoSketches.{error_of_memory, error_of_kind, error_of_merge}
@@ -64,7 +64,7 @@ returns-clause-whole g c = λ e wholes is samples within.
     let last = c.in-Some.last in
     let rest = c.pop.new.self.items in
     let ran = all_run f.rules f.listed lg values c.args.steps.now c.loop-step.step-index c.loop-step.stack.items rest last c.loop-step-test.false c.loop-step.invariant.ran c.in-Some.ensures.items in
-    subst (λ v. IsSample f.rules.key v (whole_in f.rules wholes e)) (sym (last_value f.rules f.named lg sketches c.args.steps.now (compact_value f.rules.key (f.listed last)) (values_onto f.rules f.listed rest []) e ran is within))
+    subst (λ v. IsSample f.rules.key v (expression_whole f.rules wholes e)) (sym (last_value f.rules f.named lg sketches c.args.steps.now (compact_value f.rules.key (f.listed last)) (values_onto f.rules f.listed rest []) e ran is within))
     (expression_sample f.rules g.met.F.SetFamily.keeps lg values wholes e samples)
 
 pub returns-clause-accepted : goal.returns-clause-accepted

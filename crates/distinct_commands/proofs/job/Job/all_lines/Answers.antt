@@ -4,7 +4,7 @@ use Rattle.sketch_base.specs.Seed.{seed_hash}
 use Rattle.core_compact.specs.CompactState.{Compact}
 use Rattle.line_sketches.specs.Sources.{Continues}
 use Rattle.distinct_arguments.specs.Faults.{options_of}
-use Rattle.distinct_commands.specs.Evaluations.{AreSketchesOfTexts}
+use Rattle.distinct_commands.specs.Eval.{AreSketchesOfTexts}
 use Rattle.distinct_inputs.specs.Seeds.{AreSeeded}
 use Rattle.distinct_commands.proofs.OnlyMemory.{seeded-more}
 use Rattle.distinct_commands.proofs.Evaluated.{sketches_more}

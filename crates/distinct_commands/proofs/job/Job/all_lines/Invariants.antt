@@ -1,6 +1,6 @@
 use Rattle.line_sketches.specs.Sources.{Continues}
 use Rattle.distinct_arguments.specs.Faults.{options_of}
-use Rattle.distinct_commands.specs.Evaluations.{AreSketchesOfTexts}
+use Rattle.distinct_commands.specs.Eval.{AreSketchesOfTexts}
 use Rattle.distinct_inputs.specs.Seeds.{AreSeeded}
 use Rattle.distinct_commands.proofs.job.Job.all_lines.Given as goal
 

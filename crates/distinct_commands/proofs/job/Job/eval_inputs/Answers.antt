@@ -2,8 +2,8 @@ use Rattle.std.proofs.Common.{true, false, subst, arith}
 use Rattle.std.specs.Prelude.{IfSome, IfOk}
 use Rattle.distinct_arguments.specs.Faults.{options_of}
 use Rattle.distinct_inputs.specs.Lists.{names_of}
-use Rattle.distinct_commands.specs.EvaluatedSums.{IsSumsEvaluated}
-use Rattle.distinct_commands.specs.Evaluations.{IsEvaluated}
+use Rattle.distinct_commands.specs.EvalSums.{IsSumsEvaluated}
+use Rattle.distinct_commands.specs.Eval.{IsEvaluated}
 use Rattle.distinct_commands.proofs.Evaluated.{only_named, only_evaluated}
 use Rattle.distinct_commands.proofs.job.Job.eval_inputs.Goals as goal
 

@@ -1,7 +1,7 @@
 use Rattle.std.proofs.Common.{ℕ, List, ap, ◌∙◌, arith}
 use Rattle.sketch_base.specs.Seed.{seed_hash}
 use Rattle.core_compact.specs.CompactState.{Compact, ordered_sketch}
-use Rattle.set_expressions.specs.Values.{value_of}
+use Rattle.set_expressions.specs.Values.{hashes_value}
 use Rattle.set_expressions.specs.Running.{values_of}
 use Rattle.distinct_arguments.specs.Faults.{options_of}
 use Rattle.distinct_commands.proofs.Evaluated.{evaluated}
@@ -12,5 +12,5 @@ returns-clause-evaluated g c =
     evaluated (options_of c.args.self.options.now) c.args.self.seed c.put_result.result (λ v. v.items) (g.S.Sources.texts c.args.self.inputs.sources) c.args.text.now c.args.expression.now.names.items c.args.expression.now.steps.items
     c.in_ok-sketches.sketches.items c.in_ok-result.result c.requires.spelled c.in_ok-sketches.ensures.operands
     (omega (arith, c.if-found-wanted.false, c.len-found.ensures, c.len-wanted.ensures, c.in_ok-sketches.sketches.ok.0, c.args.expression.now.names.ok.0))
-    (c.in_ok-result.ensures.value c.args.text.now c.requires.spelled ∙ ap (λ (ss : List (Compact ℕ)). ordered_sketch (value_of c.args.self.options.now.lg_k (values_of ss) c.requires.spelled.tree) (seed_hash c.args.self.seed)) c.as_slice.ensures.value)
+    (c.in_ok-result.ensures.value c.args.text.now c.requires.spelled ∙ ap (λ (ss : List (Compact ℕ)). ordered_sketch (hashes_value c.args.self.options.now.lg_k (values_of ss) c.requires.spelled.tree) (seed_hash c.args.self.seed)) c.as_slice.ensures.value)
     c.put_result.ensures.result

@@ -2,7 +2,7 @@ use Rattle.std.proofs.Common.{Bool, sym, subst}
 use Rattle.std.specs.Prelude.{IfSome, IfOk}
 use Rattle.line_sketches.specs.Shards.{AreRead}
 use Rattle.distinct_arguments.specs.Faults.{options_of}
-use Rattle.distinct_commands.specs.Evaluations.{AreOperands}
+use Rattle.distinct_commands.specs.Eval.{AreOperands}
 use Rattle.distinct_inputs.specs.Images.{images_of}
 use Rattle.distinct_commands.proofs.NextImages.{all_read}
 use Rattle.distinct_commands.proofs.job.Job.operands.Goals as goal

@@ -10,10 +10,10 @@ use Rattle.line_sketches.specs.Keys.{key_set, value_of_lines, sketch_of_value}
 use Rattle.line_sketches.specs.Shards.{AreRead, sketches_of_texts}
 use Rattle.expression_text.specs.declared.operator.Step.{Step}
 use Rattle.expression_text.specs.Grammar.{IsExpressionText}
-use Rattle.set_expressions.specs.Values.{value_of, set_of}
+use Rattle.set_expressions.specs.Values.{hashes_value, set_of}
 use Rattle.set_expressions.specs.Running.{values_of}
 use Rattle.distinct_arguments.specs.Settings.{OptionValues}
-use Rattle.distinct_commands.specs.EvaluatedSums.{IsSumsEvaluated}
+use Rattle.distinct_commands.specs.EvalSums.{IsSumsEvaluated}
 use Rattle.distinct_inputs.specs.Failures.{chosen_hashing}
 use Rattle.distinct_inputs.specs.Images.{images_of, in_form}
 use Rattle.distinct_commands.specs.Texts.{shown_text, head_of}
@@ -63,9 +63,9 @@ pub record IsEvaluated (options : OptionValues) (seed : ℕ) (expression : List 
   pub sketches : List (Compact ℕ)
   pub operands : AreOperands options.keys options seed texts sketches
   pub counted : length names ≡ length sketches
-  pub result : out ≡ evaluated_text options expression (ordered_sketch (value_of options.lg_k (values_of sketches) spelled.tree) (seed_hash seed))
+  pub result : out ≡ evaluated_text options expression (ordered_sketch (hashes_value options.lg_k (values_of sketches) spelled.tree) (seed_hash seed))
   pub whole : (sets : List (List ℕ)) → AreWholeSets options.keys options seed texts sketches sets →
-      IsSample hash_key (value_of options.lg_k (values_of sketches) spelled.tree) (set_of sets spelled.tree)
+      IsSample hash_key (hashes_value options.lg_k (values_of sketches) spelled.tree) (set_of sets spelled.tree)
 
 -- .. over theta sketches, or over sketches of sums
 abbrev pub IsEvaluatedBy : (sums : Bool) → OptionValues → (seed : ℕ) → (expression : List ℕ) → (texts : List (List ℕ)) → List ℕ → Type 0
