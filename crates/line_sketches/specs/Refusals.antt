@@ -48,7 +48,7 @@ IsMergeOrFault (Some refusal) Fault kind = (kind ≡ refusal) ⊎ ((kind ≡ Inv
 abbrev pub IsImageRefusal : (merge_refusal : Option ErrorKind) → (Fault : Type 0) → ErrorKind → Type 0
 IsImageRefusal merge_refusal Fault kind = (kind ≡ OutOfMemory) ⊎ IsMergeOrFault merge_refusal Fault kind
 
--- .. or its source failed
+-- the same, or the image's source failed
 abbrev pub IsImageFailure : (merge_refusal : Option ErrorKind) → (Fault : Type 0) → Unread → Type 0
 IsImageFailure merge_refusal Fault (Refused kind) = IsImageRefusal merge_refusal Fault kind
 IsImageFailure merge_refusal Fault (Failed error) = ⊤
