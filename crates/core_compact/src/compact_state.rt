@@ -30,7 +30,14 @@ impl<E: SketchEntry, A: Allocator> Model for CompactSketchState<E, A> {
 
     ghost view = { λ s. record { empty = s.empty; entries = s.entries.items; theta = s.theta; seed_hash = s.seed_hash; ordered = s.ordered } };
 
-    ghost invariant = { λ s. IsCompact E.key (record { empty = s.empty; entries = s.entries.items; theta = s.theta; seed_hash = s.seed_hash; ordered = s.ordered }) };
+    ghost invariant = { λ s. IsCompact E.key
+        (record {
+          empty = s.empty;
+          entries = s.entries.items;
+          theta = s.theta;
+          seed_hash = s.seed_hash;
+          ordered = s.ordered;
+        }) };
 }
 
 impl<E: SketchEntry, A: Allocator> CompactSketchState<E, A> {

@@ -125,7 +125,9 @@ fn subtract_block<E: FixedEntry<N> + SketchEntry + Drop, const N: usize>(
     before: u64,
     block: &[[u8; N]],
 ) -> (bool, u64)
-    ensures { result.0 ≡ true → (others : List ℕ) → ascends_from result.1 others ≡ ascends_from before (map (λ text. E.key (E.entry_of text)) block.now ++ others) }
+    ensures { result.0 ≡ true
+        → (others : List ℕ)
+        → ascends_from result.1 others ≡ ascends_from before (map (λ text. E.key (E.entry_of text)) block.now ++ others) }
 {
     let mut last = before;
     let mut differences = u64::MAX;

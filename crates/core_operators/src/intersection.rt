@@ -79,9 +79,19 @@ impl<E: SlotEntry, P, A: Allocator> Model for IntersectionState<E, P, A> {
 
     ghost Value = { Intersection E P };
 
-    ghost view = { λ i. record { result = outcome_value i.outcome (record { entries = i.entries.items; theta = i.theta }); seed_hash = i.seed_hash; policy = i.policy } };
+    ghost view = { λ i. record {
+      result = outcome_value i.outcome (record { entries = i.entries.items; theta = i.theta });
+      seed_hash = i.seed_hash;
+      policy = i.policy;
+    } };
 
-    ghost invariant = { λ i. IsKeptIn E.key (record { entries = i.entries.items; theta = i.theta }) (record { result = outcome_value i.outcome (record { entries = i.entries.items; theta = i.theta }); seed_hash = i.seed_hash; policy = i.policy }) };
+    ghost invariant = { λ i. IsKeptIn E.key
+        (record { entries = i.entries.items; theta = i.theta })
+        (record {
+          result = outcome_value i.outcome (record { entries = i.entries.items; theta = i.theta });
+          seed_hash = i.seed_hash;
+          policy = i.policy;
+        }) };
 }
 
 impl<E: SlotEntry + Drop, P: Drop, A: Allocator + Drop> IntersectionState<E, P, A> {

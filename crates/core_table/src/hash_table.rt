@@ -71,9 +71,34 @@ impl<E: SlotEntry, A: Allocator> Model for SketchHashTable<E, A> {
 
     ghost Value = { Table E };
 
-    ghost view = { λ t. record { map = record { kept = record { entries = slot_map E.key E.content t.slots.items; theta = t.theta }; lg_nom = t.lg_nom_size; has_slots = t.has_slots; start = t.starting_theta; seed = t.seed; seed_hash = t.seed_hash }; sequence = entries_in E.content t.slots.items; layout = record { lg_cur = t.lg_cur_size; grow = lg_of t.resize_factor; slots = map E.content t.slots.items }; counts = t.counts } };
+    ghost view = { λ t. record {
+      map = record {
+        kept = record { entries = slot_map E.key E.content t.slots.items; theta = t.theta };
+        lg_nom = t.lg_nom_size;
+        has_slots = t.has_slots;
+        start = t.starting_theta;
+        seed = t.seed;
+        seed_hash = t.seed_hash;
+      };
+      sequence = entries_in E.content t.slots.items;
+      layout = record {
+        lg_cur = t.lg_cur_size;
+        grow = lg_of t.resize_factor;
+        slots = map E.content t.slots.items;
+      };
+      counts = t.counts;
+    } };
 
-    ghost invariant = { λ t. IsProbing E.key (record { kept = record { entries = slot_map E.key E.content t.slots.items; theta = t.theta }; lg_nom = t.lg_nom_size; has_slots = t.has_slots; start = t.starting_theta; seed = t.seed; seed_hash = t.seed_hash }) t.lg_cur_size (lg_of t.resize_factor) t.threshold t.count (map E.content t.slots.items) t.counts };
+    ghost invariant = { λ t. IsProbing E.key
+        (record {
+          kept = record { entries = slot_map E.key E.content t.slots.items; theta = t.theta };
+          lg_nom = t.lg_nom_size;
+          has_slots = t.has_slots;
+          start = t.starting_theta;
+          seed = t.seed;
+          seed_hash = t.seed_hash;
+        })
+        t.lg_cur_size (lg_of t.resize_factor) t.threshold t.count (map E.content t.slots.items) t.counts };
 }
 
 impl<E: SlotEntry, A: Allocator> SketchHashTable<E, A> {

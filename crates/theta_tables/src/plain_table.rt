@@ -38,9 +38,24 @@ impl<E: SketchEntry, A: Allocator> Model for PlainTable<E, A> {
 
     ghost Value = { MapTable E };
 
-    ghost view = { λ t. record { kept = record { entries = t.entries.items; theta = t.theta }; lg_nom = t.lg_nom_size; has_slots = true; start = t.starting_theta; seed = t.seed; seed_hash = t.seed_hash } };
+    ghost view = { λ t. record {
+      kept = record { entries = t.entries.items; theta = t.theta };
+      lg_nom = t.lg_nom_size;
+      has_slots = true;
+      start = t.starting_theta;
+      seed = t.seed;
+      seed_hash = t.seed_hash;
+    } };
 
-    ghost invariant = { λ t. IsPlain E.key (record { kept = record { entries = t.entries.items; theta = t.theta }; lg_nom = t.lg_nom_size; has_slots = true; start = t.starting_theta; seed = t.seed; seed_hash = t.seed_hash }) };
+    ghost invariant = { λ t. IsPlain E.key
+        (record {
+          kept = record { entries = t.entries.items; theta = t.theta };
+          lg_nom = t.lg_nom_size;
+          has_slots = true;
+          start = t.starting_theta;
+          seed = t.seed;
+          seed_hash = t.seed_hash;
+        }) };
 }
 
 impl<E: SketchEntry, A: Allocator> PlainTable<E, A> {
