@@ -146,7 +146,9 @@ fn compare_block<E: FixedEntry<N> + SketchEntry + Drop, const N: usize>(
     before: u64,
     block: &[[u8; N]],
 ) -> (bool, u64)
-    ensures { (others : List ℕ) → (result.0 && ascends_from result.1 others) ≡ ascends_from before (map (λ text. E.key (E.entry_of text)) block.now ++ others) }
+    ensures { (others : List ℕ)
+        → (result.0 && ascends_from result.1 others)
+        ≡ ascends_from before (map (λ text. E.key (E.entry_of text)) block.now ++ others) }
 {
     let (ascending, end) = subtract_block::<E, N>(before, block);
     if ascending {
