@@ -1,8 +1,8 @@
 -- A listing that is merged into a table, entry by entry.
-use Rattle.std.proofs.Common.{◌≡◌, ℕ, zero, ◌*◌, ◌/◌, ◌<◌, ◌≤◌, ◌≢◌, min, Bool, true, false, cond, leb, ltb, eqb, List, [], ◌∷◌, map, length, Option, Some, None, inr, refl, sym, ap, ◌∙◌, subst, arith}
+use Rattle.std.proofs.Common.{◌≡◌, ℕ, zero, ◌*◌, ◌/◌, ◌<◌, ◌≤◌, ◌≢◌, min, Bool, true, false, cond, leb, ltb, eqb, List, [], ◌∷◌, map, length, Option, Some, None, ◌⊎◌, inl, inr, refl, sym, ap, ◌∙◌, subst, arith}
 use Rattle.std.specs.Prelude.{◌&&◌}
 use Rattle.std.specs.List.{AllByRecursion}
-use Rattle.std.proofs.lemmas.Bool.{lt-ltb}
+use Rattle.std.proofs.lemmas.Bool.{cases_lt, ltb-false, lt-ltb, lt-leb, le-leb, leb-true, leb-false}
 use Rattle.std.proofs.lemmas.Bool.Decides.{nat_tests}
 use Rattle.sketch_base.specs.declared.error.ErrorKind.{ErrorKind}
 use Rattle.core_laws.specs.Maps.{IsAscending, below, entry_at, with_entry, IsApart}
@@ -12,8 +12,8 @@ use Rattle.core_operators.specs.Iter.{still_read}
 use Rattle.core_laws.specs.Insertion.{is_screened, rebuilt, after_upsert, upsert_refusal, after_upserts}
 use Rattle.core_laws.specs.Step.{merge_step}
 use Rattle.core_laws.specs.Folds.{Fold, Value, fold_key, fold_merges, unmarked, never}
-use Rattle.core_operators.specs.Union.{IsMergeRefused}
-use Rattle.core_laws.proofs.maps.Ascending.{each-weaker, ascending-head, ascending-tail}
+use Rattle.core_operators.specs.Union.{IsMergeRefused, at_or_above}
+use Rattle.core_laws.proofs.maps.Ascending.{each-weaker, each-passes, filter_each, ascending-head, ascending-tail}
 use Rattle.core_laws.proofs.cuts.Cuts.{cut_is_below}
 use Rattle.core_laws.proofs.maps.LookUps.{entry_at-below, entry_at-with_entry, entry_at_rest, entry_at_head}
 use Rattle.core_laws.proofs.cuts.WithinWholeMaps.{found_key}
@@ -52,6 +52,28 @@ module _ {X : Type 0} (key : X → ℕ) where
 
   pub merging-start : (listing first : List X) (ordered : Bool) → IsApart key listing → (ordered ≡ true → IsAscending key listing) → IsMerging listing first listing first ordered
   merging-start listing first ordered apart in_order = record { apart = apart; among = λ q x found. found; untouched = λ q x w found there. there; in_order = in_order }
+
+module _ {X : Type 0} (key : X → ℕ) where
+  -- an entry at or above theta is not among those below it
+  pub below_passed : (theta : ℕ) (left : List X) (x : X) → theta ≤ key x → below key (x ∷ left) theta ≡ below key left theta
+  below_passed theta left x le = let e : ltb (key x) theta ≡ false = grind (arith, nat_tests) in rw e refl
+
+  -- an entry below a hash is not among those from it on
+  pub at_or_above_passed : (from : ℕ) (left : List X) (x : X) → key x < from → at_or_above key (x ∷ left) from ≡ at_or_above key left from
+  at_or_above_passed from left x lt = let e : leb from (key x) ≡ false = lt-leb from (key x) lt in rw e refl
+
+  pub at_or_above_reached : (from : ℕ) (left : List X) (x : X) → from ≤ key x → at_or_above key (x ∷ left) from ≡ x ∷ at_or_above key left from
+  at_or_above_reached from left x le = let e : leb from (key x) ≡ true = le-leb from (key x) le in rw e refl
+
+  -- all ascending entries are from a hash on if the first is
+  pub at_or_above_ascending : (from : ℕ) (left : List X) (x : X) → IsAscending key (x ∷ left) → from ≤ key x → at_or_above key (x ∷ left) from ≡ x ∷ left
+  at_or_above_ascending from left x up le =
+      filter_each _ (x ∷ left) (le-leb from (key x) le, each-weaker _ _ (λ y lt. le-leb from (key y) (omega (arith, lt, le))) left (ascending-head key x left up))
+
+  -- all entries are from 0 on
+  pub at_or_above_zero : (xs : List X) → at_or_above key xs 0 ≡ xs
+  at_or_above_zero [] = refl
+  at_or_above_zero (x ∷ xs) = at_or_above_reached 0 xs x (omega arith) ∙ ap (λ ys. x ∷ ys) (at_or_above_zero xs)
 
 module _ {X : Type 0} (key : X → ℕ) (merges : X → X → X) (refuses : X → X → Bool) (keeps : KeepsKey key merges) where
   -- an insertion doesn't change the entries of other keys, or drops them
@@ -96,6 +118,13 @@ module _ {X : Type 0} (key : X → ℕ) (merges : X → X → X) (refuses : X �
     in_order = λ e. ascending-tail key x left (so_far.in_order e);
   }
 
+  merging-tail : (listing first left now : List X) (x : X) (from : ℕ) (ordered : Bool) → IsMerging key listing first (at_or_above key (x ∷ left) from) now ordered → IsMerging key listing first (at_or_above key left from) now ordered
+  merging-tail listing first left now x from ordered =
+      elim (leb from (key x)) as (λ b. IsMerging key listing first (cond b (x ∷ at_or_above key left from) (at_or_above key left from)) now ordered → IsMerging key listing first (at_or_above key left from) now ordered) [
+        | true ↦ λ so_far. merging-passed listing first (at_or_above key left from) now x ordered so_far
+        | false ↦ λ so_far. so_far
+      ]
+
   pub merging-refused : (listing first left : List X) (x : X) (v : Retained X) (ordered : Bool) (theta : ℕ) (kind : ErrorKind) → key x < theta → IsMerging key listing first (x ∷ left) v.entries ordered → upsert_refusal key (key x) (merge_step merges refuses x) v ≡ Some kind → (kind ≡ Policy) × IsMergeRefused key refuses (below key first theta) listing
   merging-refused listing first left x v ordered theta kind lt so_far =
       (elim (is_screened (key x) v.theta) as (λ b. is_screened (key x) v.theta ≡ b → upsert_refusal key (key x) (merge_step merges refuses x) v ≡ Some kind → (kind ≡ Policy) × IsMergeRefused key refuses (below key first theta) listing) [
@@ -117,6 +146,10 @@ module _ {X : Type 0} (key : X → ℕ) (merges : X → X → X) (refuses : X �
             ]) refl
       ]) refl
 
+  -- the map in folds after the entries below theta were merged into a table's, one after another
+  abbrev pub after_merges : (k theta : ℕ) → List X → Retained X → Retained (Fold X)
+  after_merges k theta xs v = after_upserts (fold_key key) k (merge_step (fold_merges key merges refuses) never) (map Value (below key xs theta)) (unmarked v)
+
   -- entries that are not below theta change nothing
   screened_all : (k : ℕ) (xs : List X) (u : Retained (Fold X)) → AllByRecursion (λ x. u.theta ≤ key x) xs → after_upserts (fold_key key) k (merge_step (fold_merges key merges refuses) never) (map Value xs) u ≡ u
   screened_all k [] u all = refl
@@ -132,69 +165,117 @@ module _ {X : Type 0} (key : X → ℕ) (merges : X → X → X) (refuses : X �
         | false ↦ λ e. from_lesser xs theta t h le all.1
       ]) refl
 
-  -- entries that are skipped because they are not below the lesser theta change nothing
-  from_below_folds : (k theta : ℕ) (v : Retained X) (xs : List X) →
-      after_upserts (fold_key key) k (merge_step (fold_merges key merges refuses) never) (map Value (below key (from_below key (min theta v.theta) xs) theta)) (unmarked v) ≡ after_upserts (fold_key key) k (merge_step (fold_merges key merges refuses) never) (map Value (below key xs theta)) (unmarked v)
-  from_below_folds k theta v [] = refl
-  from_below_folds k theta v (x ∷ xs) =
+  -- an entry that is not below the lesser theta changes nothing
+  skipped_folds : (k theta : ℕ) (v : Retained X) (left : List X) (x : X) → min theta v.theta ≤ key x → after_merges k theta left v ≡ after_merges k theta (x ∷ left) v
+  skipped_folds k theta v left x le =
       let step = merge_step (fold_merges key merges refuses) never in
-      let folded : List X → Retained (Fold X) = λ ys. after_upserts (fold_key key) k step (map Value ys) (unmarked v) in
-      let others = from_below_folds k theta v xs in
-      (elim (ltb (key x) (min theta v.theta)) as (λ b. ltb (key x) (min theta v.theta) ≡ b → folded (below key (cond b (x ∷ xs) (from_below key (min theta v.theta) xs)) theta) ≡ folded (below key (x ∷ xs) theta)) [
-        | true ↦ λ e. refl
-        | false ↦ λ e. others ∙
-            (elim (ltb (key x) theta) as (λ b. ltb (key x) theta ≡ b → folded (below key xs theta) ≡ folded (cond b (x ∷ below key xs theta) (below key xs theta))) [
-              | true ↦ λ low.
-                  let screened : v.theta ≤ key x = grind (arith, nat_tests, e, low) in
-                  sym (ap (λ u. after_upserts (fold_key key) k step (map Value (below key xs theta)) u) (screened_case (fold_key key) k (key x) (step (Value x)) (unmarked v) (is_screened_true (key x) v.theta (inr screened))).after_is)
-              | false ↦ λ high. refl
-            ]) refl
-      ]) refl
-
-  pub still_folds : (k theta : ℕ) (v : Retained X) (ordered : Bool) (xs : List X) →
-      after_upserts (fold_key key) k (merge_step (fold_merges key merges refuses) never) (map Value (below key (still_read key ordered (min theta v.theta) xs) theta)) (unmarked v) ≡ after_upserts (fold_key key) k (merge_step (fold_merges key merges refuses) never) (map Value (below key xs theta)) (unmarked v)
-  still_folds k theta v true xs = refl
-  still_folds k theta v false xs = from_below_folds k theta v xs
-
-  from_below_merging : (listing first now : List X) (t : ℕ) (xs : List X) (ordered : Bool) → IsMerging key listing first xs now ordered → IsMerging key listing first (from_below key t xs) now ordered
-  from_below_merging listing first now t [] ordered so_far = so_far
-  from_below_merging listing first now t (x ∷ xs) ordered so_far =
-      elim (ltb (key x) t) as (λ b. IsMerging key listing first (cond b (x ∷ xs) (from_below key t xs)) now ordered) [
-        | true ↦ so_far
-        | false ↦ from_below_merging listing first now t xs ordered (merging-passed listing first xs now x ordered so_far)
+      let folded : List X → Retained (Fold X) → Retained (Fold X) = λ ys u. after_upserts (fold_key key) k step (map Value ys) u in
+      let others = below key left theta in
+      elim (cases_lt (key x) theta) [
+        | inl lt ↦
+            let screened : v.theta ≤ key x = omega (arith, le, lt) in
+            let same = (screened_case (fold_key key) k (key x) (step (Value x)) (unmarked v) (is_screened_true (key x) v.theta (inr screened))).after_is in
+            rw (lt-ltb (key x) theta lt) (sym (ap (folded others) same))
+        | inr high ↦ ap (λ ys. folded ys (unmarked v)) (sym (below_passed key theta left x high))
       ]
 
-  still_merging : (listing first now : List X) (t : ℕ) (xs : List X) (ordered : Bool) → IsMerging key listing first xs now ordered → IsMerging key listing first (still_read key ordered t xs) now ordered
-  still_merging listing first now t xs true so_far = so_far
-  still_merging listing first now t xs false so_far = from_below_merging listing first now t xs false so_far
+  -- entries that are skipped because they are not below the lesser theta change nothing
+  from_below_folds : (k from theta : ℕ) (v : Retained X) (xs : List X) →
+      after_merges k theta (at_or_above key (from_below key (min theta v.theta) xs) from) v ≡ after_merges k theta (at_or_above key xs from) v
+  from_below_folds k from theta v [] = refl
+  from_below_folds k from theta v (x ∷ xs) =
+      let lesser = min theta v.theta in
+      let left = at_or_above key xs from in
+      (elim (ltb (key x) lesser) as (λ b. ltb (key x) lesser ≡ b → after_merges k theta (at_or_above key (cond b (x ∷ xs) (from_below key lesser xs)) from) v ≡ after_merges k theta (at_or_above key (x ∷ xs) from) v) [
+        | true ↦ λ e. refl
+        | false ↦ λ e.
+            let high : lesser ≤ key x = ltb-false _ _ e in
+            from_below_folds k from theta v xs ∙ elim (leb from (key x)) as (λ b. after_merges k theta left v ≡ after_merges k theta (cond b (x ∷ left) left) v) [
+              | true ↦ skipped_folds k theta v left x high
+              | false ↦ refl
+            ]
+      ]) refl
 
-  -- the entry that was read next, in front of those left: what the steps for them all result in, and that it is merged
-  pub record IsNextEntry (k theta : ℕ) (listing first left : List X) (x : X) (v : Retained X) (ordered : Bool) (all : Retained (Fold X)) : Type 0 where
-    pub folds : after_upserts (fold_key key) k (merge_step (fold_merges key merges refuses) never) (map Value (below key (x ∷ left) theta)) (unmarked v) ≡ all
-    pub merging : IsMerging key listing first (x ∷ left) v.entries ordered
+  still_folds : (k from theta : ℕ) (v : Retained X) (ordered : Bool) (xs : List X) →
+      after_merges k theta (at_or_above key (still_read key ordered (min theta v.theta) xs) from) v ≡ after_merges k theta (at_or_above key xs from) v
+  still_folds k from theta v true xs = refl
+  still_folds k from theta v false xs = from_below_folds k from theta v xs
 
-  pub next_entry : (k theta lesser : ℕ) (listing first rest left : List X) (x : X) (v : Retained X) (ordered : Bool) (all : Retained (Fold X)) → lesser ≡ min theta v.theta → still_read key ordered lesser rest ≡ x ∷ left
-      → after_upserts (fold_key key) k (merge_step (fold_merges key merges refuses) never) (map Value (below key rest theta)) (unmarked v) ≡ all → IsMerging key listing first rest v.entries ordered → IsNextEntry k theta listing first left x v ordered all
-  next_entry k theta lesser listing first rest left x v ordered all lesser_is read folded merging =
+  from_below_merging : (listing first now : List X) (from t : ℕ) (xs : List X) (ordered : Bool) → IsMerging key listing first (at_or_above key xs from) now ordered → IsMerging key listing first (at_or_above key (from_below key t xs) from) now ordered
+  from_below_merging listing first now from t [] ordered so_far = so_far
+  from_below_merging listing first now from t (x ∷ xs) ordered so_far =
+      elim (ltb (key x) t) as (λ b. IsMerging key listing first (at_or_above key (cond b (x ∷ xs) (from_below key t xs)) from) now ordered) [
+        | true ↦ so_far
+        | false ↦ from_below_merging listing first now from t xs ordered (merging-tail listing first xs now x from ordered so_far)
+      ]
+
+  still_merging : (listing first now : List X) (from t : ℕ) (xs : List X) (ordered : Bool) → IsMerging key listing first (at_or_above key xs from) now ordered → IsMerging key listing first (at_or_above key (still_read key ordered t xs) from) now ordered
+  still_merging listing first now from t xs true so_far = so_far
+  still_merging listing first now from t xs false so_far = from_below_merging listing first now from t xs false so_far
+
+  -- if nothing is still read, nothing more is merged
+  pub folds_none : (k from theta lesser : ℕ) (rest : List X) (v : Retained X) (ordered : Bool) → lesser ≡ min theta v.theta → still_read key ordered lesser rest ≡ []
+      → unmarked v ≡ after_merges k theta (at_or_above key rest from) v
+  folds_none k from theta lesser rest v ordered lesser_is read =
+      let none : still_read key ordered (min theta v.theta) rest ≡ [] = rw (← lesser_is) read in
+      let folded = still_folds k from theta v ordered rest in
+      rw none at folded
+
+  -- what all entries that are left to merge result in, and that they are merged
+  pub record IsLeft (k theta : ℕ) (listing first left : List X) (v : Retained X) (ordered : Bool) (all : Retained (Fold X)) : Type 0 where
+    pub folds : after_merges k theta left v ≡ all
+    pub merging : IsMerging key listing first left v.entries ordered
+
+  -- the entry that was read next, in front of those left
+  pub next_entry : (k from theta lesser : ℕ) (listing first rest left : List X) (x : X) (v : Retained X) (ordered : Bool) (all : Retained (Fold X)) → lesser ≡ min theta v.theta → still_read key ordered lesser rest ≡ x ∷ left
+      → after_merges k theta (at_or_above key rest from) v ≡ all → IsMerging key listing first (at_or_above key rest from) v.entries ordered → IsLeft k theta listing first (at_or_above key (x ∷ left) from) v ordered all
+  next_entry k from theta lesser listing first rest left x v ordered all lesser_is read folded merging =
       let is : still_read key ordered (min theta v.theta) rest ≡ x ∷ left = rw (← lesser_is) read in
-      let folds = still_folds k theta v ordered rest ∙ folded in
-      let merged = still_merging listing first v.entries (min theta v.theta) rest ordered merging in
-      record { folds = rw is at folds; merging = rw (← is) merged }
+      subst (λ ys. IsLeft k theta listing first (at_or_above key ys from) v ordered all) is (record {
+        folds = still_folds k from theta v ordered rest ∙ folded;
+        merging = still_merging listing first v.entries from (min theta v.theta) rest ordered merging;
+      })
 
-  pub folds_stop : (k theta : ℕ) (listing first left : List X) (x : X) (v : Retained X) → IsMerging key listing first (x ∷ left) v.entries true → min theta v.theta ≤ key x →
-      after_upserts (fold_key key) k (merge_step (fold_merges key merges refuses) never) (map Value (below key (x ∷ left) theta)) (unmarked v) ≡ unmarked v
+  -- that entry, if it is from the hash on
+  pub next_reached : (k from theta : ℕ) (listing first left : List X) (x : X) (v : Retained X) (ordered : Bool) (all : Retained (Fold X)) → from ≤ key x
+      → IsLeft k theta listing first (at_or_above key (x ∷ left) from) v ordered all → IsLeft k theta listing first (x ∷ at_or_above key left from) v ordered all
+  next_reached k from theta listing first left x v ordered all le it = subst (λ ys. IsLeft k theta listing first ys v ordered all) (at_or_above_reached key from left x le) it
+
+  -- those left after that entry, if it is below the hash or not below theta
+  pub next_passed : (k from theta : ℕ) (listing first left : List X) (x : X) (v : Retained X) (ordered : Bool) (all : Retained (Fold X)) → (key x < from) ⊎ (theta ≤ key x)
+      → IsLeft k theta listing first (at_or_above key (x ∷ left) from) v ordered all → IsLeft k theta listing first (at_or_above key left from) v ordered all
+  next_passed k from theta listing first left x v ordered all (inl lt) it = subst (λ ys. IsLeft k theta listing first ys v ordered all) (at_or_above_passed key from left x lt) it
+  next_passed k from theta listing first left x v ordered all (inr high) it =
+      let others = at_or_above key left from in
+      (elim (leb from (key x)) as (λ b. IsLeft k theta listing first (cond b (x ∷ others) others) v ordered all → IsLeft k theta listing first others v ordered all) [
+        | true ↦ λ so_far. record {
+          folds = skipped_folds k theta v others x (omega (arith, high)) ∙ so_far.folds;
+          merging = merging-passed listing first others v.entries x ordered so_far.merging;
+        }
+        | false ↦ λ so_far. so_far
+      ]) it
+
+  pub folds_stop : (k theta : ℕ) (listing first left : List X) (x : X) (v : Retained X) → IsMerging key listing first (x ∷ left) v.entries true → min theta v.theta ≤ key x → after_merges k theta (x ∷ left) v ≡ unmarked v
   folds_stop k theta listing first left x v so_far le =
       screened_all k (below key (x ∷ left) theta) (unmarked v) (from_lesser (x ∷ left) theta v.theta (key x) le (omega arith, each-weaker _ _ (λ y lt. omega (arith, lt)) left (ascending-head key x left (so_far.in_order refl))))
 
-  pub folds_next : (k theta : ℕ) (left : List X) (x : X) (v : Retained X) → key x < theta → upsert_refusal key (key x) (merge_step merges refuses x) v ≡ None →
-      after_upserts (fold_key key) k (merge_step (fold_merges key merges refuses) never) (map Value (below key left theta)) (unmarked (after_upsert key k (key x) (merge_step merges refuses x) v)) ≡ after_upserts (fold_key key) k (merge_step (fold_merges key merges refuses) never) (map Value (below key (x ∷ left) theta)) (unmarked v)
+  -- if an entry is not below the lesser theta, nothing of it and those that follow in order is merged
+  pub folds_stop_from : (k from theta : ℕ) (listing first left : List X) (x : X) (v : Retained X) → IsMerging key listing first (at_or_above key (x ∷ left) from) v.entries true → min theta v.theta ≤ key x
+      → after_merges k theta (at_or_above key (x ∷ left) from) v ≡ unmarked v
+  folds_stop_from k from theta listing first left x v so_far le =
+      let others = at_or_above key left from in
+      (elim (leb from (key x)) as (λ b. leb from (key x) ≡ b → IsMerging key listing first (cond b (x ∷ others) others) v.entries true → after_merges k theta (cond b (x ∷ others) others) v ≡ unmarked v) [
+        | true ↦ λ _ merging. folds_stop k theta listing first others x v merging le
+        | false ↦ λ e _.
+            let past : key x < from = leb-false _ _ e in
+            let later : AllByRecursion (λ y. key x ≤ key y) others = each-passes _ _ (λ y p. let high : from ≤ key y = leb-true _ _ p in omega (arith, high, past)) left in
+            screened_all k (below key others theta) (unmarked v) (from_lesser others theta v.theta (key x) le later)
+      ]) refl so_far
+
+  pub folds_next : (k theta : ℕ) (left : List X) (x : X) (v : Retained X) → key x < theta → upsert_refusal key (key x) (merge_step merges refuses x) v ≡ None
+      → after_merges k theta left (after_upsert key k (key x) (merge_step merges refuses x) v) ≡ after_merges k theta (x ∷ left) v
   folds_next k theta left x v lt allowed =
       rw (lt-ltb (key x) theta lt) (ap (λ u. after_upserts (fold_key key) k (merge_step (fold_merges key merges refuses) never) (map Value (below key left theta)) u) (unmarked-upsert key merges refuses k x v allowed))
-
-module _ {X : Type 0} (key : X → ℕ) where
-  -- an entry at or above theta is not among those below it
-  pub below_passed : (theta : ℕ) (left : List X) (x : X) → theta ≤ key x → below key (x ∷ left) theta ≡ below key left theta
-  below_passed theta left x le = let e : ltb (key x) theta ≡ false = grind (arith, nat_tests) in rw e refl
 
 from_below-fewer : {X : Type 0} (key : X → ℕ) (t : ℕ) (xs : List X) → length (from_below key t xs) ≤ length xs
 from_below-fewer key t [] = omega arith

@@ -14,15 +14,15 @@ use Rattle.core_laws.proofs.operators.UnionUpdates.{update-value, first-value}
 use Rattle.core_laws.specs.Entries.{KeepsKey}
 
 module _ {X : Type 0} (key : X → ℕ) where
-  map_of-marked : (xs : List X) → map Value (map_of key xs) ≡ map_of (fold_key key) (map Value xs)
+  pub map_of-marked : (xs : List X) → map Value (map_of key xs) ≡ map_of (fold_key key) (map Value xs)
   map_of-marked [] = refl
   map_of-marked (x ∷ xs) = sym (with_entry-map Value key (fold_key key) (λ y. refl) (map_of key xs) x) ∙ ap (λ ys. with_entry (fold_key key) ys (Value x)) (map_of-marked xs)
 
-  apart-marked : (xs : List X) → IsApart key xs → IsApart (fold_key key) (map Value xs)
+  pub apart-marked : (xs : List X) → IsApart key xs → IsApart (fold_key key) (map Value xs)
   apart-marked [] apart = tt
   apart-marked (x ∷ xs) apart = (entry_at-map Value key (fold_key key) (λ y. refl) xs (key x) ∙ ap (λ o. option_map Value o) apart.0, apart-marked xs apart.1)
 
-  cut-marked : (k : ℕ) (v : Retained X) → NonEmpty (cut (fold_key key) k (map Value v.entries) v.theta) ≡ unmarked_value (NonEmpty (cut key k v.entries v.theta))
+  pub cut-marked : (k : ℕ) (v : Retained X) → NonEmpty (cut (fold_key key) k (map Value v.entries) v.theta) ≡ unmarked_value (NonEmpty (cut key k v.entries v.theta))
   cut-marked k v = ap NonEmpty (cut-map Value key (fold_key key) (λ y. refl) k v.entries v.theta)
 
   module _ {P : Type 0} (merges : X → X → X) (refuses : X → X → Bool) (keeps : KeepsKey key merges) where

@@ -1,18 +1,20 @@
 -- Unions.
-use Rattle.std.specs.Prelude.{ℕ, ◌≡◌, ◌==◌, ◌<◌, ◌≤◌, ◌^◌, ◌⊎◌, ◌&&◌, not, nat_le, nat_lt, Bool, true, false, if◌then◌else◌, Option, Some, None, List, [], ◌∷◌, map, min, MatchOption}
+use Rattle.std.specs.Prelude.{ℕ, ◌≡◌, ◌==◌, ◌<◌, ◌≤◌, ◌^◌, ◌⊎◌, ◌&&◌, ◌||◌, not, nat_le, nat_lt, Bool, true, false, if◌then◌else◌, Option, Some, None, List, [], ◌∷◌, map, flat_map, filter, min, MatchOption}
+use Rattle.std.specs.List.{list_all}
 use Rattle.sketch_base.specs.declared.error.ErrorKind.{ErrorKind}
 use Rattle.sketch_base.specs.declared.error.ErrorKind.TheVariants.{InvalidArgument, Failed, OutOfMemory, Policy}
-use Rattle.core_laws.specs.declared.TheConstants.{MIN_LG_K, MAX_LG_K}
-use Rattle.core_laws.specs.Cuts.{Retained, cut, none_below}
+use Rattle.core_laws.specs.declared.TheConstants.{MIN_LG_K, MAX_LG_K, MAX_THETA}
+use Rattle.core_laws.specs.Cuts.{Retained, retained, cut, none_below}
 use Rattle.core_laws.specs.Entries.{hash_key, first_hash}
 use Rattle.core_laws.specs.Insertion.{after_upserts}
 use Rattle.core_laws.specs.Maps.{below, entry_at}
 use Rattle.core_laws.specs.Lawful.{IsWithin}
-use Rattle.core_laws.specs.Operators.{joined, unite}
+use Rattle.core_laws.specs.Operators.{joined, least, unite}
+use Rattle.core_laws.specs.Parts.{StopsAt}
 use Rattle.core_laws.specs.Step.{merge_step}
 use Rattle.core_laws.specs.Values.{Sketch, Empty, NonEmpty}
-use Rattle.core_laws.specs.Folds.{Value, fold_key, fold_merges, never, unmarked, unmarked_value}
-use Rattle.core_laws.specs.Shown.{Shown, shown_value}
+use Rattle.core_laws.specs.Folds.{Fold, Value, fold_key, fold_merges, never, unmarked, unmarked_value}
+use Rattle.core_laws.specs.Shown.{Shown, IsShown, shown_value}
 use Rattle.core_policies.specs.Summaries.{combined, combine_refused}
 use Rattle.core_slots.specs.Entry.{tuple_key}
 use Rattle.core_slots.specs.declared.entry.TupleEntry.{TupleEntry}
@@ -136,3 +138,109 @@ UnitesHashes old new s listing =
 abbrev pub IsHashUpdateError : {P : Type 0} → (old new : Union ℕ P) → Shown → ErrorKind → Type 0
 IsHashUpdateError old new s e =
     MatchOption (update_refusal old s) ((s.empty ≡ false) × (e ≡ OutOfMemory) × (new ≡ record old { failed = true; content = new.content })) (λ kind. (e ≡ kind) × (new ≡ old))
+
+-- the entries whose keys are at least `from`
+abbrev pub at_or_above : {X : Type 0} → (X → ℕ) → List X → (from : ℕ) → List X
+at_or_above key xs from = filter (λ x. nat_le from (key x)) xs
+
+-- the laws of an input: what it shows is lawful, and its entries have the hashes that it shows
+pub record IsInput {X : Type 0} (key : X → ℕ) (s : Shown) (listing : List X) : Type 0 where
+  pub lawful : IsShown s
+  pub hashes : map key listing ≡ s.hashes
+
+-- whether all inputs are Empty
+abbrev pub all_empty : {S : Type 0} → (shown : S → Shown) → List S → Bool
+all_empty shown sketches = list_all (λ s. (shown s).empty) sketches
+
+-- the least theta of inputs
+abbrev pub least_theta : {S : Type 0} → (shown : S → Shown) → List S → ℕ
+least_theta shown sketches = least MAX_THETA (map (λ s. (shown s).theta) sketches)
+
+-- whether all inputs that aren't Empty have a seed hash
+abbrev pub share_seed : {S : Type 0} → (shown : S → Shown) → (seed_hash : ℕ) → List S → Bool
+share_seed shown seed_hash sketches = list_all (λ s. (shown s).empty || seed_hash == (shown s).seed_hash) sketches
+
+-- the error of an update with many inputs before anything is merged
+abbrev pub update_all_refusal : {X P S : Type 0} → Union X P → (shown : S → Shown) → List S → Option ErrorKind
+update_all_refusal u shown sketches = if u.failed then Some Failed else if share_seed shown u.seed_hash sketches then None else Some InvalidArgument
+
+-- inputs that aren't all Empty are joined: their entries, one input after another, below the least theta. An Empty input
+-- has no entries
+abbrev pub JoinsAll : {X P S : Type 0} → (key : X → ℕ) → (merges : X → X → X) → (refuses : X → X → Bool) → (old new : Union X P) → (shown : S → Shown) → (listing : S → List X) → List S → Type 0
+JoinsAll key merges refuses old new shown listing sketches =
+    all_empty shown sketches ≡ false → IsJoined key merges refuses old new (least_theta shown sketches) (flat_map listing sketches)
+
+-- the new value is the old one united with those of the inputs
+abbrev pub UnitesAll : {X P S : Type 0} → (key : X → ℕ) → (merges : X → X → X) → (refuses : X → X → Bool) → (old new : Union X P) → (shown : S → Shown) → (listing : S → List X) → List S → Type 0
+UnitesAll key merges refuses old new shown listing sketches =
+    unmarked_value (union_value key new) ≡ unite (fold_key key) (fold_merges key merges refuses) (2 ^ old.lg_k) old.start (unmarked_value (union_value key old) ∷ map (λ s. unmarked_value (shown_value key (shown s) (listing s))) sketches)
+
+-- a policy refuses what a map, in folds, has at some key, and the arriving entry of that key
+pub record IsRefusedAt {X : Type 0} (key : X → ℕ) (refuses : X → X → Bool) (held : List (Fold X)) (arriving : List X) : Type 0 where
+  pub at : ℕ
+  pub held_entry : X
+  pub new_entry : X
+  pub is_held : entry_at (fold_key key) held at ≡ Some (Value held_entry)
+  pub comes : entry_at key arriving at ≡ Some new_entry
+  pub refused : refuses held_entry new_entry ≡ true
+
+-- a policy refuses an entry of some input, and what the union and the inputs before it have at its key below theta
+abbrev pub IsArrivalRefused : {X : Type 0} → (key : X → ℕ) → (merges : X → X → X) → (refuses : X → X → Bool) → (content : List X) → (theta : ℕ) → (before arriving : List X) → Type 0
+IsArrivalRefused key merges refuses content theta before arriving =
+    IsRefusedAt key refuses (joined (fold_key key) (fold_merges key merges refuses) (map Value (below key content theta)) (map Value (below key before theta))) arriving
+
+-- a policy refuses an entry of some input whose key is from `from` to below `to`, and what a table has at its key after
+-- those of the inputs before it
+abbrev pub IsRangeRefused : {X : Type 0} → (key : X → ℕ) → (merges : X → X → X) → (refuses : X → X → Bool) → (old : MapTable X) → (from to : ℕ) → (before arriving : List X) → Type 0
+IsRangeRefused key merges refuses old from to before arriving =
+    IsRefusedAt key refuses (below (fold_key key) (after_upserts (fold_key key) (2 ^ old.lg_nom) (merge_step (fold_merges key merges refuses) never) (map Value (below key (at_or_above key before from) to)) (unmarked old.kept)).entries to) (at_or_above key arriving from)
+
+-- an error of merges of the entries of many inputs whose keys are from `from` to below `to`
+abbrev pub IsRangeRefusal : {X S : Type 0} → (key : X → ℕ) → (merges : X → X → X) → (refuses : X → X → Bool) → (old : MapTable X) → (from to : ℕ) → (listing : S → List X) → List S → ErrorKind → Type 0
+IsRangeRefusal key merges refuses old from to listing sketches kind =
+    (kind ≡ OutOfMemory) ⊎ ((kind ≡ Policy) × StopsAt sketches (λ before s. IsRangeRefused key merges refuses old from to (flat_map listing before) (listing s)))
+
+-- a table has all of the joined map of its entries and those of inputs, below theta and some lawful theta
+abbrev pub HasMergedAll : {X : Type 0} → (key : X → ℕ) → (merges : X → X → X) → (refuses : X → X → Bool) → (entries : List X) → (theta : ℕ) → (old new : MapTable X) → Type 0
+HasMergedAll key merges refuses entries theta old new =
+    IsWithin (fold_key key) (2 ^ old.lg_nom) theta (unmarked (retained key new.kept.entries (min theta new.kept.theta))) (joined (fold_key key) (fold_merges key merges refuses) (map Value (below key old.kept.entries theta)) (map Value (below key entries theta)))
+
+-- an error of merges of many inputs: memory ran out, or the policy refused an entry of one of them
+abbrev pub IsAllRefusal : {X S : Type 0} → (key : X → ℕ) → (merges : X → X → X) → (refuses : X → X → Bool) → (content : List X) → (theta : ℕ) → (listing : S → List X) → List S → ErrorKind → Type 0
+IsAllRefusal key merges refuses content theta listing sketches kind =
+    (kind ≡ OutOfMemory) ⊎ ((kind ≡ Policy) × StopsAt sketches (λ before s. IsArrivalRefused key merges refuses content theta (flat_map listing before) (listing s)))
+
+-- merges of many inputs broke off, and the union has failed
+pub record IsAllBroken {X P S : Type 0} (key : X → ℕ) (merges : X → X → X) (refuses : X → X → Bool) (old new : Union X P) (shown : S → Shown) (listing : S → List X) (sketches : List S) (kind : ErrorKind) : Type 0 where
+  pub nonempty : all_empty shown sketches ≡ false
+  pub why : IsAllRefusal key merges refuses old.content.entries (min old.content.theta (least_theta shown sketches)) listing sketches kind
+  pub made_with : new ≡ record old { failed = true; content = new.content }
+
+-- an error of an update with many inputs: that of `update_all_refusal`, with the union unchanged, or that of a merge that
+-- broke off
+abbrev pub IsUpdateAllError : {X P S : Type 0} → (key : X → ℕ) → (merges : X → X → X) → (refuses : X → X → Bool) → (old new : Union X P) → (shown : S → Shown) → (listing : S → List X) → List S → ErrorKind → Type 0
+IsUpdateAllError key merges refuses old new shown listing sketches e =
+    MatchOption (update_all_refusal old shown sketches) (IsAllBroken key merges refuses old new shown listing sketches e) (λ kind. (e ≡ kind) × (new ≡ old))
+
+-- inputs that aren't all Empty are joined; a policy combines the summaries
+abbrev pub JoinsAllSummaries : {S P V : Type 0} → (combines : S → S → Option S) → (old new : Union (TupleEntry S) P) → (shown : V → Shown) → (listing : V → List (TupleEntry S)) → List V → Type 0
+JoinsAllSummaries combines old new shown listing sketches = JoinsAll tuple_key (combined combines) (combine_refused combines) old new shown listing sketches
+
+-- the new value is the old one united with those of the inputs; a policy combines the summaries
+abbrev pub UnitesAllSummaries : {S P V : Type 0} → (combines : S → S → Option S) → (old new : Union (TupleEntry S) P) → (shown : V → Shown) → (listing : V → List (TupleEntry S)) → List V → Type 0
+UnitesAllSummaries combines old new shown listing sketches = UnitesAll tuple_key (combined combines) (combine_refused combines) old new shown listing sketches
+
+-- inputs of hashes are joined, unless all are Empty; no merge is refused
+abbrev pub JoinsAllHashes : {P S : Type 0} → (old new : Union ℕ P) → (shown : S → Shown) → (listing : S → List ℕ) → List S → Type 0
+JoinsAllHashes old new shown listing sketches = JoinsAll hash_key first_hash (λ _ _. false) old new shown listing sketches
+
+-- the new value is the old one united with those of the inputs of hashes; these values are not folds
+abbrev pub UnitesAllHashes : {P S : Type 0} → (old new : Union ℕ P) → (shown : S → Shown) → (listing : S → List ℕ) → List S → Type 0
+UnitesAllHashes old new shown listing sketches =
+    union_value hash_key new ≡ unite hash_key first_hash (2 ^ old.lg_k) old.start (union_value hash_key old ∷ map (λ s. shown_value hash_key (shown s) (listing s)) sketches)
+
+-- an error of an update with many inputs of hashes: that of `update_all_refusal`, with the union unchanged; or memory ran
+-- out in a merge, and the union has failed
+abbrev pub IsHashUpdateAllError : {P S : Type 0} → (old new : Union ℕ P) → (shown : S → Shown) → List S → ErrorKind → Type 0
+IsHashUpdateAllError old new shown sketches e =
+    MatchOption (update_all_refusal old shown sketches) ((all_empty shown sketches ≡ false) × (e ≡ OutOfMemory) × (new ≡ record old { failed = true; content = new.content })) (λ kind. (e ≡ kind) × (new ≡ old))

@@ -11,6 +11,7 @@ mod intersection;
 mod iter;
 pub mod laws;
 mod merge;
+mod ranges;
 mod scan;
 mod search;
 mod share;

@@ -5,7 +5,7 @@ ghost use Rattle.core_laws.specs.Maps.{IsAscending};
 ghost use Rattle.core_laws.specs.Folds.{never};
 ghost use Rattle.core_operators.specs.Iter.{still_read};
 ghost use Rattle.core_laws.specs.Entries.{ClonesEqual};
-ghost use Rattle.core_operators.specs.Union.{HasMerged, IsMergeRefusal};
+ghost use Rattle.core_operators.specs.Union.{HasMerged, IsMergeRefusal, at_or_above};
 
 use crate::iter::EntryIter;
 use crate::view::EntrySketch;
@@ -116,13 +116,31 @@ fn ascending_slice<'a, E: SlotEntry>(entries: &EntryIter<'a, E>, ordered: bool) 
     if ordered { entries.as_slice() } else { None }
 }
 
-/// Merges the entries of a sketch below theta into the table of a union, in their order; the policy never sees the
-/// others. If they ascend, it stops at the first that is not below theta or that the table screens.
+/// The entries from the hash `from` on, of entries that ascend.
+#[inline(always)]
+fn entries_from<'a, E: SlotEntry>(entries: &'a [E], from: u64) -> &'a [E]
+    requires ascending { IsAscending E.key entries.now }
+    ensures { result.now ≡ at_or_above E.key entries.entry.now from }
+{
+    let mut left = entries;
+    'pass_each: while let Some((first, others)) = left.split_first() {
+        if first.hash() >= from {
+            break;
+        }
+        left = others;
+    }
+    left
+}
+
+/// Merges the entries of a sketch whose hashes are from `from` to below theta into the table of a union, in their order;
+/// the policy never sees the others. If they ascend, it stops at the first that is not below theta or that the table
+/// screens.
 pub(crate) fn merge_entries<S: EntrySketch, P: UnionMergePolicy<S::Entry>, A: Allocator + Clone>(
     table: &mut SketchHashTable<S::Entry, A>,
     sketch: S,
     policy: &P,
     ordered: bool,
+    from: u64,
     theta: u64,
 ) -> Result<(), Error>
 where
@@ -132,14 +150,16 @@ where
     requires of_sketch { MIN_LG_K ≤ table.old.map.lg_nom }
     ensures listed { map S.Entry.key (S.listing sketch) ≡ (S.shown sketch).hashes }
     ensures after { OnOk result (
-        HasMerged S.Entry.key (P.merges policy.now) (P.refuses policy.now) (S.listing sketch) theta table.old.map
-        table.new.map) }
+        HasMerged S.Entry.key (P.merges policy.now) (P.refuses policy.now)
+        (at_or_above S.Entry.key (S.listing sketch) from) theta table.old.map table.new.map) }
     ensures made_with { table.new.map ≡ record table.old.map { kept = table.new.map.kept } }
-    ensures refused { IfErr result (IsMergeRefusal S.Entry.key (P.refuses policy.now) table.old.map.kept.entries theta (S.listing sketch)) }
+    ensures refused { IfErr result (
+        IsMergeRefusal S.Entry.key (P.refuses policy.now) table.old.map.kept.entries theta
+        (at_or_above S.Entry.key (S.listing sketch) from)) }
 {
     let mut entries = sketch.entries();
     if let Some(ascending) = ascending_slice(&entries, ordered) {
-        return merge_ascending(table, ascending, policy, theta);
+        return merge_ascending(table, entries_from(ascending, from), policy, theta);
     }
     let mut lesser = theta.min(table.retention_theta());
     'merge_each: while let Some(entry) = next_entry(&mut entries, ordered, lesser) {
@@ -147,7 +167,7 @@ where
         if is_past(ordered, hash, lesser) {
             break;
         }
-        if hash >= theta {
+        if hash < from || hash >= theta {
             continue;
         }
         let step = MergeStep {

@@ -5,11 +5,12 @@ ghost use Rattle.core_compact.specs.CompactState.{IsAnswer};
 ghost use Rattle.core_laws.specs.Refusal.{Refuses};
 ghost use Rattle.core_laws.specs.Cuts.{IsRetained};
 ghost use Rattle.core_laws.specs.Settings.{settings_refusal};
-ghost use Rattle.core_operators.specs.Union.{Union, empty_union, union_value, update_refusal, lower_refusal, lower_allocates, lowered, failure, IsUnion, JoinsShown, UnitesShown, IsUpdateError};
+ghost use Rattle.core_operators.specs.Union.{Union, empty_union, union_value, update_refusal, lower_refusal, lower_allocates, lowered, failure, IsUnion, JoinsShown, UnitesShown, IsUpdateError, all_empty, update_all_refusal, JoinsAll, UnitesAll, IsUpdateAllError};
 ghost use Rattle.core_laws.specs.Values.{cut_value};
 ghost use Rattle.core_laws.specs.Entries.{ClonesEqual};
 
 use crate::merge::merge_entries;
+use crate::ranges::{inputs_of, merge_all};
 use crate::view::{EntrySketch, ThetaFamilySketchMetadata};
 use core_compact::CompactSketchState;
 use core_laws::MIN_LG_K;
@@ -20,10 +21,10 @@ use sketch_base::{Error, ErrorKind};
 use std::alloc::{Allocator, Global};
 use std::marker::Model;
 
-/// A union of sketches, passed one by one.
+/// A union of sketches, passed one by one or many in a call.
 ///
 /// Its value is the joined map of its inputs below their least theta and its own starting theta, cut to its nominal
-/// entries k; the policy combines the entries of a key that inputs share, in the order of the calls. If a merge breaks
+/// entries k; the policy combines the entries of a key that inputs share, in the order of the inputs. If a merge breaks
 /// off, the union has failed: until it is reset, each of its calls that may fail is refused with `Failed`.
 ///
 /// Its theta is at most its table's. Entries of the table at or above the union's theta no longer belong to the union.
@@ -124,7 +125,14 @@ impl<E: SlotEntry + Clone, P: UnionMergePolicy<E> + Drop, A: Allocator + Clone> 
                     return Err(Error::new(ErrorKind::InvalidArgument));
                 }
                 let least = self.theta.min(theta);
-                let merged = merge_entries(&mut self.table, sketch, &self.policy, ordered, least);
+                let merged = merge_entries(
+                    &mut self.table,
+                    sketch,
+                    &self.policy,
+                    ordered,
+                    0,
+                    least,
+                );
                 self.theta = least.min(self.table.retention_theta());
                 if let Err(refused) = merged {
                     self.failed = true;
@@ -134,6 +142,56 @@ impl<E: SlotEntry + Clone, P: UnionMergePolicy<E> + Drop, A: Allocator + Clone> 
                 Ok(())
             }
         }
+    }
+
+    /// Merges sketches into the union, with the value of one `update` after another, in their order, if these succeed.
+    /// Empty sketches change nothing, and their seeds are not checked. Of ordered sketches only the least hashes are
+    /// read, as far as it seems that the value needs them.
+    ///
+    /// Refused with `Failed` if the union has failed, whatever the inputs, and with `InvalidArgument` if one of the
+    /// sketches that aren't empty has another seed; then nothing has changed. Refused with `OutOfMemory`, or with
+    /// `Policy` if the policy refuses the entries of a key below the thetas of the union and of all sketches; then the
+    /// union has failed. Whether the policy is asked at a key from the theta of the result on is unspecified.
+    pub fn update_all<S: EntrySketch<Entry = E>>(&mut self, sketches: &[S]) -> Result<(), Error>
+        requires clones_equal { ClonesEqual E.is_clone }
+        ensures skipped { OnOk result (all_empty S.shown sketches.now ≡ true → self.new ≡ self.old) }
+        ensures joined { OnOk result (
+            JoinsAll E.key (P.merges self.old.policy) (P.refuses self.old.policy) self.old self.new
+            S.shown S.listing sketches.now) }
+        ensures united { OnOk result (
+            UnitesAll E.key (P.merges self.old.policy) (P.refuses self.old.policy) self.old self.new
+            S.shown S.listing sketches.now) }
+        ensures accepted { OnOk result (update_all_refusal self.old S.shown sketches.now ≡ None) }
+        ensures refused { IfErr result (
+            IsUpdateAllError E.key (P.merges self.old.policy) (P.refuses self.old.policy) self.old self.new
+            S.shown S.listing sketches.now) }
+        ensures sound { IsUnion self.old }
+        ensures content { IsRetained E.key self.old.content }
+    {
+        // Called for its contract: the table's entries keep the laws of a sketch value.
+        let _ = self.table.retention_theta();
+        if self.failed {
+            return Err(Error::new(ErrorKind::Failed));
+        }
+        let inputs = inputs_of(sketches, self.table.seed_hash())?;
+        if inputs.empty {
+            return Ok(());
+        }
+        let least = self.theta.min(inputs.theta);
+        let merged = merge_all(
+            &mut self.table,
+            sketches,
+            &self.policy,
+            least,
+            inputs.ordered,
+        );
+        self.theta = least.min(self.table.retention_theta());
+        if let Err(refused) = merged {
+            self.failed = true;
+            return Err(refused);
+        }
+        self.empty = false;
+        Ok(())
     }
 
     /// Lowers the nominal entries to 2^`lg_k`, at least 2^4 and no more than now. The union's value is cut to those,

@@ -1,36 +1,49 @@
-use Rattle.std.proofs.Common.{◌≡◌, ◌^◌, ◌<◌, ◌≤◌, ◌∷◌, [], length, min, map, None, true, refl, sym, ap, ◌∙◌, inl, inr, arith}
+use Rattle.std.proofs.Common.{◌≡◌, ◌^◌, ◌<◌, ◌≤◌, ◌⊎◌, ◌∷◌, length, min, None, true, refl, sym, ap, ◌∙◌, inl, inr, subst, arith}
 use Rattle.std.proofs.lemmas.Result.{err_from_is_err_and}
-use Rattle.core_laws.specs.Maps.{IsApart}
+use Rattle.core_laws.specs.Maps.{IsApart, IsAscending}
 use Rattle.core_laws.specs.Step.{merge_step}
-use Rattle.core_laws.specs.Insertion.{after_upsert, after_upserts, upsert_refusal}
-use Rattle.core_laws.specs.Folds.{Value, fold_key, fold_merges, unmarked, never}
+use Rattle.core_laws.specs.Insertion.{after_upsert, upsert_refusal}
 use Rattle.core_operators.specs.Iter.{still_read}
+use Rattle.core_operators.specs.Union.{at_or_above}
 use Rattle.core_table.proofs.FilledTables.{made_with_next}
-use Rattle.core_operators.proofs.MergedListing.{still_folds, still_fewer, next_entry, IsMerging, merging-start, merging-next, merging-passed, merging-refused, folds_stop, folds_next, below_passed}
+use Rattle.core_operators.proofs.MergedListing.{still_fewer, next_entry, next_passed, next_reached, IsMerging, merging-start, merging-next, merging-refused, folds_none, folds_stop_from, folds_next}
+use Rattle.core_laws.proofs.maps.Ascending.{ascending-filter}
 use Rattle.core_laws.proofs.maps.MapsOfLists.{apart-distinct, ascending-from_map}
+use Rattle.core_laws.proofs.maps.ApartEntries.{apart-filter}
 use Rattle.core_table.proofs.Sizes.{always_room}
 use Rattle.core_operators.proofs.merge.merge_entries.Goals as goal
-use Rattle.core_operators.proofs.merge.merge_entries.Goals.{in_default-next_entry, in-Some-next_entry+then-is_past}
+use Rattle.core_operators.proofs.merge.merge_entries.Goals.{in_default-next_entry, in-Some-next_entry+then-is_past, then-hash-from-via-then-hash-from, then-hash-from-via-else-hash-from+then-hash-theta}
+
+pub entries_from-requires : goal.entries_from-requires
+entries_from-requires g c =
+    let key = g.S.Entry.SketchEntry.key in
+    let listing = c.entries-entries.ensures in
+    record {
+      ascending = rw (c.in-Some.ensures.left, listing.all)
+          (ascending-from_map key (g.S.EntrySketch.listing c.args.sketch) (rw listing.hashes (listing.sound.ascending (sym c.requires.in_order ∙ c.in-Some.ensures.ascending refl))));
+    }
 
 pub merge_ascending-requires-clause-ascending : goal.merge_ascending-requires-clause-ascending
 merge_ascending-requires-clause-ascending g c =
     let key = g.S.Entry.SketchEntry.key in
     let listing = c.entries-entries.ensures in
+    let up : IsAscending key c.in-Some.ascending.now =
     rw (c.in-Some.ensures.left, listing.all)
-    (ascending-from_map key (g.S.EntrySketch.listing c.args.sketch) (rw listing.hashes (listing.sound.ascending (sym c.requires.in_order ∙ c.in-Some.ensures.ascending refl))))
+    (ascending-from_map key (g.S.EntrySketch.listing c.args.sketch) (rw listing.hashes (listing.sound.ascending (sym c.requires.in_order ∙ c.in-Some.ensures.ascending refl)))) in
+    rw c.entries_from.ensures (ascending-filter key _ c.in-Some.ascending.now up)
 
 pub merge_each-init : goal.merge_each-init
 merge_each-init g c =
     let key = g.S.Entry.SketchEntry.key in
-    let all = c.entries-entries.ensures.all in
+    let listing = g.S.EntrySketch.listing c.args.sketch in
     let hashes = c.entries-entries.ensures.hashes in
     let shown = c.entries-entries.ensures.sound in
-    let apart : IsApart key (g.S.EntrySketch.listing c.args.sketch) = apart-distinct key (g.S.EntrySketch.listing c.args.sketch) (rw hashes shown.distinct) in
-    rw all (record {
+    let apart : IsApart key listing = apart-distinct key listing (rw hashes shown.distinct) in
+    rw c.entries-entries.ensures.all (record {
       rest = refl;
       lesser_is = c.min-lesser.ensures ∙ ap (λ t. min c.args.theta t) c.retention_theta.ensures.theta;
       made_with = refl;
-      merging = merging-start key (g.S.EntrySketch.listing c.args.sketch) c.args.table.now.map.kept.entries c.args.ordered apart (λ e. ascending-from_map key (g.S.EntrySketch.listing c.args.sketch) (rw hashes (shown.ascending (sym c.requires.in_order ∙ e))));
+      merging = merging-start key (at_or_above key listing c.args.from) c.args.table.now.map.kept.entries c.args.ordered (apart-filter key _ listing apart) (λ e. ascending-filter key _ listing (ascending-from_map key listing (rw hashes (shown.ascending (sym c.requires.in_order ∙ e)))));
     })
 
 pub upsert_entry-requires-clause-room : goal.upsert_entry-requires-clause-room
@@ -45,56 +58,80 @@ merge_each-preserved g c =
     let merges = g.P.UnionMergePolicy.merges c.args.policy.now in
     let refuses = g.P.UnionMergePolicy.refuses c.args.policy.now in
     let keeps = g.met.P.UnionMergePolicy.keeps_hash c.args.policy.now in
-    let it = next_entry key merges refuses keeps (2 ^ c.args.table.now.map.lg_nom) c.args.theta c.merge_each.lesser (g.S.EntrySketch.listing c.args.sketch) c.args.table.now.map.kept.entries c.merge_each.entries.rest c.next_entry.new.entries.rest c.in-Some-next_entry.entry.now c.merge_each.table.map.kept c.args.ordered _ was.lesser_is c.in-Some-next_entry.ensures was.rest was.merging in
-    let lg : c.merge_each.table.map.lg_nom ≡ c.args.table.now.map.lg_nom = ap (λ t. t.lg_nom) was.made_with in
-    let hash_is : c.hash-hash.result ≡ key c.in-Some-next_entry.entry.now = c.hash-hash.ensures in
     let k = 2 ^ c.args.table.now.map.lg_nom in
-    let next : c.upsert_entry.new.self.map.kept ≡ after_upsert key k (key c.in-Some-next_entry.entry.now) (merge_step merges refuses c.in-Some-next_entry.entry.now) c.merge_each.table.map.kept =
+    let all = at_or_above key (g.S.EntrySketch.listing c.args.sketch) c.args.from in
+    let first = c.args.table.now.map.kept.entries in
+    let x = c.in-Some-next_entry.entry.now in
+    let left = c.next_entry.new.entries.rest in
+    let it = next_entry key merges refuses keeps k c.args.from c.args.theta c.merge_each.lesser all first c.merge_each.entries.rest left x c.merge_each.table.map.kept c.args.ordered _ was.lesser_is c.in-Some-next_entry.ensures was.rest was.merging in
+    let lg : c.merge_each.table.map.lg_nom ≡ c.args.table.now.map.lg_nom = ap (λ t. t.lg_nom) was.made_with in
+    let hash_is : c.hash-hash.result ≡ key x = c.hash-hash.ensures in
+    let next : c.upsert_entry.new.self.map.kept ≡ after_upsert key k (key x) (merge_step merges refuses x) c.merge_each.table.map.kept =
     rw (← hash_is, ← lg) (ap (λ t. t.kept) c.in_ok-upsert_entry.ensures.after) in
-    let allowed : upsert_refusal key (key c.in-Some-next_entry.entry.now) (merge_step merges refuses c.in-Some-next_entry.entry.now) c.merge_each.table.map.kept ≡ None = rw (← hash_is) c.in_ok-upsert_entry.ensures.refused in
-    let low : key c.in-Some-next_entry.entry.now < c.args.theta = rw (← hash_is) (omega (arith, c.if-hash-theta.false)) in
+    let allowed : upsert_refusal key (key x) (merge_step merges refuses x) c.merge_each.table.map.kept ≡ None = rw (← hash_is) c.in_ok-upsert_entry.ensures.refused in
+    let low : key x < c.args.theta = rw (← hash_is) (omega (arith, c.if-hash-theta.false)) in
+    let high : c.args.from ≤ key x = rw (← hash_is) (omega (arith, c.if-hash-from.false)) in
+    let reached = next_reached key merges refuses keeps k c.args.from c.args.theta all first left x c.merge_each.table.map.kept c.args.ordered _ high it in
     record {
-      rest = rw next (folds_next key merges refuses keeps k c.args.theta c.next_entry.new.entries.rest c.in-Some-next_entry.entry.now c.merge_each.table.map.kept low allowed) ∙ it.folds;
+      rest = rw next (folds_next key merges refuses keeps k c.args.theta (at_or_above key left c.args.from) x c.merge_each.table.map.kept low allowed) ∙ reached.folds;
       lesser_is = c.min-lesser-in-Some-next_entry.ensures ∙ ap (λ t. min c.args.theta t) c.retention_theta-in-Some-next_entry.ensures.theta;
       made_with = made_with_next c.args.table.now.map c.merge_each.table.map c.upsert_entry.new.self.map _ was.made_with c.in_ok-upsert_entry.ensures.after;
-      merging = rw next (merging-next key merges refuses keeps k (g.S.EntrySketch.listing c.args.sketch) c.args.table.now.map.kept.entries c.next_entry.new.entries.rest c.in-Some-next_entry.entry.now c.merge_each.table.map.kept c.args.ordered it.merging);
+      merging = rw next (merging-next key merges refuses keeps k all first (at_or_above key left c.args.from) x c.merge_each.table.map.kept c.args.ordered reached.merging);
     }
 
-pub merge_each-preserved-then-hash-theta : goal.merge_each-preserved-then-hash-theta
-merge_each-preserved-then-hash-theta g c =
+pub merge_each-preserved-then-hash-from : goal.merge_each-preserved-then-hash-from
+merge_each-preserved-then-hash-from g c =
+    let was = c.merge_each.invariant in
     let key = g.S.Entry.SketchEntry.key in
     let merges = g.P.UnionMergePolicy.merges c.args.policy.now in
     let refuses = g.P.UnionMergePolicy.refuses c.args.policy.now in
     let keeps = g.met.P.UnionMergePolicy.keeps_hash c.args.policy.now in
     let k = 2 ^ c.args.table.now.map.lg_nom in
-    let was = c.merge_each.invariant in
-    let it = next_entry key merges refuses keeps k c.args.theta c.merge_each.lesser (g.S.EntrySketch.listing c.args.sketch) c.args.table.now.map.kept.entries c.merge_each.entries.rest c.next_entry.new.entries.rest c.in-Some-next_entry.entry.now c.merge_each.table.map.kept c.args.ordered _ was.lesser_is c.in-Some-next_entry.ensures was.rest was.merging in
-    let high : c.args.theta ≤ key c.in-Some-next_entry.entry.now = rw (← c.hash-hash.ensures) c.if-hash-theta.true in
+    let all = at_or_above key (g.S.EntrySketch.listing c.args.sketch) c.args.from in
+    let first = c.args.table.now.map.kept.entries in
+    let x = c.in-Some-next_entry.entry.now in
+    let left = c.next_entry.new.entries.rest in
+    let it = next_entry key merges refuses keeps k c.args.from c.args.theta c.merge_each.lesser all first c.merge_each.entries.rest left x c.merge_each.table.map.kept c.args.ordered _ was.lesser_is c.in-Some-next_entry.ensures was.rest was.merging in
+    let passed : (key x < c.args.from) ⊎ (c.args.theta ≤ key x) = elim c.then-hash-from.branch [
+      | then-hash-from-via-then-hash-from w ↦ inl (rw (← c.hash-hash.ensures) w.if-hash-from.true)
+      | then-hash-from-via-else-hash-from+then-hash-theta w ↦ inr (rw (← c.hash-hash.ensures) w.if-hash-theta.true)
+    ] in
+    let others = next_passed key merges refuses keeps k c.args.from c.args.theta all first left x c.merge_each.table.map.kept c.args.ordered _ passed it in
     record {
-      rest = ap (λ xs. after_upserts (fold_key key) k (merge_step (fold_merges key merges refuses) never) (map Value xs) (unmarked c.merge_each.table.map.kept)) (sym (below_passed key c.args.theta c.next_entry.new.entries.rest c.in-Some-next_entry.entry.now high)) ∙ it.folds;
+      rest = others.folds;
       lesser_is = was.lesser_is;
       made_with = was.made_with;
-      merging = merging-passed key merges refuses keeps (g.S.EntrySketch.listing c.args.sketch) c.args.table.now.map.kept.entries c.next_entry.new.entries.rest c.merge_each.table.map.kept.entries c.in-Some-next_entry.entry.now c.args.ordered it.merging;
+      merging = others.merging;
     }
 
 pub returns-in_err-upsert_entry-clause-refused : goal.returns-in_err-upsert_entry-clause-refused
 returns-in_err-upsert_entry-clause-refused g c =
     let p = err_from_is_err_and c.from_residual.result c.from_residual.ensures.1 in
     let was = c.merge_each.invariant in
+    let key = g.S.Entry.SketchEntry.key in
+    let merges = g.P.UnionMergePolicy.merges c.args.policy.now in
+    let refuses = g.P.UnionMergePolicy.refuses c.args.policy.now in
     let keeps = g.met.P.UnionMergePolicy.keeps_hash c.args.policy.now in
-    let it = next_entry _ _ _ keeps (2 ^ c.args.table.now.map.lg_nom) c.args.theta c.merge_each.lesser (g.S.EntrySketch.listing c.args.sketch) c.args.table.now.map.kept.entries c.merge_each.entries.rest c.next_entry.new.entries.rest c.in-Some-next_entry.entry.now c.merge_each.table.map.kept c.args.ordered _ was.lesser_is c.in-Some-next_entry.ensures was.rest was.merging in
-    let hash_is : c.hash-hash.result ≡ g.S.Entry.SketchEntry.key c.in-Some-next_entry.entry.now = c.hash-hash.ensures in
-    let low : g.S.Entry.SketchEntry.key c.in-Some-next_entry.entry.now < c.args.theta = rw (← hash_is) (omega (arith, c.if-hash-theta.false)) in
+    let k = 2 ^ c.args.table.now.map.lg_nom in
+    let all = at_or_above key (g.S.EntrySketch.listing c.args.sketch) c.args.from in
+    let first = c.args.table.now.map.kept.entries in
+    let x = c.in-Some-next_entry.entry.now in
+    let left = c.next_entry.new.entries.rest in
+    let it = next_entry key merges refuses keeps k c.args.from c.args.theta c.merge_each.lesser all first c.merge_each.entries.rest left x c.merge_each.table.map.kept c.args.ordered _ was.lesser_is c.in-Some-next_entry.ensures was.rest was.merging in
+    let hash_is : c.hash-hash.result ≡ key x = c.hash-hash.ensures in
+    let low : key x < c.args.theta = rw (← hash_is) (omega (arith, c.if-hash-theta.false)) in
+    let high : c.args.from ≤ key x = rw (← hash_is) (omega (arith, c.if-hash-from.false)) in
+    let reached = next_reached key merges refuses keeps k c.args.from c.args.theta all first left x c.merge_each.table.map.kept c.args.ordered _ high it in
     rw (p.1, p.2) (elim c.in_err-upsert_entry.ensures.refused [
-      | inl r ↦ inr (merging-refused _ _ _ keeps (g.S.EntrySketch.listing c.args.sketch) c.args.table.now.map.kept.entries c.next_entry.new.entries.rest c.in-Some-next_entry.entry.now c.merge_each.table.map.kept c.args.ordered c.args.theta c.in_err-upsert_entry.field-0.0 low it.merging (rw (← hash_is) r))
+      | inl r ↦ inr (merging-refused _ _ _ keeps all first (at_or_above key left c.args.from) x c.merge_each.table.map.kept c.args.ordered c.args.theta c.in_err-upsert_entry.field-0.0 low reached.merging (rw (← hash_is) r))
       | inr o ↦ inl o.0
     ])
 
 pub returns-in_err-upsert_entry-clause-made_with : goal.returns-in_err-upsert_entry-clause-made_with
 returns-in_err-upsert_entry-clause-made_with g c = rw c.in_err-upsert_entry.ensures.err c.merge_each.invariant.made_with
 
-pub merge_each-smaller-then-hash-theta : goal.merge_each-smaller-then-hash-theta
-merge_each-smaller-then-hash-theta g c =
+pub merge_each-smaller-then-hash-from : goal.merge_each-smaller-then-hash-from
+merge_each-smaller-then-hash-from g c =
     let asked : still_read g.S.Entry.SketchEntry.key c.args.ordered c.merge_each.lesser c.merge_each.entries.rest ≡ c.in-Some-next_entry.entry.now ∷ c.next_entry.new.entries.rest = c.in-Some-next_entry.ensures in
     omega (arith, ap length asked, still_fewer g.S.Entry.SketchEntry.key c.args.ordered c.merge_each.lesser c.merge_each.entries.rest)
 
@@ -111,22 +148,19 @@ returns-clause-after g c =
     let merges = g.P.UnionMergePolicy.merges c.args.policy.now in
     let refuses = g.P.UnionMergePolicy.refuses c.args.policy.now in
     let keeps = g.met.P.UnionMergePolicy.keeps_hash c.args.policy.now in
-    let left = c.merge_each.entries.rest in
     let k = 2 ^ c.args.table.now.map.lg_nom in
+    let all = at_or_above key (g.S.EntrySketch.listing c.args.sketch) c.args.from in
+    let first = c.args.table.now.map.kept.entries in
+    let left = c.next_entry.new.entries.rest in
     elim c.match-next_entry.branch [
-      | in_default-next_entry w ↦
-          let asked : still_read key c.args.ordered c.merge_each.lesser left ≡ [] = w.in_default-next_entry.ensures in
-          let none : still_read key c.args.ordered (min c.args.theta now.theta) left ≡ [] = rw (← was.lesser_is) asked in
-          let so_far = still_folds key merges refuses keeps k c.args.theta now c.args.ordered left ∙ was.rest in
-          rw none at so_far
+      | in_default-next_entry w ↦ folds_none key merges refuses keeps k c.args.from c.args.theta c.merge_each.lesser c.merge_each.entries.rest now c.args.ordered was.lesser_is w.in_default-next_entry.ensures ∙ was.rest
       | in-Some-next_entry+then-is_past w ↦
-          let it = next_entry key merges refuses keeps k c.args.theta c.merge_each.lesser (g.S.EntrySketch.listing c.args.sketch) c.args.table.now.map.kept.entries left c.next_entry.new.entries.rest w.in-Some-next_entry.entry.now now c.args.ordered _ was.lesser_is w.in-Some-next_entry.ensures was.rest was.merging in
+          let x = w.in-Some-next_entry.entry.now in
+          let it = next_entry key merges refuses keeps k c.args.from c.args.theta c.merge_each.lesser all first c.merge_each.entries.rest left x now c.args.ordered _ was.lesser_is w.in-Some-next_entry.ensures was.rest was.merging in
           let past = w.is_past.ensures.0 w.if-is_past.true in
-          let ordered = past.0 in
-          let le = past.1 in
-          let hash_is = w.hash-hash.ensures in
-          let merging : IsMerging key (g.S.EntrySketch.listing c.args.sketch) c.args.table.now.map.kept.entries (w.in-Some-next_entry.entry.now ∷ c.next_entry.new.entries.rest) now.entries true = rw (← ordered) it.merging in
-          sym (folds_stop key merges refuses keeps k c.args.theta (g.S.EntrySketch.listing c.args.sketch) c.args.table.now.map.kept.entries c.next_entry.new.entries.rest w.in-Some-next_entry.entry.now now merging (rw (← was.lesser_is, ← hash_is) le)) ∙ it.folds
+          let merging : IsMerging key all first (at_or_above key (x ∷ left) c.args.from) now.entries true = subst (λ b. IsMerging key all first (at_or_above key (x ∷ left) c.args.from) now.entries b) past.0 it.merging in
+          let le : min c.args.theta now.theta ≤ key x = rw (← was.lesser_is, ← w.hash-hash.ensures) past.1 in
+          sym (folds_stop_from key merges refuses keeps k c.args.from c.args.theta all first left x now merging le) ∙ it.folds
     ]
 
 pub returns-clause-made_with : goal.returns-clause-made_with

@@ -1,8 +1,12 @@
-use Rattle.std.proofs.Common.{◌≡◌, ◌^◌, ◌<◌, None, false, refl, ap, ◌∙◌, map, min, inl, inr, arith, rules}
+use Rattle.std.proofs.Common.{◌≡◌, ◌^◌, ◌<◌, None, List, false, refl, ap, ◌∙◌, subst, map, min, inl, inr, arith, rules}
 use Rattle.std.specs.List.{AllByRecursion}
-use Rattle.core_laws.specs.Maps.{IsApart}
-use Rattle.core_laws.specs.Cuts.{retained}
-use Rattle.core_operators.specs.Union.{Union, IsJoined, update_refusal}
+use Rattle.core_laws.specs.Maps.{IsApart, below}
+use Rattle.core_laws.specs.Cuts.{Retained, retained}
+use Rattle.core_laws.specs.Step.{merge_step}
+use Rattle.core_laws.specs.Insertion.{after_upserts}
+use Rattle.core_laws.specs.Folds.{Fold, Value, fold_key, fold_merges, unmarked, never}
+use Rattle.core_operators.specs.Union.{Union, IsJoined, IsMergeRefused, update_refusal}
+use Rattle.core_operators.proofs.MergedListing.{at_or_above_zero}
 use Rattle.core_laws.proofs.maps.Ascending.{ascending-filter}
 use Rattle.core_laws.proofs.maps.MapsOfLists.{each-from_map, apart-distinct}
 use Rattle.core_laws.proofs.cuts.WithinWholeMaps.{below-below}
@@ -30,6 +34,8 @@ pub returns-in-Err-clause-refused : goal.returns-in-Err-clause-refused
 returns-in-Err-clause-refused g c =
     let key = g.E.SketchEntry.key in
     let theta = c.self.inside.theta in
+    let refuses = g.P.UnionMergePolicy.refuses c.self.inside.policy in
+    let listing = g.S.EntrySketch.listing c.args.sketch in
     let none : update_refusal c.args.self.now (g.S.KeySketch.shown c.args.sketch) ≡ None = search rules in
     let nonempty : (g.S.KeySketch.shown c.args.sketch).empty ≡ false = search rules in
     let reported = rw nonempty at c.in-NonEmpty.ensures.metadata in
@@ -39,7 +45,9 @@ returns-in-Err-clause-refused g c =
       nonempty = nonempty;
       why = elim c.in-Err.ensures.refused [
         | inl out ↦ inl out
-        | inr policy ↦ inr (policy.0, rw (← m_is, below-below key c.self.inside.table.map.kept.entries c.min-least.result theta (omega (arith, c.min-least.ensures))) policy.1)
+        | inr policy ↦
+            let refused : IsMergeRefused key refuses (below key c.self.inside.table.map.kept.entries c.min-least.result) listing = subst (λ ys. IsMergeRefused key refuses (below key c.self.inside.table.map.kept.entries c.min-least.result) ys) (at_or_above_zero key listing) policy.1 in
+            inr (policy.0, rw (← m_is, below-below key c.self.inside.table.map.kept.entries c.min-least.result theta (omega (arith, c.min-least.ensures))) refused)
       ];
       made_with = rw c.in-Err.ensures.made_with refl;
     })
@@ -57,7 +65,9 @@ returns-in_default-clause-joined g c nonempty =
     let listed : map key listing ≡ (g.S.KeySketch.shown c.args.sketch).hashes = c.merge_entries-merged.ensures.listed in
     let nonzero : AllByRecursion (λ x. 0 < key x) listing = each-from_map key (λ h. 0 < h) _ (rw listed c.metadata.ensures.is_sound.nonzero) in
     let made = c.merge_entries-merged.ensures.made_with in
-    let within = union-below key merges refuses keeps k c.min-least.result theta c.self.inside.table.map.kept now listing c.retention_theta.ensures.sound.kept (omega (arith, c.min-least.ensures)) c.self.invariant.theta_within nonzero c.in_default.ensures.after in
+    let folded : List g.row.E.Denot → Retained (Fold g.row.E.Denot) = λ ys. after_upserts (fold_key key) k (merge_step (fold_merges key merges refuses) never) (map Value (below key ys c.min-least.result)) (unmarked c.self.inside.table.map.kept) in
+    let after : unmarked now ≡ folded listing = c.in_default.ensures.after ∙ ap folded (at_or_above_zero key listing) in
+    let within = union-below key merges refuses keeps k c.min-least.result theta c.self.inside.table.map.kept now listing c.retention_theta.ensures.sound.kept (omega (arith, c.min-least.ensures)) c.self.invariant.theta_within nonzero after in
     let reported = rw nonempty at c.in-NonEmpty.ensures.metadata in
     let theta_is : c.in-NonEmpty.theta ≡ (g.S.KeySketch.shown c.args.sketch).theta = cc in
     let m_is : c.min-least.result ≡ min theta (g.S.KeySketch.shown c.args.sketch).theta = c.min-least.ensures ∙ ap (λ t. min theta t) theta_is in

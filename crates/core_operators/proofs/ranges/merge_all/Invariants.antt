@@ -1,0 +1,16 @@
+use Rattle.std.proofs.Common.{◌<◌, ◌≤◌, ◌-◌, flat_map}
+use Rattle.core_operators.proofs.JoinedRanges.{HasMergedBelow}
+use Rattle.core_operators.proofs.ranges.merge_all.Given as goal
+
+-- all entries below `from` were merged
+abbrev pub invariant-merge_ranges : goal.invariant-merge_ranges
+invariant-merge_ranges g l = record {
+  within : l.from ≤ l.theta;
+  more : l.from < l.theta → l.from < l.to;
+  high : l.to ≤ l.theta;
+  merged : HasMergedBelow g.S.Entry.SketchEntry.key (g.P.UnionMergePolicy.merges l.policy) (g.P.UnionMergePolicy.refuses l.policy) l.initial.table.map l.table.map (flat_map g.S.EntrySketch.listing l.sketches) l.from;
+}
+
+-- what is left below theta
+abbrev pub decreases-merge_ranges : goal.decreases-merge_ranges
+decreases-merge_ranges g l = l.theta - l.from
