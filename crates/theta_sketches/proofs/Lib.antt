@@ -1,1 +1,2 @@
 pub mod ImageLayouts
+pub mod UnitedHashes

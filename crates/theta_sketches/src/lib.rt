@@ -30,6 +30,19 @@
 //! let image = either_day.serialize()?;
 //! let read = CompactThetaSketch::deserialize(alloc, &image)?;
 //! ```
+//!
+//! The visitors of any day, by one call for the compact sketches of all days. If all are ordered, they are read only as
+//! far as the union needs:
+//!
+//! ```
+//! let mut views = Vec::new(alloc);
+//! for day in &days {
+//!     views.push(day.as_view())?;
+//! }
+//! let mut union = ThetaUnionBuilder::default().lg_k(14).build(alloc)?;
+//! union.update_all(views.as_slice())?;
+//! let any_day = union.to_sketch(true)?;
+//! ```
 #![tactic(auto)]
 
 mod a_not_b;

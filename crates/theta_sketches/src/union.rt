@@ -6,7 +6,7 @@ ghost use Rattle.core_laws.specs.Entries.{hash_key};
 ghost use Rattle.core_laws.specs.Refusal.{Refuses};
 ghost use Rattle.core_laws.specs.Settings.{settings_refusal};
 ghost use Rattle.core_laws.specs.Cuts.{IsRetained};
-ghost use Rattle.core_operators.specs.Union.{Union, empty_union, union_value, update_refusal, lower_refusal, lower_allocates, lowered, failure, IsUnion, JoinsHashes, UnitesHashes, IsHashUpdateError};
+ghost use Rattle.core_operators.specs.Union.{Union, empty_union, union_value, update_refusal, lower_refusal, lower_allocates, lowered, failure, IsUnion, JoinsHashes, UnitesHashes, IsHashUpdateError, all_empty, update_all_refusal, JoinsAllHashes, UnitesAllHashes, IsHashUpdateAllError};
 ghost use Rattle.core_laws.specs.Values.{cut_value};
 ghost use Rattle.theta_sketches.specs.View.{view_shows, view_sequence};
 
@@ -20,12 +20,12 @@ use sketch_base::Error;
 use std::alloc::{Allocator, Global};
 use std::marker::Model;
 
-/// A union of theta sketches, passed one by one.
+/// A union of theta sketches, passed one by one or many at once.
 ///
 /// Its value has the hashes of all its inputs below their least theta and its own starting theta. If these are more
 /// than k, its 2^`lg_k` nominal entries, the value has the k least, and its theta is the (k+1)th. If memory runs out in
-/// an update, the union has failed: until it is reset, `update`, `to_sketch` and `lower_lg_k` are refused with
-/// `Failed`. The crate's documentation has an example.
+/// an update, the union has failed: until it is reset, `update`, `update_all`, `to_sketch` and `lower_lg_k` are refused
+/// with `Failed`. The crate's documentation has an example.
 #[derive(Drop)]
 pub struct ThetaUnion<A: Allocator = Global> {
     state: UnionState<ThetaEntry, NoopUnionPolicy, A>,
@@ -81,6 +81,35 @@ impl<A: Allocator + Clone> ThetaUnion<A> {
         ensures content { IsRetained hash_key self.old.content }
     {
         self.state.update(sketch)?;
+        Ok(())
+    }
+
+    /// Merges sketches into the union, with the value of one `update` after another. Empty sketches change nothing, and
+    /// their seeds are not checked.
+    ///
+    /// If all sketches that aren't empty are ordered, the least hashes of all are merged first, and no sketch is read on
+    /// once the union's theta is below its next hash. So many sketches with different hashes take a fraction of the time
+    /// of one `update` each. Otherwise each is read as `update` reads it.
+    ///
+    /// Refused with `Failed` if the union has failed, whatever the inputs, and with `InvalidArgument` if one of the
+    /// sketches that aren't empty has another seed; then nothing has changed. Refused with `OutOfMemory`; then the union
+    /// has failed.
+    pub fn update_all<B: Allocator>(
+        &mut self,
+        sketches: &[ThetaSketchView<'_, B>],
+    ) -> Result<(), Error>
+        ensures skipped { OnOk result (all_empty (λ v. view_shows v) sketches.now ≡ true → self.new ≡ self.old) }
+        ensures united { OnOk result (
+            UnitesAllHashes self.old self.new (λ v. view_shows v) (λ v. view_sequence v) sketches.now) }
+        ensures joined { OnOk result (
+            JoinsAllHashes self.old self.new (λ v. view_shows v) (λ v. view_sequence v) sketches.now) }
+        ensures made_with { OnOk result (self.new ≡ record self.old { empty = self.new.empty; content = self.new.content }) }
+        ensures accepted { OnOk result (update_all_refusal self.old (λ v. view_shows v) sketches.now ≡ None) }
+        ensures refused { IfErr result (IsHashUpdateAllError self.old self.new (λ v. view_shows v) sketches.now) }
+        ensures sound { IsUnion self.old }
+        ensures content { IsRetained hash_key self.old.content }
+    {
+        self.state.update_all(sketches)?;
         Ok(())
     }
 

@@ -45,6 +45,20 @@
 //! let on_both_days = intersection.to_sketch(true)?;
 //! ```
 //!
+//! The visits of all days, by one call for their compact sketches. Sketches that are all ordered are read only as far
+//! as the union needs:
+//!
+//! ```
+//! let mut views = Vec::new(alloc);
+//! for day in &days {
+//!     let view: TupleSketchView<'_, u64> = day.as_view();
+//!     views.push(view)?;
+//! }
+//! let mut union = TupleUnionBuilder::new(sums).lg_k(14).build(alloc)?;
+//! union.update_all(views.as_slice())?;
+//! let all_together = union.to_sketch(true)?;
+//! ```
+//!
 //! To bytes and back, for summaries that implement `TupleSummaryValue`:
 //!
 //! ```

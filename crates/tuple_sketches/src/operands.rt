@@ -6,7 +6,7 @@ ghost use Rattle.core_laws.specs.Entries.{ClonesEqual};
 ghost use Rattle.core_laws.specs.Refusal.{Refuses};
 ghost use Rattle.core_operators.specs.ANotB.{difference_refusal, IsDifference};
 ghost use Rattle.core_operators.specs.Intersection.{intersect_refusal, IsIntersection, IsMet, content_of, IsIntersectError};
-ghost use Rattle.core_operators.specs.Union.{update_refusal, IsUnion, JoinsShown, UnitesShown, IsUpdateError};
+ghost use Rattle.core_operators.specs.Union.{update_refusal, IsUnion, JoinsShown, UnitesShown, IsUpdateError, all_empty, update_all_refusal, JoinsAll, UnitesAll, IsUpdateAllError};
 ghost use Rattle.core_state.specs.View.{shows, sequence};
 
 use core_compact::CompactSketchState;
@@ -43,6 +43,34 @@ where
     ensures content { IsRetained E.key union.old.content }
 {
     union.update(view)
+}
+
+/// Merges views into a union: `UnionState::update_all`.
+pub(crate) fn join_views<
+    'v,
+    E: SlotEntry + Clone,
+    P: UnionMergePolicy<E> + Drop,
+    A: Allocator + Clone,
+    B: Allocator,
+>(union: &mut UnionState<E, P, A>, views: &[SketchView<'v, E, B>]) -> Result<(), Error>
+where
+    E::Slot: 'v,
+    requires clones_equal { ClonesEqual E.is_clone }
+    ensures skipped { OnOk result (all_empty (λ v. shows E.key v) views.now ≡ true → union.new ≡ union.old) }
+    ensures joined { OnOk result (
+        JoinsAll E.key (P.merges union.old.policy) (P.refuses union.old.policy) union.old union.new
+        (λ v. shows E.key v) (λ v. sequence v) views.now) }
+    ensures united { OnOk result (
+        UnitesAll E.key (P.merges union.old.policy) (P.refuses union.old.policy) union.old union.new
+        (λ v. shows E.key v) (λ v. sequence v) views.now) }
+    ensures accepted { OnOk result (update_all_refusal union.old (λ v. shows E.key v) views.now ≡ None) }
+    ensures refused { IfErr result (
+        IsUpdateAllError E.key (P.merges union.old.policy) (P.refuses union.old.policy) union.old union.new
+        (λ v. shows E.key v) (λ v. sequence v) views.now) }
+    ensures sound { IsUnion union.old }
+    ensures content { IsRetained E.key union.old.content }
+{
+    union.update_all(views)
 }
 
 /// Intersects with a view: `IntersectionState::update`.

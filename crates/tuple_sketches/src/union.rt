@@ -8,12 +8,12 @@ ghost use Rattle.core_laws.specs.Cuts.{IsRetained};
 ghost use Rattle.core_laws.specs.Entries.{ClonesEqual};
 ghost use Rattle.core_laws.specs.Refusal.{Refuses};
 ghost use Rattle.core_laws.specs.Values.{cut_value};
-ghost use Rattle.core_policies.specs.Summaries.{combine_refused};
-ghost use Rattle.core_operators.specs.Union.{empty_union, union_value, update_refusal, lower_refusal, lower_allocates, lowered, failure, IsUnion, IsUpdateError, JoinsSummaries, UnitesSummaries};
+ghost use Rattle.core_policies.specs.Summaries.{combined, combine_refused};
+ghost use Rattle.core_operators.specs.Union.{empty_union, union_value, update_refusal, lower_refusal, lower_allocates, lowered, failure, IsUnion, IsUpdateError, JoinsSummaries, UnitesSummaries, all_empty, update_all_refusal, IsUpdateAllError, JoinsAllSummaries, UnitesAllSummaries};
 ghost use Rattle.core_state.specs.View.{shows, sequence};
 
 use crate::compact_sketch::CompactTupleSketch;
-use crate::operands::join_view;
+use crate::operands::{join_view, join_views};
 use crate::view::TupleSketchView;
 use core_operators::UnionState;
 use core_policies::{SummaryCombinePolicy, SummaryPolicy};
@@ -22,13 +22,13 @@ use core_state::Settings;
 use sketch_base::Error;
 use std::alloc::{Allocator, Global};
 
-/// A union of tuple sketches, passed one by one.
+/// A union of tuple sketches, passed one by one or many at once.
 ///
 /// Its value has the entries of all its inputs below their least theta and its own starting theta. If these are more
 /// than k, its 2^`lg_k` nominal entries, the value has the k of least hash, and its theta is the (k+1)th hash. Its
 /// policy combines the summaries of a key that inputs share, in the order of the inputs. If memory runs out in an
-/// update, or the policy refuses, the union has failed: until it is reset, `update`, `to_sketch` and `lower_lg_k` are
-/// refused with `Failed`. The crate's documentation has an example.
+/// update, or the policy refuses, the union has failed: until it is reset, `update`, `update_all`, `to_sketch` and
+/// `lower_lg_k` are refused with `Failed`. The crate's documentation has an example.
 #[derive(Drop)]
 pub struct TupleUnion<P: SummaryPolicy, A: Allocator = Global> {
     state: UnionState<TupleEntry<P::Summary>, P, A>,
@@ -88,6 +88,46 @@ impl<P: SummaryCombinePolicy + Drop, A: Allocator + Clone> TupleUnion<P, A> {
         ensures content { IsRetained tuple_key self.old.state.content }
     {
         join_view(&mut self.state, sketch)
+    }
+
+    /// Merges sketches into the union, with the value of one `update` after another, if these succeed: the policy combines
+    /// the summaries of a key in the order of the sketches. Empty sketches change nothing, and their seeds are not
+    /// checked.
+    ///
+    /// If all sketches that aren't empty are ordered, the entries of least hash of all are merged first, and no sketch is
+    /// read on once the union's theta is below its next hash. So many sketches with different hashes take a fraction of
+    /// the time of one `update` each, and the policy combines fewer summaries. Otherwise each is read as `update` reads it.
+    ///
+    /// Refused with `Failed` if the union has failed, whatever the inputs, and with `InvalidArgument` if one of the
+    /// sketches that aren't empty has another seed; then nothing has changed. Refused with `OutOfMemory`, or with `Policy`
+    /// if the policy refuses the summaries of a key below the thetas of the union and of all sketches; then the union has
+    /// failed. Whether the policy is asked at a key from the theta of the result on is unspecified. Clones of summaries
+    /// must equal their originals.
+    pub fn update_all<B: Allocator>(
+        &mut self,
+        sketches: &[TupleSketchView<'_, P::Summary, B>],
+    ) -> Result<(), Error>
+    where
+        P::Summary: Clone,
+        requires clones_equal { ClonesEqual P.Summary.is_clone }
+        ensures skipped { OnOk result (
+            all_empty (λ v. shows tuple_key v) sketches.now ≡ true → self.new.state ≡ self.old.state) }
+        ensures united { OnOk result (
+            UnitesAllSummaries (P.combines self.old.state.policy) self.old.state self.new.state
+            (λ v. shows tuple_key v) (λ v. sequence v) sketches.now) }
+        ensures joined { OnOk result (
+            JoinsAllSummaries (P.combines self.old.state.policy) self.old.state self.new.state
+            (λ v. shows tuple_key v) (λ v. sequence v) sketches.now) }
+        ensures made_with { OnOk result (self.new.state ≡ record self.old.state { empty = self.new.state.empty; content = self.new.state.content }) }
+        ensures accepted { OnOk result (update_all_refusal self.old.state (λ v. shows tuple_key v) sketches.now ≡ None) }
+        ensures refused { IfErr result (
+            IsUpdateAllError tuple_key (combined (P.combines self.old.state.policy))
+            (combine_refused (P.combines self.old.state.policy)) self.old.state self.new.state
+            (λ v. shows tuple_key v) (λ v. sequence v) sketches.now) }
+        ensures sound { IsUnion self.old.state }
+        ensures content { IsRetained tuple_key self.old.state.content }
+    {
+        join_views(&mut self.state, sketches)
     }
 
     /// Returns its value as a compact sketch. The result is ordered if `ordered` is true, if it is empty, or if it has

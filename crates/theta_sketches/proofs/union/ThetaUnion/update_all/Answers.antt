@@ -1,0 +1,13 @@
+use Rattle.std.proofs.Common.{false}
+use Rattle.std.proofs.lemmas.Result.{err_from_is_err_and}
+use Rattle.theta_sketches.specs.View.{view_shows, view_sequence}
+use Rattle.theta_sketches.proofs.UnitedHashes.{united-all, never-refused}
+use Rattle.theta_sketches.proofs.union.ThetaUnion.update_all.Goals as goal
+
+pub returns-clause-united : goal.returns-clause-united
+returns-clause-united g c = rw (← c.self.view_is) (united-all (λ x y. false) _ _ _ _ _ c.args.sketches.now c.in_ok-update_all.ensures.united)
+
+pub returns-in_err-update_all-clause-refused : goal.returns-in_err-update_all-clause-refused
+returns-in_err-update_all-clause-refused g c =
+    let p = err_from_is_err_and c.from_residual.result c.from_residual.ensures.1 in
+    rw (p.1, p.2, ← c.self.view_is) (never-refused c.self.inside.state c.update_all.new.self (λ v. view_shows v) (λ v. view_sequence v) c.args.sketches.now c.in_err-update_all.field-0.0 c.in_err-update_all.ensures.refused)
