@@ -10,3 +10,4 @@ pub mod Meets
 pub mod Refused
 pub mod Preambles
 mod Seeding
+pub mod Waiting

@@ -138,7 +138,7 @@ accepts_of : (failed empty : Bool) (x y : ℕ) → failed ≡ false → x ≡ y 
 accepts_of failed true x y sound same = rw sound refl
 accepts_of failed false x y sound same = grind (arith, nat_tests)
 
-memory_of : (A B C : Type 0) (o : Option ErrorKind) (e : ErrorKind) → o ≡ None → MatchOption o (A × (e ≡ OutOfMemory) × B) (λ kind. (e ≡ kind) × C) → e ≡ OutOfMemory
+pub memory_of : (A B C : Type 0) (o : Option ErrorKind) (e : ErrorKind) → o ≡ None → MatchOption o (A × (e ≡ OutOfMemory) × B) (λ kind. (e ≡ kind) × C) → e ≡ OutOfMemory
 memory_of A B C None e none refused = refused.1
 memory_of A B C (Some kind) e none refused = absurd (cc)
 

@@ -55,7 +55,7 @@ made_same {X} {P} seed lg_k old new was made =
     made ∙ ap again was ∙ ap policy (sym (ap (λ u. u.policy) made))
 
 -- one more image
-are_read-more : (seed : ℕ) (images : List (List ℕ)) (sketches : List (Compact ℕ)) (image : List ℕ) (s : Compact ℕ) → AreRead seed images sketches → Reads image (seed_hash seed) s → AreRead seed (images ++ image ∷ []) (sketches ++ s ∷ [])
+pub are_read-more : (seed : ℕ) (images : List (List ℕ)) (sketches : List (Compact ℕ)) (image : List ℕ) (s : Compact ℕ) → AreRead seed images sketches → Reads image (seed_hash seed) s → AreRead seed (images ++ image ∷ []) (sketches ++ s ∷ [])
 are_read-more seed [] [] image s all one = (one, tt)
 are_read-more seed [] (t ∷ ts) image s all one = absurd all
 are_read-more seed (b ∷ bs) [] image s all one = absurd all

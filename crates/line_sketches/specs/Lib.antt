@@ -8,3 +8,4 @@ pub mod Header
 pub mod SumsHeader
 pub mod Meeting
 pub mod Refusals
+pub mod Batches

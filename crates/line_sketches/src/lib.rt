@@ -14,6 +14,7 @@
 //! ```
 #![tactic(auto)]
 
+mod batches;
 mod header;
 mod hex;
 mod image_union;

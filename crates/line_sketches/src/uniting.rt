@@ -12,6 +12,7 @@ ghost use Rattle.core_laws.specs.Refusal.{Refuses};
 ghost use Rattle.core_laws.specs.declared.TheConstants.{MAX_THETA};
 ghost use Rattle.core_laws.specs.Settings.{settings_refusal};
 
+use crate::batches::BatchUnion;
 use crate::image_union::{ImageUnion, add_images};
 use crate::images::{image_of, new_union, read_image};
 use crate::sketching::{Unread, Watch, add_text, finished, new_sketch};
@@ -72,6 +73,10 @@ pub struct United<A: Allocator = Global> {
 /// of all their lines, byte for byte, in any order of the images. If each text but the last is empty or ends in an LF,
 /// it is also the image of the concatenated texts. An image doesn't show the key and the `lg_k` that it was made with.
 ///
+/// Each image is read and checked before the next source is opened. Its sketch waits until 64 sketches wait, or they have
+/// more than 2^17 entries together, and is then merged with them. So in memory beside the union are at most one image, its
+/// sketch and 1 MB of other sketches.
+///
 /// Refused with `InvalidArgument` only for an `lg_k` that isn't from 4 to 26 or a seed whose seed hash is 0; with
 /// `InvalidData` only if some source is no image of a theta sketch of this seed; and with `OutOfMemory`. If a source
 /// fails, or can't be opened, its error is returned, and for a wrong `lg_k` or seed nothing is read; no clause says so.
@@ -94,9 +99,9 @@ pub fn unite_images<A: Allocator + Clone + Drop, S: Sources>(
 {
     one_reading();
     read_again();
-    let mut union = new_union(alloc.clone()?, seed, lg_k)?;
+    let mut union = BatchUnion::new(alloc.clone()?, seed, lg_k)?;
     let count = add_images(&mut union, alloc, seed, images)?;
-    let image = united_image(&union)?;
+    let image = union.to_image()?;
     Ok(United { image, count })
 }
 

@@ -1,24 +1,24 @@
 use Rattle.std.proofs.Common.{[]}
 use Rattle.lines.specs.Keys.{hashing_of}
-use Rattle.line_sketches.specs.Unions.{HasUnited}
+use Rattle.line_sketches.specs.Batches.{HasRead}
 use Rattle.line_sketches.proofs.Compacts.{united_whole, united_apart}
 use Rattle.line_sketches.proofs.Turns.{if_some}
-use Rattle.line_sketches.proofs.Unions.{nothing_united, size_small}
+use Rattle.line_sketches.proofs.Unions.{size_small}
 use Rattle.line_sketches.proofs.uniting.unite_images.Goals as goal
 
 pub returns-clause-united : goal.returns-clause-united
 returns-clause-united g c =
-    if_some (g.S.Sources.texts c.args.images.now) (λ all. HasUnited c.args.seed c.args.lg_k all c.add_images.new.union) _
-    (λ all has. c.in_ok-image.ensures.image c.args.seed c.args.lg_k all has) (c.in_ok-count.ensures.united c.args.lg_k [] (nothing_united c.args.seed c.args.lg_k c.in_ok-union.union c.in_ok-union.ensures.made))
+    if_some (g.S.Sources.texts c.args.images.now) (λ all. HasRead c.args.seed c.args.lg_k all c.add_images.new.union.union c.add_images.new.union.waiting.items) _
+    (λ all has. c.in_ok-image.ensures.image c.args.seed c.args.lg_k all has) (c.in_ok-count.ensures.united c.args.lg_k [] c.in_ok-union.ensures.united)
 
 pub returns-clause-whole : goal.returns-clause-whole
 returns-clause-whole g c =
-    if_some (g.S.Sources.texts c.args.images.now) (λ all. HasUnited c.args.seed c.args.lg_k all c.add_images.new.union) _
+    if_some (g.S.Sources.texts c.args.images.now) (λ all. HasRead c.args.seed c.args.lg_k all c.add_images.new.union.union c.add_images.new.union.waiting.items) _
     (λ all has key texts whole are. united_whole c.one_reading.ensures c.read_again.ensures (hashing_of key c.args.seed) c.args.lg_k (size_small c.args.seed c.args.lg_k c.in_ok-union.ensures.refused) texts all c.in_ok-image.image.items whole are (c.in_ok-image.ensures.image c.args.seed c.args.lg_k all has))
-    (c.in_ok-count.ensures.united c.args.lg_k [] (nothing_united c.args.seed c.args.lg_k c.in_ok-union.union c.in_ok-union.ensures.made))
+    (c.in_ok-count.ensures.united c.args.lg_k [] c.in_ok-union.ensures.united)
 
 pub returns-clause-apart : goal.returns-clause-apart
 returns-clause-apart g c =
-    if_some (g.S.Sources.texts c.args.images.now) (λ all. HasUnited c.args.seed c.args.lg_k all c.add_images.new.union) _
+    if_some (g.S.Sources.texts c.args.images.now) (λ all. HasRead c.args.seed c.args.lg_k all c.add_images.new.union.union c.add_images.new.union.waiting.items) _
     (λ all has key texts lines are same. united_apart c.one_reading.ensures c.read_again.ensures (hashing_of key c.args.seed) c.args.lg_k (size_small c.args.seed c.args.lg_k c.in_ok-union.ensures.refused) texts lines all c.in_ok-image.image.items same are (c.in_ok-image.ensures.image c.args.seed c.args.lg_k all has))
-    (c.in_ok-count.ensures.united c.args.lg_k [] (nothing_united c.args.seed c.args.lg_k c.in_ok-union.union c.in_ok-union.ensures.made))
+    (c.in_ok-count.ensures.united c.args.lg_k [] c.in_ok-union.ensures.united)
