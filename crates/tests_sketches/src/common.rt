@@ -22,6 +22,11 @@ pub fn numbers(alloc: Global, first: u64, last: u64) -> Result<Vec<u64>, AllocEr
     Ok(numbers)
 }
 
+/// A hash of 63 bits for a number, different for each up to 2^20.
+pub fn hash_of(number: u64) -> u64 {
+    number.wrapping_mul(11400714819323198485) >> 1
+}
+
 /// A sketch of 32 nominal entries, updated with the hashes from the first to the last.
 pub fn sketch_of(alloc: Global, seed: u64, first: u64, last: u64) -> Result<ThetaSketch, Error> {
     let builder = ThetaSketchBuilder::default().lg_k(5).seed(seed);

@@ -20,3 +20,5 @@ mod sketches;
 mod slots;
 #[cfg(test)]
 mod steps;
+#[cfg(test)]
+mod unions;

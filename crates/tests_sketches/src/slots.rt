@@ -1,6 +1,6 @@
 //! Slots: the resize factor of builders; and a large table against a sort.
 
-use crate::common::add;
+use crate::common::{add, hash_of};
 use sketch_base::Error;
 use std::alloc::{AllocError, Global};
 use std::process::Abort;
@@ -38,11 +38,6 @@ fn builders_pass_the_resize_factor(rt: HostRuntime) -> Result<(), Fail> {
         assert_eq!(rt; found, (wanted, wanted), "of {factor:?}");
     }
     Ok(())
-}
-
-/// A hash of 63 bits for a number, different for each up to 2^20.
-fn hash_of(number: u64) -> u64 {
-    number.wrapping_mul(11400714819323198485) >> 1
 }
 
 /// The hashes of the numbers from 1 to the last, ascending.

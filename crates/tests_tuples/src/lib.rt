@@ -20,3 +20,5 @@ mod policies;
 mod requests;
 #[cfg(test)]
 mod tables;
+#[cfg(test)]
+mod unions;
