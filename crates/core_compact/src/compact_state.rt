@@ -85,7 +85,7 @@ impl<E: SketchEntry, A: Allocator> CompactSketchState<E, A> {
         self.entries.allocator()
     }
 
-    /// How many entries it has room for: at least as many as it has.
+    /// For how many entries its memory has room: at least as many as it has.
     pub fn retained_entries_capacity(&self) -> usize
         ensures { length self.now.entries ≤ result }
     {
@@ -99,14 +99,14 @@ impl<E: SketchEntry, A: Allocator> CompactSketchState<E, A> {
         self.theta
     }
 
-    /// Whether no update was accepted.
+    /// Whether it is the state of an empty sketch: no update was accepted, or an operator returned an empty result.
     pub fn is_empty(&self) -> bool
         ensures { result ≡ self.now.empty }
     {
         self.empty
     }
 
-    /// Whether it is not empty and its theta is below the greatest.
+    /// Whether its estimate may be inexact: it is not empty, and its theta is below `MAX_THETA`.
     pub fn is_estimation_mode(&self) -> bool
         ensures { result ≡ (not self.now.empty && nat_lt self.now.theta MAX_THETA) }
     {

@@ -26,6 +26,6 @@ SpellsNumber n bytes x = (length bytes ≡ n) × (x ≡ number bytes)
 abbrev pub SpellsSigned : Width → (n : ℕ) → List ℕ → ℤ → Type 0
 SpellsSigned w n bytes x = (length bytes ≡ n) × (x ≡ cast_signed w (number bytes))
 
--- the entry that these bytes spell, if the bytes behind its hash are read so
+-- the entry that these bytes spell, if the bytes after its hash are read by `summary_of`
 abbrev pub tuple_in : {S : Type 0} → (List ℕ → S) → List ℕ → TupleEntry S
 tuple_in summary_of bytes = record { hash = from_le_bytes w64 (take 8 bytes); summary = summary_of (drop 8 bytes) }

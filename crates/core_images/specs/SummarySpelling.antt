@@ -80,7 +80,7 @@ module _ {S : Type 0} (Spells : List ℕ → S → Type 0) where
   tuple_long a x p = let e = ap length p.2 ∙ length-append p.0 p.1 in let eight = p.3.0 in omega arith
 
   module _ (n : ℕ) where
-    -- any bytes of this size spell the entry that is read of them, if those behind the hash spell its summary
+    -- any bytes of this size spell the entry that is read of them, if those after the hash spell its summary
     pub tuple_spelled : (summary_of : List ℕ → S) → ((a : List ℕ) → length a ≡ n → Spells a (summary_of a)) → (a : List ℕ) → length a ≡ 8 + n → SpellsTuple Spells a (tuple_in summary_of a)
     tuple_spelled summary_of any a e =
         let front : length (take 8 a) ≡ 8 = length-take-le 8 a (omega arith) in

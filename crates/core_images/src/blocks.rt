@@ -48,7 +48,7 @@ fn spell_block<E: FixedEntry<N>, const N: usize>(texts: &mut [[u8; N]; BLOCK], b
     ensures texts { take (length block.now) texts.new ≡ map E.text block.now }
     ensures values { AllByRecursion E.is_value block.now }
 {
-    // The lesser of two equal bounds: so neither access is tested again.
+    // Both bounds are the same: with the lesser of them the compiler tests neither access again.
     let count = block.len().min(BLOCK);
     'spell_each: for at in 0..count {
         texts[at] = block[at].to_text();
@@ -78,7 +78,7 @@ pub(crate) fn write_in_blocks<E: FixedEntry<N>, const N: usize, A: Allocator>(
     Ok(())
 }
 
-/// The texts of the first `count` entries. It refuses if the bytes have fewer.
+/// The texts of the first `count` entries. Refused with `InvalidData` only if the bytes have fewer.
 fn counted_texts<E: FixedEntry<N>, const N: usize>(
     bytes: &[u8],
     count: u32,
@@ -118,9 +118,10 @@ pub(crate) fn read_in_blocks<E: FixedEntry<N> + Drop, const N: usize, A: Allocat
     Ok(entries)
 }
 
-/// The last hash of the texts, and a test. If it is true, the hash of each text is above the one before it, and the first
-/// above `before`; it is false if one of them has 64 bits. Of two numbers of 63 bits the difference has the highest bit
-/// only if it is negative. So vector code subtracts, which takes fewer steps than a comparison.
+/// A quick test whether the hash of each text is above the one before it, and the first above `before`; and the last
+/// hash. If the test is false, the hashes may still ascend: it is false for every hash of 64 bits. The difference of
+/// two numbers of 63 bits has its highest bit set only if it is negative, so vector code subtracts, which takes fewer
+/// steps than a comparison.
 fn subtract_block<E: FixedEntry<N> + SketchEntry + Drop, const N: usize>(
     before: u64,
     block: &[[u8; N]],
@@ -164,8 +165,8 @@ fn compare_block<E: FixedEntry<N> + SketchEntry + Drop, const N: usize>(
     (ascends, last)
 }
 
-/// Reads the same, and returns whether the hashes ascend from above 0. It compares the hashes of a block just before it
-/// copies them, while they are in a near cache.
+/// Reads as `read_in_blocks` does, and returns whether the hashes ascend from above 0. It compares the hashes of a
+/// block just before it copies them, while they are in a near cache.
 pub(crate) fn read_and_compare_in_blocks<E, const N: usize, A>(
     alloc: A,
     bytes: &[u8],

@@ -23,16 +23,16 @@ pub trait ImageEntry<A: Allocator>: SketchEntry {
     /// The bytes written of an entry.
     ghost text: { Self → List ℕ };
 
-    /// Appends the bytes of each entry, in their order. It refuses with `OutOfMemory` alone; then the contents of
-    /// `bytes` are unspecified.
+    /// Appends the bytes of each entry, in their order. Refused with `OutOfMemory` alone; then the contents of `bytes`
+    /// are unspecified.
     fn write_each<B: Allocator>(entries: &[Self], bytes: &mut SketchBytes<B>) -> Result<(), Error>
         ensures ok { OnOk result (bytes.new.bytes ≡ bytes.old.bytes ++ flat_map text entries.now) }
         ensures values { OnOk result (AllByRecursion is_value entries.now) }
         ensures refused { Refuses result None true };
 
-    /// Reads `count` entries from the front of the bytes, in memory of the allocator. It refuses with `InvalidData`
-    /// only if the bytes don't begin with `count` entries, or with `OutOfMemory`. It allocates room for at most one
-    /// entry per eight bytes.
+    /// Reads `count` entries from the front of the bytes, in memory of the allocator. Refused with `InvalidData` only
+    /// if the bytes don't begin with `count` entries, and with `OutOfMemory`. It allocates room for at most one entry
+    /// per eight bytes.
     fn read_each(alloc: A, bytes: &[u8], count: u32) -> Result<Vec<Self, A>, Error>
     where
         Self: Drop,
@@ -41,7 +41,7 @@ pub trait ImageEntry<A: Allocator>: SketchEntry {
         ensures refused { IfErr result (λ e. IsRefused e ((xs : List Self) × Holds spells bytes.now count xs)) };
 
     /// Reads as `read_each` does, and returns beside the entries whether each hash is above the one before it, and the
-    /// first above 0. It refuses as `read_each` does. Entries of one size may be compared while they are in a near cache.
+    /// first above 0. Refused as `read_each` is. Entries of one size may be compared while they are in a near cache.
     fn read_and_compare(alloc: A, bytes: &[u8], count: u32) -> Result<(Vec<Self, A>, bool), Error>
     where
         Self: Drop,

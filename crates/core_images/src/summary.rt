@@ -30,7 +30,7 @@ pub trait TupleSummaryValue<A: Allocator> {
         ensures size { result ≡ length (text self.now) }
         ensures value { is_value self.now };
 
-    /// Appends its bytes, as many as its `serialize_size`. It refuses with `OutOfMemory` alone; then the contents of
+    /// Appends its bytes, as many as its `serialize_size`. Refused with `OutOfMemory` alone; then the contents of
     /// `bytes` are unspecified.
     fn serialize_value<B: Allocator>(&self, bytes: &mut SketchBytes<B>) -> Result<(), Error>
         ensures ok { OnOk result (bytes.new.bytes ≡ bytes.old.bytes ++ text self.now) }
@@ -38,7 +38,7 @@ pub trait TupleSummaryValue<A: Allocator> {
         ensures refused { Refuses result None true };
 
     /// Appends the bytes of each entry, in their order: those of its hash, and then those of its summary. A type whose
-    /// summaries have one size may write many at once; the bytes are the same. It refuses with `OutOfMemory` alone; then
+    /// summaries have one size may write many at once; the bytes are the same. Refused with `OutOfMemory` alone; then
     /// the contents of `bytes` are unspecified.
     fn serialize_entries<B: Allocator>(
         entries: &[TupleEntry<Self>],
@@ -55,13 +55,13 @@ pub trait TupleSummaryValue<A: Allocator> {
         Ok(())
     }
 
-    /// Reads the summary that a prefix of the bytes spells, and moves past that prefix. It refuses with `InvalidData`
-    /// only if no prefix spells one, or with `OutOfMemory`; afterwards the cursor is unspecified.
+    /// Reads the summary that a prefix of the bytes spells, and moves past that prefix. Refused with `InvalidData` only
+    /// if no prefix spells one, and with `OutOfMemory`; then how far the cursor has moved is unspecified.
     fn deserialize_value(alloc: &A, slice: &mut SketchSlice<'_>) -> Result<Self, Error>
         ensures { ReadsPrefix (λ x. λ rest. (first : List ℕ) × spells first x × (slice.old ≡ first ++ rest)) slice.new result };
 
-    /// Reads `count` entries from the front of the bytes, each the eight bytes of its hash and then a summary, in memory of
-    /// the allocator. It refuses with `InvalidData` only if the bytes don't begin with `count` entries, or with
+    /// Reads `count` entries from the front of the bytes, each the eight bytes of its hash and then a summary, in
+    /// memory of the allocator. Refused with `InvalidData` only if the bytes don't begin with `count` entries, and with
     /// `OutOfMemory`. It allocates room for at most one entry per eight bytes.
     fn deserialize_entries(
         alloc: A,

@@ -21,8 +21,8 @@ fn write_count<A: Allocator>(count: usize, bytes: &mut SketchBytes<A>) -> Result
 }
 
 /// Returns the image of a state, in memory of `alloc`: version 3 of this family, with `kind` in byte 3, where a family
-/// may store its kind of sketch. It refuses with `OutOfMemory` alone. If it does not refuse, every entry is a value, so
-/// that the image is read as the state.
+/// may store its kind of sketch. Refused with `OutOfMemory` alone. If it isn't refused, every entry is a value, so that
+/// the image is read as the state.
 pub fn write_image<E: ImageEntry<A>, A: Allocator + Drop, B: Allocator>(
     alloc: A,
     state: &CompactSketchState<E, B>,
@@ -37,7 +37,8 @@ pub fn write_image<E: ImageEntry<A>, A: Allocator + Drop, B: Allocator>(
     write_image_with_capacity(alloc, state, family, kind, capacity)
 }
 
-/// The same, but allocates `capacity` bytes at first: a caller who knows the size of the image avoids growing.
+/// As `write_image`, but begins with memory for `capacity` bytes: a caller that knows the size of the image avoids
+/// growing.
 pub fn write_image_with_capacity<E: ImageEntry<A>, A: Allocator + Drop, B: Allocator>(
     alloc: A,
     state: &CompactSketchState<E, B>,

@@ -4,7 +4,7 @@ use Rattle.std.specs.List.{AllByRecursion}
 use Rattle.std.specs.Int.{bit_at}
 use Rattle.core_laws.specs.Maps.{below, map_of}
 
--- whether a bit of words of 64 bits is set; no bit behind them is
+-- whether a bit of words of 64 bits is set; no bit after them is
 abbrev pub is_set : (words : List ℕ) → (place : ℕ) → Bool
 is_set words place = bit_at (get_or words (place / 64) 0) (place % 64) == 1
 

@@ -69,8 +69,8 @@ content_of (Some (NonEmpty v)) = v
 abbrev pub seed_refusal : (seed : ℕ) → Option ErrorKind
 seed_refusal seed = if seed_hash seed == 0 then Some InvalidArgument else None
 
--- the error of an update before any entry is read: once Empty every input is accepted, an empty input is not checked,
--- another seed is refused
+-- the error of an update before any entry is read: once the intersection is Empty, every input is accepted; an empty
+-- input is not checked; any other of another seed is refused
 abbrev pub intersect_refusal : {X P : Type 0} → Intersection X P → Shown → Option ErrorKind
 intersect_refusal i s = if is_settled i.result || s.empty then None else if i.seed_hash == s.seed_hash then None else Some InvalidArgument
 

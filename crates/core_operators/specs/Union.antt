@@ -52,8 +52,8 @@ pub record IsUnionBelow {X P : Type 0} (table_theta : ℕ) (u : Union X P) : Typ
   pub theta_low : 0 < u.content.theta
   pub theta_within : u.content.theta ≤ table_theta
 
--- the error of an update before anything is merged: a failed union refuses every input, an empty input is not checked,
--- another seed is refused
+-- the error of an update before anything is merged: a failed union refuses every input; an empty input is not checked;
+-- any other of another seed is refused
 abbrev pub update_refusal : {X P : Type 0} → Union X P → Shown → Option ErrorKind
 update_refusal u s = if u.failed then Some Failed else if s.empty then None else if u.seed_hash == s.seed_hash then None else Some InvalidArgument
 
@@ -102,7 +102,8 @@ pub record IsMergeRefused {X : Type 0} (key : X → ℕ) (refuses : X → X → 
   pub comes : entry_at key arriving at ≡ Some new_entry
   pub refused : refuses held_entry new_entry ≡ true
 
--- an error of merges: memory ran out, or the policy refuses a held entry below a theta with an input's entry at its key
+-- an error of merges: memory ran out, or the policy refuses to merge a retained entry below a theta with an input's
+-- entry of its key
 abbrev pub IsMergeRefusal : {X : Type 0} → (key : X → ℕ) → (refuses : X → X → Bool) → (content : List X) → (theta : ℕ) → (entries : List X) → ErrorKind → Type 0
 IsMergeRefusal key refuses content theta entries kind = (kind ≡ OutOfMemory) ⊎ ((kind ≡ Policy) × IsMergeRefused key refuses (below key content theta) entries)
 

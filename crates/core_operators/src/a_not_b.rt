@@ -27,9 +27,10 @@ use std::alloc::{AllocError, Allocator};
 /// lesser theta is `MAX_THETA`, the result is empty. The result is ordered if `ordered` is true or `a` is ordered, if
 /// it is empty, or if it has one entry at the greatest theta.
 ///
-/// An input that isn't known to be ordered is copied and sorted. If `b` is one and has 1024 hashes or more, most of its
-/// hashes that `a` lacks are dropped before that sort, by a test of one bit for each. Then both are read side by side:
-/// whatever the hashes are, this compares at most as many pairs of hashes as both have.
+/// An input that isn't known to be ordered is copied and sorted. If `b` is such an input, with 1024 hashes or more and
+/// at least about half as many as `a`, most of its hashes that `a` lacks are dropped before the sort, by a test of one
+/// bit each. Then both are read side by side: whatever the hashes are, this compares at most as many pairs of hashes as
+/// both have.
 ///
 /// Refused with `InvalidArgument` if `a` isn't empty and it, or a `b` that isn't empty, has another seed hash than
 /// `seed_hash`, and with `OutOfMemory`. The inputs don't change.
@@ -217,7 +218,7 @@ where
 /// ordered, it is sorted, and hashes that the entries surely lack are dropped before.
 ///
 /// Counts each comparison of two hashes in `compared`, but those of the sort: at most as many as there are entries and
-/// hashes. The test of a bit is no such comparison.
+/// hashes. Tests of a filter's bits don't count.
 fn lacking_hashes<E: SlotEntry + Clone, T: KeySketch, F: SketchEntry, A: Allocator + Clone>(
     alloc: A,
     entries: &[E],

@@ -71,9 +71,9 @@ where
     Ok(sorted_by_hash(entries))
 }
 
-/// Writes the entries that a filter admits of those that an iterator has left behind the first `count` of `found`, in
+/// Takes the next entries of an iterator, and writes those that a filter admits to `found` after its first `count`, in
 /// their order, until `found` is full or no entry is left. Returns how many `found` has then. Which hashes are admitted
-/// is as good as random, so there is no branch on it.
+/// is as good as random, so the loop has no branch on it.
 #[inline(always)]
 fn gather<'a, E: SlotEntry, A: Allocator>(
     items: &mut EntryIter<'a, E>,
@@ -215,8 +215,9 @@ fn push_hashes<A: Allocator>(
     Ok(())
 }
 
-/// Writes a hash behind the first `count` of `found`, and returns their number: with this hash if it is admitted. If
-/// `found` is full then, all are appended to `keys`, and the number is 0. There is no branch on whether it is admitted.
+/// Writes a hash to `found` after its first `count`, and returns their number, which counts this hash only if it is
+/// admitted. If `found` is full then, all are appended to `keys`, and the number is 0. There is no branch on whether it
+/// is admitted.
 #[inline(always)]
 fn put_hash<A: Allocator>(
     keys: &mut Vec<ThetaEntry, A>,

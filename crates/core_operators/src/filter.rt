@@ -7,25 +7,26 @@ use core_laws::SketchEntry;
 use sketch_base::Error;
 use std::alloc::Allocator;
 
-/// How many ranges of hashes a filter has at least for each entry, and half of how many it has at most.
+/// A filter has about 8 to 16 ranges of hashes per entry: this is the least.
 const RANGES: u64 = 8;
 
-/// From this number of hashes on, a filter is quicker than to sort them all.
+/// From this number of hashes on, dropping some by a filter is quicker than sorting them all.
 const MANY: usize = 1024;
 
-/// How many times as many hashes a filter may be made of as it is then used for.
+/// A filter is made only of a list that has at most about this many times as many entries as there are hashes to sort.
 const MUCH_LONGER: usize = 2;
 
 /// A bit for each of equal ranges of hashes. If it isn't set, a list has no hash in this range.
 #[derive(Drop)]
 pub(crate) struct HashFilter<A: Allocator> {
-    /// The bits, from the lowest of the first word on. All bits behind them are 0.
+    /// The bits, from the lowest of the first word on. All bits after them are 0.
     words: Vec<u64, A>,
     /// A range has 2^shift hashes, so the bit of a hash is its leading bits.
     shift: u32,
 }
 
-/// Whether a filter of a list of `other_count` entries makes it quicker to sort `count` hashes.
+/// Whether it pays to drop some of `count` hashes, by a filter of a list of `other_count` entries, before they are
+/// sorted.
 pub(crate) fn is_filtered(count: usize, other_count: usize) -> bool {
     count >= MANY && other_count / MUCH_LONGER <= count
 }

@@ -61,10 +61,10 @@ impl Outcome {
 /// policy combines the entries of a hash, in the order of the calls. The value is Empty once an input is, or once
 /// inputs that have hashes share none while theta is still the greatest. A refused update changes nothing.
 ///
-/// It keeps its entries in ascending order. An update reads them and its input side by side: whatever the hashes are, it
-/// compares at most as many pairs of hashes as both have (`shared_with`), besides the sort of an input that isn't known
-/// to be ordered. Of an input with 1024 hashes or more, most hashes that the intersection lacks are dropped before that
-/// sort, by a test of one bit for each.
+/// It keeps its entries in ascending order. An update reads them and its input side by side: whatever the hashes are,
+/// it compares at most as many pairs of hashes as both have (`shared_with`), besides the sort of an input that isn't
+/// known to be ordered. If that input has 1024 hashes or more, and at least about half as many as the intersection,
+/// most of its hashes that the intersection lacks are dropped before the sort, by a test of one bit each.
 #[derive(Drop)]
 pub struct IntersectionState<E: SlotEntry, P, A: Allocator = Global> {
     outcome: Outcome,

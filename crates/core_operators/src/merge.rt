@@ -67,8 +67,8 @@ fn next_entry<'a, E: SlotEntry>(
     entries.next()
 }
 
-/// Whether a hash is not below one of two thetas. Each is compared by itself: the second is the table's, which an
-/// insertion compares next, so that its result is known.
+/// Whether a hash is not below one of two thetas. The thetas are compared one by one: the second is the table's, and an
+/// insertion that compares it again then reuses the result.
 #[inline(always)]
 fn is_past_either(hash: u64, theta: u64, own_theta: u64) -> bool
     ensures { IsTrue result ↔ (min theta own_theta ≤ hash) }
@@ -77,8 +77,8 @@ fn is_past_either(hash: u64, theta: u64, own_theta: u64) -> bool
 }
 
 /// Merges ascending entries into the table of a union, in their order. It stops at the first that is not below theta or
-/// that the table screens; the policy never sees those. Each entry takes few instructions here: a loop that also walks
-/// over slots, or tests the order, takes twice as many.
+/// that the table screens; the policy never sees those. It is a loop of its own because each entry then takes half as
+/// many instructions as in a loop that also walks over slots or tests the order.
 #[inline(never)]
 fn merge_ascending<E: SlotEntry + Clone, P: UnionMergePolicy<E>, A: Allocator + Clone>(
     table: &mut SketchHashTable<E, A>,

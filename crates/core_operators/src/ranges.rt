@@ -89,7 +89,7 @@ fn expected_below<S: EntrySketch, A: Allocator>(
     expected
 }
 
-/// A bound, from 1 to theta, below which `wanted` hashes are expected, if `count` of them are below `bound`.
+/// A bound, from 1 to theta, below which `wanted` hashes are expected, if `count` hashes are below `bound`.
 fn bound_of(wanted: u64, count: u64, bound: u64, theta: u64) -> u64
     requires low { 0 < theta }
     ensures low { 0 < result }
@@ -100,8 +100,8 @@ fn bound_of(wanted: u64, count: u64, bound: u64, theta: u64) -> u64
         .clamp(1, theta)
 }
 
-/// The bound of the range after one that ended at `from`, if `count` entries are below that. The range is at least as
-/// long as `steps` halves of `from`, so that there are few ranges, however the hashes are spread.
+/// The end of the range of hashes that begins at `from`, if `count` entries are below `from`. The range is at least
+/// `steps` times `from` / 2 long, so that there are few ranges, however the hashes are spread.
 fn next_bound(wanted: u64, count: u64, from: u64, theta: u64, steps: u64) -> u64
     requires low { 0 < from }
     requires high { from ≤ theta }

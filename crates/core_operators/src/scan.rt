@@ -36,7 +36,8 @@ pub(crate) fn number_if(so: bool) -> usize
 
 /// Writes the entries below theta whose hashes `others` lacks to the front of `kept`, in their order, until `kept` is
 /// full or one of the lists ends or theta is reached. Both lists ascend. Which of two hashes is less is as good as
-/// random, so there is no branch on it. Counts each comparison of two hashes in `compared`: it skips one entry or two.
+/// random, so the loop has no branch on it. Counts each comparison of two hashes in `compared`; a comparison moves past
+/// one entry or two.
 #[inline(always)]
 fn sift<'a, 'b, E: SketchEntry, F: SketchEntry>(
     entries: &'a [E],
@@ -125,9 +126,9 @@ fn push_below<E: SketchEntry + Clone + Drop, A: Allocator>(
     Ok(())
 }
 
-/// Appends clones of the entries below theta whose hashes `others` lacks, by looking up each entry among them by halves.
-/// Both lists ascend. Counts each comparison of two hashes in `compared`: at most k for each entry, if there are fewer
-/// than 2^k others.
+/// Appends clones of the entries below theta whose hashes `others` lacks, by a binary search for each entry. Both lists
+/// ascend. Counts each comparison of two hashes in `compared`: at most k for each entry, if there are fewer than 2^k
+/// others.
 fn push_lacking<E: SketchEntry + Clone + Drop, F: SketchEntry, A: Allocator>(
     kept: &mut Vec<E, A>,
     entries: &[E],

@@ -1,4 +1,4 @@
-//! A search by halves, for a short list beside a much longer one.
+//! Binary search, for a short list beside a much longer one.
 ghost use Rattle.std.specs.Prelude.{◌≡◌, ℕ, ◌+◌, ◌*◌, ◌/◌, ◌<◌, ◌≤◌, ◌^◌, nat_lt, length, IfSome};
 ghost use Rattle.std.specs.Option.{option_copied};
 ghost use Rattle.core_laws.specs.Maps.{IsAscending, entry_at};
@@ -7,7 +7,7 @@ ghost use Rattle.core_operators.specs.Search.{is_much_longer};
 use core_laws::SketchEntry;
 use core_slots::Count;
 
-/// How many times as long a list has to be so that it is searched, and not read.
+/// A list is searched, and not read from end to end, if it has more than this many times as many entries as the other.
 const MUCH_LONGER: usize = 128;
 
 /// Whether the entries of a list of `count` entries are looked up in another of `other_count`: it has more than 128
@@ -19,7 +19,7 @@ pub(crate) fn is_much_longer(other_count: usize, count: usize) -> bool
     other_count / MUCH_LONGER > count
 }
 
-/// The entry of a hash in an ascending list, if there is one, by halves.
+/// The entry of a hash in an ascending list, if there is one, by binary search.
 ///
 /// Counts each comparison of two hashes in `compared`: at most k if the list has fewer than 2^k entries.
 pub(crate) fn found_by_halves<'a, E: SketchEntry>(

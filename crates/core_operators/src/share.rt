@@ -140,8 +140,9 @@ fn shared_in_pass<E: SketchEntry + Clone + Drop, P: IntersectionMergePolicy<E>, 
     Ok(entries)
 }
 
-/// The entries that two ascending lists share below theta, by looking up each entry of `short` in `long` by halves. The
-/// entries of `short` arrive if `arrives` is true; otherwise those of `long` do. The rest is as in `shared_in_pass`.
+/// The entries that two ascending lists share below theta, by a binary search in `long` for each entry of `short`. If
+/// `arrives` is true, the entries of `short` are the incoming ones; otherwise those of `long` are. The policy and the
+/// refusals are as in `shared_in_pass`.
 ///
 /// Counts each comparison of two hashes in `compared`: at most k for each entry of `short`, if `long` has fewer than 2^k.
 fn shared_by_halves<E: SketchEntry + Clone + Drop, P: IntersectionMergePolicy<E>, A: Allocator>(
@@ -218,8 +219,8 @@ fn shared_entries<E: SketchEntry + Clone + Drop, P: IntersectionMergePolicy<E>, 
 /// sketch isn't known to be ordered, clones of its entries below theta are sorted first, but for entries whose hashes the
 /// list surely lacks. It has `count` entries.
 ///
-/// Counts each comparison of two hashes in `compared`, but those of the sort: at least one for each shared entry, and at
-/// most as many as both have entries. The test of a bit is no such comparison.
+/// Counts each comparison of two hashes in `compared`, but those of the sort: at least one for each shared entry, and
+/// at most as many as both have entries. Tests of a filter's bits don't count.
 pub(crate) fn shared_with<
     S: EntrySketch,
     P: IntersectionMergePolicy<S::Entry>,

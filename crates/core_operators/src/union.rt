@@ -23,9 +23,10 @@ use std::marker::Model;
 
 /// A union of sketches, passed one by one or many in a call.
 ///
-/// Its value is the joined map of its inputs below their least theta and its own starting theta, cut to its nominal
-/// entries k; the policy combines the entries of a key that inputs share, in the order of the inputs. If a merge breaks
-/// off, the union has failed: until it is reset, each of its calls that may fail is refused with `Failed`.
+/// Its value has the entries of all its inputs below their least theta and its own starting theta, cut to its k nominal
+/// entries of least hash; the policy combines the entries of a key that inputs share, in the order of the inputs. If a
+/// merge breaks off, the union has failed: until it is reset, `update`, `update_all`, `lower_lg_k` and
+/// `to_compact_sketch_state` are refused with `Failed`.
 ///
 /// Its theta is at most its table's. Entries of the table at or above the union's theta no longer belong to the union.
 #[derive(Drop)]
@@ -145,13 +146,13 @@ impl<E: SlotEntry + Clone, P: UnionMergePolicy<E> + Drop, A: Allocator + Clone> 
     }
 
     /// Merges sketches into the union, with the value of one `update` after another, in their order, if these succeed.
-    /// Empty sketches change nothing, and their seeds are not checked. Of ordered sketches only the least hashes are
-    /// read, as far as it seems that the value needs them.
+    /// Empty sketches change nothing, and their seeds are not checked. If all sketches that aren't empty are ordered,
+    /// each is read only as far as the value needs its hashes.
     ///
     /// Refused with `Failed` if the union has failed, whatever the inputs, and with `InvalidArgument` if one of the
     /// sketches that aren't empty has another seed; then nothing has changed. Refused with `OutOfMemory`, or with
     /// `Policy` if the policy refuses the entries of a key below the thetas of the union and of all sketches; then the
-    /// union has failed. Whether the policy is asked at a key from the theta of the result on is unspecified.
+    /// union has failed. Whether the policy is called for a key at or above the theta of the result is unspecified.
     pub fn update_all<S: EntrySketch<Entry = E>>(&mut self, sketches: &[S]) -> Result<(), Error>
         requires clones_equal { ClonesEqual E.is_clone }
         ensures skipped { OnOk result (all_empty S.shown sketches.now ≡ true → self.new ≡ self.old) }

@@ -14,11 +14,11 @@ pub trait SummaryPolicy {
     /// The summary that it creates; none if it refuses.
     ghost creates: { Self → Option Self.Summary };
 
-    /// Whether creating a summary, or updating one with a value, may take memory.
+    /// Whether creating a summary, or updating one with a value, may allocate.
     ghost takes_memory: { Self → Bool };
 
     /// The summary of a key that has no value yet. Refused with `Policy` if `creates` is none, and with `OutOfMemory`
-    /// only if it may take memory.
+    /// only if it may allocate (`takes_memory`).
     fn create(&self) -> Result<Self::Summary, Error>
         ensures created { IfOk result (λ summary. creates self.now ≡ Some summary) }
         ensures refused { Refuses result (policy_refusal (is_none (creates self.now))) (takes_memory self.now) };
@@ -30,7 +30,7 @@ pub trait SummaryUpdatePolicy<U>: SummaryPolicy {
     ghost updates: { Self → Self.Summary → U → Option Self.Summary };
 
     /// Updates a summary with a value. Refused with `Policy` if `updates` is none, and with `OutOfMemory` only if it
-    /// may take memory; then the summary is unchanged.
+    /// may allocate (`takes_memory`); then the summary is unchanged.
     fn update(&self, summary: &mut Self::Summary, value: U) -> Result<(), Error>
         ensures updated { MatchResult result (λ _. updates self.now summary.old value ≡ Some summary.new) (λ _. summary.new ≡ summary.old) }
         ensures refused { Refuses result (policy_refusal (is_none (updates self.now summary.old value))) (Self.takes_memory self.now) };

@@ -28,7 +28,7 @@ sketch_value s = if s.empty then Empty else NonEmpty s.map.kept
 abbrev pub sketch_shows : {X : Type 0} → (X → ℕ) → Updatable X → Shown
 sketch_shows key s = record { empty = s.empty; theta = theta_of (sketch_value s); seed_hash = s.map.seed_hash; ordered = false; hashes = map key s.sequence }
 
--- memory was refused at a hash that makes an entry, and updates with hashes stopped there: the sketch has accepted exactly
+-- updates with hashes stopped at one that makes an entry, because memory was refused: the sketch has accepted exactly
 -- the hashes before it
 abbrev pub StopsUpdates : (hashes : List ℕ) → (old new : Updatable ℕ) → Type 0
 StopsUpdates hashes old new =

@@ -41,7 +41,7 @@ impl Default for Settings {
 }
 
 impl Settings {
-    /// Sets 2^`lg_k` nominal entries. A sketch or a union takes `lg_k` from 4 to 26.
+    /// Sets 2^`lg_k` nominal entries. Building refuses an `lg_k` that isn't from 4 to 26.
     pub fn with_lg_k(mut self, lg_k: u8) -> Self
         ensures { result ≡ record self { lg_k = lg_k } }
     {
@@ -49,7 +49,7 @@ impl Settings {
         self
     }
 
-    /// Sets the resize factor: by how much a table grows. It changes no value.
+    /// Sets the resize factor: by how much the number of slots grows. No value depends on it.
     pub fn with_resize_factor(mut self, resize_factor: ResizeFactor) -> Self
         ensures { result ≡ record self { resize_factor = resize_factor } }
     {
@@ -57,7 +57,7 @@ impl Settings {
         self
     }
 
-    /// Sets the starting theta. A sketch or a union takes one from 1 to `MAX_THETA`.
+    /// Sets the starting theta. Building refuses one that isn't from 1 to `MAX_THETA`.
     pub fn with_starting_theta(mut self, starting_theta: u64) -> Self
         ensures { result ≡ record self { starting_theta = starting_theta } }
     {
@@ -65,7 +65,7 @@ impl Settings {
         self
     }
 
-    /// Sets the seed. A sketch or a union takes none whose seed hash is 0.
+    /// Sets the seed. Building refuses one whose seed hash is 0.
     pub fn with_seed(mut self, seed: u64) -> Self
         ensures { result ≡ record self { seed = seed } }
     {
@@ -73,7 +73,7 @@ impl Settings {
         self
     }
 
-    /// The binary logarithm of the nominal entries.
+    /// The binary logarithm of the nominal entries as it was set, which may be out of range.
     pub fn lg_k(&self) -> u8
         ensures { result ≡ self.now.lg_k }
     {
@@ -87,7 +87,7 @@ impl Settings {
         self.resize_factor
     }
 
-    /// The theta of an empty table, of 63 bits.
+    /// The starting theta as it was set, which may be out of range.
     pub fn starting_theta(&self) -> u64
         ensures { result ≡ self.now.starting_theta }
     {

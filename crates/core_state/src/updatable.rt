@@ -72,7 +72,7 @@ impl<E: SlotEntry, A: Allocator> UpdatableState<E, A> {
         self.empty
     }
 
-    /// Whether it is not empty and its theta is below the greatest.
+    /// Whether its estimate may be inexact: it is not empty, and its theta is below `MAX_THETA`.
     pub fn is_estimation_mode(&self) -> bool
         ensures { result ≡ (not self.now.empty && nat_lt self.now.map.kept.theta MAX_THETA) }
     {
@@ -135,7 +135,7 @@ impl<E: SlotEntry, A: Allocator> UpdatableState<E, A> {
         self.table.seed_hash()
     }
 
-    /// The hash of a value under its seed.
+    /// The hash of a value under its seed, of 63 bits.
     pub fn hash<T: Hash + Drop>(&self, value: T) -> u64
         ensures { result ≡ hash_of self.now.map.seed (concat (T.hash_input value)) }
     {
@@ -265,7 +265,7 @@ impl<A: Allocator + Clone> UpdatableState<ThetaEntry, A> {
         let Some((first, others)) = hashes.split_first() else {
             return Ok(());
         };
-        // The first goes alone: from it on the state is nonempty, even if a later one is refused.
+        // The first is inserted alone: after it the state is nonempty, even if a later one is refused.
         self.insert_hash(*first)?;
         self.table.insert_hashes(others)
     }

@@ -86,7 +86,7 @@ after_hash hash t = after_insertion hash_key hash (hash_step hash) t
 abbrev pub creates_hash : (hash : ℕ) → Retained ℕ → Bool
 creates_hash hash v = creates hash_key hash (hash_step hash) v
 
--- whether inserting a hash may take memory
+-- whether inserting a hash may allocate
 abbrev pub hash_allocates : (hash : ℕ) → Retained ℕ → Bool
 hash_allocates hash v = upsert_allocates hash_key hash (hash_step hash) v
 
@@ -110,7 +110,8 @@ cut_table key lg_nom theta t = record t { kept = cut key (2 ^ lg_nom) t.kept.ent
 abbrev pub after_hashes : List ℕ → MapTable ℕ → MapTable ℕ
 after_hashes hashes t = record t { kept = after_upserts hash_key (2 ^ t.lg_nom) hash_step hashes t.kept }
 
--- memory was refused at a hash that makes an entry, and exactly the hashes before it are inserted
+-- an insertion of hashes stopped at one that makes an entry, because memory was refused: exactly the hashes before it
+-- are inserted
 abbrev pub StopsAtMemory : (hashes : List ℕ) → (old new : MapTable ℕ) → Type 0
 StopsAtMemory hashes old new = StopsAt hashes (λ front hash. (new ≡ after_hashes front old) × IsTrue (hash_allocates hash new.kept))
 
@@ -238,7 +239,7 @@ IsUncountedIfScreened hash old new = is_screened hash old.map.kept.theta ≡ tru
 abbrev pub IsBelowThreshold : {X : Type 0} → Table X → Type 0
 IsBelowThreshold t = length t.map.kept.entries < threshold t.layout.lg_cur t.map.lg_nom
 
--- below the threshold an insertion refuses what its step refuses, and memory only if the step may take some
+-- below the threshold an insertion is refused only as its step is: for memory only if the step may allocate
 abbrev pub RefusesBelowThreshold : {T X : Type 0} → Result T ErrorKind → (key : X → ℕ) → ℕ → Step X → Table X → Type 0
 RefusesBelowThreshold r key hash step t = IsBelowThreshold t → RefusesAsStep r key hash step t.map.kept
 

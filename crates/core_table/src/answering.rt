@@ -74,8 +74,8 @@ pub(crate) fn state_below<E: SlotEntry + Clone, A: Allocator>(
     Ok(CompactSketchState::non_empty(entries, theta, seed_hash, false))
 }
 
-/// The theta of the entries below `theta`, cut to k: the same theta, or the (k+1)th smallest hash if that is less. It
-/// is only a hint that the entries are spread evenly below `own_theta`.
+/// The theta of the entries below `theta`, cut to k: the same theta, or the (k+1)th smallest hash if that is less. The
+/// search expects the entries to be spread evenly below `own_theta`, which affects only its time.
 pub(crate) fn cut_theta<E: SlotEntry, A: Allocator + Drop>(
     alloc: A,
     slots: &[E::Slot],

@@ -6,7 +6,7 @@ ghost use Rattle.core_slots.specs.SlotLayout.{entries_in};
 use core_slots::{SlotEntry, free_slots};
 use std::alloc::{AllocError, Allocator};
 
-/// Keeps `size` slots and makes all of them free. It takes no memory.
+/// Keeps `size` slots and makes all of them free. It allocates nothing.
 pub(crate) fn clear_slots<E: SlotEntry, A: Allocator>(slots: &mut Vec<E::Slot, A>, size: usize)
     requires { size ≤ length slots.old.items }
     ensures size { length slots.new.items ≡ size }

@@ -38,11 +38,11 @@ use std::marker::{Model, PhantomData};
 
 /// The entries of a sketch below its theta. Contracts see them as a map, ascending by hash, and the theta.
 ///
-/// With k the nominal entries, 2 to the power of its nominal logarithm and at least 8, an insertion that brings the
-/// retained entries above 15k/8 lowers theta to the (k+1)th smallest hash, and exactly the k entries below it stay.
+/// Let k be its nominal entries, a power of 2. If k is at least 8, an insertion that brings the retained entries above
+/// 15k/8 lowers theta to the (k+1)th smallest hash, and exactly the k entries below it stay.
 ///
-/// It stores its entries by open addressing in at most 2k slots. Only contracts see the counts of its work; for many
-/// hashes at once (`insert_hashes`) they say only that the count of looks doesn't decrease.
+/// It stores its entries by open addressing in at most 2k slots. Only contracts see the counts of its work; those of
+/// `insert_hashes` say only that the count of looks doesn't decrease.
 #[derive(Drop)]
 pub struct SketchHashTable<E: SlotEntry, A: Allocator = Global> {
     lg_cur_size: u8,
@@ -224,7 +224,7 @@ impl<E: SlotEntry, A: Allocator> SketchHashTable<E, A> {
         self.threshold
     }
 
-    /// How many entries it retains.
+    /// How many entries it retains; each of their hashes is below its theta.
     pub fn num_retained(&self) -> usize
         ensures { result ≡ length self.now.map.kept.entries }
     {
@@ -308,12 +308,12 @@ impl<E: SlotEntry, A: Allocator> SketchHashTable<E, A> {
         hasher.finish() >> 1
     }
 
-    /// The allocator that it keeps.
+    /// The allocator of its slots.
     pub fn allocator(&self) -> &A {
         self.slots.allocator()
     }
 
-    /// The size of its slots in bytes.
+    /// Bytes taken by its slots, including free ones.
     pub fn estimated_size(&self) -> usize {
         size_of_val(self.slots.as_slice())
     }
@@ -331,8 +331,8 @@ impl<E: SlotEntry, A: Allocator> SketchHashTable<E, A> {
 }
 
 impl<E: SlotEntry, A: Allocator> SketchHashTable<E, A> {
-    /// Removes all entries and restores the starting theta and the starting size. It takes no memory. The table must be
-    /// one of a sketch, whose nominal logarithm is at least 4.
+    /// Removes all entries and restores the starting theta and the starting number of slots. It allocates nothing. The
+    /// table must be one of a sketch, whose nominal logarithm is at least 4.
     pub fn reset(&mut self)
         requires of_sketch { MIN_LG_K ≤ self.old.map.lg_nom }
         ensures after { self.new.map ≡ after_reset self.old.map }
@@ -349,7 +349,7 @@ impl<E: SlotEntry, A: Allocator> SketchHashTable<E, A> {
         self.counts = nothing();
     }
 
-    /// Removes all entries, and keeps its theta and its size. It takes no memory.
+    /// Removes all entries, and keeps its theta and its slots. It allocates nothing.
     pub fn clear(&mut self)
         ensures after { self.new.map ≡ record self.old.map { kept = none_below self.old.map.kept.theta } }
         ensures size { length self.new.layout.slots ≡ length self.old.layout.slots }
@@ -369,7 +369,7 @@ impl<E: SlotEntry + Drop, A: Allocator + Clone> SketchHashTable<E, A> {
     /// other hash must be retained already, or there must be room for one more entry. Refused with the step's error, or
     /// with `OutOfMemory`; then nothing has changed.
     ///
-    /// Below `capacity_threshold` an insertion is refused memory only if its step may take some.
+    /// Below `capacity_threshold` an insertion is refused memory only if its step may allocate.
     #[inline(always)]
     pub fn upsert_entry<S: UpsertStep<E> + Drop>(
         &mut self,
@@ -430,7 +430,8 @@ impl<E: SlotEntry + Drop, A: Allocator + Clone> SketchHashTable<E, A> {
         }
     }
 
-    /// If more than k entries are retained, lowers theta to the (k+1)th smallest hash and keeps the k below it.
+    /// If more than the k nominal entries are retained, lowers theta to the (k+1)th smallest hash and keeps the k
+    /// entries below it.
     ///
     /// Refused with `OutOfMemory` alone, and only if more than k are retained; then nothing has changed.
     pub fn trim(&mut self) -> Result<(), Error>
@@ -491,8 +492,9 @@ impl<E: SlotEntry + Clone, A: Allocator + Clone> SketchHashTable<E, A> {
         Ok(state)
     }
 
-    /// The retained entries below `theta`, which is at most its own, cut to k, as the state of a sketch that is not
-    /// empty. The table is unchanged.
+    /// The retained entries below `theta`, from 1 to the table's theta, cut to its nominal entries, as the state of a
+    /// sketch that is not empty. It is ordered if `ordered`, or if it has one entry and the greatest theta. The table
+    /// is unchanged. Its memory is from clones of the table's allocator. Refused with `OutOfMemory` alone.
     pub fn to_cut_state(&self, theta: u64, ordered: bool) -> Result<CompactSketchState<E, A>, Error>
         requires clones_equal { ClonesEqual E.is_clone }
         requires small { self.now.map.lg_nom ≤ MAX_LG_K }

@@ -135,7 +135,7 @@ pub(crate) fn put_entry<E: SlotEntry + Drop, A: Allocator + Clone>(
 }
 
 /// Puts an entry into slots that may have no more of them: they grow or are rebuilt. It is inlined into the branch that
-/// has checked this, so that the sizes are written to memory only there.
+/// has checked this, so that only that branch writes the sizes to memory.
 #[inline(always)]
 fn overflow<E: SlotEntry + Drop, A: Allocator + Clone>(
     slots: &mut Vec<E::Slot, A>,
@@ -315,8 +315,8 @@ pub(crate) fn write_at<E: SlotEntry + Drop, S: UpsertStep<E> + Drop>(
     }
 }
 
-/// Keeps the k entries of least hash out of `count`, which is more than k. Returns the theta above them. It is only a
-/// hint that the entries are spread evenly below `old_theta`.
+/// Keeps the k entries of least hash out of `count`, which is more than k. Returns the theta above them. The search
+/// expects the entries to be spread evenly below `old_theta`, which affects only its time.
 pub(crate) fn cut_slots<E: SlotEntry + Drop, A: Allocator + Clone>(
     slots: &mut Vec<E::Slot, A>,
     lg: u8,

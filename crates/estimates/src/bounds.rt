@@ -15,7 +15,7 @@ pub enum Deviations {
 }
 
 impl Deviations {
-    /// 1, 2 or 3.
+    /// The number of standard deviations: 1, 2 or 3.
     fn count(self) -> u128
         ensures { result ≡ deviation_count self }
     {

@@ -11,7 +11,8 @@ pub fn root_is_least()
     ensures least { (n m : ℕ) → n ≤ m * m → ceil_sqrt n ≤ m }
 {}
 
-/// Each near count that is at least the number of retained entries is within the bounds.
+/// Each count that is near, and at least the number of retained entries, is within the bounds. A count is near
+/// (`IsNear`) if the number of retained entries is within z standard deviations of the number that is expected for it.
 pub fn near_is_within()
     ensures lower { (z r t n : ℕ) → 0 < t → r ≤ n → IsNear z r t n → (count_bounds z r t).lower ≤ n }
     ensures upper { (z r t n : ℕ) → 0 < t → IsNear z r t n → n ≤ (count_bounds z r t).upper }
@@ -22,8 +23,9 @@ pub fn near_for_more()
     ensures { (z more r t n : ℕ) → z ≤ more → IsNear z r t n → IsNear more r t n }
 {}
 
-/// The bounds are no wider than their rounding makes them: a count that is at least two inside of both is near. The premise,
-/// a theta of at least half the sum of the roots, holds for estimates up to 8 * 10^9 from 16 entries, and 10^11 from 4096.
+/// Rounding widens the bounds by less than two on either side: a count that is at least two inside both is near. The
+/// premise, a theta of at least half the sum of the roots, holds for estimates up to 8 * 10^9 from 16 entries, and up
+/// to 10^11 from 4096.
 pub fn inside_is_near()
     ensures { (z r t n : ℕ) → 0 < t → root_sum z r t ≤ 2 * t → (count_bounds z r t).lower + 2 ≤ n → n + 2 ≤ (count_bounds z r t).upper → IsNear z r t n }
 {}
@@ -36,7 +38,7 @@ pub fn estimate_is_within()
     ensures to_upper_rounded { (z r t : ℕ) → 0 < t → nearest (r * MAX_THETA) t ≤ (count_bounds z r t).upper }
 {}
 
-/// The retained entries are counted: the lower bound is at least their number.
+/// The lower bound is at least the number of retained entries, since these were seen.
 pub fn retained_is_within()
     ensures { (z r t : ℕ) → r ≤ (count_bounds z r t).lower }
 {}

@@ -63,7 +63,7 @@ impl<A: Allocator> CompactThetaSketch<A> {
         self.state.is_empty()
     }
 
-    /// Whether it is not empty and its theta is below the greatest.
+    /// Whether its estimate may be inexact: it is not empty, and its theta is below `MAX_THETA`.
     pub fn is_estimation_mode(&self) -> bool
         ensures { result ≡ (not self.now.empty && nat_lt self.now.theta MAX_THETA) }
     {

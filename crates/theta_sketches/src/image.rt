@@ -96,7 +96,8 @@ fn theta_layout(bytes: &[u8], seed_hash: u16) -> Option<Layout>
 }
 
 impl<A: Allocator + Clone + Drop> CompactThetaSketch<A> {
-    /// Returns the sketch's image, in memory of a clone of its allocator. Refused with `OutOfMemory` alone.
+    /// Returns the sketch's image in serial version 3, in memory of a clone of its allocator: 8 to 24 bytes of
+    /// preamble, then 8 bytes per hash. Refused with `OutOfMemory` alone.
     pub fn serialize(&self) -> Result<Vec<u8, A>, Error>
         ensures ok { IfOk result (λ v. v.items ≡ written self.now) }
         ensures refused { Refuses result None true }

@@ -58,7 +58,7 @@ impl<A: Allocator> Model for ThetaIntersection<A> {
 impl<A: Allocator + Drop> ThetaIntersection<A> {
     /// A new intersection of sketches of the default seed, 9001, without a value. It allocates nothing.
     ///
-    /// Refused as `with_seed` is.
+    /// Never refused: the seed hash of 9001 isn't 0.
     pub fn default(alloc: A) -> Result<Self, Error>
         ensures made { IfOk result (λ i. i ≡ new_intersection (seed_hash DEFAULT_UPDATE_SEED) (record {})) }
         ensures refused { Refuses result (seed_refusal DEFAULT_UPDATE_SEED) false }

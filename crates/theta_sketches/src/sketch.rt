@@ -68,7 +68,7 @@ impl<A: Allocator> ThetaSketch<A> {
         self.state.is_empty()
     }
 
-    /// Whether it is not empty and its theta is below the greatest.
+    /// Whether its estimate may be inexact: it is not empty, and its theta is below `MAX_THETA`.
     pub fn is_estimation_mode(&self) -> bool
         ensures { result ≡ (not self.now.empty && nat_lt self.now.map.kept.theta MAX_THETA) }
     {
@@ -162,7 +162,8 @@ impl<A: Allocator + Clone> ThetaSketch<A> {
         self.update_hash(hash)
     }
 
-    /// Updates the sketch with a hash. A hash that is 0 or at least theta is not retained, but the sketch becomes nonempty.
+    /// Updates the sketch with a hash of 63 bits. A hash that is 0 or at least theta is not retained, but the sketch
+    /// becomes nonempty.
     ///
     /// Refused with `OutOfMemory` alone, and only for a new hash below theta; then nothing has changed, emptiness included.
     #[inline(always)]
@@ -202,8 +203,8 @@ impl<A: Allocator + Clone> ThetaSketch<A> {
         self.state.insert_hashes(hashes)
     }
 
-    /// If more than k hashes are retained, where k is 2^`lg_k`, lowers theta to the (k+1)th smallest and keeps the k
-    /// hashes below it.
+    /// If more than k hashes are retained, where k is 2^`lg_k`, lowers theta to the (k+1)th smallest hash and keeps the
+    /// k hashes below it.
     ///
     /// Refused with `OutOfMemory` alone, and only if more than k are retained; then nothing has changed.
     pub fn trim(&mut self) -> Result<(), Error>

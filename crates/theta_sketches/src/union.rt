@@ -87,9 +87,9 @@ impl<A: Allocator + Clone> ThetaUnion<A> {
     /// Merges sketches into the union, with the value of one `update` after another. Empty sketches change nothing, and
     /// their seeds are not checked.
     ///
-    /// If all sketches that aren't empty are ordered, the least hashes of all are merged first, and no sketch is read on
-    /// once the union's theta is below its next hash. So many sketches with different hashes take a fraction of the time
-    /// of one `update` each. Otherwise each is read as `update` reads it.
+    /// If all sketches that aren't empty are ordered, the least hashes of all are merged first, and no sketch is read
+    /// on once the union's theta is below its next hash. For many sketches with different hashes this takes a fraction
+    /// of the time of one `update` each. If some sketch isn't ordered, each is read as `update` reads it.
     ///
     /// Refused with `Failed` if the union has failed, whatever the inputs, and with `InvalidArgument` if one of the
     /// sketches that aren't empty has another seed; then nothing has changed. Refused with `OutOfMemory`; then the union

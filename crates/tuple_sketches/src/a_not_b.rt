@@ -41,7 +41,7 @@ impl Model for TupleANotB {
 impl TupleANotB {
     /// An operator for sketches of the default seed, 9001. It allocates nothing.
     ///
-    /// Refused as `with_seed` is.
+    /// Never refused: the seed hash of 9001 isn't 0.
     pub fn default() -> Result<Self, Error>
         ensures ok { IfOk result (λ d. d ≡ seed_hash DEFAULT_UPDATE_SEED) }
         ensures refused { Refuses result (seed_refusal DEFAULT_UPDATE_SEED) false }

@@ -65,7 +65,7 @@ fn tuple_layout(bytes: &[u8], seed_hash: u16) -> Option<Layout>
     }
 }
 
-/// The number of bytes of an image of these entries with a preamble of three longs, at most 2^64 - 1.
+/// The number of bytes of an image of these entries with a preamble of three longs; 2^64 - 1 if it is greater.
 fn greatest_size<S: TupleSummaryValue<A>, A: Allocator>(entries: &[TupleEntry<S>]) -> usize
     ensures { result ≡ min (24 + length (flat_map (tuple_text S.text) entries.now)) (2 ^ 64 - 1) }
 {
@@ -79,9 +79,10 @@ fn greatest_size<S: TupleSummaryValue<A>, A: Allocator>(entries: &[TupleEntry<S>
 }
 
 impl<S: TupleSummaryValue<A> + Drop, A: Allocator + Clone + Drop> CompactTupleSketch<S, A> {
-    /// Returns the sketch's image, in memory of a clone of its allocator. Refused with `OutOfMemory` alone, also if
-    /// writing a summary is refused. If it isn't refused, every summary is a value, so that the image is read as this
-    /// sketch.
+    /// Returns the sketch's image in serial version 3 and sketch type 1, in memory of a clone of its allocator: 8 to 24
+    /// bytes of preamble, then for each entry 8 bytes of its hash and the bytes of its summary. Refused with
+    /// `OutOfMemory` alone, also if writing a summary is refused. If it isn't refused, every summary is a value, so
+    /// that the image is read as this sketch.
     pub fn serialize(&self) -> Result<Vec<u8, A>, Error>
         ensures ok { IfOk result (λ v. v.items ≡ written S.text self.now) }
         ensures values { OnOk result (HasValues S.is_value self.now) }

@@ -33,7 +33,7 @@ pub struct TupleIntersection<P: SummaryPolicy, A: Allocator = Global> {
 impl<P: SummaryPolicy + Drop, A: Allocator + Drop> TupleIntersection<P, A> {
     /// A new intersection of sketches of the default seed, 9001, under this policy, without a value. It allocates nothing.
     ///
-    /// Refused as `with_seed` is.
+    /// Never refused: the seed hash of 9001 isn't 0.
     pub fn new(alloc: A, policy: P) -> Result<Self, Error>
         ensures made { IfOk result (λ i. i.state ≡ new_intersection (seed_hash DEFAULT_UPDATE_SEED) policy) }
         ensures refused { Refuses result (seed_refusal DEFAULT_UPDATE_SEED) false }

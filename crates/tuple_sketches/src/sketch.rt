@@ -65,7 +65,7 @@ impl<P: SummaryPolicy, A: Allocator> TupleSketch<P, A> {
         self.state.is_empty()
     }
 
-    /// Whether it is not empty and its theta is below the greatest.
+    /// Whether its estimate may be inexact: it is not empty, and its theta is below `MAX_THETA`.
     pub fn is_estimation_mode(&self) -> bool
         ensures { result ≡ (not self.now.state.empty && nat_lt self.now.state.map.kept.theta MAX_THETA) }
     {
@@ -170,9 +170,9 @@ impl<P: SummaryPolicy, A: Allocator + Clone> TupleSketch<P, A> {
         self.update_hash(hash, value)
     }
 
-    /// Updates the summary of a hash with a value: the policy updates the retained summary, or one that it creates for
-    /// a new hash. A hash that is 0 or at least theta is not retained, and no policy is called, but the sketch becomes
-    /// nonempty.
+    /// Updates the summary of a hash of 63 bits with a value: the policy updates the retained summary, or one that it
+    /// creates for a new hash. A hash that is 0 or at least theta is not retained, and no policy is called, but the
+    /// sketch becomes nonempty.
     ///
     /// Refused with `Policy` if the policy refuses to create or to update, and with `OutOfMemory`; then nothing has
     /// changed, emptiness and summaries included. A hash that is 0 or at least theta is never refused.

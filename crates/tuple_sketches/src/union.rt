@@ -94,15 +94,16 @@ impl<P: SummaryCombinePolicy + Drop, A: Allocator + Clone> TupleUnion<P, A> {
     /// the summaries of a key in the order of the sketches. Empty sketches change nothing, and their seeds are not
     /// checked.
     ///
-    /// If all sketches that aren't empty are ordered, the entries of least hash of all are merged first, and no sketch is
-    /// read on once the union's theta is below its next hash. So many sketches with different hashes take a fraction of
-    /// the time of one `update` each, and the policy combines fewer summaries. Otherwise each is read as `update` reads it.
+    /// If all sketches that aren't empty are ordered, the entries of least hash of all are merged first, and no sketch
+    /// is read on once the union's theta is below its next hash. For many sketches with different hashes this takes a
+    /// fraction of the time of one `update` each, and the policy combines fewer summaries. If some sketch isn't
+    /// ordered, each is read as `update` reads it.
     ///
     /// Refused with `Failed` if the union has failed, whatever the inputs, and with `InvalidArgument` if one of the
-    /// sketches that aren't empty has another seed; then nothing has changed. Refused with `OutOfMemory`, or with `Policy`
-    /// if the policy refuses the summaries of a key below the thetas of the union and of all sketches; then the union has
-    /// failed. Whether the policy is asked at a key from the theta of the result on is unspecified. Clones of summaries
-    /// must equal their originals.
+    /// sketches that aren't empty has another seed; then nothing has changed. Refused with `OutOfMemory`, or with
+    /// `Policy` if the policy refuses the summaries of a key below the thetas of the union and of all sketches; then
+    /// the union has failed. Whether the policy is called for a key at or above the theta of the result is unspecified.
+    /// Clones of summaries must equal their originals.
     pub fn update_all<B: Allocator>(
         &mut self,
         sketches: &[TupleSketchView<'_, P::Summary, B>],
