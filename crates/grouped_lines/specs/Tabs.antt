@@ -6,7 +6,7 @@ abbrev pub has_tab : List ℕ → Bool
 has_tab [] = false
 has_tab (byte ∷ text) = byte == 9 || has_tab text
 
--- the parts of a text before and behind its last tab; without a tab both have no bytes
+-- the parts of a text before and after its last tab; without a tab both have no bytes
 abbrev pub before_tab : List ℕ → List ℕ
 before_tab [] = []
 before_tab (byte ∷ text) = if has_tab text then byte ∷ before_tab text else []

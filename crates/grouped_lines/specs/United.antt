@@ -35,7 +35,8 @@ use Rattle.grouped_lines.specs.declared.uniting.Ununited.TheVariants.{Refused, F
 abbrev pub image_line : (name image : List ℕ) → List ℕ
 image_line name image = name ++ 9 ∷ hex_of image ++ 10 ∷ []
 
--- The bytes that the digits behind the last tab of a line spell. A line that spells none gives no bytes, which can't be read as a sketch.
+-- The bytes that the digits after the last tab of a line spell; no bytes, which can't be read as a sketch, if they
+-- spell none.
 abbrev pub image_in : List ℕ → List ℕ
 image_in line = unwrap_or (bytes_of_hex (behind_tab line)) []
 
@@ -127,7 +128,7 @@ abbrev pub HasUnions : (seed lg_k : ℕ) → (lines : List (List ℕ)) → Unite
 HasUnions seed lg_k lines groups =
     (names : List (List ℕ)) × AreNames lines names × AreUnited seed lg_k lines names groups.map.entries
 
--- the unions can be answered: they are of some seed, and none has failed
+-- each union has a result: it is of some seed, and hasn't failed
 abbrev pub AreSound : UnitedGroups → Type 0
 AreSound groups = (seed : ℕ) × AllByRecursion (λ entry. IsReady seed entry.1) groups.map.entries
 
@@ -168,7 +169,7 @@ IsFlawless seed line = (flaw : LineFlaw) → IsFlawed seed line flaw → ⊥
 abbrev pub AreFlawless : (seed : ℕ) → (lines : List (List ℕ)) → Type 0
 AreFlawless seed lines = AllByRecursion (IsFlawless seed) lines
 
--- lines are united, behind those before, and none of them has a flaw
+-- lines are united, after those before, and none of them has a flaw
 pub record AreAdded {A P : Type 0} (seed lg_k : ℕ) (before lines : List (List ℕ)) (groups : BTreeMap (Vec ℕ A) (Union ℕ P)) : Type 0 where
   pub uniting : IsUniting seed lg_k (before ++ lines) groups
   pub flawless : AreFlawless seed lines
@@ -192,7 +193,7 @@ pub record HasFirstFlawed (seed number : ℕ) (flaw : LineFlaw) (texts : List (L
   pub flawless : AreFlawless seed (lines_of_all before)
   pub flawed : IsFirstFlawed seed number flaw (lines_of text)
 
--- the line behind this many others has the flaw that is reported, with its number
+-- the line after this many others has the flaw that is reported, with its number
 abbrev pub IsOfLine : (seed passed : ℕ) → (line : List ℕ) → Ununited → Type 0
 IsOfLine seed passed line (Flawed number flaw) = (number ≡ min (passed + 1) (2 ^ 64 - 1)) × IsFlawed seed line flaw
 IsOfLine seed passed line (Refused kind) = ⊤

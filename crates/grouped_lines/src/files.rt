@@ -19,7 +19,7 @@ pub struct GroupFile {
     pub bytes: Vec<u8>,
 }
 
-/// Whether a byte is a letter, a digit or one of `-`, `.` and `_`, which the name of a file has as it is.
+/// Whether a byte is an ASCII letter, a digit, `-`, `.` or `_`, which stay as they are in the name of a file.
 fn is_plain(byte: u8) -> bool
     ensures { result ≡ is_plain byte }
 {
@@ -44,9 +44,10 @@ fn spell(text: &mut Vec<u8>, byte: u8) -> Result<(), AllocError>
     Ok(())
 }
 
-/// The name of the file of a group: the bytes of its name, of which all but letters, digits, `-`, `.` and `_` are `%` and
-/// two hexadecimal digits, and the ending `.theta`; of the group with the empty name `%.theta`. Groups of different names
-/// have files of different names (`laws::files_apart`). The only error is `AllocError`.
+/// The name of the file of a group: each byte of the group's name, as it is if it is an ASCII letter, a digit, `-`, `.`
+/// or `_`, otherwise as `%` and two lowercase hexadecimal digits; then the ending `.theta`. The file of the group with
+/// the empty name is `%.theta`. Groups of different names have files of different names (`laws::files_apart`). The only
+/// error is `AllocError`.
 pub fn file_name(alloc: Global, name: &[u8]) -> Result<Vec<u8>, AllocError>
     ensures { IfOk result (λ v. v.items ≡ file_name name.now) }
 {

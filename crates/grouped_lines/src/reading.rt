@@ -49,8 +49,8 @@ pub(crate) fn next_line<R: Read>(reader: &mut BufReader<R>, line: &mut Vec<u8>) 
     Ok(true)
 }
 
-/// Inserts all lines that a reader has left. Refused only with `OutOfMemory`. If the reader fails, its error is returned.
-/// After an error some first part of the lines is inserted; no clause says so.
+/// Inserts all lines that a reader has left. Refused only with `OutOfMemory`. If the reader fails, its error is
+/// returned. After an error, some of the first lines are inserted; no clause says which.
 fn add_lines<R: Read + Drop, W: GroupWatch>(
     groups: &mut Groups,
     alloc: Global,
@@ -87,8 +87,8 @@ fn add_lines<R: Read + Drop, W: GroupWatch>(
 /// next text. Each group has the sketch of its own lines.
 ///
 /// Refused with `InvalidArgument` only for an `lg_k` that isn't from 4 to 26 or a seed whose seed hash is 0, and with
-/// `OutOfMemory`. If a source fails, or can't be opened, its error is returned, and for a wrong `lg_k` or seed nothing is
-/// read; no clause says so. A line takes memory of its length, and a group that of its name and of its sketch.
+/// `OutOfMemory`. If a source fails, or can't be opened, its error is returned, and for a wrong `lg_k` or seed nothing
+/// is read; no clause says so. It allocates memory for the longest line, and for the name and the sketch of each group.
 pub fn group_sources<S: Sources, W: GroupWatch>(
     alloc: Global,
     grouping: Grouping,

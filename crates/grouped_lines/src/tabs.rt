@@ -2,7 +2,7 @@
 ghost use Rattle.std.specs.Prelude.{◌≡◌, true, false, IfSome, IfNone};
 ghost use Rattle.grouped_lines.specs.Tabs.{has_tab, before_tab, behind_tab};
 
-/// The parts of a line before and behind its last tab, if it has one.
+/// The parts of a line before and after its last tab, if it has one.
 pub(crate) fn cut_last(line: &[u8]) -> Option<(&[u8], &[u8])>
     ensures some { IfSome result (λ parts. has_tab line.now ≡ true) }
     ensures name { IfSome result (λ parts. parts.0.now ≡ before_tab line.now) }

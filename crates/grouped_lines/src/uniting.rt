@@ -40,7 +40,7 @@ impl From<Error> for Ununited {
     }
 }
 
-/// The failure at the line behind this many others.
+/// The failure at the line after this many others.
 fn failure_at(passed: u64, reason: NotAdded) -> Ununited
     ensures memory { IsOfLines result }
     ensures line { (seed : ℕ) (line : List ℕ) → IsNotAdded seed line reason → IsOfLine seed passed line result }

@@ -42,7 +42,7 @@ has_preamble bytes = nat_le 8 (length bytes) && (has_longs bytes && (has_version
 abbrev pub is_single : (version : ℕ) → List ℕ → Bool
 is_single version bytes = version_at bytes == version && longs_at bytes == 1
 
--- the number of hashes behind a whole preamble: a single long means one hash in version 3 and none in version 2
+-- the number of hashes after a whole preamble: a single long means one hash in version 3 and none in version 2
 abbrev pub announced_count : List ℕ → ℕ
 announced_count bytes =
     if is_flagged_empty bytes then 0
@@ -73,7 +73,7 @@ is_vacant_image bytes = longs_at bytes == 1 || (has_preamble bytes && (count_at 
 abbrev pub checks_seed : List ℕ → Bool
 checks_seed bytes = if version_at bytes == 3 then not (is_empty bytes) else version_at bytes == 2 && not (is_vacant_image bytes)
 
--- the flaw of so many bytes, if their image has this length
+-- the flaw of `present` bytes, if their image has the length `whole`
 abbrev pub flaw_by_length : (whole : Option ℕ) → (present : ℕ) → Flaw
 flaw_by_length None present = Cut
 flaw_by_length (Some whole) present = if nat_lt present whole then Cut else if nat_lt whole present then Longer else Damaged

@@ -9,12 +9,12 @@ use Rattle.theta_sketches.specs.Image.{IsReadable}
 use Rattle.line_sketches.specs.declared.sketching.Unread.{Unread}
 use Rattle.line_sketches.specs.declared.sketching.Unread.TheVariants.{Refused, Failed}
 
--- an error is the refusal, or that memory ran out, or that of a source, which is read only if nothing is refused
+-- the error is the refusal, if there is one; or memory ran out; or, only if nothing is refused, a source failed
 abbrev pub IsUnread : Option ErrorKind → Unread → Type 0
 IsUnread refusal (Refused kind) = (refusal ≡ Some kind) ⊎ (kind ≡ OutOfMemory)
 IsUnread refusal (Failed error) = refusal ≡ None
 
--- an Ok comes only if nothing is refused
+-- the result is Ok only if nothing is refused
 abbrev pub RefusesRead : {T : Type 0} → Result T Unread → Option ErrorKind → Type 0
 RefusesRead r refusal = MatchResult r (λ _. refusal ≡ None) (IsUnread refusal)
 

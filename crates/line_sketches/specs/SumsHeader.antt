@@ -10,7 +10,7 @@ use Rattle.line_sketches.specs.declared.header.Flaw.TheVariants.{Family, Version
 abbrev pub has_sums_version : List ℕ → Bool
 has_sums_version bytes = version_at bytes == 3 || version_at bytes == 1
 
--- whether the sketch type, in the byte behind the family, is 1 or 5
+-- whether the sketch type, in the byte after the family, is 1 or 5
 abbrev pub has_sums_type : List ℕ → Bool
 has_sums_type bytes = slice_index bytes 3 == 1 || slice_index bytes 3 == 5
 
@@ -22,7 +22,7 @@ sums_preamble_length bytes = if is_empty bytes then 8 else 8 * longs_at bytes
 abbrev pub has_sums_preamble : List ℕ → Bool
 has_sums_preamble bytes = nat_le 8 (length bytes) && (has_longs bytes && (has_sums_version bytes && nat_le (sums_preamble_length bytes) (length bytes)))
 
--- the number of sums behind a whole preamble: a single long means one
+-- the number of sums after a whole preamble: a single long means one
 abbrev pub announced_sums : List ℕ → ℕ
 announced_sums bytes = if is_empty bytes then 0 else if longs_at bytes == 1 then 1 else count_at bytes
 

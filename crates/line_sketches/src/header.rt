@@ -27,8 +27,8 @@ pub enum Flaw {
     Cut,
     /// Bytes follow the image, which readers ignore.
     Longer,
-    /// Anything else: not 1 to 3 preamble longs, a theta out of range, or hashes that repeat, don't ascend or are out of
-    /// range. Also bytes without a flaw.
+    /// Anything else: not 1 to 3 preamble longs, a theta out of range, or hashes that repeat, don't ascend or are out
+    /// of range. It is also the answer for bytes without a flaw.
     Damaged,
 }
 
@@ -89,7 +89,7 @@ fn is_single(bytes: &[u8], version: u8) -> bool
     bytes[1] == version && bytes[0] == 1
 }
 
-/// The number of hashes behind a whole preamble.
+/// The number of hashes after a whole preamble.
 fn announced_count(bytes: &[u8]) -> u32
     requires { has_preamble bytes.now ≡ true }
     ensures { result ≡ announced_count bytes.now }
@@ -110,7 +110,7 @@ fn announced_count(bytes: &[u8]) -> u32
 /// isn't known: there are fewer than eight bytes, or fewer than the preamble has, or there aren't 1 to 3 preamble longs,
 /// or the version isn't 1, 2 or 3. The family is not looked at.
 ///
-/// Bytes that are read as a sketch have at least this length, and so many of them alone are read as the same sketch
+/// Bytes that are read as a sketch have at least this length, and the first so many alone are read as the same sketch
 /// (`laws::image_begins`).
 pub fn image_length(bytes: &[u8]) -> Option<u64>
     ensures { result ≡ image_length bytes.now }
@@ -162,7 +162,7 @@ fn checks_seed(bytes: &[u8]) -> bool
     }
 }
 
-/// The flaw of so many bytes, if their image has this length.
+/// The flaw of `present` bytes, if their image has the length `whole`.
 pub(crate) fn flaw_by_length(whole: Option<u64>, present: u64) -> Flaw
     ensures { result ≡ flaw_by_length whole present }
 {
@@ -203,8 +203,9 @@ fn flaw_of_preamble(bytes: &[u8], seed_hash: u16) -> Flaw
     flaw_by_length(image_length(bytes), bytes.len() as u64)
 }
 
-/// Why the bytes are not the image of one theta sketch, for a reader of this seed hash. To be called for bytes that were
-/// not read, or that have more than their image: it doesn't read the hashes.
+/// Why the bytes are not the image of one theta sketch, for a reader of this seed hash. Call it for bytes that could
+/// not be read, or that continue after their image: it reads only the preamble, so it doesn't find a flaw in the
+/// hashes.
 ///
 /// Bytes that are read under this seed hash have no other flaw than `BigEndian`, `Longer` or `Damaged`
 /// (`laws::flawed_is_unread`).

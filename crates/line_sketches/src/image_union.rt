@@ -67,7 +67,7 @@ fn add_reader<U: ImageUnion, B: Allocator + Clone + Drop, R: Read>(
 ///
 /// If the union has not failed, it is refused only with `InvalidData`, if some source is no image of this seed, with
 /// `OutOfMemory`, and with `Policy` if the union's policy may refuse to merge summaries. If a source fails, or can't be
-/// opened, its error is returned; no clause says so.
+/// opened, its error is returned; no clause says so. After an error, what the union has is unspecified.
 pub fn add_images<U: ImageUnion, B: Allocator + Clone + Drop, S: Sources>(
     union: &mut U,
     alloc: B,

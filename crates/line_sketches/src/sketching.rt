@@ -51,9 +51,9 @@ impl From<AllocError> for Unread {
 
 /// Watches while lines are sketched.
 pub trait Watch {
-    /// Called after each read, which gave `bytes` bytes, from 1 to the block's length, and by `image_of_texts` once for
-    /// each text. `lines` lines, from 0 to `bytes`, ended in the bytes and are in the sketch. There is no call for a
-    /// last line without an LF. The numbers are for display: no clause speaks of them.
+    /// Called after each read of `bytes` bytes, from 1 to the block's length, and by `image_of_texts` once for each
+    /// text. `lines` lines, from 0 to `bytes`, ended in the bytes and are in the sketch. There is no call for a last
+    /// line without an LF. The numbers are for display: no clause speaks of them.
     fn saw<A: Allocator>(&mut self, bytes: usize, lines: u64, sketch: &ThetaSketch<A>);
 }
 
@@ -128,7 +128,7 @@ fn take_block<A: Allocator + Clone>(
     Ok(count.wrapping_add(1))
 }
 
-/// Inserts a last line that no LF ends, if it has a byte.
+/// Inserts a last line without an LF, if it has a byte.
 fn take_last<A: Allocator + Clone>(
     sketch: &mut ThetaSketch<A>,
     last: &OpenLine,
@@ -147,10 +147,10 @@ fn take_last<A: Allocator + Clone>(
 /// Inserts all lines that a reader has left, block by block, each by its key. The seed of `hashing` should be the
 /// sketch's, which is not checked. An interrupted read is repeated.
 ///
-/// Refused only with `OutOfMemory`. If the reader fails, its error is returned, which is never an interrupted read.
-/// After an error some first part of the lines is inserted; no clause says so.
+/// Refused only with `OutOfMemory`. If the reader fails, its error is returned. After an error, some of the first lines
+/// are inserted; no clause says which.
 ///
-/// `block` has at least one byte, and its length is the most that one read gets. Its old contents are not used.
+/// `block` has at least one byte, and its length is the most that one read requests. Its old contents are not used.
 pub fn add_lines<A: Allocator + Clone, R: Read, W: Watch>(
     sketch: &mut ThetaSketch<A>,
     hashing: Hashing,
@@ -185,8 +185,8 @@ pub fn add_lines<A: Allocator + Clone, R: Read, W: Watch>(
     Err(Unread::Refused(Error::from(AllocError)))
 }
 
-/// Inserts all lines of a text in memory. Refused only with `OutOfMemory`; then some first part of the lines is
-/// inserted; no clause says so.
+/// Inserts all lines of a text in memory. Refused only with `OutOfMemory`; then some of the first lines are inserted,
+/// and no clause says which.
 pub(crate) fn add_text<A: Allocator + Clone, W: Watch>(
     sketch: &mut ThetaSketch<A>,
     hashing: Hashing,
@@ -217,12 +217,12 @@ pub fn finished<A: Allocator + Clone>(
     sketch.compact(true)
 }
 
-/// The sketch of all lines that a reader has left. Refused with `InvalidArgument` only for an `lg_k` that isn't from 4 to
-/// 26 or a seed whose seed hash is 0, and with `OutOfMemory`. If a read fails, its error is returned, which is never
-/// that a read was interrupted. For a wrong `lg_k` or seed nothing is read. No clause says that the error is the
-/// read's, and none that nothing is read.
+/// The sketch of all lines that a reader has left. Refused with `InvalidArgument` only for an `lg_k` that isn't from 4
+/// to 26 or a seed whose seed hash is 0, and with `OutOfMemory`. If a read fails, its error is returned; an interrupted
+/// read is repeated. For a wrong `lg_k` or seed nothing is read. No clause says that the error is the reader's, or that
+/// nothing is read.
 ///
-/// `block` has at least one byte, and its length is the most that one read gets. Its old contents are not used.
+/// `block` has at least one byte, and its length is the most that one read requests. Its old contents are not used.
 pub fn sketch_lines<A: Allocator + Clone + Drop, R: Read, W: Watch>(
     alloc: A,
     hashing: Hashing,

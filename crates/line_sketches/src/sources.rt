@@ -15,7 +15,7 @@ use std::io;
 use std::io::Read;
 use theta_sketches::{CompactThetaSketch, ThetaSketch};
 
-/// The most bytes that one read of lines gets.
+/// The most bytes that one read of lines requests.
 pub const BLOCK: usize = 1 << 17;
 
 /// Texts, one after another, each with its own reader.
@@ -84,8 +84,8 @@ fn add_source<A: Allocator + Clone, B: Allocator, R: Read, W: Watch>(
 /// Inserts the lines of all texts, each cut into lines by itself: a last line without an LF isn't joined to the next text.
 /// The seed of `hashing` should be the sketch's, which is not checked.
 ///
-/// Refused only with `OutOfMemory`. If a source fails or can't be opened, its error is returned. After an error some
-/// first part of the lines is inserted; no clause says so.
+/// Refused only with `OutOfMemory`. If a source fails or can't be opened, its error is returned. After an error, some
+/// of the first lines are inserted; no clause says which.
 pub fn add_sources<A: Allocator + Clone, B: Allocator + Clone + Drop, S: Sources, W: Watch>(
     sketch: &mut ThetaSketch<A>,
     alloc: B,
@@ -109,9 +109,9 @@ pub fn add_sources<A: Allocator + Clone, B: Allocator + Clone + Drop, S: Sources
     Err(Unread::Refused(Error::from(AllocError)))
 }
 
-/// The sketch of the lines of all texts, each text's by themselves. Refused with `InvalidArgument` only for an `lg_k`
-/// that isn't from 4 to 26 or a seed whose seed hash is 0, and with `OutOfMemory`. If a source fails, or can't be
-/// opened, its error is returned, and for a wrong `lg_k` or seed nothing is read; no clause says so.
+/// The sketch of the lines of all texts, each text cut into lines by itself. Refused with `InvalidArgument` only for an
+/// `lg_k` that isn't from 4 to 26 or a seed whose seed hash is 0, and with `OutOfMemory`. If a source fails, or can't
+/// be opened, its error is returned, and for a wrong `lg_k` or seed nothing is read; no clause says so.
 pub fn sketch_sources<A: Allocator + Clone + Drop, S: Sources, W: Watch>(
     alloc: A,
     hashing: Hashing,

@@ -55,7 +55,7 @@ fn has_sums_preamble(bytes: &[u8]) -> bool
         && sums_preamble_length(bytes) <= bytes.len() as u64
 }
 
-/// The number of sums behind a whole preamble.
+/// The number of sums after a whole preamble.
 fn announced_sums(bytes: &[u8]) -> u32
     requires { has_sums_preamble bytes.now ≡ true }
     ensures { result ≡ announced_sums bytes.now }
@@ -116,8 +116,9 @@ fn sums_flaw_of_preamble(bytes: &[u8], seed_hash: u16) -> Flaw
     flaw_by_length(sums_length(bytes), bytes.len() as u64)
 }
 
-/// Why the bytes are not one image of sums, for a reader of this seed hash; `Flaw::Damaged` also for another sketch type than
-/// 1 and 5. To be called for bytes that were not read, or that have more than their image: it doesn't read the hashes.
+/// Why the bytes are not one image of sums, for a reader of this seed hash; `Flaw::Damaged` also for another sketch
+/// type than 1 and 5. Call it for bytes that could not be read, or that continue after their image: it reads only the
+/// preamble.
 pub fn sums_flaw_of(bytes: &[u8], seed_hash: u16) -> Flaw
     ensures { result ≡ sums_flaw_of seed_hash bytes.now }
 {

@@ -63,7 +63,7 @@ pub fn united_image<A: Allocator + Clone + Drop>(union: &ThetaUnion<A>) -> Resul
 #[derive(Debug, Drop)]
 pub struct United<A: Allocator = Global> {
     pub image: Vec<u8, A>,
-    /// From 0 to 2^64 - 2.
+    /// How many images were united, from 0 to 2^64 - 2.
     pub count: u64,
 }
 

@@ -14,7 +14,7 @@ use sketch_base::MurmurHash3X64128;
 use std::hash::Hasher;
 use std::simd::prelude::*;
 
-/// In how many bytes two lines are found at once.
+/// The number of bytes in which two lines are looked for at once.
 const WINDOW: usize = 64;
 
 /// Bit k is 1 if byte k of the first `WINDOW` bytes, from 0, is an LF.
@@ -59,8 +59,8 @@ fn hash_first_line(hashing: Hashing, text: &[u8]) -> Option<(u64, &[u8])>
 }
 
 /// The hashes of the first two lines of a text, and the text after them; `None` unless both are short and end within
-/// the first `WINDOW` bytes. Both are found by one mask: a text is read on from the end of a line, so each step waits
-/// for the last one, and half as many steps wait half as long.
+/// the first `WINDOW` bytes. One mask finds both ends. Each step begins at the end of a line that the step before
+/// found, and waits for it; with two lines in each step there are half as many waits.
 #[inline(always)]
 fn hash_two_lines(hashing: Hashing, text: &[u8]) -> Option<(u64, u64, &[u8])>
     ensures { IfSome result (λ x. BeginsWithTwo hashing text.now x.0 x.1 x.2.now) }

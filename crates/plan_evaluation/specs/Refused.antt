@@ -16,15 +16,16 @@ use Rattle.plan_values.specs.Value.{plan_refusal}
 abbrev pub RefusedFor : ErrorKind → (strict : Bool) → (why : Type 0) → Type 0
 RefusedFor e strict why = (e ≡ OutOfMemory) ⊎ ((e ≡ Policy) × IsTrue strict × why)
 
--- for each whole map that a union holds and each one that a part samples: after the part, the union holds the two joined
+-- before a part the union has all of a whole map below its theta (`old`), and the part is a sample of another:
+-- afterwards the union has all of the two joined (`new`)
 abbrev pub HoldsMore : {X V : Type 0} → (f : Family (Fold X) V) → (old new : List (Fold X) → Type 0) → Sketch (Fold X) → Type 0
 HoldsMore {X} f old new v = (whole arriving : List (Fold X)) → IsAscending f.key whole → IsAscending f.key arriving → old whole → IsAllBelow f.key v arriving → new (joined f.key f.merges whole arriving)
 
--- for each of these pairs of whole maps: if the union's policy refuses the part, the two joined have a mark
+-- why a union's policy may refuse a part: the two whole maps, joined, have a mark, whichever they are
 abbrev pub MarksJoined : {X V : Type 0} → (f : Family (Fold X) V) → (holds : List (Fold X) → Type 0) → Sketch (Fold X) → Type 0
 MarksJoined {X} f holds v = (whole arriving : List (Fold X)) → IsAscending f.key whole → IsAscending f.key arriving → holds whole → IsAllBelow f.key v arriving → has_mark (joined f.key f.merges whole arriving) ≡ true
 
--- for all whole maps that an intersection and a part sample: their common part has a mark
+-- why an intersection's policy may refuse a part: what the two whole maps have in common has a mark, whichever they are
 abbrev pub MarksMet : {X V : Type 0} → (f : Family (Fold X) V) → (so_far : Option (Sketch (Fold X))) → Sketch (Fold X) → Type 0
 MarksMet f None v = ⊥
 MarksMet {X} f (Some u) v = (whole arriving : List (Fold X)) → IsAllBelow f.key u whole → IsAllBelow f.key v arriving → has_mark (common f.key f.merges whole arriving) ≡ true

@@ -23,15 +23,18 @@ use std::alloc::Allocator;
 /// Evaluates a node of a plan. A leaf's result is its sketch as it is. The result of any other node is a compact
 /// sketch. It is ordered exactly if `ordered` is set, if the node orders it (an image that is written ordered or of an
 /// ordered sketch, or a difference with an ordered first operand), if it is empty, or if it has one entry at the
-/// greatest theta. An operator is built first; then its parts are evaluated and passed to it one by one, a leaf's
-/// sketch as it is, any other as a compact sketch, which needn't be ordered. A `Lower` among a union's parts lowers its
-/// nominal entries at that place.
+/// greatest theta.
 ///
-/// Refused with `InvalidArgument` if the seed hash is 0, if some node's `lg_k` isn't from 4 to 26 or its start isn't from 1 to
-/// `MAX_THETA`, or if a `Lower` isn't from 4 to the least `lg_k` before it in its union, and if no policy refuses a leaf's
-/// step before the first of these in the order of work; with `OutOfMemory`; and with `Policy` only if a policy refuses some
-/// leaf's step, or a beginning of the parts of some union or intersection folds to a refusal, and no setting before it in
-/// the order of work is out of range.
+/// An operator is built first; then its parts are evaluated and passed to it one by one: a leaf's sketch as it is, any
+/// other as a compact sketch, which needn't be ordered. A `Lower` among a union's parts lowers its nominal entries at
+/// that place.
+///
+/// Refused with `OutOfMemory`. Refused with `InvalidArgument` if a setting is out of range: if the seed hash is 0, if
+/// some node's `lg_k` isn't from 4 to 26 or its start isn't from 1 to `MAX_THETA`, or if a `Lower` isn't from 4 to the
+/// least `lg_k` before it in its union. Refused with `Policy` only if a policy refuses some leaf's step, or the entries
+/// that the first parts of some union or intersection have at a key. The first in the order of work counts:
+/// `InvalidArgument` is returned only if no policy refuses a leaf's step before the first setting out of range, and
+/// `Policy` only for a refusal before it.
 pub fn evaluate<F: SketchFamily<A>, A: Allocator + Clone, B: Allocator>(
     family: &F,
     alloc: &A,

@@ -66,7 +66,7 @@ pub trait SketchFamily<A: Allocator> {
 
     ghost difference_seed: { Self.Difference → ℕ };
 
-    /// Whether a union holds all of a whole map below its theta.
+    /// Whether a union has all of a whole map below its theta.
     ghost holds: { Self → Self.Union → List (Fold Self.Entry) → Type 0 };
 
     /// Whether a sketch, a union or an intersection has the family's policies.

@@ -41,9 +41,10 @@ use tuple_sketches::{
 /// The sketch of a plan under a seed, ordered. Its value is the plan's: it retains all of the whole streams' map below its
 /// theta, and if it is empty that map has no keys.
 ///
-/// If the plan merges leaves of one start, the value is the k-minimum of the hashes from 1 on that were added after the leaves'
-/// last resets, whatever the order and grouping, and whether or not parts go through images. The premises: the root is a
-/// union, perhaps through images; every leaf and every other union has at least the root's nominal entries, counting
+/// If the plan merges leaves of one start, the value is the k-minimum (the k least, and as theta the next one) of the
+/// hashes from 1 on that were added after the leaves' last resets, whatever the order and grouping, and whether or not
+/// parts go through images; k is the root's nominal entries, the least that it is lowered to. The premises: the root is
+/// a union, perhaps through images; every leaf and every other union has at least the root's nominal entries, counting
 /// for a union the least that it is lowered to; no union starts below the leaves; and some leaf is updated after its
 /// last reset. If the plan is a leaf that isn't empty and whose last step is a trim, the value is the k-minimum of the
 /// hashes that were added to it.
@@ -71,8 +72,8 @@ pub fn evaluate_theta<A: Allocator + Clone, B: Allocator>(
 }
 
 /// The sketch of a plan of tuples under a seed and two policies, ordered. In leaves, `update_policy` makes and updates
-/// summaries. In unions and intersections, `combine_policy` combines those of a key that parts share, in the order of the
-/// parts. Its value is the plan's, in folds, none of which is a refusal: it retains all of the whole streams' map below its
+/// summaries. In unions and intersections, `combine_policy` combines those of a key that parts share, in the order of
+/// the parts. Its value is the plan's, in folds without a mark: it retains all of the whole streams' map below its
 /// theta, and if it is empty that map has no keys.
 ///
 /// If the plan merges leaves under the premises of `evaluate_theta`, its keys and theta are the k-minimum of the hashes
@@ -80,13 +81,16 @@ pub fn evaluate_theta<A: Allocator + Clone, B: Allocator>(
 /// over the whole streams. If the plan is a leaf that isn't empty and whose last step is a trim, they are the k-minimum
 /// of those that were added to it.
 ///
-/// Refused with `InvalidArgument` if the seed hash is 0, if some node's `lg_k` is outside 4 to 26 or its start outside 1 to
-/// `MAX_THETA`, or if a union is lowered to an `lg_k` outside 4 to its least so far, and if `update_policy` refuses no step
-/// of a leaf before the first of these in the order of work; with `OutOfMemory`, also if a summary can't be written to an
-/// image; and with `Policy` only if `update_policy` refuses some leaf's step, or a beginning of the parts of some union or
-/// intersection folds to a refusal at some key, and no setting before it in the order of work is out of range. So if
-/// `update_policy` refuses a leaf's step and no setting before it is out of range, the call is refused with `Policy` or
-/// `OutOfMemory`. Clones of summaries must equal their originals.
+/// Refused with `OutOfMemory`, also if a summary can't be written to an image. Refused with `InvalidArgument` if a
+/// setting is out of range: if the seed hash is 0, if some node's `lg_k` is outside 4 to 26 or its start outside 1 to
+/// `MAX_THETA`, or if a union is lowered to an `lg_k` outside 4 to its least so far. Refused with `Policy` only if
+/// `update_policy` refuses some leaf's step, or the policies refuse, at some key, what the first parts of some union or
+/// intersection have there.
+///
+/// The first in the order of work counts. `InvalidArgument` is returned only if `update_policy` refuses no step of a
+/// leaf before the first setting out of range, and `Policy` only for a refusal before it. If `update_policy` refuses a
+/// leaf's step before it, the call is refused with `Policy` or `OutOfMemory`. Clones of summaries must equal their
+/// originals.
 pub fn evaluate_tuple<
     S: Clone + TupleSummaryValue<A>,
     U: Copy + Drop,
@@ -144,10 +148,9 @@ pub fn evaluate_tuple<
 /// plan merges leaves, or is a leaf that ends by a trim, the keys and theta are the k-minimum of the hashes that were
 /// added.
 ///
-/// Refused as `evaluate_tuple` is: with `Policy` only if a sum is out of the bounds of its type in some leaf, at a hash that
-/// the leaf then retains, or in a beginning of the parts of some union or intersection; and with `InvalidArgument` only if
-/// no leaf before the first setting out of range has such a sum. The caller must know that clones of summaries equal their
-/// originals.
+/// Refused as `evaluate_tuple` is: with `Policy` only if a sum is out of the bounds of its type in some leaf, at a hash
+/// that the leaf then retains, or over the first parts of some union or intersection; and with `InvalidArgument` only
+/// if no leaf before the first setting out of range has such a sum. Clones of summaries must equal their originals.
 pub fn evaluate_sums<
     S: CheckedSum + TupleSummaryValue<A> + Drop,
     A: Allocator + Clone,

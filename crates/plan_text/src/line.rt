@@ -79,8 +79,8 @@ fn number(word: &[u8]) -> Option<u64>
     Some(value)
 }
 
-/// The number that the digits at the front of a text spell, and the text after them. `None` says nothing of the text; it
-/// is returned if there is no digit, if there are more than 19, or if the text ends with them.
+/// The number that the digits at the front of a text spell, and the text after them. `None` if there is no digit, if
+/// there are more than 19, or if the text ends with them; the text may still begin with a number then.
 #[inline(always)]
 fn number_before(text: &[u8]) -> Option<(u64, &[u8])>
     ensures { IfSome result (λ x. BeginsWithNumber text.now x.0 x.1.now) }
@@ -102,8 +102,8 @@ fn number_before(text: &[u8]) -> Option<(u64, &[u8])>
     None
 }
 
-/// The update that the first line says, and the text after that line. `None` says nothing: the line may still be an
-/// update, with a number of more than 19 digits or on a last line without LF.
+/// The update that the first line says, and the text after that line. If it returns `None`, the line may still be an
+/// update, with a number of more than 19 digits or on a last line without an LF.
 #[inline(always)]
 pub fn plain_add(text: &[u8]) -> Option<(StepLine, &[u8])>
     ensures { IfSome result (λ x. says text.now ≡ Some (line.Step x.0) ∷ says x.1.now) }

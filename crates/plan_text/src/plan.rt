@@ -18,8 +18,8 @@ pub enum UnionPart<P> {
 /// A part of a union: a plan, or a lowering of the union's nominal entries.
 pub type Part<V, A = Global> = UnionPart<Plan<V, A>>;
 
-/// An expression of sketches. It has at most `MAX_LEVELS` levels, however it was made, since its boxes and lists of
-/// parts refuse plans that have as many. So neither its evaluation nor its drop runs out of stack.
+/// An expression of sketches. It has at most `MAX_LEVELS` levels, however it was made: its boxes and lists accept no
+/// part that has as many already. So neither its evaluation nor its drop runs out of stack.
 #[derive(Drop)]
 pub enum Plan<V, A: Allocator = Global> {
     /// A sketch that is updated step by step.

@@ -56,9 +56,8 @@ fn line_number(text: &[u8], rest: &[u8]) -> u64
 
 /// The command that a text spells, or the text's first fault. Nothing is evaluated.
 ///
-/// Each line ends with LF, but the last one may end without it; words are separated by one space. The text is read once
-/// from beginning to end, the first line of each part of a union twice, and all of it once more to number the line of a
-/// fault; no line is copied.
+/// Each line ends in an LF, which the last one may lack; words are separated by one space. The text is read once, the
+/// first line of each part of a union twice, and all of it once more to number the line of a fault. No line is copied.
 ///
 /// Refused with `Fault::Syntax` or `Fault::Limit` if the text spells no command, and with `Fault::Memory`, in place of any
 /// other answer, if memory was refused.

@@ -1,4 +1,4 @@
--- The lines that are written of a report. Each ends in LF.
+-- The lines that are written of a report. Each ends in an LF.
 use Rattle.std.specs.Prelude.{◌++◌, Bool, List, [], ℕ, Option, None, Some, codes, decimal, if◌then◌else◌}
 use Rattle.reports.specs.declared.report.Report.{Report}
 use Rattle.reports.specs.Names.{escaped_name, json_string}
@@ -35,7 +35,7 @@ abbrev pub tsv_head : (named : Bool) → List ℕ
 tsv_head named =
     (if named then codes "name\t" else []) ++ codes "estimate\tlower\tupper\texact\tretained\ttheta\n"
 
--- the name of a row and the tab behind it, if there is a name
+-- the name of a row and the tab after it, if there is a name
 abbrev pub tsv_name : Option (List ℕ) → List ℕ
 tsv_name None = []
 tsv_name (Some name) = escaped_name name ++ codes "\t"

@@ -15,7 +15,7 @@ line_char c = if is_control c then escape_default c else c ∷ []
 abbrev pub escaped_name : List ℕ → List ℕ
 escaped_name = respelled line_char
 
--- a character in a JSON string: `"` and `\` behind a backslash, those below 32 as `\u00` with two lower-case hexadecimal
+-- a character in a JSON string: `"` and `\` after a backslash, those below 32 as `\u00` with two lower-case hexadecimal
 -- digits, the others as they are
 abbrev pub json_char : ℕ → List ℕ
 json_char c =

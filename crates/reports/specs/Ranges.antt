@@ -1,4 +1,5 @@
--- The lines that are written of the values of a stream that occur from some number of times to another. Each ends in LF.
+-- The lines that are written of the values of a stream that occur from some number of times to another. Each ends in an
+-- LF.
 use Rattle.std.specs.Prelude.{ℕ, ◌++◌, ◌==◌, Bool, false, List, [], None, codes, decimal, if◌then◌else◌}
 use Rattle.reports.specs.Forms.{count_line, json_fields, tsv_head, tsv_row}
 use Rattle.reports.specs.declared.report.Report.{Report}

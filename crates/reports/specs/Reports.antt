@@ -1,4 +1,4 @@
--- What a sketch says of its stream.
+-- Reports: the estimate of a sketch, with its bounds.
 use Rattle.std.specs.Prelude.{ℕ, Bool, ◌≡◌, ◌<◌, ◌≤◌, ◌==◌, ◌||◌, true, false, length}
 use Rattle.core_compact.specs.CompactState.{Compact}
 use Rattle.core_laws.specs.declared.TheConstants.{MAX_THETA}

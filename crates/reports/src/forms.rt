@@ -1,4 +1,4 @@
-//! The lines that are written of a report. Each ends in LF, and fails only if memory is refused.
+//! The lines that are written of a report. Each ends in an LF. The only error is `AllocError`.
 ghost use Rattle.std.specs.Prelude.{◌≡◌, ◌++◌, IfOk, OnOk, string_bytes};
 ghost use Rattle.std.specs.Option.{option_map};
 ghost use Rattle.reports.specs.Forms.{count_line, json_fields, json_head, json_line, shown_estimate, shown_line, tsv_head, tsv_name, tsv_row};
@@ -8,7 +8,7 @@ use crate::names::{escaped_name, put_json_string};
 use crate::report::Report;
 use std::alloc::{AllocError, Allocator};
 
-/// The line of a count: the estimate, and with bounds the lower and the upper one behind it, separated by spaces.
+/// The line of a count: the estimate, and with bounds the lower and the upper one after it, separated by spaces.
 pub fn count_line<A: Allocator>(
     alloc: A,
     report: Report,
@@ -85,7 +85,7 @@ fn row_name<A: Allocator>(alloc: A, name: Option<&str>) -> Result<String<A>, All
     Ok(text)
 }
 
-/// The row of a report in a table: its values in the order of `tsv_head`, separated by tabs, behind the name if there is
+/// The row of a report in a table: its values in the order of `tsv_head`, separated by tabs, after the name if there is
 /// one. Control characters of the name are escaped, tabs too.
 pub fn tsv_row<A: Allocator>(
     alloc: A,

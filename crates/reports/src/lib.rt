@@ -1,6 +1,6 @@
-//! What a sketch says of its stream, and the lines that programs write of it.
+//! Reports on the stream of a sketch, and the lines that programs write of them.
 //!
-//! A report is the estimate of a sketch with its bounds, whether they are exact, and the number of retained entries with
+//! A report has the estimate of a sketch, its bounds, whether these are exact, the number of retained entries, and
 //! theta. It is written as a line of a count, a line that is shown, a row of a table, or a line of JSON.
 #![tactic(auto)]
 

@@ -1,4 +1,4 @@
-//! What a sketch says of a part of the values of its stream.
+//! Reports on a part of the values of a stream.
 ghost use Rattle.std.specs.Prelude.{◌≡◌, ◌<◌, ◌≤◌, ◌^◌, ℕ, length};
 ghost use Rattle.core_compact.specs.CompactState.{Compact};
 ghost use Rattle.core_laws.specs.declared.TheConstants.{MAX_THETA};
@@ -32,9 +32,9 @@ fn part_fraction(is_empty: bool, retained: usize, theta: u64) -> (u128, u128)
     }
 }
 
-/// What a sketch says of a part of the values of its stream, such as those that occur twice, by the number of those that it
-/// retains, fewer than 2^32, and by its theta, from 1 to `MAX_THETA`. It is the report of any sketch that retains so many
-/// values below this theta.
+/// The report on a part of the values of a stream, such as those that occur twice: from the number of them that a
+/// sketch retains, fewer than 2^32, and the sketch's theta, from 1 to `MAX_THETA`. Any sketch that retains so many
+/// values below this theta has the same report.
 pub fn report_of_part(is_empty: bool, retained: usize, theta: u64, deviations: Deviations) -> Report
     requires limited { retained < 2 ^ 32 }
     requires low { 0 < theta }

@@ -1,5 +1,5 @@
-//! The lines that are written of the values of a stream that occur from some number of times to another. Each ends in LF,
-//! and fails only if memory is refused.
+//! The lines that are written of the values of a stream that occur from some number of times to another. Each ends in
+//! an LF. The only error is `AllocError`.
 ghost use Rattle.std.specs.Prelude.{◌≡◌, IfOk, string_bytes};
 ghost use Rattle.reports.specs.Ranges.{range_json_line, range_line, range_text, range_tsv_head, range_tsv_row};
 

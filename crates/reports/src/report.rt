@@ -1,4 +1,4 @@
-//! What a sketch says of its stream.
+//! Reports: the estimate of a sketch, with its bounds.
 ghost use Rattle.std.specs.Prelude.{◌≡◌, ◌<◌, ◌^◌};
 ghost use Rattle.core_laws.specs.Values.{fraction_of};
 ghost use Rattle.core_state.specs.Updatable.{sketch_value};
@@ -10,7 +10,7 @@ use estimates::{Deviations, Interval, count_bounds};
 use std::alloc::Allocator;
 use theta_sketches::{CompactThetaSketch, ThetaSketch};
 
-/// What a sketch says of its stream. `report_of` returns one.
+/// The estimated number of distinct values of a stream, with bounds, from one sketch. `report_of` returns one.
 #[derive(Debug, Clone, Copy, PartialEq, Eq)]
 pub struct Report {
     /// The estimated number of distinct values, rounded to the nearest whole number; a half is rounded up.
@@ -43,8 +43,8 @@ fn is_exact<A: Allocator>(sketch: &CompactThetaSketch<A>) -> bool
     sketch.is_empty() || sketch.theta64() == MAX_THETA
 }
 
-/// What a sketch says of its stream, with bounds of these standard deviations. The estimate is within the bounds. If the
-/// report isn't exact, the upper bound is above the number of retained entries, also if there are none.
+/// The report on the stream of a sketch, with bounds of these standard deviations. The estimate is within the bounds.
+/// If the report isn't exact, the upper bound is above the number of retained entries, also if there are none.
 pub fn report_of<A: Allocator>(sketch: &CompactThetaSketch<A>, deviations: Deviations) -> Report
     ensures made { result ≡ report_of (deviation_count deviations) sketch.now }
     ensures consistent { IsConsistent result }

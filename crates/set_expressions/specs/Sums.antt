@@ -8,12 +8,12 @@ use Rattle.core_slots.specs.declared.entry.TupleEntry.{TupleEntry}
 use Rattle.set_expressions.specs.Values.{sum_rules, is_too_great}
 use Rattle.set_expressions.specs.Running.{AreRefused}
 
--- the value that an intersection has so far can't be met with another
+-- the policy refuses to intersect the value that an intersection has so far with another
 abbrev pub IsRefusedMeet : Option (Sketch (TupleEntry ℕ)) → Sketch (TupleEntry ℕ) → Type 0
 IsRefusedMeet None v = ⊥
 IsRefusedMeet (Some u) v = AreRefused sum_rules u v
 
--- an entry of a union, below its theta, can't be merged with the entry of a value at its key
+-- the policy refuses to merge an entry of a union, below its theta, with the entry of a value at its key
 abbrev pub IsRefusedJoin : {P : Type 0} → Union (TupleEntry ℕ) P → Sketch (TupleEntry ℕ) → Type 0
 IsRefusedJoin u Empty = ⊥
 IsRefusedJoin u (NonEmpty v) = IsMergeRefused tuple_key is_too_great (below tuple_key u.content.entries (min u.content.theta v.theta)) v.entries

@@ -112,7 +112,7 @@ fn run_step<F: SetFamily<A, B>, A: Allocator, B: Allocator>(
 }
 
 /// Evaluates the steps of an expression over one sketch per name, in postfix order. The result is ordered. A union
-/// retains at most 2^`lg_k` entries. A name alone gives its sketch, which keeps all its entries.
+/// retains at most 2^`lg_k` entries. The result of a name alone is its sketch, with all its entries.
 ///
 /// Refused with `InvalidArgument` if `lg_k` isn't from 4 to 26 or the seed's hash is 0; if a sketch that isn't empty is
 /// of another seed, even if no step takes it; and if the steps aren't those of one expression over these sketches.

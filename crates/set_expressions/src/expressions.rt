@@ -21,7 +21,7 @@ use theta_sketches::CompactThetaSketch;
 use tuple_sketches::CompactTupleSketch;
 
 /// Evaluates the steps of an expression over one sketch per name, in postfix order. The result is ordered. A union
-/// retains at most 2^`lg_k` hashes. A name alone gives its sketch, which keeps all its hashes.
+/// retains at most 2^`lg_k` hashes. The result of a name alone is its sketch, with all its hashes.
 ///
 /// If each sketch retains exactly the hashes of its whole stream below its theta, the result retains exactly the hashes
 /// of the same expression of the whole streams below the result's theta.
@@ -52,15 +52,15 @@ pub fn evaluate<A: Allocator + Clone + Drop, B: Allocator>(
 
 /// Evaluates the steps of an expression over one sketch of sums per name, in postfix order. In a union and an
 /// intersection the sums of a key are added; a difference keeps the sums of its first operand. The result is ordered. A
-/// union retains at most 2^`lg_k` keys. A name alone gives its sketch, which keeps all its keys.
+/// union retains at most 2^`lg_k` keys. The result of a name alone is its sketch, with all its keys.
 ///
 /// If each sketch retains exactly the keys of its whole stream below its theta, with their sums, the result retains
 /// exactly the keys of the same expression of the whole streams below the result's theta, with their sums.
 ///
 /// Refused with `InvalidArgument` if `lg_k` isn't from 4 to 26 or the seed's hash is 0; if a sketch that isn't empty is
 /// of another seed, even if no step takes it; and if the steps aren't those of one expression over these sketches.
-/// Refused with `OutOfMemory`; and with `Policy` only if the sum of some key that both operands of a union or an
-/// intersection have is 2^64 or more. No result has such a sum: each is the whole-number sum.
+/// Refused with `OutOfMemory`; and with `Policy` only if the sums of some key that both operands of a union or an
+/// intersection have are 2^64 or more together. So no sum in a result has wrapped.
 pub fn evaluate_sums<A: Allocator + Clone + Drop, B: Allocator>(
     alloc: A,
     seed: u64,

@@ -1,4 +1,4 @@
--- The lines that are written of a total. Each ends in LF.
+-- The lines that are written of a total. Each ends in an LF.
 use Rattle.std.specs.Prelude.{ℕ, ◌++◌, List, codes, decimal, if◌then◌else◌}
 use Rattle.totals.specs.declared.total.Total.{Total}
 

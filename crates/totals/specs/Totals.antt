@@ -15,7 +15,7 @@ sum_of (e ∷ es) = e.summary + sum_of es
 abbrev pub estimated_total : Compact (TupleEntry ℕ) → ℕ
 estimated_total s = nearest (sum_of s.entries * MAX_THETA) s.theta
 
--- what a sketch of sums says of the total of its stream
+-- the total that a sketch of sums estimates, and the numbers that it follows from
 unfoldable pub total_of : Compact (TupleEntry ℕ) → Total
 total_of s = record {
   total = estimated_total s;

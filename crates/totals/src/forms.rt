@@ -1,4 +1,4 @@
-//! The lines that are written of a total. Each ends in LF, and fails only if memory is refused.
+//! The lines that are written of a total. Each ends in an LF. The only error is `AllocError`.
 ghost use Rattle.std.specs.Prelude.{◌≡◌, IfOk, string_bytes};
 ghost use Rattle.totals.specs.Forms.{total_json_line, total_line, total_tsv_head, total_tsv_row};
 

@@ -1,4 +1,4 @@
-//! What a sketch of sums says of the total of its stream.
+//! The estimated total of the values of a stream, from a sketch of sums.
 ghost use Rattle.std.specs.Prelude.{◌≡◌, ◌<◌, ◌≤◌, ◌*◌, ◌-◌, ◌^◌, length};
 ghost use Rattle.core_laws.specs.declared.TheConstants.{MAX_THETA};
 ghost use Rattle.estimates.specs.Bounds.{nearest};
@@ -9,7 +9,7 @@ use core_laws::MAX_THETA;
 use std::alloc::Allocator;
 use tuple_sketches::{CompactTupleSketch, TupleSketchIter};
 
-/// What a sketch of sums says of the total of its stream. `total_of` returns one.
+/// The estimated total of the values of a stream, from a sketch of sums. `total_of` returns one.
 #[derive(Debug, Clone, Copy, PartialEq, Eq)]
 pub struct Total {
     /// The estimated total of the values of all keys, rounded to the nearest whole number; a half is rounded up.
@@ -22,7 +22,7 @@ pub struct Total {
     pub theta: u64,
 }
 
-/// The sum of the sums of entries, below 2^96. There are fewer than 2^32 entries, as in every sketch.
+/// The sum of the summaries of entries, below 2^96. There must be fewer than 2^32 entries, as in every sketch.
 pub fn sum_of(entries: TupleSketchIter<'_, u64>) -> u128
     requires limited { length entries.rest < 2 ^ 32 }
     ensures sum { result ≡ sum_of entries.entry.rest }
@@ -48,8 +48,8 @@ fn scaled(sum: u128, theta: u64) -> u128
     sum / under * greatest + (2 * rest + under) / (2 * under)
 }
 
-/// What a sketch of sums says of the total of its stream. The total is at least the sum of the retained sums, and that sum
-/// itself if it is exact.
+/// The estimated total of the values of a stream, from a sketch of sums of it. It is at least the sum of the retained
+/// sums, and that sum itself if it is exact.
 pub fn total_of<A: Allocator>(sketch: &CompactTupleSketch<u64, A>) -> Total
     ensures value { result ≡ total_of sketch.now }
     ensures consistent { IsTotalOf sketch.now.entries result }
