@@ -52,7 +52,9 @@ impl<T: Drop> Owned<T> {
         let _ = std::mem::replace(self, Owned::none()).into_box(alloc);
     }
 
-    /// Puts an object in, unless there is one or memory is refused, and returns the status. A refusal of the object is passed on.
+    /// Puts a new object in, and returns the status: `OK`; `INVALID_ARGUMENT` if there is an object already; the status
+    /// in `made` if making the object was refused; `OUT_OF_MEMORY` if memory for it is refused. If refused, nothing has
+    /// changed.
     pub fn put_or(&mut self, alloc: Global, made: Result<T, u32>) -> u32
         ensures { Fills (IsMadeBy made) (IsRefusedBy made) self.old.value result self.new.value }
     {
@@ -71,7 +73,7 @@ impl<T: Drop> Owned<T> {
         }
     }
 
-    /// As `put_or`, with the status of the error of a refused object.
+    /// As `put_or`, for a refusal that is an error.
     pub fn put(&mut self, alloc: Global, made: Result<T, Error>) -> u32
         ensures { Fills (IsMadeBy made) (IsRefusedWith made) self.old.value result self.new.value }
     {

@@ -1,4 +1,5 @@
-//! Calls on objects of several kinds, once for all.
+//! Calls on objects of several kinds, once for all. Each returns a status, `INVALID_ARGUMENT` if an object that it
+//! needs is missing.
 ghost use Rattle.std.specs.Prelude.{◌≡◌, true, option_map};
 ghost use Rattle.c_handles.specs.Calls.{OnObject, OnObjectWith, Fills, FillsFrom, FillsFromTwo, WritesValue};
 ghost use Rattle.sketch_objects.specs.Bounds.{is_state, wide};
@@ -89,7 +90,7 @@ impl<T: CanCopy> Owned<T> {
 }
 
 impl<T: HasDifference> Owned<T> {
-    /// Puts the difference of the sketch and the one behind another pointer into a third pointer.
+    /// Puts the difference of the sketch and that of another pointer into a third pointer.
     pub fn difference(
         &mut self,
         alloc: Global,
@@ -137,7 +138,7 @@ impl<T: CanReset> Owned<T> {
 }
 
 impl<T> Owned<T> {
-    /// Adds the sketch behind another pointer to the inputs of the operator.
+    /// Adds the sketch of another pointer to the inputs of the operator.
     pub fn add<S>(&mut self, sketch: &mut Owned<S>) -> u32
     where
         T: Accepts<S>,

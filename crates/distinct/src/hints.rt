@@ -1,4 +1,4 @@
-//! What to do about a failure, behind its message, by the words of the command.
+//! What to do about a failure: printed after its message, by the words of the command.
 
 use distinct_arguments::{Escaped, Fault};
 use distinct_inputs::{Failure, family_name};

@@ -158,8 +158,8 @@ fn check_terminal(
     }
 }
 
-/// Does what a request says, under this seed, on files of these names, of which it opens `opened`. The answer goes to standard output, or to the file that
-/// `--output` names, which is created once the whole answer is made.
+/// Does what a request says, under this seed, on files of these names, of which it opens `opened`. The answer goes to
+/// standard output, or to the file that `--output` names, which is created once the whole answer is made.
 fn run_request(
     rt: &HostRuntime,
     request: Request<'_>,

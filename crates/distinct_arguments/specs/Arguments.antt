@@ -92,7 +92,7 @@ abbrev pub has_lone_sum : Command → OptionValues → Bool
 has_lone_sum Sum options = is_none options.value
 has_lone_sum _ options = false
 
--- a separator is chosen, and no field that it ends
+-- a separator is chosen, but no field
 abbrev pub is_separator_lone : OptionValues → Bool
 is_separator_lone options = is_some options.separator && is_none options.field && is_none options.by && is_none options.value
 
@@ -119,7 +119,7 @@ has_lone_digits _ options = false
 abbrev pub has_summed_bounds : Command → OptionValues → Bool
 has_summed_bounds command options = reads_expression command && options.sums && is_some options.bounds
 
--- what a command does with its files, unless they don't fit to a list of files, or standard input would be read twice
+-- what a command does with its files, unless they don't fit a list of files, or standard input would be read twice
 abbrev pub listed_action : Command → OptionValues → (files : List (List ℕ)) → Action
 listed_action command options files =
     if is_some options.list && not (length files == 0) then fails files_and_list else
@@ -179,8 +179,8 @@ abbrev pub at_value : Result OptionValues Mistake → (OptionValues → Action) 
 at_value (Ok options) next = next options
 at_value (Err mistake) next = fails mistake
 
--- What the program does by the words after a command: the value that an option awaits, options, and then files. The files are the words
--- behind `--`, or those from the first word on that doesn't look like an option.
+-- What the program does by the words after a command: the value that an option awaits, options, and then files. The
+-- files are the words after `--`, or those from the first word on that doesn't look like an option.
 abbrev pub command_action : Command → OptionValues → Option Awaiting → List (List ℕ) → Action
 command_action command options None [] = run_action command options []
 command_action command options None (word ∷ words) =

@@ -149,8 +149,8 @@ IsMeaning name (Sets options) meaning = sets (options_of options) ≡ meaning
 IsMeaning name (Awaits option) meaning = awaits (record { option = option; name = name }) ≡ meaning
 IsMeaning name (MeansWrong fault) meaning = IsWrong fault meaning
 
--- The front of words after a command: an option, behind which fewer words than this count have the same action, or all that the words
--- mean. The last files are those behind `--`.
+-- The front of words after a command: an option, after which fewer words than this count have the same action, or all
+-- that the words mean. The last files are those after `--`.
 abbrev pub IsStep : Command → OptionValues → (count : ℕ) → Action → Step → Type 0
 IsStep command options count action (Next changed behind) =
     (length behind.now < count) × (command_action command (options_of changed) None (words_of behind.now) ≡ action)

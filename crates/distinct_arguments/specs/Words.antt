@@ -54,7 +54,7 @@ pub record Setting : Type 0 where
   pub name : List ℕ
   pub value : Option (List ℕ)
 
--- the name and the value are before and behind the first `=` (61)
+-- the name and the value are before and after the first `=` (61)
 abbrev pub split_option : List ℕ → Setting
 split_option word = record {
   name = before_first (λ byte. byte == 61) word;

@@ -26,7 +26,7 @@ enum Meaning<'a> {
     Wrong(Fault),
 }
 
-/// What an option of a command means, with the value behind its `=` or without.
+/// What an option of a command means, with the value after its `=` or without one.
 fn meaning_of_option<'a>(
     alloc: Global,
     command: Command,
@@ -76,7 +76,7 @@ fn meaning_of<'a>(
     }
 }
 
-/// What the next words are: an option, a request for help, the files, the files behind `--`, or a fault.
+/// What the next words are: an option, a request for help, the files, the files after `--`, or a fault.
 #[derive(Debug, Drop)]
 enum Step<'a> {
     Next(Options<'a>, &'a [String]),
@@ -167,9 +167,10 @@ fn read_command<'a>(
     }
 }
 
-/// What the arguments request, without the program's name. If they are wrong, it fails with the first fault of a word from
-/// the left, else with the first of `NotOneExpression`, `LoneField`, `LoneSum`, `LoneSeparator`, those of sums and of
-/// groups, `FilesAndList` and `StandardTwice` that applies, or with `Memory` if memory for the text of a fault is refused.
+/// What the arguments request, without the program's name. If they are wrong, it fails with the first fault of a word
+/// from the left; if no word has one, with the first that applies of `NotOneExpression`, `LoneField`, `LoneSum`,
+/// `LoneSeparator`, those of sums and of groups, `FilesAndList` and `StandardTwice`. If memory for the text of a fault
+/// is refused, it fails with `Memory`.
 pub fn read_arguments(words: &[String]) -> Result<Request<'_>, Fault>
     ensures { ParsesAs result (action_of (words_of words.now)) }
 {

@@ -16,7 +16,7 @@ pub enum Fault {
     UnknownCommand(String),
     /// The command doesn't have this option.
     UnknownOption(String),
-    /// This word is behind a file and looks like an option.
+    /// This word is after a file and looks like an option.
     BehindFile(String),
     /// This option takes a value, and is the last argument.
     NoValue(String),
@@ -42,25 +42,25 @@ pub enum Fault {
     WrongDeviations,
     /// The value of `--expect` is not a number from 1 to 2^32 - 1.
     WrongCount,
-    /// `eval` doesn't have exactly one argument behind its options.
+    /// `eval` doesn't have exactly one argument after its options.
     NotOneExpression,
     /// `eval` has `--field` without `--keys`.
     LoneField,
     /// `sum` has no `--value`.
     LoneSum,
-    /// There is `--separator` without `--field` and without `--by`.
+    /// There is `--separator` without `--field`, `--by` and `--value`.
     LoneSeparator,
-    /// There are `--value` and `--visits`.
+    /// There are both `--value` and `--visits`.
     TwoAmounts,
     /// `sketch` has `--value` or `--visits`, and `--by` or `--progress`.
     PlainSums,
     /// `visits` has `--hex` without `--sums`.
     LoneDigits,
-    /// There are `--sums` and `--keys`.
+    /// There are both `--sums` and `--keys`.
     SummedKeys,
-    /// There are `--sums` and `--field`.
+    /// There are both `--sums` and `--field`.
     SummedField,
-    /// There are `--sums` and `--groups`.
+    /// There are both `--sums` and `--groups`.
     SummedGroups,
     /// `eval` has `--sums` and `--bounds`.
     SummedBounds,
@@ -70,13 +70,13 @@ pub enum Fault {
     LoneOrder,
     /// There is `--groups` without `--hex`.
     LoneUnions,
-    /// There are `--groups` and `--expect`.
+    /// There are both `--groups` and `--expect`.
     CountedGroups,
     /// There is `--output-dir` without `--by`.
     LoneFolder,
-    /// There are `--output` and `--output-dir`.
+    /// There are both `--output` and `--output-dir`.
     TwoOutputs,
-    /// There are `--files0-from` and a file.
+    /// There are both `--files0-from` and a file.
     FilesAndList,
     /// Standard input would be read twice.
     StandardTwice,
@@ -103,7 +103,7 @@ pub(crate) enum WrongWord {
     UnknownCommand,
     /// It is an option that the command doesn't have.
     UnknownOption,
-    /// It is behind a file and looks like an option.
+    /// It is after a file and looks like an option.
     BehindFile,
     /// It is an option whose value is missing.
     NoValue,
@@ -127,7 +127,8 @@ pub(crate) fn quoting(alloc: Global, wrong: WrongWord, word: &str) -> Fault
     }
 }
 
-/// The fault of a word that is no seed.
+/// The fault of a word that was given as a seed and is none: `ZeroSeed` if it is a number whose seed hash is 0,
+/// otherwise `WrongSeed`.
 pub(crate) fn wrong_seed(word: &str) -> Fault
     ensures { Reports result wrong_seed }
 {

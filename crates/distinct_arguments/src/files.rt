@@ -1,4 +1,4 @@
-//! The files behind options, and whether they fit to the options.
+//! The files after the options, and whether they fit the options.
 ghost use Rattle.std.specs.Prelude.{◌≡◌, ◌≤◌, ◌+◌, nat_lt, string_bytes, if◌then◌else◌};
 ghost use Rattle.std.specs.Option.{option_map};
 ghost use Rattle.std.specs.List.{find};
@@ -85,7 +85,7 @@ fn number_if(test: bool) -> u8
     if test { 1 } else { 0 }
 }
 
-/// Whether `uses`, at most 3, and the files that are standard input are together more than one.
+/// Whether `uses`, at most 3, and the number of files that are standard input are more than 1 together.
 fn is_repeated(uses: u8, files: &[String]) -> bool
     requires { uses ≤ 3 }
     ensures { result ≡ nat_lt 1 (uses + standard_files (words_of files.now)) }
@@ -162,7 +162,7 @@ fn has_lone_digits(command: Command, options: &Options<'_>) -> bool
     }
 }
 
-/// Whether there is a separator, and no field that it ends.
+/// Whether there is a separator, but no option that chooses a field.
 fn is_separator_lone(options: &Options<'_>) -> bool
     ensures { result ≡ is_separator_lone (options_of options.now) }
 {
@@ -170,7 +170,7 @@ fn is_separator_lone(options: &Options<'_>) -> bool
     options.separator.is_some() && !has_field
 }
 
-/// The request to run a command on files, if these fit to a list of files, and standard input is read once.
+/// The request to run a command on files, if these fit a list of files, and standard input is read once.
 fn listed_request<'a>(
     command: Command,
     options: Options<'a>,
@@ -187,7 +187,7 @@ fn listed_request<'a>(
     Ok(Request::Run(command, options, files))
 }
 
-/// The request to run a command on files, if its options for groups fit together, and the files fit to them.
+/// The request to run a command on files, if its options for groups fit together, and the files fit them.
 fn grouped_request<'a>(
     command: Command,
     options: Options<'a>,
@@ -216,7 +216,7 @@ fn grouped_request<'a>(
     listed_request(command, options, files)
 }
 
-/// The request to run a command on files, if its options for images of sums fit together, and the files fit to them.
+/// The request to run a command on files, if its options for images of sums fit together, and the files fit them.
 fn summed_request<'a>(
     command: Command,
     options: Options<'a>,
@@ -239,7 +239,7 @@ fn summed_request<'a>(
     grouped_request(command, options, files)
 }
 
-/// The request to run a command on files, if its options for the sums of lines fit together, and the files fit to them.
+/// The request to run a command on files, if its options for the sums of lines fit together, and the files fit them.
 fn added_request<'a>(
     command: Command,
     options: Options<'a>,

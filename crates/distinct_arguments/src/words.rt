@@ -51,7 +51,7 @@ pub(crate) fn is_option(word: &str) -> bool
     }
 }
 
-/// The name of an option in a word, and its value: the parts before and behind the first `=`.
+/// The name of an option in a word, and its value: the parts before and after the first `=`.
 pub(crate) fn split_option(word: &str) -> (&str, Option<&str>)
     ensures name { result.0.now ≡ (split_option word.now).name }
     ensures value { option_map (λ value. value.now) result.1 ≡ (split_option word.now).value }

@@ -89,7 +89,7 @@ abbrev pub AreLinesOf : (hex : Bool) → OptionValues → (seed : ℕ) → (name
 AreLinesOf true options seed names texts out = AreShown options seed (images_of true texts) out
 AreLinesOf false options seed names texts out = AreShownByName options seed names texts out
 
--- .. behind the head of a table, if there is to be one
+-- .. after the head of a table, if there is to be one
 abbrev pub IsShownOf : OptionValues → (seed : ℕ) → (names texts : List (List ℕ)) → List ℕ → Type 0
 IsShownOf options seed names texts out =
     (lines : List ℕ) × AreLinesOf options.hex options seed names texts lines × (out ≡ head_of options.form ++ lines)

@@ -34,7 +34,7 @@ grouped_in Json with_bounds name report = json_line (Some (utf8_lossy name)) rep
 abbrev pub group_text : OptionValues → (name : List ℕ) → Compact ℕ → List ℕ
 group_text options name s = grouped_in options.form (is_some options.bounds) name (report_by options s)
 
--- the line of a group: its count, or its image as a line has it, behind its name as it is and a tab
+-- the line of a group: its count, or its image as a line has it, after its name as it is and a tab
 abbrev pub group_line : (images : Bool) → OptionValues → (name : List ℕ) → Compact ℕ → List ℕ
 group_line false options name s = group_text options name s
 group_line true options name s = image_line name (written s)
@@ -61,7 +61,8 @@ abbrev pub AreOrdered : Order → (estimate : List ℕ → ℕ) → (names order
 AreOrdered Estimate estimate names ordered = AreRanked estimate names ordered
 AreOrdered Name estimate names ordered = ordered ≡ names
 
--- what is printed of the lines of texts by groups: a line of each group of these lines, in the order that is chosen, behind the head
+-- what is printed of the lines of texts by groups: a line of each group of these lines, in the order that is chosen,
+-- after the head
 abbrev pub IsGroupedText : (images : Bool) → OptionValues → (seed : ℕ) → (by : Key) → (texts : List (List ℕ)) → List ℕ → Type 0
 IsGroupedText images options seed by texts out =
     let lines = lines_of_all texts in

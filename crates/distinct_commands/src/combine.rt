@@ -115,7 +115,8 @@ pub fn remark_coarser<S: Sources, C: Console>(images: &Images<'_, S>, lg_k: u8, 
     }
 }
 
-/// The failure for an image that was not added to a union; only for one of sums is it that the sum of a key is 2^64 or more.
+/// The failure for an image that was not added to a union. That the sum of a key is 2^64 or more is a failure of images
+/// of sums alone.
 pub fn not_added<S: Sources>(images: &Images<'_, S>, error: Error) -> Failure
     requires { (error ≡ OutOfMemory) ⊎ ((error ≡ Policy) ⊎ (error ≡ InvalidData)) }
     ensures policy { error ≡ Policy → ReportsPastUnion images.now result }

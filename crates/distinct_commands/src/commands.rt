@@ -26,15 +26,23 @@ use theta_sketches::CompactThetaSketch;
 /// The name of standard output in messages.
 const STANDARD_OUTPUT: &str = "standard output";
 
-/// Runs a command under a seed on the files that sources give, under these names, and writes its whole answer and nothing
-/// else. For `eval` the only name is the expression. Any command may fail with `Memory`, with `Unreadable`, and with
-/// `NotWritten` for standard output. Each other failure only some commands have: those of images, lines of images and groups
-/// only a command that reads images; `NoFiles` only if it reads images and no file is named; `NotTwo` only `minus` and, if
-/// contracts know the files' bytes, only if two files aren't named (without `--hex`) or their images aren't two;
-/// `WrongCount` only a command on images, if `--expect` names another number than it reports to have found; `NoName`,
-/// `NotOneEach`, `NoExpression` and `NotOneExpression` only `eval`; `PastUnion` only a command on images of sums; `LoneSum`
-/// only `sum`, if its options have no field of numbers; `NotANumber` only a command that sums lines, and `PastGreatest` too,
-/// if a sum is 2^64 or more. Only if the writer fails may a part of the answer have been written.
+/// Runs a command under a seed on the files that `sources` opens, under these names, and writes its whole answer and
+/// nothing else. For `eval` the only name is the expression. Only if the writer fails may a part of the answer have
+/// been written.
+///
+/// Any command may fail with `Memory`, with `Unreadable`, and with `NotWritten` for standard output. Each other failure
+/// has its commands:
+///
+/// - those of images, of lines of images and of groups: commands that read images;
+/// - `NoFiles`: commands that read images, if no file is named;
+/// - `WrongCount`: commands that combine images, also `visits --sums`, if `--expect` names another number than the
+///   failure reports to have been found;
+/// - `NotTwo`: `minus`. If contracts know the files' bytes, only if the named files aren't two (without `--hex`) or
+///   their images aren't two;
+/// - `NoName`, `NotOneEach`, `NoExpression`, `NotOneExpression` and `PastResult`: `eval`;
+/// - `PastUnion`: commands on images of sums, if the sum of a key is 2^64 or more;
+/// - `LoneSum`: `sum`, if its options have no field of numbers;
+/// - `NotANumber` and `PastGreatest`: commands that sum lines, if a line has no number, or if a sum is 2^64 or more.
 pub fn answer<S: Sources + Drop, C: Console, O: Write>(
     alloc: Global,
     command: Command,
@@ -62,8 +70,9 @@ pub fn answer<S: Sources + Drop, C: Console, O: Write>(
     put(alloc, writer, STANDARD_OUTPUT, bytes.as_slice())
 }
 
-/// Does what a request says: prints its text, or runs its command under this seed on the files that sources give, under these
-/// names. It fails as the command does, or if the writer does. Nothing is written if it isn't the writer that failed.
+/// Does what a request says: prints its text, or runs its command under this seed on the files that `sources` opens,
+/// under these names. It fails as `answer` does, or if the writer does. Unless the writer fails, a request that fails
+/// has written nothing.
 pub fn perform<S: Sources + Drop, C: Console, O: Write>(
     alloc: Global,
     request: Request<'_>,

@@ -166,8 +166,8 @@ impl<'a> GroupPrinter<'a> {
         }
     }
 
-    /// The lines of groups, in the order that options choose, behind the head of a table if there is to be one. It fails if
-    /// memory is refused.
+    /// The lines of groups, in the order that options choose, after the head of a table if there is to be one. It fails
+    /// if memory is refused.
     pub fn table(self, groups: &mut Groups) -> Result<Vec<u8>, Failure>
         ensures printed { (grouping : Grouping) (lines names : List (List ℕ))
             → AreLeft grouping lines names groups.old

@@ -1,7 +1,7 @@
 //! The commands of the program `distinct`: what each prints or writes, over any sources of lines and images and any writer.
 //!
-//! The promise is that of `perform`: what a command writes is bound to its options, its seed, and the names and texts of its
-//! files. A command that fails writes nothing but what it had written to the writer before, and says why by a [`Failure`].
+//! The promise is that of `perform`: what a command writes is bound to its options, its seed, and the names and texts
+//! of its files. A command that fails returns a [`Failure`], and has written nothing unless the writer failed.
 //!
 //! What a request writes, of files that `sources` opens:
 //!

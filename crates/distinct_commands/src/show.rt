@@ -74,7 +74,7 @@ pub fn shown_text(
 }
 
 impl<'a, S: Sources + Drop> Job<'a, S> {
-    /// One line per image, behind the head of a table if there is to be one.
+    /// One line per image, after the head of a table if there is to be one.
     pub fn show_inputs(self, files: &[String]) -> Result<Vec<u8>, Failure>
         ensures shown { IfSome (S.texts self.entry.inputs.sources) (λ texts.
             IfOk result (λ v. IsShownOf (options_of self.entry.options.now) self.entry.seed (names_of files.now) texts v.items)) }

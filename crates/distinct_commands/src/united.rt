@@ -21,7 +21,7 @@ pub fn unites_groups(operator: Operator, options: &Options<'_>) -> bool
     operator == Operator::Union && options.groups
 }
 
-/// The failure for a line of this number, from 1, of the file of this name in messages, which has this flaw.
+/// The failure for a line with this flaw: its number, from 1, and the name of its file in messages.
 fn flawed(alloc: Global, name: &str, line: u64, flaw: LineFlaw) -> Failure
     ensures reports { ReportsFlawed name.now line flaw result }
     ensures of_images { IsOfImages result }

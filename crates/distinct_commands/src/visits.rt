@@ -1,4 +1,4 @@
-//! What `visits` prints: how many keys come once, twice, 3 to 4 times, and so on, by lines or by images of sums.
+//! What `visits` prints: how many keys occur once, twice, 3 to 4 times, and so on, in lines or in images of sums.
 ghost use Rattle.std.specs.Prelude.{◌≡◌, ◌≢◌, ◌<◌, ◌++◌, true, IfOk, IfErr, IfSome, OnOk, string_bytes};
 ghost use Rattle.sketch_base.specs.Seed.{seed_hash};
 ghost use Rattle.line_sums.specs.declared.addends.Amount.TheVariants.{One};
@@ -112,8 +112,8 @@ fn united_visits<S: Sources>(
 }
 
 impl<'a, S: Sources + Drop> Job<'a, S> {
-    /// What `visits` prints of the lines of all sources. It fails if memory is refused, a source can't be read, or a line
-    /// comes 2^64 times.
+    /// What `visits` prints of the lines of all sources. It fails if memory is refused, a source can't be read, or a
+    /// line occurs 2^64 times.
     fn visit_lines(self) -> Result<Vec<u8>, Failure>
         requires seeded { seed_hash self.seed ≢ 0 }
         ensures printed { IfSome (S.texts self.entry.inputs.sources) (λ texts. IfOk result (λ v.

@@ -26,7 +26,8 @@ without_end text = take (length text - suffix_len is_ascii_whitespace text) text
 abbrev pub trimmed : List ℕ → List ℕ
 trimmed text = without_end (drop (prefix_len is_ascii_whitespace text) text)
 
--- The bytes that a line spells in hexadecimal digits, without the blanks around them. A line that spells none gives no bytes, which can't be read as a sketch.
+-- The bytes that a line spells in hexadecimal digits, without the blanks around them. For a line that spells none: no
+-- bytes, which can't be read as a sketch.
 abbrev pub line_image : List ℕ → List ℕ
 line_image line = unwrap_or (bytes_of_hex (trimmed line)) []
 
@@ -107,7 +108,7 @@ image_flaw sums h bytes = if sums then sums_flaw_of h bytes else flaw_of h bytes
 abbrev pub length_of : (sums : Bool) → List ℕ → Option ℕ
 length_of sums bytes = if sums then sums_length bytes else image_length bytes
 
--- nothing is behind the image that bytes begin, if they begin one
+-- nothing follows the image that bytes begin, if they begin one
 abbrev pub IsAlone : (sums : Bool) → List ℕ → Type 0
 IsAlone sums bytes = IfSome (length_of sums bytes) (λ n. length bytes ≤ n)
 

@@ -20,7 +20,7 @@ names_in (byte ∷ list) = if byte == 0 then [] ∷ names_in list else onto_firs
 abbrev pub IsName : List ℕ → Type 0
 IsName text = (text ≢ []) × IsUtf8 text
 
--- a text behind this many others was not put into a list: memory was refused, or it can't be a name
+-- a text after this many others was not put into a list: memory was refused, or it can't be a name
 abbrev pub IsNotPut : (count : ℕ) → List ℕ → Unlisted → Type 0
 IsNotPut count text Memory = ⊤
 IsNotPut count text (Name number) = (IsName text → ⊥) × (number ≡ min (count + 1) (2 ^ 64 - 1))

@@ -90,10 +90,10 @@ pub fn out_of_memory(error: Error) -> Failure
     Failure::Memory
 }
 
-/// The most bytes of a file's name that a message prints, but for the end of a character.
+/// The most bytes of a file's name that a message prints; a character that begins within them is printed whole.
 const LONGEST_NAME: usize = 200;
 
-/// The name of a file as messages print it: each control character is escaped, and what is behind 200 bytes is left out.
+/// The name of a file as messages print it: each control character is escaped, and the rest after 200 bytes is `..`.
 #[derive(Drop)]
 struct Named<'a>(&'a str);
 

@@ -199,7 +199,7 @@ impl<'a, S: Sources> Images<'a, S> {
         check_alone(self.sums, image)
     }
 
-    /// The next image, or `None` at the end. Nothing is behind it in its file or line.
+    /// The next image, or `None` at the end. Nothing follows it in its file or line.
     pub fn next_image(&mut self) -> io::Result<Option<Vec<u8>>>
         ensures next { IfOk result (GivesNext (λ v. Some v.items)
             (remaining_images S.Source.remaining S.texts self.old)
@@ -229,8 +229,8 @@ impl<'a, S: Sources> Images<'a, S> {
         Ok(Some(image))
     }
 
-    /// The image in the next line of the files. A file without a line is refused, since the image that should be in it
-    /// would be missing without a word.
+    /// The image in the next line of the files. A file without a line is refused: otherwise nothing would show that its
+    /// image is missing.
     fn next_line(&mut self) -> io::Result<Option<Vec<u8>>>
         requires lines { self.old.hex ≡ true }
         ensures next { IfOk result (GivesNext (λ v. Some v.items)

@@ -1,5 +1,6 @@
-//! What the commands of the program `distinct` read, what they remark, and how they fail: names of files from arguments and
-//! lists, images one after another from files or their lines, seeds, remarks, and failures with their messages and statuses.
+//! What the commands of the program `distinct` read and remark, and how they fail: names of files from arguments and
+//! lists, images one after another from files or their lines, seeds, remarks, and failures with their messages and
+//! statuses.
 //!
 //! Nothing here opens a file: `Inputs` asks `Sources` for each.
 #![tactic(auto)]

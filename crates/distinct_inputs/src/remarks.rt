@@ -1,4 +1,4 @@
-//! What the program says beside its answer: remarks on it, and reports of progress.
+//! What the program prints beside its answer: remarks on it, and reports of progress.
 
 use distinct_arguments::Escaped;
 use grouped_lines::GroupWatch;

@@ -15,8 +15,8 @@ pub extern "C" fn kcp_estimate_numerator(retained: u64, out: &mut Wide)
     *out = split(retained as u128 * MAX_THETA as u128);
 }
 
-/// Writes the estimate of a sketch of this state with so many decimals, rounded down: its whole part, and its decimals as
-/// one number, below 10^`places`.
+/// Writes the estimate of a sketch of this state with `places` decimals, rounded down: its whole part, and its decimals
+/// as one number, below 10^`places`.
 ///
 /// Refused with `INVALID_ARGUMENT` if no sketch has such a state or there are more than 19 decimals; then nothing is
 /// written.

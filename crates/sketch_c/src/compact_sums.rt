@@ -44,8 +44,8 @@ pub extern "C" fn kcp_compact_sums_state(sums: &mut CompactSumsHandle, out: &mut
     sums.owned().state(out)
 }
 
-/// Writes the image of a sketch to the front of a buffer, and its length, as `kcp_compact_image` does. Behind each hash it
-/// has the eight bytes of its sum, the lowest first.
+/// Writes the image of a sketch to the front of a buffer, and its length, as `kcp_compact_image` does. After each hash
+/// it has the eight bytes of its sum, the lowest first.
 #[unsafe(no_mangle)]
 pub extern "C" fn kcp_compact_sums_image(
     sums: &mut CompactSumsHandle,

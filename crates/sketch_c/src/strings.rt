@@ -7,12 +7,12 @@ use sketch_objects::status::INVALID_ARGUMENT;
 use sketch_objects::strings::update_strings;
 use std::alloc::Global;
 
-/// Updates a sketch with byte strings in their order, each by its hash. They lie one after another in `bytes`, the first from the
-/// front on, and `ends` has where each ends.
+/// Updates a sketch with byte strings in their order, each by its hash. They lie one after another in `bytes`, the
+/// first from offset 0, and `ends` has the offset of each one's end.
 ///
-/// Refused with `INVALID_ARGUMENT` if the handle has no sketch, or an end is below the one before it or past the bytes; then
-/// nothing has changed. Refused with `OUT_OF_MEMORY`; then the strings before one have been inserted, perhaps none, and the same
-/// call may be repeated. It requests eight bytes for each string.
+/// Refused with `INVALID_ARGUMENT` if the handle has no sketch, or an end is below the one before it or past the bytes;
+/// then nothing has changed. Refused with `OUT_OF_MEMORY`; then only the first strings have been inserted, perhaps
+/// none, and the same call may be repeated. It allocates eight bytes per string.
 #[unsafe(no_mangle)]
 pub extern "C" fn kcp_theta_update_strings(
     alloc: Global,

@@ -125,8 +125,8 @@ pub extern "C" fn kcp_sums_state(sums: &mut SumsHandle, out: &mut State) -> u32
     sums.owned().state(out)
 }
 
-/// Writes the image of a sketch, ordered, to the front of a buffer, and its length, as `kcp_theta_image` does. Behind each
-/// hash it has the eight bytes of its sum, the lowest first.
+/// Writes the image of a sketch, ordered, to the front of a buffer, and its length, as `kcp_theta_image` does. After
+/// each hash it has the eight bytes of its sum, the lowest first.
 #[unsafe(no_mangle)]
 pub extern "C" fn kcp_sums_image(sums: &mut SumsHandle, out: &mut [u8], length: &mut u64) -> u32
     ensures image { WritesOf IsImageOfSums (λ _. IsMemoryRefusal) sums.old.value out.old length.old result out.new length.new }

@@ -126,8 +126,8 @@ pub extern "C" fn kcp_theta_update_hashes(sketch: &mut ThetaHandle, hashes: &[u6
     }
 }
 
-/// Cuts a sketch to its nominal entries: if it retains more, theta becomes the (k+1)th smallest hash, and the k hashes
-/// below it stay.
+/// Cuts a sketch to its k nominal entries: if it retains more, theta becomes the (k+1)th smallest hash, and the k
+/// hashes below it stay.
 ///
 /// Refused with `INVALID_ARGUMENT` if the handle has no sketch, and with `OUT_OF_MEMORY`, only if it retains more; then
 /// nothing has changed.

@@ -9,8 +9,8 @@ use theta_sketches::{MAX_PLACES, MAX_THETA};
 /// Writes the estimate of the total of all values of a stream, rounded down: its whole part, and its decimals as one
 /// number, below 10^`places`. It is the total of the sketch, `low` + 2^64 * `high`, times `MAX_THETA`, over its theta.
 ///
-/// Refused with `INVALID_ARGUMENT` if theta isn't from 1 to `MAX_THETA`, the total isn't below 2^64 times theta, as that of
-/// every sketch is, or there are more than 19 decimals; then nothing is written.
+/// Refused with `INVALID_ARGUMENT` if theta isn't from 1 to `MAX_THETA`, the total isn't below 2^64 times theta (that
+/// of every sketch is), or there are more than 19 decimals; then nothing is written.
 #[unsafe(no_mangle)]
 pub extern "C" fn kcp_total_decimal(
     low: u64,

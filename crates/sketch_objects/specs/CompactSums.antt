@@ -17,7 +17,7 @@ use Rattle.sketch_objects.specs.declared.compact_sums.CompactSums.{CompactSums}
 use Rattle.sketch_objects.specs.declared.state.State.{State}
 use Rattle.sketch_objects.specs.declared.sums.SeededSums.{SeededSums}
 
--- the sketch that bytes begin with, read under a seed: behind each hash its sum's eight bytes, the lowest first
+-- the sketch that bytes begin with, read under a seed: after each hash its sum's eight bytes, the lowest first
 abbrev pub IsSumsReadFrom : (bytes : List ℕ) → (seed : ℕ) → CompactSums → Type 0
 IsSumsReadFrom bytes seed s = Reads (SpellsNumber 8) bytes (seed_hash seed) s.sketch
 
@@ -56,15 +56,16 @@ CopiesEntries None hashes_before sums_before count_before status hashes sums cou
 CopiesEntries (Some s) hashes_before sums_before count_before status hashes sums count =
     PutsEntries s.sketch.entries hashes_before sums_before status hashes sums count
 
--- an operator got a sketch that takes updates, by what a call does with what a sketch shows and lists
+-- a call of an operator on a sketch that takes updates: `Does`, on what the sketch shows and lists
 abbrev pub OfSums : {O : Type 0} → (Does : Shown → List (TupleEntry ℕ) → O → ℕ → O → Type 0) → SeededSums → (old : O) → (status : ℕ) → (new : O) → Type 0
 OfSums Does t old status new = Does (sketch_shows tuple_key (sums_sketch t)) (sums_sketch t).sequence old status new
 
--- .. a compact sketch
+-- .. on a compact sketch
 abbrev pub OfCompactSums : {O : Type 0} → (Does : Shown → List (TupleEntry ℕ) → O → ℕ → O → Type 0) → CompactSums → (old : O) → (status : ℕ) → (new : O) → Type 0
 OfCompactSums Does s old status new = Does (shown_of tuple_key s.sketch) s.sketch.entries old status new
 
--- .. the sketch that bytes begin with, read under the operator's seed; or reading was refused, with 2 or 3, and nothing has changed
+-- .. on the sketch that bytes begin with, read under the operator's seed; or reading was refused, with 2 or 3, and
+-- nothing has changed
 abbrev pub OfSumsImage : {O : Type 0} → (Does : Shown → List (TupleEntry ℕ) → O → ℕ → O → Type 0) → (seed_in : O → ℕ) → (image : List ℕ) → (old : O) → (status : ℕ) → (new : O) → Type 0
 OfSumsImage Does seed_in image old status new =
     ((s : Compact (TupleEntry ℕ)) × Reads (SpellsNumber 8) image (seed_hash (seed_in old)) s × Does (shown_of tuple_key s) s.entries old status new)

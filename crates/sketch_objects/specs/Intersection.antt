@@ -59,7 +59,7 @@ RefusesDifference seed first second status =
 abbrev pub AcceptsDifference : (seed : ℕ) → (first second : Shown) → Type 0
 AcceptsDifference seed first second = (seed_refusal seed ≡ None) × (difference_refusal (seed_hash seed) first second ≡ None)
 
--- these of compact sketches
+-- the same for compact sketches
 abbrev pub IsDifferenceRefusal : (seed : ℕ) → (first second : CompactSketch) → (status : ℕ) → Type 0
 IsDifferenceRefusal seed first second status = RefusesDifference seed (shown_of hash_key first.sketch) (shown_of hash_key second.sketch) status
 

@@ -14,8 +14,8 @@ abbrev pub string_hashes : (seed : ℕ) → (bytes : List ℕ) → (start : ℕ)
 string_hashes seed bytes start [] = []
 string_hashes seed bytes start (e ∷ es) = hash_of seed (slice_range bytes start e) ∷ string_hashes seed bytes e es
 
--- strings were inserted by their hashes, as many hashes are; or memory for these hashes was refused, with 3, or the ends are out
--- of range, with 1, and nothing has changed
+-- strings were inserted by their hashes, as `UpdatesHashes` says of those; or memory for the hashes was refused, with
+-- 3, or the ends are out of range, with 1, and nothing has changed
 abbrev pub UpdatesStrings : (bytes ends : List ℕ) → (old : SeededSketch) → (status : ℕ) → (new : SeededSketch) → Type 0
 UpdatesStrings bytes ends old status new =
     ((are_ends 0 (length bytes) ends ≡ true) × UpdatesHashes (string_hashes old.seed bytes 0 ends) old status new)

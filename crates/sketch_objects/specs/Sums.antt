@@ -75,7 +75,7 @@ ResetsSums old status new = (status ≡ 0) × (new.seed ≡ old.seed) × ((sums_
 abbrev pub sums_state : SeededSums → State
 sums_state t = value_state (sums_sketch t).empty (sketch_value (sums_sketch t))
 
--- the image of the ordered compact form of a sketch: behind each hash its sum's eight bytes, the lowest first
+-- the image of the ordered compact form of a sketch: after each hash its sum's eight bytes, the lowest first
 abbrev pub IsImageOfSums : SeededSums → List ℕ → Type 0
 IsImageOfSums t image = (s : Compact (TupleEntry ℕ)) × (image ≡ written (λ sum. to_le_bytes w64 sum) s) × IsAnswer tuple_key (sketch_value (sums_sketch t)) (sums_sketch t).map.seed_hash true s
 

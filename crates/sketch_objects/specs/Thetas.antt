@@ -102,15 +102,16 @@ abbrev pub ReadsImageState : (bytes : List ℕ) → (seed : ℕ) → (before : S
 ReadsImageState bytes seed before status after =
     ((status ≡ 0) × ((s : CompactSketch) × IsReadFrom bytes seed s × (after ≡ compact_state s))) ⊎ (IsReadRefusal bytes seed status × (after ≡ before))
 
--- an operator got a sketch that takes updates, by what a call does with what a sketch shows and lists
+-- a call of an operator on a sketch that takes updates: `Does`, on what the sketch shows and lists
 abbrev pub OfSketch : {O : Type 0} → (Does : Shown → List ℕ → O → ℕ → O → Type 0) → SeededSketch → (old : O) → (status : ℕ) → (new : O) → Type 0
 OfSketch Does t old status new = Does (sketch_shows hash_key t.sketch) t.sketch.sequence old status new
 
--- .. a compact sketch
+-- .. on a compact sketch
 abbrev pub OfCompact : {O : Type 0} → (Does : Shown → List ℕ → O → ℕ → O → Type 0) → CompactSketch → (old : O) → (status : ℕ) → (new : O) → Type 0
 OfCompact Does s old status new = Does (shown_of hash_key s.sketch) s.sketch.entries old status new
 
--- .. the sketch that bytes begin with, read under the operator's seed; or reading was refused, with 2 or 3, and nothing has changed
+-- .. on the sketch that bytes begin with, read under the operator's seed; or reading was refused, with 2 or 3, and
+-- nothing has changed
 abbrev pub OfImage : {O : Type 0} → (Does : Shown → List ℕ → O → ℕ → O → Type 0) → (seed_in : O → ℕ) → (image : List ℕ) → (old : O) → (status : ℕ) → (new : O) → Type 0
 OfImage Does seed_in image old status new =
     ((s : Compact ℕ) × Reads image (seed_hash (seed_in old)) s × Does (shown_of hash_key s) s.entries old status new)

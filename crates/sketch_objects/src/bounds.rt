@@ -26,14 +26,14 @@ pub fn split(number: u128) -> Wide
     }
 }
 
-/// Whether some sketch may have this state.
+/// Whether some sketch may have this state: fewer than 2^32 retained hashes, and a theta from 1 to `MAX_THETA`.
 pub fn is_state(retained: u64, theta: u64) -> bool
     ensures { result ≡ is_state retained theta }
 {
     retained < 4294967296 && 0 < theta && theta <= MAX_THETA
 }
 
-/// One, two or three standard deviations, by their number.
+/// One, two or three standard deviations, by their number; `None` for any other number.
 pub fn deviations_of(number: u32) -> Option<Deviations>
     ensures { option_map deviation_count result ≡ valid_deviations number }
 {

@@ -1,7 +1,7 @@
 //! The objects behind the handles of C: sketches, unions and intersections, with the seed of their hashes.
 //!
-//! Each call returns a status (`status`) in place of an error, or the status of its refusal. What C does with objects of
-//! several kinds is a trait (`objects`); `c_handles` has the handles, and `sketch_c` one export for each call.
+//! Calls report refusals to C by a status (`status`), not by an error. What C does with objects of several kinds is a
+//! trait (`objects`); `c_handles` has the handles, and `sketch_c` one export for each call.
 #![tactic(auto)]
 
 pub mod bounds;

@@ -40,7 +40,7 @@ pub trait HasImage {
 
     ghost no_image: { Self → ℕ → Type 0 };
 
-    /// The image of the object, ordered, or the status of the refusal.
+    /// The image of the object, or the status of the refusal. It is ordered, but for a compact sketch that isn't.
     fn image(&self) -> Result<Vec<u8>, u32>
         ensures image { IfOk result (λ v. is_image self.now v.items) }
         ensures refused { IfErr result (no_image self.now) };
@@ -58,8 +58,8 @@ pub trait HasCompact {
 
     ghost no_compact: { Self → ℕ → Type 0 };
 
-    /// The compact sketch of the object, ordered, or the status of the refusal. Whoever gets one may still be refused memory
-    /// for it, so 3 is then among the statuses.
+    /// The compact sketch of the object, ordered, or the status of the refusal. Memory to keep the sketch may still be
+    /// refused, so status 3 is among those of this call even if it succeeds (clause `room`).
     fn compact(&self) -> Result<Self::Compact, u32>
         ensures made { IfOk result (is_compact self.now) }
         ensures refused { IfErr result (no_compact self.now) }
@@ -71,7 +71,7 @@ pub trait CanCopy: Drop {
     /// Whether another one is a copy of it.
     ghost is_copy: { Self → Self → Type 0 };
 
-    /// A copy of the object, or the status of the refusal, which is that of memory.
+    /// A copy of the object, or status 3 if memory was refused.
     fn copied(&self) -> Result<Self, u32>
         ensures copied { IfOk result (is_copy self.now) }
         ensures refused { IfErr result (λ status. status ≡ 3) };
@@ -89,8 +89,8 @@ pub trait HasDifference: Drop {
 
     ghost no_difference: { ℕ → Self → Self → ℕ → Type 0 };
 
-    /// The entries of this sketch whose hashes the other lacks, ordered, or the status of the refusal. Whoever gets a sketch
-    /// may still be refused memory for it.
+    /// The entries of this sketch whose hashes the other lacks, ordered, or the status of the refusal. Memory to keep
+    /// the sketch may still be refused (clause `room`).
     fn difference(&self, alloc: Global, seed: u64, other: &Self) -> Result<Self, u32>
         ensures made { IfOk result (is_difference self.now other.now) }
         ensures accepted { OnOk result (are_of_seed seed self.now other.now) }
@@ -156,7 +156,7 @@ pub trait FromImage: Drop {
     ghost is_unread: { List ℕ → ℕ → ℕ → Type 0 };
 
     /// The sketch that bytes begin with, read under a seed, or the status of the refusal: 2 if the bytes are read as no
-    /// sketch, 3 if memory was refused. Whoever gets a sketch may still be refused memory for it.
+    /// sketch, 3 if memory was refused. Memory to keep the sketch may still be refused (clause `room`).
     fn read(alloc: Global, image: &[u8], seed: u64) -> Result<Self, u32>
         ensures read { IfOk result (is_read image.now seed) }
         ensures refused { IfErr result (is_unread image.now seed) }

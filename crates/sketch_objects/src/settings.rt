@@ -5,7 +5,7 @@ ghost use Rattle.sketch_objects.specs.Settings.{valid_factor};
 
 use theta_sketches::ResizeFactor;
 
-/// The resize factor of a number, which is 1, 2, 4 or 8.
+/// The resize factor of a number, 1, 2, 4 or 8; `None` for any other number.
 pub fn factor_of(number: u32) -> Option<ResizeFactor>
     ensures { option_map (λ f. 2 ^ lg_of f) result ≡ valid_factor number }
 {

@@ -9,12 +9,12 @@ pub struct State {
     pub retained: u64,
     /// Its theta, from 1 to `MAX_THETA`.
     pub theta: u64,
-    /// 1 if it is empty, which no estimate of 0 shows; else 0.
+    /// 1 if it is empty, else 0. An estimate of 0 alone doesn't show it.
     pub empty: u64,
 }
 
 impl State {
-    /// The state of these facts.
+    /// The state of a sketch with these numbers.
     pub fn of(retained: usize, theta: u64, empty: bool) -> State
         ensures { result ≡ record { retained = retained; theta = theta; empty = (if empty then 1 else 0) } }
     {

@@ -73,8 +73,8 @@ pub fn update_bytes(theta: &mut SeededSketch, bytes: &[u8]) -> u32
     update_hash(theta, hash)
 }
 
-/// Updates a sketch with hashes in their order. At the status `OUT_OF_MEMORY` exactly those before a new hash below theta
-/// have been inserted.
+/// Updates a sketch with hashes in their order. The status is `OK`, or `OUT_OF_MEMORY` at a new hash below theta; then
+/// exactly the hashes before it have been inserted.
 #[inline(always)]
 pub fn update_hashes(theta: &mut SeededSketch, hashes: &[u64]) -> u32
     ensures { UpdatesHashes hashes.now theta.old result theta.new }
