@@ -9,7 +9,7 @@
  * one already. The free calls take the object out again, so freeing twice does nothing. Don't copy a handle: two copies
  * would own one object.
  *
- * Statuses. Each call returns KC_OK or says why it was refused. A call that is refused changes nothing, neither an object
+ * Statuses. Each call returns KC_OK, or the reason why it was refused. A call that is refused changes nothing, neither an object
  * nor an output, except where its comment says otherwise. KC_INVALID_ARGUMENT is also the status of a null pointer, and of
  * a handle without an object. A buffer of input may be null if its count is 0. No call stops the process.
  *
@@ -54,7 +54,7 @@ typedef struct { void *object; } kc_compact_sums;      /* a compact tuple sketch
 typedef struct { void *object; } kc_sums_union;        /* a union of tuple sketches of sums */
 typedef struct { void *object; } kc_sums_intersection; /* an intersection of tuple sketches of sums */
 
-/* What a sketch estimates by. */
+/* The state of a sketch, from which its estimate follows. */
 typedef struct {
     uint64_t retained; /* how many hashes it retains, fewer than 2^32 */
     uint64_t theta;    /* from 1 to KC_MAX_THETA, which is that of an empty sketch */
@@ -81,29 +81,33 @@ kc_status kc_theta_free(kc_theta *sketch);
 /* Updates a sketch with a hash of 63 bits. A hash that is 0 or at least theta is not retained, but the sketch is nonempty
  * afterwards. Refused with KC_OUT_OF_MEMORY, only for a new hash below theta. */
 kc_status kc_theta_update_hash(kc_theta *sketch, uint64_t hash);
-/* Updates a sketch with many hashes in their order; a few hundred at a time are fast. Without hashes nothing changes. If memory
- * is refused, exactly the hashes before the refused one have been inserted, and the same call may be repeated. */
+/* Updates a sketch with many hashes in their order; a few hundred per call are fast. Without hashes nothing changes. Refused with
+ * KC_OUT_OF_MEMORY at a new hash below theta; then exactly the hashes before it have been inserted, and the same call may be
+ * repeated. */
 kc_status kc_theta_update_hashes(kc_theta *sketch, const uint64_t *hashes, size_t count);
-/* Updates a sketch with a number, by the hash of its eight bytes, the lowest first: the hash of the other implementations. */
+/* Updates a sketch with a number, by the hash of its eight bytes, the lowest first: the hash of the other implementations. Refused
+ * as kc_theta_update_hash is. */
 kc_status kc_theta_update_u64(kc_theta *sketch, uint64_t number);
-/* Updates a sketch with bytes, by their hash: the hash of the other implementations. No bytes are a value too. */
+/* Updates a sketch with bytes, by their hash: the hash of the other implementations. A string of no bytes is a value too. Refused as
+ * kc_theta_update_hash is. */
 kc_status kc_theta_update_bytes(kc_theta *sketch, const void *bytes, size_t count);
-/* Updates a sketch with byte strings in their order, each by its hash. They lie one after another in `bytes`, the first from the
- * front on, and ends[i] is where string i ends. Refused with KC_INVALID_ARGUMENT if an end is below the one before it or past the
- * bytes. If memory is refused, the strings before one have been inserted, perhaps none, and the same call may be repeated. */
+/* Updates a sketch with byte strings in their order, each by its hash. They lie one after another in `bytes`, the first from offset
+ * 0, and ends[i] is the offset of the end of string i. Refused with KC_INVALID_ARGUMENT if an end is below the one before it or
+ * above `count`. Refused with KC_OUT_OF_MEMORY; then only the first strings have been inserted, perhaps none, and the same call may
+ * be repeated. */
 kc_status kc_theta_update_strings(kc_theta *sketch, const void *bytes, size_t count, const uint64_t *ends, size_t strings);
 /* If the sketch retains more than its k = 2^lg_k nominal entries, lowers theta to the (k+1)th smallest hash and keeps the k
  * hashes below it. Refused with KC_OUT_OF_MEMORY, only if it retains more. */
 kc_status kc_theta_trim(kc_theta *sketch);
 /* Makes a sketch empty again, as when it was new. */
 kc_status kc_theta_reset(kc_theta *sketch);
-/* Writes the sketch's state. */
+/* Writes the sketch's state: how many hashes it retains, its theta, and whether it is empty. */
 kc_status kc_theta_state(kc_theta *sketch, kc_state *out);
-/* Writes the image of the sketch's ordered compact form, in the DataSketches format. */
+/* Writes the image of the sketch's ordered compact form, in the DataSketches format. Refused with KC_OUT_OF_MEMORY. */
 kc_status kc_theta_image(kc_theta *sketch, void *out, size_t room, uint64_t *length);
-/* Makes the sketch's ordered compact form, of the same value, untrimmed. */
+/* Makes the sketch's ordered compact form, of the same value, untrimmed. Refused with KC_OUT_OF_MEMORY. */
 kc_status kc_theta_compact(kc_theta *sketch, kc_compact *out);
-/* Copies a sketch, with its theta and settings, into another handle. */
+/* Copies a sketch, with its theta and settings, into another handle. Refused with KC_OUT_OF_MEMORY. */
 kc_status kc_theta_clone(kc_theta *sketch, kc_theta *out);
 
 /* ---- Compact theta sketches ---- */
@@ -112,10 +116,10 @@ kc_status kc_theta_clone(kc_theta *sketch, kc_theta *out);
  * Refused with KC_INVALID_DATA if the bytes begin with no sketch of this seed, and with KC_OUT_OF_MEMORY. */
 kc_status kc_compact_read(kc_compact *sketch, const void *image, size_t count, uint64_t seed);
 kc_status kc_compact_free(kc_compact *sketch);
-/* Copies a sketch into another handle. */
+/* Copies a sketch into another handle. Refused with KC_OUT_OF_MEMORY. */
 kc_status kc_compact_clone(kc_compact *sketch, kc_compact *out);
 kc_status kc_compact_state(kc_compact *sketch, kc_state *out);
-/* Writes the sketch's image, in the DataSketches format. */
+/* Writes the sketch's image, in the DataSketches format. Refused with KC_OUT_OF_MEMORY. */
 kc_status kc_compact_image(kc_compact *sketch, void *out, size_t room, uint64_t *length);
 
 /* ---- Unions ---- */
@@ -126,8 +130,8 @@ kc_status kc_union_new(kc_union *u, uint8_t lg_k, uint64_t seed);
 kc_status kc_union_free(kc_union *u);
 /* Merge a sketch into the union. The sketch doesn't change; an empty sketch changes nothing. Refused with KC_INVALID_ARGUMENT
  * for a sketch of another seed, with KC_INVALID_DATA for bytes that begin with no sketch of the union's seed, and with
- * KC_FAILED if the union has failed, whatever the sketch. If a merge is refused memory, the union has failed until it is reset;
- * if reading an image is, nothing has changed. Both have the status KC_OUT_OF_MEMORY. */
+ * KC_FAILED if the union has failed, whatever the sketch; then nothing has changed. Refused with KC_OUT_OF_MEMORY: if memory runs
+ * out in the merge, the union has failed until it is reset; if it runs out while an image is read, nothing has changed. */
 kc_status kc_union_add(kc_union *u, kc_theta *sketch);
 kc_status kc_union_add_compact(kc_union *u, kc_compact *sketch);
 kc_status kc_union_add_image(kc_union *u, const void *image, size_t count);
@@ -156,15 +160,17 @@ kc_status kc_intersection_add_image(kc_intersection *i, const void *image, size_
  * with KC_OUT_OF_MEMORY. */
 kc_status kc_intersection_result(kc_intersection *i, kc_compact *out);
 /* Makes the difference of two sketches, as an ordered compact sketch: the hashes of the first that the second lacks, below the
- * lesser theta. The three handles are three variables. Refused with KC_INVALID_ARGUMENT if the hash of the seed is 0 or a sketch
+ * lesser theta. Pass three different handles. Refused with KC_INVALID_ARGUMENT if the hash of the seed is 0 or a sketch
  * is of another seed, and with KC_OUT_OF_MEMORY. */
 kc_status kc_difference(kc_compact *first, kc_compact *second, uint64_t seed, kc_compact *out);
 
 /* ---- Images alone ---- */
 
-/* These read the sketch that the bytes begin with under this seed, and are refused with KC_INVALID_DATA if they begin with none,
- * and with KC_OUT_OF_MEMORY. */
+/* Writes the state of the sketch that the bytes begin with, read under this seed. Refused with KC_INVALID_DATA if the bytes begin
+ * with no sketch of this seed, and with KC_OUT_OF_MEMORY. */
 kc_status kc_image_state(const void *image, size_t count, uint64_t seed, kc_state *out);
+/* Write the image of the intersection, or of the difference, of the sketches that two images begin with, read under this seed. The
+ * difference has the hashes of the first that the second lacks. Refused as kc_image_state is. */
 kc_status kc_images_intersect(const void *first, size_t first_count, const void *second, size_t second_count, uint64_t seed,
                               void *out, size_t room, uint64_t *length);
 kc_status kc_images_difference(const void *first, size_t first_count, const void *second, size_t second_count, uint64_t seed,
@@ -176,19 +182,21 @@ kc_status kc_images_difference(const void *first, size_t first_count, const void
 kc_status kc_sums_new(kc_sums *sketch, uint8_t lg_k, uint64_t seed);
 kc_status kc_sums_new_with(kc_sums *sketch, uint8_t lg_k, uint64_t seed, uint32_t resize_factor, uint64_t starting_theta);
 kc_status kc_sums_free(kc_sums *sketch);
-/* Add a value to the sum of a key's hash, which is 0 at first. Refused with KC_POLICY if the sum would be 2^64 or more, and with
- * KC_OUT_OF_MEMORY, only for a new hash below theta. */
+/* Add a value to the sum of a key's hash, which is 0 at first. A hash that is 0 or at least theta is not retained, but the sketch
+ * is nonempty afterwards. Refused with KC_POLICY if the sum would be 2^64 or more, and with KC_OUT_OF_MEMORY, only for a new hash
+ * below theta. */
 kc_status kc_sums_add_hash(kc_sums *sketch, uint64_t hash, uint64_t value);
 kc_status kc_sums_add_u64(kc_sums *sketch, uint64_t number, uint64_t value);
 kc_status kc_sums_add_bytes(kc_sums *sketch, const void *bytes, size_t count, uint64_t value);
 kc_status kc_sums_trim(kc_sums *sketch);
 kc_status kc_sums_reset(kc_sums *sketch);
 kc_status kc_sums_state(kc_sums *sketch, kc_state *out);
-/* Writes the image of the sketch's ordered compact form: behind each hash the eight bytes of its sum, the lowest first. */
+/* Writes the image of the sketch's ordered compact form: after each hash the eight bytes of its sum, the lowest first. Refused with
+ * KC_OUT_OF_MEMORY. */
 kc_status kc_sums_image(kc_sums *sketch, void *out, size_t room, uint64_t *length);
-/* Makes the sketch's ordered compact form, of the same value, untrimmed. */
+/* Makes the sketch's ordered compact form, of the same value, untrimmed. Refused with KC_OUT_OF_MEMORY. */
 kc_status kc_sums_compact(kc_sums *sketch, kc_compact_sums *out);
-/* Copies a sketch, with its sums, its theta and settings, into another handle. */
+/* Copies a sketch, with its sums, its theta and settings, into another handle. Refused with KC_OUT_OF_MEMORY. */
 kc_status kc_sums_clone(kc_sums *sketch, kc_sums *out);
 /* Writes the total of a sketch, the sum of its sums, below 2^96. The estimate of the total of all values that were added is
  * this total * KC_MAX_THETA / theta (kc_total, kc_total_decimal, kc_total_text). */
@@ -254,17 +262,17 @@ kc_status kc_count_bounds(uint64_t retained, uint64_t theta, uint32_t deviations
  * kc_estimate_decimal writes an estimate; theta is that of the sketch's state. Refused with KC_INVALID_ARGUMENT if no sketch has
  * such a total and theta (the total isn't below 2^64 * theta) or there are more decimals. */
 kc_status kc_total_decimal(const kc_wide *total, uint64_t theta, uint32_t places, kc_wide *whole, uint64_t *decimals);
-/* Write the estimate of a state, and that of a total, as text, with its decimals, without a final 0 byte, as the calls above write
- * bytes. */
+/* Write the estimate of a state, or that of a total, as text with `places` decimals, rounded down and without a final 0 byte.
+ * Refused as kc_estimate_decimal and kc_total_decimal are. */
 kc_status kc_estimate_text(const kc_state *state, uint32_t places, char *out, size_t room, uint64_t *length);
 kc_status kc_total_text(const kc_wide *total, uint64_t theta, uint32_t places, char *out, size_t room, uint64_t *length);
 
-/* The estimate of a state in floating point. */
+/* The estimate of a state in floating point. Pass a state that a call has written. */
 static inline double kc_estimate(const kc_state *state) {
     return (double)state->retained * ((double)KC_MAX_THETA / (double)state->theta);
 }
 
-/* The estimate of the total of all values in floating point. */
+/* The estimate of the total of all values in floating point; theta isn't 0. */
 static inline double kc_total(const kc_wide *total, uint64_t theta) {
     return ((double)total->low + 18446744073709551616.0 * (double)total->high) * ((double)KC_MAX_THETA / (double)theta);
 }

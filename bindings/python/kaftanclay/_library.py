@@ -37,7 +37,7 @@ except OSError as error:
 
 
 class State(ctypes.Structure):
-    """What a sketch estimates by."""
+    """The state of a sketch, from which its estimate follows."""
 
     retained: int
     theta: int
@@ -199,7 +199,7 @@ def number(value: Any, bits: int, what: str) -> int:
 
 
 def written(call: Callable[..., int], *arguments: Any, room: int, reason: str | None = None) -> bytes:
-    """The bytes that a call writes to its buffer, called again if `room` is too small."""
+    """The bytes that a call writes to its buffer. It is called again if `room` bytes are too few."""
     length = c_uint64()
     while True:
         out = ctypes.create_string_buffer(room)

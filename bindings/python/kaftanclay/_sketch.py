@@ -90,15 +90,19 @@ class Sketch:
         return Fraction(int(above), state.theta)
 
     def estimate_text(self, places: int = 0) -> str:
-        """The estimate rounded down to so many decimals, from 0 to 19."""
+        """The estimate rounded down to so many decimals, from 0 to 19.
+
+        Raises InvalidArgumentError for any other number of decimals.
+        """
         places = number(places, 32, "the number of decimals")
         reason = f"the number of decimals is from 0 to 19, not {places}"
         return written(library.estimate_text, self._state(), places, room=64, reason=reason).decode("ascii")
 
     def bounds(self, deviations: int = 2) -> tuple[int, int]:
-        """Bounds of the number of distinct keys by 1, 2 or 3 standard deviations.
+        """Bounds of the number of distinct keys by 1, 2 or 3 standard deviations: the lower and the upper one.
 
-        If hashes are random, the number is within them in about 68, 95 or 99.7 of 100 sketches.
+        If hashes are random, the number is within them in about 68, 95 or 99.7 of 100 sketches. Raises InvalidArgumentError
+        for any other number of standard deviations.
         """
         deviations = number(deviations, 32, "the number of standard deviations")
         state, lower, upper = self._state(), Wide(), Wide()
@@ -162,7 +166,7 @@ class CompactSketch(Sketch):
 
 
 class UpdatableSketch(Sketch):
-    """What sketches that take updates share. ThetaSketch says what their settings are."""
+    """What sketches that take updates share. ThetaSketch describes their settings."""
 
     __slots__ = ("_handle", "_lock", "_resize_factor", "_starting_theta")
     _handle: Any
@@ -207,7 +211,11 @@ class UpdatableSketch(Sketch):
         raise NotImplementedError
 
     def trim(self) -> None:
-        """If it retains more than 2^lg_k hashes, keeps the 2^lg_k least. Its image then depends only on the set of keys."""
+        """If it retains more than 2^lg_k hashes, keeps the 2^lg_k least.
+
+        Its image then depends only on its settings and on the set of keys (of TupleSums, with their sums), not on the order
+        of the updates. After an OutOfMemoryError it is unchanged.
+        """
         with self._lock:
             check(self._trim(self._handle))
 
@@ -298,7 +306,8 @@ class Merge:
         """Merges a sketch, or the bytes of an image; neither changes.
 
         Raises InvalidArgumentError for a sketch of another seed, InvalidDataError for bytes that begin with no image of
-        this seed, and OutOfMemoryError; of sums also PolicyError.
+        this seed, and OutOfMemoryError. Of sums it also raises PolicyError if the sum of a key would be 2^64 or more. A union
+        that has failed raises FailedError.
         """
         if isinstance(sketch, self._family):
             require_seed(sketch, self._seed)

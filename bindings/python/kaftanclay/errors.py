@@ -33,6 +33,6 @@ class PolicyError(SketchError, OverflowError):
 
 
 class FailedError(SketchError, RuntimeError):
-    """Memory or a sum was refused in an earlier merge; the union refuses every call until it is reset."""
+    """Memory or a sum was refused in an earlier merge; the union refuses `update` and `result` until it is reset."""
 
     status = 5

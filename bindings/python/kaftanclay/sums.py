@@ -28,14 +28,14 @@ class SumsValue(Sketch):
     """What both kinds of sketches of sums share: `|` unites two, `&` intersects them, `-` is their difference.
 
     `|` and `&` add up the two sums of a shared key, and raise PolicyError if that is 2^64 or more; `-` keeps the sums of the
-    first sketch. The results are compact. Both sketches must have one seed, else InvalidArgumentError is raised. The `lg_k`
-    of a result is the greater of the two; a union retains at most 2^lg_k sums.
+    first sketch. The results are compact. Raises InvalidArgumentError if the sketches have different seeds, and
+    OutOfMemoryError. The `lg_k` of a result is the greater of the two; a union retains at most 2^lg_k sums.
     """
 
     __slots__ = ()
 
     def items(self) -> list[tuple[int, int]]:
-        """The hash of each key that it retains, and the sum of the key."""
+        """The hash of each key that it retains, and the sum of the key, in the order of its image."""
         return [(hash, total) for hash, total in struct.iter_unpack("<QQ", entries_of(self.to_bytes()))]
 
     def _compact_handle(self) -> CompactSumsHandle:
@@ -53,7 +53,10 @@ class SumsValue(Sketch):
         return Fraction(int(total) * MAX_THETA, theta)
 
     def total_text(self, places: int = 0) -> str:
-        """The estimated sum of all values, rounded down to so many decimals, from 0 to 19."""
+        """The estimated sum of all values, rounded down to so many decimals, from 0 to 19.
+
+        Raises InvalidArgumentError for any other number of decimals.
+        """
         places = number(places, 32, "the number of decimals")
         reason = f"the number of decimals is from 0 to 19, not {places}"
         return written(library.total_text, *self._total(), places, room=64, reason=reason).decode("ascii")

@@ -28,8 +28,8 @@ _EMPTY = bytes.fromhex("010303 00001e 0000")
 class ThetaValue(Sketch):
     """What both kinds of theta sketches share: `|` unites two, `&` intersects them, `-` is their difference.
 
-    The results are compact. Both sketches must have one seed, else InvalidArgumentError is raised. The `lg_k` of a result
-    is the greater of the two; a union retains at most 2^lg_k hashes.
+    The results are compact. Raises InvalidArgumentError if the sketches have different seeds, and OutOfMemoryError. The
+    `lg_k` of a result is the greater of the two; a union retains at most 2^lg_k hashes.
     """
 
     __slots__ = ()
@@ -85,7 +85,7 @@ class CompactThetaSketch(CompactSketch, ThetaValue):
         seed, and OutOfMemoryError.
         """
         data, seed = image_of(data), number(seed, 64, "a seed")
-        # Less the hashes of the empty sketch it is itself, ordered, as the library writes it.
+        # The difference with the empty sketch is the sketch itself, ordered, as the library writes it.
         room = len(data) + PREAMBLE
         image = written(library.images_difference, data, len(data), _EMPTY, len(_EMPTY), seed, room=room)
         return cls._of(image, seed, lg_k)
@@ -95,8 +95,8 @@ class ThetaSketch(UpdatableSketch, ThetaValue):
     """A theta sketch that takes updates.
 
     `lg_k` is the binary logarithm of its nominal entries, from 4 to 26; the usual error of an estimate is about
-    1 / sqrt(2^lg_k). Sketches are combined only if they have one seed. It begins, and begins again after a reset, at
-    `starting_theta`, from 1 to 2^63 - 1, and its slots grow by the factor `resize_factor`, 1, 2, 4 or 8. Threads may share
+    1 / sqrt(2^lg_k). Sketches are combined only if they have the same seed. Its theta is `starting_theta`, from 1 to
+    2^63 - 1, at first and after a reset, and its slots grow by the factor `resize_factor`, 1, 2, 4 or 8. Threads may share
     it: each call takes its lock. Raises InvalidArgumentError if a setting is out of range, and OutOfMemoryError.
     """
 
@@ -129,8 +129,9 @@ class ThetaSketch(UpdatableSketch, ThetaValue):
     def update_many(self, keys: Iterable[Key]) -> None:
         """Updates it with many keys, which `update` describes, about a thousand in a call of the library.
 
-        Arrays of numbers of 64 bits, such as those of numpy and array, are read without a Python object for each. If a key
-        is refused, keys before it may have been inserted; to insert them again changes nothing.
+        Arrays of numbers of 64 bits, such as those of numpy and array, are read without a Python object for each. Raises
+        what `update` raises; keys before the refused one may then have been inserted, and inserting them again changes
+        nothing.
         """
         for data, ends in _keys.batches(keys):
             where, count = ends.buffer_info()
