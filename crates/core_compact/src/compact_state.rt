@@ -131,8 +131,8 @@ impl<E: SketchEntry, A: Allocator> CompactSketchState<E, A> {
 impl<E: SketchEntry + Drop, A: Allocator + Clone> CompactSketchState<E, A> {
     /// The state with each entry replaced by the result of `f`, in memory of a clone of its allocator.
     ///
-    /// `f` is called once for each entry, in their order, and may change what it captures. In every state that earlier
-    /// calls may leave it in, it may be called, and returns an entry of the same hash.
+    /// `f` is called once for each entry, in their order, and may change what it captures. Whatever earlier calls have
+    /// changed, it must be callable at the next entry, and must return an entry of the same hash.
     ///
     /// Refused with `OutOfMemory` alone; then the entries are dropped.
     pub fn map_retained_entries<F: SketchEntry + Drop, G: FnMut(E) -> F + Drop>(

@@ -25,7 +25,7 @@ pub trait TupleSummaryValue<A: Allocator> {
     /// The bytes written of a summary.
     ghost text: { Self → List ℕ };
 
-    /// The number of bytes that `serialize_value` writes. The summary is a value.
+    /// The number of bytes that `serialize_value` writes. Every summary is a value (clause `value`).
     fn serialize_size(&self) -> usize
         ensures size { result ≡ length (text self.now) }
         ensures value { is_value self.now };

@@ -55,7 +55,7 @@ impl<'a, E: SlotEntry> EntryIter<'a, E> {
     }
 }
 
-/// The rest of the entries from the first that is below theta.
+/// The entries from the first one below theta on.
 #[inline(always)]
 fn entries_from_below<'a, E: SlotEntry>(entries: &'a [E], theta: u64) -> &'a [E]
     ensures { result.now ≡ from_below E.key theta entries.entry.now }

@@ -15,7 +15,7 @@ pub enum ThetaFamilySketchMetadata {
         /// The hash of its seed.
         seed_hash: u16,
     },
-    /// Some update was accepted, even if its hash was screened.
+    /// The sketch is not empty: some update was accepted, even if its hash was screened.
     NonEmpty {
         /// The hash of its seed.
         seed_hash: u16,

@@ -7,7 +7,7 @@ use Rattle.core_table.specs.HashTable.{MapTable, after_hashes, hash_allocates}
 use Rattle.core_laws.specs.Cuts.{none_below}
 use Rattle.core_laws.specs.Shown.{Shown}
 
--- a sketch: whether it is empty, as no update was accepted yet, its table, and its entries in the unspecified order of
+-- a sketch: whether it is empty (no update was accepted yet), its table, and its entries in the unspecified order of
 -- its iterator
 pub record Updatable (X : Type 0) : Type 0 where
   pub empty : Bool

@@ -9,12 +9,12 @@ use Rattle.core_state.specs.declared.view.SketchView.{SketchView}
 use Rattle.core_state.specs.declared.view.Viewed.{Viewed}
 use Rattle.core_state.specs.declared.view.Viewed.TheVariants.{Mutable, Compact}
 
--- what the sketch behind a view shows
+-- what the sketch of a view shows
 abbrev pub viewed_shows : {X Z S : Type 0} → (X → ℕ) → Viewed X Z S → Shown
 viewed_shows key (Mutable sketch) = sketch_shows key sketch.now
 viewed_shows key (Compact sketch) = shown_of key sketch.now
 
--- what an iterator over its entries has at first; it knows how many only over a compact sketch
+-- what an iterator over its entries returns; it knows their number only over a compact sketch
 abbrev pub viewed_lending : {X Z S : Type 0} → Viewed X Z S → Remaining X
 viewed_lending (Mutable sketch) = record { rest = sketch.now.sequence; counted = false }
 viewed_lending (Compact sketch) = record { rest = sketch.now.entries; counted = true }
@@ -23,7 +23,7 @@ viewed_lending (Compact sketch) = record { rest = sketch.now.entries; counted = 
 abbrev pub shows : {X Z S : Type 0} → (X → ℕ) → SketchView X Z S → Shown
 shows key view = viewed_shows key view.sketch
 
--- what an iterator over a view's entries has at first
+-- what an iterator over a view's entries returns
 abbrev pub lending : {X Z S : Type 0} → SketchView X Z S → Remaining X
 lending view = viewed_lending view.sketch
 

@@ -22,6 +22,7 @@ pub struct Progress<'a> {
 }
 
 impl<'a> Progress<'a> {
+    /// Reports nothing yet, and nothing at all unless it is enabled.
     pub fn new(rt: &'a HostRuntime, enabled: bool) -> Progress<'a> {
         Progress {
             rt,

@@ -22,7 +22,8 @@ pub record Awaiting : Type 0 where
   pub option : OptionName
   pub name : List ℕ
 
--- what a word means that looks like an option: a request for help, other values of options, an option whose value is the next word, or a mistake
+-- what a word means that looks like an option: a request for help, other values of options, an option whose value is
+-- the next word, or a mistake
 pub data Meaning : Type 0 where
   help : Meaning
   sets : OptionValues → Meaning
@@ -59,11 +60,12 @@ abbrev pub standard_files : (files : List (List ℕ)) → ℕ
 standard_files [] = 0
 standard_files (file ∷ files) = (if is_standard file then 1 else 0) + standard_files files
 
--- whether the seed, or the list of files, is read from standard input
+-- whether the seed is read from standard input
 abbrev pub is_standard_seed : SeedValue → Bool
 is_standard_seed (seed_number n) = false
 is_standard_seed (seed_file name) = is_standard name
 
+-- whether the list of files is read from standard input
 abbrev pub is_standard_list : Option (List ℕ) → Bool
 is_standard_list list = option_map_or is_standard list false
 
@@ -79,15 +81,15 @@ standard_uses command options files =
     + (if is_standard_default command options files then 1 else 0)
     + standard_files files
 
--- a command that reads an expression has it as its only file word
+-- whether a command that reads an expression has it as its only file word
 abbrev pub has_one_expression : Command → (files : List (List ℕ)) → Bool
 has_one_expression command files = not (reads_expression command) || length files == 1
 
--- a command reads an expression, and chooses a field of lines that it doesn't read
+-- a command that reads an expression has `--field` but not `--keys`, and so reads no lines
 abbrev pub has_lone_field : Command → OptionValues → Bool
 has_lone_field command options = reads_expression command && is_some options.field && not options.keys
 
--- numbers are summed, and no field has them
+-- numbers are to be summed, but no field of them is chosen
 abbrev pub has_lone_sum : Command → OptionValues → Bool
 has_lone_sum Sum options = is_none options.value
 has_lone_sum _ options = false
@@ -96,26 +98,26 @@ has_lone_sum _ options = false
 abbrev pub is_separator_lone : OptionValues → Bool
 is_separator_lone options = is_some options.separator && is_none options.field && is_none options.by && is_none options.value
 
--- sketches of groups are written only as lines of hexadecimal digits, or to files of their own
+-- sketches of groups would be written as bytes one after another: neither in hexadecimal digits nor to files of their own
 abbrev pub has_lone_groups : Command → OptionValues → Bool
 has_lone_groups Sketch options = is_some options.by && not options.hex && is_none options.folder
 has_lone_groups _ options = false
 
--- a line adds its number, or one
+-- lines would add both their numbers and one
 abbrev pub has_two_amounts : OptionValues → Bool
 has_two_amounts options = options.visits && is_some options.value
 
--- sketches of sums are neither grouped nor watched
+-- a sketch of sums would be grouped or watched
 abbrev pub has_plain_sums : Command → OptionValues → Bool
 has_plain_sums Sketch options = (is_some options.value || options.visits) && (is_some options.by || options.progress)
 has_plain_sums _ options = false
 
--- lines are not in hexadecimal digits
+-- lines would be read in hexadecimal digits
 abbrev pub has_lone_digits : Command → OptionValues → Bool
 has_lone_digits Visits options = options.hex && not options.sums
 has_lone_digits _ options = false
 
--- the total of an expression has no bounds
+-- bounds are requested of a total, which has none
 abbrev pub has_summed_bounds : Command → OptionValues → Bool
 has_summed_bounds command options = reads_expression command && options.sums && is_some options.bounds
 
@@ -137,7 +139,7 @@ grouped_action command options files =
     if is_some options.folder && is_some options.output then fails two_outputs else
     listed_action command options files
 
--- .. and those for images of sums neither
+-- .. and unless its options for images of sums don't fit together
 abbrev pub summed_action : Command → OptionValues → (files : List (List ℕ)) → Action
 summed_action command options files =
     if options.sums && options.keys then fails summed_keys else
@@ -146,7 +148,7 @@ summed_action command options files =
     if has_summed_bounds command options then fails summed_bounds else
     grouped_action command options files
 
--- .. and those for the sums of lines neither
+-- .. and unless its options for the sums of lines don't fit together
 abbrev pub added_action : Command → OptionValues → (files : List (List ℕ)) → Action
 added_action command options files =
     if has_two_amounts options then fails two_amounts else

@@ -64,15 +64,18 @@ default_options = record {
   form = Plain;
 }
 
--- the key that options choose: the field of their number, the first being 1, with a tab (9) as the default separator, or the whole line
+-- the key that options choose: the field of their number, the first being 1, with a tab (9) as the default separator,
+-- or the whole line
 abbrev pub chosen_key : OptionValues → Key
 chosen_key options = option_map_or (λ number. FieldKey (number - 1) (unwrap_or options.separator 9)) options.field Line
 
--- the key by which options group lines, if they do: the field of its number, the first being 1, with a tab (9) as the default separator
+-- the key by which options group lines, if they do: the field of its number, the first being 1, with a tab (9) as the
+-- default separator
 abbrev pub chosen_group : OptionValues → Option Key
 chosen_group options = option_map (λ number. FieldKey (number - 1) (unwrap_or options.separator 9)) options.by
 
--- the part of a line that has its number, if options choose one: the field of its number, the first being 1, with a tab (9) as the default separator
+-- the part of a line that has its number, if options choose one: the field of its number, the first being 1, with a tab
+-- (9) as the default separator
 abbrev pub chosen_value : OptionValues → Option Key
 chosen_value options = option_map (λ number. FieldKey (number - 1) (unwrap_or options.separator 9)) options.value
 

@@ -86,7 +86,7 @@ option_called name =
     if bytes_eq name (codes "--output-dir") then Some OutputDir else
     if bytes_eq name (codes "--keys") then Some Keys else None
 
--- the commands that read lines from any files or standard input, those that read an expression, and those that print counts
+-- the commands that read lines from any files or standard input
 abbrev pub reads_lines : Command → Bool
 reads_lines Count = true
 reads_lines Sketch = true
@@ -96,10 +96,12 @@ reads_lines Eval = false
 reads_lines Visits = true
 reads_lines Sum = true
 
+-- the command that reads an expression
 abbrev pub reads_expression : Command → Bool
 reads_expression Eval = true
 reads_expression _ = false
 
+-- the commands that print counts
 abbrev pub prints_counts : Command → Bool
 prints_counts Count = true
 prints_counts Sketch = false
@@ -114,16 +116,18 @@ abbrev pub sums_numbers : Command → Bool
 sums_numbers Sum = true
 sums_numbers _ = false
 
--- the commands that read numbers of lines, or may, the one that counts lines for an image, and those that read images of sums, if they are to
+-- the commands that have `--value`
 abbrev pub has_numbers : Command → Bool
 has_numbers Sketch = true
 has_numbers Sum = true
 has_numbers _ = false
 
+-- the command that has `--visits`
 abbrev pub has_visits : Command → Bool
 has_visits Sketch = true
 has_visits _ = false
 
+-- the commands that have `--sums`
 abbrev pub has_sums : Command → Bool
 has_sums (Combine Union) = true
 has_sums Eval = true
@@ -136,47 +140,51 @@ makes_sketches Count = true
 makes_sketches Sketch = true
 makes_sketches _ = false
 
--- the command that prints groups, in an order; the one that unites the images of groups; and the one that writes a file for each group
+-- the command that has `--sort`
 abbrev pub has_order : Command → Bool
 has_order Count = true
 has_order _ = false
 
+-- the command that has `--groups`
 abbrev pub has_united_groups : Command → Bool
 has_united_groups (Combine Union) = true
 has_united_groups _ = false
 
+-- the command that has `--output-dir`
 abbrev pub has_folder : Command → Bool
 has_folder Sketch = true
 has_folder _ = false
 
--- the commands that have `--field`, those that have `--lg-k`, and those that have `--expect`
+-- the commands that have `--field`
 abbrev pub has_field : Command → Bool
 has_field command = reads_lines command || reads_expression command
 
+-- the commands that have `--lg-k`
 abbrev pub has_size : Command → Bool
 has_size (Combine Meet) = false
 has_size (Combine Minus) = false
 has_size Show = false
 has_size _ = true
 
+-- the commands that have `--expect`
 abbrev pub has_expected : Command → Bool
 has_expected (Combine Union) = true
 has_expected (Combine Meet) = true
 has_expected _ = false
 
--- every command but `minus` and `eval` reads the names of its files from a file, if it is to
+-- the commands that have `--files0-from`: all but `minus` and `eval`
 abbrev pub has_list : Command → Bool
 has_list (Combine Minus) = false
 has_list Eval = false
 has_list _ = true
 
--- every command but `count` and `sum` reads or writes images in hexadecimal, if it is to
+-- the commands that have `--hex`: all but `count` and `sum`
 abbrev pub has_digits : Command → Bool
 has_digits Count = false
 has_digits Sum = false
 has_digits _ = true
 
--- every command but `count`, `show`, `visits` and `sum` writes an image to a file, if it is to
+-- the commands that have `--output`: all but `count`, `show`, `visits` and `sum`
 abbrev pub has_output : Command → Bool
 has_output Count = false
 has_output Show = false

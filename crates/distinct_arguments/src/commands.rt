@@ -2,7 +2,7 @@
 
 use crate::options::Options;
 
-/// How sketches are combined into one.
+/// How sketches are combined into one: `Meet` is the intersection, and `Minus` the difference.
 #[derive(Clone, Copy, Debug, PartialEq, Eq)]
 pub enum Operator {
     Union,
@@ -13,9 +13,13 @@ pub enum Operator {
 /// What the program does with its files.
 #[derive(Clone, Copy, Debug, PartialEq, Eq)]
 pub enum Command {
+    /// Prints how many distinct lines there are.
     Count,
+    /// Writes the sketch of the lines as an image.
     Sketch,
+    /// Writes the image of several images combined.
     Combine(Operator),
+    /// Prints one line per image.
     Show,
     /// Evaluates an expression over the sketches of files.
     Eval,

@@ -28,7 +28,8 @@ use Rattle.distinct_arguments.specs.declared.commands.Command.TheVariants.{Count
 use Rattle.distinct_arguments.specs.declared.commands.Operator.{Operator}
 use Rattle.distinct_arguments.specs.declared.commands.Operator.TheVariants.{Union, Meet, Minus}
 
--- the sketch of the lines of all texts, each text cut into lines by itself, with the key and the size that the options set, under a seed
+-- the sketch of the lines of all texts, each text cut into lines by itself, with the key and the size that the options
+-- set, under a seed
 abbrev pub sketch_of : OptionValues → (seed : ℕ) → (texts : List (List ℕ)) → Compact ℕ
 sketch_of options seed texts = sketch_of_value seed (value_of_lines (chosen_hashing options seed) options.lg_k (lines_of_all texts))
 
@@ -53,8 +54,8 @@ IsDifferenceImage seed images out =
 abbrev pub IsExpected : (expected : Option ℕ) → (count : ℕ) → Type 0
 IsExpected expected count = IfSome expected (λ number. number ≡ count)
 
--- the image of the union of the sketches in images, which are theta sketches, or sketches of sums; images of texts that were sketched apart,
--- or of their sums, are united to the image of all their lines
+-- the image of the union of the sketches in images, which are theta sketches, or sketches of sums; images of texts that
+-- were sketched apart, or of their sums, are united to the image of all their lines
 abbrev pub IsUnionOf : (sums : Bool) → (seed lg_k : ℕ) → (images : List (List ℕ)) → List ℕ → Type 0
 IsUnionOf false seed lg_k images out = IsUnitedImage seed lg_k images out × UnitesTexts seed lg_k images out
 IsUnionOf true seed lg_k images out = IsUnitedSumsImage seed lg_k images out × UnitesSumsOfTexts seed lg_k images out

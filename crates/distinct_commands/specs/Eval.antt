@@ -45,7 +45,8 @@ abbrev pub AreOperands : (keys : Bool) → OptionValues → (seed : ℕ) → (te
 AreOperands true options seed texts sketches = AreSketchesOfTexts options seed texts sketches
 AreOperands false options seed texts sketches = AreRead seed (images_of options.hex texts) sketches
 
--- the whole streams of the names' sketches, as sets of hashes: with `--keys` those of the texts' lines, else any of which the sketches are samples
+-- the whole streams of the names' sketches, as sets of hashes: with `--keys` those of the texts' lines, else any of
+-- which the sketches are samples
 abbrev pub AreWholeSets : (keys : Bool) → OptionValues → (seed : ℕ) → (texts : List (List ℕ)) → List (Compact ℕ) → (sets : List (List ℕ)) → Type 0
 AreWholeSets true options seed texts sketches sets = sets ≡ map (λ text. key_set (chosen_hashing options seed) (lines_of text)) texts
 AreWholeSets false options seed texts sketches sets = AreSamples hash_key (values_of sketches) sets
@@ -54,8 +55,8 @@ AreWholeSets false options seed texts sketches sets = AreSamples hash_key (value
 abbrev pub evaluated_text : OptionValues → (expression : List ℕ) → Compact ℕ → List ℕ
 evaluated_text options expression s = if is_some options.output then in_form options.hex (written s) else head_of options.form ++ shown_text options expression s
 
--- The result of an expression over the sketches of texts, one for each of its names. It retains exactly the hashes of the expression of the whole
--- streams that are below its theta.
+-- The result of an expression over the sketches of texts, one for each of its names. It retains exactly the hashes of
+-- the expression of the whole streams that are below its theta.
 pub record IsEvaluated (options : OptionValues) (seed : ℕ) (expression : List ℕ) (texts : List (List ℕ)) (out : List ℕ) : Type 0 where
   pub names : List (List ℕ)
   pub steps : List Step

@@ -19,7 +19,8 @@ use Rattle.distinct_arguments.specs.declared.options.Form.TheVariants.{Plain, Ts
 use Rattle.distinct_inputs.specs.Failures.{chosen_hashing}
 use Rattle.distinct_inputs.specs.Images.{in_form}
 
--- the sketch of the lines of all texts, each retained hash with the sum of what its lines add, with the key and the size that the options set
+-- the sketch of the lines of all texts, each retained hash with the sum of what its lines add, with the key and the
+-- size that the options set
 abbrev pub sums_of : OptionValues → Amount → (seed : ℕ) → (texts : List (List ℕ)) → Compact (TupleEntry ℕ)
 sums_of options amount seed texts = sketch_of_sums (chosen_hashing options seed) (added_by amount) options.lg_k (lines_of_all texts)
 

@@ -19,7 +19,8 @@ use Rattle.distinct_inputs.specs.Failures.{chosen_hashing}
 use Rattle.distinct_inputs.specs.Images.{images_of}
 use Rattle.distinct_commands.specs.Texts.{report_by}
 
--- the sketch of the lines of all texts, each retained hash with the number of its lines, with the key and the size that the options set
+-- the sketch of the lines of all texts, each retained hash with the number of its lines, with the key and the size that
+-- the options set
 abbrev pub visits_of : OptionValues → (seed : ℕ) → (texts : List (List ℕ)) → Compact (TupleEntry ℕ)
 visits_of options seed texts = sketch_of_sums (chosen_hashing options seed) one_each options.lg_k (lines_of_all texts)
 
@@ -53,8 +54,9 @@ bins_text options s most (suc bin) = bins_text options s most bin ++ bin_up_to o
 unfoldable pub visits_text : OptionValues → Compact (TupleEntry ℕ) → List ℕ
 visits_text options s = ranges_head options.form ++ bins_text options s (greatest (sums_in s)) BINS
 
--- What `visits` prints of images of sums, that of the union of their sketches. If they are the images of the numbers of lines of texts that
--- were sketched apart, by one key and with this seed and at least this size, it is what is printed of all their lines.
+-- What `visits` prints of images of sums, that of the union of their sketches. If they are the images of the numbers of
+-- lines of texts that were sketched apart, by one key and with this seed and at least this size, it is what is printed
+-- of all their lines.
 pub record IsVisitsOfImages (options : OptionValues) (seed : ℕ) (images : List (List ℕ)) (out : List ℕ) : Type 0 where
   pub sums : Compact (TupleEntry ℕ)
   pub united : IsUnitedSums seed options.lg_k images sums

@@ -35,8 +35,8 @@ const STANDARD_OUTPUT: &str = "standard output";
 ///
 /// - those of images, of lines of images and of groups: commands that read images;
 /// - `NoFiles`: commands that read images, if no file is named;
-/// - `WrongCount`: commands that combine images, also `visits --sums`, if `--expect` names another number than the
-///   failure reports to have been found;
+/// - `WrongCount`: commands that combine images, if `--expect` names another number than the failure reports to have
+///   been found;
 /// - `NotTwo`: `minus`. If contracts know the files' bytes, only if the named files aren't two (without `--hex`) or
 ///   their images aren't two;
 /// - `NoName`, `NotOneEach`, `NoExpression`, `NotOneExpression` and `PastResult`: `eval`;

@@ -104,8 +104,8 @@ fn sketch_source<R: Read, C: Console>(
     sketch_lines(alloc, hashing, lg_k, source, &mut block, console)
 }
 
-/// The sketch of the lines of the next source, of this seed, or `None` at the end. It fails if memory is refused or the source can't be
-/// read.
+/// The sketch of the lines of the next source, of this seed, or `None` at the end. It fails if memory is refused or the
+/// source can't be read.
 fn next_lines<S: Sources, C: Console>(
     alloc: Global,
     options: &Options<'_>,

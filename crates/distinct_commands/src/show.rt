@@ -94,7 +94,7 @@ impl<'a, S: Sources + Drop> Job<'a, S> {
     }
 }
 
-/// One line per image, where each line of the files has an image.
+/// One line per image, if each line of the files has an image.
 fn show_lines<S: Sources>(
     alloc: Global,
     options: &Options<'_>,
@@ -116,7 +116,7 @@ fn show_lines<S: Sources>(
     Err(Failure::Memory)
 }
 
-/// One line per image, where each file is an image, under the file's name.
+/// One line per image, under the file's name, if each file is an image.
 fn show_files<S: Sources>(
     alloc: Global,
     options: &Options<'_>,

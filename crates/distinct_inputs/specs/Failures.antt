@@ -165,7 +165,8 @@ IsOfWriting name Memory = ⊤
 IsOfWriting name (NotWritten output error) = string_bytes output ≡ name
 IsOfWriting name _ = ⊥
 
--- there are not two images: each file is one, and this count of them is not two, or the images in the texts are not two, if these are known
+-- there are not two images: each file is one, and this count of them is not two, or the images in the texts are not
+-- two, if these are known
 abbrev pub AreNotTwo : (hex : Bool) → (count : ℕ) → (texts : Option (List (List ℕ))) → Type 0
 AreNotTwo hex count texts = ((hex ≡ false) × (count ≢ 2)) ⊎ IfSome texts (λ all. length (images_of hex all) ≢ 2)
 
@@ -189,12 +190,14 @@ abbrev pub IsOfVisits : OptionValues → (seed : ℕ) → (texts : Option (List 
 IsOfVisits options seed texts (PastGreatest name line) = (options.sums ≡ false) × HasGreatSum options seed One texts
 IsOfVisits options seed texts failure = IsOfEitherUnion options failure
 
--- a union of images, of sums or of theta sketches, is refused for memory, for an image, or, if they are of sums, for a sum of 2^64 or more
+-- a union of images, of sums or of theta sketches, is refused for memory, for an image, or, if they are of sums, for a
+-- sum of 2^64 or more
 abbrev pub IsOfUniting : (sums : Bool) → Unread → Type 0
 IsOfUniting sums (Failed error) = ⊤
 IsOfUniting sums (Refused error) = (error ≡ OutOfMemory) ⊎ (((error ≡ Policy) × (sums ≡ true)) ⊎ (error ≡ InvalidData))
 
--- images can't be combined: memory, a file or its contents is at fault, there are not as many as are expected, or `minus` doesn't have two
+-- images can't be combined: memory, a file or its contents is at fault, there are not as many as are expected, or
+-- `minus` doesn't have two
 abbrev pub IsOfCombining : Operator → OptionValues → (count : ℕ) → (texts : Option (List (List ℕ))) → Failure → Type 0
 IsOfCombining operator options count texts NotTwo = (operator ≡ Minus) × AreNotTwo options.hex count texts
 IsOfCombining operator options count texts (PastUnion name line) = options.sums ≡ true
@@ -233,8 +236,9 @@ abbrev pub OrUnnamed : (IsUnnamed : Type 0) → (IsOther : Failure → Type 0) �
 OrUnnamed IsUnnamed IsOther NoFiles = IsUnnamed
 OrUnnamed IsUnnamed IsOther failure = IsOther failure
 
--- a command fails before it writes: what it reads is at fault, or memory was refused; and by command, no image is named, there are not as
--- many as are expected, `minus` doesn't have two, `eval` doesn't have one expression, or `sum` doesn't have the field of its numbers
+-- a command fails before it writes: what it reads is at fault, or memory was refused; and by command, no image is
+-- named, there are not as many as are expected, `minus` doesn't have two, `eval` doesn't have one expression, or `sum`
+-- doesn't have the field of its numbers
 abbrev pub IsOfCommand : Command → OptionValues → (seed count : ℕ) → (texts : Option (List (List ℕ))) → Failure → Type 0
 IsOfCommand Count options seed count texts failure = IsOfReading failure
 IsOfCommand Sketch options seed count texts failure = IsOfSketch options seed texts failure

@@ -40,7 +40,8 @@ ended_lines (byte ∷ text) = if byte == 10 then (byte ∷ []) ∷ ended_lines t
 abbrev pub line_images : List ℕ → List (List ℕ)
 line_images text = map line_image (ended_lines text)
 
--- The images of a file that has one in each line. A file without a line counts as one image of no bytes, which can't be read as a sketch.
+-- The images of a file that has one in each line. A file without a line counts as one image of no bytes, which can't be
+-- read as a sketch.
 abbrev pub or_none : List (List ℕ) → List (List ℕ)
 or_none [] = [] ∷ []
 or_none (image ∷ images) = image ∷ images
@@ -101,7 +102,8 @@ ReadsNext seed None new next = ⊤
 ReadsNext seed (Some images) new None = images ≡ []
 ReadsNext seed (Some images) new (Some s) = ReadsFirst seed images s new
 
--- why bytes are not one image, the length of the image that bytes begin, and its number of hashes: of a sketch of sums, or of a theta sketch
+-- why bytes are not one image, the length of the image that bytes begin, and its number of hashes: of a sketch of sums,
+-- or of a theta sketch
 abbrev pub image_flaw : (sums : Bool) → (h : ℕ) → List ℕ → Flaw
 image_flaw sums h bytes = if sums then sums_flaw_of h bytes else flaw_of h bytes
 

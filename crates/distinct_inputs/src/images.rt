@@ -50,7 +50,7 @@ fn length_of(sums: bool, bytes: &[u8]) -> Option<u64>
     }
 }
 
-/// Refuses bytes that have something after an image, since a second image there would be ignored.
+/// Refuses bytes that continue after an image, since a second image there would be ignored.
 fn check_alone(sums: bool, bytes: &[u8]) -> io::Result<()>
     ensures { OnOk result (IsAlone sums bytes.now) }
 {
@@ -125,8 +125,8 @@ impl<'a, S: Sources> Images<'a, S> {
         self.inputs.name()
     }
 
-    /// The failure if the file can't be read, or isn't an image: then the error has the kind `InvalidData`, which no error of
-    /// a file itself has.
+    /// The failure if the file can't be read, or isn't an image. An error of the kind `InvalidData` means the second:
+    /// no error of reading a file has it.
     pub fn unreadable(&self, error: io::Error) -> Failure
         ensures data { error_kind error ≡ InvalidData → ReportsNoSketch self.now result }
         ensures read { error_kind error ≢ InvalidData → ReportsUnreadable (called self.now.inputs.current.now) error result }
@@ -178,8 +178,8 @@ impl<'a, S: Sources> Images<'a, S> {
         }
     }
 
-    /// Notes what the preamble of an image says. It fails if the bytes have something after the image, since a second
-    /// image there would be ignored.
+    /// Notes what the preamble of an image says. It fails if something follows the image, since a second image there
+    /// would be ignored.
     fn note(&mut self, image: &[u8]) -> io::Result<()>
         ensures flaw { self.new.flaw ≡ Some (image_flaw self.old.sums (seed_hash self.old.seed) image.now) }
         ensures alone { OnOk result (IsAlone self.old.sums image.now) }

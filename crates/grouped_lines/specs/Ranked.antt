@@ -11,7 +11,8 @@ use Rattle.grouped_lines.specs.declared.ranked.Ranked.{Ranked}
 abbrev pub ranking : (estimate : ℕ) → (name : List ℕ) → (other_estimate : ℕ) → (other : List ℕ) → Ordering
 ranking estimate name other_estimate other = ordering_then (nat_cmp other_estimate estimate) (slice_cmp nat_cmp name other)
 
--- these are the same names in the order of their estimates, the greatest first, and of equal ones in the ascending order of their bytes
+-- these are the same names in the order of their estimates, the greatest first, and of equal ones in the ascending
+-- order of their bytes
 abbrev pub AreRanked : (estimate : List ℕ → ℕ) → (names ordered : List (List ℕ)) → Type 0
 AreRanked estimate names ordered =
     IsPermutation names ordered × IsSorted (λ name other. ranking (estimate name) name (estimate other) other) ordered

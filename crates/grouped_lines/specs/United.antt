@@ -174,7 +174,7 @@ pub record AreAdded {A P : Type 0} (seed lg_k : ℕ) (before lines : List (List 
   pub uniting : IsUniting seed lg_k (before ++ lines) groups
   pub flawless : AreFlawless seed lines
 
--- the first of these lines that has a flaw has this one, and this number: the greatest number of 64 bits also for each later line
+-- the first of these lines that has a flaw has this one, and this number; any number above 2^64 - 1 is reported as that
 pub record IsFirstFlawed (seed number : ℕ) (flaw : LineFlaw) (lines : List (List ℕ)) : Type 0 where
   pub before : List (List ℕ)
   pub line : List ℕ
@@ -211,7 +211,7 @@ ReportsFirst seed lines (Flawed number flaw) = IfSome lines (IsFirstFlawed seed 
 ReportsFirst seed lines (Refused kind) = ⊤
 ReportsFirst seed lines (Failed error) = ⊤
 
--- images are not united: by a refusal before any is read, or by refused memory, or because a source failed or a line has a flaw, the first that has one
+-- images are not united: a refusal before any is read, refused memory, a failed source, or the first line that has a flaw
 abbrev pub IsUnunited : (seed : ℕ) → Option ErrorKind → (texts : Option (List (List ℕ))) → Ununited → Type 0
 IsUnunited seed refusal texts (Refused kind) = (refusal ≡ Some kind) ⊎ (kind ≡ OutOfMemory)
 IsUnunited seed refusal texts (Failed error) = refusal ≡ None

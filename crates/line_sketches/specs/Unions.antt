@@ -28,7 +28,8 @@ pub record HasUnited {P : Type 0} (seed lg_k : ℕ) (images : List (List ℕ)) (
 abbrev pub IsUnitedImage : (seed lg_k : ℕ) → (images : List (List ℕ)) → List ℕ → Type 0
 IsUnitedImage seed lg_k images bytes = (sketches : List (Compact ℕ)) × AreRead seed images sketches × (bytes ≡ written (sketch_of_value seed (united lg_k (values_of_sketches sketches))))
 
--- for images of texts that were sketched apart, by one key, with this seed and this lg_k, it is the image of all their lines, in any order
+-- for images of texts that were sketched apart, by one key, with this seed and this lg_k, it is the image of all their
+-- lines, in any order
 abbrev pub UnitesTexts : (seed lg_k : ℕ) → (images : List (List ℕ)) → List ℕ → Type 0
 UnitesTexts seed lg_k images bytes =
     (key : Key) (texts lines : List (List ℕ)) → images ≡ images_of_texts (hashing_of key seed) lg_k texts → HaveSameLines (lines_of_all texts) lines → bytes ≡ image_of_lines (hashing_of key seed) lg_k lines

@@ -107,8 +107,8 @@ fn announced_count(bytes: &[u8]) -> u32
 }
 
 /// The length in bytes of the image that the bytes begin, by its preamble: from 8 to 24 + 8 * (2^32 - 1). `None` if it
-/// isn't known: there are fewer than eight bytes, or fewer than the preamble has, or there aren't 1 to 3 preamble longs,
-/// or the version isn't 1, 2 or 3. The family is not looked at.
+/// isn't known: there are fewer than eight bytes, or fewer than the preamble has, or there aren't 1 to 3 preamble
+/// longs, or the version isn't 1, 2 or 3. The family is not checked.
 ///
 /// Bytes that are read as a sketch have at least this length, and the first so many alone are read as the same sketch
 /// (`laws::image_begins`).

@@ -69,9 +69,9 @@ fn announced_sums(bytes: &[u8]) -> u32
     }
 }
 
-/// The length in bytes of the image of sums that the bytes begin, by its preamble: from 8 to 24 + 16 * (2^32 - 1). `None` if
-/// it isn't known: there are fewer than eight bytes, or fewer than the preamble has, or there aren't 1 to 3 preamble longs,
-/// or the version isn't 1 or 3. The family is not looked at.
+/// The length in bytes of the image of sums that the bytes begin, by its preamble: from 8 to 24 + 16 * (2^32 - 1).
+/// `None` if it isn't known: there are fewer than eight bytes, or fewer than the preamble has, or there aren't 1 to 3
+/// preamble longs, or the version isn't 1 or 3. The family is not checked.
 pub fn sums_length(bytes: &[u8]) -> Option<u64>
     ensures { result ≡ sums_length bytes.now }
 {

@@ -11,7 +11,8 @@ abbrev pub fields_of : (separator : ℕ) → List ℕ → List (List ℕ)
 fields_of separator [] = [] ∷ []
 fields_of separator (byte ∷ line) = if byte == separator then [] ∷ fields_of separator line else onto_first byte (fields_of separator line)
 
--- The key of a line: the whole line, or the field after this many others. A line without a separator is its own key, and a line of fewer fields has an empty key.
+-- The key of a line: the whole line, or the field after this many others. A line without a separator is its own key,
+-- and a line of fewer fields has an empty key.
 abbrev pub key_of : Key → List ℕ → List ℕ
 key_of Line line = line
 key_of (Field before separator) line = if length (fields_of separator line) == 1 then line else get_or (fields_of separator line) before []

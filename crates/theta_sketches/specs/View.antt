@@ -6,11 +6,11 @@ use Rattle.core_laws.specs.Shown.{Shown}
 use Rattle.core_state.specs.declared.view.SketchView.{SketchView}
 use Rattle.core_state.specs.View.{shows, lending, sequence}
 
--- what the sketch behind a view shows
+-- what the sketch of a view shows
 abbrev pub view_shows : {Z S : Type 0} → SketchView ℕ Z S → Shown
 view_shows view = shows hash_key view
 
--- what an iterator over its entries has at first; it knows how many only over a compact sketch
+-- what an iterator over its entries returns; it knows their number only over a compact sketch
 abbrev pub view_lending : {Z S : Type 0} → SketchView ℕ Z S → Remaining ℕ
 view_lending view = lending view
 
