@@ -119,7 +119,7 @@ pub(crate) fn read_in_blocks<E: FixedEntry<N> + Drop, const N: usize, A: Allocat
 }
 
 /// A quick test whether the hash of each text is above the one before it, and the first above `before`; and the last
-/// hash. If the test is false, the hashes may still ascend: it is false for every hash of 64 bits. The difference of
+/// hash. If it is false, the hashes may still ascend, since it is false if one of them has 64 bits. The difference of
 /// two numbers of 63 bits has its highest bit set only if it is negative, so vector code subtracts, which takes fewer
 /// steps than a comparison.
 fn subtract_block<E: FixedEntry<N> + SketchEntry + Drop, const N: usize>(

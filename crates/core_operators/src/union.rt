@@ -147,7 +147,7 @@ impl<E: SlotEntry + Clone, P: UnionMergePolicy<E> + Drop, A: Allocator + Clone> 
 
     /// Merges sketches into the union, with the value of one `update` after another, in their order, if these succeed.
     /// Empty sketches change nothing, and their seeds are not checked. If all sketches that aren't empty are ordered,
-    /// each is read only as far as the value needs its hashes.
+    /// each is read about as far as the value needs its hashes.
     ///
     /// Refused with `Failed` if the union has failed, whatever the inputs, and with `InvalidArgument` if one of the
     /// sketches that aren't empty has another seed; then nothing has changed. Refused with `OutOfMemory`, or with

@@ -110,8 +110,8 @@ fn announced_count(bytes: &[u8]) -> u32
 /// isn't known: there are fewer than eight bytes, or fewer than the preamble has, or there aren't 1 to 3 preamble
 /// longs, or the version isn't 1, 2 or 3. The family is not checked.
 ///
-/// Bytes that are read as a sketch have at least this length, and the first so many alone are read as the same sketch
-/// (`laws::image_begins`).
+/// Bytes that are read as a sketch have at least this length, and their prefix of this length is read as the same
+/// sketch (`laws::image_begins`).
 pub fn image_length(bytes: &[u8]) -> Option<u64>
     ensures { result ≡ image_length bytes.now }
 {
@@ -124,7 +124,7 @@ pub fn image_length(bytes: &[u8]) -> Option<u64>
 
 /// How many hashes the image that the bytes begin has, by its preamble: below 2^32, and 0 if `image_length` is `None`.
 ///
-/// Bytes that are read as a sketch have so many hashes (`laws::entries_counted`).
+/// Bytes that are read as a sketch have exactly this many hashes (`laws::entries_counted`).
 pub fn entry_count(bytes: &[u8]) -> u64
     ensures { result ≡ entry_count bytes.now }
 {

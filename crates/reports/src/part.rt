@@ -33,7 +33,7 @@ fn part_fraction(is_empty: bool, retained: usize, theta: u64) -> (u128, u128)
 }
 
 /// The report on a part of the values of a stream, such as those that occur twice: from the number of them that a
-/// sketch retains, fewer than 2^32, and the sketch's theta, from 1 to `MAX_THETA`. Any sketch that retains so many
+/// sketch retains, fewer than 2^32, and the sketch's theta, from 1 to `MAX_THETA`. Any sketch that retains this many
 /// values below this theta has the same report.
 pub fn report_of_part(is_empty: bool, retained: usize, theta: u64, deviations: Deviations) -> Report
     requires limited { retained < 2 ^ 32 }

@@ -40,7 +40,8 @@ pub trait HasImage {
 
     ghost no_image: { Self → ℕ → Type 0 };
 
-    /// The image of the object, or the status of the refusal. It is ordered, but for a compact sketch that isn't.
+    /// The image of the object, or the status of the refusal. The image is ordered, except that of a compact sketch
+    /// that isn't ordered.
     fn image(&self) -> Result<Vec<u8>, u32>
         ensures image { IfOk result (λ v. is_image self.now v.items) }
         ensures refused { IfErr result (no_image self.now) };
