@@ -43,7 +43,7 @@ static size_t spelled(const char *text, unsigned char *to) {
 }
 
 /* A sketch of 2^5 nominal entries, whose slots double. At the 17th hash it requests 64 slots. At the 61st hash and at the 90th
- * it selects among these and gathers 32 hashes. */
+ * it selects among these and gathers 32 hashes; so does a trim. */
 static void theta(void) {
     kc_theta s = {0};
     kc_state state;
@@ -64,7 +64,7 @@ static void theta(void) {
     ASKS(KC_OK, 2, 42 * SLOT + 360, kc_theta_image(&s, out, ROOM, &length));
     WANT(length == 360);
     ASKS(KC_OK, 1, 42 * SLOT, kc_image_state(out, length, SEED, &state));
-    ASKS(KC_OK, 2, 65 * SLOT + 64, kc_theta_trim(&s));
+    ASKS(KC_OK, 2, (65 + 33) * SLOT, kc_theta_trim(&s));
     NOTHING(KC_OK, kc_theta_trim(&s));
     NOTHING(KC_OK, kc_theta_reset(&s));
     NOTHING(KC_OK, kc_theta_trim(&s));

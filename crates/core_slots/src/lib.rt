@@ -1,6 +1,6 @@
 //! Entries of sketches, the steps of an insertion, and the slots in which a table stores entries by open addressing:
-//! searches, writes, moves from some slots to others, laying out anew in place, looking up many hashes at once, and the
-//! hash of a given rank among those in slots.
+//! searches, writes, moves from some slots to others, laying out the same slots anew, looking up many hashes at once,
+//! and the hash of a given rank among those in slots.
 //!
 //! There are 2^lg slots. The path of a hash begins at the slot of its low lg bits and continues by an odd stride taken
 //! from its next 7 bits, so it meets each slot once. Contracts see slots as a list of their contents, and speak of the

@@ -1,7 +1,8 @@
-//! Slots laid out anew in place, with those of their entries that are below a theta.
+//! Slots laid out anew with those of their entries that are below a theta: by way of other slots, or in place if they
+//! are many and each has more than a word.
 //!
-//! A mark for each slot records whether its entry has been placed. An entry in an unmarked slot waits: it is taken out
-//! and put into the first unmarked slot on its path, and the entry that waited there is carried on in the same way.
+//! In place, a mark for each slot records whether its entry has been placed. An entry in an unmarked slot waits: it is
+//! taken out and put into the first unmarked slot on its path, and the entry that waited there is carried on likewise.
 //! Most entries return to the slot that they were in, so memory is visited nearly in order.
 ghost use Rattle.std.specs.Prelude.{◌≡◌, ℕ, ◌+◌, ◌-◌, ◌<◌, ◌≤◌, ◌^◌, ◌*◌, false, nat_lt, Some, None, IfOk, OnOk, OnErr, length, get_or, map, option_map, replicate};
 ghost use Rattle.std.specs.List.{count_by};
@@ -73,8 +74,8 @@ fn no_marks<A: Allocator + Drop>(alloc: A, lg: u8) -> Result<Vec<bool, A>, Alloc
     Ok(marks)
 }
 
-/// Lays the slots out anew with the entries below theta and drops the rest. Counts the placed entries in `placed` and
-/// the looks at marks in `looks`.
+/// Lays the slots out anew in place with the entries below theta and drops the rest. Counts the placed entries in
+/// `placed` and the looks at marks in `looks`.
 fn relay<E: SlotEntry>(
     slots: &mut [E::Slot],
     marks: &mut [bool],
@@ -105,32 +106,6 @@ fn relay<E: SlotEntry>(
     }
 }
 
-/// Keeps the entries below theta, in the same slots. Counts the entries placed anew in `placed` and the looks at slots
-/// in `looks`.
-///
-/// It requests a byte for each slot, and fails only if that memory runs out; then nothing has changed.
-pub fn keep_below<E: SlotEntry + Drop, A: Allocator + Clone>(
-    slots: &mut Vec<E::Slot, A>,
-    lg: u8,
-    theta: u64,
-    placed: &mut Count,
-    looks: &mut Count,
-) -> Result<(), AllocError>
-    requires small { lg < 40 }
-    requires laid_out { IsLaidOut E.key lg (map E.content slots.old.items) }
-    ensures laid_out { OnOk result (IsLaidOut E.key lg (map E.content slots.new.items)) }
-    ensures map { OnOk result (slot_map E.key E.content slots.new.items ≡ below E.key (slot_map E.key E.content slots.old.items) theta) }
-    ensures placed { OnOk result (placed.new ≡ placed.old + length (entries_in E.content slots.new.items)) }
-    ensures err { OnErr result (slots.new.items ≡ slots.old.items) }
-    ensures placed_err { OnErr result (placed.new ≡ placed.old) }
-    ensures looked { LooksForEach (placed.new - placed.old) looks.old looks.new }
-    ensures looks { LooksAtPlaced (placed.new - placed.old) looks.old looks.new }
-{
-    let mut marks = no_marks(slots.allocator().clone()?, lg)?;
-    relay::<E>(slots, &mut marks, lg, theta, placed, looks);
-    Ok(())
-}
-
 /// How many bytes a word of memory has.
 const WORD: usize = 8;
 
@@ -141,16 +116,47 @@ fn are_words<T>(slots: &[T]) -> bool {
     size_of_val(slots) / WORD <= slots.len()
 }
 
-/// The binary logarithm up to which a rebuild gathers the kept entries into other slots, whatever the size of a slot.
-/// More slots than that are laid out anew in place if each has more than a word, since the memory is then distant and
-/// large.
+/// The binary logarithm up to which the kept entries are gathered into other slots, whatever the size of a slot. More
+/// slots than that are laid out anew in place if each has more than a word, since the memory is then distant and large.
 const GATHERED_LG: u8 = 16;
 
-/// Puts a new entry into the free slot `at`, where a search for it ends, and keeps the entries below theta, in the same
-/// slots: at most `kept` of them. Counts the entries placed anew in `placed` and the looks at slots in `looks`.
+/// Keeps the entries below theta, in the same slots: at most `kept` of them. Counts the entries placed anew in `placed`
+/// and the looks at slots in `looks`.
 ///
 /// It requests memory for `kept` + 1 more slots, or, if there are more than 2^16 slots of more than a word each, a byte
 /// for each slot. It fails only if that memory runs out; then nothing has changed.
+pub fn keep_below<E: SlotEntry + Drop, A: Allocator + Clone>(
+    slots: &mut Vec<E::Slot, A>,
+    lg: u8,
+    theta: u64,
+    kept: usize,
+    placed: &mut Count,
+    looks: &mut Count,
+) -> Result<(), AllocError>
+    requires small { lg < 40 }
+    requires laid_out { IsLaidOut E.key lg (map E.content slots.old.items) }
+    requires kept { length (below E.key (slot_map E.key E.content slots.old.items) theta) ≤ kept }
+    requires limited { kept < 2 ^ 40 }
+    ensures laid_out { OnOk result (IsLaidOut E.key lg (map E.content slots.new.items)) }
+    ensures map { OnOk result (slot_map E.key E.content slots.new.items ≡ below E.key (slot_map E.key E.content slots.old.items) theta) }
+    ensures placed { OnOk result (placed.new ≡ placed.old + length (entries_in E.content slots.new.items)) }
+    ensures err { OnErr result (slots.new.items ≡ slots.old.items) }
+    ensures placed_err { OnErr result (placed.new ≡ placed.old) }
+    ensures looked { LooksForEach (placed.new - placed.old) looks.old looks.new }
+    ensures looks { LooksAtPlaced (placed.new - placed.old) looks.old looks.new }
+{
+    if lg <= GATHERED_LG || are_words(slots) {
+        let others = E::free_slots(slots.allocator().clone()?, kept + 1)?;
+        gather::<E, A>(slots, others, lg, theta, placed, looks);
+        return Ok(());
+    }
+    let mut marks = no_marks(slots.allocator().clone()?, lg)?;
+    relay::<E>(slots, &mut marks, lg, theta, placed, looks);
+    Ok(())
+}
+
+/// Puts a new entry into the free slot `at`, where a search for it ends, and keeps the entries below theta in the way
+/// of `keep_below`: at most `kept` of them. It fails only if that does; then nothing has changed.
 pub fn put_kept<E: SlotEntry + Drop, A: Allocator + Clone>(
     slots: &mut Vec<E::Slot, A>,
     lg: u8,
@@ -176,14 +182,10 @@ pub fn put_kept<E: SlotEntry + Drop, A: Allocator + Clone>(
     ensures looked { LooksForEach (placed.new - placed.old) looks.old looks.new }
     ensures looks { LooksAtPlaced (placed.new - placed.old) looks.old looks.new }
 {
-    if lg <= GATHERED_LG || are_words(slots) {
-        let others = E::free_slots(slots.allocator().clone()?, kept + 1)?;
-        slots[at] = entry.into_slot();
-        gather::<E, A>(slots, others, lg, theta, placed, looks);
-        return Ok(());
+    let free = mem::replace(&mut slots[at], entry.into_slot());
+    if let Err(refusal) = keep_below::<E, A>(slots, lg, theta, kept, placed, looks) {
+        slots[at] = free;
+        return Err(refusal);
     }
-    let mut unmarked = no_marks(slots.allocator().clone()?, lg)?;
-    slots[at] = entry.into_slot();
-    relay::<E>(slots, &mut unmarked, lg, theta, placed, looks);
     Ok(())
 }

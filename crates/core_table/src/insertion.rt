@@ -341,6 +341,6 @@ pub(crate) fn cut_slots<E: SlotEntry + Drop, A: Allocator + Clone>(
     let alloc = slots.allocator().clone()?;
     let theta = hash_of_rank::<E, A>(alloc, None, slots, count, nominal, old_theta)?;
     let mut looks = Count::new();
-    keep_below::<E, A>(slots, lg, theta, placed, &mut looks)?;
+    keep_below::<E, A>(slots, lg, theta, nominal, placed, &mut looks)?;
     Ok(theta)
 }

@@ -1,14 +1,24 @@
-use Rattle.std.proofs.Common.{rules, ◌≡◌, ℕ, ◌+◌, ◌++◌, length, map, take, drop, ap, ◌∙◌}
+use Rattle.std.proofs.Common.{rules, arith}
 use Rattle.std.proofs.lemmas.List.{places}
-use Rattle.core_slots.proofs.Moves.{moved_count}
+use Rattle.core_slots.proofs.Moves.{low_count, kept_map, kept_count}
 use Rattle.core_slots.proofs.relaying.keep_below.Goals as goal
+
+pub gather-requires-clause-room : goal.gather-requires-clause-room
+gather-requires-clause-room g c =
+    omega (arith, low_count g.E.SketchEntry.key g.E.PathEntry.content c.args.lg c.args.theta c.args.slots.now.items _ c.requires.laid_out c.deref_mut.ensures.value, c.requires.kept, c.in_ok-others.ensures.size)
+
+pub returns-then-lg-le-GATHERED_LG-clause-map : goal.returns-then-lg-le-GATHERED_LG-clause-map
+returns-then-lg-le-GATHERED_LG-clause-map g c =
+    kept_map g.E.SketchEntry.key g.E.PathEntry.content c.args.lg c.args.theta _ _ c.requires.laid_out c.deref_mut.ensures.value _ _ (search (rules, places)) c.gather.ensures.map
+
+pub returns-then-lg-le-GATHERED_LG-clause-placed : goal.returns-then-lg-le-GATHERED_LG-clause-placed
+returns-then-lg-le-GATHERED_LG-clause-placed g c =
+    kept_count g.E.SketchEntry.key g.E.PathEntry.content c.args.lg c.args.theta _ _ c.requires.laid_out c.deref_mut.ensures.value _ _ (search (rules, places)) c.gather.ensures.map _ _ _ c.gather.ensures.laid_out c.gather.ensures.placed
+
+pub returns-clause-map : goal.returns-clause-map
+returns-clause-map g c =
+    kept_map g.E.SketchEntry.key g.E.PathEntry.content c.args.lg c.args.theta _ _ c.requires.laid_out c.deref_mut-2.ensures.value _ _ (search (rules, places)) c.relay.ensures.map
 
 pub returns-clause-placed : goal.returns-clause-placed
 returns-clause-placed g c =
-    let key = g.E.SketchEntry.key in
-    let content = g.E.PathEntry.content in
-    let after = c.relay.new.slots in
-    let whole : take c.args.slots.now.len (after ++ drop (length after) c.args.slots.now.items) ≡ after = search (rules, places) in
-    let placed = rw c.deref_mut.ensures.value at c.relay.ensures.placed in
-    let moved = rw c.deref_mut.ensures.value at c.relay.ensures.map in
-    rw whole (placed ∙ ap (λ (n : ℕ). c.args.placed.now + n) (moved_count key c.args.lg c.args.lg c.args.theta (map content c.args.slots.now.items) (map content after) c.requires.laid_out c.relay.ensures.laid_out moved))
+    kept_count g.E.SketchEntry.key g.E.PathEntry.content c.args.lg c.args.theta _ _ c.requires.laid_out c.deref_mut-2.ensures.value _ _ (search (rules, places)) c.relay.ensures.map _ _ _ c.relay.ensures.laid_out c.relay.ensures.placed

@@ -1,5 +1,6 @@
-use Rattle.std.proofs.Common.{◌+◌, ℕ, map, length, sym, ap, ◌∙◌, arith}
+use Rattle.std.proofs.Common.{◌+◌, ◌^◌, ◌≤◌, ℕ, map, length, sym, ap, ◌∙◌, arith}
 use Rattle.std.proofs.lemmas.List.{length-map}
+use Rattle.std.proofs.Math.Pow.{pow_mono}
 use Rattle.core_slots.specs.SlotLayout.{filled}
 use Rattle.core_slots.specs.Rank.{HasRank}
 use Rattle.core_slots.proofs.SlotLayouts.{length-map_of}
@@ -17,6 +18,19 @@ pub hash_of_rank-requires-clause-counted : goal.hash_of_rank-requires-clause-cou
 hash_of_rank-requires-clause-counted g c =
     let slots = map g.E.PathEntry.content c.args.slots.now.items in
     rw c.deref.ensures.value (omega (arith, length-map (filled slots) g.E.SketchEntry.key, c.requires.counted))
+
+pub keep_below-requires-clause-kept : goal.keep_below-requires-clause-kept
+keep_below-requires-clause-kept g c =
+    let key = g.E.SketchEntry.key in
+    let slots = map g.E.PathEntry.content c.args.slots.now.items in
+    let each = apart-laid_out key c.args.lg slots c.requires.laid_out in
+    let ranked : HasRank (map key (filled slots)) c.args.nominal c.in_ok-theta.theta = rw c.deref.ensures.value at c.in_ok-theta.ensures.ranked in
+    omega (arith, trimmed_count key c.args.nominal c.in_ok-theta.theta (filled slots) each ranked)
+
+pub keep_below-requires-clause-limited : goal.keep_below-requires-clause-limited
+keep_below-requires-clause-limited g c =
+    let most : 2 ^ c.args.lg ≤ 2 ^ 40 = pow_mono {i = c.args.lg} {j = 40} (omega (arith, c.requires.small)) in
+    omega (arith, most, c.requires.many, c.requires.room)
 
 pub returns-clause-after : goal.returns-clause-after
 returns-clause-after g c =
