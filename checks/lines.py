@@ -139,7 +139,7 @@ def sums_of(texts, options, seed):
         for number, line in enumerate(lines_of(text), 1):
             value = key_of(line, options["--value"], options["--separator"]) if options.get("--value") else b"1"
             if not re.fullmatch(rb"[0-9]+", value) or int(value) > M64:
-                raise Failure(f"{escaped(called(name))}: line {number}: its value is not a whole number up to {M64}")
+                raise Failure(f"{escaped(called(name))}: line {number}: its value is not a whole number up to {M64}: check --value and --separator")
             key = murmur(key_of(line, options["--field"], options["--separator"]), seed) >> 1
             sums[key] += int(value)
             if sums[key] > M64:
@@ -228,16 +228,16 @@ def sums_flaw_of(image, own_hash):
         named = f", the family of {FAMILIES[image[2] - 1]}" if 1 <= image[2] <= len(FAMILIES) else ""
         return f"is not an image of sums (the third byte is {image[2]}{named}, not 9)"
     if image[1] not in (1, 3):
-        return f"is of version {image[1]}; versions 1 and 3 are read"
+        return f"is of version {image[1]}; versions 1 and 3 are read: write it in version 3"
     if image[5] & 1:
-        return "is in big-endian order, which is not read"
+        return "is in big-endian order: write it in little-endian order"
     if not image[5] & 4 and struct.unpack_from("<H", image, 6)[0] != own_hash:
         return "is a sketch under another seed than this command's: pass the --seed it was made with"
     if not 1 <= image[0] <= 3 or image[3] not in (1, 5) or length == len(image):
-        return "is damaged: its hashes, its theta or its sketch type are not those of an image of sums"
+        return "is damaged (its preamble, sketch type, theta or hashes are not valid): copy or make it again"
     if length is None or length > len(image):
-        return "is cut short"
-    return "is longer than one image; with --hex a file may have many"
+        return "is cut short: copy or make it again"
+    return "has bytes after its image: a file has one image, or with --hex one per line"
 
 
 def sums_of_image(image, own_hash):
@@ -298,16 +298,16 @@ def flaw_of(image, own_hash):
         named = f", the family of {FAMILIES[image[2] - 1]}" if 1 <= image[2] <= len(FAMILIES) else ""
         return f"is not the image of a theta sketch (the third byte is {image[2]}{named}, not 3)"
     if not 1 <= image[1] <= 3:
-        return f"is of version {image[1]}; versions 1 to 3 are read"
+        return f"is of version {image[1]}; versions 1 to 3 are read: write it in version 3, uncompressed"
     if image[1] == 3 and image[5] & 1:
-        return "is in big-endian order, which is not read"
+        return "is in big-endian order: write it in little-endian order"
     if image[1] > 1 and not is_empty(image) and struct.unpack_from("<H", image, 6)[0] != own_hash:
         return "is a sketch under another seed than this command's: pass the --seed it was made with"
     if not 1 <= image[0] <= 3 or length == len(image):
-        return "is damaged: its hashes or its theta are not those of a theta sketch"
+        return "is damaged (its preamble, theta or hashes are not valid): copy or make it again"
     if length is None or length > len(image):
-        return "is cut short"
-    return "is longer than one image; with --hex a file may have many"
+        return "is cut short: copy or make it again"
+    return "has bytes after its image: a file has one image, or with --hex one per line"
 
 
 def sketch_of_image(image, own_hash):
@@ -613,7 +613,7 @@ def images_in(files, names, hex_lines):
             yield f"{shown}: ", called(name), text
             continue
         if not text:
-            raise Failure(f"{shown}: has no line, and so no image")
+            raise Failure(f"{shown}: has no line, and so no image: make it again or leave it out")
         for number, line in enumerate(lines_of(text), 1):
             digits = line.strip(b" \t\r\f")
             if not re.fullmatch(rb"([0-9a-fA-F]{2})*", digits):
@@ -631,7 +631,7 @@ def advice(command, image, of_sums):
         return "; pass --sums for images of sums, --keys for lines" if command == "eval" else read
     if of_sums:
         return "; visits without --sums reads lines" if command == "visits" else "; sketch --value reads lines"
-    return "; pass --keys if its files have lines" if command == "eval" else "; count or sketch reads lines"
+    return "; pass --keys if the expression's files have lines" if command == "eval" else "; count or sketch reads lines"
 
 
 def sketches_in(command, files, names, hex_lines, own_hash, of_sums=False, places=None):
@@ -662,13 +662,13 @@ def combined(command, sketches, options, messages):
     if command == "minus" and len(sketches) != 2:
         raise Fault("not two images")
     if options["--expect"] not in (None, len(sketches)):
-        raise Failure(f"{len(sketches)} images found, {options['--expect']} expected; nothing was written")
+        raise Failure(f"{len(sketches)} images found, {options['--expect']} expected: check the files or --expect")
     parts = [part for _, part in sketches]
     if command == "union":
         lg_k = options["--lg-k"]
         most, name = max((len(part[0]) if part else 0, -place, name) for place, (name, part) in enumerate(sketches))[::2]
         if most > 2**lg_k:
-            less = "the union is less exact than its images"
+            less = "the union is less exact than its images; pass a greater --lg-k"
             messages.append(f"warning: {name} retains {most} hashes, and --lg-k {lg_k} keeps {2**lg_k}: {less}")
         if not options["--sums"]:
             return unite(2**lg_k, parts)
@@ -704,7 +704,7 @@ def united_groups(files, names, options, own_hash, messages):
             groups.setdefault(group, []).append(sketch)
             most = max(most, len(sketch[0]) if sketch else 0)
     if most > 2**lg_k:
-        less = "the union is less exact than its images"
+        less = "the union is less exact than its images; pass a greater --lg-k"
         messages.append(f"warning: an image retains {most} hashes, and --lg-k {lg_k} keeps {2**lg_k}: {less}")
     return [(name, unite(2**lg_k, groups[name])) for name in sorted(groups)]
 

@@ -24,6 +24,14 @@ fn may_have_lines(flaw: Flaw) -> bool {
     }
 }
 
+/// Whether a command has the option `--lg-k`.
+fn has_size(command: &str) -> bool {
+    match command {
+        "count" | "sketch" | "union" | "eval" | "visits" | "sum" => true,
+        _ => false,
+    }
+}
+
 /// The name of a file without its folders.
 fn last_part(name: &str) -> &str {
     match name.rsplit_once('/') {
@@ -80,6 +88,7 @@ impl fmt::Display for Hint<'_> {
                 write!(f, " of {command} (try distinct {command} --help)")
             }
             Failure::NoFiles => write!(f, " (try distinct {command} --help)"),
+            Failure::Memory if has_size(command) => write!(f, "; try a smaller --lg-k"),
             Failure::NoSketch(_, 0, Flaw::Family(9)) => {
                 if command == "eval" {
                     write!(f, "; pass --sums for images of sums, --keys for lines")
@@ -99,7 +108,7 @@ impl fmt::Display for Hint<'_> {
             }
             Failure::NoSketch(_, 0, flaw) if may_have_lines(*flaw) => {
                 if command == "eval" {
-                    write!(f, "; pass --keys if its files have lines")
+                    write!(f, "; pass --keys if the expression's files have lines")
                 } else {
                     write!(f, "; count or sketch reads lines")
                 }

@@ -174,8 +174,16 @@ impl fmt::Display for Fault {
                 Escaped(word),
                 Escaped(word)
             ),
-            Fault::NoValue(name) => write!(f, "{}: missing value", Escaped(name)),
-            Fault::UnneededValue(name) => write!(f, "{}: takes no value", Escaped(name)),
+            Fault::NoValue(name) => write!(
+                f,
+                "{}: missing value: pass it as the next word or after =",
+                Escaped(name)
+            ),
+            Fault::UnneededValue(name) => write!(
+                f,
+                "{}: takes no value: pass it without =",
+                Escaped(name)
+            ),
             Fault::WrongSize => write!(f, "--lg-k takes a number from 4 to 26"),
             Fault::WrongField => write!(f, "--field takes a number from 1 to 4294967295"),
             Fault::WrongGroup => write!(f, "--by takes a number from 1 to 4294967295"),
@@ -187,7 +195,7 @@ impl fmt::Display for Fault {
             }
             Fault::ZeroSeed(number) => write!(
                 f,
-                "{number} can't be a seed (its seed hash is 0): take another"
+                "{number} can't be a seed (its seed hash is 0): pass another"
             ),
             Fault::WrongDeviations => write!(f, "--bounds takes 1, 2 or 3, as in --bounds=2"),
             Fault::WrongCount => write!(f, "--expect takes a number from 1 to 4294967295"),
@@ -195,7 +203,10 @@ impl fmt::Display for Fault {
                 f,
                 "eval takes one expression in quotes, such as 'mon + tue - wed'"
             ),
-            Fault::LoneField => write!(f, "--field needs --keys"),
+            Fault::LoneField => write!(
+                f,
+                "eval --field needs --keys: without it the files have images"
+            ),
             Fault::LoneSum => write!(f, "sum needs --value N, the field of its numbers"),
             Fault::LoneSeparator => write!(f, "--separator needs --field, --by or --value"),
             Fault::TwoAmounts => write!(
@@ -204,16 +215,19 @@ impl fmt::Display for Fault {
             ),
             Fault::PlainSums => write!(
                 f,
-                "--value and --visits sum all lines, without --by and --progress: sketch the lines of each group by themselves"
+                "--value and --visits exclude --by and --progress: run sketch once per group, without --progress"
             ),
-            Fault::LoneDigits => write!(f, "visits --hex needs --sums"),
+            Fault::LoneDigits => write!(
+                f,
+                "visits --hex needs --sums: without it visits reads lines"
+            ),
             Fault::SummedKeys => write!(
                 f,
-                "--sums reads images, without --keys: make them of lines by sketch --value N"
+                "--sums and --keys exclude each other: sketch --value N makes images of sums from lines"
             ),
             Fault::SummedField => write!(
                 f,
-                "--sums reads images, without --field: pass --field to sketch --visits"
+                "--sums and --field exclude each other: pass --field to sketch --visits"
             ),
             Fault::SummedGroups => write!(
                 f,
@@ -223,11 +237,20 @@ impl fmt::Display for Fault {
             Fault::LoneGroups => write!(f, "--by needs --hex or --output-dir"),
             Fault::LoneOrder => write!(f, "--sort orders groups: pass --by N too"),
             Fault::LoneUnions => write!(f, "--groups needs --hex"),
-            Fault::CountedGroups => write!(f, "--expect counts images without --groups"),
+            Fault::CountedGroups => write!(
+                f,
+                "--expect and --groups exclude each other: drop --expect"
+            ),
             Fault::LoneFolder => write!(f, "--output-dir needs --by"),
             Fault::TwoOutputs => write!(f, "--output and --output-dir exclude each other"),
-            Fault::FilesAndList => write!(f, "files are named by arguments and by --files0-from"),
-            Fault::StandardTwice => write!(f, "standard input would be read twice"),
+            Fault::FilesAndList => write!(
+                f,
+                "files are named by arguments and by --files0-from: use one of the two"
+            ),
+            Fault::StandardTwice => write!(
+                f,
+                "standard input would be read twice: name files, and - at most once"
+            ),
             Fault::Memory => write!(f, "out of memory"),
         }
     }

@@ -20,8 +20,8 @@ distinct: counts distinct lines approximately, in little memory
   distinct --help                  prints this text; -h does so too
   distinct --version               prints the version; -V does so too
 
-Options come before files. A value is the next word, or behind =, as in --field 2 and --field=2. If
-an option is given twice, the last counts. Behind -- every word is a file.
+Options come before files. A value is the next word, or follows =, as in --field 2 and --field=2. If
+an option is given twice, the last counts. After -- every word is a file.
 
 A file named - is standard input. Without a FILE, count, sketch, visits and sum read standard input.
 With --files0-from FILE the names of the files are read from FILE, where each ends in a NUL byte,

@@ -175,21 +175,21 @@ impl fmt::Display for Defect<'_> {
             },
             Flaw::Version(version) => write!(
                 f,
-                "is of version {version}; versions 1 to 3 are read"
+                "is of version {version}; versions 1 to 3 are read: write it in version 3, uncompressed"
             ),
-            Flaw::BigEndian => write!(f, "is in big-endian order, which is not read"),
+            Flaw::BigEndian => write!(f, "is in big-endian order: write it in little-endian order"),
             Flaw::Seed => write!(
                 f,
                 "is a sketch under another seed than this command's: pass the --seed it was made with"
             ),
-            Flaw::Cut => write!(f, "is cut short"),
+            Flaw::Cut => write!(f, "is cut short: copy or make it again"),
             Flaw::Longer => write!(
                 f,
-                "is longer than one image; with --hex a file may have many"
+                "has bytes after its image: a file has one image, or with --hex one per line"
             ),
             Flaw::Damaged => write!(
                 f,
-                "is damaged: its hashes or its theta are not those of a theta sketch"
+                "is damaged (its preamble, theta or hashes are not valid): copy or make it again"
             ),
         }
     }
@@ -215,11 +215,11 @@ impl fmt::Display for SumsDefect<'_> {
             },
             Flaw::Version(version) => write!(
                 f,
-                "is of version {version}; versions 1 and 3 are read"
+                "is of version {version}; versions 1 and 3 are read: write it in version 3"
             ),
             Flaw::Damaged => write!(
                 f,
-                "is damaged: its hashes, its theta or its sketch type are not those of an image of sums"
+                "is damaged (its preamble, sketch type, theta or hashes are not valid): copy or make it again"
             ),
             flaw => write!(f, "{}", Defect(flaw)),
         }
@@ -277,7 +277,7 @@ impl fmt::Display for Failure {
             ),
             Failure::WrongCount(found, expected) => write!(
                 f,
-                "{found} images found, {expected} expected; nothing was written"
+                "{found} images found, {expected} expected: check the files or --expect"
             ),
             Failure::NotOneEach(found, names) => write!(
                 f,
@@ -324,7 +324,11 @@ impl fmt::Display for Failure {
                 "{}: line {line} has no tab between the name of a group and its image",
                 Named(name)
             ),
-            Failure::NoLine(name) => write!(f, "{}: has no line, and so no image", Named(name)),
+            Failure::NoLine(name) => write!(
+                f,
+                "{}: has no line, and so no image: make it again or leave it out",
+                Named(name)
+            ),
             Failure::PastGreatest(name, line) => write!(
                 f,
                 "{}: line {line}: the sum of its key is above {}",
@@ -351,7 +355,7 @@ impl fmt::Display for Failure {
             ),
             Failure::NotANumber(name, line) => write!(
                 f,
-                "{}: line {line}: its value is not a whole number up to {}",
+                "{}: line {line}: its value is not a whole number up to {}: check --value and --separator",
                 Named(name),
                 u64::MAX
             ),

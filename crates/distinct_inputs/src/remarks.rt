@@ -36,7 +36,7 @@ impl fmt::Display for Remark<'_> {
                 let kept = 1u64 << (lg_k % 64);
                 write!(
                     f,
-                    "warning: {name} retains {retained} hashes, and --lg-k {lg_k} keeps {kept}: the union is less exact than its images"
+                    "warning: {name} retains {retained} hashes, and --lg-k {lg_k} keeps {kept}: the union is less exact than its images; pass a greater --lg-k"
                 )
             }
             Remark::Estimated(report) => {

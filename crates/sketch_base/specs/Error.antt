@@ -8,5 +8,5 @@ abbrev pub error_text : ErrorKind → List ℕ
 error_text InvalidArgument = codes "an argument is outside its range or belongs to another seed"
 error_text InvalidData = codes "the bytes are not valid there, or end too early"
 error_text OutOfMemory = codes "a request for memory was refused"
-error_text Policy = codes "a policy on summaries refused what it was given"
+error_text Policy = codes "a policy on summaries refused its arguments"
 error_text Failed = codes "an earlier refusal left it half changed; it refuses until it is reset"

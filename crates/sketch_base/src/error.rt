@@ -68,7 +68,7 @@ impl fmt::Display for Error {
                 f.write_str("the bytes are not valid there, or end too early")
             }
             ErrorKind::OutOfMemory => f.write_str("a request for memory was refused"),
-            ErrorKind::Policy => f.write_str("a policy on summaries refused what it was given"),
+            ErrorKind::Policy => f.write_str("a policy on summaries refused its arguments"),
             ErrorKind::Failed => {
                 f.write_str("an earlier refusal left it half changed; it refuses until it is reset")
             }
