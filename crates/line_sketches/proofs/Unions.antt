@@ -13,7 +13,7 @@ use Rattle.sketch_base.specs.Seed.{seed_hash}
 use Rattle.core_laws.specs.declared.TheConstants.{MAX_THETA}
 use Rattle.theta_sketches.specs.Image.{Reads}
 use Rattle.core_laws.specs.Settings.{settings_refusal}
-use Rattle.line_sketches.specs.Shards.{values_of_sketches, AreRead}
+use Rattle.line_sketches.specs.Shards.{values_of_sketches, AreReadBy, ReadsUnder}
 use Rattle.line_sketches.specs.Unions.{HasUnited}
 
 module _ {X Y P : Type 0} (key : Y → ℕ) (merges : Y → Y → Y) (keeps : KeepsKey key merges) (value_of : Union X P → Sketch Y) where
@@ -55,11 +55,11 @@ made_same {X} {P} seed lg_k old new was made =
     made ∙ ap again was ∙ ap policy (sym (ap (λ u. u.policy) made))
 
 -- one more image
-pub are_read-more : (seed : ℕ) (images : List (List ℕ)) (sketches : List (Compact ℕ)) (image : List ℕ) (s : Compact ℕ) → AreRead seed images sketches → Reads image (seed_hash seed) s → AreRead seed (images ++ image ∷ []) (sketches ++ s ∷ [])
-are_read-more seed [] [] image s all one = (one, tt)
-are_read-more seed [] (t ∷ ts) image s all one = absurd all
-are_read-more seed (b ∷ bs) [] image s all one = absurd all
-are_read-more seed (b ∷ bs) (t ∷ ts) image s all one = (all.0, are_read-more seed bs ts image s all.1 one)
+pub are_read-more : {S : Type 0} (Reads : List ℕ → S → Type 0) (images : List (List ℕ)) (sketches : List S) (image : List ℕ) (s : S) → AreReadBy Reads images sketches → Reads image s → AreReadBy Reads (images ++ image ∷ []) (sketches ++ s ∷ [])
+are_read-more Reads [] [] image s all one = (one, tt)
+are_read-more Reads [] (t ∷ ts) image s all one = absurd all
+are_read-more Reads (b ∷ bs) [] image s all one = absurd all
+are_read-more Reads (b ∷ bs) (t ∷ ts) image s all one = (all.0, are_read-more Reads bs ts image s all.1 one)
 
 values-more : (sketches : List (Compact ℕ)) (s : Compact ℕ) → values_of_sketches (sketches ++ s ∷ []) ≡ values_of_sketches sketches ++ compact_value hash_key s ∷ []
 values-more [] s = refl
@@ -70,7 +70,7 @@ pub image_more : {P : Type 0} (seed lg_k : ℕ) (images : List (List ℕ)) (imag
     shown_value hash_key shows listing ≡ compact_value hash_key s → new ≡ record old { empty = new.empty; content = new.content } → HasUnited seed lg_k (images ++ image ∷ []) new
 image_more seed lg_k images image s old new shows listing has reads skipped joins is made = record {
   sketches = has.sketches ++ s ∷ [];
-  are_read = are_read-more seed images has.sketches image s has.are_read reads;
+  are_read = are_read-more (ReadsUnder seed) images has.sketches image s has.are_read reads;
   value =
       value_more hash_key first_hash (λ x y same. same) (union_value hash_key) lg_k MAX_THETA old new (values_of_sketches has.sketches) (shown_value hash_key shows listing) (ap (λ u. u.lg_k) has.made) (ap (λ u. u.start) has.made) has.value
       (joins_shown old new shows listing skipped joins)

@@ -39,6 +39,10 @@ pub record HasFault (IsFaulty : List ℕ → Type 0) (texts : List (List ℕ)) :
 abbrev pub HasNoImage : (seed : ℕ) → (texts : List (List ℕ)) → Type 0
 HasNoImage seed texts = HasFault (IsNoImage seed) texts
 
+-- sketches that were read are not merged: memory ran out, or the merge is refused
+abbrev pub IsMergeError : (merge_refusal : Option ErrorKind) → ErrorKind → Type 0
+IsMergeError merge_refusal kind = (kind ≡ OutOfMemory) ⊎ (merge_refusal ≡ Some kind)
+
 -- an image has this fault, or a union that may refuse a merge with some kind has refused it
 abbrev pub IsMergeOrFault : (merge_refusal : Option ErrorKind) → (Fault : Type 0) → ErrorKind → Type 0
 IsMergeOrFault None Fault kind = (kind ≡ InvalidData) × Fault

@@ -27,12 +27,20 @@ images_of_texts hashing lg_k texts = map (λ text. image_of_text hashing lg_k te
 abbrev pub values_of_sketches : List (Compact ℕ) → List (Sketch ℕ)
 values_of_sketches sketches = map (λ s. compact_value hash_key s) sketches
 
+-- each image is read as its sketch
+abbrev pub AreReadBy : {S : Type 0} → (Reads : List ℕ → S → Type 0) → (images : List (List ℕ)) → List S → Type 0
+AreReadBy Reads [] [] = ⊤
+AreReadBy Reads (bytes ∷ images) (s ∷ sketches) = Reads bytes s × AreReadBy Reads images sketches
+AreReadBy Reads [] (s ∷ sketches) = ⊥
+AreReadBy Reads (bytes ∷ images) [] = ⊥
+
+-- the bytes are read as the sketch, under this seed
+abbrev pub ReadsUnder : (seed : ℕ) → List ℕ → Compact ℕ → Type 0
+ReadsUnder seed bytes s = Reads bytes (seed_hash seed) s
+
 -- each image is read as its sketch, under this seed
 abbrev pub AreRead : (seed : ℕ) → List (List ℕ) → List (Compact ℕ) → Type 0
-AreRead seed [] [] = ⊤
-AreRead seed (bytes ∷ images) (s ∷ sketches) = Reads bytes (seed_hash seed) s × AreRead seed images sketches
-AreRead seed [] (s ∷ sketches) = ⊥
-AreRead seed (bytes ∷ images) [] = ⊥
+AreRead seed images sketches = AreReadBy (ReadsUnder seed) images sketches
 
 -- the sketches of texts
 abbrev pub sketches_of_texts : Hashing → (lg_k : ℕ) → List (List ℕ) → List (Compact ℕ)

@@ -1,140 +1,152 @@
-//! Unions of theta sketches that merge the sketches of many images at once.
-ghost use Rattle.std.specs.Prelude.{◌≡◌, ◌++◌, ℕ, List, [], true, None, map, IfOk, OnOk};
-ghost use Rattle.core_compact.specs.CompactState.{shown_of};
-ghost use Rattle.core_laws.specs.Entries.{hash_key};
-ghost use Rattle.core_laws.specs.Refusal.{Refuses};
-ghost use Rattle.core_laws.specs.Settings.{settings_refusal};
-ghost use Rattle.core_laws.specs.Shown.{shown_value};
-ghost use Rattle.core_laws.specs.declared.TheConstants.{MAX_THETA};
-ghost use Rattle.theta_sketches.specs.View.{view_shows, view_sequence};
-ghost use Rattle.line_sketches.specs.Batches.{AreSeeded, HasRead, IsReadyFor};
-ghost use Rattle.line_sketches.specs.Shards.{AreRead, values_of_sketches};
-ghost use Rattle.line_sketches.specs.Unions.{HasUnited, IsReady, IsUnitedImage};
+//! Unions that merge the sketches of many images at once.
+ghost use Rattle.std.specs.Prelude.{◌≡◌, ℕ, List, [], IfOk, IfErr, OnOk};
+ghost use Rattle.line_sketches.specs.Batches.{HasRead, IsReadyFor};
+ghost use Rattle.line_sketches.specs.Refusals.{IsImageRefusal, IsMergeError};
 
 use crate::image_union::ImageUnion;
-use crate::images::{new_union, read_image};
-use crate::uniting::united_image;
 use sketch_base::Error;
-use std::alloc::{AllocError, Allocator};
-use theta_sketches::{CompactThetaSketch, ThetaSketchView, ThetaUnion};
+use std::alloc::Allocator;
 
 /// The most sketches that wait.
 const MAX_SKETCHES: usize = 64;
 
-/// The most entries of sketches that wait, 1 MB in all.
+/// The most entries of sketches that wait.
 const MAX_ENTRIES: usize = 1 << 17;
 
-/// A union of theta sketches, and sketches that wait to be merged into it together: `update_all` takes a fraction of the
-/// time of one `update` each. They wait until they are 64, or have more than 2^17 entries together. So at most 1 MB of
-/// sketches and one more wait in memory.
+/// A union that merges many sketches at once.
+pub trait SketchUnion<A: Allocator>: Drop {
+    /// The sketch of an image.
+    type Sketch: Drop;
+
+    ghost use Rattle.std.specs.Prelude.{None, ℕ, List, Option, ◌++◌};
+    ghost use Rattle.sketch_base.specs.declared.error.ErrorKind.{ErrorKind};
+    ghost use Rattle.line_sketches.specs.Shards.{AreReadBy};
+
+    /// Whether it has united the sketches in images of a seed, at 2^`lg_k` nominal entries.
+    ghost has_united: { (seed lg_k : ℕ) → (images : List (List ℕ)) → Self → Type 0 };
+
+    /// Whether it accepts sketches of a seed: it has not failed.
+    ghost is_ready: { (seed : ℕ) → Self → Type 0 };
+
+    /// Whether an image of a seed is read as a sketch.
+    ghost reads: { (seed : ℕ) → (image : List ℕ) → Self.Sketch → Type 0 };
+
+    /// Whether bytes are no image of a seed.
+    ghost is_no_image: { (seed : ℕ) → List ℕ → Type 0 };
+
+    /// The kind with which it may refuse to merge sketches that it has read; `None` if it never refuses any.
+    ghost merge_refusal: { Option ErrorKind };
+
+    /// The sketch of an image. Refused with `InvalidData` only if the bytes aren't an image of this seed, and with
+    /// `OutOfMemory`.
+    fn read(alloc: A, seed: u64, image: &[u8]) -> Result<Self::Sketch, Error>
+        ensures reads { IfOk result (reads seed image.now) }
+        ensures refused { IfErr result (IsImageRefusal None (is_no_image seed image.now)) };
+
+    /// How many entries a sketch retains.
+    fn retained(sketch: &Self::Sketch) -> usize;
+
+    /// The greatest summary of a sketch; 0 if it has none, or if no policy combines them. If those of all sketches are below
+    /// 2^64 together, they can be merged.
+    fn greatest(sketch: &Self::Sketch) -> u64;
+
+    /// Merges sketches of this seed. If the union has not failed, it is refused only with `OutOfMemory`, and with `Policy`
+    /// if the union's policy may refuse to merge summaries. What the union has after a refusal is unspecified.
+    fn merge(&mut self, alloc: A, sketches: &[Self::Sketch]) -> Result<(), Error>
+        ensures united { (seed lg_k : ℕ) (first others : List (List ℕ))
+            → has_united seed lg_k first self.old
+            → AreReadBy (reads seed) others sketches.now
+            → OnOk result (has_united seed lg_k (first ++ others) self.new) }
+        ensures refused { (seed : ℕ) (images : List (List ℕ))
+            → is_ready seed self.old
+            → AreReadBy (reads seed) images sketches.now
+            → IfErr result (IsMergeError merge_refusal) }
+        ensures ready { (seed : ℕ) → is_ready seed self.old → OnOk result (is_ready seed self.new) };
+}
+
+/// A union, and sketches that wait to be merged into it together. `update_all` takes a fraction of the time of one `update`
+/// each.
+///
+/// They wait until they are 64, or have more than 2^17 entries together. So at most 2^17 entries and one more sketch wait
+/// in memory: beside that sketch, 1 MB of hashes, or 2 MB if each hash has a summary of 64 bits.
+///
+/// A policy that refuses sums of 2^64 or more refuses one only if the image that was added last made it so large: if the
+/// greatest summaries of all sketches are 2^64 or more together, what waits is merged before another image is added.
 #[derive(Drop)]
-pub(crate) struct BatchUnion<A: Allocator> {
-    union: ThetaUnion<A>,
-    waiting: Vec<CompactThetaSketch<A>, A>,
+pub struct Batch<U: SketchUnion<A>, A: Allocator> {
+    union: U,
+    waiting: Vec<U::Sketch, A>,
     /// How many entries wait.
     entries: usize,
+    /// The greatest summaries of all sketches together, at most 2^64 - 1.
+    greatest: u64,
 }
 
-/// Views of sketches.
-fn views_of<'a, A: Allocator + Clone + Drop>(
-    alloc: A,
-    sketches: &'a [CompactThetaSketch<A>],
-) -> Result<Vec<ThetaSketchView<'a, A>, A>, AllocError>
-    ensures shown { IfOk result (λ v. map (λ view. view_shows view) v.items ≡ map (shown_of hash_key) sketches.now) }
-    ensures values { IfOk result (λ v.
-        map (λ view. shown_value hash_key (view_shows view) (view_sequence view)) v.items
-        ≡ values_of_sketches sketches.now) }
-{
-    let mut views = Vec::with_capacity(alloc, sketches.len())?;
-    for sketch in sketches {
-        views.push(sketch.as_view())?;
-    }
-    Ok(views)
-}
-
-/// Merges sketches into a union at once.
-fn merge_sketches<A: Allocator + Clone + Drop>(
-    union: &mut ThetaUnion<A>,
-    alloc: A,
-    sketches: &[CompactThetaSketch<A>],
-) -> Result<(), Error>
-    ensures united { (seed lg_k : ℕ) (first others : List (List ℕ))
-        → HasUnited seed lg_k first union.old
-        → AreRead seed others sketches.now
-        → OnOk result (HasUnited seed lg_k (first ++ others) union.new) }
-    ensures refused { (seed : ℕ) → IsReady seed union.old → AreSeeded seed sketches.now → Refuses result None true }
-    ensures ready { (seed : ℕ) → IsReady seed union.old → OnOk result (IsReady seed union.new) }
-{
-    let views = views_of(alloc, sketches)?;
-    union.update_all(views.as_slice())?;
-    Ok(())
-}
-
-impl<A: Allocator + Clone + Drop> BatchUnion<A> {
-    /// A new union of 2^`lg_k` nominal entries, of sketches of this seed.
-    pub(crate) fn new(alloc: A, seed: u64, lg_k: u8) -> Result<BatchUnion<A>, Error>
-        ensures united { IfOk result (λ u. HasRead seed lg_k [] u.union u.waiting.items) }
-        ensures ready { IfOk result (λ u. IsReadyFor seed u.union u.waiting.items) }
-        ensures refused { Refuses result (settings_refusal lg_k MAX_THETA seed) true }
+impl<U: SketchUnion<A>, A: Allocator + Clone + Drop> Batch<U, A> {
+    /// A batch for a new union, in which nothing waits. Its memory is of this allocator.
+    pub fn new(union: U, alloc: A) -> Batch<U, A>
+        ensures united { (seed lg_k : ℕ) (images : List (List ℕ))
+            → U.has_united seed lg_k images union
+            → HasRead (U.has_united seed lg_k) (U.reads seed) images result.union result.waiting.items }
+        ensures ready { (seed : ℕ) → U.is_ready seed union → IsReadyFor (U.is_ready seed) (U.reads seed) result.union result.waiting.items }
     {
-        let own = alloc.clone()?;
-        let union = new_union(alloc, seed, lg_k)?;
-        Ok(BatchUnion {
+        Batch {
             union,
-            waiting: Vec::new(own),
+            waiting: Vec::new(alloc),
             entries: 0,
-        })
+            greatest: 0,
+        }
     }
 
     /// Merges the sketches that wait.
     fn merge_waiting(&mut self) -> Result<(), Error>
         ensures united { (seed lg_k : ℕ) (images : List (List ℕ))
-            → HasRead seed lg_k images self.old.union self.old.waiting.items
-            → OnOk result (HasUnited seed lg_k images self.new.union) }
+            → HasRead (U.has_united seed lg_k) (U.reads seed) images self.old.union self.old.waiting.items
+            → OnOk result (U.has_united seed lg_k images self.new.union) }
         ensures none_waits { OnOk result (self.new.waiting.items ≡ []) }
         ensures refused { (seed : ℕ)
-            → IsReadyFor seed self.old.union self.old.waiting.items
-            → Refuses result None true }
+            → IsReadyFor (U.is_ready seed) (U.reads seed) self.old.union self.old.waiting.items
+            → IfErr result (IsMergeError U.merge_refusal) }
         ensures ready { (seed : ℕ)
-            → IsReadyFor seed self.old.union self.old.waiting.items
-            → OnOk result (IsReady seed self.new.union) }
+            → IsReadyFor (U.is_ready seed) (U.reads seed) self.old.union self.old.waiting.items
+            → OnOk result (U.is_ready seed self.new.union) }
     {
         let alloc = self.waiting.allocator().clone()?;
-        merge_sketches(&mut self.union, alloc, self.waiting.as_slice())?;
+        self.union.merge(alloc, self.waiting.as_slice())?;
         self.waiting.clear();
         self.entries = 0;
         Ok(())
     }
 
-    /// The image of the result, ordered, once the sketches that wait are merged. If the union has not failed, it is refused
-    /// only with `OutOfMemory`.
-    pub(crate) fn to_image(&mut self) -> Result<Vec<u8, A>, Error>
-        ensures image { (seed lg_k : ℕ) (images : List (List ℕ))
-            → HasRead seed lg_k images self.old.union self.old.waiting.items
-            → IfOk result (λ v. IsUnitedImage seed lg_k images v.items) }
+    /// The union, once the sketches that wait are merged. If the union has not failed, it is refused only as a merge is.
+    pub fn into_union(mut self) -> Result<U, Error>
+        ensures united { (seed lg_k : ℕ) (images : List (List ℕ))
+            → HasRead (U.has_united seed lg_k) (U.reads seed) images self.union self.waiting.items
+            → IfOk result (U.has_united seed lg_k images) }
         ensures refused { (seed : ℕ)
-            → IsReadyFor seed self.old.union self.old.waiting.items
-            → Refuses result None true }
+            → IsReadyFor (U.is_ready seed) (U.reads seed) self.union self.waiting.items
+            → IfErr result (IsMergeError U.merge_refusal) }
+        ensures ready { (seed : ℕ)
+            → IsReadyFor (U.is_ready seed) (U.reads seed) self.union self.waiting.items
+            → IfOk result (U.is_ready seed) }
     {
         self.merge_waiting()?;
-        united_image(&self.union)
+        Ok(self.union)
     }
 }
 
-impl<A: Allocator + Clone + Drop> ImageUnion for BatchUnion<A> {
-    ghost use Rattle.std.specs.Prelude.{None};
+impl<U: SketchUnion<A>, A: Allocator + Clone + Drop> ImageUnion for Batch<U, A> {
     ghost use Rattle.line_sketches.specs.Batches.{HasRead, IsReadyFor};
-    ghost use Rattle.line_sketches.specs.Refusals.{IsNoImage};
 
-    ghost has_united = { λ seed lg_k images u. HasRead seed lg_k images u.union u.waiting.items };
+    ghost has_united = { λ seed lg_k images b. HasRead (U.has_united seed lg_k) (U.reads seed) images b.union b.waiting.items };
 
-    ghost is_ready = { λ seed u. IsReadyFor seed u.union u.waiting.items };
+    ghost is_ready = { λ seed b. IsReadyFor (U.is_ready seed) (U.reads seed) b.union b.waiting.items };
 
-    ghost is_no_image = { IsNoImage };
+    ghost is_no_image = { U.is_no_image };
 
-    ghost merge_refusal = { None };
+    ghost merge_refusal = { U.merge_refusal };
 
-    /// Reads the image into memory of the union's own allocator. Its sketch may be merged later.
+    /// Reads the image into memory of the batch's own allocator. Its sketch may be merged later.
     fn add_image<B: Allocator + Clone + Drop>(
         &mut self,
         _alloc: B,
@@ -142,10 +154,13 @@ impl<A: Allocator + Clone + Drop> ImageUnion for BatchUnion<A> {
         image: &[u8],
     ) -> Result<(), Error> {
         let own = self.waiting.allocator().clone()?;
-        let sketch = read_image(own, seed, image)?;
-        self.entries = self.entries.saturating_add(sketch.num_retained());
+        let sketch = U::read(own, seed, image)?;
+        let greatest = U::greatest(&sketch);
+        let is_sure = greatest <= u64::MAX - self.greatest;
+        self.greatest = self.greatest.saturating_add(greatest);
+        self.entries = self.entries.saturating_add(U::retained(&sketch));
         self.waiting.push(sketch)?;
-        if self.waiting.len() < MAX_SKETCHES && self.entries <= MAX_ENTRIES {
+        if is_sure && self.waiting.len() < MAX_SKETCHES && self.entries <= MAX_ENTRIES {
             return Ok(());
         }
         self.merge_waiting()

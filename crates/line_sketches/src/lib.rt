@@ -25,6 +25,7 @@ mod sources;
 mod sums_header;
 mod uniting;
 
+pub use batches::{Batch, SketchUnion};
 pub use header::{Flaw, entry_count, flaw_of, image_length};
 pub use hex::{hex_line, put_byte, read_hex};
 pub use image_union::{ImageUnion, add_images};

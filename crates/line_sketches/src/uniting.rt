@@ -1,27 +1,32 @@
 //! Unions of images, and which lines they are the images of.
-ghost use Rattle.std.specs.Prelude.{◌≡◌, ℕ, List, map, true, None, IfOk, IfErr, OnOk, IfSome, length};
+ghost use Rattle.std.specs.Prelude.{◌≡◌, ℕ, List, [], map, true, None, IfOk, IfErr, OnOk, IfSome, length};
+ghost use Rattle.core_compact.specs.CompactState.{shown_of};
+ghost use Rattle.core_laws.specs.Entries.{hash_key};
+ghost use Rattle.core_laws.specs.Shown.{shown_value};
+ghost use Rattle.theta_sketches.specs.View.{view_shows, view_sequence};
 ghost use Rattle.std.specs.List.{concat};
 ghost use Rattle.lines.specs.Keys.{hashing_of};
 ghost use Rattle.lines.specs.Lines.{lines_of_all, AreWhole};
 ghost use Rattle.lines.specs.declared.key.Key.{Key};
+ghost use Rattle.line_sketches.specs.Batches.{HasRead, IsReadyFor};
 ghost use Rattle.line_sketches.specs.Keys.{image_of_text, image_of_lines, HaveSameLines};
-ghost use Rattle.line_sketches.specs.Shards.{images_of_texts};
+ghost use Rattle.line_sketches.specs.Shards.{ReadsUnder, images_of_texts, values_of_sketches};
 ghost use Rattle.line_sketches.specs.Unions.{HasUnited, IsReady, IsUnitedImage, UnitesTexts};
 ghost use Rattle.line_sketches.specs.Refusals.{IsUniteRefusal};
 ghost use Rattle.core_laws.specs.Refusal.{Refuses};
 ghost use Rattle.core_laws.specs.declared.TheConstants.{MAX_THETA};
 ghost use Rattle.core_laws.specs.Settings.{settings_refusal};
 
-use crate::batches::BatchUnion;
+use crate::batches::{Batch, SketchUnion};
 use crate::image_union::{ImageUnion, add_images};
 use crate::images::{image_of, new_union, read_image};
 use crate::sketching::{Unread, Watch, add_text, finished, new_sketch};
 use crate::sources::Sources;
 use lines::Hashing;
 use sketch_base::Error;
-use std::alloc::{Allocator, Global};
-use theta_sketches::ThetaUnion;
+use std::alloc::{AllocError, Allocator, Global};
 use theta_sketches::laws::{one_reading, read_again};
+use theta_sketches::{CompactThetaSketch, ThetaSketchView, ThetaUnion};
 
 impl<A: Allocator + Clone> ImageUnion for ThetaUnion<A> {
     ghost use Rattle.std.specs.Prelude.{None};
@@ -48,6 +53,60 @@ impl<A: Allocator + Clone> ImageUnion for ThetaUnion<A> {
     }
 }
 
+/// Views of sketches.
+fn views_of<'a, A: Allocator + Clone + Drop>(
+    alloc: A,
+    sketches: &'a [CompactThetaSketch<A>],
+) -> Result<Vec<ThetaSketchView<'a, A>, A>, AllocError>
+    ensures shown { IfOk result (λ v. map (λ view. view_shows view) v.items ≡ map (shown_of hash_key) sketches.now) }
+    ensures values { IfOk result (λ v.
+        map (λ view. shown_value hash_key (view_shows view) (view_sequence view)) v.items
+        ≡ values_of_sketches sketches.now) }
+{
+    let mut views = Vec::with_capacity(alloc, sketches.len())?;
+    for sketch in sketches {
+        views.push(sketch.as_view())?;
+    }
+    Ok(views)
+}
+
+impl<A: Allocator + Clone + Drop> SketchUnion<A> for ThetaUnion<A> {
+    type Sketch = CompactThetaSketch<A>;
+
+    ghost use Rattle.std.specs.Prelude.{None};
+    ghost use Rattle.line_sketches.specs.Refusals.{IsNoImage};
+    ghost use Rattle.line_sketches.specs.Shards.{ReadsUnder};
+    ghost use Rattle.line_sketches.specs.Unions.{HasUnited, IsReady};
+
+    ghost has_united = { HasUnited };
+
+    ghost is_ready = { IsReady };
+
+    ghost reads = { ReadsUnder };
+
+    ghost is_no_image = { IsNoImage };
+
+    ghost merge_refusal = { None };
+
+    fn read(alloc: A, seed: u64, image: &[u8]) -> Result<CompactThetaSketch<A>, Error> {
+        read_image(alloc, seed, image)
+    }
+
+    fn retained(sketch: &CompactThetaSketch<A>) -> usize {
+        sketch.num_retained()
+    }
+
+    fn greatest(_sketch: &CompactThetaSketch<A>) -> u64 {
+        0
+    }
+
+    fn merge(&mut self, alloc: A, sketches: &[CompactThetaSketch<A>]) -> Result<(), Error> {
+        let views = views_of(alloc, sketches)?;
+        self.update_all(views.as_slice())?;
+        Ok(())
+    }
+}
+
 /// The image of the result of a union, ordered. If the union has not failed, it is refused only with `OutOfMemory`.
 pub fn united_image<A: Allocator + Clone + Drop>(union: &ThetaUnion<A>) -> Result<Vec<u8, A>, Error>
     ensures image { (seed lg_k : ℕ) (images : List (List ℕ))
@@ -57,6 +116,37 @@ pub fn united_image<A: Allocator + Clone + Drop>(union: &ThetaUnion<A>) -> Resul
 {
     let sketch = union.to_sketch(true)?;
     image_of(&sketch)
+}
+
+/// A batch for a new union of 2^`lg_k` nominal entries, of sketches of this seed.
+fn new_batch<A: Allocator + Clone + Drop>(
+    alloc: A,
+    seed: u64,
+    lg_k: u8,
+) -> Result<Batch<ThetaUnion<A>, A>, Error>
+    ensures united { IfOk result (λ b. HasRead (HasUnited seed lg_k) (ReadsUnder seed) [] b.union b.waiting.items) }
+    ensures ready { IfOk result (λ b. IsReadyFor (IsReady seed) (ReadsUnder seed) b.union b.waiting.items) }
+    ensures refused { Refuses result (settings_refusal lg_k MAX_THETA seed) true }
+{
+    let own = alloc.clone()?;
+    let union = new_union(alloc, seed, lg_k)?;
+    Ok(Batch::new(union, own))
+}
+
+/// The image of the result of a union, ordered, once the sketches that wait are merged. If the union has not failed, it is
+/// refused only with `OutOfMemory`.
+fn image_of_batch<A: Allocator + Clone + Drop>(
+    batch: Batch<ThetaUnion<A>, A>,
+) -> Result<Vec<u8, A>, Error>
+    ensures image { (seed lg_k : ℕ) (images : List (List ℕ))
+        → HasRead (HasUnited seed lg_k) (ReadsUnder seed) images batch.union batch.waiting.items
+        → IfOk result (λ v. IsUnitedImage seed lg_k images v.items) }
+    ensures refused { (seed : ℕ)
+        → IsReadyFor (IsReady seed) (ReadsUnder seed) batch.union batch.waiting.items
+        → Refuses result None true }
+{
+    let union = batch.into_union()?;
+    united_image(&union)
 }
 
 /// The image of a union, and how many images were united.
@@ -99,9 +189,9 @@ pub fn unite_images<A: Allocator + Clone + Drop, S: Sources>(
 {
     one_reading();
     read_again();
-    let mut union = BatchUnion::new(alloc.clone()?, seed, lg_k)?;
-    let count = add_images(&mut union, alloc, seed, images)?;
-    let image = union.to_image()?;
+    let mut batch = new_batch(alloc.clone()?, seed, lg_k)?;
+    let count = add_images(&mut batch, alloc, seed, images)?;
+    let image = image_of_batch(batch)?;
     Ok(United { image, count })
 }
 

@@ -10,16 +10,9 @@ use Rattle.core_images.specs.Read.{IsRefused}
 use Rattle.core_slots.specs.declared.entry.TupleEntry.{TupleEntry}
 use Rattle.line_sketches.specs.declared.sketching.Unread.{Unread}
 use Rattle.line_sketches.specs.declared.sketching.Unread.TheVariants as unread
-use Rattle.line_sums.specs.Images.{AreReadSums, AreReadableSums, ReadsSums}
+use Rattle.line_sums.specs.Images.{AreReadableSums, ReadsSums}
 use Rattle.line_sums.specs.Unions.{AreNoSums}
 use Rattle.line_sums.specs.Operands.{IsUnreadSums}
-
--- one more image
-pub read_one_more : (seed : ℕ) (images : List (List ℕ)) (sketches : List (Compact (TupleEntry ℕ))) (image : List ℕ) (s : Compact (TupleEntry ℕ)) → AreReadSums seed images sketches → ReadsSums image (seed_hash seed) s → AreReadSums seed (images ++ image ∷ []) (sketches ++ s ∷ [])
-read_one_more seed [] [] image s all one = (one, tt)
-read_one_more seed [] (t ∷ ts) image s all one = absurd all
-read_one_more seed (b ∷ bs) [] image s all one = absurd all
-read_one_more seed (b ∷ bs) (t ∷ ts) image s all one = (all.0, read_one_more seed bs ts image s all.1 one)
 
 -- one more sketch of the seed
 pub seeded_one_more : (seed : ℕ) (sketches : List (Compact (TupleEntry ℕ))) (s : Compact (TupleEntry ℕ)) → AllByRecursion (λ t. t.seed_hash ≡ seed_hash seed) sketches → s.seed_hash ≡ seed_hash seed → AllByRecursion (λ t. t.seed_hash ≡ seed_hash seed) (sketches ++ s ∷ [])

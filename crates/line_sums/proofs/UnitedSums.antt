@@ -1,6 +1,7 @@
--- Images of sums that are read, and united one after another.
+-- Images of sums that are read, and united.
 use Rattle.std.proofs.Common.{◌≡◌, ℕ, ◌^◌, ◌<◌, true, false, cond, List, [], ◌∷◌, ◌++◌, map, Result, Ok, Err, arith, refl, sym, ap, subst, ◌∙◌, append-nil}
 use Rattle.std.specs.Prelude.{IfOk, OnOk}
+use Rattle.std.proofs.lemmas.List.{map-append}
 use Rattle.sketch_base.specs.Seed.{seed_hash}
 use Rattle.sketch_base.specs.declared.error.ErrorKind.{ErrorKind}
 use Rattle.core_compact.specs.CompactState.{Compact, IsCompact, compact_value, ordered_sketch}
@@ -25,12 +26,12 @@ use Rattle.lines.specs.declared.key.Hashing.{Hashing}
 use Rattle.line_sketches.specs.Keys.{key_set}
 use Rattle.line_sketches.proofs.Rereads.{seed_hash-small}
 use Rattle.line_sketches.proofs.Shards.{lines_apart, sample}
-use Rattle.line_sketches.proofs.Unions.{Joins, made_same, value_more}
-use Rattle.line_sums.specs.Images.{AreReadSums, AreImagesOfTexts, ReadsSums, written_sums}
+use Rattle.line_sketches.proofs.Unions.{made_same}
+use Rattle.line_sketches.proofs.Waiting.{all_joined, are_read-append}
+use Rattle.line_sums.specs.Images.{AreReadSums, AreImagesOfTexts, ReadsSums, ReadsSumsUnder, written_sums}
 use Rattle.line_sums.specs.Sums.{sum_at, sums_of_lines, sketch_of_sums}
 use Rattle.line_sums.specs.Unions.{add_folds, folds_of_sketches, HasUnitedSums, IsUnitedSums}
 use Rattle.line_sums.proofs.Joined.{add_keeps, AreValues, map_self, united_exact}
-use Rattle.line_sums.proofs.ReadOperands.{read_one_more}
 
 -- bytes are read as one sketch of sums at most
 abbrev pub ReadsOneSums : Type 0
@@ -55,36 +56,20 @@ reads_written anew items (Err e) s seed compact fits same seeded image = tt
 
 -- ---- unions
 
-folds_more : (sketches : List (Compact (TupleEntry ℕ))) (s : Compact (TupleEntry ℕ)) → folds_of_sketches (sketches ++ s ∷ []) ≡ folds_of_sketches sketches ++ unmarked_value (compact_value tuple_key s) ∷ []
-folds_more [] s = refl
-folds_more (t ∷ ts) s = ap (λ vs. unmarked_value (compact_value tuple_key t) ∷ vs) (folds_more ts s)
-
 module _ {P : Type 0} where
   -- the value of a union of sums, in folds
   abbrev folds_in : Union (TupleEntry ℕ) P → Sketch (Fold (TupleEntry ℕ))
   folds_in u = unmarked_value (union_value tuple_key u)
 
-  joins_sums : (old new : Union (TupleEntry ℕ) P) (s : Shown) (listing : List (TupleEntry ℕ)) → (s.empty ≡ true → new ≡ old) →
-      (s.empty ≡ false → folds_in new ≡ unite (fold_key tuple_key) add_folds (2 ^ old.lg_k) old.start (folds_in old ∷ unmarked_value (shown_value tuple_key s listing) ∷ [])) →
-      Joins (fold_key tuple_key) add_folds add_keeps folds_in old new (unmarked_value (shown_value tuple_key s listing))
-  joins_sums old new s listing skipped united =
-      (elim s.empty as (λ b. s.empty ≡ b → Joins (fold_key tuple_key) add_folds add_keeps folds_in old new (unmarked_value (cond b Empty (NonEmpty (record { entries = map_of tuple_key listing; theta = s.theta }))))) [
-        | true ↦ λ e. skipped e
-        | false ↦ λ e. united e ∙ ap (λ b. unite (fold_key tuple_key) add_folds (2 ^ old.lg_k) old.start (folds_in old ∷ unmarked_value (cond b Empty (NonEmpty (record { entries = map_of tuple_key listing; theta = s.theta }))) ∷ [])) e
-      ]) refl
-
-  pub sums_more : (seed lg_k : ℕ) (images : List (List ℕ)) (image : List ℕ) (s : Compact (TupleEntry ℕ)) (old new : Union (TupleEntry ℕ) P) (shows : Shown) (listing : List (TupleEntry ℕ)) → HasUnitedSums seed lg_k images old → ReadsSums image (seed_hash seed) s →
-      (shows.empty ≡ true → new ≡ old) →
-      (shows.empty ≡ false → folds_in new ≡ unite (fold_key tuple_key) add_folds (2 ^ old.lg_k) old.start (folds_in old ∷ unmarked_value (shown_value tuple_key shows listing) ∷ [])) →
-      shown_value tuple_key shows listing ≡ compact_value tuple_key s → new ≡ record old { empty = new.empty; content = new.content } → HasUnitedSums seed lg_k (images ++ image ∷ []) new
-  sums_more seed lg_k images image s old new shows listing has reads skipped joins is made = record {
-    sketches = has.sketches ++ s ∷ [];
-    are_read = read_one_more seed images has.sketches image s has.are_read reads;
+  -- many images more
+  pub sums_more : (seed lg_k : ℕ) (first others : List (List ℕ)) (waiting : List (Compact (TupleEntry ℕ))) (old new : Union (TupleEntry ℕ) P) → HasUnitedSums seed lg_k first old → AreReadSums seed others waiting →
+      folds_in new ≡ unite (fold_key tuple_key) add_folds (2 ^ old.lg_k) old.start (folds_in old ∷ folds_of_sketches waiting) → new ≡ record old { empty = new.empty; content = new.content } → HasUnitedSums seed lg_k (first ++ others) new
+  sums_more seed lg_k first others waiting old new has reads joins made = record {
+    sketches = has.sketches ++ waiting;
+    are_read = are_read-append (ReadsSumsUnder seed) first others has.sketches waiting has.are_read reads;
     value =
-        value_more (fold_key tuple_key) add_folds add_keeps folds_in lg_k MAX_THETA old new (folds_of_sketches has.sketches) (unmarked_value (shown_value tuple_key shows listing)) (ap (λ u. u.lg_k) has.made) (ap (λ u. u.start) has.made) has.value
-        (joins_sums old new shows listing skipped joins)
-        ∙ ap (λ v. unite (fold_key tuple_key) add_folds (2 ^ lg_k) MAX_THETA (folds_of_sketches has.sketches ++ unmarked_value v ∷ [])) is
-        ∙ ap (unite (fold_key tuple_key) add_folds (2 ^ lg_k) MAX_THETA) (sym (folds_more has.sketches s));
+        all_joined (fold_key tuple_key) add_folds add_keeps folds_in lg_k MAX_THETA old new (folds_of_sketches has.sketches) (folds_of_sketches waiting) (ap (λ u. u.lg_k) has.made) (ap (λ u. u.start) has.made) has.value joins
+        ∙ ap (unite (fold_key tuple_key) add_folds (2 ^ lg_k) MAX_THETA) (sym (map-append (λ s. unmarked_value (compact_value tuple_key s)) has.sketches waiting));
     made = made_same seed lg_k old new has.made made;
   }
 

@@ -8,6 +8,7 @@ use Rattle.core_slots.specs.declared.entry.TupleEntry.{TupleEntry}
 use Rattle.lines.specs.Lines.{lines_of}
 use Rattle.lines.specs.declared.key.Hashing.{Hashing}
 use Rattle.tuple_sketches.specs.Image.{Reads, IsReadable, written}
+use Rattle.line_sketches.specs.Shards.{AreReadBy}
 use Rattle.line_sketches.specs.SumsHeader.{sums_length}
 use Rattle.line_sums.specs.Sums.{sketch_of_sums}
 
@@ -30,12 +31,13 @@ pub record BeginsWithSums (bytes : List ℕ) (h : ℕ) (s : Compact (TupleEntry 
   pub within : size ≤ length bytes
   pub alone : ReadsSums (take size bytes) h s
 
+-- the bytes are read as the sketch of sums, under this seed
+abbrev pub ReadsSumsUnder : (seed : ℕ) → List ℕ → Compact (TupleEntry ℕ) → Type 0
+ReadsSumsUnder seed bytes s = ReadsSums bytes (seed_hash seed) s
+
 -- each image is read as its sketch of sums, under this seed
 abbrev pub AreReadSums : (seed : ℕ) → (images : List (List ℕ)) → List (Compact (TupleEntry ℕ)) → Type 0
-AreReadSums seed [] [] = ⊤
-AreReadSums seed (bytes ∷ images) (s ∷ sketches) = ReadsSums bytes (seed_hash seed) s × AreReadSums seed images sketches
-AreReadSums seed [] (s ∷ sketches) = ⊥
-AreReadSums seed (bytes ∷ images) [] = ⊥
+AreReadSums seed images sketches = AreReadBy (ReadsSumsUnder seed) images sketches
 
 -- the image of the sums of lines
 abbrev pub image_of_sums : Hashing → (amount : List ℕ → ℕ) → (lg_k : ℕ) → List (List ℕ) → List ℕ

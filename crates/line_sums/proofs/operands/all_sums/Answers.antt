@@ -6,11 +6,12 @@ use Rattle.sketch_base.specs.Seed.{seed_hash}
 use Rattle.core_compact.specs.CompactState.{Compact}
 use Rattle.core_slots.specs.declared.entry.TupleEntry.{TupleEntry}
 use Rattle.line_sketches.proofs.Turns.{if_any, if_some, continues_itself, continues_next, continues_end}
-use Rattle.line_sums.specs.Images.{AreReadSums, ReadsSums}
+use Rattle.line_sums.specs.Images.{AreReadSums, ReadsSums, ReadsSumsUnder}
 use Rattle.line_sums.specs.Operands.{IsUnreadSums}
 use Rattle.line_sums.specs.Unions.{AreNoSums, HasNoSums}
 use Rattle.line_sketches.proofs.Refused.{faulty_next}
-use Rattle.line_sums.proofs.ReadOperands.{read_one_more, seeded_one_more, unread_among, unread_memory}
+use Rattle.line_sketches.proofs.Unions.{are_read-more}
+use Rattle.line_sums.proofs.ReadOperands.{seeded_one_more, unread_among, unread_memory}
 use Rattle.line_sums.proofs.operands.all_sums.Goals as goal
 
 pub each_image-init : goal.each_image-init
@@ -31,7 +32,7 @@ each_image-preserved g c =
       read = continues_next g.S.Source.Read.remaining (λ taken. AreReadSums seed taken old) (λ taken. AreReadSums seed taken c.add.new.sketches.items)
           (g.S.Sources.texts c.args.images.now) (g.S.Sources.texts c.each_image.images) (g.S.Sources.texts c.next_source.new.self) c.in-Ok-Some.field-0 c.in-Ok-Some.source c.each_image.invariant.read c.in-Ok-Some.ensures c.in-Ok-Some.field-0-is
           (λ taken so_far. if_some (g.S.Source.Read.remaining c.in-Ok-Some.source) (λ image. ReadsSums image (seed_hash seed) s) (λ image. AreReadSums seed (taken ++ image ∷ []) c.add.new.sketches.items)
-          (λ image one. subst (λ (items : List (Compact (TupleEntry ℕ))). AreReadSums seed (taken ++ image ∷ []) items) (sym c.in_ok-add-in-Ok-Some.ensures.added) (read_one_more seed taken old image s so_far one)) c.in_ok-sketch-in-Ok-Some.ensures.reads);
+          (λ image one. subst (λ (items : List (Compact (TupleEntry ℕ))). AreReadSums seed (taken ++ image ∷ []) items) (sym c.in_ok-add-in-Ok-Some.ensures.added) (are_read-more (ReadsSumsUnder seed) taken old image s so_far one)) c.in_ok-sketch-in-Ok-Some.ensures.reads);
       seeded = subst (λ (items : List (Compact (TupleEntry ℕ))). AllByRecursion (λ t. t.seed_hash ≡ seed_hash seed) items) (sym c.in_ok-add-in-Ok-Some.ensures.added) (seeded_one_more seed old s c.each_image.invariant.seeded c.in_ok-sketch-in-Ok-Some.ensures.seeded);
     }
 

@@ -5,7 +5,7 @@ use Rattle.core_laws.specs.Entries.{hash_key}
 use Rattle.core_laws.specs.Shown.{shown_value}
 use Rattle.theta_sketches.specs.View.{view_shows, view_sequence}
 use Rattle.line_sketches.proofs.Waiting.{mapped_more}
-use Rattle.line_sketches.proofs.batches.views_of.Goals as goal
+use Rattle.line_sketches.proofs.uniting.views_of.Goals as goal
 
 pub loop-sketch-preserved : goal.loop-sketch-preserved
 loop-sketch-preserved g c =

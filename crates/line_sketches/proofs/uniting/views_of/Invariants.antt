@@ -3,7 +3,7 @@ use Rattle.core_compact.specs.CompactState.{shown_of, compact_value}
 use Rattle.core_laws.specs.Entries.{hash_key}
 use Rattle.core_laws.specs.Shown.{shown_value}
 use Rattle.theta_sketches.specs.View.{view_shows, view_sequence}
-use Rattle.line_sketches.proofs.batches.views_of.Given as goal
+use Rattle.line_sketches.proofs.uniting.views_of.Given as goal
 
 -- the views so far show the first sketches
 abbrev pub invariant-loop-sketch : goal.invariant-loop-sketch
