@@ -1,5 +1,5 @@
 -- Images of sums that are read, and united.
-use Rattle.std.proofs.Common.{◌≡◌, ℕ, ◌^◌, ◌<◌, true, false, cond, List, [], ◌∷◌, ◌++◌, map, Result, Ok, Err, arith, refl, sym, ap, subst, ◌∙◌, append-nil}
+use Rattle.std.proofs.Common.{◌≡◌, ℕ, ◌^◌, ◌<◌, List, [], ◌∷◌, ◌++◌, map, Result, Ok, Err, arith, refl, sym, ap, subst, ◌∙◌, append-nil}
 use Rattle.std.specs.Prelude.{IfOk, OnOk}
 use Rattle.std.proofs.lemmas.List.{map-append}
 use Rattle.sketch_base.specs.Seed.{seed_hash}
@@ -9,10 +9,9 @@ use Rattle.core_laws.specs.Cuts.{Retained}
 use Rattle.core_laws.specs.Entries.{hash_key}
 use Rattle.core_laws.specs.Folds.{Fold, fold_key, unmarked_value}
 use Rattle.core_laws.specs.Leaf.{kmin}
-use Rattle.core_laws.specs.Maps.{IsAscending, map_of}
+use Rattle.core_laws.specs.Maps.{IsAscending}
 use Rattle.core_laws.specs.Operators.{unite}
-use Rattle.core_laws.specs.Shown.{Shown, shown_value}
-use Rattle.core_laws.specs.Values.{Sketch, Empty, NonEmpty}
+use Rattle.core_laws.specs.Values.{Sketch, NonEmpty}
 use Rattle.core_laws.specs.declared.TheConstants.{MAX_THETA}
 use Rattle.core_laws.proofs.maps.Ascending.{ascending-filter}
 use Rattle.core_laws.proofs.maps.MapsOfLists.{ascending-from_map}
