@@ -72,6 +72,7 @@ pub trait SketchUnion<A: Allocator>: Drop {
 ///
 /// A policy that refuses sums of 2^64 or more refuses one only if the image that was added last made it so large: if the
 /// greatest summaries of all sketches are 2^64 or more together, what waits is merged before another image is added.
+/// No clause says this, or how many sketches wait.
 #[derive(Drop)]
 pub struct Batch<U: SketchUnion<A>, A: Allocator> {
     union: U,
