@@ -119,8 +119,11 @@ fn new_batch<A: Allocator + Clone + Drop>(
     seed: u64,
     lg_k: u8,
 ) -> Result<Batch<SumsUnion<A>, A>, Error>
-    ensures united { IfOk result (λ b. HasRead (λ images u. HasUnitedSums seed lg_k images u.union.state) (ReadsSumsUnder seed) [] b.union b.waiting.items) }
-    ensures ready { IfOk result (λ b. IsReadyFor (λ u. IsReady seed u.union.state) (ReadsSumsUnder seed) b.union b.waiting.items) }
+    ensures united { IfOk result (λ b.
+        HasRead (λ images u. HasUnitedSums seed lg_k images u.union.state) (ReadsSumsUnder seed) []
+        b.union b.waiting.items) }
+    ensures ready { IfOk result (λ b.
+        IsReadyFor (λ u. IsReady seed u.union.state) (ReadsSumsUnder seed) b.union b.waiting.items) }
     ensures refused { Refuses result (settings_refusal lg_k MAX_THETA seed) true }
 {
     let own = alloc.clone()?;
@@ -134,7 +137,8 @@ fn sketch_of_batch<A: Allocator + Clone + Drop>(
     batch: Batch<SumsUnion<A>, A>,
 ) -> Result<CompactTupleSketch<u64, A>, Error>
     ensures sketch { (seed lg_k : ℕ) (images : List (List ℕ))
-        → HasRead (λ images u. HasUnitedSums seed lg_k images u.union.state) (ReadsSumsUnder seed) images batch.union batch.waiting.items
+        → HasRead (λ images u. HasUnitedSums seed lg_k images u.union.state) (ReadsSumsUnder seed) images
+        batch.union batch.waiting.items
         → IfOk result (IsUnitedSums seed lg_k images) }
     ensures refused { (seed : ℕ)
         → IsReadyFor (λ u. IsReady seed u.union.state) (ReadsSumsUnder seed) batch.union batch.waiting.items
