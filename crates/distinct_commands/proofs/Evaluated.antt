@@ -1,5 +1,5 @@
 -- Lines of texts sketched one after another, and the result of an expression.
-use Rattle.std.proofs.Common.{◌≡◌, ℕ, Bool, List, [], ◌∷◌, ◌++◌, length, map, Option, String, string_bytes, Some, None, refl, sym, ap, subst, ◌∙◌, append_assoc, append-nil, ◌≤◌, ◌<◌, arith}
+use Rattle.std.proofs.Common.{◌≡◌, ℕ, Bool, true, List, [], ◌∷◌, ◌++◌, length, map, Option, String, string_bytes, Some, None, refl, sym, ap, subst, ◌∙◌, append_assoc, append-nil, ◌≤◌, ◌<◌, arith}
 use Rattle.std.proofs.lemmas.List.{length-map}
 use Rattle.std.specs.Prelude.{IfSome, IfOk, Result, Ok, Err, get_or}
 use Rattle.sketch_base.specs.Seed.{seed_hash}
@@ -92,7 +92,7 @@ module _ (options : OptionValues) (seed : ℕ) where
 
   -- .. over sketches of sums
   pub sums_evaluated : {V E A : Type 0} (r : Result V E) (items : V → List ℕ) (known : Option (List (List ℕ))) (text : List ℕ) (names : List (String A)) (steps : List Step) (sketches : List (Compact (TupleEntry ℕ))) (s : Compact (TupleEntry ℕ)) →
-      (spelled : IsExpressionText text (names_of names) steps) → IfSome known (λ texts. AreReadSums seed (images_of options.hex texts) sketches) → length names ≡ length sketches →
+      (spelled : IsExpressionText text (names_of names) steps) → IfSome known (λ texts. AreReadSums seed (images_of true options.hex texts) sketches) → length names ≡ length sketches →
       s ≡ ordered_sketch (sums_value options.lg_k (sums_values sketches) spelled.tree) (seed_hash seed) → IfOk r (λ v. items v ≡ evaluated_sums_text options s) →
       IfSome known (λ texts. IfOk r (λ v. IsSumsEvaluated options seed text texts (items v)))
   sums_evaluated r items None text names steps sketches s spelled operands counted value put = tt

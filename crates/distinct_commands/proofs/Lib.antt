@@ -4,3 +4,4 @@ pub mod NextImages
 pub mod Evaluated
 pub mod GroupLines
 pub mod Answered
+pub mod Failing

@@ -1,6 +1,6 @@
 -- For sketches of one seed whose hash is not 0, and sizes in range, the only error is refused memory.
 use Rattle.std.proofs.Common.{◌≡◌, ℕ, ◌≤◌, Bool, true, false, cond, List, [], ◌∷◌, ◌++◌, Option, Some, None, refl, sym, ap, subst, ◌∙◌, arith, inl, inr}
-use Rattle.std.specs.Prelude.{Result, Ok, Err, IfErr, ◌==◌, ◌||◌, ◌≢◌}
+use Rattle.std.specs.Prelude.{Result, Ok, Err, IfErr, IfSome, ◌==◌, ◌||◌, ◌≢◌}
 use Rattle.std.proofs.lemmas.Bool.Decides.{nat_tests}
 use Rattle.sketch_base.specs.Seed.{seed_hash}
 use Rattle.sketch_base.specs.declared.error.ErrorKind.{ErrorKind}
@@ -14,10 +14,12 @@ use Rattle.core_operators.specs.Intersection.{is_settled, seed_refusal}
 use Rattle.core_laws.specs.Settings.{settings_refusal}
 use Rattle.line_sketches.specs.Meeting.{first_refusal, meet_refusal, refusal_of_intersection}
 use Rattle.line_sketches.specs.Refusals.{IsUnread, IsUniteRefusal}
-use Rattle.line_sums.specs.Unions.{IsUniteSumsRefusal}
+use Rattle.line_sums.specs.Operands.{IsUnreadSums}
+use Rattle.line_sums.specs.Unions.{IsUniteSumsRefusal, HasNoSums}
 use Rattle.line_sketches.specs.declared.sketching.Unread.{Unread}
 use Rattle.line_sketches.specs.declared.sketching.Unread.TheVariants.{Refused, Failed}
 use Rattle.distinct_inputs.specs.Failures.{IsOfUniting}
+use Rattle.distinct_inputs.specs.Images.{HasNoSketch}
 use Rattle.distinct_inputs.specs.Seeds.{AreSeeded}
 
 -- a size in range
@@ -32,32 +34,47 @@ pub read_kind : (refusal : Option ErrorKind) (u : Unread) (e : ErrorKind) → re
 read_kind refusal u e none is refused = read_of refusal e none (subst (IsUnread refusal) is refused)
 
 -- unions of images, and of images of sums, before which nothing is refused
-united_kind : (seed : ℕ) (refusal : Option ErrorKind) (images : Option (List (List ℕ))) (u : Unread) → refusal ≡ None → IsUniteRefusal seed refusal images u → IsOfUniting false u
+united_kind : (seed : ℕ) (refusal : Option ErrorKind) (images : Option (List (List ℕ))) (u : Unread) → refusal ≡ None → IsUniteRefusal seed refusal images u → IsOfUniting false seed images u
 united_kind seed refusal images (Failed error) none refused = tt
 united_kind seed refusal images (Refused e) none (inl is) = let both : None ≡ Some e = sym none ∙ is in absurd (cc)
 united_kind seed refusal images (Refused e) none (inr (inl memory)) = inl memory
-united_kind seed refusal images (Refused e) none (inr (inr faulty)) = inr (inr faulty.0)
+united_kind seed refusal images (Refused e) none (inr (inr faulty)) = inr (inr (faulty.0, faulty.2))
 
-sums_kind : (seed : ℕ) (refusal : Option ErrorKind) (images : Option (List (List ℕ))) (u : Unread) → refusal ≡ None → IsUniteSumsRefusal seed refusal images u → IsOfUniting true u
+sums_kind : (seed : ℕ) (refusal : Option ErrorKind) (images : Option (List (List ℕ))) (u : Unread) → refusal ≡ None → IsUniteSumsRefusal seed refusal images u → IsOfUniting true seed images u
 sums_kind seed refusal images (Failed error) none refused = tt
 sums_kind seed refusal images (Refused e) none (inl is) = let both : None ≡ Some e = sym none ∙ is in absurd (cc)
 sums_kind seed refusal images (Refused e) none (inr (inl memory)) = inl memory
-sums_kind seed refusal images (Refused e) none (inr (inr later)) = elim later.1 [ inl policy ↦ inr (inl (policy, refl)) | inr faulty ↦ inr (inr faulty.0) ]
+sums_kind seed refusal images (Refused e) none (inr (inr later)) = elim later.1 [ inl policy ↦ inr (inl (policy, refl)) | inr faulty ↦ inr (inr faulty) ]
 
-pub uniting_refused : {V : Type 0} (r : Result V Unread) (sums : Bool) (seed : ℕ) (refusal : Option ErrorKind) (images : Option (List (List ℕ))) → sums ≡ false → refusal ≡ None → IfErr r (IsUniteRefusal seed refusal images) → IfErr r (IsOfUniting sums)
+pub uniting_refused : {V : Type 0} (r : Result V Unread) (sums : Bool) (seed : ℕ) (refusal : Option ErrorKind) (images : Option (List (List ℕ))) → sums ≡ false → refusal ≡ None → IfErr r (IsUniteRefusal seed refusal images) → IfErr r (IsOfUniting sums seed images)
 uniting_refused (Ok v) sums seed refusal images is none refused = tt
-uniting_refused (Err u) sums seed refusal images is none refused = subst (λ b. IsOfUniting b u) (sym is) (united_kind seed refusal images u none refused)
+uniting_refused (Err u) sums seed refusal images is none refused = subst (λ b. IsOfUniting b seed images u) (sym is) (united_kind seed refusal images u none refused)
 
-pub sums_refused : {V : Type 0} (r : Result V Unread) (sums : Bool) (seed : ℕ) (refusal : Option ErrorKind) (images : Option (List (List ℕ))) → sums ≡ true → refusal ≡ None → IfErr r (IsUniteSumsRefusal seed refusal images) → IfErr r (IsOfUniting sums)
+pub sums_refused : {V : Type 0} (r : Result V Unread) (sums : Bool) (seed : ℕ) (refusal : Option ErrorKind) (images : Option (List (List ℕ))) → sums ≡ true → refusal ≡ None → IfErr r (IsUniteSumsRefusal seed refusal images) → IfErr r (IsOfUniting sums seed images)
 sums_refused (Ok v) sums seed refusal images is none refused = tt
-sums_refused (Err u) sums seed refusal images is none refused = subst (λ b. IsOfUniting b u) (sym is) (sums_kind seed refusal images u none refused)
+sums_refused (Err u) sums seed refusal images is none refused = subst (λ b. IsOfUniting b seed images u) (sym is) (sums_kind seed refusal images u none refused)
 
 -- only unions of sums are refused for a sum of 2^64 or more
-pub policy_of_sums : (sums : Bool) (u : Unread) (e : ErrorKind) → u ≡ Refused e → IsOfUniting sums u → e ≡ Policy → sums ≡ true
-policy_of_sums sums u e is refused policy = elim (subst (IsOfUniting sums) is refused) [
+pub policy_of_sums : (sums : Bool) (seed : ℕ) (images : Option (List (List ℕ))) (u : Unread) (e : ErrorKind) → u ≡ Refused e → IsOfUniting sums seed images u → e ≡ Policy → sums ≡ true
+policy_of_sums sums seed images u e is refused policy = elim (subst (IsOfUniting sums seed images) is refused) [
   | inl memory ↦ let both : OutOfMemory ≡ Policy = sym memory ∙ policy in absurd (cc)
   | inr (inl other) ↦ other.1
-  | inr (inr faulty) ↦ let both : InvalidData ≡ Policy = sym faulty ∙ policy in absurd (cc)
+  | inr (inr faulty) ↦ let both : InvalidData ≡ Policy = sym faulty.0 ∙ policy in absurd (cc)
+]
+
+-- .. and any for bad data only if some image is none
+pub data_of_images : (sums : Bool) (seed : ℕ) (images : Option (List (List ℕ))) (u : Unread) (e : ErrorKind) → u ≡ Refused e → IsOfUniting sums seed images u → e ≡ InvalidData → HasNoSketch sums seed images
+data_of_images sums seed images u e is refused data_is = elim (subst (IsOfUniting sums seed images) is refused) [
+  | inl memory ↦ let both : OutOfMemory ≡ InvalidData = sym memory ∙ data_is in absurd (cc)
+  | inr (inl other) ↦ let both : Policy ≡ InvalidData = sym other.0 ∙ data_is in absurd (cc)
+  | inr (inr faulty) ↦ faulty.1
+]
+
+-- sketches of sums are refused for bad data only if some image is none
+pub data_of_sums : (seed : ℕ) (images : Option (List (List ℕ))) (u : Unread) (e : ErrorKind) → u ≡ Refused e → IsUnreadSums (IfSome images (HasNoSums seed)) u → e ≡ InvalidData → HasNoSketch true seed images
+data_of_sums seed images u e is refused data_is = elim (subst (IsUnreadSums (IfSome images (HasNoSums seed))) is refused) [
+  | inl memory ↦ let both : OutOfMemory ≡ InvalidData = sym memory ∙ data_is in absurd (cc)
+  | inr faulty ↦ faulty.1
 ]
 
 -- sketches of one seed

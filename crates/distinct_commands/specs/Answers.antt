@@ -15,7 +15,7 @@ use Rattle.line_sums.specs.declared.addends.Amount.{Amount}
 use Rattle.distinct_arguments.specs.Settings.{OptionValues, chosen_group, chosen_value}
 use Rattle.grouped_lines.specs.United.{IsUnitedText}
 use Rattle.distinct_arguments.specs.Arguments.{Action, prints, runs, fails}
-use Rattle.distinct_inputs.specs.Failures.{called, chosen_amount, chosen_hashing}
+use Rattle.distinct_inputs.specs.Failures.{called, chosen_amount, chosen_hashing, unites_groups, unites_sums}
 use Rattle.distinct_commands.specs.Eval.{IsEvaluatedOf}
 use Rattle.distinct_inputs.specs.Images.{images_of, in_form}
 use Rattle.distinct_commands.specs.Groups.{IsGroupedText}
@@ -68,7 +68,7 @@ IsCombined Minus options seed images out = IsDifferenceImage seed images out
 
 -- the same for the images in files
 abbrev pub IsCombinedOf : Operator → OptionValues → (seed : ℕ) → (texts : List (List ℕ)) → List ℕ → Type 0
-IsCombinedOf operator options seed texts out = IsCombined operator options seed (images_of options.hex texts) out
+IsCombinedOf operator options seed texts out = IsCombined operator options seed (images_of (unites_sums operator options) options.hex texts) out
 
 -- one line per image, under the file's name
 abbrev pub AreShownByName : OptionValues → (seed : ℕ) → (names images : List (List ℕ)) → List ℕ → Type 0
@@ -87,8 +87,8 @@ AreShown options seed (image ∷ images) out =
 
 -- one line per image in files: under the file's name if each file is an image, under an unspecified name if each line has one
 abbrev pub AreLinesOf : (hex : Bool) → OptionValues → (seed : ℕ) → (names texts : List (List ℕ)) → List ℕ → Type 0
-AreLinesOf true options seed names texts out = AreShown options seed (images_of true texts) out
-AreLinesOf false options seed names texts out = AreShownByName options seed names texts out
+AreLinesOf true options seed names texts out = AreShown options seed (images_of false true texts) out
+AreLinesOf false options seed names texts out = AreShownByName options seed names (images_of false false texts) out
 
 -- .. after the head of a table, if there is to be one
 abbrev pub IsShownOf : OptionValues → (seed : ℕ) → (names texts : List (List ℕ)) → List ℕ → Type 0
@@ -119,12 +119,6 @@ IsLinesText true by options seed texts out = IsSketchOf by options seed texts ou
 abbrev pub IsSketchText : Option Amount → (by : Option Key) → OptionValues → (seed : ℕ) → (texts : List (List ℕ)) → List ℕ → Type 0
 IsSketchText None by options seed texts out = IsSketchOf by options seed texts out
 IsSketchText (Some amount) by options seed texts out = IsSumsText amount options seed texts out
-
--- images are united by the groups of their lines
-abbrev pub unites_groups : Operator → OptionValues → Bool
-unites_groups Union options = options.groups
-unites_groups Meet options = false
-unites_groups Minus options = false
 
 -- what an operator writes of the images in files: an image, or a line for each group with its image
 abbrev pub IsCombinedText : (by_groups : Bool) → Operator → OptionValues → (seed : ℕ) → (texts : List (List ℕ)) → List ℕ → Type 0

@@ -43,7 +43,7 @@ AreSketchesOfTexts options seed texts sketches = sketches ≡ sketches_of_texts 
 -- the sketches of an expression's names: with `--keys` those of the texts' lines, else those that the texts have as images
 abbrev pub AreOperands : (keys : Bool) → OptionValues → (seed : ℕ) → (texts : List (List ℕ)) → List (Compact ℕ) → Type 0
 AreOperands true options seed texts sketches = AreSketchesOfTexts options seed texts sketches
-AreOperands false options seed texts sketches = AreRead seed (images_of options.hex texts) sketches
+AreOperands false options seed texts sketches = AreRead seed (images_of false options.hex texts) sketches
 
 -- the whole streams of the names' sketches, as sets of hashes: with `--keys` those of the texts' lines, else any of
 -- which the sketches are samples

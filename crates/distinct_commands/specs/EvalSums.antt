@@ -1,5 +1,5 @@
 -- What `eval --sums` prints or writes.
-use Rattle.std.specs.Prelude.{ℕ, ◌≡◌, List, length, is_some, if◌then◌else◌}
+use Rattle.std.specs.Prelude.{ℕ, ◌≡◌, true, List, length, is_some, if◌then◌else◌}
 use Rattle.sketch_base.specs.Seed.{seed_hash}
 use Rattle.core_compact.specs.CompactState.{Compact, ordered_sketch}
 use Rattle.core_laws.specs.Samples.{IsSample, AreSamples}
@@ -25,7 +25,7 @@ pub record IsSumsEvaluated (options : OptionValues) (seed : ℕ) (expression : L
   pub steps : List Step
   pub spelled : IsExpressionText expression names steps
   pub sketches : List (Compact (TupleEntry ℕ))
-  pub operands : AreReadSums seed (images_of options.hex texts) sketches
+  pub operands : AreReadSums seed (images_of true options.hex texts) sketches
   pub counted : length names ≡ length sketches
   pub result : out ≡ evaluated_sums_text options (ordered_sketch (sums_value options.lg_k (sums_values sketches) spelled.tree) (seed_hash seed))
   pub whole : (wholes : List (List (TupleEntry ℕ))) → AreSamples tuple_key (sums_values sketches) wholes →

@@ -67,4 +67,4 @@ pub record IsVisitsOfImages (options : OptionValues) (seed : ℕ) (images : List
 -- what `visits` prints of texts: of their lines, or of the images of sums in them
 abbrev pub IsVisitsText : (sums : Bool) → OptionValues → (seed : ℕ) → (texts : List (List ℕ)) → List ℕ → Type 0
 IsVisitsText false options seed texts out = out ≡ visits_text options (visits_of options seed texts)
-IsVisitsText true options seed texts out = IsVisitsOfImages options seed (images_of options.hex texts) out
+IsVisitsText true options seed texts out = IsVisitsOfImages options seed (images_of true options.hex texts) out

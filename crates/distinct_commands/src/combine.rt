@@ -1,14 +1,13 @@
 //! What `union`, `meet` and `minus` write.
-ghost use Rattle.std.specs.Prelude.{◌≡◌, ◌≢◌, ◌≤◌, ◌⊎◌, ℕ, List, [], ◌∷◌, length, Option, None, IfOk, IfErr, IfSome, IfNone, OnOk, true};
+ghost use Rattle.std.specs.Prelude.{◌≡◌, ◌≢◌, ◌≤◌, ◌⊎◌, ℕ, List, [], ◌∷◌, length, Option, None, IfOk, IfErr, IfSome, IfNone, OnOk, true, false};
 ghost use Rattle.sketch_base.specs.Seed.{seed_hash};
 ghost use Rattle.sketch_base.specs.declared.error.ErrorKind.TheVariants.{OutOfMemory, InvalidData, Policy};
 ghost use Rattle.theta_sketches.specs.Image.{written};
 ghost use Rattle.line_sketches.specs.Shards.{AreRead};
 ghost use Rattle.distinct_arguments.specs.Faults.{options_of};
-ghost use Rattle.distinct_arguments.specs.Settings.{OptionValues};
 ghost use Rattle.distinct_commands.specs.Answers.{intersection_of, difference_of, IsCombinedOf, IsExpected, IsUnionOf};
-ghost use Rattle.distinct_inputs.specs.Images.{remaining_images, ReadsNext};
-ghost use Rattle.distinct_inputs.specs.Failures.{IsOfImages, IsOfCombining, IsOfCount, IsOfEitherUnion, IsOfUniting};
+ghost use Rattle.distinct_inputs.specs.Images.{remaining_images, HasNoSketch, ReadsNext};
+ghost use Rattle.distinct_inputs.specs.Failures.{images_in, IsOfImages, IsOfCombining, IsOfCount, IsOfEitherUnion, IsOfUniting};
 ghost use Rattle.distinct_inputs.specs.Failures.{ReportsNoSketch, ReportsPastUnion};
 ghost use Rattle.distinct_arguments.specs.declared.commands.Operator.TheVariants.{Union};
 ghost use Rattle.distinct_inputs.specs.Seeds.{AreSeeded};
@@ -27,14 +26,16 @@ use std::alloc::Global;
 use theta_sketches::CompactThetaSketch;
 
 /// The failure for an image that was not read.
-pub fn refused<S: Sources>(images: &Images<'_, S>, error: Error) -> Failure
+pub fn refused<S: Sources>(images: &Images<'_, S>, sums: bool, hex: bool, error: Error) -> Failure
     requires { (error ≡ OutOfMemory) ⊎ (error ≡ InvalidData) }
     ensures memory { error ≡ OutOfMemory → result ≡ failure.Memory }
-    ensures data { error ≡ InvalidData → ReportsNoSketch images.now result }
-    ensures of_images { IsOfImages result }
+    ensures data { error ≡ InvalidData → ReportsNoSketch sums hex images.now result }
+    ensures of_images { (seed : ℕ) (all : Option (List (List ℕ)))
+        → (error ≡ InvalidData → HasNoSketch sums seed all)
+        → IsOfImages sums hex seed all result }
 {
     if error.kind() == ErrorKind::InvalidData {
-        images.no_sketch()
+        images.no_sketch(sums, hex)
     } else {
         out_of_memory(error)
     }
@@ -45,18 +46,19 @@ pub fn refused<S: Sources>(images: &Images<'_, S>, error: Error) -> Failure
 pub fn next_sketch<S: Sources>(
     alloc: Global,
     seed: u64,
+    hex: bool,
     images: &mut Images<'_, S>,
 ) -> Result<Option<CompactThetaSketch>, Failure>
     ensures seeded { IfOk result (λ next. IfSome next (λ s. s.seed_hash ≡ seed_hash seed)) }
     ensures reads { IfOk result (ReadsNext seed
         (remaining_images S.Source.remaining S.texts images.old)
         (remaining_images S.Source.remaining S.texts images.new)) }
-    ensures failed { IfErr result IsOfImages }
+    ensures failed { IfErr result (IsOfImages false hex seed (remaining_images S.Source.remaining S.texts images.old)) }
 {
     match images.next_image() {
         Ok(Some(image)) => match read_image(alloc, seed, image.as_slice()) {
             Ok(sketch) => Ok(Some(sketch)),
-            Err(error) => Err(refused(images, error)),
+            Err(error) => Err(refused(images, false, hex, error)),
         },
         Ok(None) => Ok(None),
         Err(error) => Err(images.unreadable(error)),
@@ -99,7 +101,7 @@ fn united<S: Sources>(
     ensures united { IfSome (remaining_images S.Source.remaining S.texts images.old) (λ all.
         IfOk result (λ u. IsUnionOf options.now.sums seed options.now.lg_k all u.image.items)) }
     ensures counted { IfSome (remaining_images S.Source.remaining S.texts images.old) (λ all. IfOk result (λ u. u.count ≡ length all)) }
-    ensures refused { IfErr result (IsOfUniting options.now.sums) }
+    ensures refused { IfErr result (IsOfUniting options.now.sums seed (remaining_images S.Source.remaining S.texts images.old)) }
 {
     if options.sums {
         unite_sums(alloc, seed, options.lg_k, images)
@@ -117,15 +119,18 @@ pub fn remark_coarser<S: Sources, C: Console>(images: &Images<'_, S>, lg_k: u8, 
 
 /// The failure for an image that was not added to a union. That the sum of a key is 2^64 or more is a failure of images
 /// of sums alone.
-pub fn not_added<S: Sources>(images: &Images<'_, S>, error: Error) -> Failure
+pub fn not_added<S: Sources>(images: &Images<'_, S>, options: &Options<'_>, error: Error) -> Failure
     requires { (error ≡ OutOfMemory) ⊎ ((error ≡ Policy) ⊎ (error ≡ InvalidData)) }
     ensures policy { error ≡ Policy → ReportsPastUnion images.now result }
-    ensures data { error ≡ InvalidData → ReportsNoSketch images.now result }
-    ensures of_union { (options : OptionValues) → (error ≡ Policy → options.sums ≡ true) → IsOfEitherUnion options result }
+    ensures data { error ≡ InvalidData → ReportsNoSketch options.now.sums options.now.hex images.now result }
+    ensures of_union { (seed : ℕ) (all : Option (List (List ℕ)))
+        → (error ≡ Policy → options.now.sums ≡ true)
+        → (error ≡ InvalidData → HasNoSketch options.now.sums seed all)
+        → IsOfEitherUnion (options_of options.now) seed all result }
 {
     match error.kind() {
         ErrorKind::Policy => images.past_union(),
-        ErrorKind::InvalidData => images.no_sketch(),
+        ErrorKind::InvalidData => images.no_sketch(options.sums, options.hex),
         _ => Failure::Memory,
     }
 }
@@ -141,14 +146,15 @@ impl<'a, S: Sources + Drop> Job<'a, S> {
         requires seeded { seed_hash self.seed ≢ 0 }
         ensures combined { IfSome (S.texts self.entry.inputs.sources) (λ texts.
             IfOk result (λ v. IsCombinedOf operator (options_of self.entry.options.now) self.entry.seed texts v.items)) }
-        ensures failed { IfErr result (IsOfCombining operator (options_of self.entry.options.now) count (S.texts self.entry.inputs.sources)) }
+        ensures failed { IfErr result (
+            IsOfCombining operator (options_of self.entry.options.now) self.entry.seed count (S.texts self.entry.inputs.sources)) }
     {
         let (alloc, options, seed) = (self.alloc, self.options, self.seed);
         match operator {
             Operator::Union => self.union_of_inputs(console),
             Operator::Meet => {
                 let mut images = Images::new(alloc, self.inputs, options.hex, seed);
-                let sketches = all_sketches(alloc, seed, &mut images)?;
+                let sketches = all_sketches(alloc, seed, options.hex, &mut images)?;
                 check_count(options.expected, sketches.len() as u64)?;
                 meet_image(alloc, seed, sketches.as_slice(), console)
             }
@@ -157,7 +163,7 @@ impl<'a, S: Sources + Drop> Job<'a, S> {
                     return Err(Failure::NotTwo);
                 }
                 let mut images = Images::new(alloc, self.inputs, options.hex, seed);
-                let sketches = all_sketches(alloc, seed, &mut images)?;
+                let sketches = all_sketches(alloc, seed, options.hex, &mut images)?;
                 match two_of(sketches.as_slice()) {
                     Some((first, second)) => minus_image(alloc, seed, first, second, console),
                     None => Err(Failure::NotTwo),
@@ -171,7 +177,9 @@ impl<'a, S: Sources + Drop> Job<'a, S> {
         requires seeded { seed_hash self.seed ≢ 0 }
         ensures combined { IfSome (S.texts self.entry.inputs.sources) (λ texts.
             IfOk result (λ v. IsCombinedOf Union (options_of self.entry.options.now) self.entry.seed texts v.items)) }
-        ensures failed { IfErr result (IsOfEitherUnion (options_of self.entry.options.now)) }
+        ensures failed { IfErr result (
+            IsOfEitherUnion (options_of self.entry.options.now) self.entry.seed
+            (images_in self.entry.options.now.sums (options_of self.entry.options.now) (S.texts self.entry.inputs.sources))) }
     {
         let (alloc, options, seed) = (self.alloc, self.options, self.seed);
         let mut images = Images::of(alloc, self.inputs, options.sums, options.hex, seed);
@@ -182,7 +190,7 @@ impl<'a, S: Sources + Drop> Job<'a, S> {
                 Ok(united.image)
             }
             Err(Unread::Failed(error)) => Err(images.unreadable(error)),
-            Err(Unread::Refused(error)) => Err(not_added(&images, error)),
+            Err(Unread::Refused(error)) => Err(not_added(&images, options, error)),
         }
     }
 }
@@ -245,16 +253,17 @@ fn minus_image<C: Console>(
 pub fn all_sketches<S: Sources>(
     alloc: Global,
     seed: u64,
+    hex: bool,
     images: &mut Images<'_, S>,
 ) -> Result<Vec<CompactThetaSketch>, Failure>
     ensures seeded { IfOk result (λ v. AreSeeded seed v.items) }
     ensures read { IfSome (remaining_images S.Source.remaining S.texts images.old) (λ all.
         IfOk result (λ v. AreRead seed all v.items)) }
-    ensures failed { IfErr result IsOfImages }
+    ensures failed { IfErr result (IsOfImages false hex seed (remaining_images S.Source.remaining S.texts images.old)) }
 {
     let mut sketches = Vec::new(alloc);
     for _ in 0..u64::MAX {
-        match next_sketch(alloc, seed, images)? {
+        match next_sketch(alloc, seed, hex, images)? {
             Some(sketch) => sketches.push(sketch)?,
             None => return Ok(sketches),
         }

@@ -33,7 +33,10 @@ const STANDARD_OUTPUT: &str = "standard output";
 /// Any command may fail with `Memory`, with `Unreadable`, and with `NotWritten` for standard output. Each other failure
 /// has its commands:
 ///
-/// - those of images, of lines of images and of groups: commands that read images;
+/// - `NoSketch`, `NoSums`, `NoHex` and `NoLine`: commands that read images; `NoSums` if these are of sums, `NoSketch` if
+///   not, `NoHex` and `NoLine` with `--hex`. If contracts know the files' bytes, only if some image is none of the seed:
+///   a line that isn't hexadecimal, a file without a line, and an image that something follows count as none;
+/// - `NoTab`, `NoHex` and `NoSketch` with `--groups`: for the first line of a file that has a flaw;
 /// - `NoFiles`: commands that read images, if no file is named;
 /// - `WrongCount`: commands that combine images, if `--expect` names another number than the failure reports to have
 ///   been found;

@@ -1,5 +1,5 @@
 //! What `eval` prints or writes: the result of a set expression over the sketches of files.
-ghost use Rattle.std.specs.Prelude.{◌≡◌, ◌≢◌, ℕ, List, length, IfOk, IfErr, IfSome};
+ghost use Rattle.std.specs.Prelude.{◌≡◌, ◌≢◌, ℕ, false, List, length, IfOk, IfErr, IfSome};
 ghost use Rattle.sketch_base.specs.Seed.{seed_hash};
 ghost use Rattle.core_laws.specs.Settings.{settings_refusal};
 ghost use Rattle.core_laws.specs.declared.TheConstants.{MAX_THETA};
@@ -13,7 +13,7 @@ ghost use Rattle.distinct_arguments.specs.Faults.{options_of};
 ghost use Rattle.distinct_inputs.specs.Lists.{names_of};
 ghost use Rattle.distinct_commands.specs.Eval.{sketch_of_text, SketchesNext, AreSketchesOfTexts, AreOperands, IsEvaluated, IsEvaluatedOf, evaluated_text};
 ghost use Rattle.distinct_inputs.specs.Seeds.{AreSeeded};
-ghost use Rattle.distinct_inputs.specs.Failures.{IsOfReading, IsOfImages, IsOfExpression, IsOfOperands, IsOfEvaluation};
+ghost use Rattle.distinct_inputs.specs.Failures.{images_in, IsOfReading, IsOfImages, IsOfExpression, IsOfOperands, IsOfEvaluation};
 ghost use Rattle.distinct_inputs.specs.declared.failure.Failure.TheVariants as failure;
 
 use crate::combine::all_sketches;
@@ -203,14 +203,15 @@ impl<'a, S: Sources + Drop> Job<'a, S> {
         ensures seeded { IfOk result (λ v. AreSeeded self.entry.seed v.items) }
         ensures operands { IfSome (S.texts self.entry.inputs.sources) (λ texts. IfOk result (λ v.
             AreOperands self.entry.options.now.keys (options_of self.entry.options.now) self.entry.seed texts v.items)) }
-        ensures failed { IfErr result IsOfImages }
+        ensures failed { IfErr result (
+            IsOfImages false self.entry.options.now.hex self.entry.seed (images_in false (options_of self.entry.options.now) (S.texts self.entry.inputs.sources))) }
     {
         if self.options.keys {
             return self.all_lines(console);
         }
         let (alloc, options, seed) = (self.alloc, self.options, self.seed);
         let mut images = Images::new(alloc, self.inputs, options.hex, seed);
-        all_sketches(alloc, seed, &mut images)
+        all_sketches(alloc, seed, options.hex, &mut images)
     }
 
     /// The result of an expression over the sketches of the sources, which have the expression's names in their order.
@@ -224,7 +225,8 @@ impl<'a, S: Sources + Drop> Job<'a, S> {
         requires spelled { IsExpressionText text.now (names_of expression.now.names.items) expression.now.steps.items }
         ensures evaluated { IfSome (S.texts self.entry.inputs.sources) (λ texts.
             IfOk result (λ v. IsEvaluated (options_of self.entry.options.now) self.entry.seed text.now texts v.items)) }
-        ensures failed { IfErr result IsOfOperands }
+        ensures failed { IfErr result (
+            IsOfOperands false self.entry.options.now.hex self.entry.seed (images_in false (options_of self.entry.options.now) (S.texts self.entry.inputs.sources))) }
     {
         let (alloc, options, seed) = (self.alloc, self.options, self.seed);
         let sketches = self.operands(console)?;
@@ -247,7 +249,9 @@ impl<'a, S: Sources + Drop> Job<'a, S> {
         requires seeded { seed_hash self.seed ≢ 0 }
         ensures evaluated { IfSome (S.texts self.entry.inputs.sources) (λ texts. IfOk result (λ v.
             IsEvaluatedOf (options_of self.entry.options.now) self.entry.seed (names_of files.now) texts v.items)) }
-        ensures failed { IfErr result (IsOfEvaluation (length files.now)) }
+        ensures failed { IfErr result (
+            IsOfEvaluation (length files.now) self.entry.options.now.sums self.entry.options.now.hex self.entry.seed
+            (images_in self.entry.options.now.sums (options_of self.entry.options.now) (S.texts self.entry.inputs.sources))) }
     {
         let [file] = files else {
             return Err(Failure::Arguments(Fault::NotOneExpression));

@@ -1,5 +1,5 @@
 //! What `eval --sums` prints or writes: the result of a set expression over the sketches of sums of files.
-ghost use Rattle.std.specs.Prelude.{◌≡◌, ◌≢◌, ◌⊎◌, ℕ, List, length, IfOk, IfErr, IfSome};
+ghost use Rattle.std.specs.Prelude.{◌≡◌, ◌≢◌, ◌⊎◌, ℕ, true, List, length, IfOk, IfErr, IfSome};
 ghost use Rattle.sketch_base.specs.Seed.{seed_hash};
 ghost use Rattle.sketch_base.specs.declared.error.ErrorKind.TheVariants.{OutOfMemory, Policy};
 ghost use Rattle.core_compact.specs.CompactState.{ordered_sketch};
@@ -10,7 +10,7 @@ ghost use Rattle.set_expressions.specs.Running.{sums_values};
 ghost use Rattle.distinct_arguments.specs.Faults.{options_of};
 ghost use Rattle.distinct_inputs.specs.Lists.{names_of};
 ghost use Rattle.distinct_commands.specs.EvalSums.{evaluated_sums_text, IsSumsEvaluated};
-ghost use Rattle.distinct_inputs.specs.Failures.{IsOfImages, IsOfOperands, IsOfResult};
+ghost use Rattle.distinct_inputs.specs.Failures.{images_in, IsOfImages, IsOfOperands, IsOfResult};
 ghost use Rattle.distinct_inputs.specs.Images.{images_of, in_form};
 ghost use Rattle.distinct_inputs.specs.Seeds.{AreSeeded};
 ghost use Rattle.distinct_inputs.specs.declared.failure.Failure.TheVariants as failure;
@@ -92,15 +92,16 @@ impl<'a, S: Sources + Drop> Job<'a, S> {
     fn sums_operands(self) -> Result<Vec<CompactTupleSketch<u64>>, Failure>
         ensures seeded { IfOk result (λ v. AreSeeded self.entry.seed v.items) }
         ensures operands { IfSome (S.texts self.entry.inputs.sources) (λ texts.
-            IfOk result (λ v. AreReadSums self.entry.seed (images_of self.entry.options.now.hex texts) v.items)) }
-        ensures failed { IfErr result IsOfImages }
+            IfOk result (λ v. AreReadSums self.entry.seed (images_of true self.entry.options.now.hex texts) v.items)) }
+        ensures failed { IfErr result (
+            IsOfImages true self.entry.options.now.hex self.entry.seed (images_in true (options_of self.entry.options.now) (S.texts self.entry.inputs.sources))) }
     {
         let (alloc, options, seed) = (self.alloc, self.options, self.seed);
         let mut images = Images::of(alloc, self.inputs, true, options.hex, seed);
         match all_sums(alloc, seed, &mut images) {
             Ok(sketches) => Ok(sketches),
             Err(Unread::Failed(error)) => Err(images.unreadable(error)),
-            Err(Unread::Refused(error)) => Err(refused(&images, error)),
+            Err(Unread::Refused(error)) => Err(refused(&images, true, options.hex, error)),
         }
     }
 
@@ -111,7 +112,8 @@ impl<'a, S: Sources + Drop> Job<'a, S> {
         requires spelled { IsExpressionText text.now (names_of expression.now.names.items) expression.now.steps.items }
         ensures evaluated { IfSome (S.texts self.entry.inputs.sources) (λ texts.
             IfOk result (λ v. IsSumsEvaluated (options_of self.entry.options.now) self.entry.seed text.now texts v.items)) }
-        ensures failed { IfErr result IsOfOperands }
+        ensures failed { IfErr result (
+            IsOfOperands true self.entry.options.now.hex self.entry.seed (images_in true (options_of self.entry.options.now) (S.texts self.entry.inputs.sources))) }
     {
         let (alloc, options, seed) = (self.alloc, self.options, self.seed);
         let sketches = self.sums_operands()?;

@@ -1,9 +1,9 @@
 //! What `count` and `show` print of sketches.
-ghost use Rattle.std.specs.Prelude.{◌≡◌, ◌++◌, None, Some, IfOk, IfErr, IfSome, OnOk, string_bytes};
+ghost use Rattle.std.specs.Prelude.{◌≡◌, ◌++◌, false, None, Some, IfOk, IfErr, IfSome, OnOk, string_bytes};
 ghost use Rattle.distinct_arguments.specs.Faults.{options_of};
 ghost use Rattle.distinct_commands.specs.Answers.{AreShownByName, AreShown, IsShownOf};
 ghost use Rattle.distinct_inputs.specs.Lists.{names_of};
-ghost use Rattle.distinct_inputs.specs.Failures.{called, IsOfImages};
+ghost use Rattle.distinct_inputs.specs.Failures.{called, images_in, IsOfImages};
 ghost use Rattle.distinct_inputs.specs.Images.{remaining_images};
 ghost use Rattle.distinct_commands.specs.Texts.{chosen_deviations, count_text, shown_text, head_of};
 
@@ -78,7 +78,8 @@ impl<'a, S: Sources + Drop> Job<'a, S> {
     pub fn show_inputs(self, files: &[String]) -> Result<Vec<u8>, Failure>
         ensures shown { IfSome (S.texts self.entry.inputs.sources) (λ texts.
             IfOk result (λ v. IsShownOf (options_of self.entry.options.now) self.entry.seed (names_of files.now) texts v.items)) }
-        ensures failed { IfErr result IsOfImages }
+        ensures failed { IfErr result (
+            IsOfImages false self.entry.options.now.hex self.entry.seed (images_in false (options_of self.entry.options.now) (S.texts self.entry.inputs.sources))) }
     {
         let (alloc, options, seed) = (self.alloc, self.options, self.seed);
         let mut images = Images::new(alloc, self.inputs, options.hex, seed);
@@ -103,11 +104,11 @@ fn show_lines<S: Sources>(
 ) -> Result<Vec<u8>, Failure>
     ensures shown { IfSome (remaining_images S.Source.remaining S.texts images.old) (λ all.
         IfOk result (λ v. AreShown (options_of options.now) seed all v.items)) }
-    ensures failed { IfErr result IsOfImages }
+    ensures failed { IfErr result (IsOfImages false options.now.hex seed (remaining_images S.Source.remaining S.texts images.old)) }
 {
     let mut shown = Vec::new(alloc);
     for _ in 0..u64::MAX {
-        let Some(sketch) = next_sketch(alloc, seed, images)? else {
+        let Some(sketch) = next_sketch(alloc, seed, options.hex, images)? else {
             return Ok(shown);
         };
         let text = shown_text(alloc, options, images.name(), &sketch)?;
@@ -126,12 +127,12 @@ fn show_files<S: Sources>(
 ) -> Result<Vec<u8>, Failure>
     ensures shown { IfSome (remaining_images S.Source.remaining S.texts images.old) (λ all.
         IfOk result (λ v. AreShownByName (options_of options.now) seed (names_of files.now) all v.items)) }
-    ensures failed { IfErr result IsOfImages }
+    ensures failed { IfErr result (IsOfImages false options.now.hex seed (remaining_images S.Source.remaining S.texts images.old)) }
 {
     let mut shown = Vec::new(alloc);
     let mut left = files;
     while let Some((file, others)) = left.split_first() {
-        let Some(sketch) = next_sketch(alloc, seed, images)? else {
+        let Some(sketch) = next_sketch(alloc, seed, options.hex, images)? else {
             return Ok(shown);
         };
         let text = shown_text(alloc, options, called(file.as_str()), &sketch)?;

@@ -1,11 +1,10 @@
 //! What `union` writes of images by groups.
-ghost use Rattle.std.specs.Prelude.{◌≡◌, ◌≢◌, IfOk, IfErr, IfSome};
+ghost use Rattle.std.specs.Prelude.{◌≡◌, ◌≢◌, ℕ, List, Option, IfOk, IfErr, IfSome};
 ghost use Rattle.sketch_base.specs.Seed.{seed_hash};
 ghost use Rattle.lines.specs.Lines.{lines_of_all};
-ghost use Rattle.grouped_lines.specs.United.{IsUnitedText};
+ghost use Rattle.grouped_lines.specs.United.{HasFirstFlawed, IsUnitedText};
 ghost use Rattle.distinct_arguments.specs.Faults.{options_of};
-ghost use Rattle.distinct_commands.specs.Answers.{unites_groups};
-ghost use Rattle.distinct_inputs.specs.Failures.{IsOfImages, ReportsFlawed};
+ghost use Rattle.distinct_inputs.specs.Failures.{unites_groups, IsOfGroups, ReportsFlawed};
 
 use crate::job::Job;
 use distinct_arguments::{Operator, Options};
@@ -24,7 +23,9 @@ pub fn unites_groups(operator: Operator, options: &Options<'_>) -> bool
 /// The failure for a line with this flaw: its number, from 1, and the name of its file in messages.
 fn flawed(alloc: Global, name: &str, line: u64, flaw: LineFlaw) -> Failure
     ensures reports { ReportsFlawed name.now line flaw result }
-    ensures of_images { IsOfImages result }
+    ensures of_groups { (seed : ℕ) (texts : Option (List (List ℕ)))
+        → IfSome texts (HasFirstFlawed seed line flaw)
+        → IsOfGroups seed texts result }
 {
     let Ok(name) = String::from_str(alloc, name) else {
         return Failure::Memory;
@@ -54,7 +55,7 @@ impl<'a, S: Sources + Drop> Job<'a, S> {
         requires seeded { seed_hash self.seed ≢ 0 }
         ensures united { IfSome (S.texts self.entry.inputs.sources) (λ texts.
             IfOk result (λ v. IsUnitedText self.entry.seed self.entry.options.now.lg_k (lines_of_all texts) v.items)) }
-        ensures failed { IfErr result IsOfImages }
+        ensures failed { IfErr result (IsOfGroups self.entry.seed (S.texts self.entry.inputs.sources)) }
     {
         let (alloc, options, seed) = (self.alloc, self.options, self.seed);
         let mut inputs = self.inputs;

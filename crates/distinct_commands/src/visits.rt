@@ -4,7 +4,7 @@ ghost use Rattle.sketch_base.specs.Seed.{seed_hash};
 ghost use Rattle.line_sums.specs.declared.addends.Amount.TheVariants.{One};
 ghost use Rattle.distinct_arguments.specs.Faults.{options_of};
 ghost use Rattle.line_sums.specs.Unions.{IsUnitedSums, AreSumsOfTexts};
-ghost use Rattle.distinct_inputs.specs.Failures.{IsOfEitherUnion, IsOfSums, IsOfUniting, IsOfVisits};
+ghost use Rattle.distinct_inputs.specs.Failures.{images_in, IsOfEitherUnion, IsOfSums, IsOfUniting, IsOfVisits};
 ghost use Rattle.distinct_inputs.specs.Images.{images_of, remaining_images};
 ghost use Rattle.distinct_commands.specs.Visits.{visits_of, ranges_head, bin_text, bin_up_to, visits_text, IsVisitsOfImages, IsVisitsText};
 
@@ -106,7 +106,7 @@ fn united_visits<S: Sources>(
         IfOk result (λ u. IsUnitedSums seed options.now.lg_k all u.sketch)) }
     ensures apart { IfSome (remaining_images S.Source.remaining S.texts images.old) (λ all.
         IfOk result (λ u. AreSumsOfTexts seed options.now.lg_k all u.sketch)) }
-    ensures refused { IfErr result (IsOfUniting true) }
+    ensures refused { IfErr result (IsOfUniting true seed (remaining_images S.Source.remaining S.texts images.old)) }
 {
     union_of_sums(alloc, seed, options.lg_k, images)
 }
@@ -132,8 +132,10 @@ impl<'a, S: Sources + Drop> Job<'a, S> {
         requires seeded { seed_hash self.seed ≢ 0 }
         requires sums { self.options.now.sums ≡ true }
         ensures printed { IfSome (S.texts self.entry.inputs.sources) (λ texts. IfOk result (λ v.
-            IsVisitsOfImages (options_of self.entry.options.now) self.entry.seed (images_of self.entry.options.now.hex texts) v.items)) }
-        ensures failed { IfErr result (IsOfEitherUnion (options_of self.entry.options.now)) }
+            IsVisitsOfImages (options_of self.entry.options.now) self.entry.seed (images_of true self.entry.options.now.hex texts) v.items)) }
+        ensures failed { IfErr result (
+            IsOfEitherUnion (options_of self.entry.options.now) self.entry.seed
+            (images_in self.entry.options.now.sums (options_of self.entry.options.now) (S.texts self.entry.inputs.sources))) }
     {
         let (alloc, options, seed) = (self.alloc, self.options, self.seed);
         let mut images = Images::of(alloc, self.inputs, true, options.hex, seed);
@@ -144,7 +146,7 @@ impl<'a, S: Sources + Drop> Job<'a, S> {
                 Ok(text.into_bytes())
             }
             Err(Unread::Failed(error)) => Err(images.unreadable(error)),
-            Err(Unread::Refused(error)) => Err(not_added(&images, error)),
+            Err(Unread::Refused(error)) => Err(not_added(&images, options, error)),
         }
     }
 

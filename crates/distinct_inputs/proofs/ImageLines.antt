@@ -1,7 +1,9 @@
 -- Images in the lines of files, one after another.
 use Rattle.std.proofs.Common.{◌≡◌, ℕ, Bool, true, false, List, [], ◌∷◌, ◌++◌, length, drop, map, cond, Option, Some, None, refl, sym, ap, subst, ◌∙◌, ◌+◌, append-nil, eqb, arith}
 use mathlib.Core.Bool.{true≢false}
-use Rattle.std.specs.Prelude.{IfSome, MatchOption, unwrap_or}
+use Rattle.std.specs.Prelude.{IfSome, MatchOption, unwrap_or, nat_lt, ◌≤◌}
+use Rattle.std.specs.Option.{option_map, option_map_or}
+use Rattle.std.proofs.lemmas.Bool.Decides.{nat_tests}
 use Rattle.std.specs.List.{onto_first, prefix_len}
 use Rattle.std.specs.Char.{is_ascii_whitespace}
 use Rattle.std.specs.Str.{IsTrimAscii}
@@ -12,7 +14,7 @@ use Rattle.std.specs.declared.io.buffered.BufReader.{BufReader}
 use Rattle.std.proofs.lemmas.Str.Ascii.{trim_ascii_is}
 use Rattle.line_sketches.specs.Hex.{bytes_of_hex}
 use Rattle.line_sketches.specs.Sources.{GivesNext}
-use Rattle.distinct_inputs.specs.Images.{ended_lines, line_image, line_images, or_none, images_behind, images_in_lines, images_left, open_text, GivesOrCloses}
+use Rattle.distinct_inputs.specs.Images.{alone, is_followed, length_of, ended_lines, line_image, line_images, or_none, images_behind, images_in_lines, parts_left, open_text, IsAlone, GivesOrCloses}
 
 -- the first line of a text, and the lines after it
 ended_first : (b : ℕ) (t : List ℕ) → ended_lines (b ∷ t) ≡ take_through 10 (b ∷ t) ∷ ended_lines (drop_through 10 (b ∷ t))
@@ -28,12 +30,18 @@ ended_first b (c ∷ t) =
     ]
 
 -- a line spells what its digits spell
-spells : (line digits image : List ℕ) → IsTrimAscii line digits → bytes_of_hex digits ≡ Some image → line_image line ≡ image
-spells line digits image is read =
-    ap (λ ds. unwrap_or (bytes_of_hex ds) []) (sym (trim_ascii_is line digits (drop (prefix_len is_ascii_whitespace line) line) refl is)) ∙ ap (λ o. unwrap_or o []) read
+spells : (line digits : List ℕ) → IsTrimAscii line digits → line_image line ≡ unwrap_or (bytes_of_hex digits) []
+spells line digits is = ap (λ ds. unwrap_or (bytes_of_hex ds) []) (sym (trim_ascii_is line digits (drop (prefix_len is_ascii_whitespace line) line) refl is))
 
-pub some_read : {V : Type 0} (items : V → List ℕ) (digits : List ℕ) (o : Option V) (image : V) → MatchOption o (bytes_of_hex digits ≡ None) (λ v. bytes_of_hex digits ≡ Some (items v)) → o ≡ Some image → bytes_of_hex digits ≡ Some (items image)
-some_read items digits o image read is = subst (λ o. MatchOption o (bytes_of_hex digits ≡ None) (λ v. bytes_of_hex digits ≡ Some (items v))) is read
+pub spelled : {V : Type 0} (items : V → List ℕ) (line digits : List ℕ) (o : Option V) (image : V) → IsTrimAscii line digits → MatchOption o (bytes_of_hex digits ≡ None) (λ v. bytes_of_hex digits ≡ Some (items v)) → o ≡ Some image → items image ≡ line_image line
+spelled items line digits o image trim read is =
+    let some : bytes_of_hex digits ≡ Some (items image) = subst (λ o. MatchOption o (bytes_of_hex digits ≡ None) (λ v. bytes_of_hex digits ≡ Some (items v))) is read in
+    sym (spells line digits trim ∙ ap (λ o. unwrap_or o []) some)
+
+pub nothing_spelled : {V : Type 0} (items : V → List ℕ) (line digits image : List ℕ) (o : Option V) → IsTrimAscii line digits → MatchOption o (bytes_of_hex digits ≡ None) (λ v. bytes_of_hex digits ≡ Some (items v)) → o ≡ None → image ≡ [] → image ≡ line_image line
+nothing_spelled items line digits image o trim read is empty =
+    let none : bytes_of_hex digits ≡ None = subst (λ o. MatchOption o (bytes_of_hex digits ≡ None) (λ v. bytes_of_hex digits ≡ Some (items v))) is read in
+    empty ∙ sym (spells line digits trim ∙ ap (λ o. unwrap_or o []) none)
 
 -- the images after a line, if some of the file is left
 first_behind : (line : ℕ) (b : ℕ) (t image : List ℕ) → line_image (take_through 10 (b ∷ t)) ≡ image → images_behind line (b ∷ t) ≡ image ∷ line_images (drop_through 10 (b ∷ t))
@@ -50,7 +58,7 @@ behind_some line text some = ap (λ e. cond e (or_none (line_images text)) (line
 
 -- an open file at its end is closed
 pub at_end : (hex : Bool) (line : ℕ) (known : Option (List ℕ)) (texts : Option (List (List ℕ))) → hex ≡ true → eqb line 0 ≡ false → IsAtEnd known →
-    IfSome (images_left hex (Some known) line texts) (λ images. images_left hex None line texts ≡ Some images)
+    IfSome (parts_left hex (Some known) line texts) (λ images. parts_left hex None line texts ≡ Some images)
 at_end true line None texts is some ends = tt
 at_end true line (Some text) None is some ends = tt
 at_end true line (Some text) (Some texts) is some ends =
@@ -60,29 +68,76 @@ at_end false line known texts is some ends = absurd (cc)
 -- the next line of an open file
 next_known : (line line2 b : ℕ) (t image : List ℕ) (known : Option (List ℕ)) (texts : List (List ℕ)) {V : Type 0} (items : V → List ℕ) (v : V) → image ≡ items v →
     line_image (take_through 10 (b ∷ t)) ≡ image → known ≡ Some (drop_through 10 (b ∷ t)) → eqb line2 0 ≡ false →
-    GivesNext (λ w. Some (items w)) (images_left true (Some (Some (b ∷ t))) line (Some texts)) (images_left true (Some known) line2 (Some texts)) (Some v)
+    GivesNext (λ w. Some (items w)) (parts_left true (Some (Some (b ∷ t))) line (Some texts)) (parts_left true (Some known) line2 (Some texts)) (Some v)
 next_known line line2 b t image known texts items v same is left some = record {
   text = image;
   texts_left = line_images (drop_through 10 (b ∷ t)) ++ images_in_lines texts;
   parted = ap (λ images. images ++ images_in_lines texts) (first_behind line b t image is);
   has = ap Some (sym same);
-  leaves = ap (λ k. images_left true (Some k) line2 (Some texts)) left ∙ ap (λ images. Some (images ++ images_in_lines texts)) (behind_some line2 (drop_through 10 (b ∷ t)) some);
+  leaves = ap (λ k. parts_left true (Some k) line2 (Some texts)) left ∙ ap (λ images. Some (images ++ images_in_lines texts)) (behind_some line2 (drop_through 10 (b ∷ t)) some);
 }
 
-pub next_line : (hex : Bool) (line line2 count : ℕ) (known known2 : Option (List ℕ)) (texts : Option (List (List ℕ))) (old new whole digits : List ℕ) {V : Type 0} (items : V → List ℕ) (v : V) → hex ≡ true →
+pub next_line : (hex : Bool) (line line2 count : ℕ) (known known2 : Option (List ℕ)) (texts : Option (List (List ℕ))) (old new whole : List ℕ) {V : Type 0} (items : V → List ℕ) (v : V) → hex ≡ true →
     old ≡ [] → IfSome known (λ xs. new ≡ old ++ take_through 10 xs) → DropsThrough known known2 10 → length new ≡ length old + count → eqb count 0 ≡ false →
-    whole ≡ new → IsTrimAscii whole digits → bytes_of_hex digits ≡ Some (items v) → eqb line2 0 ≡ false →
-    GivesNext (λ w. Some (items w)) (images_left hex (Some known) line texts) (images_left hex (Some known2) line2 texts) (Some v)
-next_line false line line2 count known known2 texts old new whole digits items v is none read left counted some whole_is trim spelled more = absurd (cc)
-next_line true line line2 count None known2 texts old new whole digits items v is none read left counted some whole_is trim spelled more = tt
-next_line true line line2 count (Some text) known2 None old new whole digits items v is none read left counted some whole_is trim spelled more = tt
-next_line true line line2 count (Some []) known2 (Some texts) old new whole digits items v is none read left counted some whole_is trim spelled more =
+    whole ≡ new → items v ≡ line_image whole → eqb line2 0 ≡ false →
+    GivesNext (λ w. Some (items w)) (parts_left hex (Some known) line texts) (parts_left hex (Some known2) line2 texts) (Some v)
+next_line false line line2 count known known2 texts old new whole items v is none read left counted some whole_is spelled more = absurd (cc)
+next_line true line line2 count None known2 texts old new whole items v is none read left counted some whole_is spelled more = tt
+next_line true line line2 count (Some text) known2 None old new whole items v is none read left counted some whole_is spelled more = tt
+next_line true line line2 count (Some []) known2 (Some texts) old new whole items v is none read left counted some whole_is spelled more =
     let zero : count ≡ 0 = omega (arith, counted, ap length (read ∙ append-nil old)) in
     let e : eqb 0 0 ≡ false = subst (λ n. eqb n 0 ≡ false) zero some in
     absurd (true≢false e)
-next_line true line line2 count (Some (b ∷ t)) known2 (Some texts) old new whole digits items v is none read left counted some whole_is trim spelled more =
+next_line true line line2 count (Some (b ∷ t)) known2 (Some texts) old new whole items v is none read left counted some whole_is spelled more =
     let line_is : whole ≡ take_through 10 (b ∷ t) = whole_is ∙ read ∙ ap (λ o. o ++ take_through 10 (b ∷ t)) none in
-    next_known line line2 b t (items v) known2 texts items v refl (ap line_image (sym line_is) ∙ spells whole digits (items v) trim spelled) left more
+    next_known line line2 b t (items v) known2 texts items v refl (ap line_image (sym line_is) ∙ sym spelled) left more
+
+-- a file without a line has no bytes in place of an image
+pub no_line : (hex : Bool) (line : ℕ) (known : Option (List ℕ)) (texts : Option (List (List ℕ))) {V : Type 0} (items : V → List ℕ) (v : V) → hex ≡ true → line ≡ 0 → IsAtEnd known → items v ≡ [] →
+    GivesNext (λ w. Some (items w)) (parts_left hex (Some known) line texts) (parts_left hex None line texts) (Some v)
+no_line false line known texts items v is first ends empty = absurd (cc)
+no_line true line None texts items v is first ends empty = tt
+no_line true line (Some text) None items v is first ends empty = tt
+no_line true line (Some text) (Some texts) items v is first ends empty = record {
+  text = [];
+  texts_left = images_in_lines texts;
+  parted = ap (λ images. images ++ images_in_lines texts) (ap (images_behind line) ends ∙ ap (λ n. images_behind n []) first);
+  has = ap Some empty;
+  leaves = refl;
+}
+
+-- ---- images with nothing behind them
+
+some_same : (x y : List ℕ) → Some x ≡ Some y → x ≡ y
+some_same x y is = ap (λ o. unwrap_or o []) is
+
+alone_by : (size : Option ℕ) (bytes : List ℕ) → option_map_or (λ n. nat_lt n (length bytes)) size false ≡ false → IfSome size (λ n. length bytes ≤ n)
+alone_by None bytes within = tt
+alone_by (Some n) bytes within = grind (arith, nat_tests)
+
+-- the next image is that of the next part
+pub next_mapped : (f : List ℕ → List ℕ) (old new : Option (List (List ℕ))) {V : Type 0} (items : V → List ℕ) (v w : V) → GivesNext (λ u. Some (items u)) old new (Some v) → items w ≡ f (items v) →
+    GivesNext (λ u. Some (items u)) (option_map (map f) old) (option_map (map f) new) (Some w)
+next_mapped f None new items v w gives is = tt
+next_mapped f (Some parts) new items v w gives is = record {
+  text = f gives.text;
+  texts_left = map f gives.texts_left;
+  parted = ap (map f) gives.parted;
+  has = ap Some (is ∙ ap f (some_same (items v) gives.text gives.has));
+  leaves = ap (option_map (map f)) gives.leaves;
+}
+
+pub none_mapped : (f : List ℕ → List ℕ) (old new : Option (List (List ℕ))) {V : Type 0} (remaining : V → Option (List ℕ)) → GivesNext remaining old new None → GivesNext remaining (option_map (map f) old) (option_map (map f) new) None
+none_mapped f None new remaining gives = tt
+none_mapped f (Some parts) new remaining gives = ap (map f) gives
+
+-- no bytes have nothing behind them
+pub alone_empty : (sums : Bool) → IsAlone sums []
+alone_empty true = tt
+alone_empty false = tt
+
+pub alone_or_none : (sums : Bool) (bytes : List ℕ) → is_followed sums bytes ≡ false → IsAlone sums bytes
+alone_or_none sums bytes = alone_by (length_of sums bytes) bytes
 
 -- ---- files opened one after another
 
@@ -117,30 +172,30 @@ reader_known remaining reader source text inner empty capacity has =
 
 -- the first line of the next file is the first image that is left
 pub opened : (initial now : Option (List (List ℕ))) (hex : Bool) (line : ℕ) {R A : Type 0} (remaining : R → Option (List ℕ)) (closed : Option (BufReader R A)) (texts left : Option (List (List ℕ))) (source : R) (reader : BufReader R A) →
-    IfSome initial (λ images. now ≡ Some images) → hex ≡ true → IfSome now (λ images. images_left hex (open_text remaining closed) line texts ≡ Some images) × (closed ≡ None) → GivesNext remaining texts left (Some source) →
+    IfSome initial (λ images. now ≡ Some images) → hex ≡ true → IfSome now (λ images. parts_left hex (open_text remaining closed) line texts ≡ Some images) × (closed ≡ None) → GivesNext remaining texts left (Some source) →
     reader_inner reader ≡ source → reader_buffer reader ≡ [] → reader_capacity reader ≡ 8192 →
-    IfSome initial (λ images. images_left hex (open_text remaining (Some reader)) 0 left ≡ Some images)
+    IfSome initial (λ images. parts_left hex (open_text remaining (Some reader)) 0 left ≡ Some images)
 opened None now hex line remaining closed texts left source reader same is closes next inner empty capacity = tt
 opened (Some images) now false line remaining closed texts left source reader same is closes next inner empty capacity = absurd (cc)
 opened (Some images) now true line remaining (Some old) texts left source reader same is closes next inner empty capacity = let e = closes.1 in absurd (cc)
 opened (Some images) now true line remaining None None left source reader same is closes next inner empty capacity =
-    let e : None ≡ Some images = subst (λ (n : Option (List (List ℕ))). IfSome n (λ i. images_left true None line None ≡ Some i)) same closes.0 in absurd (cc)
+    let e : None ≡ Some images = subst (λ (n : Option (List (List ℕ))). IfSome n (λ i. parts_left true None line None ≡ Some i)) same closes.0 in absurd (cc)
 opened (Some images) now true line remaining None (Some texts) left source reader same is closes next inner empty capacity =
-    let e : Some (images_in_lines texts) ≡ Some images = subst (λ (n : Option (List (List ℕ))). IfSome n (λ i. images_left true None line (Some texts) ≡ Some i)) same closes.0 in
-    ap (λ k. images_left true (Some k) 0 left) (reader_known remaining reader source next.text inner empty capacity next.has)
-    ∙ ap (λ l. images_left true (Some (Some next.text)) 0 l) next.leaves
+    let e : Some (images_in_lines texts) ≡ Some images = subst (λ (n : Option (List (List ℕ))). IfSome n (λ i. parts_left true None line (Some texts) ≡ Some i)) same closes.0 in
+    ap (λ k. parts_left true (Some k) 0 left) (reader_known remaining reader source next.text inner empty capacity next.has)
+    ∙ ap (λ l. parts_left true (Some (Some next.text)) 0 l) next.leaves
     ∙ ap (λ ts. Some (images_in_lines ts)) (sym next.parted)
     ∙ e
 
 -- if no file is left, no image is left
 pub at_last : (initial now new : Option (List (List ℕ))) (hex : Bool) (line : ℕ) {R A V : Type 0} (remaining : R → Option (List ℕ)) (closed : Option (BufReader R A)) (texts left : Option (List (List ℕ))) (shown : V → Option (List ℕ)) →
-    IfSome initial (λ images. now ≡ Some images) → hex ≡ true → IfSome now (λ images. images_left hex (open_text remaining closed) line texts ≡ Some images) × (closed ≡ None) → GivesNext remaining texts left None →
+    IfSome initial (λ images. now ≡ Some images) → hex ≡ true → IfSome now (λ images. parts_left hex (open_text remaining closed) line texts ≡ Some images) × (closed ≡ None) → GivesNext remaining texts left None →
     GivesNext shown initial new None
 at_last None now new hex line remaining closed texts left shown same is closes next = tt
 at_last (Some images) now new false line remaining closed texts left shown same is closes next = absurd (cc)
 at_last (Some images) now new true line remaining (Some old) texts left shown same is closes next = let e = closes.1 in absurd (cc)
 at_last (Some images) now new true line remaining None None left shown same is closes next =
-    let e : None ≡ Some images = subst (λ (n : Option (List (List ℕ))). IfSome n (λ i. images_left true None line None ≡ Some i)) same closes.0 in absurd (cc)
+    let e : None ≡ Some images = subst (λ (n : Option (List (List ℕ))). IfSome n (λ i. parts_left true None line None ≡ Some i)) same closes.0 in absurd (cc)
 at_last (Some images) now new true line remaining None (Some texts) left shown same is closes next =
-    let e : Some (images_in_lines texts) ≡ Some images = subst (λ (n : Option (List (List ℕ))). IfSome n (λ i. images_left true None line (Some texts) ≡ Some i)) same closes.0 in
+    let e : Some (images_in_lines texts) ≡ Some images = subst (λ (n : Option (List (List ℕ))). IfSome n (λ i. parts_left true None line (Some texts) ≡ Some i)) same closes.0 in
     ap (λ o. unwrap_or o []) (sym e) ∙ ap images_in_lines next

@@ -1,5 +1,5 @@
 -- When each failure occurs.
-use Rattle.std.specs.Prelude.{ℕ, ◌≡◌, ◌≢◌, ◌⊎◌, ◌==◌, ◌&&◌, ◌+◌, ◌-◌, ◌^◌, min, ⊤, Bool, true, false, List, [], ◌∷◌, length, Option, Some, None, IfSome, String, codes, string_bytes, if◌then◌else◌}
+use Rattle.std.specs.Prelude.{ℕ, ◌≡◌, ◌≢◌, ◌⊎◌, ◌==◌, ◌&&◌, ⊤, Bool, true, false, List, [], ◌∷◌, length, Option, Some, None, IfSome, is_none, unwrap_or, String, codes, string_bytes, if◌then◌else◌}
 use Rattle.std.specs.Option.{option_map}
 use Rattle.std.specs.Str.{bytes_eq}
 use Rattle.sketch_base.specs.declared.error.ErrorKind.TheVariants.{OutOfMemory, InvalidData, Policy}
@@ -8,6 +8,7 @@ use Rattle.lines.specs.Lines.{lines_of_all}
 use Rattle.lines.specs.declared.key.Hashing.{Hashing}
 use Rattle.lines.specs.declared.key.Key.{Key}
 use Rattle.line_sketches.specs.Refusals.{HasFault}
+use Rattle.line_sketches.specs.declared.header.Flaw.TheVariants.{Damaged}
 use Rattle.line_sketches.specs.declared.sketching.Unread.{Unread}
 use Rattle.line_sketches.specs.declared.sketching.Unread.TheVariants.{Refused, Failed}
 use Rattle.line_sums.specs.Amounts.{added_by}
@@ -21,12 +22,13 @@ use Rattle.distinct_arguments.specs.Arguments.{Action, prints, runs, fails}
 use Rattle.distinct_arguments.specs.Settings.{chosen_key, chosen_value}
 use Rattle.std.specs.declared.io.Error.{Error}
 use Rattle.distinct_arguments.specs.Settings.{OptionValues, SeedValue, seed_number, seed_file}
-use Rattle.distinct_inputs.specs.Images.{images_of}
+use Rattle.distinct_inputs.specs.Images.{images_of, HasNoSketch}
 use Rattle.distinct_inputs.specs.declared.images.Images.{Images}
 use Rattle.distinct_arguments.specs.declared.commands.Command.{Command}
 use Rattle.distinct_arguments.specs.declared.commands.Command.TheVariants.{Count, Sketch, Combine, Show, Eval, Visits, Sum}
 use Rattle.distinct_arguments.specs.declared.commands.Operator.{Operator}
-use Rattle.distinct_arguments.specs.declared.commands.Operator.TheVariants.{Minus}
+use Rattle.distinct_arguments.specs.declared.commands.Operator.TheVariants.{Union, Meet, Minus}
+use Rattle.grouped_lines.specs.United.{HasFirstFlawed}
 use Rattle.grouped_lines.specs.declared.united.LineFlaw.{LineFlaw}
 use Rattle.grouped_lines.specs.declared.united.LineFlaw.TheVariants.{NoTab as NoTabAtAll, NoHex as NoDigits, NoImage}
 use Rattle.distinct_inputs.specs.declared.failure.Failure.{Failure}
@@ -51,28 +53,26 @@ abbrev pub NotesNext : {A : Type 0} → (current : List ℕ) → (left : List (S
 NotesNext current [] new_current new_left = (new_current ≡ current) × (new_left ≡ [])
 NotesNext current (name ∷ names) new_current new_left = (new_current ≡ string_bytes name) × (new_left ≡ names)
 
--- the number of a line after this many, as far as it is counted
-abbrev pub next_number : (line : ℕ) → ℕ
-next_number line = min (line + 1) (2 ^ 64 - 1)
-
 -- memory was refused, or the file of this name can't be read, for this reason
 abbrev pub ReportsUnreadable : (name : List ℕ) → Error → Failure → Type 0
 ReportsUnreadable name error Memory = ⊤
 ReportsUnreadable name error (Unreadable file reason) = (string_bytes file ≡ name) × (reason ≡ error)
 ReportsUnreadable name error _ = ⊥
 
--- Memory was refused; or the file that was opened last has no line though each line should be an image; or it, or its line that
--- was read last, has this flaw; or that line isn't hexadecimal.
-abbrev pub ReportsNoSketch : {S R : Type 0} → Images S R → Failure → Type 0
-ReportsNoSketch images Memory = ⊤
-ReportsNoSketch images (NoSketch file number flaw) =
-    (string_bytes file ≡ called images.inputs.current.now) × (number ≡ images.line) × (images.flaw ≡ Some flaw) × (images.sums ≡ false) × ((images.hex && images.line == 0) ≡ false)
-ReportsNoSketch images (NoSums file number flaw) =
-    (string_bytes file ≡ called images.inputs.current.now) × (number ≡ images.line) × (images.flaw ≡ Some flaw) × (images.sums ≡ true) × ((images.hex && images.line == 0) ≡ false)
-ReportsNoSketch images (NoHex file number) =
-    (string_bytes file ≡ called images.inputs.current.now) × (number ≡ images.line) × (images.flaw ≡ None) × ((images.hex && images.line == 0) ≡ false)
-ReportsNoSketch images (NoLine file) = (string_bytes file ≡ called images.inputs.current.now) × ((images.hex && images.line == 0) ≡ true)
-ReportsNoSketch images _ = ⊥
+-- Memory was refused; or the file that was opened last has no line though each line should be an image; or its line that was read last
+-- isn't hexadecimal; or this line, or the file, has this flaw.
+abbrev pub ReportsNoSketch : {S R : Type 0} → (sums hex : Bool) → Images S R → Failure → Type 0
+ReportsNoSketch sums hex images Memory = ⊤
+ReportsNoSketch sums hex images (NoSketch file number flaw) =
+    (string_bytes file ≡ called images.inputs.current.now) × (number ≡ images.line) × (sums ≡ false) × (flaw ≡ unwrap_or images.flaw Damaged)
+    × ((hex && images.line == 0) ≡ false) × ((hex && is_none images.flaw) ≡ false)
+ReportsNoSketch sums hex images (NoSums file number flaw) =
+    (string_bytes file ≡ called images.inputs.current.now) × (number ≡ images.line) × (sums ≡ true) × (flaw ≡ unwrap_or images.flaw Damaged)
+    × ((hex && images.line == 0) ≡ false) × ((hex && is_none images.flaw) ≡ false)
+ReportsNoSketch sums hex images (NoHex file number) =
+    (string_bytes file ≡ called images.inputs.current.now) × (number ≡ images.line) × ((hex && images.line == 0) ≡ false) × ((hex && is_none images.flaw) ≡ true)
+ReportsNoSketch sums hex images (NoLine file) = (string_bytes file ≡ called images.inputs.current.now) × ((hex && images.line == 0) ≡ true)
+ReportsNoSketch sums hex images _ = ⊥
 
 -- memory was refused, or the sum of a key is 2^64 or more with the file that was opened last, or its line that was read last
 abbrev pub ReportsPastUnion : {S R : Type 0} → Images S R → Failure → Type 0
@@ -112,14 +112,25 @@ IsOfReading Memory = ⊤
 IsOfReading (Unreadable name error) = ⊤
 IsOfReading _ = ⊥
 
--- .. or it is not an image
-abbrev pub IsOfImages : Failure → Type 0
-IsOfImages (NoSketch name line flaw) = ⊤
-IsOfImages (NoSums name line flaw) = ⊤
-IsOfImages (NoHex name line) = ⊤
-IsOfImages (NoTab name line) = ⊤
-IsOfImages (NoLine name) = ⊤
-IsOfImages failure = IsOfReading failure
+-- .. or some of these images, of sums or of theta sketches, is none of this seed, if they are known; only for lines with images is a line
+-- reported to be not hexadecimal, or missing
+abbrev pub IsOfImages : (sums hex : Bool) → (seed : ℕ) → (images : Option (List (List ℕ))) → Failure → Type 0
+IsOfImages sums hex seed images (NoSketch name line flaw) = (sums ≡ false) × HasNoSketch sums seed images
+IsOfImages sums hex seed images (NoSums name line flaw) = (sums ≡ true) × HasNoSketch sums seed images
+IsOfImages sums hex seed images (NoHex name line) = (hex ≡ true) × HasNoSketch sums seed images
+IsOfImages sums hex seed images (NoLine name) = (hex ≡ true) × HasNoSketch sums seed images
+IsOfImages sums hex seed images failure = IsOfReading failure
+
+-- the images in files, if their texts are known: of sums or of theta sketches
+abbrev pub images_in : (sums : Bool) → OptionValues → (texts : Option (List (List ℕ))) → Option (List (List ℕ))
+images_in sums options texts = option_map (images_of sums options.hex) texts
+
+-- .. or the first line of a text with a flaw has this one, and this number: groups of images are not united
+abbrev pub IsOfGroups : (seed : ℕ) → (texts : Option (List (List ℕ))) → Failure → Type 0
+IsOfGroups seed texts (NoTab name line) = IfSome texts (HasFirstFlawed seed line NoTabAtAll)
+IsOfGroups seed texts (NoHex name line) = IfSome texts (HasFirstFlawed seed line NoDigits)
+IsOfGroups seed texts (NoSketch name line flaw) = IfSome texts (HasFirstFlawed seed line (NoImage flaw))
+IsOfGroups seed texts failure = IsOfReading failure
 
 -- some line of texts has no number to add, if the texts are known
 abbrev pub HasNoNumberIn : Amount → (texts : Option (List (List ℕ))) → Type 0
@@ -168,7 +179,7 @@ IsOfWriting name _ = ⊥
 -- there are not two images: each file is one, and this count of them is not two, or the images in the texts are not
 -- two, if these are known
 abbrev pub AreNotTwo : (hex : Bool) → (count : ℕ) → (texts : Option (List (List ℕ))) → Type 0
-AreNotTwo hex count texts = ((hex ≡ false) × (count ≢ 2)) ⊎ IfSome texts (λ all. length (images_of hex all) ≢ 2)
+AreNotTwo hex count texts = ((hex ≡ false) × (count ≢ 2)) ⊎ IfSome texts (λ all. length (images_of false hex all) ≢ 2)
 
 -- another number of images was found than is expected
 abbrev pub IsOfCount : (expected : Option ℕ) → (found : ℕ) → Failure → Type 0
@@ -176,32 +187,51 @@ IsOfCount expected found (WrongCount counted number) = (counted ≡ found) × (e
 IsOfCount expected found _ = ⊥
 
 -- images aren't united: memory, a file or its contents is at fault, or they are not as many as are expected
-abbrev pub IsOfUnion : (expected : Option ℕ) → Failure → Type 0
-IsOfUnion expected (WrongCount counted number) = (expected ≡ Some number) × (number ≢ counted)
-IsOfUnion expected failure = IsOfImages failure
+abbrev pub IsOfUnion : (expected : Option ℕ) → (sums hex : Bool) → (seed : ℕ) → (images : Option (List (List ℕ))) → Failure → Type 0
+IsOfUnion expected sums hex seed images (WrongCount counted number) = (expected ≡ Some number) × (number ≢ counted)
+IsOfUnion expected sums hex seed images failure = IsOfImages sums hex seed images failure
 
 -- images of sums, or of theta sketches, can't be united
-abbrev pub IsOfEitherUnion : OptionValues → Failure → Type 0
-IsOfEitherUnion options (PastUnion name line) = options.sums ≡ true
-IsOfEitherUnion options failure = IsOfUnion options.expected failure
+abbrev pub IsOfEitherUnion : OptionValues → (seed : ℕ) → (images : Option (List (List ℕ))) → Failure → Type 0
+IsOfEitherUnion options seed images (PastUnion name line) = options.sums ≡ true
+IsOfEitherUnion options seed images failure = IsOfUnion options.expected options.sums options.hex seed images failure
 
 -- `visits` fails: lines, or images of sums, are at fault
 abbrev pub IsOfVisits : OptionValues → (seed : ℕ) → (texts : Option (List (List ℕ))) → Failure → Type 0
 IsOfVisits options seed texts (PastGreatest name line) = (options.sums ≡ false) × HasGreatSum options seed One texts
-IsOfVisits options seed texts failure = IsOfEitherUnion options failure
+IsOfVisits options seed texts failure = IsOfEitherUnion options seed (images_in options.sums options texts) failure
 
--- a union of images, of sums or of theta sketches, is refused for memory, for an image, or, if they are of sums, for a
--- sum of 2^64 or more
-abbrev pub IsOfUniting : (sums : Bool) → Unread → Type 0
-IsOfUniting sums (Failed error) = ⊤
-IsOfUniting sums (Refused error) = (error ≡ OutOfMemory) ⊎ (((error ≡ Policy) × (sums ≡ true)) ⊎ (error ≡ InvalidData))
+-- a union of images, of sums or of theta sketches, is refused for memory, for an image that is none, or, if they are
+-- of sums, for a sum of 2^64 or more
+abbrev pub IsOfUniting : (sums : Bool) → (seed : ℕ) → (images : Option (List (List ℕ))) → Unread → Type 0
+IsOfUniting sums seed images (Failed error) = ⊤
+IsOfUniting sums seed images (Refused error) =
+    (error ≡ OutOfMemory) ⊎ (((error ≡ Policy) × (sums ≡ true)) ⊎ ((error ≡ InvalidData) × HasNoSketch sums seed images))
+
+-- images are united by the groups of their lines
+abbrev pub unites_groups : Operator → OptionValues → Bool
+unites_groups Union options = options.groups
+unites_groups Meet options = false
+unites_groups Minus options = false
+
+-- images are of sums
+abbrev pub unites_sums : Operator → OptionValues → Bool
+unites_sums Union options = options.sums
+unites_sums Meet options = false
+unites_sums Minus options = false
 
 -- images can't be combined: memory, a file or its contents is at fault, there are not as many as are expected, or
 -- `minus` doesn't have two
-abbrev pub IsOfCombining : Operator → OptionValues → (count : ℕ) → (texts : Option (List (List ℕ))) → Failure → Type 0
-IsOfCombining operator options count texts NotTwo = (operator ≡ Minus) × AreNotTwo options.hex count texts
-IsOfCombining operator options count texts (PastUnion name line) = options.sums ≡ true
-IsOfCombining operator options count texts failure = IsOfUnion options.expected failure
+abbrev pub IsOfCombining : Operator → OptionValues → (seed count : ℕ) → (texts : Option (List (List ℕ))) → Failure → Type 0
+IsOfCombining operator options seed count texts NotTwo = (operator ≡ Minus) × AreNotTwo options.hex count texts
+IsOfCombining operator options seed count texts (PastUnion name line) = options.sums ≡ true
+IsOfCombining operator options seed count texts failure =
+    IsOfUnion options.expected (unites_sums operator options) options.hex seed (images_in (unites_sums operator options) options texts) failure
+
+-- .. or groups of them can't be united
+abbrev pub IsOfOperator : (by_groups : Bool) → Operator → OptionValues → (seed count : ℕ) → (texts : Option (List (List ℕ))) → Failure → Type 0
+IsOfOperator true operator options seed count texts failure = IsOfGroups seed texts failure
+IsOfOperator false operator options seed count texts failure = IsOfCombining operator options seed count texts failure
 
 -- a text is not read as an expression: memory was refused, it spells none, or it has a name that can't be one
 abbrev pub IsOfExpression : (text : List ℕ) → Failure → Type 0
@@ -217,19 +247,19 @@ IsOfResult (PastResult text) = ⊤
 IsOfResult _ = ⊥
 
 -- .. or there are not as many sketches as names, or a file is at fault
-abbrev pub IsOfOperands : Failure → Type 0
-IsOfOperands (NotOneEach found names) = found ≢ names
-IsOfOperands (PastResult text) = ⊤
-IsOfOperands failure = IsOfImages failure
+abbrev pub IsOfOperands : (sums hex : Bool) → (seed : ℕ) → (images : Option (List (List ℕ))) → Failure → Type 0
+IsOfOperands sums hex seed images (NotOneEach found names) = found ≢ names
+IsOfOperands sums hex seed images (PastResult text) = ⊤
+IsOfOperands sums hex seed images failure = IsOfImages sums hex seed images failure
 
 -- an evaluation fails: there is not one expression, it is not read, there are not as many sketches as names, or a file is at fault
-abbrev pub IsOfEvaluation : (count : ℕ) → Failure → Type 0
-IsOfEvaluation count (Arguments NotOneExpression) = count ≢ 1
-IsOfEvaluation count (NoExpression text fault) = ⊤
-IsOfEvaluation count (NoName text number) = ⊤
-IsOfEvaluation count (NotOneEach found names) = found ≢ names
-IsOfEvaluation count (PastResult text) = ⊤
-IsOfEvaluation count failure = IsOfImages failure
+abbrev pub IsOfEvaluation : (count : ℕ) → (sums hex : Bool) → (seed : ℕ) → (images : Option (List (List ℕ))) → Failure → Type 0
+IsOfEvaluation count sums hex seed images (Arguments NotOneExpression) = count ≢ 1
+IsOfEvaluation count sums hex seed images (NoExpression text fault) = ⊤
+IsOfEvaluation count sums hex seed images (NoName text number) = ⊤
+IsOfEvaluation count sums hex seed images (NotOneEach found names) = found ≢ names
+IsOfEvaluation count sums hex seed images (PastResult text) = ⊤
+IsOfEvaluation count sums hex seed images failure = IsOfImages sums hex seed images failure
 
 -- no image is named, if this may be, or another failure
 abbrev pub OrUnnamed : (IsUnnamed : Type 0) → (IsOther : Failure → Type 0) → Failure → Type 0
@@ -242,9 +272,10 @@ OrUnnamed IsUnnamed IsOther failure = IsOther failure
 abbrev pub IsOfCommand : Command → OptionValues → (seed count : ℕ) → (texts : Option (List (List ℕ))) → Failure → Type 0
 IsOfCommand Count options seed count texts failure = IsOfReading failure
 IsOfCommand Sketch options seed count texts failure = IsOfSketch options seed texts failure
-IsOfCommand (Combine operator) options seed count texts failure = OrUnnamed (count ≡ 0) (IsOfCombining operator options count texts) failure
-IsOfCommand Show options seed count texts failure = OrUnnamed (count ≡ 0) IsOfImages failure
-IsOfCommand Eval options seed count texts failure = IsOfEvaluation count failure
+IsOfCommand (Combine operator) options seed count texts failure =
+    OrUnnamed (count ≡ 0) (IsOfOperator (unites_groups operator options) operator options seed count texts) failure
+IsOfCommand Show options seed count texts failure = OrUnnamed (count ≡ 0) (IsOfImages false options.hex seed (images_in false options texts)) failure
+IsOfCommand Eval options seed count texts failure = IsOfEvaluation count options.sums options.hex seed (images_in options.sums options texts) failure
 IsOfCommand Visits options seed count texts failure = OrUnnamed ((count ≡ 0) × (options.sums ≡ true)) (IsOfVisits options seed texts) failure
 IsOfCommand Sum options seed count texts failure = IsOfTotal options seed texts failure
 

@@ -1,6 +1,6 @@
 -- The images in files, one after another.
-use Rattle.std.specs.Prelude.{ℕ, ◌≡◌, ◌≤◌, ◌==◌, ◌-◌, ⊤, Bool, List, [], ◌∷◌, ◌++◌, length, map, take, drop, unwrap_or, Option, Some, None, IfSome, if◌then◌else◌}
-use Rattle.std.specs.Option.{option_map}
+use Rattle.std.specs.Prelude.{ℕ, ◌≡◌, ◌≤◌, ◌==◌, ◌+◌, ◌-◌, ◌^◌, min, nat_lt, ⊤, Bool, true, false, List, [], ◌∷◌, ◌++◌, length, map, take, drop, unwrap_or, Option, Some, None, IfSome, if◌then◌else◌}
+use Rattle.std.specs.Option.{option_map, option_map_or}
 use Rattle.std.specs.Io.Buffered.{reader_remaining}
 use Rattle.std.specs.declared.io.buffered.BufReader.{BufReader}
 use Rattle.std.specs.List.{onto_first, prefix_len, suffix_len}
@@ -8,12 +8,26 @@ use Rattle.std.specs.Char.{is_ascii_whitespace}
 use Rattle.sketch_base.specs.Seed.{seed_hash}
 use Rattle.line_sketches.specs.Hex.{hex_of, bytes_of_hex}
 use Rattle.line_sketches.specs.Header.{image_length, flaw_of}
+use Rattle.line_sketches.specs.Refusals.{IsNoImage, HasFault}
 use Rattle.line_sketches.specs.Sources.{GivesNext}
 use Rattle.line_sketches.specs.SumsHeader.{sums_length, sums_flaw_of}
+use Rattle.line_sums.specs.Unions.{AreNoSums}
 use Rattle.line_sketches.specs.declared.header.Flaw.{Flaw}
 use Rattle.distinct_inputs.specs.declared.images.Images.{Images}
 use Rattle.core_compact.specs.CompactState.{Compact}
 use Rattle.theta_sketches.specs.Image.{Reads}
+
+-- the length of the image that bytes begin: of a sketch of sums, or of a theta sketch
+abbrev pub length_of : (sums : Bool) → List ℕ → Option ℕ
+length_of sums bytes = if sums then sums_length bytes else image_length bytes
+
+-- whether something is behind the image that bytes begin, if they begin one
+abbrev pub is_followed : (sums : Bool) → List ℕ → Bool
+is_followed sums bytes = option_map_or (λ size. nat_lt size (length bytes)) (length_of sums bytes) false
+
+-- The bytes of an image with nothing behind it. Bytes with something behind an image give no bytes, which can't be read as a sketch.
+abbrev pub alone : (sums : Bool) → List ℕ → List ℕ
+alone sums bytes = if is_followed sums bytes then [] else bytes
 
 -- an image as it is written: its bytes, or a line of their hexadecimal digits
 abbrev pub in_form : (hex : Bool) → (image : List ℕ) → List ℕ
@@ -51,9 +65,13 @@ abbrev pub images_in_lines : (texts : List (List ℕ)) → List (List ℕ)
 images_in_lines [] = []
 images_in_lines (text ∷ texts) = or_none (line_images text) ++ images_in_lines texts
 
--- the images of files: a file is one, or has one in each line
-abbrev pub images_of : (hex : Bool) → (texts : List (List ℕ)) → List (List ℕ)
-images_of hex texts = if hex then images_in_lines texts else texts
+-- what files have in place of images: a file its bytes, or each of its lines the bytes that it spells
+abbrev pub parts_of : (hex : Bool) → (texts : List (List ℕ)) → List (List ℕ)
+parts_of hex texts = if hex then images_in_lines texts else texts
+
+-- the images of files, of sums or of theta sketches: a file is one, or has one in each line
+abbrev pub images_of : (sums hex : Bool) → (texts : List (List ℕ)) → List (List ℕ)
+images_of sums hex texts = map (alone sums) (parts_of hex texts)
 
 -- the images in the rest of a file after this many lines
 abbrev pub images_behind : (line : ℕ) → (text : List ℕ) → List (List ℕ)
@@ -75,13 +93,17 @@ before_texts (Some images) (Some texts) = Some (images ++ images_in_lines texts)
 before_texts (Some images) None = None
 before_texts None texts = None
 
--- the images that are left: those of the open file, if lines have images, and those of the texts that are left
-abbrev pub images_left : (hex : Bool) → (open_text : Option (Option (List ℕ))) → (line : ℕ) → Option (List (List ℕ)) → Option (List (List ℕ))
-images_left hex open_text line texts = if hex then before_texts (open_images line open_text) texts else texts
+-- what is left in place of images: in the open file, if lines have images, and in the texts that are left
+abbrev pub parts_left : (hex : Bool) → (open_text : Option (Option (List ℕ))) → (line : ℕ) → Option (List (List ℕ)) → Option (List (List ℕ))
+parts_left hex open_text line texts = if hex then before_texts (open_images line open_text) texts else texts
 
--- the images that are left, by the state of the reader of images
+-- .. by the state of the reader of images
+abbrev pub remaining_parts : {S R : Type 0} → (remaining : R → Option (List ℕ)) → (texts : S → Option (List (List ℕ))) → Images S R → Option (List (List ℕ))
+remaining_parts remaining texts images = parts_left images.hex (open_text remaining images.«open») images.line (texts images.inputs.sources)
+
+-- the images that are left
 abbrev pub remaining_images : {S R : Type 0} → (remaining : R → Option (List ℕ)) → (texts : S → Option (List (List ℕ))) → Images S R → Option (List (List ℕ))
-remaining_images remaining texts images = images_left images.hex (open_text remaining images.«open») images.line (texts images.inputs.sources)
+remaining_images remaining texts images = option_map (map (alone images.sums)) (remaining_parts remaining texts images)
 
 -- the next image is the first that was left, or the open file has none, and it is closed and the same images are left
 abbrev pub GivesOrCloses : {V R : Type 0} → (V → List ℕ) → (old new : Option (List (List ℕ))) → (open_file : Option R) → Option V → Type 0
@@ -102,17 +124,31 @@ ReadsNext seed None new next = ⊤
 ReadsNext seed (Some images) new None = images ≡ []
 ReadsNext seed (Some images) new (Some s) = ReadsFirst seed images s new
 
--- why bytes are not one image, the length of the image that bytes begin, and its number of hashes: of a sketch of sums,
--- or of a theta sketch
+-- why bytes are not one image: of a sketch of sums, or of a theta sketch
 abbrev pub image_flaw : (sums : Bool) → (h : ℕ) → List ℕ → Flaw
 image_flaw sums h bytes = if sums then sums_flaw_of h bytes else flaw_of h bytes
-
-abbrev pub length_of : (sums : Bool) → List ℕ → Option ℕ
-length_of sums bytes = if sums then sums_length bytes else image_length bytes
 
 -- nothing follows the image that bytes begin, if they begin one
 abbrev pub IsAlone : (sums : Bool) → List ℕ → Type 0
 IsAlone sums bytes = IfSome (length_of sums bytes) (λ n. length bytes ≤ n)
+
+-- bytes are no image of a sketch of this seed: of sums, or of a theta sketch
+abbrev pub IsNoSketch : (sums : Bool) → (seed : ℕ) → List ℕ → Type 0
+IsNoSketch true seed bytes = AreNoSums seed bytes
+IsNoSketch false seed bytes = IsNoImage seed bytes
+
+-- some of these is no image of a sketch of this seed, if they are known
+abbrev pub HasNoSketch : (sums : Bool) → (seed : ℕ) → (images : Option (List (List ℕ))) → Type 0
+HasNoSketch sums seed images = IfSome images (HasFault (IsNoSketch sums seed))
+
+-- the number of a line after this many, as far as it is counted
+abbrev pub next_number : (line : ℕ) → ℕ
+next_number line = min (line + 1) (2 ^ 64 - 1)
+
+-- a line that was read has the next number, or its file has no line and is closed
+abbrev pub CountsLine : {R : Type 0} → (open_file : Option R) → (old new : ℕ) → Type 0
+CountsLine None old new = (old ≡ 0) × (new ≡ 0)
+CountsLine (Some reader) old new = new ≡ next_number old
 
 -- the reader of images is where it was
 abbrev pub IsSameReader : {S R : Type 0} → (old new : Images S R) → Type 0

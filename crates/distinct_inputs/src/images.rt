@@ -1,12 +1,11 @@
 //! The images in files: a file is one image and nothing else, or each of its lines is one in hexadecimal, with blanks
 //! allowed around it.
-ghost use Rattle.std.specs.Prelude.{◌≡◌, ◌≢◌, true, false, Some, None, IfOk, IfSome, OnOk};
-ghost use Rattle.std.specs.IoError.{error_kind};
-ghost use Rattle.std.specs.declared.io.ErrorKind.TheVariants.{InvalidData};
+ghost use Rattle.std.specs.Prelude.{◌≡◌, ℕ, List, Option, true, false, Some, None, IfOk, IfSome, OnOk};
 ghost use Rattle.sketch_base.specs.Seed.{seed_hash};
 ghost use Rattle.line_sketches.specs.Sources.{GivesNext};
-ghost use Rattle.distinct_inputs.specs.Images.{remaining_images, image_flaw, length_of, IsAlone, GivesOrCloses, IsSameReader};
-ghost use Rattle.distinct_inputs.specs.Failures.{called, next_number, IsOfImages, NotesNext, ReportsUnreadable, ReportsNoSketch, ReportsPastUnion};
+ghost use Rattle.distinct_inputs.specs.Images.{remaining_images, remaining_parts, alone, image_flaw, is_followed, length_of, line_image};
+ghost use Rattle.distinct_inputs.specs.Images.{CountsLine, HasNoSketch, IsAlone, GivesOrCloses, IsSameReader};
+ghost use Rattle.distinct_inputs.specs.Failures.{called, IsOfImages, IsOfReading, NotesNext, ReportsUnreadable, ReportsNoSketch, ReportsPastUnion};
 
 use crate::failure::Failure;
 use crate::inputs::Inputs;
@@ -50,14 +49,26 @@ fn length_of(sums: bool, bytes: &[u8]) -> Option<u64>
     }
 }
 
-/// Refuses bytes that continue after an image, since a second image there would be ignored.
-fn check_alone(sums: bool, bytes: &[u8]) -> io::Result<()>
-    ensures { OnOk result (IsAlone sums bytes.now) }
+/// Whether something follows the image that bytes begin.
+fn is_followed(sums: bool, bytes: &[u8]) -> bool
+    ensures { result ≡ is_followed sums bytes.now }
 {
     match length_of(sums, bytes) {
-        Some(image) if image < bytes.len() as u64 => Err(io::Error::from(ErrorKind::InvalidData)),
-        _ => Ok(()),
+        Some(size) => size < bytes.len() as u64,
+        None => false,
     }
+}
+
+/// The bytes of an image with nothing behind it. If something is behind it, there are no bytes, which can't be read as a
+/// sketch, since a second image there would be ignored.
+fn alone(alloc: Global, sums: bool, bytes: Vec<u8>) -> Vec<u8>
+    ensures bytes { result.items ≡ alone sums bytes.items }
+    ensures alone { IsAlone sums result.items }
+{
+    if is_followed(sums, bytes.as_slice()) {
+        return Vec::new(alloc);
+    }
+    bytes
 }
 
 /// The images of files, one after another.
@@ -125,33 +136,36 @@ impl<'a, S: Sources> Images<'a, S> {
         self.inputs.name()
     }
 
-    /// The failure if the file can't be read, or isn't an image. An error of the kind `InvalidData` means the second:
-    /// no error of reading a file has it.
+    /// The failure if the file can't be read.
     pub fn unreadable(&self, error: io::Error) -> Failure
-        ensures data { error_kind error ≡ InvalidData → ReportsNoSketch self.now result }
-        ensures read { error_kind error ≢ InvalidData → ReportsUnreadable (called self.now.inputs.current.now) error result }
-        ensures of_images { IsOfImages result }
+        ensures read { ReportsUnreadable (called self.now.inputs.current.now) error result }
+        ensures of_reading { IsOfReading result }
     {
-        if error.kind() == ErrorKind::InvalidData {
-            return self.no_sketch();
-        }
         self.inputs.unreadable(self.alloc, error)
     }
 
-    /// The failure if the file, or its line, isn't an image, or if it has no line.
-    pub fn no_sketch(&self) -> Failure
-        ensures { ReportsNoSketch self.now result }
+    /// The failure if the file, or its line, isn't an image, or if it has no line: of images of sums or of theta sketches,
+    /// each a file or with `hex` a line. What a union leaves of the reader is unspecified, so the caller says again which.
+    pub fn no_sketch(&self, sums: bool, hex: bool) -> Failure
+        ensures reports { ReportsNoSketch sums hex self.now result }
+        ensures of_images { (seed : ℕ) (images : Option (List (List ℕ)))
+            → HasNoSketch sums seed images
+            → IsOfImages sums hex seed images result }
     {
         let Ok(name) = String::from_str(self.alloc, self.name()) else {
             return Failure::Memory;
         };
-        if self.hex && self.line == 0 {
+        if hex && self.line == 0 {
             return Failure::NoLine(name);
         }
-        match self.flaw {
-            Some(flaw) if self.sums => Failure::NoSums(name, self.line, flaw),
-            Some(flaw) => Failure::NoSketch(name, self.line, flaw),
-            None => Failure::NoHex(name, self.line),
+        if hex && self.flaw.is_none() {
+            return Failure::NoHex(name, self.line);
+        }
+        let flaw = self.flaw.unwrap_or(Flaw::Damaged);
+        if sums {
+            Failure::NoSums(name, self.line, flaw)
+        } else {
+            Failure::NoSketch(name, self.line, flaw)
         }
     }
 
@@ -178,13 +192,11 @@ impl<'a, S: Sources> Images<'a, S> {
         }
     }
 
-    /// Notes what the preamble of an image says. It fails if something follows the image, since a second image there
-    /// would be ignored.
-    fn note(&mut self, image: &[u8]) -> io::Result<()>
+    /// Notes what the preamble of an image says.
+    fn note(&mut self, image: &[u8])
         ensures flaw { self.new.flaw ≡ Some (image_flaw self.old.sums (seed_hash self.old.seed) image.now) }
-        ensures alone { OnOk result (IsAlone self.old.sums image.now) }
         ensures same { IsSameReader self.old self.new }
-        ensures left { remaining_images S.Source.remaining S.texts self.new ≡ remaining_images S.Source.remaining S.texts self.old }
+        ensures left { remaining_parts S.Source.remaining S.texts self.new ≡ remaining_parts S.Source.remaining S.texts self.old }
     {
         self.flaw = Some(flaw_in(self.sums, image, self.seed));
         let count = if self.sums {
@@ -196,15 +208,29 @@ impl<'a, S: Sources> Images<'a, S> {
             self.most = count;
             self.most_name = self.name();
         }
-        check_alone(self.sums, image)
     }
 
-    /// The next image, or `None` at the end. Nothing follows it in its file or line.
+    /// The next image, or `None` at the end. Nothing follows it in its file or line. If something follows an image, if a
+    /// line isn't hexadecimal, or if a file that should have lines has none, it returns no bytes, which can't be read as a
+    /// sketch. An error means that the file can't be read.
     pub fn next_image(&mut self) -> io::Result<Option<Vec<u8>>>
         ensures next { IfOk result (GivesNext (λ v. Some v.items)
             (remaining_images S.Source.remaining S.texts self.old)
             (remaining_images S.Source.remaining S.texts self.new)) }
         ensures alone { IfOk result (λ image. IfSome image (λ v. IsAlone self.old.sums v.items)) }
+    {
+        match self.next_part()? {
+            Some(part) => Ok(Some(alone(self.alloc, self.sums, part))),
+            None => Ok(None),
+        }
+    }
+
+    /// What the next file, or the next line, has in place of an image.
+    fn next_part(&mut self) -> io::Result<Option<Vec<u8>>>
+        ensures next { IfOk result (GivesNext (λ v. Some v.items)
+            (remaining_parts S.Source.remaining S.texts self.old)
+            (remaining_parts S.Source.remaining S.texts self.new)) }
+        ensures sums { OnOk result (self.new.sums ≡ self.old.sums) }
     {
         if self.hex {
             self.next_line()
@@ -216,8 +242,8 @@ impl<'a, S: Sources> Images<'a, S> {
     /// All bytes of the next file.
     fn next_whole(&mut self) -> io::Result<Option<Vec<u8>>>
         ensures next { IfOk result (GivesNext (λ v. Some v.items) (S.texts self.old.inputs.sources) (S.texts self.new.inputs.sources)) }
-        ensures alone { IfOk result (λ image. IfSome image (λ v. IsAlone self.old.sums v.items)) }
         ensures hex { self.new.hex ≡ self.old.hex }
+        ensures sums { self.new.sums ≡ self.old.sums }
         ensures named { NotesNext self.old.inputs.current.now self.old.inputs.left.now self.new.inputs.current.now self.new.inputs.left.now }
     {
         let Some(mut input) = self.inputs.next_source()? else {
@@ -225,22 +251,21 @@ impl<'a, S: Sources> Images<'a, S> {
         };
         let mut image = Vec::new(self.alloc);
         input.read_to_end(&mut image)?;
-        self.note(image.as_slice())?;
+        self.note(image.as_slice());
         Ok(Some(image))
     }
 
-    /// The image in the next line of the files. A file without a line is refused: otherwise nothing would show that its
-    /// image is missing.
+    /// What the next line of the files spells. For a file without a line it returns no bytes: otherwise nothing would show
+    /// that its image is missing.
     fn next_line(&mut self) -> io::Result<Option<Vec<u8>>>
         requires lines { self.old.hex ≡ true }
         ensures next { IfOk result (GivesNext (λ v. Some v.items)
-            (remaining_images S.Source.remaining S.texts self.old)
-            (remaining_images S.Source.remaining S.texts self.new)) }
-        ensures alone { IfOk result (λ image. IfSome image (λ v. IsAlone self.old.sums v.items)) }
+            (remaining_parts S.Source.remaining S.texts self.old)
+            (remaining_parts S.Source.remaining S.texts self.new)) }
+        ensures sums { OnOk result (self.new.sums ≡ self.old.sums) }
     {
         'files: for _ in 0..u64::MAX {
             if let Some(image) = self.line_of_open()? {
-                self.note(image.as_slice())?;
                 return Ok(Some(image));
             }
             let Some(input) = self.inputs.next_source()? else {
@@ -252,16 +277,16 @@ impl<'a, S: Sources> Images<'a, S> {
         Err(io::Error::from(ErrorKind::Other))
     }
 
-    /// The image in the next line of the open file. At its end the file is closed.
+    /// What the next line of the open file spells. At its end the file is closed.
     fn line_of_open(&mut self) -> io::Result<Option<Vec<u8>>>
         requires lines { self.old.hex ≡ true }
         ensures hex { self.new.hex ≡ self.old.hex }
         ensures sums { self.new.sums ≡ self.old.sums }
         ensures named { self.new.inputs ≡ self.old.inputs }
-        ensures counted { IfOk result (λ image. IfSome image (λ _. self.new.line ≡ next_number self.old.line)) }
+        ensures counted { IfOk result (λ image. IfSome image (λ _. CountsLine self.new.«open» self.old.line self.new.line)) }
         ensures next { IfOk result (GivesOrCloses (λ v. v.items)
-            (remaining_images S.Source.remaining S.texts self.old)
-            (remaining_images S.Source.remaining S.texts self.new)
+            (remaining_parts S.Source.remaining S.texts self.old)
+            (remaining_parts S.Source.remaining S.texts self.new)
             self.new.«open») }
     {
         let Some(reader) = &mut self.open else {
@@ -270,17 +295,30 @@ impl<'a, S: Sources> Images<'a, S> {
         let mut line = Vec::new(self.alloc);
         let count = reader.read_until(b'\n', &mut line)?;
         if count == 0 {
-            if self.line == 0 {
-                return Err(io::Error::from(ErrorKind::InvalidData));
-            }
             self.open = None;
+            if self.line == 0 {
+                return Ok(Some(Vec::new(self.alloc)));
+            }
             return Ok(None);
         }
         self.line = self.line.saturating_add(1);
+        let image = self.spelled(line.as_slice())?;
+        Ok(Some(image))
+    }
+
+    /// The bytes that a line spells, whose preamble is noted; no bytes if it spells none. The only error is refused memory.
+    fn spelled(&mut self, line: &[u8]) -> io::Result<Vec<u8>>
+        ensures spelled { IfOk result (λ v. v.items ≡ line_image line.now) }
+        ensures same { IsSameReader self.old self.new }
+        ensures left { remaining_parts S.Source.remaining S.texts self.new ≡ remaining_parts S.Source.remaining S.texts self.old }
+    {
         self.flaw = None;
         match read_hex(self.alloc, line.trim_ascii())? {
-            Some(image) => Ok(Some(image)),
-            None => Err(io::Error::from(ErrorKind::InvalidData)),
+            Some(image) => {
+                self.note(image.as_slice());
+                Ok(image)
+            }
+            None => Ok(Vec::new(self.alloc)),
         }
     }
 }

@@ -1,5 +1,5 @@
 //! Tests of what the program writes by its arguments, of texts in memory.
-ghost use Rattle.std.specs.Prelude.{◌≡◌, ◌≢◌, ℕ, List, [], Some, IfOk};
+ghost use Rattle.std.specs.Prelude.{◌≡◌, ◌≢◌, ℕ, false, List, [], Some, IfOk};
 ghost use Rattle.sketch_base.specs.Seed.{seed_hash};
 ghost use Rattle.theta_sketches.specs.Image.{written};
 ghost use Rattle.distinct_arguments.specs.Arguments.{action_of};
@@ -123,7 +123,7 @@ fn meet_of(
 ) -> Result<Vec<u8>, Failure>
     requires seeded { seed_hash seed ≢ 0 }
     ensures met { IfOk result (λ v. (image : List ℕ)
-        × IsIntersectionImage seed (images_of options.now.hex (texts_of texts.now)) image
+        × IsIntersectionImage seed (images_of false options.now.hex (texts_of texts.now)) image
         × (v.items ≡ in_form options.now.hex image)) }
 {
     let meet = Command::Combine(Operator::Meet);
@@ -140,7 +140,7 @@ fn minus_of(
 ) -> Result<Vec<u8>, Failure>
     requires seeded { seed_hash seed ≢ 0 }
     ensures difference { IfOk result (λ v. (image : List ℕ)
-        × IsDifferenceImage seed (images_of options.now.hex (texts_of texts.now)) image
+        × IsDifferenceImage seed (images_of false options.now.hex (texts_of texts.now)) image
         × (v.items ≡ in_form options.now.hex image)) }
 {
     let minus = Command::Combine(Operator::Minus);

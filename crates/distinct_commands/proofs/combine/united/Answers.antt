@@ -6,7 +6,7 @@ use Rattle.line_sums.specs.Unions.{IsUnitedSumsImage, UnitesSumsOfTexts}
 use Rattle.distinct_commands.specs.Answers.{IsUnionOf}
 use Rattle.distinct_inputs.specs.Images.{remaining_images}
 use Rattle.distinct_commands.proofs.NextImages.{both_known}
-use Rattle.distinct_commands.proofs.OnlyMemory.{sized, sums_refused}
+use Rattle.distinct_commands.proofs.OnlyMemory.{sized, sums_refused, uniting_refused}
 use Rattle.distinct_commands.proofs.combine.united.Goals as goal
 
 pub returns-then-options-clause-united : goal.returns-then-options-clause-united
@@ -21,3 +21,9 @@ returns-then-options-clause-refused g c =
     let options = c.args.options.now in
     sums_refused c.unite_sums.result options.sums c.args.seed (settings_refusal options.lg_k MAX_THETA c.args.seed) (remaining_images g.S.Source.Read.remaining g.S.Sources.texts c.args.images.now)
     c.if-options.true (sized options.lg_k c.args.seed options.low options.high c.requires.seeded) c.unite_sums.ensures.refused
+
+pub returns-else-options-clause-refused : goal.returns-else-options-clause-refused
+returns-else-options-clause-refused g c =
+    let options = c.args.options.now in
+    uniting_refused c.unite_images.result options.sums c.args.seed (settings_refusal options.lg_k MAX_THETA c.args.seed) (remaining_images g.S.Source.Read.remaining g.S.Sources.texts c.args.images.now)
+    c.if-options.false (sized options.lg_k c.args.seed options.low options.high c.requires.seeded) c.unite_images.ensures.refused

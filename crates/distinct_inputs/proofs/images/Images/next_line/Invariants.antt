@@ -1,6 +1,6 @@
 use Rattle.std.proofs.Common.{◌≡◌, true, Some}
 use Rattle.std.specs.Prelude.{IfSome}
-use Rattle.distinct_inputs.specs.Images.{remaining_images}
+use Rattle.distinct_inputs.specs.Images.{remaining_parts}
 use Rattle.distinct_inputs.proofs.images.Images.next_line.Given as goal
 
 -- the same images are left
@@ -8,6 +8,6 @@ abbrev pub invariant-files : goal.invariant-files
 invariant-files g l = record {
   hex : l.self.hex ≡ true;
   sums : l.self.sums ≡ l.fn.self.sums;
-  same : IfSome (remaining_images g.S.Source.Read.remaining g.S.Sources.texts l.fn.self)
-      (λ images. remaining_images g.S.Source.Read.remaining g.S.Sources.texts l.self ≡ Some images);
+  same : IfSome (remaining_parts g.S.Source.Read.remaining g.S.Sources.texts l.fn.self)
+      (λ images. remaining_parts g.S.Source.Read.remaining g.S.Sources.texts l.self ≡ Some images);
 }

@@ -1,0 +1,154 @@
+-- Failures of a part of a command are failures of the command.
+use Rattle.std.proofs.Common.{◌≡◌, ℕ, Bool, true, false, List, Option, Some, None, refl, sym, ap, subst, ◌∙◌}
+use Rattle.std.specs.Prelude.{IfErr, IfSome, Result, Ok, Err}
+use Rattle.std.specs.Option.{option_map}
+use Rattle.sketch_base.specs.declared.error.ErrorKind.{ErrorKind}
+use Rattle.grouped_lines.specs.United.{HasFirstFlawed, IsUnunited}
+use Rattle.grouped_lines.specs.declared.united.LineFlaw.{LineFlaw}
+use Rattle.grouped_lines.specs.declared.uniting.Ununited.{Ununited}
+use Rattle.grouped_lines.specs.declared.uniting.Ununited.TheVariants.{Flawed}
+use Rattle.distinct_arguments.specs.Settings.{OptionValues}
+use Rattle.distinct_arguments.specs.declared.commands.Command.{Command}
+use Rattle.distinct_arguments.specs.declared.commands.Command.TheVariants.{Combine}
+use Rattle.distinct_arguments.specs.declared.commands.Operator.{Operator}
+use Rattle.distinct_arguments.specs.declared.commands.Operator.TheVariants.{Union}
+use Rattle.distinct_inputs.specs.Failures.{images_in, unites_groups, unites_sums, IsOfImages, IsOfGroups, IsOfEitherUnion, IsOfCombining, IsOfOperator, IsOfOperands, IsOfEvaluation, IsOfCommand, OrUnnamed}
+use Rattle.distinct_inputs.specs.Images.{images_of}
+use Rattle.distinct_inputs.specs.declared.failure.Failure.{Failure}
+use Rattle.distinct_inputs.specs.declared.failure.Failure.TheVariants.{NotText, Arguments, NoFiles, NotTwo, NoExpression, NoName, NoNul, NoSeed, Terminal, WrongCount, NotOneEach, Memory, Unreadable, NoSketch, NoSums, NoHex, NoTab, NoLine, PastGreatest, PastUnion, PastResult, NotANumber, NotWritten}
+
+-- images that an operator reads
+images_combining : (operator : Operator) (options : OptionValues) (seed count : ℕ) (texts : Option (List (List ℕ))) (f : Failure) →
+    IsOfImages (unites_sums operator options) options.hex seed (images_in (unites_sums operator options) options texts) f → IsOfCombining operator options seed count texts f
+images_combining operator options seed count texts (NotText number text) failed = absurd failed
+images_combining operator options seed count texts (Arguments fault) failed = absurd failed
+images_combining operator options seed count texts NoFiles failed = absurd failed
+images_combining operator options seed count texts NotTwo failed = absurd failed
+images_combining operator options seed count texts (NoExpression text fault) failed = absurd failed
+images_combining operator options seed count texts Terminal failed = absurd failed
+images_combining operator options seed count texts (WrongCount found expected) failed = absurd failed
+images_combining operator options seed count texts (NotOneEach found expected) failed = absurd failed
+images_combining operator options seed count texts (NoSeed name) failed = absurd failed
+images_combining operator options seed count texts (NoName name number) failed = absurd failed
+images_combining operator options seed count texts (NoNul name) failed = absurd failed
+images_combining operator options seed count texts Memory failed = failed
+images_combining operator options seed count texts (Unreadable name error) failed = failed
+images_combining operator options seed count texts (NoSketch name line flaw) failed = failed
+images_combining operator options seed count texts (NoSums name line flaw) failed = failed
+images_combining operator options seed count texts (NoHex name line) failed = failed
+images_combining operator options seed count texts (NoTab name line) failed = absurd failed
+images_combining operator options seed count texts (NoLine name) failed = failed
+images_combining operator options seed count texts (PastGreatest name line) failed = absurd failed
+images_combining operator options seed count texts (PastUnion name line) failed = absurd failed
+images_combining operator options seed count texts (PastResult text) failed = absurd failed
+images_combining operator options seed count texts (NotANumber name line) failed = absurd failed
+images_combining operator options seed count texts (NotWritten name error) failed = absurd failed
+
+pub not_combined : (operator : Operator) (options : OptionValues) (seed count : ℕ) (texts : Option (List (List ℕ))) (f : Failure) → unites_sums operator options ≡ false →
+    IsOfImages false options.hex seed (images_in false options texts) f → IsOfCombining operator options seed count texts f
+not_combined operator options seed count texts f is failed =
+    images_combining operator options seed count texts f (subst (λ (b : Bool). IsOfImages b options.hex seed (images_in b options texts) f) (sym is) failed)
+
+union_combining : (options : OptionValues) (seed count : ℕ) (texts : Option (List (List ℕ))) (f : Failure) → IsOfEitherUnion options seed (images_in options.sums options texts) f → IsOfCombining Union options seed count texts f
+union_combining options seed count texts (NotText number text) failed = absurd failed
+union_combining options seed count texts (Arguments fault) failed = absurd failed
+union_combining options seed count texts NoFiles failed = absurd failed
+union_combining options seed count texts NotTwo failed = absurd failed
+union_combining options seed count texts (NoExpression text fault) failed = absurd failed
+union_combining options seed count texts Terminal failed = absurd failed
+union_combining options seed count texts (WrongCount found expected) failed = failed
+union_combining options seed count texts (NotOneEach found expected) failed = absurd failed
+union_combining options seed count texts (NoSeed name) failed = absurd failed
+union_combining options seed count texts (NoName name number) failed = absurd failed
+union_combining options seed count texts (NoNul name) failed = absurd failed
+union_combining options seed count texts Memory failed = failed
+union_combining options seed count texts (Unreadable name error) failed = failed
+union_combining options seed count texts (NoSketch name line flaw) failed = failed
+union_combining options seed count texts (NoSums name line flaw) failed = failed
+union_combining options seed count texts (NoHex name line) failed = failed
+union_combining options seed count texts (NoTab name line) failed = absurd failed
+union_combining options seed count texts (NoLine name) failed = failed
+union_combining options seed count texts (PastGreatest name line) failed = absurd failed
+union_combining options seed count texts (PastUnion name line) failed = failed
+union_combining options seed count texts (PastResult text) failed = absurd failed
+union_combining options seed count texts (NotANumber name line) failed = absurd failed
+union_combining options seed count texts (NotWritten name error) failed = absurd failed
+
+pub not_united : {V : Type 0} (r : Result V Failure) (operator : Operator) (options : OptionValues) (seed count : ℕ) (texts : Option (List (List ℕ))) → operator ≡ Union →
+    IfErr r (IsOfEitherUnion options seed (images_in options.sums options texts)) → IfErr r (IsOfCombining operator options seed count texts)
+not_united (Ok v) operator options seed count texts is failed = tt
+not_united (Err f) operator options seed count texts is failed = subst (λ (o : Operator). IsOfCombining o options seed count texts f) (sym is) (union_combining options seed count texts f failed)
+
+-- the operands of an expression
+operands_evaluating : (count : ℕ) (sums hex : Bool) (seed : ℕ) (images : Option (List (List ℕ))) (f : Failure) → IsOfOperands sums hex seed images f → IsOfEvaluation count sums hex seed images f
+operands_evaluating count sums hex seed images (NotText number text) failed = absurd failed
+operands_evaluating count sums hex seed images (Arguments fault) failed = absurd failed
+operands_evaluating count sums hex seed images NoFiles failed = absurd failed
+operands_evaluating count sums hex seed images NotTwo failed = absurd failed
+operands_evaluating count sums hex seed images (NoExpression text fault) failed = absurd failed
+operands_evaluating count sums hex seed images Terminal failed = absurd failed
+operands_evaluating count sums hex seed images (WrongCount found expected) failed = absurd failed
+operands_evaluating count sums hex seed images (NotOneEach found expected) failed = failed
+operands_evaluating count sums hex seed images (NoSeed name) failed = absurd failed
+operands_evaluating count sums hex seed images (NoName name number) failed = absurd failed
+operands_evaluating count sums hex seed images (NoNul name) failed = absurd failed
+operands_evaluating count sums hex seed images Memory failed = failed
+operands_evaluating count sums hex seed images (Unreadable name error) failed = failed
+operands_evaluating count sums hex seed images (NoSketch name line flaw) failed = failed
+operands_evaluating count sums hex seed images (NoSums name line flaw) failed = failed
+operands_evaluating count sums hex seed images (NoHex name line) failed = failed
+operands_evaluating count sums hex seed images (NoTab name line) failed = absurd failed
+operands_evaluating count sums hex seed images (NoLine name) failed = failed
+operands_evaluating count sums hex seed images (PastGreatest name line) failed = absurd failed
+operands_evaluating count sums hex seed images (PastUnion name line) failed = absurd failed
+operands_evaluating count sums hex seed images (PastResult text) failed = failed
+operands_evaluating count sums hex seed images (NotANumber name line) failed = absurd failed
+operands_evaluating count sums hex seed images (NotWritten name error) failed = absurd failed
+
+pub not_evaluated : {V : Type 0} (r : Result V Failure) (count : ℕ) (options : OptionValues) (sums : Bool) (seed : ℕ) (texts : Option (List (List ℕ))) → options.sums ≡ sums →
+    IfErr r (IsOfOperands sums options.hex seed (images_in sums options texts)) → IfErr r (IsOfEvaluation count options.sums options.hex seed (images_in options.sums options texts))
+not_evaluated (Ok v) count options sums seed texts is failed = tt
+not_evaluated (Err f) count options sums seed texts is failed =
+    subst (λ (b : Bool). IsOfEvaluation count b options.hex seed (images_in b options texts) f) (sym is) (operands_evaluating count sums options.hex seed (images_in sums options texts) f failed)
+
+-- a command to which an image is named
+named : (IsUnnamed : Type 0) (IsOther : Failure → Type 0) (f : Failure) → (IsOther NoFiles → ⊥) → IsOther f → OrUnnamed IsUnnamed IsOther f
+named IsUnnamed IsOther (NotText number text) never failed = failed
+named IsUnnamed IsOther (Arguments fault) never failed = failed
+named IsUnnamed IsOther NoFiles never failed = absurd (never failed)
+named IsUnnamed IsOther NotTwo never failed = failed
+named IsUnnamed IsOther (NoExpression text fault) never failed = failed
+named IsUnnamed IsOther Terminal never failed = failed
+named IsUnnamed IsOther (WrongCount found expected) never failed = failed
+named IsUnnamed IsOther (NotOneEach found expected) never failed = failed
+named IsUnnamed IsOther (NoSeed name) never failed = failed
+named IsUnnamed IsOther (NoName name number) never failed = failed
+named IsUnnamed IsOther (NoNul name) never failed = failed
+named IsUnnamed IsOther Memory never failed = failed
+named IsUnnamed IsOther (Unreadable name error) never failed = failed
+named IsUnnamed IsOther (NoSketch name line flaw) never failed = failed
+named IsUnnamed IsOther (NoSums name line flaw) never failed = failed
+named IsUnnamed IsOther (NoHex name line) never failed = failed
+named IsUnnamed IsOther (NoTab name line) never failed = failed
+named IsUnnamed IsOther (NoLine name) never failed = failed
+named IsUnnamed IsOther (PastGreatest name line) never failed = failed
+named IsUnnamed IsOther (PastUnion name line) never failed = failed
+named IsUnnamed IsOther (PastResult text) never failed = failed
+named IsUnnamed IsOther (NotANumber name line) never failed = failed
+named IsUnnamed IsOther (NotWritten name error) never failed = failed
+
+pub operator_fails : (command : Command) (operator : Operator) (by_groups : Bool) (options : OptionValues) (seed count : ℕ) (texts : Option (List (List ℕ))) (f : Failure) → command ≡ Combine operator → unites_groups operator options ≡ by_groups →
+    (IsOfOperator by_groups operator options seed count texts NoFiles → ⊥) → IsOfOperator by_groups operator options seed count texts f → IsOfCommand command options seed count texts f
+operator_fails command operator by_groups options seed count texts f is by never failed =
+    subst (λ (c : Command). IsOfCommand c options seed count texts f) (sym is)
+    (subst (λ (b : Bool). OrUnnamed (count ≡ 0) (IsOfOperator b operator options seed count texts) f) (sym by)
+    (named (count ≡ 0) (IsOfOperator by_groups operator options seed count texts) f never failed))
+
+pub groups_fail : {V : Type 0} (r : Result V Failure) (command : Command) (operator : Operator) (options : OptionValues) (seed count : ℕ) (texts : Option (List (List ℕ))) → command ≡ Combine operator → unites_groups operator options ≡ true →
+    IfErr r (IsOfGroups seed texts) → IfErr r (IsOfCommand command options seed count texts)
+groups_fail (Ok v) command operator options seed count texts is by failed = tt
+groups_fail (Err f) command operator options seed count texts is by failed = operator_fails command operator true options seed count texts f is by (λ none. none) failed
+
+-- the first flaw of a line
+pub first_flaw : (seed : ℕ) (refusal : Option ErrorKind) (texts : Option (List (List ℕ))) (u : Ununited) (number : ℕ) (flaw : LineFlaw) → u ≡ Flawed number flaw → IsUnunited seed refusal texts u → IfSome texts (HasFirstFlawed seed number flaw)
+first_flaw seed refusal texts u number flaw is failed = (subst (IsUnunited seed refusal texts) is failed).1

@@ -1,0 +1,16 @@
+use Rattle.std.proofs.Common.{ℕ, Bool, List, Option, map, Some, Vec, Global, sym, ap, subst, ◌∙◌}
+use Rattle.std.specs.Option.{option_map}
+use Rattle.line_sketches.specs.Sources.{GivesNext}
+use Rattle.distinct_inputs.specs.Images.{alone, remaining_parts}
+use Rattle.distinct_inputs.proofs.ImageLines.{next_mapped}
+use Rattle.distinct_inputs.proofs.images.Images.next_image.Goals as goal
+
+pub returns-in-Some-clause-next : goal.returns-in-Some-clause-next
+returns-in-Some-clause-next g c =
+    let old = remaining_parts g.S.Source.Read.remaining g.S.Sources.texts c.args.self.now in
+    let new = remaining_parts g.S.Source.Read.remaining g.S.Sources.texts c.next_part.new.self in
+    let sums = c.args.self.now.sums in
+    subst (λ (b : Bool). GivesNext (λ (v : Vec ℕ Global). Some v.items) (option_map (map (alone sums)) old) (option_map (map (alone b)) new) (Some c.alone.result)) (sym c.in_ok-part.ensures.sums)
+    (next_mapped (alone sums) old new (λ (v : Vec ℕ Global). v.items) c.in-Some.part c.alone.result
+    (subst (λ (o : Option (Vec ℕ Global)). GivesNext (λ (v : Vec ℕ Global). Some v.items) old new o) c.in-Some.is c.in_ok-part.ensures.next)
+    (c.alone.ensures.bytes ∙ ap (λ (b : Bool). alone b c.in-Some.part.items) c.in_ok-part.ensures.sums))
