@@ -35,7 +35,8 @@ const STANDARD_OUTPUT: &str = "standard output";
 ///
 /// - `NoSketch`, `NoSums`, `NoHex` and `NoLine`: commands that read images; `NoSums` if these are of sums, `NoSketch` if
 ///   not, `NoHex` and `NoLine` with `--hex`. If contracts know the files' bytes, only if some image is none of the seed:
-///   a line that isn't hexadecimal, a file without a line, and an image that something follows count as none;
+///   a line that isn't hexadecimal, a file without a line, and an image that something follows count as none. (The
+///   clause allows them to `eval --keys` too, as if its texts were images);
 /// - `NoTab`, `NoHex` and `NoSketch` with `--groups`: for the first line of a file that has a flaw;
 /// - `NoFiles`: commands that read images, if no file is named;
 /// - `WrongCount`: commands that combine images, if `--expect` names another number than the failure reports to have
@@ -43,7 +44,7 @@ const STANDARD_OUTPUT: &str = "standard output";
 /// - `NotTwo`: `minus`. If contracts know the files' bytes, only if the named files aren't two (without `--hex`) or
 ///   their images aren't two;
 /// - `NoName`, `NotOneEach`, `NoExpression`, `NotOneExpression` and `PastResult`: `eval`;
-/// - `PastUnion`: commands on images of sums, if the sum of a key is 2^64 or more;
+/// - `PastUnion`: commands on images of sums, if the sum of a key is 2^64 or more, which no clause says;
 /// - `LoneSum`: `sum`, if its options have no field of numbers;
 /// - `NotANumber` and `PastGreatest`: commands that sum lines, if a line has no number, or if a sum is 2^64 or more.
 pub fn answer<S: Sources + Drop, C: Console, O: Write>(
