@@ -1,5 +1,5 @@
 -- A listing that is merged into a table, entry by entry.
-use Rattle.std.proofs.Common.{◌≡◌, ℕ, zero, ◌*◌, ◌/◌, ◌<◌, ◌≤◌, ◌≢◌, min, Bool, true, false, cond, leb, ltb, eqb, List, [], ◌∷◌, map, length, Option, Some, None, ◌⊎◌, inl, inr, refl, sym, ap, ◌∙◌, subst, arith}
+use Rattle.std.proofs.Common.{◌≡◌, ℕ, zero, ◌*◌, ◌/◌, ◌^◌, ◌<◌, ◌≤◌, ◌≢◌, min, Bool, true, false, cond, leb, ltb, eqb, List, [], ◌∷◌, map, length, Option, Some, None, Result, Ok, Err, OnOk, IfErr, ◌⊎◌, inl, inr, refl, sym, ap, ◌∙◌, subst, arith}
 use Rattle.std.specs.Prelude.{◌&&◌}
 use Rattle.std.specs.List.{AllByRecursion}
 use Rattle.std.proofs.lemmas.Bool.{cases_lt, ltb-false, lt-ltb, lt-leb, le-leb, leb-true, leb-false}
@@ -12,7 +12,8 @@ use Rattle.core_operators.specs.Iter.{still_read}
 use Rattle.core_laws.specs.Insertion.{is_screened, rebuilt, after_upsert, upsert_refusal, after_upserts}
 use Rattle.core_laws.specs.Step.{merge_step}
 use Rattle.core_laws.specs.Folds.{Fold, Value, fold_key, fold_merges, unmarked, never}
-use Rattle.core_operators.specs.Union.{IsMergeRefused, at_or_above}
+use Rattle.core_operators.specs.Union.{HasMerged, IsMergeRefused, IsMergeRefusal, at_or_above}
+use Rattle.core_table.specs.HashTable.{MapTable}
 use Rattle.core_laws.proofs.maps.Ascending.{each-weaker, each-passes, filter_each, ascending-head, ascending-tail}
 use Rattle.core_laws.proofs.cuts.Cuts.{cut_is_below}
 use Rattle.core_laws.proofs.maps.LookUps.{entry_at-below, entry_at-with_entry, entry_at_rest, entry_at_head}
@@ -179,6 +180,17 @@ module _ {X : Type 0} (key : X → ℕ) (merges : X → X → X) (refuses : X �
         | inr high ↦ ap (λ ys. folded ys (unmarked v)) (sym (below_passed key theta left x high))
       ]
 
+  -- an entry that is screened, or not below theta, changes nothing
+  pub screened_folds : (k theta : ℕ) (v : Retained X) (left : List X) (x : X) → (is_screened (key x) v.theta ≡ true) ⊎ (theta ≤ key x) → after_merges k theta left v ≡ after_merges k theta (x ∷ left) v
+  screened_folds k theta v left x (inr high) =
+      ap (λ ys. after_upserts (fold_key key) k (merge_step (fold_merges key merges refuses) never) (map Value ys) (unmarked v)) (sym (below_passed key theta left x high))
+  screened_folds k theta v left x (inl screened) =
+      let step = merge_step (fold_merges key merges refuses) never in
+      let folded : List X → Retained (Fold X) → Retained (Fold X) = λ ys u. after_upserts (fold_key key) k step (map Value ys) u in
+      let others = below key left theta in
+      let same = (screened_case (fold_key key) k (key x) (step (Value x)) (unmarked v) screened).after_is in
+      elim (ltb (key x) theta) as (λ b. folded others (unmarked v) ≡ folded (cond b (x ∷ others) others) (unmarked v)) [ true ↦ sym (ap (folded others) same) | false ↦ refl ]
+
   -- entries that are skipped because they are not below the lesser theta change nothing
   from_below_folds : (k from theta : ℕ) (v : Retained X) (xs : List X) →
       after_merges k theta (at_or_above key (from_below key (min theta v.theta) xs) from) v ≡ after_merges k theta (at_or_above key xs from) v
@@ -276,6 +288,53 @@ module _ {X : Type 0} (key : X → ℕ) (merges : X → X → X) (refuses : X �
       → after_merges k theta left (after_upsert key k (key x) (merge_step merges refuses x) v) ≡ after_merges k theta (x ∷ left) v
   folds_next k theta left x v lt allowed =
       rw (lt-ltb (key x) theta lt) (ap (λ u. after_upserts (fold_key key) k (merge_step (fold_merges key merges refuses) never) (map Value (below key left theta)) u) (unmarked-upsert key merges refuses k x v allowed))
+
+  -- what is left is merged into a table that the entries before it were merged into
+  pub merged_rest : (old was now : MapTable X) (listing left : List X) (theta : ℕ) → was.lg_nom ≡ old.lg_nom → after_merges (2 ^ old.lg_nom) theta left was.kept ≡ after_merges (2 ^ old.lg_nom) theta listing old.kept
+      → HasMerged key merges refuses left theta was now → HasMerged key merges refuses listing theta old now
+  merged_rest old was now listing left theta lg rest merged = merged ∙ ap (λ (n : ℕ). after_merges (2 ^ n) theta left was.kept) lg ∙ rest
+
+module _ {X : Type 0} (key : X → ℕ) where
+  apart-from_below : (t : ℕ) (xs : List X) → IsApart key xs → IsApart key (from_below key t xs)
+  apart-from_below t [] apart = apart
+  apart-from_below t (x ∷ xs) apart = elim (ltb (key x) t) as (λ b. IsApart key (cond b (x ∷ xs) (from_below key t xs))) [ true ↦ apart | false ↦ apart-from_below t xs apart.1 ]
+
+  -- the keys of the entries that are still read differ
+  pub apart-still : (ordered : Bool) (t : ℕ) (xs : List X) → IsApart key xs → IsApart key (still_read key ordered t xs)
+  apart-still true t xs apart = apart
+  apart-still false t xs apart = apart-from_below t xs apart
+
+module _ {X : Type 0} (key : X → ℕ) (refuses : X → X → Bool) where
+  -- what is refused when the entries left are merged would be refused when all are
+  pub refused_earlier : (listing first left now : List X) (ordered : Bool) (theta : ℕ) (kind : ErrorKind) → IsMerging key listing first left now ordered → IsMergeRefusal key refuses now theta left kind → IsMergeRefusal key refuses first theta listing kind
+  refused_earlier listing first left now ordered theta kind so_far (inl memory) = inl memory
+  refused_earlier listing first left now ordered theta kind so_far (inr why) =
+      let at = why.1.at in
+      let held : cond (ltb at theta) (entry_at key first at) None ≡ Some why.1.held_entry =
+      elim (ltb at theta) as (λ b. cond b (entry_at key now at) None ≡ Some why.1.held_entry → cond b (entry_at key first at) None ≡ Some why.1.held_entry) [
+        | true ↦ λ there. so_far.untouched at why.1.new_entry why.1.held_entry why.1.comes there
+        | false ↦ λ none. none
+      ] (sym (entry_at-below key now theta at) ∙ why.1.is_held) in
+      inr (
+        why.0,
+        record {
+          at = at;
+          held_entry = why.1.held_entry;
+          new_entry = why.1.new_entry;
+          is_held = entry_at-below key first theta at ∙ held;
+          comes = so_far.among at why.1.new_entry why.1.comes;
+          refused = why.1.refused;
+        },
+      )
+
+-- what follows of the result of a call follows of one that is returned as it is
+pub on_ok : {T E : Type 0} (r : Result T E) (P Q : Type 0) → (P → Q) → OnOk r P → OnOk r Q
+on_ok (Ok x) P Q f p = f p
+on_ok (Err e) P Q f p = p
+
+pub if_err : {T E : Type 0} (r : Result T E) (P Q : E → Type 0) → ((e : E) → P e → Q e) → IfErr r P → IfErr r Q
+if_err (Ok x) P Q f p = p
+if_err (Err e) P Q f p = f e p
 
 from_below-fewer : {X : Type 0} (key : X → ℕ) (t : ℕ) (xs : List X) → length (from_below key t xs) ≤ length xs
 from_below-fewer key t [] = omega arith

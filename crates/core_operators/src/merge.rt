@@ -1,7 +1,11 @@
 //! Merging the entries of a sketch into a table.
-ghost use Rattle.std.specs.Prelude.{◌≡◌, ◌^◌, ◌⊎◌, Some, [], ◌∷◌, true, map, MatchOption, OnOk, IfErr, IfSome, IsSome, IsTrue, ◌↔◌, ◌≤◌, min};
+ghost use Rattle.std.specs.Prelude.{◌≡◌, ◌^◌, ◌*◌, ◌/◌, ◌⊎◌, if◌then◌else◌, None, Some, [], ◌∷◌, true, length, map, MatchOption, IfOk, OnOk, OnErr, IfErr, IfSome, IsSome, IsTrue, ◌↔◌, ◌<◌, ◌≤◌, min};
+ghost use Rattle.sketch_base.specs.declared.error.ErrorKind.TheVariants.{OutOfMemory};
+ghost use Rattle.core_laws.specs.Insertion.{upsert_refusal};
+ghost use Rattle.core_table.specs.HashTable.{after_insertion};
 ghost use Rattle.core_laws.specs.Step.{merge_step};
-ghost use Rattle.core_laws.specs.Maps.{IsAscending};
+ghost use Rattle.core_laws.specs.Maps.{IsApart, IsAscending, entry_at};
+ghost use Rattle.core_laws.specs.Places.{IsAt};
 ghost use Rattle.core_laws.specs.Folds.{never};
 ghost use Rattle.core_operators.specs.Iter.{still_read};
 ghost use Rattle.core_laws.specs.Entries.{ClonesEqual};
@@ -76,6 +80,127 @@ fn is_past_either(hash: u64, theta: u64, own_theta: u64) -> bool
     hash >= theta || hash >= own_theta
 }
 
+/// How many entries of a sketch are merged whose slots are not near, before the rest is merged by way of a list. A list
+/// takes about as long as so many searches through all entries.
+const MOST_FAR: usize = 128;
+
+/// Merges an entry into the table of a union, and returns whether it did. It doesn't, and nothing changes, if the slot of
+/// its hash isn't near and `far` is 0; if it isn't near and `far` isn't 0, it takes 1 from that.
+#[inline(always)]
+fn merge_one<E: SlotEntry + Clone, P: UnionMergePolicy<E>, A: Allocator + Clone>(
+    table: &mut SketchHashTable<E, A>,
+    hash: u64,
+    entry: &E,
+    policy: &P,
+    far: &mut usize,
+) -> Result<bool, Error>
+    requires clones_equal { ClonesEqual E.is_clone }
+    requires hash_is { hash ≡ E.key entry.now }
+    requires of_sketch { MIN_LG_K ≤ table.old.map.lg_nom }
+    ensures after { IfOk result (λ done.
+        let step = merge_step (P.merges policy.now) (P.refuses policy.now) entry.now in
+        table.new.map ≡ if done then after_insertion E.key hash step table.old.map else table.old.map) }
+    ensures allowed { IfOk result (λ done.
+        let step = merge_step (P.merges policy.now) (P.refuses policy.now) entry.now in
+        done ≡ true → upsert_refusal E.key hash step table.old.map.kept ≡ None) }
+    ensures err { OnErr result (table.new.map ≡ table.old.map) }
+    ensures refused { IfErr result (λ kind.
+        let step = merge_step (P.merges policy.now) (P.refuses policy.now) entry.now in
+        (upsert_refusal E.key hash step table.old.map.kept ≡ Some kind) ⊎ (kind ≡ OutOfMemory)) }
+{
+    let merging = MergeStep {
+        policy,
+        incoming: entry,
+    };
+    if table.upsert_near(hash, merging)? {
+        return Ok(true);
+    }
+    if *far == 0 {
+        return Ok(false);
+    }
+    *far -= 1;
+    table.upsert_entry(hash, merging)?;
+    Ok(true)
+}
+
+/// The most entries that a table of 2^`lg_nom` nominal entries may have: fifteen eighths of these.
+fn most_entries(lg_nom: u8) -> usize
+    requires low { MIN_LG_K ≤ lg_nom }
+    requires high { lg_nom ≤ 32 }
+    ensures { result ≡ 15 * 2 ^ lg_nom / 8 }
+{
+    (1usize << lg_nom) / 8 * 15
+}
+
+/// The place of the entry of a hash in entries that ascend, if there is one, by binary search.
+fn place_by_halves<E: SketchEntry>(entries: &[E], hash: u64) -> Option<usize>
+    requires { IsAscending E.key entries.now }
+    ensures { MatchOption result (entry_at E.key entries.now hash ≡ None) (IsAt E.key entries.now hash) }
+{
+    entries
+        .binary_search_by_key(&hash, |entry| entry.hash())
+        .ok()
+}
+
+/// Merges the entries from the hash `from` to below theta into the table of a union, in their order, without searching
+/// its slots: the table's entries are taken into an ascending list, in which each incoming hash is sought by halves, and
+/// laid out again at the end, or when there are as many as the table may have. So n entries and m incoming ones take
+/// O((n + m) log(n + m)), however many hashes share a path.
+#[inline(never)]
+fn merge_listed<E: SlotEntry + Clone, P: UnionMergePolicy<E>, A: Allocator + Clone>(
+    table: &mut SketchHashTable<E, A>,
+    entries: &[E],
+    policy: &P,
+    from: u64,
+    theta: u64,
+) -> Result<(), Error>
+    requires clones_equal { ClonesEqual E.is_clone }
+    requires apart { IsApart E.key entries.now }
+    requires of_sketch { MIN_LG_K ≤ table.old.map.lg_nom }
+    ensures after { OnOk result (
+        HasMerged E.key (P.merges policy.now) (P.refuses policy.now)
+        (at_or_above E.key entries.now from) theta table.old.map table.new.map) }
+    ensures made_with { table.new.map ≡ record table.old.map { kept = table.new.map.kept } }
+    ensures refused { IfErr result (
+        IsMergeRefusal E.key (P.refuses policy.now) table.old.map.kept.entries theta
+        (at_or_above E.key entries.now from)) }
+{
+    let mut left = entries;
+    'rounds: loop {
+        let own_theta = table.retention_theta();
+        let most = most_entries(table.lg_nom_size());
+        let mut held = table.sorted_entries()?;
+        let mut added = Vec::new(table.allocator().clone()?);
+        'list_each: while let Some((first, others)) = left.split_first() {
+            let hash = first.hash();
+            if hash != 0 && hash >= from && hash < theta && hash < own_theta {
+                match place_by_halves(&held, hash) {
+                    Some(at) => policy.merge(&mut held[at], first)?,
+                    None => {
+                        if held.len() + added.len() == most {
+                            break;
+                        }
+                        added.push(first.clone()?)?;
+                    }
+                }
+            }
+            left = others;
+        }
+        held.append(&mut added)?;
+        table.refill(held)?;
+        let Some((first, others)) = left.split_first() else {
+            return Ok(());
+        };
+        // There is no room for it: theta falls.
+        let merging = MergeStep {
+            policy,
+            incoming: first,
+        };
+        table.upsert_entry(first.hash(), merging)?;
+        left = others;
+    }
+}
+
 /// Merges ascending entries into the table of a union, in their order. It stops at the first that is not below theta or
 /// that the table screens; the policy never sees those. It is a loop of its own because each entry then takes half as
 /// many instructions as in a loop that also walks over slots or tests the order.
@@ -93,16 +218,17 @@ fn merge_ascending<E: SlotEntry + Clone, P: UnionMergePolicy<E>, A: Allocator + 
     ensures made_with { table.new.map ≡ record table.old.map { kept = table.new.map.kept } }
     ensures refused { IfErr result (IsMergeRefusal E.key (P.refuses policy.now) table.old.map.kept.entries theta entries.now) }
 {
-    'merge_in_order: for first in entries {
+    let mut far = MOST_FAR;
+    let mut left = entries;
+    'merge_in_order: while let Some((first, others)) = left.split_first() {
         let key = first.hash();
         if is_past_either(key, theta, table.retention_theta()) {
             break;
         }
-        let merging = MergeStep {
-            policy,
-            incoming: first,
-        };
-        table.upsert_entry(key, merging)?;
+        if !merge_one(table, key, first, policy, &mut far)? {
+            return merge_listed(table, left, policy, 0, theta);
+        }
+        left = others;
     }
     Ok(())
 }
@@ -130,6 +256,23 @@ fn entries_from<'a, E: SlotEntry>(entries: &'a [E], from: u64) -> &'a [E]
         left = others;
     }
     left
+}
+
+/// Clones of an entry and of those that an iterator has left, in their order.
+fn clones_of<E: SlotEntry + Clone, A: Allocator>(
+    alloc: A,
+    first: &E,
+    entries: EntryIter<'_, E>,
+) -> Result<Vec<E, A>, AllocError>
+    requires clones_equal { ClonesEqual E.is_clone }
+    ensures { IfOk result (λ v. v.items ≡ first.now ∷ entries.entry.rest) }
+{
+    let mut clones = Vec::new(alloc);
+    clones.push(first.clone()?)?;
+    'clone_each: for entry in entries {
+        clones.push(entry.clone()?)?;
+    }
+    Ok(clones)
 }
 
 /// Merges the entries of a sketch whose hashes are from `from` to below theta into the table of a union, in their order;
@@ -161,6 +304,7 @@ where
     if let Some(ascending) = ascending_slice(&entries, ordered) {
         return merge_ascending(table, entries_from(ascending, from), policy, theta);
     }
+    let mut far = MOST_FAR;
     let mut lesser = theta.min(table.retention_theta());
     'merge_each: while let Some(entry) = next_entry(&mut entries, ordered, lesser) {
         let hash = entry.hash();
@@ -170,11 +314,10 @@ where
         if hash < from || hash >= theta {
             continue;
         }
-        let step = MergeStep {
-            policy,
-            incoming: entry,
-        };
-        table.upsert_entry(hash, step)?;
+        if !merge_one(table, hash, entry, policy, &mut far)? {
+            let rest = clones_of(table.allocator().clone()?, entry, entries)?;
+            return merge_listed(table, &rest, policy, from, theta);
+        }
         lesser = theta.min(table.retention_theta());
     }
     Ok(())

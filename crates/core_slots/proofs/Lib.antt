@@ -4,8 +4,10 @@ pub mod Moves
 pub mod Held
 pub mod Ranks
 pub mod PathEnds
-pub mod Relays
+pub mod HashCounts
 pub mod Settled
+pub mod SharedPaths
 pub mod Windows
 pub mod Lookups
 pub mod Gathers
+pub mod Searches

@@ -1,5 +1,5 @@
 -- Entries that are put into free slots in rounds.
-use Rattle.std.proofs.Common.{◌≡◌, ℕ, ◌+◌, ◌-◌, ◌*◌, ◌^◌, ◌<◌, ◌≤◌, ◌≢◌, zero, suc, true, false, not, eqb, cond, List, [], ◌∷◌, ◌++◌, length, length-append, length-take, append_assoc, append-nil, map, set, get_or, take, drop, Option, Some, None, is_none, refl, sym, ap, ◌∙◌, arith}
+use Rattle.std.proofs.Common.{◌≡◌, ℕ, ◌+◌, ◌-◌, ◌*◌, ◌^◌, ◌<◌, ◌≤◌, ◌≢◌, zero, suc, true, false, not, eqb, cond, List, [], ◌∷◌, ◌++◌, length, length-append, length-take, append_assoc, append-nil, map, set, get_or, take, drop, Option, Some, None, is_none, refl, sym, ap, subst, ◌∙◌, arith}
 use Rattle.std.specs.List.{AllByRecursion}
 use Rattle.std.specs.Option.{option_map_or}
 use Rattle.std.proofs.lemmas.Bool.Decides.{nat_tests}
@@ -10,10 +10,10 @@ use Rattle.core_laws.proofs.maps.MapsOfLists.{entry_at-map_of, ascending-map_of}
 use Rattle.core_slots.specs.SlotLayout.{filled, slot, is_other, HasOthers, IsOnPath, IsLaidOut}
 use Rattle.core_slots.specs.Probe.{probe}
 use Rattle.core_slots.specs.Rounds.{hash_count, IsInRound}
-use Rattle.core_slots.proofs.Held.{take_whole}
+use Rattle.core_slots.proofs.Held.{take_whole, two_parts}
 use Rattle.core_slots.proofs.SlotLayouts.{few_others, filled-append, filled_new, laid_out_new, others_none, others_more, probe_low, put_found}
 use Rattle.core_slots.proofs.Moves.{count-append, count-cons}
-use Rattle.core_slots.proofs.Relays.{count_put, counted_none, counted_there, one_here}
+use Rattle.core_slots.proofs.HashCounts.{count_put, counted_none, counted_there, one_here}
 
 -- ---- a slot that is looked at
 module _ {X : Type 0} where
@@ -120,7 +120,7 @@ module _ {X : Type 0} (key : X → ℕ) (lg : ℕ) where
   all_others_put slots p n x [] free all = tt
   all_others_put slots p n x (y ∷ xs) free all = (others_put slots p (key y) n x free all.0, all_others_put slots p n x xs free all.1)
 
-  all_others_none : (slots : List (Option X)) (xs : List X) → AllByRecursion (λ y. HasOthers key lg slots (key y) 0) xs
+  pub all_others_none : (slots : List (Option X)) (xs : List X) → AllByRecursion (λ y. HasOthers key lg slots (key y) 0) xs
   all_others_none slots [] = tt
   all_others_none slots (y ∷ xs) = (others_none key lg slots (key y), all_others_none slots xs)
 
@@ -280,7 +280,24 @@ module _ {S : Type 0} where
   rest_part xs n = take_all (length xs - n) (drop n xs) (omega (arith, length-drop n xs))
 
   -- the slots in front of a part that was written are unchanged
-  pub front_kept : (xs more end : List S) (from n : ℕ) → from ≤ length xs → from ≤ n → take from (take n ((take from xs ++ more) ++ end)) ≡ take from xs
+  front_kept : (xs more end : List S) (from n : ℕ) → from ≤ length xs → from ≤ n → take from (take n ((take from xs ++ more) ++ end)) ≡ take from xs
   front_kept xs more end from n within le =
       let long : length (take from xs) ≡ from = omega (arith, length-take from xs, within) in
       take-take from n ((take from xs ++ more) ++ end) le ∙ ap (take from) (append_assoc (take from xs) more end) ∙ take_at (take from xs) (more ++ end) from long
+
+module _ {S X : Type 0} (content : S → Option X) (key : X → ℕ) (lg : ℕ) where
+  -- a part at the end was settled and cut off, and the slots in front of it still wait
+  pub part_done : (whole : List X) (items now more end left : List S) (from n : ℕ) (slots after : List (Option X)) (put : ℕ) → now ≡ items → left ≡ take from (take n ((take from now ++ more) ++ end)) → from ≤ length now → from ≤ n
+      → IsInRound key lg whole [] (filled (map content items)) slots 0 0 put 0 → IsLaidOut key lg after
+      → ((q : ℕ) → entry_at key (filled after) q ≡ entry_at key (filled (map content (take (length now - from) (drop from now))) ++ filled slots) q)
+      → ((q : ℕ) → hash_count key q (filled after) ≡ hash_count key q (filled (map content (take (length now - from) (drop from now)))) + hash_count key q (filled slots))
+      → length (filled after) ≡ length (filled (map content (take (length now - from) (drop from now)))) + length (filled slots) → IsInRound key lg whole [] (filled (map content left)) after 0 0 (length (filled after)) 0
+  part_done whole items now more end left from n slots after put same cut within le is laid_out found all count =
+      let part : List X = filled (map content (drop from now)) in
+      let front : List X = filled (map content (take from now)) in
+      let waiting : filled (map content items) ≡ front ++ part = ap (λ xs. filled (map content xs)) (sym same) ∙ two_parts content now from in
+      let left_is : filled (map content left) ≡ front = ap (λ xs. filled (map content xs)) (cut ∙ front_kept now more end from n within le) in
+      let found' : (q : ℕ) → entry_at key (filled after) q ≡ entry_at key (part ++ filled slots) q = rw (rest_part now from) at found in
+      let all' : (q : ℕ) → hash_count key q (filled after) ≡ hash_count key q part + hash_count key q (filled slots) = rw (rest_part now from) at all in
+      let count' : length (filled after) ≡ length part + length (filled slots) = rw (rest_part now from) at count in
+      rw left_is (part_settled key lg whole front part slots after put (subst (λ xs. IsInRound key lg whole [] xs slots 0 0 put 0) waiting is) laid_out found' all' count')

@@ -3,8 +3,6 @@ pub mod BorrowedSummary
 pub mod Probe
 pub mod SlotLayout
 pub mod Placing
-pub mod Moving
-pub mod Relaying
 pub mod Rounds
 pub mod Rank
 pub mod HashSlots

@@ -10,8 +10,9 @@ ghost use Rattle.core_slots.specs.Probe.{probe};
 ghost use Rattle.core_slots.specs.Rounds.{hash_count, entry_count_in, twice_sum_to};
 
 use crate::count::Count;
+use crate::paths::put_along_paths;
 use crate::slot_entry::{PathEntry, SlotEntry};
-use crate::slots::{hash_in, slot_after, slot_of};
+use crate::slots::{NEAR, hash_in, slot_after, slot_of};
 use std::alloc::Allocator;
 
 /// Two places, of which one is to be written.
@@ -86,14 +87,14 @@ fn slot_in_round(hash: u64, lg: u8, round: usize) -> usize
 }
 
 /// Moves the entries of `left` into free slots beside the taken ones; afterwards the contents of `left` are
-/// unspecified. Counts the entries in `placed` and the looks at slots in `looks`.
+/// unspecified. Counts the entries in `placed` and the looks at slots in `looks`. Returns the number of rounds.
 fn settle<E: SlotEntry>(
     left: &mut [E::Slot],
     slots: &mut [E::Slot],
     lg: u8,
     placed: &mut Count,
     looks: &mut Count,
-)
+) -> usize
     requires small { lg < 40 }
     requires laid_out { IsLaidOut E.key lg (map E.content slots.old) }
     requires once { (q : ℕ) → hash_count E.key q (entries_in E.content left.old) + hash_count E.key q (entries_in E.content slots.old) ≤ 1 }
@@ -116,7 +117,7 @@ fn settle<E: SlotEntry>(
     let mut round = 0;
     'rounds: loop {
         if count == 0 {
-            return;
+            return round;
         }
         let mut kept = 0;
         'look_on: for at in 0..count {
@@ -140,9 +141,10 @@ fn settle<E: SlotEntry>(
 /// of memory.
 const PART: usize = 1024;
 
-/// Moves the entries of `left` into slots, all of which are free, `PART` slots at a time. Counts the entries in
-/// `placed` and the looks at slots in `looks`.
-pub(crate) fn settle_all<E: SlotEntry, A: Allocator>(
+/// Moves the entries of `left` into slots, all of which are free, `PART` slots at a time. If a part takes more than
+/// `NEAR` rounds, many hashes share paths, and the rest is put along these. Counts the entries in `placed` and the looks
+/// at slots in `looks`.
+pub fn settle_all<E: SlotEntry, A: Allocator>(
     left: &mut Vec<E::Slot, A>,
     slots: &mut [E::Slot],
     lg: u8,
@@ -166,7 +168,11 @@ pub(crate) fn settle_all<E: SlotEntry, A: Allocator>(
             return;
         }
         let from = count.saturating_sub(PART);
-        settle::<E>(&mut left[from..], slots, lg, placed, looks);
+        let rounds = settle::<E>(&mut left[from..], slots, lg, placed, looks);
         left.truncate(from);
+        if rounds > NEAR {
+            put_along_paths::<E, A>(left, slots, lg, placed, looks);
+            return;
+        }
     }
 }

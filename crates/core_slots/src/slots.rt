@@ -1,5 +1,5 @@
 //! Entries in slots.
-ghost use Rattle.std.specs.Prelude.{◌≡◌, ℕ, ◌+◌, ◌-◌, ◌<◌, ◌≤◌, ◌^◌, ◌%◌, ◌*◌, true, false, nat_lt, Some, None, is_none, IfOk, OnOk, OnErr, [], ◌∷◌, length, map, option_map, unwrap_or};
+ghost use Rattle.std.specs.Prelude.{◌≡◌, ℕ, ◌+◌, ◌-◌, ◌<◌, ◌≤◌, ◌^◌, ◌%◌, ◌*◌, true, false, nat_lt, Some, None, is_none, IfNone, IfSome, IfOk, OnOk, OnErr, [], ◌∷◌, length, map, option_map, unwrap_or};
 ghost use Rattle.std.specs.List.{count_by};
 ghost use Rattle.std.specs.Option.{option_copied};
 ghost use Rattle.core_laws.specs.Entries.{hash_key};
@@ -7,6 +7,7 @@ ghost use Rattle.core_laws.specs.Maps.{rank, IsApart, below, with_entry};
 ghost use Rattle.core_slots.specs.SlotLayout.{filled, slot, is_other, IsOnPath, IsLaidOut, entries_in, slot_map};
 ghost use Rattle.core_slots.specs.Placing.{IsFreeFor, LooksForEach, LooksAtPlaced};
 ghost use Rattle.core_slots.specs.Probe.{probe, stride};
+ghost use Rattle.core_slots.specs.declared.slots.TheConstants.{NEAR};
 
 use crate::count::Count;
 use crate::gathering::pack_below;
@@ -25,7 +26,7 @@ pub struct Place {
 
 /// The entry that a slot holds, if any. Each look of a search is one call.
 #[inline(always)]
-fn look_at<'a, E: PathEntry + 'a>(
+pub(crate) fn look_at<'a, E: PathEntry + 'a>(
     slots: &'a [E::Slot],
     at: usize,
     looks: &mut Count,
@@ -101,6 +102,50 @@ pub fn seek<E: PathEntry>(slots: &[E::Slot], lg: u8, hash: u64, looks: &mut Coun
         }
         at = slot_among(at + stride, size, lg);
     }
+}
+
+/// How many slots `seek_near` looks at. If hashes are spread, hardly one search in 10^14 needs more, however full the
+/// slots of a table are.
+pub const NEAR: usize = 512;
+
+/// The slot where a search for a hash ends, as `seek` returns it, if it ends within `NEAR` looks. At least one of the
+/// 2^`lg` slots is free.
+///
+/// Counts each look at a slot in `looks`: from 1 to `NEAR`, and at most one more than the number of taken slots.
+#[inline(always)]
+pub fn seek_near<E: PathEntry>(
+    slots: &[E::Slot],
+    lg: u8,
+    hash: u64,
+    looks: &mut Count,
+) -> Option<Place>
+    requires small { lg < 40 }
+    requires size { length slots.now ≡ 2 ^ lg }
+    requires room { length (entries_in E.content slots.now) < 2 ^ lg }
+    ensures inside { IfSome result (λ p. p.at < length slots.now) }
+    ensures on_path { IfSome result (λ p. IsOnPath E.key lg (map E.content slots.now) hash p.at) }
+    ensures ends { IfSome result (λ p. is_other E.key hash (slot (map E.content slots.now) p.at) ≡ false) }
+    ensures is_free { IfSome result (λ p. p.is_free ≡ is_none (slot (map E.content slots.now) p.at)) }
+    ensures far { IfNone result (looks.new ≡ looks.old + NEAR) }
+    ensures looked { looks.old < looks.new }
+    ensures few { looks.new ≤ looks.old + NEAR }
+    ensures looks { looks.new ≤ looks.old + length (entries_in E.content slots.now) + 1 }
+{
+    let size = slots.len();
+    let stride = stride_of(hash, lg);
+    let mut at = slot_among(hash as usize, size, lg);
+    'look: for _step in 0..NEAR {
+        match look_at::<E>(slots, at, looks) {
+            None => return Some(Place { at, is_free: true }),
+            Some(entry) => {
+                if entry.hash() == hash {
+                    return Some(Place { at, is_free: false });
+                }
+            }
+        }
+        at = slot_among(at + stride, size, lg);
+    }
+    None
 }
 
 /// The slot that a search for a hash looks at after `steps` steps, below 2^`lg`.

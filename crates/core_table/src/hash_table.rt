@@ -1,5 +1,5 @@
 //! The table of retained entries.
-ghost use Rattle.std.specs.Prelude.{◌≡◌, ◌==◌, ◌⊎◌, ◌&&◌, if◌then◌else◌, ◌+◌, ◌-◌, ◌*◌, ◌<◌, ◌≤◌, ◌^◌, [], not, true, false, None, nat_lt, length, take, IfOk, IsOk, OnOk, OnErr, IsTrue};
+ghost use Rattle.std.specs.Prelude.{◌≡◌, ◌==◌, ◌⊎◌, ◌&&◌, if◌then◌else◌, ◌+◌, ◌-◌, ◌*◌, ◌/◌, ◌<◌, ◌≤◌, ◌^◌, [], not, true, false, None, nat_lt, length, take, Some, IfOk, IfErr, IsOk, OnOk, OnErr, IsTrue};
 ghost use Rattle.std.specs.List.{AllByRecursion, concat};
 ghost use Rattle.std.specs.Option.{ForSome, option_copied};
 ghost use Rattle.sketch_base.specs.Seed.{hash_of};
@@ -14,25 +14,27 @@ ghost use Rattle.core_table.specs.ResizeFactor.{lg_of};
 ghost use Rattle.core_slots.specs.SlotLayout.{filled, IsLaidOut, entries_in, slot_map};
 ghost use Rattle.core_slots.specs.Entry.{tuple_key, entry_step};
 ghost use Rattle.core_table.specs.declared.hash_table.TheConstants.{BLOCK};
-ghost use Rattle.core_laws.specs.Insertion.{IsRedundant, Drops, creates, RefusesUpsert};
+ghost use Rattle.core_laws.specs.Insertion.{IsRedundant, Drops, creates, upsert_refusal, RefusesUpsert};
+ghost use Rattle.core_slots.specs.declared.slots.TheConstants.{NEAR};
+ghost use Rattle.core_table.specs.Filling.{IsFill};
+ghost use Rattle.sketch_base.specs.declared.error.ErrorKind.TheVariants.{OutOfMemory};
 
-use crate::answering::{cut_theta, entries_below, state_below};
+use crate::answering::{cut_theta, entries_below, sorted_by_hash, state_below};
 use crate::clearing::{clear_slots, operator_slots};
 use crate::insertion::{
-    Counts, Sizes, cut_slots, nominal_size, nothing, put_entry, starting_size, threshold_of,
-    write_at,
+    Counts, Sizes, cut_slots, nominal_size, nothing, put_entry, size_for, starting_size,
+    threshold_of, write_at,
 };
 use crate::iter::SketchHashTableIter;
 use crate::resize_factor::ResizeFactor;
-use crate::smaller::filled;
 use core_compact::CompactSketchState;
 use core_laws::{MAX_LG_K, MAX_THETA, MIN_LG_K, MIN_LG_SLOTS};
 use core_slots::{
     Count, EntryStep, PutStep, SlotEntry, ThetaEntry, TupleEntry, UpsertStep, drop_retained,
-    free_slots, seek,
+    free_slots, seek, seek_near, settle_all,
 };
 use sketch_base::{Error, ErrorKind, MurmurHash3X64128, compute_seed_hash};
-use std::alloc::{Allocator, Global};
+use std::alloc::{AllocError, Allocator, Global};
 use std::hash::{Hash, Hasher};
 use std::marker::{Model, PhantomData};
 
@@ -430,6 +432,67 @@ impl<E: SlotEntry + Drop, A: Allocator + Clone> SketchHashTable<E, A> {
         }
     }
 
+    /// Does what `upsert_entry` does, if the search for the hash ends within `NEAR` looks at slots, and returns whether
+    /// it did. Otherwise nothing changes. Refused as `upsert_entry` is.
+    #[inline(always)]
+    pub fn upsert_near<S: UpsertStep<E> + Drop>(
+        &mut self,
+        hash: u64,
+        step: S,
+    ) -> Result<bool, Error>
+        requires keeps_hash { (x : E) → E.key x ≡ hash → E.key ((S.means step).writes x) ≡ hash }
+        requires makes_hash { ForSome (S.means step).makes (λ x. E.key x ≡ hash) }
+        requires room { IsTrue (may_insert E.key hash self.old.map) }
+        ensures after { IfOk result (λ done.
+            self.new.map ≡ if done then after_insertion E.key hash (S.means step) self.old.map else self.old.map) }
+        ensures allowed { IfOk result (λ done.
+            done ≡ true → upsert_refusal E.key hash (S.means step) self.old.map.kept ≡ None) }
+        ensures err { OnErr result (self.new.map ≡ self.old.map) }
+        ensures refused { IfErr result (λ kind.
+            (upsert_refusal E.key hash (S.means step) self.old.map.kept ≡ Some kind) ⊎ (kind ≡ OutOfMemory)) }
+        ensures grows { self.new.layout.grow ≡ self.old.layout.grow }
+        ensures far { IfOk result (λ done. done ≡ false → self.new.counts.looks ≡ self.old.counts.looks + NEAR) }
+        ensures near { let placed = self.new.counts.placed - self.old.counts.placed in
+            2 * self.new.counts.looks ≤ 2 * (self.old.counts.looks + NEAR) + placed * (placed + 1) }
+    {
+        // After many insertions most hashes are at least theta, so this is checked first.
+        if self.theta <= hash || hash == 0 {
+            return Ok(true);
+        }
+        let found = seek_near::<E>(&self.slots, self.lg_cur_size, hash, &mut self.counts.looks);
+        let Some(place) = found else {
+            return Ok(false);
+        };
+        if !place.is_free {
+            write_at::<E, S>(&mut self.slots, place.at, step)?;
+            return Ok(true);
+        }
+        match step.absent()? {
+            None => Ok(true),
+            Some(entry) => {
+                let settled = put_entry::<E, A>(
+                    &mut self.slots,
+                    Sizes {
+                        lg_cur: self.lg_cur_size,
+                        lg_nom: self.lg_nom_size,
+                        grow: self.resize_factor.lg_value(),
+                        most: self.threshold,
+                        count: self.count,
+                        theta: self.theta,
+                    },
+                    place.at,
+                    entry,
+                    &mut self.counts,
+                )?;
+                self.lg_cur_size = settled.lg_cur;
+                self.threshold = settled.most;
+                self.theta = settled.theta;
+                self.count = settled.count;
+                Ok(true)
+            }
+        }
+    }
+
     /// If more than the k nominal entries are retained, lowers theta to the (k+1)th smallest hash and keeps the k
     /// entries below it.
     ///
@@ -552,8 +615,8 @@ impl<E: SlotEntry + Clone, A: Allocator + Clone> SketchHashTable<E, A> {
         let seed = self.seed;
         let mut smaller = SketchHashTable::new(alloc, lg_nom_size, grow, start, seed)?;
         smaller.set_retention_theta(lesser);
-        let table = filled(smaller, kept)?;
-        Ok(table)
+        smaller.refill(kept)?;
+        Ok(smaller)
     }
 }
 
@@ -577,8 +640,81 @@ impl<E: SlotEntry + Clone, A: Allocator + Clone> SketchHashTable<E, A> {
         let seed = self.seed;
         let mut copy = SketchHashTable::new(alloc, self.lg_nom_size, grow, start, seed)?;
         copy.set_retention_theta(self.theta);
-        let table = filled(copy, entries)?;
-        Ok(table)
+        copy.refill(entries)?;
+        Ok(copy)
+    }
+}
+
+impl<E: SlotEntry + Clone, A: Allocator + Clone> SketchHashTable<E, A> {
+    /// Clones of its entries, in ascending order. Refused with `OutOfMemory` alone.
+    pub fn sorted_entries(&self) -> Result<Vec<E, A>, Error>
+        requires clones_equal { ClonesEqual E.is_clone }
+        ensures listed { IfOk result (λ v. v.items ≡ self.now.map.kept.entries) }
+        ensures refused { Refuses result None true }
+    {
+        let alloc = self.slots.allocator().clone()?;
+        let entries = entries_below::<E, A>(alloc, &self.slots, self.theta, self.count)?;
+        Ok(sorted_by_hash(entries))
+    }
+}
+
+/// Slots that hold these entries, in their order. Counts each entry as inserted.
+fn slots_holding<E: SlotEntry + Drop, A: Allocator>(
+    alloc: A,
+    entries: Vec<E, A>,
+    counts: &mut Counts,
+) -> Result<Vec<E::Slot, A>, AllocError>
+    requires nonzero { AllByRecursion (λ x. 0 < E.key x) entries.items }
+    ensures held { IfOk result (λ slots. entries_in E.content slots.items ≡ entries.items) }
+    ensures ticked { IfOk result (λ slots. let count = length entries.items in
+        counts.new
+        ≡ record counts.old { inserted = counts.old.inserted + count; fresh = counts.old.fresh + count }) }
+{
+    let mut slots = Vec::with_capacity(alloc, entries.len())?;
+    'hold_each: for entry in entries {
+        slots.push(entry.into_slot())?;
+        counts.inserted.tick();
+        counts.fresh.tick();
+    }
+    Ok(slots)
+}
+
+impl<E: SlotEntry + Drop, A: Allocator + Clone> SketchHashTable<E, A> {
+    /// Replaces its entries by others, whose hashes are distinct, from 1 to below its theta, and at most 15k/8. There
+    /// must be at least 8 nominal entries, as in every table of `new`. The slots are laid out at once, and the counts of
+    /// its work begin anew. Refused with `OutOfMemory` alone; then nothing has changed.
+    pub fn refill(&mut self, entries: Vec<E, A>) -> Result<(), Error>
+        requires of_sketch { 3 ≤ self.old.map.lg_nom }
+        requires fill { IsFill E.key (15 * 2 ^ self.old.map.lg_nom / 8) self.old.map.kept.theta entries.items }
+        ensures after { OnOk result (
+            self.new.map
+            ≡ record self.old.map
+            { kept = record { entries = map_of E.key entries.items; theta = self.old.map.kept.theta } }) }
+        ensures err { OnErr result (self.new.map ≡ self.old.map) }
+        ensures grows { self.new.layout.grow ≡ self.old.layout.grow }
+        ensures refused { Refuses result None true }
+    {
+        let count = entries.len();
+        let lg = size_for(
+            self.lg_cur_size,
+            self.lg_nom_size,
+            self.resize_factor.lg_value(),
+            count,
+        );
+        let mut counts = nothing();
+        let aside = self.slots.allocator().clone()?;
+        let mut left = slots_holding::<E, A>(aside, entries, &mut counts)?;
+        let alloc = self.slots.allocator().clone()?;
+        let mut slots = free_slots::<E, A>(alloc, lg)?;
+        // They are not counted as placed: no insertion moves them.
+        let mut placed = Count::new();
+        settle_all::<E, A>(&mut left, &mut slots, lg, &mut placed, &mut counts.looks);
+        self.lg_cur_size = lg;
+        self.threshold = threshold_of(lg, self.lg_nom_size);
+        self.count = count;
+        self.slots = slots;
+        self.counts = counts;
+        Ok(())
     }
 }
 

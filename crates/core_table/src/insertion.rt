@@ -77,6 +77,22 @@ pub(crate) fn starting_size(lg_nom: u8, grow: u8) -> u8
     starting_sub_multiple(lg_nom + 1, MIN_LG_SLOTS, grow)
 }
 
+/// The binary logarithm of the slots that a table with 2^`lg_cur` slots has once it has grown for `count` entries, which
+/// are at most fifteen eighths of the nominal ones.
+pub(crate) fn size_for(lg_cur: u8, lg_nom: u8, grow: u8, count: usize) -> u8
+    requires sized { HasSize lg_cur lg_nom grow 0 }
+    requires large { 3 ≤ lg_nom }
+    requires limited { count ≤ 15 * 2 ^ lg_nom / 8 }
+    ensures sized { HasSize result lg_nom grow count }
+    ensures small { result < 40 }
+{
+    let mut lg = lg_cur;
+    'grow: while count > threshold_of(lg, lg_nom) {
+        lg = (lg + grow).min(lg_nom + 1);
+    }
+    lg
+}
+
 /// How many entries the slots may have, for their binary logarithm and that of the nominal entries.
 #[inline(always)]
 pub(crate) fn threshold_of(lg_cur: u8, lg_nom: u8) -> usize

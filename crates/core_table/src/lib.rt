@@ -9,7 +9,6 @@ mod hash_table;
 mod insertion;
 mod iter;
 mod resize_factor;
-mod smaller;
 
 pub use answering::sorted_by_hash;
 pub use hash_table::{SketchHashTable, ThetaHashTable, TupleHashTable};

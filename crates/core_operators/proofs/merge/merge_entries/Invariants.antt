@@ -1,6 +1,6 @@
 use Rattle.std.proofs.Common.{◌≡◌, ◌^◌, length, map, min}
 use Rattle.core_laws.specs.Step.{merge_step}
-use Rattle.core_laws.specs.Maps.{below}
+use Rattle.core_laws.specs.Maps.{below, IsApart}
 use Rattle.core_laws.specs.Insertion.{after_upserts}
 use Rattle.core_laws.specs.Folds.{Value, fold_key, fold_merges, unmarked, never}
 use Rattle.core_operators.specs.Union.{at_or_above}
@@ -21,6 +21,7 @@ invariant-merge_each g l =
       lesser_is : l.lesser ≡ min l.theta l.table.map.kept.theta;
       made_with : l.table.map ≡ record l.initial.table.map { kept = l.table.map.kept };
       merging : IsMerging key all l.initial.table.map.kept.entries left l.table.map.kept.entries l.ordered;
+      apart : IsApart key l.entries.rest;
     }
 
 -- the entries that are left

@@ -7,18 +7,10 @@ pub gather-requires-clause-room : goal.gather-requires-clause-room
 gather-requires-clause-room g c =
     omega (arith, low_count g.E.SketchEntry.key g.E.PathEntry.content c.args.lg c.args.theta c.args.slots.now.items _ c.requires.laid_out c.deref_mut.ensures.value, c.requires.kept, c.in_ok-others.ensures.size)
 
-pub returns-then-lg-le-GATHERED_LG-clause-map : goal.returns-then-lg-le-GATHERED_LG-clause-map
-returns-then-lg-le-GATHERED_LG-clause-map g c =
-    kept_map g.E.SketchEntry.key g.E.PathEntry.content c.args.lg c.args.theta _ _ c.requires.laid_out c.deref_mut.ensures.value _ _ (search (rules, places)) c.gather.ensures.map
-
-pub returns-then-lg-le-GATHERED_LG-clause-placed : goal.returns-then-lg-le-GATHERED_LG-clause-placed
-returns-then-lg-le-GATHERED_LG-clause-placed g c =
-    kept_count g.E.SketchEntry.key g.E.PathEntry.content c.args.lg c.args.theta _ _ c.requires.laid_out c.deref_mut.ensures.value _ _ (search (rules, places)) c.gather.ensures.map _ _ _ c.gather.ensures.laid_out c.gather.ensures.placed
-
 pub returns-clause-map : goal.returns-clause-map
 returns-clause-map g c =
-    kept_map g.E.SketchEntry.key g.E.PathEntry.content c.args.lg c.args.theta _ _ c.requires.laid_out c.deref_mut-2.ensures.value _ _ (search (rules, places)) c.relay.ensures.map
+    kept_map g.E.SketchEntry.key g.E.PathEntry.content c.args.lg c.args.theta _ _ c.requires.laid_out c.deref_mut.ensures.value _ _ (search (rules, places)) c.gather.ensures.map
 
 pub returns-clause-placed : goal.returns-clause-placed
 returns-clause-placed g c =
-    kept_count g.E.SketchEntry.key g.E.PathEntry.content c.args.lg c.args.theta _ _ c.requires.laid_out c.deref_mut-2.ensures.value _ _ (search (rules, places)) c.relay.ensures.map _ _ _ c.relay.ensures.laid_out c.relay.ensures.placed
+    kept_count g.E.SketchEntry.key g.E.PathEntry.content c.args.lg c.args.theta _ _ c.requires.laid_out c.deref_mut.ensures.value _ _ (search (rules, places)) c.gather.ensures.map _ _ _ c.gather.ensures.laid_out c.gather.ensures.placed

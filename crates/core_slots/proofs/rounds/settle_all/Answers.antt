@@ -1,13 +1,12 @@
-use Rattle.std.proofs.Common.{◌≡◌, ℕ, ◌+◌, ◌++◌, [], eqb, length, length-append, map, take, drop, sym, ap, ◌∙◌, subst, arith}
+use Rattle.std.proofs.Common.{◌≡◌, ℕ, [], eqb, length, length-append, map, take, drop, ap, ◌∙◌, subst, arith}
 use Rattle.std.proofs.lemmas.List.{nil_from_length}
-use Rattle.core_laws.specs.Maps.{entry_at}
 use Rattle.core_slots.specs.SlotLayout.{filled}
 use Rattle.core_slots.specs.Rounds.{IsInRound, hash_count}
 use Rattle.core_slots.proofs.Held.{length-content, two_parts}
 use Rattle.core_slots.proofs.SlotLayouts.{laid_out_empty}
 use Rattle.core_slots.proofs.Moves.{count-append}
-use Rattle.core_slots.proofs.Relays.{apart_once}
-use Rattle.core_slots.proofs.Settled.{all_wait, rest_part, front_kept, part_settled, settled_map, looks_part}
+use Rattle.core_slots.proofs.HashCounts.{apart_once}
+use Rattle.core_slots.proofs.Settled.{all_wait, rest_part, part_settled, part_done, settled_map, looks_part}
 use Rattle.core_slots.proofs.rounds.settle_all.Goals as goal
 
 pub parts-init : goal.parts-init
@@ -32,8 +31,8 @@ returns-then-count-eq0-clause-map g c =
 pub returns-then-count-eq0-clause-looked : goal.returns-then-count-eq0-clause-looked
 returns-then-count-eq0-clause-looked g c = omega (arith, c.parts.invariant.1, c.parts.invariant.2)
 
-pub settle-requires-clause-once : goal.settle-requires-clause-once
-settle-requires-clause-once g c =
+pub settle-rounds-requires-clause-once : goal.settle-rounds-requires-clause-once
+settle-rounds-requires-clause-once g c =
     let key = g.E.SketchEntry.key in
     let content = g.E.PathEntry.content in
     let i = c.parts.invariant in
@@ -43,8 +42,8 @@ settle-requires-clause-once g c =
     let part = filled (map content (drop from now)) in
     rw (rest_part now from) (λ q. omega (arith, i.4.all q, i.4.once q, ap (λ xs. hash_count key q (filled (map content xs))) c.deref_mut.ensures.value, ap (hash_count key q) (two_parts content now from), count-append (λ x. eqb (key x) q) front part))
 
-pub settle-requires-clause-room : goal.settle-requires-clause-room
-settle-requires-clause-room g c =
+pub settle-rounds-requires-clause-room : goal.settle-rounds-requires-clause-room
+settle-rounds-requires-clause-room g c =
     let is = c.parts.invariant.4 in
     let content = g.E.PathEntry.content in
     let now = c.deref_mut.result.now in
@@ -53,30 +52,72 @@ settle-requires-clause-room g c =
     let part = filled (map content (drop from now)) in
     rw (rest_part now from) (omega (arith, c.requires.room, is.counted, is.all_put, ap (λ xs. length (filled (map content xs))) c.deref_mut.ensures.value, ap length (two_parts content now from), length-append front part))
 
+pub put_along_paths-requires-clause-once : goal.put_along_paths-requires-clause-once
+put_along_paths-requires-clause-once g c =
+    let key = g.E.SketchEntry.key in
+    let content = g.E.PathEntry.content in
+    let i = c.parts.invariant in
+    let whole = filled (map content c.args.left.now.items) in
+    let now = c.deref_mut.result.now in
+    let from : ℕ = c.saturating_sub-from.result in
+    let settled = c.settle-rounds.ensures in
+    let is = part_done content key c.args.lg whole c.parts.left.items now _ _ c.truncate.new.self.items from c.parts.left.len (map content c.parts.slots) (map content c.settle-rounds.new.slots) i.0 c.deref_mut.ensures.value c.truncate.ensures.items (omega (arith, c.saturating_sub-from.ensures, c.len-count.ensures, ap length c.deref_mut.ensures.value)) (omega (arith, c.saturating_sub-from.ensures, c.len-count.ensures, c.deref_mut.ensures.len)) i.4 settled.laid_out settled.found settled.all settled.count in
+    λ q. omega (arith, is.all q, is.once q)
+
+pub put_along_paths-requires-clause-room : goal.put_along_paths-requires-clause-room
+put_along_paths-requires-clause-room g c =
+    let key = g.E.SketchEntry.key in
+    let content = g.E.PathEntry.content in
+    let i = c.parts.invariant in
+    let whole = filled (map content c.args.left.now.items) in
+    let now = c.deref_mut.result.now in
+    let from : ℕ = c.saturating_sub-from.result in
+    let settled = c.settle-rounds.ensures in
+    let is = part_done content key c.args.lg whole c.parts.left.items now _ _ c.truncate.new.self.items from c.parts.left.len (map content c.parts.slots) (map content c.settle-rounds.new.slots) i.0 c.deref_mut.ensures.value c.truncate.ensures.items (omega (arith, c.saturating_sub-from.ensures, c.len-count.ensures, ap length c.deref_mut.ensures.value)) (omega (arith, c.saturating_sub-from.ensures, c.len-count.ensures, c.deref_mut.ensures.len)) i.4 settled.laid_out settled.found settled.all settled.count in
+    omega (arith, is.counted, c.requires.room)
+
+pub returns-then-rounds-gt-NEAR-clause-map : goal.returns-then-rounds-gt-NEAR-clause-map
+returns-then-rounds-gt-NEAR-clause-map g c =
+    let key = g.E.SketchEntry.key in
+    let content = g.E.PathEntry.content in
+    let i = c.parts.invariant in
+    let whole = filled (map content c.args.left.now.items) in
+    let now = c.deref_mut.result.now in
+    let from : ℕ = c.saturating_sub-from.result in
+    let after = map content c.settle-rounds.new.slots in
+    let end = map content c.put_along_paths.new.slots in
+    let settled = c.settle-rounds.ensures in
+    let is = part_done content key c.args.lg whole c.parts.left.items now _ _ c.truncate.new.self.items from c.parts.left.len (map content c.parts.slots) (map content c.settle-rounds.new.slots) i.0 c.deref_mut.ensures.value c.truncate.ensures.items (omega (arith, c.saturating_sub-from.ensures, c.len-count.ensures, ap length c.deref_mut.ensures.value)) (omega (arith, c.saturating_sub-from.ensures, c.len-count.ensures, c.deref_mut.ensures.len)) i.4 settled.laid_out settled.found settled.all settled.count in
+    let put = c.put_along_paths.ensures in
+    settled_map key c.args.lg whole end 0 0 (length (filled end)) 0 (part_settled key c.args.lg whole [] (filled (map content c.truncate.new.self.items)) after end (length (filled after)) is put.laid_out put.found put.all put.count)
+
+pub returns-then-rounds-gt-NEAR-clause-placed : goal.returns-then-rounds-gt-NEAR-clause-placed
+returns-then-rounds-gt-NEAR-clause-placed g c =
+    let key = g.E.SketchEntry.key in
+    let content = g.E.PathEntry.content in
+    let i = c.parts.invariant in
+    let whole = filled (map content c.args.left.now.items) in
+    let now = c.deref_mut.result.now in
+    let from : ℕ = c.saturating_sub-from.result in
+    let settled = c.settle-rounds.ensures in
+    let is = part_done content key c.args.lg whole c.parts.left.items now _ _ c.truncate.new.self.items from c.parts.left.len (map content c.parts.slots) (map content c.settle-rounds.new.slots) i.0 c.deref_mut.ensures.value c.truncate.ensures.items (omega (arith, c.saturating_sub-from.ensures, c.len-count.ensures, ap length c.deref_mut.ensures.value)) (omega (arith, c.saturating_sub-from.ensures, c.len-count.ensures, c.deref_mut.ensures.len)) i.4 settled.laid_out settled.found settled.all settled.count in
+    omega (arith, i.1, i.4.all_put, is.counted, settled.placed, settled.count, c.put_along_paths.ensures.placed)
+
 pub parts-preserved : goal.parts-preserved
 parts-preserved g c =
     let key = g.E.SketchEntry.key in
     let content = g.E.PathEntry.content in
     let i = c.parts.invariant in
-    let was = i.4 in
     let whole = filled (map content c.args.left.now.items) in
     let now = c.deref_mut.result.now in
     let from : ℕ = c.saturating_sub-from.result in
-    let front = filled (map content (take from now)) in
-    let part = filled (map content (drop from now)) in
     let slots = map content c.parts.slots in
-    let after = map content c.settle.new.slots in
-    let left_is : c.truncate.new.self.items ≡ take from now = c.truncate.ensures.items ∙ front_kept now _ _ from c.parts.left.len (omega (arith, c.saturating_sub-from.ensures, c.len-count.ensures, ap length c.deref_mut.ensures.value)) (omega (arith, c.saturating_sub-from.ensures, c.len-count.ensures, c.deref_mut.ensures.len)) in
-    let rest : filled (map content c.parts.left.items) ≡ front ++ part = ap (λ xs. filled (map content xs)) (sym c.deref_mut.ensures.value) ∙ two_parts content now from in
-    let is : IsInRound key c.args.lg whole [] (front ++ part) slots 0 0 i.0 0 = subst (λ xs. IsInRound key c.args.lg whole [] xs slots 0 0 i.0 0) rest was in
-    let found : (q : ℕ) → entry_at key (filled after) q ≡ entry_at key (part ++ filled slots) q = rw (rest_part now from) at c.settle.ensures.found in
-    let all : (q : ℕ) → hash_count key q (filled after) ≡ hash_count key q part + hash_count key q (filled slots) = rw (rest_part now from) at c.settle.ensures.all in
-    let count : length (filled after) ≡ length part + length (filled slots) = rw (rest_part now from) at c.settle.ensures.count in
-    let placed : c.settle.new.placed ≡ c.parts.placed + length part = rw (rest_part now from) at c.settle.ensures.placed in
-    rw left_is (
+    let after = map content c.settle-rounds.new.slots in
+    let settled = c.settle-rounds.ensures in
+    let is = part_done content key c.args.lg whole c.parts.left.items now _ _ c.truncate.new.self.items from c.parts.left.len (map content c.parts.slots) (map content c.settle-rounds.new.slots) i.0 c.deref_mut.ensures.value c.truncate.ensures.items (omega (arith, c.saturating_sub-from.ensures, c.len-count.ensures, ap length c.deref_mut.ensures.value)) (omega (arith, c.saturating_sub-from.ensures, c.len-count.ensures, c.deref_mut.ensures.len)) i.4 settled.laid_out settled.found settled.all settled.count in (
       length (filled after),
-      omega (arith, i.1, was.all_put, count, placed),
-      omega (arith, i.2, c.settle.ensures.looked, was.all_put, count, placed),
-      looks_part c.settle.new.looks c.parts.looks c.args.looks.now (length (filled after)) (length (filled slots)) i.0 was.all_put c.settle.ensures.looks i.3,
-      part_settled key c.args.lg whole front part slots after i.0 is c.settle.ensures.laid_out found all count,
+      omega (arith, i.1, i.4.all_put, settled.count, settled.placed),
+      omega (arith, i.2, settled.looked, i.4.all_put, settled.count, settled.placed),
+      looks_part c.settle-rounds.new.looks c.parts.looks c.args.looks.now (length (filled after)) (length (filled slots)) i.0 i.4.all_put settled.looks i.3,
+      is,
     )

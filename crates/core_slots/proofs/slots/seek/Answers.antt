@@ -1,19 +1,11 @@
-use Rattle.std.proofs.Common.{◌≡◌, ℕ, ◌+◌, ◌<◌, ◌≤◌, ◌^◌, ◌%◌, ◌==◌, not, true, List, Option, Some, length, map, sym, ap, ◌∙◌, arith}
+use Rattle.std.proofs.Common.{◌≡◌, ℕ, ◌+◌, ◌≤◌, ◌^◌, ◌%◌, ◌==◌, not, true, Some, map, sym, ap, ◌∙◌, arith}
 use Rattle.std.proofs.Math.Pow.{pow_mono}
 use Rattle.std.proofs.lemmas.Bool.Decides.{nat_tests}
-use Rattle.core_slots.specs.SlotLayout.{filled, slot, is_other, HasOthers, IsOnPath}
+use Rattle.core_slots.specs.SlotLayout.{slot, is_other}
 use Rattle.core_slots.specs.Probe.{probe}
+use Rattle.core_slots.proofs.Searches.{passed, ends_on_path}
 use Rattle.core_slots.proofs.SlotLayouts.{probe_start, probe_next, probe_low, others_none, others_more, few_others}
 use Rattle.core_slots.proofs.slots.seek.Goals as goal
-
--- a search that passed n slots of other entries
-module _ {X : Type 0} (key : X → ℕ) (lg h n : ℕ) (slots : List (Option X)) where
-  passed : n ≤ 2 ^ lg → HasOthers key lg slots h n → n ≤ length (filled slots)
-  passed most others = few_others key lg h n slots most others
-
-  -- where it ends then
-  ends_on_path : (at : ℕ) → at ≡ probe h lg n → n ≤ 2 ^ lg → HasOthers key lg slots h n → length (filled slots) < 2 ^ lg → IsOnPath key lg slots h at
-  ends_on_path at is most others room = record { step = n; in_range = omega (arith, passed most others, room); present = sym is; others = others }
 
 pub look-init : goal.look-init
 look-init g c = (0, omega arith, c.slot_among-at.ensures.value ∙ sym (probe_start c.args.hash c.args.lg), omega arith, others_none g.E.SketchEntry.key c.args.lg (map g.E.PathEntry.content c.args.slots.now) c.args.hash)

@@ -20,8 +20,8 @@ all_fit key xs each lg_k own low small kept limited =
     let most : 2 ^ lg_k ≤ 2 ^ 26 = pow_mono {i = lg_k} {j = 26} small in
     makes_all key xs each (15 * 2 ^ lg_k / 8) own kept (limited (omega (arith, least))) (omega (arith, most))
 
-pub filled-requires-clause-fill : goal.filled-requires-clause-fill
-filled-requires-clause-fill g c =
+pub refill-requires-clause-fill : goal.refill-requires-clause-fill
+refill-requires-clause-fill g c =
     let own = c.self.inside in
     let table = c.self.invariant.slotted.table in
     let xs = filled (map g.E.PathEntry.content own.slots.items) in
@@ -38,13 +38,13 @@ returns-clause-copied g c =
     let fit = all_fit key xs (slotted_sequence key _ _ _ _ _ c.self.invariant.slotted).apart own.lg_nom_size own.theta (rw (← c.self.view_is) at c.requires.of_sketch) (rw (← c.self.view_is) at c.requires.small) table.kept table.limited in
     let listed : c.in_ok-entries.entries.items ≡ below key xs own.theta = rw c.deref.ensures.value at c.in_ok-entries.ensures.listed in
     let T = MapTable g.row.E.Denot in
-    let slots : own.has_slots ≡ true = has_slots own.has_slots own.lg_nom_size table.without_slots (rw (← c.self.view_is) at c.requires.of_sketch) in
+    let slots : own.has_slots ≡ true = has_slots own.has_slots own.lg_nom_size table.without_slots (omega (arith, rw (← c.self.view_is) at c.requires.of_sketch)) in
     let hash : own.seed_hash ≡ seed_hash own.seed = table.made.of_seed in
     let put : T → T = λ t. record t { kept = record { entries = map_of key c.in_ok-entries.entries.items; theta = t.kept.theta } } in
     let set : T → T = λ t. record t { kept = record t.kept { theta = own.theta } } in
     let with : Retained g.row.E.Denot → T = λ v. record (empty_table own.lg_nom_size own.starting_theta own.seed) { kept = v } in
-    let done : c.in_ok-table.table.map ≡ with (record { entries = map_of key xs; theta = own.theta }) =
-    c.in_ok-table.ensures.after
+    let done : c.refill.new.self.map ≡ with (record { entries = map_of key xs; theta = own.theta }) =
+    c.in_ok-refill.ensures.after
     ∙ ap put c.set_retention_theta.ensures.after
     ∙ ap (λ t. put (set t)) c.in_ok-copy.ensures.made
     ∙ ap (λ ys. with (record { entries = map_of key ys; theta = own.theta })) listed

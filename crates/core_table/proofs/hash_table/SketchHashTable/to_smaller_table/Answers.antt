@@ -23,8 +23,8 @@ cut_theta-requires-clause-apart g c = rw c.deref.ensures.value (slotted_sequence
 pub cut_theta-requires-clause-nonzero : goal.cut_theta-requires-clause-nonzero
 cut_theta-requires-clause-nonzero g c = rw c.deref.ensures.value c.self.invariant.slotted.table.kept.nonzero
 
-pub filled-requires-clause-fill : goal.filled-requires-clause-fill
-filled-requires-clause-fill g c =
+pub refill-requires-clause-fill : goal.refill-requires-clause-fill
+refill-requires-clause-fill g c =
     let key = g.E.SketchEntry.key in
     let lesser : ℕ = c.in_ok-lesser.lesser in
     let xs = filled (map g.E.PathEntry.content c.self.inside.slots.items) in
@@ -48,8 +48,8 @@ returns-clause-made g c =
     let put : T → T = λ t. record t { kept = record { entries = map_of key c.in_ok-kept.kept.items; theta = t.kept.theta } } in
     let set : T → T = λ t. record t { kept = record t.kept { theta = lesser } } in
     let with : Retained g.row.E.Denot → T = λ v. record (empty_table c.args.lg_nom_size own.starting_theta own.seed) { kept = v } in
-    let done : c.in_ok-table.table.map ≡ with (cut key (2 ^ c.args.lg_nom_size) (map_of key xs) c.args.theta) =
-    c.in_ok-table.ensures.after
+    let done : c.refill.new.self.map ≡ with (cut key (2 ^ c.args.lg_nom_size) (map_of key xs) c.args.theta) =
+    c.in_ok-refill.ensures.after
     ∙ ap put c.set_retention_theta.ensures.after
     ∙ ap (λ t. put (set t)) c.in_ok-smaller.ensures.made
     ∙ ap (λ ys. with (record { entries = map_of key ys; theta = lesser })) listed

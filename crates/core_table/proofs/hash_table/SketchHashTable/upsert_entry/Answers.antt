@@ -6,11 +6,11 @@ use Rattle.core_laws.specs.Maps.{map_of}
 use Rattle.core_slots.specs.SlotLayout.{filled}
 use Rattle.core_laws.specs.Insertion.{is_screened}
 use Rattle.core_table.specs.HashTable.{threshold}
-use Rattle.core_table.proofs.Counting.{counted_looks, counted_ticked, ticked_seldom, ticked_looks}
+use Rattle.core_table.proofs.Counting.{counted_looks, ticked_seldom, ticked_looks}
 use Rattle.core_slots.proofs.Held.{length-content}
-use Rattle.core_table.proofs.Slotted.{slotted_next, slotted_count, filled_over, written_joins, written_laid_out, key_found}
-use Rattle.core_laws.proofs.insertions.Cases.{or_left, or_right, IsRetained-with_entry, IsRetained-rebuilt, screened_case, is_screened_true}
-use Rattle.core_table.proofs.Upserts.{at_entry, at_free}
+use Rattle.core_table.proofs.Slotted.{slotted_count, written_joins, key_found}
+use Rattle.core_laws.proofs.insertions.Cases.{or_left, or_right, screened_case, is_screened_true}
+use Rattle.core_table.proofs.Upserts.{at_entry, at_free, written_probing, put_probing}
 use Rattle.core_table.proofs.hash_table.SketchHashTable.upsert_entry.Goals as goal
 use Rattle.core_table.proofs.hash_table.SketchHashTable.upsert_entry.Goals.{then-hash-self-via-then-hash-self, then-hash-self-via-else-hash-self+then-hash-eq0}
 
@@ -57,16 +57,7 @@ invariant_of-self-then-not-place g c =
     let wrote : new ≡ set slots at (Some (step.writes it.entry)) = (rw c.deref_mut.ensures.value at c.in_ok-write_at.ensures.ok) it.entry it.content in
     let inside : at < length slots = omega (arith, found.inside, length-content g.E.PathEntry.content c.self.inside.slots.items) in
     let keeps = c.requires.keeps_hash it.entry (key_found key c.self.inside.lg_cur_size c.args.hash at it.entry slots it.content found.ends) in
-    let joins = written_joins key c.self.inside.lg_cur_size c.args.hash at it.entry (step.writes it.entry) slots it.laid inside found.on_path found.ends keeps in
-    let retained = IsRetained-with_entry key (map_of key (filled slots)) c.self.inside.theta (step.writes it.entry) c.self.invariant.slotted.table.kept (omega (arith, keeps, c.if-hash-eq0.false)) (omega (arith, keeps, c.if-hash-self.false)) in
-    rw (whole, wrote)
-    (record {
-      slotted = slotted_next key _ c.self.inside.lg_cur_size _ c.self.inside.count c.self.inside.lg_cur_size c.self.inside.count c.self.inside.theta slots (set slots at (Some (step.writes it.entry))) c.self.invariant.slotted it.has (rw joins retained)
-          (written_laid_out key c.self.inside.lg_cur_size c.args.hash at it.entry (step.writes it.entry) slots it.laid inside found.on_path found.ends keeps)
-          (c.self.invariant.slotted.counted ∙ sym (filled_over key slots at (step.writes it.entry) it.entry it.content)) (c.self.invariant.slotted.sized it.has);
-      bounded = c.self.invariant.bounded;
-      counted = counted_looks _ _ _ _ c.self.invariant.counted c.seek-place.new.looks;
-    })
+    rw (whole, wrote) (written_probing key _ c.self.inside.lg_cur_size _ _ c.self.inside.count c.args.hash at slots step _ c.self.invariant refl c.if-hash-eq0.false c.if-hash-self.false found.on_path it c.seek-place.new.looks inside found.ends keeps)
 
 pub returns-then-not-place-clause-ok : goal.returns-then-not-place-clause-ok
 returns-then-not-place-clause-ok g c =
@@ -158,20 +149,10 @@ invariant_of-self-in-Some g c =
     let made = sym c.in_ok-absent.ensures.made ∙ c.in-Some.is in
     let has_key : key c.in-Some.entry ≡ c.args.hash = c.requires.makes_hash c.in-Some.entry made in
     let put = c.in_ok-settled-in-Some.ensures in
-    let retained = IsRetained-rebuilt key (2 ^ c.self.inside.lg_nom_size) _ _ (IsRetained-with_entry key (map_of key (filled slots)) c.self.inside.theta c.in-Some.entry c.self.invariant.slotted.table.kept (omega (arith, has_key, c.if-hash-eq0.false)) (omega (arith, has_key, c.if-hash-self.false))) in
-    let grow = c.lg_value.result in
-    let lg = c.self.inside.lg_cur_size in
-    let nom = c.self.inside.lg_nom_size in
-    let count = c.self.inside.count in
-    let sized = rw (← c.lg_value.ensures) at (c.self.invariant.slotted.sized it.has) in
-    let was = counted_looks lg nom count c.self.inside.counts c.self.invariant.counted c.seek-place.new.looks in
-    let is = counted_ticked lg nom grow count (record c.self.inside.counts { looks = c.seek-place.new.looks }) sized it.fits was in
-    record {
-      slotted = slotted_next key _ c.self.inside.lg_cur_size _ c.self.inside.count c.in_ok-settled-in-Some.settled.lg_cur c.in_ok-settled-in-Some.settled.count c.in_ok-settled-in-Some.settled.theta slots (map g.E.PathEntry.content c.put_entry.new.slots.items) c.self.invariant.slotted it.has (rw put.after retained)
-          put.laid_out put.counted (rw c.lg_value.ensures at put.sized);
-      bounded = rw it.has put.most;
-      counted = rw (put.size, put.count, put.ticked) (counted_looks _ _ _ _ is c.put_entry.new.counts.looks);
-    }
+    let now = c.in_ok-settled-in-Some.settled in
+    put_probing key _ c.self.inside.lg_cur_size _ _ c.self.inside.count c.args.hash c.seek-place.result.at slots (g.S.UpsertStep.means c.args.step) _ c.self.invariant refl c.if-hash-eq0.false c.if-hash-self.false found.on_path it c.in-Some.entry has_key
+    now.lg_cur now.most now.count now.theta c.seek-place.new.looks c.put_entry.new.counts.looks (map g.E.PathEntry.content c.put_entry.new.slots.items) c.put_entry.new.counts put.laid_out put.counted (rw c.lg_value.ensures at put.sized)
+    (rw c.lg_value.ensures at put.size) put.count put.most put.after put.ticked
 
 pub returns-in-None-clause-ok : goal.returns-in-None-clause-ok
 returns-in-None-clause-ok g c =
