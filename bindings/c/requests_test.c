@@ -147,12 +147,12 @@ static void operators(void) {
 static uint64_t next(uint64_t hash) { return (hash + UINT64_C(5700357409661599241)) & KC_MAX_THETA; }
 
 /* A rebuild requests one slot more than it keeps entries, and hashes to select from: one more than there are slots if these are
- * few, and at most a sixteenth of them if they are many. More than 2^16 slots of sums request one byte for each slot instead. */
+ * few, and at most a sixteenth of them if they are many. */
 static void rebuilds(void) {
-    static const struct { uint8_t lg_k; uint64_t count, layout, sums_layout, most; } rows[] = {
-        {5, 60, 33 * SLOT, 33 * SUM_SLOT, 65 * 8},
-        {15, 61440, 32769 * SLOT, 32769 * SUM_SLOT, 32768},
-        {16, 122880, 65537 * SLOT, 131072, 65536},
+    static const struct { uint8_t lg_k; uint64_t count, others, most; } rows[] = {
+        {5, 60, 33, 65 * 8},
+        {15, 61440, 32769, 32768},
+        {16, 122880, 65537, 65536},
     };
     for (size_t n = 0; n < sizeof rows / sizeof *rows; n++) {
         kc_theta s = {0};
@@ -165,10 +165,10 @@ static void rebuilds(void) {
             WANT(kc_theta_update_hash(&s, hash) == KC_OK && kc_sums_add_hash(&m, hash, 1) == KC_OK);
         WANT(requests == 0);
         requests = bytes = 0;
-        WANT(kc_theta_update_hash(&s, hash) == KC_OK && requests == 2 && rows[n].layout < bytes && bytes <= rows[n].layout + rows[n].most);
+        WANT(kc_theta_update_hash(&s, hash) == KC_OK && requests == 2 && rows[n].others * SLOT < bytes && bytes <= rows[n].others * SLOT + rows[n].most);
         WANT(kc_theta_state(&s, &state) == KC_OK && state.retained == UINT64_C(1) << rows[n].lg_k);
         requests = bytes = 0;
-        WANT(kc_sums_add_hash(&m, hash, 1) == KC_OK && requests == 2 && rows[n].sums_layout < bytes && bytes <= rows[n].sums_layout + rows[n].most);
+        WANT(kc_sums_add_hash(&m, hash, 1) == KC_OK && requests == 2 && rows[n].others * SUM_SLOT < bytes && bytes <= rows[n].others * SUM_SLOT + rows[n].most);
         WANT(kc_sums_state(&m, &state) == KC_OK && state.retained == UINT64_C(1) << rows[n].lg_k);
         kc_theta_free(&s), kc_sums_free(&m);
     }
