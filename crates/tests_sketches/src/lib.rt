@@ -20,5 +20,3 @@ mod sketches;
 mod slots;
 #[cfg(test)]
 mod steps;
-#[cfg(test)]
-mod unions;

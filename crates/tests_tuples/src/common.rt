@@ -1,10 +1,8 @@
 //! Helpers for all tests: sketches of sums, and memory that is refused.
 
 use refusing_allocator::Refusing;
-use std::alloc::{AllocError, Global};
-use tuple_sketches::{
-    DefaultUpdatePolicy, Error, ErrorKind, TupleSketch, TupleSketchBuilder, TupleSketchIter,
-};
+use std::alloc::Global;
+use tuple_sketches::{DefaultUpdatePolicy, Error, ErrorKind, TupleSketch, TupleSketchBuilder};
 
 /// Memory whose requests are counted, and refused if a test wants that.
 pub type Heap = Refusing<Global>;
@@ -15,17 +13,6 @@ pub type Sums = TupleSketch<DefaultUpdatePolicy<u64>>;
 /// Why a call was refused.
 pub fn kind_of<T: Drop>(answer: Result<T, Error>) -> Option<ErrorKind> {
     answer.err().map(|e| e.kind())
-}
-
-/// The hashes and sums of entries, ascending by hash.
-pub fn ascending(
-    alloc: Global,
-    entries: TupleSketchIter<'_, u64>,
-) -> Result<Vec<(u64, u64)>, AllocError> {
-    let pairs = entries.map(|entry| (entry.hash(), *entry.summary()));
-    let mut pairs: Vec<(u64, u64)> = pairs.collect(alloc)?;
-    pairs.sort_unstable();
-    Ok(pairs)
 }
 
 /// A sketch of sums with a starting theta, updated with these keys and their values.

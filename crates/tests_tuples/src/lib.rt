@@ -20,5 +20,3 @@ mod policies;
 mod requests;
 #[cfg(test)]
 mod tables;
-#[cfg(test)]
-mod unions;
