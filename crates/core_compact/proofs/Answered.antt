@@ -16,8 +16,3 @@ module _ {X : Type 0} (key : X → ℕ) where
   pub answer-seed : (v : Sketch X) (seed_hash : ℕ) (requested : Bool) (s : Compact X) → IsAnswer key v seed_hash requested s → s.seed_hash ≡ seed_hash
   answer-seed Empty seed_hash requested s is = ap (λ c. c.seed_hash) is
   answer-seed (NonEmpty v) seed_hash requested s is = is.same_seed
-
-  -- a result that was requested to be ordered is ordered
-  pub answer-ordered : (v : Sketch X) (seed_hash : ℕ) (s : Compact X) → IsAnswer key v seed_hash true s → s.ordered ≡ true
-  answer-ordered Empty seed_hash s is = ap (λ c. c.ordered) is
-  answer-ordered (NonEmpty v) seed_hash s is = is.ordered_if

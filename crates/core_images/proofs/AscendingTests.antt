@@ -7,7 +7,6 @@ use Rattle.std.specs.List.Sorted.{IsPermutation, IsSorted, IsStrictlySortedBy, I
 use Rattle.std.specs.Ordering.{nat_cmp}
 use Rattle.std.proofs.lemmas.Bool.{ltb-true, lt-ltb}
 use Rattle.std.proofs.lemmas.Bool.Decides.{nat_tests}
-use Rattle.std.proofs.lemmas.List.{length-map}
 use Rattle.std.proofs.lemmas.List.Sorted.{IsNonDecreasingBy-from_sort, IsPermutation-sym}
 use Rattle.std.proofs.lemmas.Map.Keys.{IsDistinct-IsPermutation, IsStrictlyIncreasing-from_distinct, sorted_from_strictly_increasing, sorted_head, sorted_tail}
 use Rattle.core_compact.specs.CompactState.{shown_of}
@@ -15,7 +14,6 @@ use Rattle.core_laws.specs.Maps.{IsAscending}
 use Rattle.core_images.specs.Entry.{state_after_preamble}
 use Rattle.core_images.specs.Check.{ascends_from, is_ascending, are_below, AreHashes}
 use Rattle.core_laws.specs.Shown.{IsShown}
-use Rattle.core_laws.specs.declared.TheConstants.{MAX_THETA}
 use Rattle.core_images.specs.declared.preamble.Preamble.{Preamble}
 use Rattle.core_laws.proofs.maps.Ascending.{ascending_at}
 use Rattle.core_laws.proofs.maps.MapsOfLists.{apart, pairs_of}
@@ -77,9 +75,6 @@ in_order theta ordered xs e r =
     let within = within_from theta xs e in
     (λ f. record { distinct = distinct_from xs up; nonzero = within.0; below_theta = within.1; ascending = λ o. up }, λ good. refl)
 
-pub unordered : (theta : ℕ) (xs : List ℕ) → is_ascending xs ≡ false → Decides false (AreHashes theta true xs)
-unordered theta xs e = (λ f. absurd (cc), λ good. let r = is_ascending_from xs (good.ascending refl) in cc)
-
 pub by_distinct : (theta : ℕ) (xs : List ℕ) (b : Bool) → are_below theta xs ≡ true → Decides b (AllPairs (λ x y. x ≢ y) xs) → Decides b (AreHashes theta false xs)
 by_distinct theta xs b e d =
     let within = within_from theta xs e in
@@ -128,18 +123,6 @@ module _ {X : Type 0} (key : X → ℕ) where
 -- the rules of the hashes are the laws of a sketch that shows them
 
 module _ {X : Type 0} (key : X → ℕ) (p : Preamble) (h : ℕ) (xs : List X) where
-  pub lawful_from : 0 < p.theta → p.theta ≤ MAX_THETA → length xs < 2 ^ 32 → AreHashes p.theta p.ordered (map key xs) → IsShown (shown_of key (state_after_preamble p h xs))
-  lawful_from low high limited good = record {
-    theta_low = low;
-    theta_high = high;
-    distinct = good.distinct;
-    nonzero = good.nonzero;
-    below_theta = good.below_theta;
-    limited = rw (length-map xs key) limited;
-    ascending = good.ascending;
-    none = λ e. absurd (cc);
-    greatest = λ e. absurd (cc);
-  }
 
   pub hashes_from : IsShown (shown_of key (state_after_preamble p h xs)) → AreHashes p.theta p.ordered (map key xs)
   hashes_from shown = record { distinct = shown.distinct; nonzero = shown.nonzero; below_theta = shown.below_theta; ascending = shown.ascending }

@@ -1,25 +1,20 @@
 -- The entries that a reader found, and those that it didn't find.
-use Rattle.std.proofs.Common.{◌≡◌, ℕ, ◌+◌, ◌*◌, ◌/◌, ◌<◌, ◌≤◌, ◌^◌, List, [], ◌∷◌, ◌++◌, length, drop, map, Some, Result, Ok, Err, refl, sym, ap, ◌∙◌, subst, inl, inr, arith, append_assoc, length-append}
+use Rattle.std.proofs.Common.{◌≡◌, ℕ, ◌+◌, ◌*◌, ◌/◌, ◌<◌, ◌≤◌, ◌^◌, List, [], ◌∷◌, ◌++◌, length, drop, map, Some, sym, ap, ◌∙◌, subst, inl, inr, arith, append_assoc, length-append}
 use Rattle.std.proofs.lemmas.Nat.{le-div}
 use Rattle.sketch_base.specs.declared.error.ErrorKind.{ErrorKind}
 use Rattle.core_compact.specs.CompactState.{Compact, shown_of}
-use Rattle.core_images.specs.Read.{IsRefused, ReadsState, LeavesOpen}
+use Rattle.core_images.specs.Read.{IsRefused, LeavesOpen}
 use Rattle.core_images.specs.Entry.{SpellsEach, Holds, state_after_preamble}
-use Rattle.core_images.specs.Preamble.{IsWholeLayout}
 use Rattle.core_images.specs.Check.{AreHashes}
 use Rattle.core_laws.specs.Shown.{IsShown}
 use Rattle.core_images.specs.declared.preamble.Layout.TheVariants.{Filled}
 use Rattle.core_images.specs.declared.preamble.Preamble.{Preamble}
 use Rattle.core_images.proofs.SpelledEntries.{each_more, next_one, holds_one}
-use Rattle.core_images.proofs.AscendingTests.{hashes_from, lawful_from}
+use Rattle.core_images.proofs.AscendingTests.{hashes_from}
 
 -- bytes that are refused, since they can't be read in one way, can't be read in a way that implies it
 pub refused_weaker : {P Q : Type 0} (e : ErrorKind) → (Q → P) → IsRefused e P → IsRefused e Q
 refused_weaker e f r = elim r [ inl memory ↦ inl memory | inr none ↦ inr (none.0, λ q. none.1 (f q)) ]
-
-pub finds_along : {X : Type 0} (P Q : X → Type 0) (r : Result X ErrorKind) → ((x : X) → P x → Q x) → ((x : X) → Q x → P x) → ReadsState P r → ReadsState Q r
-finds_along P Q (Ok x) f g found = f x found
-finds_along P Q (Err e) f g found = refused_weaker e (λ q. (q.0, g q.0 q.1)) found
 
 module _ {X : Type 0} (Spells : List ℕ → X → Type 0) (least : ℕ) (is_long : (a : List ℕ) (x : X) → Spells a x → least ≤ length a) where
   each_long : (xs : List X) (text : List ℕ) → SpellsEach Spells text xs → length xs * least ≤ length text
@@ -65,6 +60,3 @@ module _ {X : Type 0} (Spells : List ℕ → X → Type 0) (one : (a b u v : Lis
         let same = holds_one Spells one (drop p.start bytes) p.count found.1.0 xs found.1.2.content content in
         let P : List X → Type 0 = λ ys. IsShown (shown_of key (state_after_preamble p h ys)) in
         hashes_from key p h xs (subst P same found.1.2.lawful)
-
-    pub listing_found : (xs : List X) → IsWholeLayout bytes (Some (Filled p)) → length xs < 2 ^ 32 → Holds Spells (drop p.start bytes) p.count xs → AreHashes p.theta p.ordered (map key xs) → LeavesOpen key Spells bytes h (Some (Filled p)) (state_after_preamble p h xs)
-    listing_found xs whole limited content good = (xs, refl, record { whole = whole.0; content = content; lawful = lawful_from key p h xs whole.1 whole.2 limited good })

@@ -23,10 +23,6 @@ halved left less (suc j) before now k half some within count =
 pub halve : (left less before now k : ℕ) → less ≤ left / 2 → 0 < left → AreHalvings left before now k → AreHalvings less before (now + 1) k
 halve left less before now k half some was = halved left less was.halvings before now k half some was.within was.count
 
--- a list that isn't empty can be halved once more
-pub halvings_left : (left before now k : ℕ) → 0 < left → AreHalvings left before now k → now + 1 ≤ before + k
-halvings_left left before now k some was = let next = halve left 0 before now k (omega arith) some was in omega (arith, next.count)
-
 -- looking up each entry in a much longer list takes fewer comparisons than that list has entries
 pub few_in_all : (before after count other_count : ℕ) → other_count < 2 ^ 64 → is_much_longer other_count count ≡ true → AreFewLookUps before after count other_count → after ≤ before + other_count
 few_in_all before after count other_count fits longer few =

@@ -60,14 +60,6 @@ module _ {X : Type 0} (key : X → ℕ) where
           theta_within = omega arith;
         }
 
-    -- its settings, and its entries: the same or the cut
-    pub lowered_made : lowered key lg_k u ≡ record u { content = (lowered key lg_k u).content; lg_k = lg_k }
-    lowered_made =
-        (elim (eqb lg_k u.lg_k) as (λ b. eqb lg_k u.lg_k ≡ b → cond b u smaller ≡ record u { content = (cond b u smaller).content; lg_k = lg_k }) [
-          | true ↦ λ e. let same : lg_k ≡ u.lg_k = grind (arith, nat_tests) in ap (λ (l : ℕ). record u { lg_k = l }) (sym same)
-          | false ↦ λ e. refl
-        ]) refl
-
     pub lowered_held : (H : Retained X → Type 0) → H u.content → H fewer → H (lowered key lg_k u).content
     lowered_held H same cuts = elim (eqb lg_k u.lg_k) as (λ b. H (cond b u smaller).content) [ true ↦ same | false ↦ cuts ]
 

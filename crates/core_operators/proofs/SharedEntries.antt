@@ -10,7 +10,7 @@ use Rattle.core_laws.specs.Maps.{IsAscending, IsApart, below, entry_at, with_ent
 use Rattle.core_laws.specs.Cuts.{Retained, IsRetained}
 use Rattle.core_laws.specs.Shown.{Shown, IsShown}
 use Rattle.core_laws.specs.Operators.{common, shared, both}
-use Rattle.core_laws.specs.Folds.{Fold, Value, Refused, fold_key, fold_merges, unmarked}
+use Rattle.core_laws.specs.Folds.{Fold, Value, fold_key, fold_merges, unmarked}
 use Rattle.core_operators.specs.Union.{IsMergeRefused}
 use Rattle.core_operators.specs.Intersection.{IsSharedFold, IsSharedPair, IsRefusedPair}
 use Rattle.core_laws.proofs.maps.MappedEntries.{map-append, below-map, entry_at-map, with_entry-map}
@@ -175,18 +175,8 @@ module _ {X : Type 0} (key : X → ℕ) (merges : X → X → X) (refuses : X �
   one_low : (content : List X) (t : ℕ) (x : X) → key x < t → entry_at key (below key content t) (key x) ≡ entry_at key content (key x)
   one_low content t x lt = let e : ltb (key x) t ≡ true = grind (arith, nat_tests) in entry_at-below key content t (key x) ∙ ap (λ b. cond b (entry_at key content (key x)) None) e
 
-  -- the fold of one entry: past the theta, if its key isn't in the map, if the policy combines, and if it refuses
-  pub one_past : (content : List X) (t : ℕ) (x : X) → t ≤ key x → None ≡ read_one content t x
-  one_past content t x le =
-      let e : ltb (key x) t ≡ false = grind (arith, nat_tests) in
-      sym (ap (option_map (λ w. fold_merges key merges refuses (Value w) (Value x))) (entry_at-below key content t (key x) ∙ ap (λ b. cond b (entry_at key content (key x)) None) e))
-
   pub one_absent : (content : List X) (t : ℕ) (x : X) → key x < t → entry_at key content (key x) ≡ None → None ≡ read_one content t x
   one_absent content t x lt none = sym (ap (option_map (λ w. fold_merges key merges refuses (Value w) (Value x))) (one_low content t x lt ∙ none))
-
-  pub one_combined : (content : List X) (t : ℕ) (x w : X) → key x < t → entry_at key content (key x) ≡ Some w → refuses w x ≡ false → Some (Value (merges w x)) ≡ read_one content t x
-  one_combined content t x w lt found free =
-      ap (λ b. Some (cond b (Refused (key w)) (Value (merges w x)))) (sym free) ∙ sym (ap (option_map (λ w. fold_merges key merges refuses (Value w) (Value x))) (one_low content t x lt ∙ found))
 
   pub one_refused : (content : List X) (t : ℕ) (x w : X) → key x < t → entry_at key content (key x) ≡ Some w → refuses w x ≡ true → IsMergeRefused key refuses (below key content t) (x ∷ [])
   one_refused content t x w lt found refused = record { at = key x; held_entry = w; new_entry = x; is_held = one_low content t x lt ∙ found; comes = entry_at_head key x [] (key x) refl; refused = refused }

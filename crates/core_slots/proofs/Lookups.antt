@@ -3,7 +3,7 @@ use Rattle.std.proofs.Common.{◌≡◌, ◌≢◌, ℕ, zero, suc, ◌+◌, ◌
 use Rattle.std.specs.Prelude.{IsSome, option_map, unwrap_or}
 use Rattle.std.specs.List.{AllByRecursion}
 use Rattle.std.proofs.lemmas.Bool.Decides.{nat_tests}
-use Rattle.std.proofs.lemmas.List.{take_more, take_more_set, take-set, append-nil, length-set, length-append, length-take-le, take-append-le, take-append-drop, take_at, take_all}
+use Rattle.std.proofs.lemmas.List.{take_more, length-append, length-take-le, take-append-le, take-append-drop, take_at}
 use Rattle.std.proofs.lemmas.List.Elements.{filter-append}
 use Rattle.core_laws.specs.Maps.{entry_at}
 use Rattle.core_laws.specs.Insertion.{is_screened, IsRedundant, Drops}
@@ -18,9 +18,6 @@ pub record IsPacking (screens : ℕ → Bool) (old new : List ℕ) (i count : �
   pub packed : take count new ≡ filter (λ h. not (screens h)) (take i old)
   pub others : (q : ℕ) → i ≤ q → get_or new q 0 ≡ get_or old q 0
 
-pub packing_begins : (screens : ℕ → Bool) (old : List ℕ) → IsPacking screens old old 0 0
-packing_begins screens old = record { size = refl; limited = omega arith; packed = refl; others = λ q le. refl }
-
 -- one more hash is moved
 module _ (screens : ℕ → Bool) (old new : List ℕ) (i count h : ℕ) (lt : i < length new) (is : h ≡ get_or new i 0) (was : IsPacking screens old new i count) where
   one_more : filter (λ x. not (screens x)) (take (i + 1) old) ≡ filter (λ x. not (screens x)) (take i old) ++ filter (λ x. not (screens x)) (h ∷ [])
@@ -34,32 +31,6 @@ module _ (screens : ℕ → Bool) (old new : List ℕ) (i count h : ℕ) (lt : i
   others_more q le =
       let past : q ≢ count = λ same. absurd (omega (arith, same, le, was.limited)) in
       get_or-set_other new count q h 0 past ∙ was.others q (omega arith)
-
-  pub packed_more : (more : ℕ) → more ≡ count + cond (screens h) 0 1 → IsPacking screens old (set new count h) (i + 1) more
-  packed_more more e =
-      (elim (screens h) as (λ b. screens h ≡ b → more ≡ count + cond b 0 1 → IsPacking screens old (set new count h) (i + 1) more) [
-        | true ↦ λ out n.
-            let same : count ≡ more = omega arith in
-            let none : filter (λ x. not (screens x)) (h ∷ []) ≡ [] = rw out refl in
-            record {
-              size = length-set new count h ∙ was.size;
-              limited = omega (arith, was.limited);
-              packed = ap (λ (m : ℕ). take m (set new count h)) (sym same) ∙ take-set new count h ∙ was.packed ∙ sym (append-nil _) ∙ ap (λ xs. filter (λ x. not (screens x)) (take i old) ++ xs) (sym none) ∙ sym one_more;
-              others = others_more;
-            }
-        | false ↦ λ stays n.
-            let same : count + 1 ≡ more = omega arith in
-            let one : filter (λ x. not (screens x)) (h ∷ []) ≡ h ∷ [] = rw stays refl in
-            record {
-              size = length-set new count h ∙ was.size;
-              limited = omega (arith, was.limited);
-              packed = ap (λ (m : ℕ). take m (set new count h)) (sym same) ∙ take_more_set new count h (omega (arith, was.limited, lt)) ∙ ap (λ xs. xs ++ h ∷ []) was.packed ∙ ap (λ xs. filter (λ x. not (screens x)) (take i old) ++ xs) (sym one) ∙ sym one_more;
-              others = others_more;
-            }
-      ]) refl e
-
-pub packed_whole : (screens : ℕ → Bool) (old new : List ℕ) (i count : ℕ) → length old ≤ i → IsPacking screens old new i count → take count new ≡ filter (λ h. not (screens h)) old
-packed_whole screens old new i count le was = was.packed ∙ ap (filter (λ h. not (screens h))) (take_all i old le)
 
 -- the entry in a slot is one of the entries
 module _ {S X : Type 0} (key : X → ℕ) (content : S → Option X) where

@@ -1,5 +1,5 @@
 -- A table of hashes, and many of them inserted in turn.
-use Rattle.std.proofs.Common.{◌≡◌, ℕ, suc, ◌^◌, ◌<◌, ◌≤◌, List, [], ◌∷◌, ◌++◌, length, take, drop, get_or, refl, sym, ap, subst, ◌∙◌, append_assoc, append-nil, drop-cons, inl, inr, arith}
+use Rattle.std.proofs.Common.{◌≡◌, ℕ, suc, ◌^◌, ◌<◌, ◌≤◌, List, [], ◌∷◌, ◌++◌, length, take, drop, get_or, sym, ap, subst, ◌∙◌, append_assoc, drop-cons, inl, inr, arith}
 use Rattle.std.specs.Prelude.{IsTrue}
 use Rattle.std.proofs.lemmas.List.{take-append-le, take-append-drop}
 use Rattle.core_laws.specs.Cuts.{IsRetained}
@@ -25,8 +25,6 @@ pub record HasInserted (hashes rest : List ℕ) (old new : MapTable ℕ) : Type 
   pub after : new ≡ after_hashes front old
 
 module _ (hashes : List ℕ) (old : MapTable ℕ) where
-  pub nothing_inserted : HasInserted hashes hashes old old
-  nothing_inserted = record { front = []; parts = refl; after = refl }
 
   -- the remaining hashes, in two parts
   pub parted : (rest block others : List ℕ) (mid : ℕ) (new : MapTable ℕ) → block ≡ take mid rest → others ≡ drop mid rest → HasInserted hashes rest old new → HasInserted hashes (block ++ others) old new
@@ -40,9 +38,6 @@ module _ (hashes : List ℕ) (old : MapTable ℕ) where
     parts = was.parts ∙ sym (append_assoc was.front block others);
     after = is ∙ ap (after_hashes block) was.after ∙ sym (after_hashes-append was.front block old);
   }
-
-  pub all_inserted : (rest : List ℕ) (new : MapTable ℕ) → rest ≡ [] → HasInserted hashes rest old new → new ≡ after_hashes hashes old
-  all_inserted rest new none was = was.after ∙ ap (λ xs. after_hashes xs old) (sym (append-nil was.front) ∙ ap (λ xs. was.front ++ xs) (sym none) ∙ sym was.parts)
 
   pub part_inserted : (block others : List ℕ) (mid new : MapTable ℕ) → HasInserted hashes (block ++ others) old mid → StopsAt block (λ front hash. (new ≡ after_hashes front mid) × Makes new hash) → StopsAt hashes (λ front hash. (new ≡ after_hashes front old) × Makes new hash)
   part_inserted block others mid new was part = (

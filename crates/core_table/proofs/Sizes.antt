@@ -1,5 +1,5 @@
 -- Sizes of tables.
-use Rattle.std.proofs.Common.{◌≡◌, ℕ, suc, ◌+◌, ◌-◌, ◌*◌, ◌/◌, ◌^◌, ◌<◌, ◌≤◌, true, false, cond, leb, ltb, eqb, not, IsTrue, is_some, length, inl, inr, refl, ap, ◌∙◌, arith}
+use Rattle.std.proofs.Common.{◌≡◌, ℕ, suc, ◌+◌, ◌-◌, ◌*◌, ◌/◌, ◌^◌, ◌<◌, ◌≤◌, true, false, cond, leb, eqb, IsTrue, is_some, inl, inr, refl, ◌∙◌, arith}
 use native.Mathlib.Numerals.{unary_clauses}
 use Rattle.std.proofs.lemmas.Bool.{cases_lt}
 use Rattle.std.proofs.lemmas.Bool.Decides.{nat_tests}
@@ -38,32 +38,6 @@ around n low fits =
     rw same (record { low = top.2; high = high })
 
 module _ (n : ℕ) (low : 0 < n) where
-  -- the slots that are taken for n entries are rebuilt only beyond these
-  pub held_free : (m : ℕ) → n < 2 ^ 64 → lg_size_for n ≡ m + 1 → n ≤ 15 * 2 ^ m / 8
-  held_free m fits =
-      let l = whole_log n in
-      let near = around n low fits in
-      (elim (ltb (2 ^ (l + 1) * 15 / 16) n) as (λ b. ltb (2 ^ (l + 1) * 15 / 16) n ≡ b → cond b (l + 2) (l + 1) ≡ m + 1 → n ≤ 15 * 2 ^ m / 8) [
-        | true ↦ λ e f. let m_is : m ≡ l + 1 = omega (arith, f) in rw (m_is, double l) (omega (arith, near.high))
-        | false ↦ λ e f.
-            let m_is : m ≡ l = omega (arith, f) in
-            let le : n ≤ 2 ^ (l + 1) * 15 / 16 = grind (arith, nat_tests) in
-            rw m_is (omega (arith, rw (double l) at le))
-      ]) refl
-
-  pub lg_size_low : 1 ≤ lg_size_for n
-  lg_size_low = elim (ltb (2 ^ (whole_log n + 1) * 15 / 16) n) as (λ b. 1 ≤ cond b (whole_log n + 2) (whole_log n + 1)) [ true ↦ omega arith | false ↦ omega arith ]
-
-  pub lg_size_high : n < 2 ^ 32 → lg_size_for n ≤ 33
-  lg_size_high limited =
-      let near = around n low (omega (arith, limited)) in
-      let l = whole_log n in
-      let high : l ≤ 31 =
-      elim (cases_lt 31 l) [
-        | inl lt ↦ absurd (let a : 2 ^ 32 ≤ 2 ^ l = pow_mono {i = 32} {j = l} (omega (arith, lt)) in omega (arith, a, near.low, limited))
-        | inr le ↦ le
-      ] in
-      elim (ltb (2 ^ (l + 1) * 15 / 16) n) as (λ b. cond b (l + 2) (l + 1) ≤ 33) [ true ↦ omega (arith, high) | false ↦ omega (arith, high) ]
 
 -- the sizes of a table for n entries
 pub record IsSizedFor (n lg_cur lg_nom : ℕ) : Type 0 where
@@ -71,21 +45,6 @@ pub record IsSizedFor (n lg_cur lg_nom : ℕ) : Type 0 where
   pub nom : lg_nom ≡ lg_cur - 1
 
 module _ (n lg_cur lg_nom : ℕ) (sized : IsSizedFor n lg_cur lg_nom) (limited : n < 2 ^ 32) where
-  cur_is : 0 < n → lg_cur ≡ lg_size_for n
-  cur_is low = let some : eqb n 0 ≡ false = grind (arith, nat_tests) in sized.cur ∙ ap (λ b. cond b 0 (lg_size_for n)) some
-
-  pub sized_free : 0 < n → n ≤ 15 * 2 ^ lg_nom / 8
-  sized_free low = held_free n low lg_nom (omega (arith, limited)) (omega (arith, sized.nom, cur_is low, lg_size_low n low))
-
-  pub sized_slots : 0 < n → not (eqb lg_cur 0) ≡ true
-  sized_slots low = let some : eqb lg_cur 0 ≡ false = grind (arith, nat_tests, cur_is low, lg_size_low n low) in ap not some
-
-  pub sized_high : lg_cur ≤ 33
-  sized_high =
-      elim (cases_lt 0 n) [
-        | inl low ↦ omega (arith, cur_is low, lg_size_high n low limited)
-        | inr none ↦ let e : eqb n 0 ≡ true = grind (arith, nat_tests) in let zero : lg_cur ≡ 0 = sized.cur ∙ ap (λ b. cond b 0 (lg_size_for n)) e in omega (arith, zero)
-      ]
 
 module _ {X : Type 0} (key : X → ℕ) where
   -- if there is room, every hash may be inserted
@@ -95,10 +54,3 @@ module _ {X : Type 0} (key : X → ℕ) where
   -- a table of eight nominal entries or more always has room
   pub always_room : (h : ℕ) (t : MapTable X) → 3 ≤ t.lg_nom → IsTrue (may_insert key h t)
   always_room h t le = let large : leb 3 t.lg_nom ≡ true = grind (arith, nat_tests) in with_room h t (or_left (leb 3 t.lg_nom) _ large)
-
-  -- a table with the slots for n entries has room for each of them
-  pub fitting_room : (h n m : ℕ) (t : MapTable X) → n ≤ 15 * 2 ^ m / 8 → t.lg_nom ≡ m → t.has_slots ≡ true → length t.kept.entries + 1 ≤ n → IsTrue (may_insert key h t)
-  fitting_room h n m t free lg slots limited =
-      let lt : length t.kept.entries + 1 < 2 ^ (t.lg_nom + 1) = rw (lg, double m) (omega (arith, free, limited)) in
-      let fits : ltb (length t.kept.entries + 1) (2 ^ (t.lg_nom + 1)) ≡ true = grind (arith, nat_tests) in
-      with_room h t (or_right (leb 3 t.lg_nom) _ (rw (slots, fits) refl))

@@ -3,10 +3,9 @@ use Rattle.std.proofs.Common.{◌≡◌, ℕ, ◌+◌, Bool, true, false, cond, 
 use Rattle.std.specs.Prelude.{not}
 use Rattle.std.specs.Str.{bytes_eq}
 use Rattle.distinct_arguments.specs.Words.{is_option, is_standard, Setting, split_option}
-use Rattle.std.specs.Option.{option_map_or}
-use Rattle.distinct_arguments.specs.Settings.{OptionValues, Mistake, behind_file, no_value, with_value}
+use Rattle.distinct_arguments.specs.Settings.{OptionValues, Mistake, no_value, with_value}
 use Rattle.distinct_arguments.specs.Arguments.{Action, fails, Awaiting, Meaning, help, sets, awaits, wrong, setting_meaning, at_meaning, at_value, standard_files, command_action}
-use Rattle.distinct_arguments.specs.Faults.{options_of, Reports, ReportsMistake, SetsOptions, IsWrong}
+use Rattle.distinct_arguments.specs.Faults.{options_of, ReportsMistake, SetsOptions, IsWrong}
 use Rattle.distinct_arguments.specs.declared.commands.Command.{Command}
 use Rattle.distinct_arguments.specs.declared.fault.Fault.{Fault}
 use Rattle.distinct_arguments.specs.declared.options.Options.{Options}
@@ -59,10 +58,6 @@ pub value_action : (command : Command) (options : OptionValues) (awaiting : Awai
 value_action command options awaiting words value seen rest parted same =
     ap (λ (v : List ℕ). at_value (with_value options awaiting.option awaiting.name v) (λ next. command_action command next None rest)) same
     ∙ ap (command_action command options (Some awaiting)) (sym parted)
-
--- a file that looks like an option
-pub behind_at : (found : Option (List ℕ)) (word : List ℕ) (e : Fault) (run : Action) → Some word ≡ found → Reports e (behind_file word) → ReportsMistake e (option_map_or (λ w. fails (behind_file w)) found run)
-behind_at found word e run is reports = subst (λ (o : Option (List ℕ)). ReportsMistake e (option_map_or (λ w. fails (behind_file w)) o run)) is reports
 
 -- one more use of standard input
 pub use_counted : (file : List ℕ) (left others : List (List ℕ)) (count one total : ℕ) → left ≡ file ∷ others → one ≡ cond (is_standard file) 1 0 → count + standard_files left ≡ total → (count + one) + standard_files others ≡ total

@@ -1,5 +1,5 @@
 -- Lines of texts sketched one after another, and the result of an expression.
-use Rattle.std.proofs.Common.{◌≡◌, ℕ, Bool, true, List, [], ◌∷◌, ◌++◌, length, map, Option, String, string_bytes, Some, None, refl, sym, ap, subst, ◌∙◌, append_assoc, append-nil, ◌≤◌, ◌<◌, arith}
+use Rattle.std.proofs.Common.{◌≡◌, ℕ, Bool, true, List, [], ◌∷◌, ◌++◌, length, map, Option, String, string_bytes, Some, None, refl, sym, ap, subst, ◌∙◌, append_assoc, ◌≤◌, ◌<◌, arith}
 use Rattle.std.proofs.lemmas.List.{length-map}
 use Rattle.std.specs.Prelude.{IfSome, IfOk, Result, Ok, Err, get_or}
 use Rattle.sketch_base.specs.Seed.{seed_hash}
@@ -54,13 +54,6 @@ module _ (options : OptionValues) (seed : ℕ) where
   sketches_more None now new o s sketches so_far next is = tt
   sketches_more (Some all) None new o s sketches so_far next is = absurd so_far
   sketches_more (Some all) (Some left) new o s sketches so_far next is = one_sketched all so_far.0 left sketches s new so_far.1 so_far.2 (subst (SketchesNext options seed (Some left) new) is next)
-
-  pub all_sketched : (old now new : Option (List (List ℕ))) (o : Option (Compact ℕ)) (sketches : List (Compact ℕ)) → Continues old now (λ ts. AreSketchesOfTexts options seed ts sketches) → SketchesNext options seed now new o → o ≡ None → IfSome old (λ all. AreSketchesOfTexts options seed all sketches)
-  all_sketched None now new o sketches so_far next is = tt
-  all_sketched (Some all) None new o sketches so_far next is = absurd so_far
-  all_sketched (Some all) (Some left) new o sketches so_far next is =
-      let none : left ≡ [] = subst (SketchesNext options seed (Some left) new) is next in
-      subst (λ ts. AreSketchesOfTexts options seed ts sketches) (sym (so_far.1 ∙ ap (λ ts. so_far.0 ++ ts) none ∙ append-nil so_far.0)) so_far.2
 
   pub next_sketched : {R : Type 0} (remaining : R → Option (List ℕ)) (old new : Option (List (List ℕ))) (source : R) (s : Compact ℕ) → GivesNext remaining old new (Some source) → IfSome (remaining source) (λ text. s ≡ sketch_of_text options seed text) → SketchesNext options seed old new (Some s)
   next_sketched remaining None new source s gives is = tt

@@ -1,19 +1,15 @@
 -- Failures of a part of a command are failures of the command.
-use Rattle.std.proofs.Common.{◌≡◌, ℕ, Bool, true, false, List, Option, Some, None, refl, sym, ap, subst, ◌∙◌}
+use Rattle.std.proofs.Common.{◌≡◌, ℕ, Bool, true, false, List, Option, sym, subst, ◌∙◌}
 use Rattle.std.specs.Prelude.{IfErr, IfSome, Result, Ok, Err}
-use Rattle.std.specs.Option.{option_map}
 use Rattle.sketch_base.specs.declared.error.ErrorKind.{ErrorKind}
 use Rattle.grouped_lines.specs.United.{HasFirstFlawed, IsUnunited}
 use Rattle.grouped_lines.specs.declared.united.LineFlaw.{LineFlaw}
 use Rattle.grouped_lines.specs.declared.uniting.Ununited.{Ununited}
 use Rattle.grouped_lines.specs.declared.uniting.Ununited.TheVariants.{Flawed}
 use Rattle.distinct_arguments.specs.Settings.{OptionValues}
-use Rattle.distinct_arguments.specs.declared.commands.Command.{Command}
-use Rattle.distinct_arguments.specs.declared.commands.Command.TheVariants.{Combine}
 use Rattle.distinct_arguments.specs.declared.commands.Operator.{Operator}
 use Rattle.distinct_arguments.specs.declared.commands.Operator.TheVariants.{Union}
-use Rattle.distinct_inputs.specs.Failures.{images_in, unites_groups, unites_sums, IsOfImages, IsOfGroups, IsOfEitherUnion, IsOfCombining, IsOfOperator, IsOfOperands, IsOfEvaluation, IsOfCommand, OrUnnamed}
-use Rattle.distinct_inputs.specs.Images.{images_of}
+use Rattle.distinct_inputs.specs.Failures.{images_in, unites_sums, IsOfImages, IsOfEitherUnion, IsOfCombining, IsOfOperands, IsOfEvaluation, OrUnnamed}
 use Rattle.distinct_inputs.specs.declared.failure.Failure.{Failure}
 use Rattle.distinct_inputs.specs.declared.failure.Failure.TheVariants.{NotText, Arguments, NoFiles, NotTwo, NoExpression, NoName, NoNul, NoSeed, Terminal, WrongCount, NotOneEach, Memory, Unreadable, NoSketch, NoSums, NoHex, NoTab, NoLine, PastGreatest, PastUnion, PastResult, NotANumber, NotWritten}
 
@@ -136,18 +132,6 @@ named IsUnnamed IsOther (PastUnion name line) never failed = failed
 named IsUnnamed IsOther (PastResult text) never failed = failed
 named IsUnnamed IsOther (NotANumber name line) never failed = failed
 named IsUnnamed IsOther (NotWritten name error) never failed = failed
-
-pub operator_fails : (command : Command) (operator : Operator) (by_groups : Bool) (options : OptionValues) (seed count : ℕ) (texts : Option (List (List ℕ))) (f : Failure) → command ≡ Combine operator → unites_groups operator options ≡ by_groups →
-    (IsOfOperator by_groups operator options seed count texts NoFiles → ⊥) → IsOfOperator by_groups operator options seed count texts f → IsOfCommand command options seed count texts f
-operator_fails command operator by_groups options seed count texts f is by never failed =
-    subst (λ (c : Command). IsOfCommand c options seed count texts f) (sym is)
-    (subst (λ (b : Bool). OrUnnamed (count ≡ 0) (IsOfOperator b operator options seed count texts) f) (sym by)
-    (named (count ≡ 0) (IsOfOperator by_groups operator options seed count texts) f never failed))
-
-pub groups_fail : {V : Type 0} (r : Result V Failure) (command : Command) (operator : Operator) (options : OptionValues) (seed count : ℕ) (texts : Option (List (List ℕ))) → command ≡ Combine operator → unites_groups operator options ≡ true →
-    IfErr r (IsOfGroups seed texts) → IfErr r (IsOfCommand command options seed count texts)
-groups_fail (Ok v) command operator options seed count texts is by failed = tt
-groups_fail (Err f) command operator options seed count texts is by failed = operator_fails command operator true options seed count texts f is by (λ none. none) failed
 
 -- the first flaw of a line
 pub first_flaw : (seed : ℕ) (refusal : Option ErrorKind) (texts : Option (List (List ℕ))) (u : Ununited) (number : ℕ) (flaw : LineFlaw) → u ≡ Flawed number flaw → IsUnunited seed refusal texts u → IfSome texts (HasFirstFlawed seed number flaw)

@@ -1,9 +1,8 @@
 -- Images in the lines of files, one after another.
 use Rattle.std.proofs.Common.{◌≡◌, ℕ, Bool, true, false, List, [], ◌∷◌, ◌++◌, length, drop, map, cond, Option, Some, None, refl, sym, ap, subst, ◌∙◌, ◌+◌, append-nil, eqb, arith}
 use mathlib.Core.Bool.{true≢false}
-use Rattle.std.specs.Prelude.{IfSome, MatchOption, unwrap_or, nat_lt, ◌≤◌}
-use Rattle.std.specs.Option.{option_map, option_map_or}
-use Rattle.std.proofs.lemmas.Bool.Decides.{nat_tests}
+use Rattle.std.specs.Prelude.{IfSome, MatchOption, unwrap_or, ◌≤◌}
+use Rattle.std.specs.Option.{option_map}
 use Rattle.std.specs.List.{onto_first, prefix_len}
 use Rattle.std.specs.Char.{is_ascii_whitespace}
 use Rattle.std.specs.Str.{IsTrimAscii}
@@ -14,7 +13,7 @@ use Rattle.std.specs.declared.io.buffered.BufReader.{BufReader}
 use Rattle.std.proofs.lemmas.Str.Ascii.{trim_ascii_is}
 use Rattle.line_sketches.specs.Hex.{bytes_of_hex}
 use Rattle.line_sketches.specs.Sources.{GivesNext}
-use Rattle.distinct_inputs.specs.Images.{alone, is_followed, length_of, ended_lines, line_image, line_images, or_none, images_behind, images_in_lines, parts_left, open_text, IsAlone, GivesOrCloses}
+use Rattle.distinct_inputs.specs.Images.{ended_lines, line_image, line_images, or_none, images_behind, images_in_lines, parts_left, open_text, GivesOrCloses}
 
 -- the first line of a text, and the lines after it
 ended_first : (b : ℕ) (t : List ℕ) → ended_lines (b ∷ t) ≡ take_through 10 (b ∷ t) ∷ ended_lines (drop_through 10 (b ∷ t))
@@ -92,28 +91,10 @@ next_line true line line2 count (Some (b ∷ t)) known2 (Some texts) old new who
     let line_is : whole ≡ take_through 10 (b ∷ t) = whole_is ∙ read ∙ ap (λ o. o ++ take_through 10 (b ∷ t)) none in
     next_known line line2 b t (items v) known2 texts items v refl (ap line_image (sym line_is) ∙ sym spelled) left more
 
--- a file without a line has no bytes in place of an image
-pub no_line : (hex : Bool) (line : ℕ) (known : Option (List ℕ)) (texts : Option (List (List ℕ))) {V : Type 0} (items : V → List ℕ) (v : V) → hex ≡ true → line ≡ 0 → IsAtEnd known → items v ≡ [] →
-    GivesNext (λ w. Some (items w)) (parts_left hex (Some known) line texts) (parts_left hex None line texts) (Some v)
-no_line false line known texts items v is first ends empty = absurd (cc)
-no_line true line None texts items v is first ends empty = tt
-no_line true line (Some text) None items v is first ends empty = tt
-no_line true line (Some text) (Some texts) items v is first ends empty = record {
-  text = [];
-  texts_left = images_in_lines texts;
-  parted = ap (λ images. images ++ images_in_lines texts) (ap (images_behind line) ends ∙ ap (λ n. images_behind n []) first);
-  has = ap Some empty;
-  leaves = refl;
-}
-
 -- ---- images with nothing behind them
 
 some_same : (x y : List ℕ) → Some x ≡ Some y → x ≡ y
 some_same x y is = ap (λ o. unwrap_or o []) is
-
-alone_by : (size : Option ℕ) (bytes : List ℕ) → option_map_or (λ n. nat_lt n (length bytes)) size false ≡ false → IfSome size (λ n. length bytes ≤ n)
-alone_by None bytes within = tt
-alone_by (Some n) bytes within = grind (arith, nat_tests)
 
 -- the next image is that of the next part
 pub next_mapped : (f : List ℕ → List ℕ) (old new : Option (List (List ℕ))) {V : Type 0} (items : V → List ℕ) (v w : V) → GivesNext (λ u. Some (items u)) old new (Some v) → items w ≡ f (items v) →
@@ -130,14 +111,6 @@ next_mapped f (Some parts) new items v w gives is = record {
 pub none_mapped : (f : List ℕ → List ℕ) (old new : Option (List (List ℕ))) {V : Type 0} (remaining : V → Option (List ℕ)) → GivesNext remaining old new None → GivesNext remaining (option_map (map f) old) (option_map (map f) new) None
 none_mapped f None new remaining gives = tt
 none_mapped f (Some parts) new remaining gives = ap (map f) gives
-
--- no bytes have nothing behind them
-pub alone_empty : (sums : Bool) → IsAlone sums []
-alone_empty true = tt
-alone_empty false = tt
-
-pub alone_or_none : (sums : Bool) (bytes : List ℕ) → is_followed sums bytes ≡ false → IsAlone sums bytes
-alone_or_none sums bytes = alone_by (length_of sums bytes) bytes
 
 -- ---- files opened one after another
 

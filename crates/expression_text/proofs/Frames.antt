@@ -5,7 +5,6 @@ use Rattle.std.proofs.lemmas.Slice.Eq.{bytes_eq-Decides}
 use Rattle.std.specs.Str.{bytes_eq}
 use Rattle.std.proofs.Common.{map}
 use Rattle.std.proofs.Common.{length-append}
-use Rattle.std.proofs.Math.Seq.{get_or-append_seam}
 use Rattle.expression_text.specs.declared.operator.Operator.{Operator}
 use Rattle.expression_text.specs.declared.operator.Operator.TheVariants.{Union, Intersection, Difference}
 use Rattle.expression_text.specs.declared.operator.Step.{Step}
@@ -30,16 +29,6 @@ operator_of (Sign op) = op
 same_sign : (a b : Operator) → Sign a ≡ Sign b → a ≡ b
 unfolding operator_of
 same_sign a b e = ap operator_of e
-
-pub none_lacks : (least : ℕ) (pending : List Pending) → length pending ≡ 0 → LacksSign least pending
-none_lacks least pending none = λ front op e. absurd (no_push front (Sign op) (sym e ∙ nil_from_length pending none))
-
-pub group_lacks : (least : ℕ) (pending rest : List Pending) → pending ≡ rest ++ Group ∷ [] → LacksSign least pending
-group_lacks least pending rest is = λ front op e. let both : Group ≡ Sign op = (same_from_push rest front Group (Sign op) (sym is ∙ e)).1 in absurd (cc)
-
-pub weak_lacks : (least : ℕ) (pending rest : List Pending) (last : Operator) → pending ≡ rest ++ Sign last ∷ [] → strength last < least → LacksSign least pending
-weak_lacks least pending rest last is weak = λ front op e.
-    let same : last ≡ op = same_sign last op (same_from_push rest front (Sign last) (Sign op) (sym is ∙ e)).1 in subst (λ (o : Operator). strength o < least) same weak
 
 -- ---- strengths
 
@@ -76,15 +65,6 @@ length_more : (old more new : List (List ℕ)) → new ≡ old ++ more → lengt
 length_more old more new is = rw is (omega (arith, length-append old more))
 
 -- ---- token by token
-
-pub nothing_read : (names : List (List ℕ)) (pending : List Pending) (steps : List Step) → pending ≡ [] → steps ≡ [] → IsReading [] names pending steps 0 false
-nothing_read names pending steps no_pending no_steps = record {
-  frames = [];
-  around = record { pending_are = no_pending; levels_are = refl; sound = tt };
-  tokens_are = λ more. refl;
-  steps_are = no_steps;
-  limited = omega arith;
-}
 
 module _ (tokens : List Lexeme) (names : List (List ℕ)) (pending : List Pending) (steps : List Step) (levels : ℕ) where
   pub name_read : (new : List (List ℕ)) (word : List ℕ) (i : ℕ) → WantsOperand tokens names pending steps levels → IsIndexed names new word i → HasOperand 3 (tokens ++ name word ∷ []) new pending (steps ++ Operand i ∷ []) levels
@@ -283,19 +263,6 @@ module _ (tokens : List Lexeme) (names : List (List ℕ)) (pending : List Pendin
   some_unclosed false settled new_steps settles some reading is_after none = absurd (cc)
 
 -- ---- names
-
-pub indexed_old : (names : List (List ℕ)) (word : List ℕ) (i : ℕ) → HasName names word i → IsIndexed names names word i
-indexed_old names word i found = record { more = []; appended = sym (append-nil names); found = found }
-
-pub indexed_new : (names new : List (List ℕ)) (word : List ℕ) (i : ℕ) → i ≡ length names → new ≡ names ++ word ∷ [] → IsIndexed names new word i
-indexed_new names new word i last pushed = record {
-  more = word ∷ [];
-  appended = pushed;
-  found = record {
-    inside = rw (last, pushed) (omega (arith, length-append names (word ∷ [])));
-    same = ap (λ ns. get_or ns i []) pushed ∙ ap (λ k. get_or (names ++ word ∷ []) k []) last ∙ get_or-append_seam names word [] [];
-  };
-}
 
 pub name_found : {V : Type 0} (items : V → List ℕ) (names : List V) (word found : List ℕ) (i : ℕ) (d : V) → i < length names → d ≡ get_or names i d → found ≡ items d → bytes_eq found word ≡ true → HasName (map items names) word i
 name_found items names word found i d lt is has same = record {

@@ -45,9 +45,6 @@ word_before text front rest i parts len each other = record {
   ends = ends_there front rest (ap (λ t. is_word_byte (get_or t (length front) 0)) (sym parts) ∙ ap (λ n. is_word_byte (get_or text n 0)) len ∙ other);
 }
 
-pub word_alone : (text : List ℕ) (i : ℕ) → length text ≤ i → ((k : ℕ) → k < i → is_word_byte (get_or text k 0) ≡ true) → IsSplitWord text text []
-word_alone text i le each = record { parts = sym (append-nil text); of_word_bytes = λ k lt. each k (omega (arith, lt, le)); ends = λ begins. begins }
-
 -- a name in quotes
 pub quoted : (text word rest : List ℕ) → text ≡ word ++ 34 ∷ rest → HasNoByte 34 word → word ≢ [] → IsToken (name word) (34 ∷ text) rest
 quoted text word rest parts lacks some = record {
@@ -65,10 +62,6 @@ plain text word rest split some other = record {
   spells = (some, inl (record { same = refl; of_word_bytes = split.of_word_bytes; no_sign = other }));
   ends = λ begins after. split.ends after;
 }
-
--- a word that is a sign
-pub word_sign : (text word rest : List ℕ) (t : Lexeme) → IsSplitWord text word rest → SpellsToken t word → IsToken t text rest
-word_sign text word rest t split spells = record { front = word; parts = split.parts; spells = spells; ends = λ begins after. split.ends after }
 
 -- a token of one byte
 pub one_byte : (text rest : List ℕ) (b : ℕ) (t : Lexeme) → text ≡ b ∷ rest → SpellsToken t (b ∷ []) → is_word_byte b ≡ false → IsToken t text rest
@@ -94,9 +87,6 @@ nonempty (name word) front spells empty = elim spells.1 [
 nonempty (sign op) front spells empty = sign_nonempty op front spells empty
 nonempty opening front spells empty = let both : ◌≡◌ {A = List ℕ} (40 ∷ []) [] = sym spells ∙ empty in absurd (cc)
 nonempty closing front spells empty = let both : ◌≡◌ {A = List ℕ} (41 ∷ []) [] = sym spells ∙ empty in absurd (cc)
-
-pub token_shorter : (t : Lexeme) (text rest : List ℕ) → IsToken t text rest → length rest < length text
-token_shorter t text rest token = shorter text token.front rest token.parts (nonempty t token.front token.spells)
 
 pub nothing_before : (text rest : List ℕ) (names : List (List ℕ)) (pending : List Pending) (steps : List Step) (levels : ℕ) (after : Bool) → IsAfterBlanks text rest → NoBlankFirst rest → IsReading [] names pending steps levels after → HasRead text rest names pending steps levels after
 nothing_before text rest names pending steps levels after blanks trimmed reading = record {

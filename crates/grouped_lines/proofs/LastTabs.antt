@@ -1,7 +1,6 @@
 -- Texts with a last tab.
 use Rattle.std.proofs.Common.{ℕ, ◌≡◌, Bool, true, false, cond, eqb, List, [], ◌∷◌, ◌++◌, refl, ap, ◌∙◌, append_assoc}
 use Rattle.std.specs.Prelude.{◌||◌}
-use Rattle.std.proofs.lemmas.Bool.{ne_eqb}
 use Rattle.grouped_lines.specs.Tabs.{has_tab, before_tab, behind_tab}
 
 or_true : (b : Bool) → (b || true) ≡ true
@@ -19,9 +18,6 @@ before_last (byte ∷ front) seen lacks = ap (λ b. cond b (byte ∷ before_tab 
 pub behind_last : (front seen : List ℕ) → has_tab seen ≡ false → behind_tab (front ++ 9 ∷ seen) ≡ seen
 behind_last [] seen lacks = ap (λ b. cond b (behind_tab seen) seen) lacks
 behind_last (byte ∷ front) seen lacks = ap (λ b. cond b (behind_tab (front ++ 9 ∷ seen)) (cond (eqb byte 9) (front ++ 9 ∷ seen) [])) (tab_there front seen) ∙ behind_last front seen lacks
-
-pub no_tab : (byte : ℕ) (seen : List ℕ) → (byte ≡ 9 → ⊥) → has_tab seen ≡ false → has_tab (byte ∷ seen) ≡ false
-no_tab byte seen other lacks = ap (λ b. b || has_tab seen) (ne_eqb byte 9 other) ∙ lacks
 
 -- a line whose last tab was found
 pub parted_at : (line left front seen : List ℕ) (last : ℕ) → line ≡ left ++ seen → left ≡ front ++ last ∷ [] → last ≡ 9 → line ≡ front ++ 9 ∷ seen

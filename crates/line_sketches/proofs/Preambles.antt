@@ -194,15 +194,6 @@ not_below a b le = grind (arith, nat_tests)
 pub both_true : (a b : Bool) → a ≡ true → b ≡ true → (a && b) ≡ true
 both_true a b p q = rw (p, q) refl
 
--- behind a whole preamble that says so there is a count; an image of version 2 with more than a single long has as many longs as it says
-pub counted_room : (longs version present : ℕ) (empty : Bool) → (leb 8 present && ((leb 1 longs && leb longs 3) && ((leb 1 version && leb version 3) && leb (start_by version longs empty) present))) ≡ true →
-    (eqb version 3 && empty) ≡ false → (eqb version 3 && eqb longs 1) ≡ false → (eqb version 2 && eqb longs 1) ≡ false → 12 ≤ present
-counted_room longs version present empty whole flagged single none = grind (arith, nat_tests)
-
-pub room_of_2 : (longs version present : ℕ) (empty : Bool) → (leb 8 present && ((leb 1 longs && leb longs 3) && ((leb 1 version && leb version 3) && leb (start_by version longs empty) present))) ≡ true →
-    version ≡ 2 → (longs ≡ 1 → ⊥) → (16 ≤ present) × ((longs ≡ 2 → ⊥) → 24 ≤ present)
-room_of_2 longs version present empty whole two more = (grind (arith, nat_tests), λ three. grind (arith, nat_tests))
-
 said_of : (bytes : List ℕ) (longs version : ℕ) (empty : Bool) → Begins bytes longs version 3 → 1 ≤ version → version ≤ 3 → is_empty bytes ≡ empty → start_by version longs empty ≤ length bytes →
     IsSaid bytes (start_by version longs empty) (hashes_by version longs empty (count_at bytes))
 said_of bytes longs version empty b low high flag room =

@@ -6,7 +6,6 @@ use Rattle.sketch_base.specs.declared.error.ErrorKind.{ErrorKind}
 use Rattle.core_compact.specs.CompactState.{Compact, IsAnswer, empty_compact}
 use Rattle.core_laws.specs.Cuts.{Retained, cut}
 use Rattle.core_laws.specs.Entries.{hash_key, hash_step}
-use Rattle.core_laws.specs.declared.leaf.LeafStep.{LeafStep}
 use Rattle.core_laws.specs.declared.leaf.LeafStep.TheVariants.{Trim}
 use Rattle.core_laws.specs.Leaf.{leaf, leaf_from, is_updated, hash_step_of}
 use Rattle.core_laws.specs.Values.{Sketch, Empty, NonEmpty}
@@ -29,9 +28,6 @@ module _ (hashing : Hashing) where
     with_lines-made : (lines : List (List ℕ)) (v : Retained ℕ) (u : Bool) → with_lines hashing (made v (not u)) lines ≡ made (leaf_from hash_key hash_step_of (2 ^ lg_k) MAX_THETA (line_steps hashing lines) v) (not (is_updated (line_steps hashing lines) u))
     with_lines-made [] v u = refl
     with_lines-made (line ∷ lines) v u = with_lines-made lines (after_upsert hash_key (2 ^ lg_k) (line_hash hashing line) (hash_step (line_hash hashing line)) v) true
-
-    pub trimmed_steps : List (List ℕ) → List (LeafStep (Unit {0}))
-    trimmed_steps lines = line_steps hashing lines ++ Trim ∷ []
 
     stays_updated : (lines : List (List ℕ)) → is_updated (line_steps hashing lines) true ≡ true
     stays_updated [] = refl

@@ -25,7 +25,7 @@ use Rattle.core_policies.specs.Sums.{adds, unsigned_sum}
 use Rattle.core_slots.specs.Entry.{tuple_key}
 use Rattle.core_slots.specs.declared.entry.TupleEntry.{TupleEntry}
 use Rattle.core_state.specs.Updatable.{Updatable, sketch_value}
-use Rattle.core_table.specs.HashTable.{MapTable, empty_table, after_insertion, trimmed_table}
+use Rattle.core_table.specs.HashTable.{MapTable, after_insertion, trimmed_table}
 use Rattle.lines.specs.Keys.{line_hash}
 use Rattle.lines.specs.declared.key.Hashing.{Hashing}
 use Rattle.line_sums.specs.Sums.{folds_of_lines, sum_at, sum_steps, sums_of_lines, sketch_of_sums, HasSummed}
@@ -65,14 +65,6 @@ not_within : (x y : ℕ) → is_none (unsigned_sum 64 x y) ≡ true → 2 ^ 64 �
 not_within x y none = let b : nat_lt (x + y) (2 ^ 64) ≡ false = not_fitting (nat_lt (x + y) (2 ^ 64)) (x + y) none in grind (arith, nat_tests, b)
 
 module _ (hashing : Hashing) (amount : List ℕ → ℕ) (lg_k : ℕ) where
-  -- a new sketch has had no lines
-  pub new_summed : (seed : ℕ) (s : Updatable (TupleEntry ℕ)) → hashing.seed ≡ seed → s.map ≡ empty_table lg_k MAX_THETA seed → s.empty ≡ true → HasSummed hashing amount lg_k [] s
-  new_summed seed s same made empty = record {
-    folds = ap (λ (m : MapTable (TupleEntry ℕ)). unmarked m.kept) made;
-    same_size = ap (λ (m : MapTable (TupleEntry ℕ)). m.lg_nom) made;
-    same_seed = ap (λ (m : MapTable (TupleEntry ℕ)). m.seed_hash) made ∙ ap seed_hash (sym same);
-    emptiness = empty;
-  }
 
   abbrev step_at : (hash value : ℕ) → Retained (Fold (TupleEntry ℕ)) → Retained (Fold (TupleEntry ℕ))
   step_at hash value v = after_upsert (fold_key tuple_key) (2 ^ lg_k) hash (folded tuple_key hash (adds hash value)) v

@@ -1,5 +1,5 @@
 -- Numbers that are read digit by digit.
-use Rattle.std.proofs.Common.{◌≡◌, ℕ, ◌+◌, ◌-◌, ◌*◌, ◌^◌, ◌<◌, ◌≤◌, Bool, true, false, cond, List, [], ◌∷◌, ◌++◌, length, Some, None, refl, sym, ap, ◌∙◌, append_assoc, append-nil, arith}
+use Rattle.std.proofs.Common.{◌≡◌, ℕ, ◌+◌, ◌-◌, ◌*◌, ◌^◌, ◌<◌, ◌≤◌, Bool, true, false, cond, List, [], ◌∷◌, ◌++◌, length, Some, None, refl, sym, ap, ◌∙◌, append-nil, arith}
 use Rattle.std.specs.Prelude.{◌&&◌, ◌==◌, not, nat_lt}
 use Rattle.std.specs.Char.{is_ascii_digit, digit_value}
 use Rattle.std.specs.Str.{all_ascii_digits}
@@ -36,10 +36,6 @@ chosen false v n is = absurd (cc)
 both : (a b : Bool) → (a && b) ≡ true → (a ≡ true) × (b ≡ true)
 both true b is = (refl, is)
 both false b is = absurd (cc)
-
-not_all : (a b : Bool) → (a ≡ true → ⊥) → (a && b) ≡ false
-not_all true b fails = absurd (fails refl)
-not_all false b fails = refl
 
 -- what follows from a number that is spelled
 record Spelled (bytes : List ℕ) (n : ℕ) : Type 0 where
@@ -99,10 +95,6 @@ no_digit bytes c other more =
     all_append (bytes ++ c ∷ []) more ∙ ap (λ (b : Bool). b && all_ascii_digits more) (all_append bytes (c ∷ [])) in
     let fails : all_ascii_digits ((bytes ++ c ∷ []) ++ more) ≡ false = all ∙ rw (other) (grind (arith, nat_tests)) in
     nothing_false ((bytes ++ c ∷ []) ++ more) (rw (fails) (grind (arith, nat_tests)))
-
--- no number, whatever follows
-pub still_none : (bytes : List ℕ) (c : ℕ) → ((more : List ℕ) → number_in (bytes ++ more) ≡ None) → (more : List ℕ) → number_in ((bytes ++ c ∷ []) ++ more) ≡ None
-still_none bytes c wrong more = ap number_in (append_assoc bytes (c ∷ []) more) ∙ wrong (c ∷ more)
 
 pub none_now : (bytes : List ℕ) → ((more : List ℕ) → number_in (bytes ++ more) ≡ None) → number_in bytes ≡ None
 none_now bytes wrong = ap number_in (sym (append-nil bytes)) ∙ wrong []

@@ -1,6 +1,6 @@
 -- Pieces of a text, read one after another, and texts.
 use Rattle.std.proofs.Common.{◌≡◌, ℕ, List, [], ◌∷◌, ◌++◌, refl, sym, ap, subst, ◌∙◌, arith, append_assoc, append-nil}
-use Rattle.std.specs.Prelude.{IsTrue, is_some, IfSome, IfErr, Option, Some, None, Result, Ok, Err}
+use Rattle.std.specs.Prelude.{IsTrue, is_some, IfSome, Option, Some, None}
 use Rattle.std.specs.Io.KnownBytes.{Consumes}
 use Rattle.sketch_base.specs.declared.error.ErrorKind.{ErrorKind}
 use Rattle.sketch_base.specs.declared.error.ErrorKind.TheVariants.{Policy}
@@ -65,14 +65,6 @@ lacking_among amount front lines back all (PastGreatest number) whole lacking = 
 
 lacking_behind : (amount : Amount) (front lines all : List (List ℕ)) (u : Unsummed) → front ++ lines ≡ all → LacksNumberIn amount lines u → LacksNumberIn amount all u
 lacking_behind amount front lines all u whole lacking = lacking_among amount front lines [] all u (ap (λ ls. front ++ ls) (append-nil lines) ∙ whole) lacking
-
--- the open line at the end of a text
-pub lacking_last : {T : Type 0} (amount : Amount) (line : List ℕ) (lines : List (List ℕ)) (count : ℕ) (r : Result T Unsummed) → lines ≡ line ∷ [] → IfErr r (LacksNumber amount line count) → IfErr r (LacksNumberIn amount lines)
-lacking_last amount line lines count (Ok x) is lacking = tt
-lacking_last amount line lines count (Err (NotANumber number)) is lacking = record { front = []; faulty = line; back = []; parted = is; is_faulty = lacking.0 }
-lacking_last amount line lines count (Err (Refused kind)) is lacking = tt
-lacking_last amount line lines count (Err (Failed error)) is lacking = tt
-lacking_last amount line lines count (Err (PastGreatest number)) is lacking = tt
 
 -- one of the texts has such a line
 pub lacking_texts : (amount : Amount) (u : Unsummed) (texts : List (List ℕ)) → HasFault (λ text. LacksNumberIn amount (lines_of text) u) texts → LacksNumberIn amount (lines_of_all texts) u

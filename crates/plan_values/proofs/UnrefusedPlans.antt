@@ -8,7 +8,6 @@ use Rattle.core_laws.specs.Folds.{Fold}
 use Rattle.core_laws.specs.Operators.{least}
 use Rattle.core_laws.specs.declared.TheConstants.{MIN_LG_K}
 use Rattle.core_laws.specs.declared.leaf.LeafStep.{LeafStep}
-use Rattle.core_operators.specs.Intersection.{seed_refusal}
 use Rattle.core_laws.specs.Settings.{settings_refusal}
 use Rattle.plan_text.specs.declared.plan.Plan.{Plan}
 use Rattle.plan_text.specs.declared.plan.UnionPart.{UnionPart}
@@ -86,9 +85,6 @@ module _ {X V : Type 0} (Z : Type 0) (f : Family (Fold X) V) (seed : ℕ) where
     pub union_unrefused : list_any (must_refuse f seed) (plans_of parts) ≡ false → must_refuse f seed (plan.Union lg_k start parts) ≡ false
     union_unrefused none = free _ _ (traced_union Z f seed lg_k start parts) (right_bad (may_be_built lg_k start seed) _ (turns_free lg_k parts none))
 
-    pub union_unbuilt : (e : ErrorKind) → settings_refusal lg_k start seed ≡ Some e → must_refuse f seed (plan.Union lg_k start parts) ≡ false
-    union_unbuilt e refused = free _ _ (traced_union Z f seed lg_k start parts) (left_bad (may_be_built lg_k start seed) _ (ap is_none refused))
-
     pub union_part_unrefused : (i : ℕ) (d : UnionPart (Plan V Z)) (p : Plan V Z) → i < length parts → get_or parts i d ≡ union_part.Of p → list_any (must_refuse f seed) (plans_of (take i parts)) ≡ false → must_refuse f seed p ≡ false → fits seed p ≡ false → must_refuse f seed (plan.Union lg_k start parts) ≡ false
     union_part_unrefused i d p lt is none present bad = free _ _ (traced_union Z f seed lg_k start parts) (right_bad (may_be_built lg_k start seed) _ (turns_at lg_k parts i d p lt is none present bad))
 
@@ -110,17 +106,12 @@ module _ {X V : Type 0} (Z : Type 0) (f : Family (Fold X) V) (seed : ℕ) where
     pub meet_unrefused : list_any (must_refuse f seed) parts ≡ false → must_refuse f seed (plan.Meet parts) ≡ false
     meet_unrefused none = free _ _ (traced_meet Z f seed parts) (right_bad (may_have_seed seed) _ (parts_free parts none))
 
-    pub meet_unseeded : (e : ErrorKind) → seed_refusal seed ≡ Some e → must_refuse f seed (plan.Meet parts) ≡ false
-    meet_unseeded e refused = free _ _ (traced_meet Z f seed parts) (left_bad (may_have_seed seed) _ (ap is_none refused))
-
     pub meet_part_unrefused : (i : ℕ) (d : Plan V Z) → i < length parts → list_any (must_refuse f seed) (take i parts) ≡ false → must_refuse f seed (get_or parts i d) ≡ false → fits seed (get_or parts i d) ≡ false → must_refuse f seed (plan.Meet parts) ≡ false
     meet_part_unrefused i d lt none present bad = free _ _ (traced_meet Z f seed parts) (right_bad (may_have_seed seed) _ (parts_at parts i d lt none present bad))
 
   -- ---- differences, and what is written and read
 
   module _ (first second : Plan V Z) where
-    pub minus_unseeded : (e : ErrorKind) → seed_refusal seed ≡ Some e → must_refuse f seed (plan.Minus first second) ≡ false
-    minus_unseeded e refused = free _ _ (traced_minus Z f seed first second) (left_bad (may_have_seed seed) _ (ap is_none refused))
 
     pub minus_first_unrefused : must_refuse f seed first ≡ false → fits seed first ≡ false → must_refuse f seed (plan.Minus first second) ≡ false
     minus_first_unrefused present bad =

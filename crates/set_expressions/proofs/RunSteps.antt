@@ -47,13 +47,6 @@ module _ {X : Type 0} (rules : Rules X) (lg_k : ℕ) (values : List (Sketch X)) 
 
   -- ---- steps one after another
 
-  -- one more step
-  pub step_further : (steps : List Step) (i : ℕ) (d : Step) (old new : List (Sketch X)) → i < length steps →
-      after_steps rules lg_k values steps (Some []) ≡ after_steps rules lg_k values (drop i steps) (Some old) → after_step rules lg_k values (get_or steps i d) old ≡ Some new →
-      after_steps rules lg_k values steps (Some []) ≡ after_steps rules lg_k values (drop (i + 1) steps) (Some new)
-  step_further steps i d old new lt so_far ran =
-      so_far ∙ ap (λ left. after_steps rules lg_k values left (Some old)) (split_at steps i d lt) ∙ ap (after_steps rules lg_k values (drop (i + 1) steps)) ran
-
   none_stays : (steps : List Step) → after_steps rules lg_k values steps None ≡ None
   none_stays [] = refl
   none_stays (step ∷ steps) = refl
@@ -67,11 +60,6 @@ module _ {X : Type 0} (rules : Rules X) (lg_k : ℕ) (values : List (Sketch X)) 
   -- a merge that the next step refuses is refused by the steps that are left
   pub refused_next : (steps : List Step) (i : ℕ) (d : Step) (stack : List (Sketch X)) → i < length steps → MayRefuseStep rules (get_or steps i d) stack → MayRefuse rules lg_k values (drop i steps) (Some stack)
   refused_next steps i d stack lt refused = subst (λ left. MayRefuse rules lg_k values left (Some stack)) (sym (split_at steps i d lt)) (inl refused)
-
-  -- .. and so is one that a later step refuses
-  pub refused_later : (steps : List Step) (i : ℕ) (d : Step) (old new : List (Sketch X)) → i < length steps → after_step rules lg_k values (get_or steps i d) old ≡ Some new → MayRefuse rules lg_k values (drop (i + 1) steps) (Some new) → MayRefuse rules lg_k values (drop i steps) (Some old)
-  refused_later steps i d old new lt ran refused =
-      subst (λ left. MayRefuse rules lg_k values left (Some old)) (sym (split_at steps i d lt)) (inr (subst (λ (o : Option (List (Sketch X))). MayRefuse rules lg_k values (drop (i + 1) steps) o) (sym ran) refused))
 
 -- ---- answers
 

@@ -1,6 +1,6 @@
 -- Two sketches combined, and when that is refused.
 use Rattle.std.proofs.Common.{◌≡◌, ℕ, ◌^◌, Bool, true, false, cond, List, [], ◌∷◌, ◌++◌, Option, Some, None, Result, Ok, Err, refl, ap, sym, subst, ◌∙◌, arith, inl, inr}
-use Rattle.std.specs.Prelude.{◌⊎◌, ◌==◌, ◌||◌, not, IsTrue, IfOk, IfErr, OnOk, MatchOption}
+use Rattle.std.specs.Prelude.{◌⊎◌, ◌==◌, ◌||◌, IsTrue, IfOk, IfErr, OnOk, MatchOption}
 use Rattle.std.proofs.lemmas.Bool.Decides.{nat_tests}
 use Rattle.sketch_base.specs.Seed.{seed_hash}
 use Rattle.sketch_base.specs.declared.error.ErrorKind.{ErrorKind}
@@ -15,7 +15,6 @@ use Rattle.core_laws.specs.Shown.{Shown, shown_value}
 use Rattle.core_laws.specs.Values.{Sketch, Empty, NonEmpty}
 use Rattle.core_laws.specs.declared.TheConstants.{MAX_THETA}
 use Rattle.core_laws.proofs.operators.Unions.{nonempties-more, union_of_union}
-use Rattle.core_operators.specs.ANotB.{difference_refusal}
 use Rattle.core_operators.specs.Intersection.{Intersection, is_settled, intersect_refusal, seed_refusal, IsAnswerIfAny}
 use Rattle.core_operators.specs.Union.{Union, union_value, empty_union, update_refusal}
 use Rattle.core_operators.proofs.DifferencesByKeys.{minus_of_keys}
@@ -76,14 +75,6 @@ intersection_accepts key i s shows h seed is accepted = ap (intersect_refusal i)
 pub intersection_memory : {X P : Type 0} (i : Intersection X P) (shows : Shown) (e : ErrorKind) → intersect_refusal i shows ≡ None → MatchOption (intersect_refusal i shows) ((shows.empty ≡ false) × (is_settled i.result ≡ false) × (e ≡ OutOfMemory)) (λ kind. e ≡ kind) → e ≡ OutOfMemory
 intersection_memory i shows e none refused = memory_of_update (shows.empty ≡ false) (is_settled i.result ≡ false) (intersect_refusal i shows) e none refused
 
-own_one : (empty : Bool) (h x : ℕ) → x ≡ h → (empty || h == x) ≡ true
-own_one true h x seed = refl
-own_one false h x seed = grind (arith, nat_tests)
-
--- a sketch of a seed is accepted by it
-pub own_seed : {X : Type 0} (h : ℕ) (s : Compact X) → s.seed_hash ≡ h → is_accepted h s ≡ true
-own_seed h s seed = own_one s.empty h s.seed_hash seed
-
 union_one : (failed empty : Bool) (x y : ℕ) → failed ≡ false → x ≡ y → cond failed (Some Failed) (cond empty None (cond (x == y) None (Some InvalidArgument))) ≡ None
 union_one failed true x y sound same = rw sound refl
 union_one failed false x y sound same = grind (arith, nat_tests)
@@ -99,15 +90,6 @@ memory_of_union A B C (Some kind) e none refused = absurd (cc)
 pub union_memory : {X P : Type 0} (old new : Union X P) (shows : Shown) (e : ErrorKind) → update_refusal old shows ≡ None →
     MatchOption (update_refusal old shows) ((shows.empty ≡ false) × (e ≡ OutOfMemory) × (new ≡ record old { failed = true; content = new.content })) (λ kind. (e ≡ kind) × (new ≡ old)) → e ≡ OutOfMemory
 union_memory old new shows e none refused = memory_of_union (shows.empty ≡ false) (new ≡ record old { failed = true; content = new.content }) (new ≡ old) (update_refusal old shows) e none refused
-
-difference_one : (h x y : ℕ) (first second : Bool) → x ≡ h → y ≡ h → cond first None (cond (not (h == x)) (Some InvalidArgument) (cond second None (cond (not (h == y)) (Some InvalidArgument) None))) ≡ None
-difference_one h x y true second one two = refl
-difference_one h x y false true one two = grind (arith, nat_tests)
-difference_one h x y false false one two = grind (arith, nat_tests)
-
--- a difference accepts sketches of its seed
-pub difference_accepts : {X : Type 0} (key : X → ℕ) (h : ℕ) (first second : Compact X) (a b : Shown) → first.seed_hash ≡ h → second.seed_hash ≡ h → a ≡ shown_of key first → b ≡ shown_of key second → difference_refusal h a b ≡ None
-difference_accepts key h first second a b one two is_a is_b = ap (λ s. difference_refusal h s b) is_a ∙ ap (difference_refusal h (shown_of key first)) is_b ∙ difference_one h first.seed_hash second.seed_hash first.empty second.empty one two
 
 -- ---- values
 
@@ -145,10 +127,6 @@ module _ {X : Type 0} (key : X → ℕ) (merges : X → X → X) where
   -- the result of an intersection with one sketch
   pub met_one : (o now : Option (Sketch X)) (v w : Sketch X) → o ≡ None → now ≡ Some (meet_next key merges o v) → v ≡ w → now ≡ Some w
   met_one o now v w none met same = met ∙ ap (λ (p : Option (Sketch X)). Some (meet_next key merges p v)) none ∙ ap (λ (u : Sketch X). Some u) (one_met v ∙ same)
-
-  -- and with one more
-  pub met_two : (o now : Option (Sketch X)) (a v b : Sketch X) → o ≡ Some a → now ≡ Some (meet_next key merges o v) → v ≡ b → ◌≡◌ {A = Option (Sketch X)} now (Some (meet key merges (a ∷ b ∷ [])))
-  met_two o now a v b one met same = met ∙ ap (λ (p : Option (Sketch X)). Some (meet_next key merges p v)) one ∙ ap (λ (u : Sketch X). Some (meet key merges (a ∷ u ∷ []))) same
 
 -- ---- unions
 
@@ -189,8 +167,6 @@ module _ {X : Type 0} (key : X → ℕ) (merges : X → X → X) (keeps : KeepsK
 
     -- the value of a new union after two sketches, and its seed
     module _ (lg_k h : ℕ) (empty one : Union X P) (made : empty ≡ empty_union lg_k MAX_THETA h empty.policy) (made_one : one ≡ record empty { empty = one.empty; content = one.content }) where
-      pub one_sound : one.failed ≡ false
-      one_sound = ap (λ u. u.failed) made_one ∙ ap (λ u. u.failed) made
 
       pub one_seed : one.seed_hash ≡ h
       one_seed = ap (λ u. u.seed_hash) made_one ∙ ap (λ u. u.seed_hash) made

@@ -19,7 +19,7 @@ use Rattle.core_laws.proofs.operators.JoinedMaps.{either, entry_at-joined, ascen
 use Rattle.core_laws.proofs.maps.MapsOfLists.{ascending-apart, entry_at-map_of, ascending-map_of}
 use Rattle.core_laws.proofs.operators.Unions.{cut-joined}
 use Rattle.core_laws.proofs.cuts.Cuts.{below_all}
-use Rattle.core_laws.proofs.cuts.WithinWholeMaps.{below-below, lawful-le, cut_below, within-below}
+use Rattle.core_laws.proofs.cuts.WithinWholeMaps.{below-below, cut_below, within-below}
 use Rattle.core_laws.specs.Entries.{KeepsKey}
 
 module _ {X : Type 0} (key : X → ℕ) (merges : X → X → X) (refuses : X → X → Bool) (keeps : KeepsKey key merges) where
@@ -31,10 +31,6 @@ module _ {X : Type 0} (key : X → ℕ) (merges : X → X → X) (refuses : X �
       subst (λ ys. IsWithin (fold_key key) k m (record { entries = ys; theta = m }) ys) (below-map Value key (fold_key key) (λ y. refl) content m) (within-lowered (fold_key key) k m (fold_merges key merges refuses) never (fold_keeps key merges refuses keeps) (map Value content) (ascending-marked key content up)) in
       rw merged (subst (λ ys. IsWithin (fold_key key) k m (after_upserts (fold_key key) k (merge_step (fold_merges key merges refuses) never) (map Value listing) (unmarked (retained key content m))) (joined (fold_key key) (fold_merges key merges refuses) (map Value (below key content m)) ys)) (below-map Value key (fold_key key) (λ y. refl) listing m)
       (within-joined (fold_key key) k m (fold_merges key merges refuses) never (fold_keeps key merges refuses keeps) (map Value listing) (unmarked (retained key content m)) (map Value (below key content m)) (each-marked key (λ h. 0 < h) listing nonzero) start))
-
-  -- and theta is not raised
-  pub union-lowers : (k m : ℕ) (v : Retained X) (whole : List (Fold X)) → IsWithin (fold_key key) k m (unmarked v) whole → v.theta ≤ m
-  union-lowers k m v whole within = lawful-le (fold_key key) whole k m v.theta within.lawful
 
   -- if the union keeps the entries of a table below theta, and an input below m ≤ theta is merged into the table
   pub union-below : (k m theta : ℕ) (kept now : Retained X) (listing : List X) → IsRetained key kept → m ≤ theta → theta ≤ kept.theta → AllByRecursion (λ x. 0 < key x) listing →

@@ -1,15 +1,13 @@
 -- Steps of a leaf in folds, one by one.
-use Rattle.std.proofs.Common.{◌≡◌, ℕ, ◌^◌, ◌<◌, ◌+◌, Bool, true, false, cond, List, [], ◌∷◌, ◌++◌, length, get_or, take, refl, sym, ap, ◌∙◌}
+use Rattle.std.proofs.Common.{◌≡◌, ℕ, ◌^◌, ◌<◌, ◌+◌, Bool, true, false, List, [], ◌∷◌, ◌++◌, length, get_or, take, refl, sym, ap, ◌∙◌}
 use Rattle.std.specs.Prelude.{not}
 use Rattle.std.proofs.lemmas.List.{take_more}
 use Rattle.core_laws.specs.Cuts.{Retained, none_below}
-use Rattle.core_laws.specs.Folds.{Fold, unmarked, unmarked_value}
-use Rattle.core_laws.specs.Leaf.{leaf_step, leaf_from, leaf, updated_step, is_updated}
-use Rattle.core_laws.specs.Values.{Empty, NonEmpty}
+use Rattle.core_laws.specs.Folds.{Fold, unmarked}
+use Rattle.core_laws.specs.Leaf.{leaf_step, leaf_from, updated_step, is_updated}
 use Rattle.core_laws.specs.declared.leaf.LeafStep.{LeafStep as Step}
 use Rattle.core_laws.proofs.insertions.Leaves.{leaf_from-append, is_updated-append}
 use Rattle.core_table.specs.HashTable.{MapTable, empty_table}
-use Rattle.core_state.specs.Updatable.{Updatable, sketch_value}
 use Rattle.plan_values.specs.Family.{Family, IsFamily}
 use Rattle.plan_values.specs.Refusals.{step_refused, steps_refused}
 use Rattle.plan_values.proofs.RefusedSteps.{in_turn, turn_next}
@@ -17,10 +15,6 @@ use Rattle.plan_values.proofs.RefusedSteps.{in_turn, turn_next}
 twice : (b : Bool) → not (not b) ≡ b
 twice true = refl
 twice false = refl
-
--- a new table
-pub made_new : {X : Type 0} (lg_k start seed : ℕ) (t : MapTable X) → t ≡ empty_table lg_k start seed → t ≡ record (empty_table lg_k start seed) { kept = t.kept }
-made_new {X} lg_k start seed t made = (let with : Retained X → MapTable X = λ v. record (empty_table lg_k start seed) { kept = v } in made ∙ ap with (sym (ap (λ u. u.kept) made)))
 
 -- its settings don't change
 pub made_stepped : {X : Type 0} (lg_k start seed : ℕ) (old new : MapTable X) → old ≡ record (empty_table lg_k start seed) { kept = old.kept } → new ≡ record old { kept = new.kept } → new ≡ record (empty_table lg_k start seed) { kept = new.kept }
@@ -59,10 +53,3 @@ module _ {X V : Type 0} (f : Family (Fold X) V) (lawful : IsFamily f) (lg_k star
     pub refused_stepped : (kept : Retained X) → unmarked kept ≡ leaf_from f.key f.step_of (2 ^ lg_k) start (take i steps) (none_below start) → step_refused f (get_or steps i d) (unmarked kept) ≡ true → steps_refused f (2 ^ lg_k) start steps ≡ true
     refused_stepped kept was present =
         in_turn (λ begun step. step_refused f step (leaf_from f.key f.step_of (2 ^ lg_k) start begun (none_below start))) steps i d lt (ap (step_refused f (get_or steps i d)) (sym was) ∙ present)
-
-  -- the value of a sketch after all steps
-  pub stepped_value : (s : Updatable X) → unmarked s.map.kept ≡ leaf_from f.key f.step_of (2 ^ lg_k) start steps (none_below start) → s.empty ≡ not (is_updated steps false) →
-      unmarked_value (sketch_value s) ≡ leaf f.key f.step_of (2 ^ lg_k) start steps
-  stepped_value s kept_is empty_is =
-      ap (λ b. unmarked_value (cond b Empty (NonEmpty s.map.kept))) empty_is
-      ∙ (elim (is_updated steps false) as (λ b. unmarked_value (cond (not b) Empty (NonEmpty s.map.kept)) ≡ cond b (NonEmpty (leaf_from f.key f.step_of (2 ^ lg_k) start steps (none_below start))) Empty) [ true ↦ ap NonEmpty kept_is | false ↦ refl ])

@@ -18,8 +18,3 @@ if_refused (Err e) p more = more e p
 pub for_other : {P Q : Type 0} (e : ErrorKind) (strict : Bool) → (P → Q) → RefusedFor e strict P → RefusedFor e strict Q
 for_other e strict other (inl memory) = inl memory
 for_other e strict other (inr policy) = inr (policy.0, policy.1, other policy.2)
-
--- a fact that always holds, holds on an answer
-pub on_answer : {T P : Type 0} (r : Result T ErrorKind) → P → OnOk r P
-on_answer (Ok x) holds = holds
-on_answer (Err e) holds = tt

@@ -1,7 +1,6 @@
 -- How a run ends if it writes a text.
 use Rattle.std.proofs.Common.{◌≡◌, ℕ, List, Option, Some, None, refl}
 use Rattle.std.specs.Prelude.{IfSome}
-use Rattle.std.specs.Io.KnownBytes.{Keeps}
 use Rattle.sketchtool.specs.declared.run.Ending.{Ending}
 use Rattle.sketchtool.specs.declared.run.Ending.TheVariants.{Answered, NotRead, NotWritten}
 use Rattle.sketchtool.specs.Answer.{Answers}
@@ -16,8 +15,3 @@ puts_answer Z input text status NotWritten old new a p = tt
 pub puts_for : (Z : Type 0) (known : Option (List ℕ)) (text : List ℕ) (status : ℕ) (e : Ending) (old new : Option (List ℕ)) → ((input : List ℕ) → known ≡ Some input → Answers Z input status text) → Puts text status e old new → IfSome known (λ input. EndsRun Z input e old new)
 puts_for Z None text status e old new a p = tt
 puts_for Z (Some input) text status e old new a p = puts_answer Z input text status e old new (a input refl) p
-
-pub not_unread : (text : List ℕ) (status : ℕ) (e : Ending) (old new : Option (List ℕ)) → Puts text status e old new → e ≡ NotRead → Keeps old new
-not_unread text status (Answered s) old new p h = absurd cc
-not_unread text status NotRead old new p h = absurd p
-not_unread text status NotWritten old new p h = absurd cc
