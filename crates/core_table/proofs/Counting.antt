@@ -1,11 +1,11 @@
 -- The effects of calls on the counts of a table.
-use Rattle.std.proofs.Common.{◌≡◌, ℕ, zero, suc, ◌+◌, ◌*◌, ◌/◌, ◌^◌, ◌<◌, ◌≤◌, ◌⊎◌, min, Bool, true, false, leb, inl, inr, refl, arith}
+use Rattle.std.proofs.Common.{◌≡◌, ℕ, zero, suc, ◌+◌, ◌*◌, ◌/◌, ◌^◌, ◌<◌, ◌≤◌, min, true, false, leb, inl, inr, refl, arith}
 use Rattle.std.proofs.lemmas.Bool.{cases_lt}
 use Rattle.std.proofs.lemmas.Bool.Decides.{nat_tests}
 use Rattle.std.proofs.Math.Nat.{two-pow-succ}
 use Rattle.std.proofs.Math.Pow.{pow_mono}
 use Rattle.core_table.specs.declared.insertion.Counts.{Counts}
-use Rattle.core_table.specs.HashTable.{HasSize, CountsAgree, nothing_done, threshold, ticked_if, ticked, size_after, count_after}
+use Rattle.core_table.specs.HashTable.{HasSize, CountsAgree, nothing_done, threshold, ticked, size_after, count_after}
 use Rattle.core_table.proofs.Tables.{eights, twice, threshold_growing, full}
 
 -- eight is the third power of two
@@ -99,11 +99,6 @@ module _ (lg nom count : ℕ) (done : Counts) (is : CountsAgree lg nom count don
   pub placed_few : done.trims ≡ 0 → done.placed ≤ 3 * done.inserted
   placed_few e = elim (is.few_placed e) [ inl first ↦ first.1.1.1 | inr later ↦ omega (arith, later.1) ]
 
-reported_apart : (fits grows : Bool) (nominal count : ℕ) (done : Counts) (looks later : ℕ) → record (ticked_if fits grows nominal count (record done { looks = looks })) { looks = later } ≡ record (ticked_if fits grows nominal count done) { looks = later }
-reported_apart true grows nominal count done looks later = refl
-reported_apart false true nominal count done looks later = refl
-reported_apart false false nominal count done looks later = refl
-
 -- the results of an insertion that creates an entry, case by case
 pub record IsTicked (lg nom grow count new_lg new_count : ℕ) (done new : Counts) : Type 0 where
   pub size : size_after lg nom grow count ≡ new_lg
@@ -143,18 +138,3 @@ module _ (lg nom grow count : ℕ) (done : Counts) where
               rw (t.size, t.retained, t.counts) (counted_rebuilt lg nom count done is (large_enough nom f.large) (omega (arith, whole, sized.within)) f.many)
         ]
       ]
-
-  -- a rebuild happens only if seven eighths of the nominal entries are fresh, the new one counted
-  pub ticked_seldom : HasSize lg nom grow count → (nom < 3 → count + 1 < 2 ^ lg) → CountsAgree lg nom count done → ((ticked lg nom count done).rebuilds ≡ done.rebuilds) ⊎ (7 * 2 ^ nom < 8 * (done.fresh + 1))
-  ticked_seldom sized room is =
-      elim (cases_lt (threshold lg nom) (count + 1)) [
-        | inr limited ↦ let t = few_ticked limited in inl (rw t.counts refl)
-        | inl more ↦ elim (cases_lt nom lg) [
-          | inr growing ↦ let t = grown_ticked more growing in inl (rw t.counts refl)
-          | inl whole ↦ let f = full lg nom grow count sized whole more room in let e = eights nom (large_enough nom f.large) in inr (omega (arith, f.many, e.1, is.fresh))
-        ]
-      ]
-
-  -- the looks are counted apart from the rest
-  pub ticked_looks : (looks later : ℕ) → record (ticked lg nom count (record done { looks = looks })) { looks = later } ≡ record (ticked lg nom count done) { looks = later }
-  ticked_looks looks later = reported_apart (leb (count + 1) (threshold lg nom)) (leb lg nom) (2 ^ nom) count done looks later

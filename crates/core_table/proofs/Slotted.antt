@@ -50,19 +50,7 @@ not_false true e = refl
 not_false false e = absurd (cc)
 
 module _ {X : Type 0} (key : X → ℕ) where
-  -- if a hash that isn't screened may be inserted, there are slots
-  pub must_have : (t : MapTable X) (lg grow count h : ℕ) (slots : List (Option X)) → IsSlotted key t lg grow count slots → t.kept.entries ≡ map_of key (filled slots) → is_screened h t.kept.theta ≡ false → IsTrue (may_insert key h t) → t.has_slots ≡ true
-  must_have t lg grow count h slots is same passes may =
-      (elim t.has_slots as (λ b. t.has_slots ≡ b → b ≡ true) [
-        | true ↦ λ e. refl
-        | false ↦ λ e.
-            let none : t.kept.entries ≡ [] = same ∙ ap (λ s. map_of key (filled s)) (is.without e) in
-            let low : leb 3 t.lg_nom ≡ false = let z = is.table.without_slots e in grind (arith, nat_tests) in
-            let absent : is_some (entry_at key t.kept.entries h) ≡ false = ap (λ ys. is_some (entry_at key ys h)) none in
-            sym e ∙ (needs (is_screened h t.kept.theta) (is_some (entry_at key t.kept.entries h)) (leb 3 t.lg_nom) t.has_slots (ltb (length t.kept.entries + 1) (2 ^ (t.lg_nom + 1))) passes absent low may).0
-      ]) refl
-
-  -- and there is room if no entry has it
+  -- if a hash that isn't screened may be inserted and no entry has it, there is room
   pub must_fit : (t : MapTable X) (lg grow count h : ℕ) (slots : List (Option X)) → IsSlotted key t lg grow count slots → t.kept.entries ≡ map_of key (filled slots) → t.has_slots ≡ true → is_screened h t.kept.theta ≡ false → entry_at key t.kept.entries h ≡ None → IsTrue (may_insert key h t)
       → t.lg_nom < 3 → count + 1 < 2 ^ lg
   must_fit t lg grow count h slots is same has passes none may small =

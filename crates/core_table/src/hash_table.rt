@@ -1,5 +1,5 @@
 //! The table of retained entries.
-ghost use Rattle.std.specs.Prelude.{◌≡◌, ◌==◌, ◌⊎◌, ◌&&◌, if◌then◌else◌, ◌+◌, ◌-◌, ◌*◌, ◌/◌, ◌<◌, ◌≤◌, ◌^◌, [], not, true, false, None, nat_lt, length, take, Some, IfOk, IfErr, IsOk, OnOk, OnErr, IsTrue};
+ghost use Rattle.std.specs.Prelude.{◌≡◌, ◌==◌, ◌⊎◌, ◌&&◌, if◌then◌else◌, ◌+◌, ◌-◌, ◌*◌, ◌/◌, ◌<◌, ◌≤◌, ◌^◌, [], not, true, false, None, is_none, nat_lt, length, take, Some, IfOk, IfErr, IsOk, OnOk, OnErr, IsTrue};
 ghost use Rattle.std.specs.List.{AllByRecursion, concat};
 ghost use Rattle.std.specs.Option.{ForSome, option_copied};
 ghost use Rattle.sketch_base.specs.Seed.{hash_of};
@@ -11,10 +11,11 @@ ghost use Rattle.core_laws.specs.Refusal.{Refuses};
 ghost use Rattle.core_laws.specs.Settings.{settings_refusal};
 ghost use Rattle.core_table.specs.HashTable.{Table, IsTable, IsSized, IsSeedHash, empty_table, set_table, after_reset, after_hashes, lg_size_for, whole_log, has_room, may_insert, threshold, sub_multiple, slots_of_operator, nothing_done, ticked, key_hash, after_insertion, after_hash, creates_hash, hash_allocates, after_tuple, creates_tuple, trimmed_table, cut_table, StopsAtMemory, counts_after, lg_cur_after, counts_after_trim, AreFewLooks, AreEnoughLooks, IsUncountedIfScreened, IsBelowThreshold, RefusesBelowThreshold};
 ghost use Rattle.core_table.specs.ResizeFactor.{lg_of};
-ghost use Rattle.core_slots.specs.SlotLayout.{filled, IsLaidOut, entries_in, slot_map};
+ghost use Rattle.core_slots.specs.SlotLayout.{filled, slot, is_other, IsOnPath, IsLaidOut, entries_in, slot_map};
+ghost use Rattle.core_slots.specs.Placing.{LooksForEach, LooksAtPlaced};
 ghost use Rattle.core_slots.specs.Entry.{tuple_key, entry_step};
 ghost use Rattle.core_table.specs.declared.hash_table.TheConstants.{BLOCK};
-ghost use Rattle.core_laws.specs.Insertion.{IsRedundant, Drops, creates, upsert_refusal, RefusesUpsert};
+ghost use Rattle.core_laws.specs.Insertion.{IsRedundant, Drops, creates, is_screened, upsert_refusal, RefusesUpsert};
 ghost use Rattle.core_slots.specs.declared.slots.TheConstants.{NEAR};
 ghost use Rattle.core_table.specs.Filling.{IsFill};
 ghost use Rattle.sketch_base.specs.declared.error.ErrorKind.TheVariants.{OutOfMemory};
@@ -30,7 +31,7 @@ use crate::resize_factor::ResizeFactor;
 use core_compact::CompactSketchState;
 use core_laws::{MAX_LG_K, MAX_THETA, MIN_LG_K, MIN_LG_SLOTS};
 use core_slots::{
-    Count, EntryStep, PutStep, SlotEntry, ThetaEntry, TupleEntry, UpsertStep, drop_retained,
+    Count, EntryStep, Place, PutStep, SlotEntry, ThetaEntry, TupleEntry, UpsertStep, drop_retained,
     free_slots, seek, seek_near, settle_all,
 };
 use sketch_base::{Error, ErrorKind, MurmurHash3X64128, compute_seed_hash};
@@ -402,6 +403,40 @@ impl<E: SlotEntry + Drop, A: Allocator + Clone> SketchHashTable<E, A> {
             return Ok(false);
         }
         let place = seek::<E>(&self.slots, self.lg_cur_size, hash, &mut self.counts.looks);
+        self.upsert_at(hash, place, step)
+    }
+
+    /// Does what `upsert_entry` does, at the place where a search for the hash ended, which isn't screened. It counts the
+    /// looks of growth or a rebuild alone.
+    #[inline(always)]
+    fn upsert_at<S: UpsertStep<E> + Drop>(
+        &mut self,
+        hash: u64,
+        place: Place,
+        step: S,
+    ) -> Result<bool, Error>
+        requires keeps_hash { (x : E) → E.key x ≡ hash → E.key ((S.means step).writes x) ≡ hash }
+        requires makes_hash { ForSome (S.means step).makes (λ x. E.key x ≡ hash) }
+        requires room { IsTrue (may_insert E.key hash self.old.map) }
+        requires passes { is_screened hash self.old.map.kept.theta ≡ false }
+        requires inside { place.at < length self.old.layout.slots }
+        requires on_path { IsOnPath E.key self.old.layout.lg_cur self.old.layout.slots hash place.at }
+        requires ends { is_other E.key hash (slot self.old.layout.slots place.at) ≡ false }
+        requires is_free { place.is_free ≡ is_none (slot self.old.layout.slots place.at) }
+        ensures ok { IfOk result (λ created. created ≡ creates E.key hash (S.means step) self.old.map.kept) }
+        ensures after { OnOk result (self.new.map ≡ after_insertion E.key hash (S.means step) self.old.map) }
+        ensures err { OnErr result (self.new.map ≡ self.old.map) }
+        ensures refused { RefusesUpsert result E.key hash (S.means step) self.old.map.kept }
+        ensures memory { RefusesBelowThreshold result E.key hash (S.means step) self.old }
+        ensures ticked { IfOk result (λ created. self.new.counts ≡ record (counts_after self.old created) { looks = self.new.counts.looks }) }
+        ensures unticked { OnErr result (self.new.counts ≡ record self.old.counts { looks = self.new.counts.looks }) }
+        ensures sized { IfOk result (λ created. self.new.layout.lg_cur ≡ lg_cur_after self.old created) }
+        ensures grows { self.new.layout.grow ≡ self.old.layout.grow }
+        ensures seldom { (self.new.counts.rebuilds ≡ self.old.counts.rebuilds) ⊎ (7 * 2 ^ self.old.map.lg_nom < 8 * (self.old.counts.fresh + 1)) }
+        ensures looks { LooksAtPlaced (self.new.counts.placed - self.old.counts.placed) self.old.counts.looks self.new.counts.looks }
+        ensures looked { LooksForEach (self.new.counts.placed - self.old.counts.placed) self.old.counts.looks self.new.counts.looks }
+        ensures layout_err { OnErr result (self.new.layout ≡ self.old.layout) }
+    {
         if !place.is_free {
             write_at::<E, S>(&mut self.slots, place.at, step)?;
             return Ok(false);
@@ -463,34 +498,8 @@ impl<E: SlotEntry + Drop, A: Allocator + Clone> SketchHashTable<E, A> {
         let Some(place) = found else {
             return Ok(false);
         };
-        if !place.is_free {
-            write_at::<E, S>(&mut self.slots, place.at, step)?;
-            return Ok(true);
-        }
-        match step.absent()? {
-            None => Ok(true),
-            Some(entry) => {
-                let settled = put_entry::<E, A>(
-                    &mut self.slots,
-                    Sizes {
-                        lg_cur: self.lg_cur_size,
-                        lg_nom: self.lg_nom_size,
-                        grow: self.resize_factor.lg_value(),
-                        most: self.threshold,
-                        count: self.count,
-                        theta: self.theta,
-                    },
-                    place.at,
-                    entry,
-                    &mut self.counts,
-                )?;
-                self.lg_cur_size = settled.lg_cur;
-                self.threshold = settled.most;
-                self.theta = settled.theta;
-                self.count = settled.count;
-                Ok(true)
-            }
-        }
+        let _created = self.upsert_at(hash, place, step)?;
+        Ok(true)
     }
 
     /// If more than the k nominal entries are retained, lowers theta to the (k+1)th smallest hash and keeps the k
