@@ -123,7 +123,6 @@ module _ {X : Type 0} (key : X → ℕ) where
 -- the rules of the hashes are the laws of a sketch that shows them
 
 module _ {X : Type 0} (key : X → ℕ) (p : Preamble) (h : ℕ) (xs : List X) where
-
   pub hashes_from : IsShown (shown_of key (state_after_preamble p h xs)) → AreHashes p.theta p.ordered (map key xs)
   hashes_from shown = record { distinct = shown.distinct; nonzero = shown.nonzero; below_theta = shown.below_theta; ascending = shown.ascending }
 

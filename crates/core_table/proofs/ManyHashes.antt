@@ -25,7 +25,6 @@ pub record HasInserted (hashes rest : List ℕ) (old new : MapTable ℕ) : Type 
   pub after : new ≡ after_hashes front old
 
 module _ (hashes : List ℕ) (old : MapTable ℕ) where
-
   -- the remaining hashes, in two parts
   pub parted : (rest block others : List ℕ) (mid : ℕ) (new : MapTable ℕ) → block ≡ take mid rest → others ≡ drop mid rest → HasInserted hashes rest old new → HasInserted hashes (block ++ others) old new
   parted rest block others mid new front back was =

@@ -65,7 +65,6 @@ not_within : (x y : ℕ) → is_none (unsigned_sum 64 x y) ≡ true → 2 ^ 64 �
 not_within x y none = let b : nat_lt (x + y) (2 ^ 64) ≡ false = not_fitting (nat_lt (x + y) (2 ^ 64)) (x + y) none in grind (arith, nat_tests, b)
 
 module _ (hashing : Hashing) (amount : List ℕ → ℕ) (lg_k : ℕ) where
-
   abbrev step_at : (hash value : ℕ) → Retained (Fold (TupleEntry ℕ)) → Retained (Fold (TupleEntry ℕ))
   step_at hash value v = after_upsert (fold_key tuple_key) (2 ^ lg_k) hash (folded tuple_key hash (adds hash value)) v
 

@@ -112,7 +112,6 @@ module _ {X V : Type 0} (Z : Type 0) (f : Family (Fold X) V) (seed : ℕ) where
   -- ---- differences, and what is written and read
 
   module _ (first second : Plan V Z) where
-
     pub minus_first_unrefused : must_refuse f seed first ≡ false → fits seed first ≡ false → must_refuse f seed (plan.Minus first second) ≡ false
     minus_first_unrefused present bad =
         free _ _ (traced_minus Z f seed first second) (right_bad (may_have_seed seed) _ (neither (must_refuse f seed first) _ present (left_bad (traced f seed first).fits _ (traced_fits Z f seed first ∙ bad))))

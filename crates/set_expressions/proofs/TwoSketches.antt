@@ -167,7 +167,6 @@ module _ {X : Type 0} (key : X → ℕ) (merges : X → X → X) (keeps : KeepsK
 
     -- the value of a new union after two sketches, and its seed
     module _ (lg_k h : ℕ) (empty one : Union X P) (made : empty ≡ empty_union lg_k MAX_THETA h empty.policy) (made_one : one ≡ record empty { empty = one.empty; content = one.content }) where
-
       pub one_seed : one.seed_hash ≡ h
       one_seed = ap (λ u. u.seed_hash) made_one ∙ ap (λ u. u.seed_hash) made
 
