@@ -144,26 +144,28 @@ static int is_of_another_seed(const unsigned char *image, int family) {
     return !is_unchecked && memcmp(image + 6, default_seed_hash, 2) != 0;
 }
 
-/* Why bytes that are not read are no image: the first reason that applies. */
+#define DAMAGED "is damaged (its preamble, sketch type, theta or hashes are not valid): copy or make it again"
+
+/* Why bytes that are not read are no image: the first reason that applies, and what to do. */
 static const char *flaw_of(const unsigned char *image, size_t count, int family) {
-    if (count < 8) return "is too short for a sketch";
-    if (image[2] == THETA && family == TUPLE) return "is that of a theta sketch";
-    if (image[2] == TUPLE && family == THETA) return "is that of a tuple sketch";
-    if (image[2] != family) return "is that of another kind of sketch; pass a compact one";
-    if (image[1] == 4) return "is compressed, which is not read; write it uncompressed";
-    if (!is_of_version(image, family)) return "is of a version that is not read";
-    if (has_flags(image, family) && (image[5] & 1) != 0) return "is in big-endian order, which is not read";
-    if (is_of_another_seed(image, family)) return "is under another seed than 9001";
-    if (image[0] < 1 || image[0] > 3) return "is damaged: it has no preamble";
-    if (image_length(image, count, family) == 0 || count < image_length(image, count, family)) return "is cut short";
-    return "is damaged: its hashes, its theta or its type are not those of a sketch";
+    if (count < 8) return "is too short for a sketch: pass a whole image";
+    if (image[2] == THETA && family == TUPLE) return "is that of a theta sketch: pass one of sums";
+    if (image[2] == TUPLE && family == THETA) return "is that of a tuple sketch: pass one of a theta sketch";
+    if (image[2] != family) return "is that of another kind of sketch: pass a compact one";
+    if (image[1] == 4) return "is compressed: write it uncompressed";
+    if (!is_of_version(image, family)) return "is of a version that is not read: write it in version 3";
+    if (has_flags(image, family) && (image[5] & 1) != 0) return "is in big-endian order: write it in little-endian order";
+    if (is_of_another_seed(image, family)) return "is under another seed than 9001: make it under that one";
+    if (image[0] < 1 || image[0] > 3) return DAMAGED;
+    if (image_length(image, count, family) == 0 || count < image_length(image, count, family)) return "is cut short: copy or make it again";
+    return DAMAGED;
 }
 
 /* The status of bytes that were read with this one: of a sketch and more, KC_INVALID_DATA. */
 static kc_status alone(kc_status status, const void *image, size_t count, int family, const char **flaw) {
     if (status == KC_INVALID_DATA) *flaw = flaw_of(image, count, family);
     if (status != KC_OK || image_length(image, count, family) == count) return status;
-    *flaw = "is longer than one sketch";
+    *flaw = "is longer than one sketch: pass one image alone";
     return KC_INVALID_DATA;
 }
 
