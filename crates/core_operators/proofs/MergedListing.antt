@@ -13,14 +13,15 @@ use Rattle.core_laws.specs.Insertion.{is_screened, rebuilt, after_upsert, upsert
 use Rattle.core_laws.specs.Step.{merge_step}
 use Rattle.core_laws.specs.Folds.{Fold, Value, fold_key, fold_merges, unmarked, never}
 use Rattle.core_operators.specs.Union.{HasMerged, IsMergeRefused, IsMergeRefusal, at_or_above}
-use Rattle.core_table.specs.HashTable.{MapTable}
+use Rattle.core_table.specs.HashTable.{MapTable, after_insertion}
+use Rattle.core_table.proofs.FilledTables.{made_with_next}
 use Rattle.core_laws.proofs.maps.Ascending.{each-weaker, each-passes, filter_each, ascending-head, ascending-tail}
 use Rattle.core_laws.proofs.cuts.Cuts.{cut_is_below}
 use Rattle.core_laws.proofs.maps.LookUps.{entry_at-below, entry_at-with_entry, entry_at_rest, entry_at_head}
 use Rattle.core_laws.proofs.cuts.WithinWholeMaps.{found_key}
 use Rattle.core_laws.proofs.insertions.Cases.{screened_case, existing_case, absent_case, is_screened_true}
 use Rattle.core_laws.proofs.insertions.Unmarked.{unmarked-upsert, was_refused}
-use Rattle.sketch_base.specs.declared.error.ErrorKind.TheVariants.{Policy}
+use Rattle.sketch_base.specs.declared.error.ErrorKind.TheVariants.{Policy, OutOfMemory}
 use Rattle.core_laws.specs.Entries.{KeepsKey}
 
 module _ {X : Type 0} where
@@ -51,12 +52,12 @@ module _ {X : Type 0} (key : X → ℕ) where
     pub untouched : (q : ℕ) (x w : X) → entry_at key left q ≡ Some x → entry_at key now q ≡ Some w → entry_at key first q ≡ Some w
     pub in_order : ordered ≡ true → IsAscending key left
 
-  pub merging-start : (listing first : List X) (ordered : Bool) → IsApart key listing → (ordered ≡ true → IsAscending key listing) → IsMerging listing first listing first ordered
+  merging-start : (listing first : List X) (ordered : Bool) → IsApart key listing → (ordered ≡ true → IsAscending key listing) → IsMerging listing first listing first ordered
   merging-start listing first ordered apart in_order = record { apart = apart; among = λ q x found. found; untouched = λ q x w found there. there; in_order = in_order }
 
 module _ {X : Type 0} (key : X → ℕ) where
   -- an entry at or above theta is not among those below it
-  pub below_passed : (theta : ℕ) (left : List X) (x : X) → theta ≤ key x → below key (x ∷ left) theta ≡ below key left theta
+  below_passed : (theta : ℕ) (left : List X) (x : X) → theta ≤ key x → below key (x ∷ left) theta ≡ below key left theta
   below_passed theta left x le = let e : ltb (key x) theta ≡ false = grind (arith, nat_tests) in rw e refl
 
   -- an entry below a hash is not among those from it on
@@ -65,6 +66,10 @@ module _ {X : Type 0} (key : X → ℕ) where
 
   pub at_or_above_reached : (from : ℕ) (left : List X) (x : X) → from ≤ key x → at_or_above key (x ∷ left) from ≡ x ∷ at_or_above key left from
   at_or_above_reached from left x le = let e : leb from (key x) ≡ true = le-leb from (key x) le in rw e refl
+
+  -- the first entry is from a hash on
+  pub at_or_above_front : (from : ℕ) (whole left : List X) (x : X) → whole ≡ x ∷ left → from ≤ key x → at_or_above key whole from ≡ x ∷ at_or_above key left from
+  at_or_above_front from whole left x shape le = rw shape (at_or_above_reached from left x le)
 
   -- all ascending entries are from a hash on if the first is
   pub at_or_above_ascending : (from : ℕ) (left : List X) (x : X) → IsAscending key (x ∷ left) → from ≤ key x → at_or_above key (x ∷ left) from ≡ x ∷ left
@@ -76,10 +81,10 @@ module _ {X : Type 0} (key : X → ℕ) where
   at_or_above_zero [] = refl
   at_or_above_zero (x ∷ xs) = at_or_above_reached 0 xs x (omega arith) ∙ ap (λ ys. x ∷ ys) (at_or_above_zero xs)
 
-module _ {X : Type 0} (key : X → ℕ) (merges : X → X → X) (refuses : X → X → Bool) (keeps : KeepsKey key merges) where
+module _ {X : Type 0} (key : X → ℕ) (merges : X → X → X) (refuses : X → X → Bool) where
   -- an insertion doesn't change the entries of other keys, or drops them
-  upsert_elsewhere : (k : ℕ) (x : X) (v : Retained X) (q : ℕ) (w : X) → key x ≢ q → entry_at key (after_upsert key k (key x) (merge_step merges refuses x) v).entries q ≡ Some w → entry_at key v.entries q ≡ Some w
-  upsert_elsewhere k x v q w differs =
+  upsert_elsewhere : KeepsKey key merges → (k : ℕ) (x : X) (v : Retained X) (q : ℕ) (w : X) → key x ≢ q → entry_at key (after_upsert key k (key x) (merge_step merges refuses x) v).entries q ≡ Some w → entry_at key v.entries q ≡ Some w
+  upsert_elsewhere keeps k x v q w differs =
       (elim (is_screened (key x) v.theta) as (λ b. is_screened (key x) v.theta ≡ b → entry_at key (after_upsert key k (key x) (merge_step merges refuses x) v).entries q ≡ Some w → entry_at key v.entries q ≡ Some w) [
         | true ↦ λ s. rw (screened_case key k (key x) (merge_step merges refuses x) v s).after_is (λ found. found)
         | false ↦ λ s.
@@ -100,18 +105,18 @@ module _ {X : Type 0} (key : X → ℕ) (merges : X → X → X) (refuses : X �
   not_first : (x : X) (left : List X) (q : ℕ) (y : X) → entry_at key left (key x) ≡ None → entry_at key left q ≡ Some y → key x ≢ q
   not_first x left q y none found tie = let there : entry_at key left q ≡ None = subst (λ (h : ℕ). entry_at key left h ≡ None) tie none in none_some (sym there ∙ found)
 
-  pub merging-next : (k : ℕ) (listing first left : List X) (x : X) (v : Retained X) (ordered : Bool) → IsMerging key listing first (x ∷ left) v.entries ordered → IsMerging key listing first left (after_upsert key k (key x) (merge_step merges refuses x) v).entries ordered
-  merging-next k listing first left x v ordered so_far = record {
+  merging-next : KeepsKey key merges → (k : ℕ) (listing first left : List X) (x : X) (v : Retained X) (ordered : Bool) → IsMerging key listing first (x ∷ left) v.entries ordered → IsMerging key listing first left (after_upsert key k (key x) (merge_step merges refuses x) v).entries ordered
+  merging-next keeps k listing first left x v ordered so_far = record {
     apart = so_far.apart.1;
     among = λ q y found. so_far.among q y (entry_at_rest key x left q (not_first x left q y so_far.apart.0 found) ∙ found);
     untouched = λ q y w found there.
         let differs = not_first x left q y so_far.apart.0 found in
-        so_far.untouched q y w (entry_at_rest key x left q differs ∙ found) (upsert_elsewhere k x v q w differs there);
+        so_far.untouched q y w (entry_at_rest key x left q differs ∙ found) (upsert_elsewhere keeps k x v q w differs there);
     in_order = λ e. ascending-tail key x left (so_far.in_order e);
   }
 
   -- an entry that is skipped
-  pub merging-passed : (listing first left now : List X) (x : X) (ordered : Bool) → IsMerging key listing first (x ∷ left) now ordered → IsMerging key listing first left now ordered
+  merging-passed : (listing first left now : List X) (x : X) (ordered : Bool) → IsMerging key listing first (x ∷ left) now ordered → IsMerging key listing first left now ordered
   merging-passed listing first left now x ordered so_far = record {
     apart = so_far.apart.1;
     among = λ q y found. so_far.among q y (entry_at_rest key x left q (not_first x left q y so_far.apart.0 found) ∙ found);
@@ -126,7 +131,7 @@ module _ {X : Type 0} (key : X → ℕ) (merges : X → X → X) (refuses : X �
         | false ↦ λ so_far. so_far
       ]
 
-  pub merging-refused : (listing first left : List X) (x : X) (v : Retained X) (ordered : Bool) (theta : ℕ) (kind : ErrorKind) → key x < theta → IsMerging key listing first (x ∷ left) v.entries ordered → upsert_refusal key (key x) (merge_step merges refuses x) v ≡ Some kind → (kind ≡ Policy) × IsMergeRefused key refuses (below key first theta) listing
+  merging-refused : (listing first left : List X) (x : X) (v : Retained X) (ordered : Bool) (theta : ℕ) (kind : ErrorKind) → key x < theta → IsMerging key listing first (x ∷ left) v.entries ordered → upsert_refusal key (key x) (merge_step merges refuses x) v ≡ Some kind → (kind ≡ Policy) × IsMergeRefused key refuses (below key first theta) listing
   merging-refused listing first left x v ordered theta kind lt so_far =
       (elim (is_screened (key x) v.theta) as (λ b. is_screened (key x) v.theta ≡ b → upsert_refusal key (key x) (merge_step merges refuses x) v ≡ Some kind → (kind ≡ Policy) × IsMergeRefused key refuses (below key first theta) listing) [
         | true ↦ λ s. rw (screened_case key zero (key x) (merge_step merges refuses x) v s).refusal_is (λ e. absurd (none_some e))
@@ -181,7 +186,7 @@ module _ {X : Type 0} (key : X → ℕ) (merges : X → X → X) (refuses : X �
       ]
 
   -- an entry that is screened, or not below theta, changes nothing
-  pub screened_folds : (k theta : ℕ) (v : Retained X) (left : List X) (x : X) → (is_screened (key x) v.theta ≡ true) ⊎ (theta ≤ key x) → after_merges k theta left v ≡ after_merges k theta (x ∷ left) v
+  screened_folds : (k theta : ℕ) (v : Retained X) (left : List X) (x : X) → (is_screened (key x) v.theta ≡ true) ⊎ (theta ≤ key x) → after_merges k theta left v ≡ after_merges k theta (x ∷ left) v
   screened_folds k theta v left x (inr high) =
       ap (λ ys. after_upserts (fold_key key) k (merge_step (fold_merges key merges refuses) never) (map Value ys) (unmarked v)) (sym (below_passed key theta left x high))
   screened_folds k theta v left x (inl screened) =
@@ -226,53 +231,20 @@ module _ {X : Type 0} (key : X → ℕ) (merges : X → X → X) (refuses : X �
   still_merging listing first now from t xs false so_far = from_below_merging listing first now from t xs false so_far
 
   -- if nothing is still read, nothing more is merged
-  pub folds_none : (k from theta lesser : ℕ) (rest : List X) (v : Retained X) (ordered : Bool) → lesser ≡ min theta v.theta → still_read key ordered lesser rest ≡ []
+  folds_none : (k from theta lesser : ℕ) (rest : List X) (v : Retained X) (ordered : Bool) → lesser ≡ min theta v.theta → still_read key ordered lesser rest ≡ []
       → unmarked v ≡ after_merges k theta (at_or_above key rest from) v
   folds_none k from theta lesser rest v ordered lesser_is read =
       let none : still_read key ordered (min theta v.theta) rest ≡ [] = rw (← lesser_is) read in
       let folded = still_folds k from theta v ordered rest in
       rw none at folded
 
-  -- what all entries that are left to merge result in, and that they are merged
-  pub record IsLeft (k theta : ℕ) (listing first left : List X) (v : Retained X) (ordered : Bool) (all : Retained (Fold X)) : Type 0 where
-    pub folds : after_merges k theta left v ≡ all
-    pub merging : IsMerging key listing first left v.entries ordered
-
-  -- the entry that was read next, in front of those left
-  pub next_entry : (k from theta lesser : ℕ) (listing first rest left : List X) (x : X) (v : Retained X) (ordered : Bool) (all : Retained (Fold X)) → lesser ≡ min theta v.theta → still_read key ordered lesser rest ≡ x ∷ left
-      → after_merges k theta (at_or_above key rest from) v ≡ all → IsMerging key listing first (at_or_above key rest from) v.entries ordered → IsLeft k theta listing first (at_or_above key (x ∷ left) from) v ordered all
-  next_entry k from theta lesser listing first rest left x v ordered all lesser_is read folded merging =
-      let is : still_read key ordered (min theta v.theta) rest ≡ x ∷ left = rw (← lesser_is) read in
-      subst (λ ys. IsLeft k theta listing first (at_or_above key ys from) v ordered all) is (record {
-        folds = still_folds k from theta v ordered rest ∙ folded;
-        merging = still_merging listing first v.entries from (min theta v.theta) rest ordered merging;
-      })
-
-  -- that entry, if it is from the hash on
-  pub next_reached : (k from theta : ℕ) (listing first left : List X) (x : X) (v : Retained X) (ordered : Bool) (all : Retained (Fold X)) → from ≤ key x
-      → IsLeft k theta listing first (at_or_above key (x ∷ left) from) v ordered all → IsLeft k theta listing first (x ∷ at_or_above key left from) v ordered all
-  next_reached k from theta listing first left x v ordered all le it = subst (λ ys. IsLeft k theta listing first ys v ordered all) (at_or_above_reached key from left x le) it
-
-  -- those left after that entry, if it is below the hash or not below theta
-  pub next_passed : (k from theta : ℕ) (listing first left : List X) (x : X) (v : Retained X) (ordered : Bool) (all : Retained (Fold X)) → (key x < from) ⊎ (theta ≤ key x)
-      → IsLeft k theta listing first (at_or_above key (x ∷ left) from) v ordered all → IsLeft k theta listing first (at_or_above key left from) v ordered all
-  next_passed k from theta listing first left x v ordered all (inl lt) it = subst (λ ys. IsLeft k theta listing first ys v ordered all) (at_or_above_passed key from left x lt) it
-  next_passed k from theta listing first left x v ordered all (inr high) it =
-      let others = at_or_above key left from in
-      (elim (leb from (key x)) as (λ b. IsLeft k theta listing first (cond b (x ∷ others) others) v ordered all → IsLeft k theta listing first others v ordered all) [
-        | true ↦ λ so_far. record {
-          folds = skipped_folds k theta v others x (omega (arith, high)) ∙ so_far.folds;
-          merging = merging-passed listing first others v.entries x ordered so_far.merging;
-        }
-        | false ↦ λ so_far. so_far
-      ]) it
-
-  pub folds_stop : (k theta : ℕ) (listing first left : List X) (x : X) (v : Retained X) → IsMerging key listing first (x ∷ left) v.entries true → min theta v.theta ≤ key x → after_merges k theta (x ∷ left) v ≡ unmarked v
+  -- an entry of a list in order that is not below the lesser theta: nothing of it and those that follow is merged
+  folds_stop : (k theta : ℕ) (listing first left : List X) (x : X) (v : Retained X) → IsMerging key listing first (x ∷ left) v.entries true → min theta v.theta ≤ key x → after_merges k theta (x ∷ left) v ≡ unmarked v
   folds_stop k theta listing first left x v so_far le =
       screened_all k (below key (x ∷ left) theta) (unmarked v) (from_lesser (x ∷ left) theta v.theta (key x) le (omega arith, each-weaker _ _ (λ y lt. omega (arith, lt)) left (ascending-head key x left (so_far.in_order refl))))
 
   -- if an entry is not below the lesser theta, nothing of it and those that follow in order is merged
-  pub folds_stop_from : (k from theta : ℕ) (listing first left : List X) (x : X) (v : Retained X) → IsMerging key listing first (at_or_above key (x ∷ left) from) v.entries true → min theta v.theta ≤ key x
+  folds_stop_from : (k from theta : ℕ) (listing first left : List X) (x : X) (v : Retained X) → IsMerging key listing first (at_or_above key (x ∷ left) from) v.entries true → min theta v.theta ≤ key x
       → after_merges k theta (at_or_above key (x ∷ left) from) v ≡ unmarked v
   folds_stop_from k from theta listing first left x v so_far le =
       let others = at_or_above key left from in
@@ -284,15 +256,10 @@ module _ {X : Type 0} (key : X → ℕ) (merges : X → X → X) (refuses : X �
             screened_all k (below key others theta) (unmarked v) (from_lesser others theta v.theta (key x) le later)
       ]) refl so_far
 
-  pub folds_next : (k theta : ℕ) (left : List X) (x : X) (v : Retained X) → key x < theta → upsert_refusal key (key x) (merge_step merges refuses x) v ≡ None
+  folds_next : (k theta : ℕ) (left : List X) (x : X) (v : Retained X) → key x < theta → upsert_refusal key (key x) (merge_step merges refuses x) v ≡ None
       → after_merges k theta left (after_upsert key k (key x) (merge_step merges refuses x) v) ≡ after_merges k theta (x ∷ left) v
   folds_next k theta left x v lt allowed =
       rw (lt-ltb (key x) theta lt) (ap (λ u. after_upserts (fold_key key) k (merge_step (fold_merges key merges refuses) never) (map Value (below key left theta)) u) (unmarked-upsert key merges refuses k x v allowed))
-
-  -- what is left is merged into a table that the entries before it were merged into
-  pub merged_rest : (old was now : MapTable X) (listing left : List X) (theta : ℕ) → was.lg_nom ≡ old.lg_nom → after_merges (2 ^ old.lg_nom) theta left was.kept ≡ after_merges (2 ^ old.lg_nom) theta listing old.kept
-      → HasMerged key merges refuses left theta was now → HasMerged key merges refuses listing theta old now
-  merged_rest old was now listing left theta lg rest merged = merged ∙ ap (λ (n : ℕ). after_merges (2 ^ n) theta left was.kept) lg ∙ rest
 
 module _ {X : Type 0} (key : X → ℕ) where
   apart-from_below : (t : ℕ) (xs : List X) → IsApart key xs → IsApart key (from_below key t xs)
@@ -300,13 +267,13 @@ module _ {X : Type 0} (key : X → ℕ) where
   apart-from_below t (x ∷ xs) apart = elim (ltb (key x) t) as (λ b. IsApart key (cond b (x ∷ xs) (from_below key t xs))) [ true ↦ apart | false ↦ apart-from_below t xs apart.1 ]
 
   -- the keys of the entries that are still read differ
-  pub apart-still : (ordered : Bool) (t : ℕ) (xs : List X) → IsApart key xs → IsApart key (still_read key ordered t xs)
+  apart-still : (ordered : Bool) (t : ℕ) (xs : List X) → IsApart key xs → IsApart key (still_read key ordered t xs)
   apart-still true t xs apart = apart
   apart-still false t xs apart = apart-from_below t xs apart
 
 module _ {X : Type 0} (key : X → ℕ) (refuses : X → X → Bool) where
   -- what is refused when the entries left are merged would be refused when all are
-  pub refused_earlier : (listing first left now : List X) (ordered : Bool) (theta : ℕ) (kind : ErrorKind) → IsMerging key listing first left now ordered → IsMergeRefusal key refuses now theta left kind → IsMergeRefusal key refuses first theta listing kind
+  refused_earlier : (listing first left now : List X) (ordered : Bool) (theta : ℕ) (kind : ErrorKind) → IsMerging key listing first left now ordered → IsMergeRefusal key refuses now theta left kind → IsMergeRefusal key refuses first theta listing kind
   refused_earlier listing first left now ordered theta kind so_far (inl memory) = inl memory
   refused_earlier listing first left now ordered theta kind so_far (inr why) =
       let at = why.1.at in
@@ -340,6 +307,131 @@ from_below-fewer : {X : Type 0} (key : X → ℕ) (t : ℕ) (xs : List X) → le
 from_below-fewer key t [] = omega arith
 from_below-fewer key t (x ∷ xs) = elim (ltb (key x) t) as (λ b. length (cond b (x ∷ xs) (from_below key t xs)) ≤ length (x ∷ xs)) [ true ↦ omega arith | false ↦ omega (arith, from_below-fewer key t xs) ]
 
-pub still_fewer : {X : Type 0} (key : X → ℕ) (ordered : Bool) (t : ℕ) (xs : List X) → length (still_read key ordered t xs) ≤ length xs
+still_fewer : {X : Type 0} (key : X → ℕ) (ordered : Bool) (t : ℕ) (xs : List X) → length (still_read key ordered t xs) ≤ length xs
 still_fewer key true t xs = omega arith
 still_fewer key false t xs = from_below-fewer key t xs
+
+-- a table into which the entries of a listing were merged, but for those left. It has the settings of the first table
+pub record IsMergedBut {X : Type 0} (key : X → ℕ) (merges : X → X → X) (refuses : X → X → Bool) (theta : ℕ) (ordered : Bool) (listing : List X) (first : MapTable X) (left : List X) (now : MapTable X) : Type 0 where
+  pub rest : after_merges key merges refuses (2 ^ first.lg_nom) theta left now.kept ≡ after_merges key merges refuses (2 ^ first.lg_nom) theta listing first.kept
+  pub made_with : now ≡ record first { kept = now.kept }
+  pub merging : IsMerging key listing first.kept.entries left now.kept.entries ordered
+
+-- later in the same merge: fewer entries are left, and the table is another
+abbrev pub Later : {X : Type 0} → {key : X → ℕ} → {merges : X → X → X} → {refuses : X → X → Bool} → {theta : ℕ} → {ordered : Bool} → {listing : List X} → {first : MapTable X} → {before : List X} → {was : MapTable X}
+    → IsMergedBut key merges refuses theta ordered listing first before was → List X → MapTable X → Type 0
+Later {X} {key} {merges} {refuses} {theta} {ordered} {listing} {first} so_far left now = IsMergedBut key merges refuses theta ordered listing first left now
+
+-- the entry x, of this hash, is inserted: the merge after that, and what a refusal of it means for the whole listing
+pub record IsNext {X : Type 0} {key : X → ℕ} {merges : X → X → X} {refuses : X → X → Bool} {theta : ℕ} {ordered : Bool} {listing : List X} {first : MapTable X} {before : List X} {was : MapTable X}
+    (so_far : IsMergedBut key merges refuses theta ordered listing first before was) (now : MapTable X) (hash : ℕ) (x : X) (left : List X) : Type 0 where
+  pub merged : (new : MapTable X) → new ≡ after_insertion key hash (merge_step merges refuses x) now → upsert_refusal key hash (merge_step merges refuses x) now.kept ≡ None → Later so_far left new
+  pub refused : (kind : ErrorKind) → (upsert_refusal key hash (merge_step merges refuses x) now.kept ≡ Some kind) ⊎ (kind ≡ OutOfMemory) → IsMergeRefusal key refuses first.kept.entries theta listing kind
+
+-- the entry x was read next, in front of those left: it is passed, or it is the next to insert
+pub record IsRead {X : Type 0} {key : X → ℕ} {merges : X → X → X} {refuses : X → X → Bool} {theta : ℕ} {ordered : Bool} {listing : List X} {first : MapTable X} {before : List X} {now : MapTable X}
+    (so_far : IsMergedBut key merges refuses theta ordered listing first before now) (from : ℕ) (x : X) (left : List X) : Type 0 where
+  pub apart : IsApart key (x ∷ left)
+  pub whole : Later so_far (at_or_above key (x ∷ left) from) now
+  pub passed : (key x < from) ⊎ (theta ≤ key x) → Later so_far (at_or_above key left from) now
+  pub next : (hash : ℕ) → hash ≡ key x → from ≤ hash → hash < theta → IsNext so_far now hash x (at_or_above key left from)
+
+module _ {X : Type 0} {key : X → ℕ} {merges : X → X → X} {refuses : X → X → Bool} {theta : ℕ} {ordered : Bool} {listing : List X} {first : MapTable X} where
+  -- at first all are left
+  pub merge_starts : IsApart key listing → (ordered ≡ true → IsAscending key listing) → IsMergedBut key merges refuses theta ordered listing first listing first
+  merge_starts apart in_order = record { rest = refl; made_with = refl; merging = merging-start key listing first.kept.entries ordered apart in_order }
+
+  module _ {now : MapTable X} where
+    -- an entry that is screened, or not below theta, is passed
+    pub merge_passes : {left : List X} (x : X) → IsMergedBut key merges refuses theta ordered listing first (x ∷ left) now → (is_screened (key x) now.kept.theta ≡ true) ⊎ (theta ≤ key x) → IsMergedBut key merges refuses theta ordered listing first left now
+    merge_passes {left} x so_far passed = record {
+      rest = screened_folds key merges refuses (2 ^ first.lg_nom) theta now.kept left x passed ∙ so_far.rest;
+      made_with = so_far.made_with;
+      merging = merging-passed key merges refuses listing first.kept.entries left now.kept.entries x ordered so_far.merging;
+    }
+
+    -- the entry in front is inserted, or its insertion is refused
+    module _ {left : List X} (x : X) (so_far : IsMergedBut key merges refuses theta ordered listing first (x ∷ left) now) (low : key x < theta) where
+      pub merged_next : KeepsKey key merges → (new : MapTable X) → new ≡ after_insertion key (key x) (merge_step merges refuses x) now → upsert_refusal key (key x) (merge_step merges refuses x) now.kept ≡ None → IsMergedBut key merges refuses theta ordered listing first left new
+      merged_next keeps new changed allowed =
+          let k = 2 ^ first.lg_nom in
+          let lg : now.lg_nom ≡ first.lg_nom = ap (λ t. t.lg_nom) so_far.made_with in
+          let next : new.kept ≡ after_upsert key k (key x) (merge_step merges refuses x) now.kept = rw (← lg) (ap (λ t. t.kept) changed) in
+          record {
+            rest = rw next (folds_next key merges refuses k theta left x now.kept low allowed) ∙ so_far.rest;
+            made_with = made_with_next first now new _ so_far.made_with changed;
+            merging = rw next (merging-next key merges refuses keeps k listing first.kept.entries left x now.kept ordered so_far.merging);
+          }
+
+      pub refused_next : (kind : ErrorKind) → upsert_refusal key (key x) (merge_step merges refuses x) now.kept ≡ Some kind → (kind ≡ Policy) × IsMergeRefused key refuses (below key first.kept.entries theta) listing
+      refused_next kind refusal = merging-refused key merges refuses listing first.kept.entries left x now.kept ordered theta kind low so_far.merging refusal
+
+    pub is_next : {before : List X} {was : MapTable X} {so_far : IsMergedBut key merges refuses theta ordered listing first before was} {hash : ℕ} {x : X} {unread left : List X}
+        → IsMergedBut key merges refuses theta ordered listing first unread now → KeepsKey key merges → unread ≡ x ∷ left → hash ≡ key x → hash < theta → IsNext so_far now hash x left
+    is_next {before} {was} {so_far} {hash} {x} {unread} {left} it keeps front hash_is low =
+        let here : IsMergedBut key merges refuses theta ordered listing first (x ∷ left) now = subst (λ ys. IsMergedBut key merges refuses theta ordered listing first ys now) front it in
+        let lt : key x < theta = rw (← hash_is) low in
+        record {
+          merged = λ new changed allowed. merged_next x here lt keeps new (rw (← hash_is) changed) (rw (← hash_is) allowed);
+          refused = λ kind why. elim why [ inl r ↦ inr (refused_next x here lt kind (rw (← hash_is) r)) | inr o ↦ inl o ];
+        }
+
+    -- the entries that are left are merged by another call, into an equal table
+    module _ {before : List X} (so_far : IsMergedBut key merges refuses theta ordered listing first before now) {was : MapTable X} {left : List X} (same : was ≡ now) (same_left : left ≡ before) where
+      pub rest_merged : {T : Type 0} (new : MapTable X) (r : Result T ErrorKind) → OnOk r (HasMerged key merges refuses left theta was new) → OnOk r (HasMerged key merges refuses listing theta first new)
+      rest_merged new r =
+          let folded : MapTable X → List X → Retained (Fold X) = λ t ys. after_merges key merges refuses (2 ^ t.lg_nom) theta ys t.kept in
+          on_ok r _ _ (λ merged. merged ∙ (λ i. folded (same i) (same_left i)) ∙ ap (λ t. after_merges key merges refuses (2 ^ t.lg_nom) theta before now.kept) so_far.made_with ∙ so_far.rest)
+
+      pub rest_refused : {T : Type 0} (r : Result T ErrorKind) → IfErr r (IsMergeRefusal key refuses was.kept.entries theta left) → IfErr r (IsMergeRefusal key refuses first.kept.entries theta listing)
+      rest_refused r = if_err r _ _ (λ kind. refused_earlier key refuses listing first.kept.entries left was.kept.entries ordered theta kind (rw (same, same_left) so_far.merging))
+
+    -- the entries that are unread, from a hash on
+    module _ (unread : List X) (from : ℕ) {lesser : ℕ} (so_far : IsMergedBut key merges refuses theta ordered listing first (at_or_above key unread from) now) (lesser_is : lesser ≡ min theta now.kept.theta) where
+      -- if nothing is still read, all is merged
+      pub merged_all : still_read key ordered lesser unread ≡ [] → HasMerged key merges refuses listing theta first now
+      merged_all none = folds_none key merges refuses (2 ^ first.lg_nom) from theta lesser unread now.kept ordered lesser_is none ∙ so_far.rest
+
+      module _ {x : X} {left : List X} (read : still_read key ordered lesser unread ≡ x ∷ left) where
+        still_left : IsMergedBut key merges refuses theta ordered listing first (at_or_above key (x ∷ left) from) now
+        still_left =
+            let is : still_read key ordered (min theta now.kept.theta) unread ≡ x ∷ left = rw (← lesser_is) read in
+            subst (λ ys. IsMergedBut key merges refuses theta ordered listing first (at_or_above key ys from) now) is (record {
+              rest = still_folds key merges refuses (2 ^ first.lg_nom) from theta now.kept ordered unread ∙ so_far.rest;
+              made_with = so_far.made_with;
+              merging = still_merging key merges refuses listing first.kept.entries now.kept.entries from (min theta now.kept.theta) unread ordered so_far.merging;
+            })
+
+        -- if the next entry is past the lesser theta, in order, all is merged
+        pub merged_below : (ordered ≡ true) × (lesser ≤ key x) → HasMerged key merges refuses listing theta first now
+        merged_below past =
+            let merging = subst (λ b. IsMerging key listing first.kept.entries (at_or_above key (x ∷ left) from) now.kept.entries b) past.0 still_left.merging in
+            sym (folds_stop_from key merges refuses (2 ^ first.lg_nom) from theta listing first.kept.entries left x now.kept merging (rw (← lesser_is) past.1)) ∙ still_left.rest
+
+        passed_read : (key x < from) ⊎ (theta ≤ key x) → IsMergedBut key merges refuses theta ordered listing first (at_or_above key left from) now
+        passed_read (inl lt) = subst (λ ys. IsMergedBut key merges refuses theta ordered listing first ys now) (at_or_above_passed key from left x lt) still_left
+        passed_read (inr high) =
+            let others = at_or_above key left from in
+            (elim (leb from (key x)) as (λ b. IsMergedBut key merges refuses theta ordered listing first (cond b (x ∷ others) others) now → IsMergedBut key merges refuses theta ordered listing first others now) [
+              | true ↦ λ it. merge_passes x it (inr high)
+              | false ↦ λ it. it
+            ]) still_left
+
+        pub is_read : KeepsKey key merges → IsApart key unread → IsRead so_far from x left
+        is_read keeps apart = record {
+          apart = subst (λ ys. IsApart key ys) read (apart-still key ordered lesser unread apart);
+          whole = still_left;
+          passed = passed_read;
+          next = λ hash hash_is high low. is_next still_left keeps (at_or_above_front key from (x ∷ left) left x refl (omega (arith, hash_is, high))) hash_is low;
+        }
+
+-- if the next entry is past the lesser theta, in order, all is merged
+pub merged_in_order : {X : Type 0} {key : X → ℕ} {merges : X → X → X} {refuses : X → X → Bool} {theta : ℕ} {listing : List X} {first : MapTable X} {unread left : List X} {now : MapTable X} {x : X}
+    → IsMergedBut key merges refuses theta true listing first unread now → unread ≡ x ∷ left → min theta now.kept.theta ≤ key x → HasMerged key merges refuses listing theta first now
+merged_in_order {X} {key} {merges} {refuses} {theta} {listing} {first} {unread} {left} {now} {x} so_far shape past =
+    let merging : IsMerging key listing first.kept.entries (x ∷ left) now.kept.entries true = rw (← shape) so_far.merging in
+    sym (folds_stop key merges refuses (2 ^ first.lg_nom) theta listing first.kept.entries left x now.kept merging past) ∙ rw shape at so_far.rest
+
+-- fewer entries are left once one was read
+pub read_fewer : {X : Type 0} (key : X → ℕ) (ordered : Bool) (t : ℕ) (unread : List X) {left : List X} {x : X} → still_read key ordered t unread ≡ x ∷ left → length left < length unread
+read_fewer key ordered t unread read = omega (arith, ap length read, still_fewer key ordered t unread)

@@ -1,266 +1,108 @@
-use Rattle.std.proofs.Common.{◌≡◌, ℕ, ◌+◌, ◌^◌, ◌*◌, ◌/◌, ◌<◌, ◌≤◌, ◌⊎◌, None, [], ◌∷◌, true, false, length, inl, inr, refl, sym, ap, ◌∙◌, arith}
-use Rattle.std.proofs.lemmas.Result.{err_from_is_err_and}
-use Rattle.core_laws.specs.Step.{merge_step}
-use Rattle.core_laws.specs.Insertion.{is_screened, after_upsert, upsert_refusal}
-use Rattle.core_laws.specs.Maps.{entry_at, map_of}
-use Rattle.core_laws.specs.Places.{IsAt}
-use Rattle.core_laws.specs.Folds.{unmarked}
+use Rattle.std.proofs.Common.{◌≡◌, ℕ, ◌^◌, ◌*◌, ◌/◌, ◌<◌, ◌≤◌, List, [], ◌∷◌, length, inl, inr, sym, ap, ◌∙◌, arith}
 use Rattle.std.proofs.lemmas.List.{length-append, nil_from_length}
-use Rattle.core_laws.proofs.insertions.Cases.{is_screened_true, is_screened_false}
+use Rattle.std.proofs.lemmas.Result.{err_from_is_err_and}
 use Rattle.core_laws.proofs.maps.ApartEntries.{apart-filter}
-use Rattle.core_table.proofs.FilledTables.{made_with_next}
 use Rattle.core_table.proofs.Sizes.{always_room}
 use Rattle.core_operators.specs.Union.{at_or_above}
-use Rattle.core_operators.proofs.MergedListing.{merging-start, merging-next, merging-refused, folds_next}
-use Rattle.core_operators.proofs.ListedMerge.{large_nominal, listed-start, listed-passed, listed-merged, listed-refused, listed-added, listed-filled, listed_map}
+use Rattle.core_operators.proofs.MergedListing.{Later, IsNext, merge_starts, is_next, at_or_above_front}
+use Rattle.core_operators.proofs.ListedMerge.{IsWanted, listed-start, listed-filled, listed-passed, is_wanted}
+use Rattle.core_operators.proofs.merge.merge_listed.Given.{Over}
 use Rattle.core_operators.proofs.merge.merge_listed.Goals as goal
+use Rattle.core_operators.proofs.merge.merge_listed.Goals.{Then-hash-own_theta, In_ok-refill}
 use Rattle.core_operators.proofs.merge.merge_listed.Goals.{in-Some+then-hash-ne0+then-hash-from+then-hash-theta+then-hash-own_theta+in-None+then-len-most, in_default, else-hash-ne0-via-then-hash-ne0+then-hash-from+then-hash-theta+else-hash-own_theta, else-hash-ne0-via-then-hash-ne0+then-hash-from+else-hash-theta, else-hash-ne0-via-then-hash-ne0+else-hash-from, else-hash-ne0-via-else-hash-ne0}
 
 pub rounds-init : goal.rounds-init
-rounds-init g c =
-    let key = g.E.SketchEntry.key in
-    record {
-      rest = refl;
-      made_with = refl;
-      merging = merging-start key (at_or_above key c.args.entries.now c.args.from) c.args.table.now.map.kept.entries false (apart-filter key _ c.args.entries.now c.requires.apart) (λ e. absurd (cc));
-    }
+rounds-init g c = merge_starts (apart-filter g.E.SketchEntry.key _ c.args.entries.now c.requires.apart) (λ e. absurd (cc))
 
-pub most_entries-most-requires-clause-low : goal.most_entries-most-requires-clause-low
-most_entries-most-requires-clause-low g c = omega (arith, ap (λ t. t.lg_nom) c.rounds.invariant.made_with, c.lg_nom_size.ensures, c.requires.of_sketch)
-
-pub returns-in_err-held-clause-made_with : goal.returns-in_err-held-clause-made_with
-returns-in_err-held-clause-made_with g c = c.rounds.invariant.made_with
-
-pub returns-in_err-clone-clause-made_with : goal.returns-in_err-clone-clause-made_with
-returns-in_err-clone-clause-made_with g c = c.rounds.invariant.made_with
-
+-- ---- the lists
 pub list_each-init : goal.list_each-init
-list_each-init g c =
-    let key = g.E.SketchEntry.key in
-    let merges = g.P.UnionMergePolicy.merges c.args.policy.now in
-    let refuses = g.P.UnionMergePolicy.refuses c.args.policy.now in
-    let keeps = g.met.P.UnionMergePolicy.keeps_hash c.args.policy.now in
-    let was = c.rounds.invariant in
-    let lg : c.rounds.table.map.lg_nom ≡ c.args.table.now.map.lg_nom = ap (λ t. t.lg_nom) was.made_with in
-    let table = c.retention_theta-own_theta.ensures.sound in
-    let limited : length c.rounds.table.map.kept.entries ≤ 15 * 2 ^ c.args.table.now.map.lg_nom / 8 = rw (← lg) (table.limited (large_nominal c.rounds.table.map.lg_nom (omega (arith, lg, c.requires.of_sketch)))) in
-    record {
-      shorter = omega arith;
-      listed = rw (c.in_ok-held.ensures.listed, c.new-added.ensures.items, c.retention_theta-own_theta.ensures.theta)
-          (listed-start key merges refuses keeps (2 ^ c.args.table.now.map.lg_nom) c.args.theta _ _ _ _ _ c.rounds.table.map.kept.entries (at_or_above key c.rounds.left.now c.args.from) table.kept limited was.rest was.merging);
-    }
+list_each-init g c = record {
+  shorter = omega arith;
+  listed = listed-start c.rounds.invariant c.retention_theta-own_theta.ensures.sound c.requires.of_sketch c.in_ok-held.ensures.listed c.new-added.ensures.items c.retention_theta-own_theta.ensures.theta;
+}
 
-pub place_by_halves-requires : goal.place_by_halves-requires
-place_by_halves-requires g c = rw c.deref.ensures.value c.list_each.invariant.listed.up
-
-pub returns-in_err-merge-in-Some-place_by_halves-clause-made_with : goal.returns-in_err-merge-in-Some-place_by_halves-clause-made_with
-returns-in_err-merge-in-Some-place_by_halves-clause-made_with g c = c.rounds.invariant.made_with
+-- the entry in front passes the tests
+wanted : (g : Over) (c : goal.Then-hash-own_theta g) → IsWanted c.list_each.invariant.listed c.hash-hash.result c.in-Some.first.now (at_or_above g.E.SketchEntry.key c.in-Some.others.now c.args.from)
+wanted g c = is_wanted c.args.from _ _ _ c.list_each.invariant.listed c.in-Some.ensures.cases.0 c.hash-hash.ensures (g.met.P.UnionMergePolicy.keeps_hash c.args.policy.now) c.if-hash-ne0.true c.if-hash-from.true c.if-hash-theta.true c.if-hash-own_theta.true
 
 pub returns-in_err-merge-in-Some-place_by_halves-clause-refused : goal.returns-in_err-merge-in-Some-place_by_halves-clause-refused
 returns-in_err-merge-in-Some-place_by_halves-clause-refused g c =
+    let it = wanted g (goal.at.returns-in_err-merge-in-Some-place_by_halves-clause-refused g c).Then-hash-own_theta in
     let p = err_from_is_err_and c.from_residual-in_err-merge-in-Some-place_by_halves.result c.from_residual-in_err-merge-in-Some-place_by_halves.ensures.1 in
-    let key = g.E.SketchEntry.key in
-    let merges = g.P.UnionMergePolicy.merges c.args.policy.now in
-    let refuses = g.P.UnionMergePolicy.refuses c.args.policy.now in
-    let keeps = g.met.P.UnionMergePolicy.keeps_hash c.args.policy.now in
-    let x = c.in-Some.first.now in
-    let others = c.in-Some.others.now in
-    let held = c.list_each.held.items in
-    let at : ℕ = c.in-Some-place_by_halves.at in
-    let own : ℕ = c.retention_theta-own_theta.result in
-    let shape : c.list_each.left.now ≡ x ∷ others = c.in-Some.ensures.cases.0 in
-    let hash_is : c.hash-hash.result ≡ key x = c.hash-hash.ensures in
-    let reached : c.args.from ≤ key x = omega (arith, hash_is, c.if-hash-from.true) in
-    let low : key x < c.args.theta = omega (arith, hash_is, c.if-hash-theta.true) in
-    let unscreened = is_screened_false (key x) own (λ zero. c.if-hash-ne0.true (hash_is ∙ zero)) (omega (arith, hash_is, c.if-hash-own_theta.true)) in
-    let is_at : IsAt key held (key x) at = rw (← hash_is, ← c.deref.ensures.value) c.in-Some-place_by_halves.ensures in
-    rw (p.1, p.2) (elim c.in_err-merge-in-Some-place_by_halves.ensures.refused [
-      | inl r ↦ inr (listed-refused key merges refuses keeps _ _ _ own _ _ _ held _ others x c.args.from at c.index_mut.result.now _ reached low unscreened is_at (c.index_mut.ensures.value) r (rw shape at c.list_each.invariant.listed))
-      | inr o ↦ inl o.0
-    ])
-
-pub returns-in_err-clone-in-None-clause-made_with : goal.returns-in_err-clone-in-None-clause-made_with
-returns-in_err-clone-in-None-clause-made_with g c = c.rounds.invariant.made_with
-
-pub returns-in_err-push-in-None-clause-made_with : goal.returns-in_err-push-in-None-clause-made_with
-returns-in_err-push-in-None-clause-made_with g c = c.rounds.invariant.made_with
-
-pub list_each-smaller-in_ok-merge-in-Some-place_by_halves : goal.list_each-smaller-in_ok-merge-in-Some-place_by_halves
-list_each-smaller-in_ok-merge-in-Some-place_by_halves g c = omega (arith, ap length c.in-Some.ensures.cases.0)
+    rw (p.1, p.2) (it.refused _ _ _ (rw c.deref.ensures.value at c.in-Some-place_by_halves.ensures) c.index_mut.ensures.value c.in_err-merge-in-Some-place_by_halves.ensures.refused)
 
 pub list_each-preserved-in_ok-merge-in-Some-place_by_halves : goal.list_each-preserved-in_ok-merge-in-Some-place_by_halves
 list_each-preserved-in_ok-merge-in-Some-place_by_halves g c =
-    let key = g.E.SketchEntry.key in
-    let merges = g.P.UnionMergePolicy.merges c.args.policy.now in
-    let refuses = g.P.UnionMergePolicy.refuses c.args.policy.now in
-    let keeps = g.met.P.UnionMergePolicy.keeps_hash c.args.policy.now in
-    let was = c.list_each.invariant in
-    let x = c.in-Some.first.now in
-    let others = c.in-Some.others.now in
-    let shape : c.list_each.left.now ≡ x ∷ others = c.in-Some.ensures.cases.0 in
-    let held = c.list_each.held.items in
-    let at : ℕ = c.in-Some-place_by_halves.at in
-    let own : ℕ = c.retention_theta-own_theta.result in
-    let hash_is : c.hash-hash.result ≡ key x = c.hash-hash.ensures in
-    let reached : c.args.from ≤ key x = omega (arith, hash_is, c.if-hash-from.true) in
-    let low : key x < c.args.theta = omega (arith, hash_is, c.if-hash-theta.true) in
-    let unscreened = is_screened_false (key x) own (λ zero. c.if-hash-ne0.true (hash_is ∙ zero)) (omega (arith, hash_is, c.if-hash-own_theta.true)) in
-    let is_at : IsAt key held (key x) at = rw (← hash_is, ← c.deref.ensures.value) c.in-Some-place_by_halves.ensures in
+    let it = wanted g (goal.at.list_each-preserved-in_ok-merge-in-Some-place_by_halves g c).Then-hash-own_theta in
+    let merged = c.in_ok-merge-in-Some-place_by_halves.ensures in
     record {
-      shorter = omega (arith, ap length shape, was.shorter);
-      listed = rw c.in_ok-merge-in-Some-place_by_halves.ensures.merged (listed-merged key merges refuses keeps _ _ _ own _ _ _ held _ others x c.args.from at c.index_mut.result.now reached low unscreened is_at (c.index_mut.ensures.value) c.in_ok-merge-in-Some-place_by_halves.ensures.refused (rw shape at was.listed));
+      shorter = omega (arith, ap length c.in-Some.ensures.cases.0, c.list_each.invariant.shorter);
+      listed = it.merged _ _ _ (rw c.deref.ensures.value at c.in-Some-place_by_halves.ensures) c.index_mut.ensures.value merged.refused merged.merged;
     }
-
-pub list_each-smaller-in_ok-push-in-None : goal.list_each-smaller-in_ok-push-in-None
-list_each-smaller-in_ok-push-in-None g c = omega (arith, ap length c.in-Some.ensures.cases.0)
 
 pub list_each-preserved-in_ok-push-in-None : goal.list_each-preserved-in_ok-push-in-None
 list_each-preserved-in_ok-push-in-None g c =
-    let key = g.E.SketchEntry.key in
-    let merges = g.P.UnionMergePolicy.merges c.args.policy.now in
-    let refuses = g.P.UnionMergePolicy.refuses c.args.policy.now in
-    let keeps = g.met.P.UnionMergePolicy.keeps_hash c.args.policy.now in
+    let it = wanted g (goal.at.list_each-preserved-in_ok-push-in-None g c).Then-hash-own_theta in
     let was = c.list_each.invariant in
-    let x = c.in-Some.first.now in
-    let others = c.in-Some.others.now in
-    let held = c.list_each.held.items in
-    let added = c.list_each.added.items in
-    let own : ℕ = c.retention_theta-own_theta.result in
-    let most : ℕ = 15 * 2 ^ c.args.table.now.map.lg_nom / 8 in
-    let shape : c.list_each.left.now ≡ x ∷ others = c.in-Some.ensures.cases.0 in
-    let hash_is : c.hash-hash.result ≡ key x = c.hash-hash.ensures in
-    let reached : c.args.from ≤ key x = omega (arith, hash_is, c.if-hash-from.true) in
-    let low : key x < c.args.theta = omega (arith, hash_is, c.if-hash-theta.true) in
-    let nonzero : 0 < key x = omega (arith, hash_is, c.if-hash-ne0.true) in
-    let high : key x < own = omega (arith, hash_is, c.if-hash-own_theta.true) in
-    let none : entry_at key held (key x) ≡ None = rw (← hash_is, ← c.deref.ensures.value) c.in-None.ensures in
-    let lg : c.rounds.table.map.lg_nom ≡ c.args.table.now.map.lg_nom = ap (λ t. t.lg_nom) c.rounds.invariant.made_with in
-    let most_is : c.most_entries-most.result ≡ most = c.most_entries-most.ensures ∙ ap (λ (n : ℕ). 15 * 2 ^ n / 8) (c.lg_nom_size.ensures ∙ lg) in
-    let room : length held + length added < most = omega (arith, c.len.ensures, c.len-in-None.ensures, c.list_each.held.ok.0, c.list_each.added.ok.0, c.if-len-most.false, most_is, was.listed.fill.limited, length-append held added) in
-    let clone_is = c.requires.clones_equal x c.in_ok-clone-in-None.field-0 c.in_ok-clone-in-None.ensures.cases in
+    let clone_is = c.requires.clones_equal c.in-Some.first.now c.in_ok-clone-in-None.field-0 c.in_ok-clone-in-None.ensures.cases in
+    let most_is : c.most_entries-most.result ≡ 15 * 2 ^ c.args.table.now.map.lg_nom / 8 = c.most_entries-most.ensures ∙ ap (λ (n : ℕ). 15 * 2 ^ n / 8) (c.lg_nom_size.ensures ∙ ap (λ t. t.lg_nom) c.rounds.invariant.made_with) in
     record {
-      shorter = omega (arith, ap length shape, was.shorter);
-      listed = rw (c.in_ok-push-in-None.ensures.items, clone_is) (listed-added key merges refuses keeps _ _ most own _ _ _ held added others x c.args.from reached low nonzero high none room (omega arith) (rw shape at was.listed));
+      shorter = omega (arith, ap length c.in-Some.ensures.cases.0, was.shorter);
+      listed = rw (c.in_ok-push-in-None.ensures.items, clone_is) (it.pushed (rw c.deref.ensures.value at c.in-None.ensures) (omega (arith, c.len.ensures, c.len-in-None.ensures, c.list_each.held.ok.0, c.list_each.added.ok.0, c.if-len-most.false, most_is, was.listed.fill.limited, length-append c.list_each.held.items c.list_each.added.items)));
     }
-
-pub list_each-smaller : goal.list_each-smaller
-list_each-smaller g c = omega (arith, ap length c.in-Some.ensures.cases.0)
 
 pub list_each-preserved : goal.list_each-preserved
 list_each-preserved g c =
-    let key = g.E.SketchEntry.key in
-    let merges = g.P.UnionMergePolicy.merges c.args.policy.now in
-    let refuses = g.P.UnionMergePolicy.refuses c.args.policy.now in
-    let keeps = g.met.P.UnionMergePolicy.keeps_hash c.args.policy.now in
     let was = c.list_each.invariant in
-    let x = c.in-Some.first.now in
-    let others = c.in-Some.others.now in
-    let shape : c.list_each.left.now ≡ x ∷ others = c.in-Some.ensures.cases.0 in
-    let own = c.retention_theta-own_theta.result in
-    let passed : (key x < c.args.from) ⊎ ((is_screened (key x) own ≡ true) ⊎ (c.args.theta ≤ key x)) = elim c.else-hash-ne0.branch [
-      | else-hash-ne0-via-then-hash-ne0+then-hash-from+then-hash-theta+else-hash-own_theta w ↦ inr (inl (is_screened_true (key x) own (inr (rw (← c.hash-hash.ensures) w.if-hash-own_theta.false))))
-      | else-hash-ne0-via-then-hash-ne0+then-hash-from+else-hash-theta w ↦ inr (inr (rw (← c.hash-hash.ensures) w.if-hash-theta.false))
-      | else-hash-ne0-via-then-hash-ne0+else-hash-from w ↦ inl (rw (← c.hash-hash.ensures) w.if-hash-from.false)
-      | else-hash-ne0-via-else-hash-ne0 w ↦ inr (inl (is_screened_true (key x) own (inl (rw (← c.hash-hash.ensures) w.if-hash-ne0.false))))
-    ] in
     record {
-      shorter = omega (arith, ap length shape, was.shorter);
-      listed = listed-passed key merges refuses keeps _ _ _ own _ _ _ _ _ others x c.args.from passed (rw shape at was.listed);
+      shorter = omega (arith, ap length c.in-Some.ensures.cases.0, was.shorter);
+      listed = listed-passed c.args.from c.hash-hash.result _ _ was.listed c.in-Some.ensures.cases.0 c.hash-hash.ensures (elim c.else-hash-ne0.branch [
+        | else-hash-ne0-via-then-hash-ne0+then-hash-from+then-hash-theta+else-hash-own_theta w ↦ inl w.if-hash-own_theta.false
+        | else-hash-ne0-via-then-hash-ne0+then-hash-from+else-hash-theta w ↦ inr (inl w.if-hash-theta.false)
+        | else-hash-ne0-via-then-hash-ne0+else-hash-from w ↦ inr (inr (inl w.if-hash-from.false))
+        | else-hash-ne0-via-else-hash-ne0 w ↦ inr (inr (inr w.if-hash-ne0.false))
+      ]);
     }
 
-pub returns-in_err-append-clause-made_with : goal.returns-in_err-append-clause-made_with
-returns-in_err-append-clause-made_with g c = c.rounds.invariant.made_with
-
-pub refill-requires-clause-of_sketch : goal.refill-requires-clause-of_sketch
-refill-requires-clause-of_sketch g c = omega (arith, ap (λ t. t.lg_nom) c.rounds.invariant.made_with, c.requires.of_sketch)
-
+-- ---- the table is filled with them
 pub refill-requires-clause-fill : goal.refill-requires-clause-fill
-refill-requires-clause-fill g c =
-    let lg : c.rounds.table.map.lg_nom ≡ c.args.table.now.map.lg_nom = ap (λ t. t.lg_nom) c.rounds.invariant.made_with in
-    let q = c.in_ok-append.ensures.items in
-    rw (lg, ← c.retention_theta-own_theta.ensures.theta, c.in_ok-append.ensures.items) c.list_each.invariant.listed.fill
+refill-requires-clause-fill g c = rw (ap (λ t. t.lg_nom) c.rounds.invariant.made_with, ← c.retention_theta-own_theta.ensures.theta, c.in_ok-append.ensures.items) c.list_each.invariant.listed.fill
 
-pub returns-in_err-refill-clause-made_with : goal.returns-in_err-refill-clause-made_with
-returns-in_err-refill-clause-made_with g c = rw c.in_err-refill.ensures.err c.rounds.invariant.made_with
+-- the table has the entries of both lists
+filled : (g : Over) (c : goal.In_ok-refill g) → Later c.rounds.invariant (at_or_above g.E.SketchEntry.key c.list_each.left.now c.args.from) c.refill.new.self.map
+filled g c = listed-filled c.rounds.invariant c.list_each.invariant.listed c.retention_theta-own_theta.ensures.theta c.in_ok-append.ensures.items c.in_ok-refill.ensures.after
 
 pub returns-in_default-split_first-clause-after : goal.returns-in_default-split_first-clause-after
 returns-in_default-split_first-clause-after g c =
-    let key = g.E.SketchEntry.key in
-    let own : ℕ = c.retention_theta-own_theta.result in
-    let kept : c.refill.new.self.map.kept ≡ listed_map key c.list_each.held.items c.list_each.added.items own =
-    ap (λ t. t.kept) c.in_ok-refill.ensures.after ∙ (λ i. record { entries = map_of key (c.in_ok-append.ensures.items i); theta = sym c.retention_theta-own_theta.ensures.theta i }) in
+    let it = filled g (goal.at.returns-in_default-split_first-clause-after g c).In_ok-refill in
     let none : c.list_each.left.now ≡ [] = nil_from_length c.list_each.left.now c.in_default-split_first.ensures.cases in
-    ap unmarked kept ∙ rw none at c.list_each.invariant.listed.folds
+    rw none at it.rest
 
-pub returns-in_default-split_first-clause-made_with : goal.returns-in_default-split_first-clause-made_with
-returns-in_default-split_first-clause-made_with g c = made_with_next c.args.table.now.map c.rounds.table.map c.refill.new.self.map _ c.rounds.invariant.made_with c.in_ok-refill.ensures.after
+-- ---- there was no room for the entry x in front, which is inserted into the table
+next : (g : Over) (c : goal.In_ok-refill g) (x : g.row.E.Denot) (others : List g.row.E.Denot) (hash : ℕ) → c.list_each.left.now ≡ x ∷ others → hash ≡ g.E.SketchEntry.key x
+    → IsNext c.rounds.invariant c.refill.new.self.map hash x (at_or_above g.E.SketchEntry.key others c.args.from)
+next g c x others hash shape hash_is =
+    let key = g.E.SketchEntry.key in
+    let bounds : (c.args.from ≤ key x) × (key x < c.args.theta) = elim c.match-split_first.branch [
+      | in-Some+then-hash-ne0+then-hash-from+then-hash-theta+then-hash-own_theta+in-None+then-len-most w ↦
+          let same : x ≡ w.in-Some.first.now = let e = sym shape ∙ w.in-Some.ensures.cases.0 in cc in
+          (omega (arith, ap key same, w.hash-hash.ensures, w.if-hash-from.true), omega (arith, ap key same, w.hash-hash.ensures, w.if-hash-theta.true))
+      | in_default w ↦ absurd (omega (arith, w.in_default.ensures.cases, ap length shape))
+    ] in
+    is_next (filled g c) (g.met.P.UnionMergePolicy.keeps_hash c.args.policy.now) (at_or_above_front key c.args.from _ others x shape bounds.0) hash_is (omega (arith, hash_is, bounds.1))
 
 pub upsert_entry-requires-clause-room : goal.upsert_entry-requires-clause-room
 upsert_entry-requires-clause-room g c =
-    let made = made_with_next c.args.table.now.map c.rounds.table.map c.refill.new.self.map _ c.rounds.invariant.made_with c.in_ok-refill.ensures.after in
-    let lg : c.refill.new.self.map.lg_nom ≡ c.args.table.now.map.lg_nom = ap (λ t. t.lg_nom) made in
-    always_room g.E.SketchEntry.key c.hash.result c.refill.new.self.map (omega (arith, lg, c.requires.of_sketch))
-
-pub returns-in_err-upsert_entry-clause-made_with : goal.returns-in_err-upsert_entry-clause-made_with
-returns-in_err-upsert_entry-clause-made_with g c =
-    rw c.in_err-upsert_entry.ensures.err (made_with_next c.args.table.now.map c.rounds.table.map c.refill.new.self.map _ c.rounds.invariant.made_with c.in_ok-refill.ensures.after)
+    let it = filled g (goal.at.upsert_entry-requires-clause-room g c).In_ok-refill in
+    always_room g.E.SketchEntry.key c.hash.result c.refill.new.self.map (omega (arith, ap (λ t. t.lg_nom) it.made_with, c.requires.of_sketch))
 
 pub returns-in_err-upsert_entry-clause-refused : goal.returns-in_err-upsert_entry-clause-refused
 returns-in_err-upsert_entry-clause-refused g c =
+    let it = next g (goal.at.returns-in_err-upsert_entry-clause-refused g c).In_ok-refill _ _ _ c.in-Some-split_first.ensures.cases.0 c.hash.ensures in
     let p = err_from_is_err_and c.from_residual-in_err-upsert_entry.result c.from_residual-in_err-upsert_entry.ensures.1 in
-    let key = g.E.SketchEntry.key in
-    let merges = g.P.UnionMergePolicy.merges c.args.policy.now in
-    let refuses = g.P.UnionMergePolicy.refuses c.args.policy.now in
-    let keeps = g.met.P.UnionMergePolicy.keeps_hash c.args.policy.now in
-    let x = c.in-Some-split_first.first.now in
-    let others = c.in-Some-split_first.others.now in
-    let v = c.refill.new.self.map.kept in
-    let own : ℕ = c.retention_theta-own_theta.result in
-    let shape : c.list_each.left.now ≡ x ∷ others = c.in-Some-split_first.ensures.cases.0 in
-    let kept : v ≡ listed_map key c.list_each.held.items c.list_each.added.items own =
-    ap (λ t. t.kept) c.in_ok-refill.ensures.after ∙ (λ i. record { entries = map_of key (c.in_ok-append.ensures.items i); theta = sym c.retention_theta-own_theta.ensures.theta i }) in
-    let bounds : (c.args.from ≤ key x) × (key x < c.args.theta) = elim c.match-split_first.branch [
-      | in-Some+then-hash-ne0+then-hash-from+then-hash-theta+then-hash-own_theta+in-None+then-len-most w ↦
-          let same : x ≡ w.in-Some.first.now = let e = sym shape ∙ w.in-Some.ensures.cases.0 in cc in
-          (omega (arith, ap key same, w.hash-hash.ensures, w.if-hash-from.true), omega (arith, ap key same, w.hash-hash.ensures, w.if-hash-theta.true))
-      | in_default w ↦ absurd (omega (arith, w.in_default.ensures.cases, ap length shape))
-    ] in
-    let it = listed-filled key merges refuses keeps _ _ _ own _ _ _ _ _ others x c.args.from v kept bounds.0 (rw shape at c.list_each.invariant.listed) in
-    rw (p.1, p.2) (elim c.in_err-upsert_entry.ensures.refused [
-      | inl r ↦ inr (merging-refused key merges refuses keeps _ _ (at_or_above key others c.args.from) x v false c.args.theta c.in_err-upsert_entry.field-0.0 bounds.1 it.merging (rw (← c.hash.ensures) r))
-      | inr o ↦ inl o.0
-    ])
-
-pub rounds-smaller : goal.rounds-smaller
-rounds-smaller g c = omega (arith, ap length c.in-Some-split_first.ensures.cases.0, c.list_each.invariant.shorter)
+    rw (p.1, p.2) (it.refused _ (elim c.in_err-upsert_entry.ensures.refused [ inl r ↦ inl r | inr o ↦ inr o.0 ]))
 
 pub rounds-preserved : goal.rounds-preserved
 rounds-preserved g c =
-    let key = g.E.SketchEntry.key in
-    let merges = g.P.UnionMergePolicy.merges c.args.policy.now in
-    let refuses = g.P.UnionMergePolicy.refuses c.args.policy.now in
-    let keeps = g.met.P.UnionMergePolicy.keeps_hash c.args.policy.now in
-    let x = c.in-Some-split_first.first.now in
-    let others = c.in-Some-split_first.others.now in
-    let v = c.refill.new.self.map.kept in
-    let own : ℕ = c.retention_theta-own_theta.result in
-    let shape : c.list_each.left.now ≡ x ∷ others = c.in-Some-split_first.ensures.cases.0 in
-    let kept : v ≡ listed_map key c.list_each.held.items c.list_each.added.items own =
-    ap (λ t. t.kept) c.in_ok-refill.ensures.after ∙ (λ i. record { entries = map_of key (c.in_ok-append.ensures.items i); theta = sym c.retention_theta-own_theta.ensures.theta i }) in
-    let bounds : (c.args.from ≤ key x) × (key x < c.args.theta) = elim c.match-split_first.branch [
-      | in-Some+then-hash-ne0+then-hash-from+then-hash-theta+then-hash-own_theta+in-None+then-len-most w ↦
-          let same : x ≡ w.in-Some.first.now = let e = sym shape ∙ w.in-Some.ensures.cases.0 in cc in
-          (omega (arith, ap key same, w.hash-hash.ensures, w.if-hash-from.true), omega (arith, ap key same, w.hash-hash.ensures, w.if-hash-theta.true))
-      | in_default w ↦ absurd (omega (arith, w.in_default.ensures.cases, ap length shape))
-    ] in
-    let it = listed-filled key merges refuses keeps _ _ _ own _ _ _ _ _ others x c.args.from v kept bounds.0 (rw shape at c.list_each.invariant.listed) in
-    let k = 2 ^ c.args.table.now.map.lg_nom in
-    let made = made_with_next c.args.table.now.map c.rounds.table.map c.refill.new.self.map _ c.rounds.invariant.made_with c.in_ok-refill.ensures.after in
-    let lg : c.refill.new.self.map.lg_nom ≡ c.args.table.now.map.lg_nom = ap (λ t. t.lg_nom) made in
-    let next : c.upsert_entry.new.self.map.kept ≡ after_upsert key k (key x) (merge_step merges refuses x) v = rw (← c.hash.ensures, ← lg) (ap (λ t. t.kept) c.in_ok-upsert_entry.ensures.after) in
-    let allowed : upsert_refusal key (key x) (merge_step merges refuses x) v ≡ None = rw (← c.hash.ensures) c.in_ok-upsert_entry.ensures.refused in
-    record {
-      rest = rw next (folds_next key merges refuses keeps k c.args.theta (at_or_above key others c.args.from) x v bounds.1 allowed) ∙ it.folds;
-      made_with = made_with_next c.args.table.now.map c.refill.new.self.map c.upsert_entry.new.self.map _ made c.in_ok-upsert_entry.ensures.after;
-      merging = rw next (merging-next key merges refuses keeps k _ _ (at_or_above key others c.args.from) x v false it.merging);
-    }
+    let it = next g (goal.at.rounds-preserved g c).In_ok-refill _ _ _ c.in-Some-split_first.ensures.cases.0 c.hash.ensures in
+    it.merged _ c.in_ok-upsert_entry.ensures.after c.in_ok-upsert_entry.ensures.refused
