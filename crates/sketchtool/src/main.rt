@@ -4,14 +4,12 @@
 //! exit status is 0 for an answer, 1 for a fault and 2 for a failed read or write.
 #![tactic(auto)]
 
-mod answer;
-mod run;
-
+use plan_runs::run;
 use std::process::ExitCode;
 
 fn main(rt: HostRuntime) -> ExitCode {
     let mut reader = rt.stdin();
     let mut writer = rt.stdout();
-    let ending = run::run(rt.alloc(), &mut reader, &mut writer);
+    let ending = run(rt.alloc(), &mut reader, &mut writer);
     ExitCode::from(ending.status())
 }

@@ -1,13 +1,24 @@
-//! The audience of the library's second example (docs/LIBRARY.md).
+//! The audience of the library's second example (docs/use/LIBRARY.md).
 
-use crate::common::{add, ascending};
 use sketch_base::Error;
-use std::alloc::Global;
+use std::alloc::{AllocError, Global};
 use std::test::Fail;
 use theta_sketches::{
-    CompactThetaSketch, ThetaANotB, ThetaSketch, ThetaSketchBuilder, ThetaSketchView,
-    ThetaUnionBuilder,
+    CompactThetaSketch, ThetaANotB, ThetaSketch, ThetaSketchBuilder, ThetaSketchIter,
+    ThetaSketchView, ThetaUnion, ThetaUnionBuilder,
 };
+
+/// The hashes of a sketch, ascending.
+fn ascending(alloc: Global, entries: ThetaSketchIter<'_>) -> Result<Vec<u64>, AllocError> {
+    let mut hashes: Vec<u64> = entries.map(|entry| entry.hash()).collect(alloc)?;
+    hashes.sort_unstable();
+    Ok(hashes)
+}
+
+/// Updates a union with a sketch.
+fn add(union: &mut ThetaUnion, sketch: ThetaSketch) -> Result<(), Error> {
+    union.update(sketch.as_view())
+}
 
 fn visitors(alloc: Global, hashes: &[u64]) -> Result<ThetaSketch, Error> {
     let mut sketch = ThetaSketchBuilder::default().build(alloc)?;

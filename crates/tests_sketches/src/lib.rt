@@ -1,22 +1,17 @@
-//! Tests over the public calls of the theta sketches, and of the hash and the bytes below them, with values from outside,
-//! and of images whose hashes were chosen. Requests for memory are counted and refused by the tests of the C library.
+//! Tests over the public calls of the theta sketches, and of the hash below them, which no line of calls can make: the
+//! documented example, a closure that captures a value, numbers of each type that a hasher writes, images whose hashes
+//! were chosen, a large table, and readers of lines that fail once.
 #![tactic(auto)]
 
 #[cfg(test)]
 mod audience;
 #[cfg(test)]
-mod base;
-#[cfg(test)]
-mod common;
-#[cfg(test)]
 mod crafted_sets;
 #[cfg(test)]
-mod family;
+mod failing_reads;
+#[cfg(test)]
+mod large_table;
 #[cfg(test)]
 mod mapped;
 #[cfg(test)]
-mod sketches;
-#[cfg(test)]
-mod slots;
-#[cfg(test)]
-mod steps;
+mod numbers;

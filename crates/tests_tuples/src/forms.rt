@@ -1,10 +1,20 @@
 //! The example in the doc comment of the sketches.
 
-use crate::common::Sums;
-use crate::operators::total;
 use std::alloc::Global;
 use std::test::Fail;
-use tuple_sketches::{DefaultUpdatePolicy, Error, TupleSketchBuilder};
+use tuple_sketches::{
+    CompactTupleSketch, DefaultUpdatePolicy, Error, TupleSketch, TupleSketchBuilder,
+};
+
+/// A sketch of sums.
+type Sums = TupleSketch<DefaultUpdatePolicy<u64>>;
+
+/// The number of keys of a sketch, and the sum of all their summaries.
+fn total(sketch: &CompactTupleSketch<u64>) -> (usize, u64) {
+    let sums = sketch.iter().map(|entry| *entry.summary());
+    let total = sums.fold(0, |total: u64, sum| total.saturating_add(sum));
+    (sketch.num_retained(), total)
+}
 
 /// The visits of each visitor.
 fn visits(alloc: Global) -> Result<Sums, Error> {

@@ -1,2 +1,5 @@
 pub mod ImageLayouts
+pub mod ReadBack
 pub mod UnitedHashes
+pub mod WholeMaps
+pub mod Streams

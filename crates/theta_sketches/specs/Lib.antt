@@ -1,3 +1,5 @@
 pub mod View
 pub mod Image
 pub mod ImageLayout
+pub mod WholeMaps
+pub mod Streams

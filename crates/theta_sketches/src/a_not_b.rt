@@ -1,10 +1,11 @@
 //! Differences of theta sketches.
-ghost use Rattle.std.specs.Prelude.{◌≡◌, ◌||◌, true, false, IfOk};
+ghost use Rattle.std.specs.Prelude.{◌≡◌, ◌||◌, ℕ, List, true, false, IfOk};
 ghost use Rattle.sketch_base.specs.Seed.{seed_hash};
 ghost use Rattle.core_operators.specs.ANotB.{difference_refusal, IsHashDifference};
 ghost use Rattle.core_operators.specs.Intersection.{seed_refusal};
 ghost use Rattle.core_laws.specs.Refusal.{Refuses};
 ghost use Rattle.theta_sketches.specs.View.{view_shows, view_sequence};
+ghost use Rattle.theta_sketches.specs.Streams.{lacking_hashes, set_below, value_of, view_value, IsSampleOf};
 
 use crate::compact_sketch::CompactThetaSketch;
 use crate::view::ThetaSketchView;
@@ -77,6 +78,10 @@ impl ThetaANotB {
     ) -> Result<CompactThetaSketch<A>, Error>
         ensures ok { IfOk result (
             IsHashDifference (view_shows a.entry) (view_sequence a.entry) (view_shows b.entry) (view_sequence b.entry) ordered) }
+        ensures sample { IfOk result (λ s. (hashes others : List ℕ) → IsSampleOf (view_value a.entry) hashes →
+            IsSampleOf (view_value b.entry) others → IsSampleOf (value_of s) (lacking_hashes hashes others)) }
+        ensures below { IfOk result (λ s. (hashes others : List ℕ) → IsSampleOf (view_value a.entry) hashes →
+            IsSampleOf (view_value b.entry) others → ordered ≡ true → s.entries ≡ set_below s.theta (lacking_hashes hashes others)) }
         ensures refused { Refuses result (difference_refusal self.now (view_shows a.entry) (view_shows b.entry)) true }
     {
         let state = a_not_b::compute_with_entries(alloc, self.seed_hash, a, b, ordered)?;

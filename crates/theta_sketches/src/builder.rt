@@ -1,11 +1,12 @@
 //! Builders of theta sketches and unions.
-ghost use Rattle.std.specs.Prelude.{◌≡◌, true, IfOk};
+ghost use Rattle.std.specs.Prelude.{◌≡◌, ◌^◌, [], true, IfOk};
 ghost use Rattle.sketch_base.specs.Seed.{seed_hash};
 ghost use Rattle.core_laws.specs.Refusal.{Refuses};
 ghost use Rattle.core_state.specs.Settings.{default_settings};
 ghost use Rattle.core_laws.specs.Settings.{settings_refusal};
 ghost use Rattle.core_table.specs.HashTable.{empty_table};
 ghost use Rattle.core_operators.specs.Union.{empty_union};
+ghost use Rattle.theta_sketches.specs.Streams.{IsSketchOf, IsUnionOf, IsUnionOfSamples};
 
 use crate::sketch::ThetaSketch;
 use crate::union::ThetaUnion;
@@ -80,6 +81,7 @@ impl ThetaSketchBuilder {
     pub fn build<A: Allocator + Drop>(self, alloc: A) -> Result<ThetaSketch<A>, Error>
         ensures empty { IfOk result (λ s. s.empty ≡ true) }
         ensures made { IfOk result (λ s. s.map ≡ empty_table self.lg_k self.starting_theta self.seed) }
+        ensures given { IfOk result (λ s. IsSketchOf self.lg_k self.starting_theta self.seed s []) }
         ensures refused { Refuses result (settings_refusal self.lg_k self.starting_theta self.seed) true }
     {
         ThetaSketch::new(alloc, self.settings)
@@ -150,6 +152,8 @@ impl ThetaUnionBuilder {
     /// seed hash is 0, and with `OutOfMemory`.
     pub fn build<A: Allocator + Drop>(self, alloc: A) -> Result<ThetaUnion<A>, Error>
         ensures made { IfOk result (λ u. u ≡ empty_union self.lg_k self.starting_theta (seed_hash self.seed) u.policy) }
+        ensures given { IfOk result (λ u. IsUnionOf self.lg_k (2 ^ self.lg_k) self.starting_theta u []) }
+        ensures sampled { IfOk result (λ u. IsUnionOfSamples u []) }
         ensures refused { Refuses result (settings_refusal self.lg_k self.starting_theta self.seed) true }
     {
         ThetaUnion::new(alloc, self.settings)

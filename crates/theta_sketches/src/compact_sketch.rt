@@ -1,5 +1,5 @@
 //! Compact theta sketches, which are immutable.
-ghost use Rattle.std.specs.Prelude.{◌≡◌, ◌≤◌, ◌&&◌, true, not, nat_lt, None, length, IfOk};
+ghost use Rattle.std.specs.Prelude.{◌≡◌, ◌≤◌, ◌&&◌, ℕ, List, true, not, nat_lt, None, length, IfOk};
 ghost use Rattle.core_compact.specs.CompactState.{IsCompact, shown_of, compact_value};
 ghost use Rattle.core_laws.specs.Entries.{hash_key};
 ghost use Rattle.core_laws.specs.Refusal.{Refuses};
@@ -7,6 +7,7 @@ ghost use Rattle.core_laws.specs.Shown.{shown_value};
 ghost use Rattle.core_state.specs.Fraction.{decimal_of, compact_fraction};
 ghost use Rattle.core_state.specs.declared.fraction.TheConstants.{MAX_PLACES};
 ghost use Rattle.theta_sketches.specs.View.{view_shows, view_sequence};
+ghost use Rattle.theta_sketches.specs.Streams.{value_of, view_value, IsPartOf, IsSampleOf};
 
 use crate::view::ThetaSketchView;
 use core_compact::CompactSketchState;
@@ -52,6 +53,9 @@ impl<A: Allocator> CompactThetaSketch<A> {
         ensures shows { view_shows result ≡ shown_of hash_key self.now }
         ensures sequence { view_sequence result ≡ self.now.entries }
         ensures value { shown_value hash_key (view_shows result) (view_sequence result) ≡ compact_value hash_key self.now }
+        ensures part { (k start : ℕ) (hashes : List ℕ) → IsPartOf k start (value_of self.now) hashes →
+            IsPartOf k start (view_value result) hashes }
+        ensures sample { (hashes : List ℕ) → IsSampleOf (value_of self.now) hashes → IsSampleOf (view_value result) hashes }
     {
         ThetaSketchView::of_compact(&self.state)
     }

@@ -1,7 +1,8 @@
 //! Images of theta sketches, in the DataSketches format of family 3. All numbers are little endian.
 //!
 //! Serial version 3 is written and read. Versions 1 and 2 are only read: they have no flags, and their hashes are ordered.
-ghost use Rattle.std.specs.Prelude.{◌≡◌, ◌≤◌, None, true, length, IfOk, IfErr};
+ghost use Rattle.std.specs.Prelude.{◌≡◌, ◌≤◌, ℕ, None, true, length, IfOk, IfErr};
+ghost use Rattle.core_compact.specs.CompactState.{Compact};
 ghost use Rattle.sketch_base.specs.Seed.{seed_hash};
 ghost use Rattle.sketch_base.specs.declared.seed.TheConstants.{DEFAULT_UPDATE_SEED};
 ghost use Rattle.core_images.specs.Read.{IsRefused};
@@ -100,8 +101,10 @@ impl<A: Allocator + Clone + Drop> CompactThetaSketch<A> {
     /// preamble, then 8 bytes per hash. Refused with `OutOfMemory` alone.
     pub fn serialize(&self) -> Result<Vec<u8, A>, Error>
         ensures ok { IfOk result (λ v. v.items ≡ written self.now) }
+        ensures read_back { IfOk result (λ v. (s : Compact ℕ) → Reads v.items self.now.seed_hash s → s ≡ self.now) }
         ensures refused { Refuses result None true }
     {
+        let _ = (self.num_retained(), self.seed_hash());
         let alloc = self.state().allocator().clone()?;
         write_image(alloc, self.state(), Family::THETA, 0)
     }

@@ -1,5 +1,5 @@
 //! Intersections of theta sketches.
-ghost use Rattle.std.specs.Prelude.{◌≡◌, Some, None, false, is_some, IfOk, IfErr, OnOk};
+ghost use Rattle.std.specs.Prelude.{◌≡◌, ◌≢◌, ◌∷◌, ◌++◌, ℕ, List, [], Some, None, true, false, is_some, IsSome, IfSome, IfOk, IfErr, OnOk};
 ghost use Rattle.sketch_base.specs.Seed.{seed_hash};
 ghost use Rattle.sketch_base.specs.declared.seed.TheConstants.{DEFAULT_UPDATE_SEED};
 ghost use Rattle.core_laws.specs.Entries.{hash_key, first_hash};
@@ -9,6 +9,7 @@ ghost use Rattle.core_laws.specs.Cuts.{IsRetained};
 ghost use Rattle.core_laws.specs.Refusal.{Refuses};
 ghost use Rattle.core_laws.specs.Shown.{shown_value};
 ghost use Rattle.theta_sketches.specs.View.{view_shows, view_sequence};
+ghost use Rattle.theta_sketches.specs.Streams.{shared_by, set_below, value_of, view_value, IsSampleOf, IsIntersectionOf};
 
 use crate::compact_sketch::CompactThetaSketch;
 use crate::view::ThetaSketchView;
@@ -61,6 +62,7 @@ impl<A: Allocator + Drop> ThetaIntersection<A> {
     /// Never refused: the seed hash of 9001 isn't 0.
     pub fn default(alloc: A) -> Result<Self, Error>
         ensures made { IfOk result (λ i. i ≡ new_intersection (seed_hash DEFAULT_UPDATE_SEED) (record {})) }
+        ensures given { IfOk result (λ i. IsIntersectionOf i []) }
         ensures refused { Refuses result (seed_refusal DEFAULT_UPDATE_SEED) false }
     {
         ThetaIntersection::with_seed(alloc, DEFAULT_UPDATE_SEED)
@@ -71,6 +73,7 @@ impl<A: Allocator + Drop> ThetaIntersection<A> {
     /// Refused with `InvalidArgument` for a seed whose seed hash is 0.
     pub fn with_seed(alloc: A, seed: u64) -> Result<Self, Error>
         ensures made { IfOk result (λ i. i ≡ new_intersection (seed_hash seed) (record {})) }
+        ensures given { IfOk result (λ i. IsIntersectionOf i []) }
         ensures refused { Refuses result (seed_refusal seed) false }
     {
         let state = IntersectionState::new(alloc, seed, NoopIntersectionPolicy)?;
@@ -106,6 +109,8 @@ impl<A: Allocator + Clone> ThetaIntersection<A> {
             meet_next hash_key first_hash self.old.result (
             shown_value hash_key (view_shows sketch.entry) (view_sequence sketch.entry)))) }
         ensures made_with { self.new ≡ record self.old { result = self.new.result } }
+        ensures given { OnOk result ((streams : List (List ℕ)) (more : List ℕ) → IsIntersectionOf self.old streams →
+            IsSampleOf (view_value sketch.entry) more → IsIntersectionOf self.new (streams ++ more ∷ [])) }
         ensures accepted { OnOk result (intersect_refusal self.old (view_shows sketch.entry) ≡ None) }
         ensures refused { IfErr result (IsHashIntersectError self.old self.new (view_shows sketch.entry)) }
         ensures sound { IsIntersection self.old }
@@ -120,6 +125,11 @@ impl<A: Allocator + Clone> ThetaIntersection<A> {
     /// `OutOfMemory` alone, and only if there is a value.
     pub fn to_sketch(&self, ordered: bool) -> Result<Option<CompactThetaSketch<A>>, Error>
         ensures ok { IfOk result (IsAnswerIfAny hash_key self.now.result self.now.seed_hash ordered) }
+        ensures found { IfOk result (λ o. (streams : List (List ℕ)) → IsIntersectionOf self.now streams → streams ≢ [] → IsSome o) }
+        ensures sample { IfOk result (λ o. IfSome o (λ s. (streams : List (List ℕ)) → IsIntersectionOf self.now streams →
+            IsSampleOf (value_of s) (shared_by streams))) }
+        ensures below { IfOk result (λ o. IfSome o (λ s. (streams : List (List ℕ)) → IsIntersectionOf self.now streams →
+            ordered ≡ true → s.entries ≡ set_below s.theta (shared_by streams))) }
         ensures refused { Refuses result None (is_some self.now.result) }
     {
         match self.state.to_compact_sketch_state(ordered)? {

@@ -1,5 +1,5 @@
 //! Theta sketches that take updates.
-ghost use Rattle.std.specs.Prelude.{◌≡◌, ◌≤◌, ◌==◌, ◌&&◌, ◌^◌, true, false, not, nat_lt, None, length, IfOk, OnOk, OnErr};
+ghost use Rattle.std.specs.Prelude.{◌≡◌, ◌≢◌, ◌≤◌, ◌==◌, ◌&&◌, ◌^◌, ℕ, List, [], ◌∷◌, true, false, not, nat_lt, None, length, IfOk, OnOk, OnErr};
 ghost use Rattle.core_compact.specs.CompactState.{IsAnswer};
 ghost use Rattle.core_laws.specs.Entries.{hash_key, hash_step};
 ghost use Rattle.core_laws.specs.Refusal.{Refuses};
@@ -8,11 +8,13 @@ ghost use Rattle.core_table.specs.HashTable.{empty_table, after_reset, after_has
 ghost use Rattle.core_laws.specs.Maps.{IsListing};
 ghost use Rattle.core_laws.specs.Insertion.{upsert_allocates};
 ghost use Rattle.core_state.specs.Updatable.{sketch_value, sketch_shows, StopsUpdates};
+ghost use Rattle.core_laws.specs.Parts.{StopsAt};
 ghost use Rattle.core_laws.specs.Values.{theta_of, count_of, fraction_of};
 ghost use Rattle.core_laws.specs.Shown.{IsShown, shown_value};
 ghost use Rattle.core_state.specs.Fraction.{decimal_of};
 ghost use Rattle.core_state.specs.declared.fraction.TheConstants.{MAX_PLACES};
 ghost use Rattle.theta_sketches.specs.View.{view_shows, view_sequence};
+ghost use Rattle.theta_sketches.specs.Streams.{value_hash, seed_hash, kmin, set_of, NonEmpty, value_of, view_value, retained_of, IsPartOf, IsSampleOf, IsSketchOf, IsTrimmedOf, GivesMore, GivesNothing};
 
 use crate::compact_sketch::CompactThetaSketch;
 use crate::view::ThetaSketchView;
@@ -46,6 +48,7 @@ impl<A: Allocator> ThetaSketch<A> {
         A: Drop,
         ensures empty { IfOk result (λ s. s.empty ≡ true) }
         ensures made { IfOk result (λ s. s.map ≡ empty_table settings.lg_k settings.starting_theta settings.seed) }
+        ensures given { IfOk result (λ s. IsSketchOf settings.lg_k settings.starting_theta settings.seed s []) }
         ensures refused { Refuses result (settings_refusal settings.lg_k settings.starting_theta settings.seed) true }
     {
         let state = UpdatableState::new(alloc, settings)?;
@@ -57,6 +60,10 @@ impl<A: Allocator> ThetaSketch<A> {
         ensures shows { view_shows result ≡ sketch_shows hash_key self.now }
         ensures sequence { view_sequence result ≡ self.now.sequence }
         ensures value { shown_value hash_key (view_shows result) (view_sequence result) ≡ sketch_value self.now }
+        ensures part { (lg_k start seed : ℕ) (hashes : List ℕ) → IsSketchOf lg_k start seed self.now hashes →
+            IsPartOf (2 ^ lg_k) start (view_value result) hashes }
+        ensures sample { (lg_k start seed : ℕ) (hashes : List ℕ) → IsSketchOf lg_k start seed self.now hashes →
+            IsSampleOf (view_value result) hashes }
     {
         ThetaSketchView::of_state(&self.state)
     }
@@ -138,6 +145,8 @@ impl<A: Allocator> ThetaSketch<A> {
     pub fn reset(&mut self)
         ensures empty { self.new.empty ≡ true }
         ensures map { self.new.map ≡ after_reset self.old.map }
+        ensures given { (lg_k start seed : ℕ) (hashes : List ℕ) → IsSketchOf lg_k start seed self.old hashes →
+            IsSketchOf lg_k start seed self.new [] }
     {
         self.state.reset();
     }
@@ -156,6 +165,8 @@ impl<A: Allocator + Clone> ThetaSketch<A> {
         ensures after { let h = key_hash self.old.map (T.hash_input value) in OnOk result (self.new.map ≡ after_hash h self.old.map) }
         ensures err_empty { OnErr result (self.new.empty ≡ self.old.empty) }
         ensures err { OnErr result (self.new.map ≡ self.old.map) }
+        ensures given { OnOk result (GivesMore self.old self.new (λ seed. value_hash seed (T.hash_input value) ∷ [])) }
+        ensures err_given { OnErr result (GivesNothing self.old self.new) }
         ensures refused { let h = key_hash self.old.map (T.hash_input value) in Refuses result None (hash_allocates h self.old.map.kept) }
     {
         let hash = self.state.hash(value);
@@ -172,6 +183,8 @@ impl<A: Allocator + Clone> ThetaSketch<A> {
         ensures after { OnOk result (self.new.map ≡ after_hash hash self.old.map) }
         ensures err_empty { OnErr result (self.new.empty ≡ self.old.empty) }
         ensures err { OnErr result (self.new.map ≡ self.old.map) }
+        ensures given { OnOk result (GivesMore self.old self.new (λ _. hash ∷ [])) }
+        ensures err_given { OnErr result (GivesNothing self.old self.new) }
         ensures refused { Refuses result None (upsert_allocates hash_key hash (hash_step hash) self.old.map.kept) }
     {
         self.state.insert_hash(hash)
@@ -198,6 +211,8 @@ impl<A: Allocator + Clone> ThetaSketch<A> {
         ensures after { OnOk result (self.new.map ≡ after_hashes hashes.now self.old.map) }
         ensures empty { OnOk result (self.new.empty ≡ (self.old.empty && length hashes.now == 0)) }
         ensures err { OnErr result (StopsUpdates hashes.now self.old self.new) }
+        ensures given { OnOk result (GivesMore self.old self.new (λ _. hashes.now)) }
+        ensures err_given { OnErr result (StopsAt hashes.now (λ before _. GivesMore self.old self.new (λ _. before))) }
         ensures refused { Refuses result None true }
     {
         self.state.insert_hashes(hashes)
@@ -211,6 +226,9 @@ impl<A: Allocator + Clone> ThetaSketch<A> {
         ensures same_emptiness { self.new.empty ≡ self.old.empty }
         ensures after { OnOk result (self.new.map ≡ trimmed_table hash_key self.old.map) }
         ensures err { OnErr result (self.new.map ≡ self.old.map) }
+        ensures given { OnOk result ((lg_k start seed : ℕ) (hashes : List ℕ) → IsSketchOf lg_k start seed self.old hashes →
+            IsTrimmedOf lg_k start seed self.new hashes) }
+        ensures err_given { OnErr result (GivesNothing self.old self.new) }
         ensures refused { Refuses result None (nat_lt (2 ^ self.old.map.lg_nom) (length self.old.map.kept.entries)) }
     {
         self.state.trim()
@@ -221,6 +239,7 @@ impl<A: Allocator + Clone> ThetaSketch<A> {
     pub fn clone(&self) -> Result<Self, Error>
         ensures empty { IfOk result (λ s. s.empty ≡ self.now.empty) }
         ensures copied { IfOk result (λ s. s.map ≡ self.now.map) }
+        ensures given { IfOk result (λ s. GivesNothing self.now s) }
         ensures refused { Refuses result None true }
     {
         Ok(ThetaSketch {
@@ -232,6 +251,14 @@ impl<A: Allocator + Clone> ThetaSketch<A> {
     /// empty, or if it has one hash at the greatest theta. The sketch doesn't change. Refused with `OutOfMemory` alone.
     pub fn compact(&self, ordered: bool) -> Result<CompactThetaSketch<A>, Error>
         ensures ok { IfOk result (IsAnswer hash_key (sketch_value self.now) self.now.map.seed_hash ordered) }
+        ensures part { IfOk result (λ s. (lg_k start seed : ℕ) (hashes : List ℕ) → IsSketchOf lg_k start seed self.now hashes →
+            IsPartOf (2 ^ lg_k) start (value_of s) hashes) }
+        ensures seeded { IfOk result (λ s. (lg_k start seed : ℕ) (hashes : List ℕ) → IsSketchOf lg_k start seed self.now hashes →
+            s.seed_hash ≡ seed_hash seed) }
+        ensures least { IfOk result (λ s. (lg_k start seed : ℕ) (hashes : List ℕ) → IsTrimmedOf lg_k start seed self.now hashes →
+            hashes ≢ [] → value_of s ≡ NonEmpty (kmin (2 ^ lg_k) (set_of hashes) start)) }
+        ensures kmin { IfOk result (λ s. (lg_k seed : ℕ) (hashes : List ℕ) → IsTrimmedOf lg_k MAX_THETA seed self.now hashes →
+            ordered ≡ true → retained_of s ≡ kmin (2 ^ lg_k) (set_of hashes) MAX_THETA) }
         ensures refused { Refuses result None true }
     {
         let state = self.state.compact(ordered)?;

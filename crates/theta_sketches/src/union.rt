@@ -1,5 +1,6 @@
 //! Unions of theta sketches.
-ghost use Rattle.std.specs.Prelude.{◌≡◌, ◌^◌, [], ◌∷◌, true, not, None, IfOk, IfErr, OnOk, OnErr};
+ghost use Rattle.std.specs.Prelude.{◌≡◌, ◌≢◌, ◌≤◌, ◌^◌, ℕ, List, [], ◌∷◌, ◌++◌, true, not, None, map, IfOk, IfErr, OnOk, OnErr};
+ghost use Rattle.std.specs.List.{concat};
 ghost use Rattle.sketch_base.specs.Seed.{seed_hash};
 ghost use Rattle.core_compact.specs.CompactState.{IsAnswer};
 ghost use Rattle.core_laws.specs.Entries.{hash_key};
@@ -9,6 +10,8 @@ ghost use Rattle.core_laws.specs.Cuts.{IsRetained};
 ghost use Rattle.core_operators.specs.Union.{Union, empty_union, union_value, update_refusal, lower_refusal, lower_allocates, lowered, failure, IsUnion, JoinsHashes, UnitesHashes, IsHashUpdateError, all_empty, update_all_refusal, JoinsAllHashes, UnitesAllHashes, IsHashUpdateAllError};
 ghost use Rattle.core_laws.specs.Values.{cut_value};
 ghost use Rattle.theta_sketches.specs.View.{view_shows, view_sequence};
+ghost use Rattle.sketch_base.specs.declared.error.ErrorKind.TheVariants.{OutOfMemory};
+ghost use Rattle.theta_sketches.specs.Streams.{kmin, set_of, set_below, MAX_THETA, NonEmpty, value_of, view_value, retained_of, IsPartOf, IsSampleOf, ArePartsOf, IsUnionOf, IsUnionOfSamples};
 
 use crate::compact_sketch::CompactThetaSketch;
 use crate::policy::NoopUnionPolicy;
@@ -44,6 +47,8 @@ impl<A: Allocator> Model for ThetaUnion<A> {
 impl<A: Allocator + Drop> ThetaUnion<A> {
     pub(crate) fn new(alloc: A, settings: Settings) -> Result<Self, Error>
         ensures made { IfOk result (λ u. u ≡ empty_union settings.lg_k settings.starting_theta (seed_hash settings.seed) (record {})) }
+        ensures given { IfOk result (λ u. IsUnionOf settings.lg_k (2 ^ settings.lg_k) settings.starting_theta u []) }
+        ensures sampled { IfOk result (λ u. IsUnionOfSamples u []) }
         ensures refused { Refuses result (settings_refusal settings.lg_k settings.starting_theta settings.seed) true }
     {
         let state = UnionState::new(
@@ -59,7 +64,10 @@ impl<A: Allocator + Drop> ThetaUnion<A> {
 
     /// Makes it empty again, and ends a failure. It allocates nothing.
     pub fn reset(&mut self)
-        ensures { self.new ≡ empty_union self.old.lg_k self.old.start self.old.seed_hash self.old.policy }
+        ensures after { self.new ≡ empty_union self.old.lg_k self.old.start self.old.seed_hash self.old.policy }
+        ensures given { (lg_k k start : ℕ) (hashes : List ℕ) → IsUnionOf lg_k k start self.old hashes →
+            IsUnionOf lg_k k start self.new [] }
+        ensures sampled { IsUnionOfSamples self.new [] }
     {
         self.state.reset();
     }
@@ -76,6 +84,11 @@ impl<A: Allocator + Clone> ThetaUnion<A> {
         ensures joined { OnOk result (JoinsHashes self.old self.new (view_shows sketch.entry) (view_sequence sketch.entry)) }
         ensures made_with { OnOk result (self.new ≡ record self.old { empty = self.new.empty; content = self.new.content }) }
         ensures accepted { OnOk result (update_refusal self.old (view_shows sketch.entry) ≡ None) }
+        ensures given { OnOk result ((lg_k k start : ℕ) (hashes more : List ℕ) → IsUnionOf lg_k k start self.old hashes →
+            IsPartOf k start (view_value sketch.entry) more → IsUnionOf lg_k k start self.new (hashes ++ more)) }
+        ensures sampled { OnOk result ((hashes more : List ℕ) → IsUnionOfSamples self.old hashes → IsSampleOf (view_value sketch.entry) more →
+            IsUnionOfSamples self.new (hashes ++ more)) }
+        ensures err_given { IfErr result (λ e. e ≢ OutOfMemory → self.new ≡ self.old) }
         ensures refused { IfErr result (IsHashUpdateError self.old self.new (view_shows sketch.entry)) }
         ensures sound { IsUnion self.old }
         ensures content { IsRetained hash_key self.old.content }
@@ -105,6 +118,8 @@ impl<A: Allocator + Clone> ThetaUnion<A> {
             JoinsAllHashes self.old self.new (λ v. view_shows v) (λ v. view_sequence v) sketches.now) }
         ensures made_with { OnOk result (self.new ≡ record self.old { empty = self.new.empty; content = self.new.content }) }
         ensures accepted { OnOk result (update_all_refusal self.old (λ v. view_shows v) sketches.now ≡ None) }
+        ensures given { OnOk result ((lg_k k start : ℕ) (hashes : List ℕ) (streams : List (List ℕ)) → IsUnionOf lg_k k start self.old hashes →
+            ArePartsOf k start (map (λ v. view_value v) sketches.now) streams → IsUnionOf lg_k k start self.new (hashes ++ concat streams)) }
         ensures refused { IfErr result (IsHashUpdateAllError self.old self.new (λ v. view_shows v) sketches.now) }
         ensures sound { IsUnion self.old }
         ensures content { IsRetained hash_key self.old.content }
@@ -118,6 +133,15 @@ impl<A: Allocator + Clone> ThetaUnion<A> {
     /// with `OutOfMemory`.
     pub fn to_sketch(&self, ordered: bool) -> Result<CompactThetaSketch<A>, Error>
         ensures ok { IfOk result (IsAnswer hash_key (union_value hash_key self.now) self.now.seed_hash ordered) }
+        ensures part { IfOk result (λ s. (lg_k k start : ℕ) (hashes : List ℕ) → IsUnionOf lg_k k start self.now hashes →
+            IsPartOf k start (value_of s) hashes) }
+        ensures sample { IfOk result (λ s. (hashes : List ℕ) → IsUnionOfSamples self.now hashes → IsSampleOf (value_of s) hashes) }
+        ensures below { IfOk result (λ s. (hashes : List ℕ) → IsUnionOfSamples self.now hashes → ordered ≡ true →
+            s.entries ≡ set_below s.theta hashes) }
+        ensures least { IfOk result (λ s. (lg_k start : ℕ) (hashes : List ℕ) → IsUnionOf lg_k (2 ^ lg_k) start self.now hashes →
+            hashes ≢ [] → value_of s ≡ NonEmpty (kmin (2 ^ lg_k) (set_of hashes) start)) }
+        ensures kmin { IfOk result (λ s. (lg_k : ℕ) (hashes : List ℕ) → IsUnionOf lg_k (2 ^ lg_k) MAX_THETA self.now hashes →
+            ordered ≡ true → retained_of s ≡ kmin (2 ^ lg_k) (set_of hashes) MAX_THETA) }
         ensures refused { Refuses result (failure self.now.failed) (not self.now.failed) }
     {
         let state = self.state.to_compact_sketch_state(ordered)?;
@@ -134,6 +158,9 @@ impl<A: Allocator + Clone> ThetaUnion<A> {
         ensures after { OnOk result (self.new ≡ lowered hash_key lg_k self.old) }
         ensures value { OnOk result (union_value hash_key self.new ≡ cut_value hash_key (2 ^ lg_k) (union_value hash_key self.old)) }
         ensures err { OnErr result (self.new ≡ self.old) }
+        ensures given { OnOk result ((nominal k less start : ℕ) (hashes : List ℕ) → IsUnionOf nominal k start self.old hashes →
+            less ≤ k → less ≤ 2 ^ lg_k → IsUnionOf lg_k less start self.new hashes) }
+        ensures sampled { OnOk result ((hashes : List ℕ) → IsUnionOfSamples self.old hashes → IsUnionOfSamples self.new hashes) }
         ensures refused { Refuses result (lower_refusal self.old lg_k) (lower_allocates self.old lg_k) }
         ensures sound { IsUnion self.old }
         ensures content { IsRetained hash_key self.old.content }

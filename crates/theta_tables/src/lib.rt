@@ -5,11 +5,7 @@
 mod command;
 mod plain_table;
 mod run;
-#[cfg(test)]
-mod runs;
 mod table;
-#[cfg(test)]
-mod values;
 
 pub use command::{TableCommand, TableReply};
 pub use plain_table::PlainTable;

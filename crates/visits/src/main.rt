@@ -1,43 +1,44 @@
 //! Counts the visitors of two days.
 #![tactic(auto)]
 
+ghost use Rattle.std.specs.Prelude.{◌≡◌, ◌^◌, IfOk, OnOk};
+ghost use Rattle.theta_sketches.specs.Streams.{kmin, set_of, retained_of, MAX_THETA};
+ghost use Rattle.visits.specs.Visitors.{AddsDay, all_hashes};
+
+mod stopped;
+
+use crate::stopped::Stopped;
 use std::alloc::Global;
-use std::io;
-use theta_sketches::{Error, ErrorKind, ThetaSketchBuilder, ThetaUnion, ThetaUnionBuilder};
-
-/// Why the program ended early.
-#[derive(Debug, Drop)]
-enum Stopped {
-    Sketch(ErrorKind),
-    Io(io::Error),
-}
-
-impl From<Error> for Stopped {
-    fn from(error: Error) -> Stopped {
-        Stopped::Sketch(error.kind())
-    }
-}
-
-impl From<io::Error> for Stopped {
-    fn from(error: io::Error) -> Stopped {
-        Stopped::Io(error)
-    }
-}
+use theta_sketches::{
+    CompactThetaSketch, Error, ThetaSketchBuilder, ThetaUnion, ThetaUnionBuilder,
+};
 
 /// Adds the visitors of a day to a union.
-fn add_day(union: &mut ThetaUnion, alloc: Global, names: &[&str]) -> Result<(), Error> {
+fn add_day(union: &mut ThetaUnion, alloc: Global, names: &[&str]) -> Result<(), Error>
+    ensures { OnOk result (AddsDay union.old union.new names.now) }
+{
     let mut sketch = ThetaSketchBuilder::default().lg_k(14).build(alloc)?;
-    for name in names {
+    'names: for name in names {
         sketch.update(*name)?;
     }
-    union.update(sketch.as_view())
+    union.update(sketch.as_view())?;
+    Ok(())
+}
+
+/// The visitors of all days: the 2^14 least hashes of their names, and as theta the next.
+fn total(alloc: Global, days: &[&[&str]]) -> Result<CompactThetaSketch, Error>
+    ensures { IfOk result (λ s. retained_of s ≡ kmin (2 ^ 14) (set_of (all_hashes days.now)) MAX_THETA) }
+{
+    let mut union = ThetaUnionBuilder::default().lg_k(14).build(alloc)?;
+    'days: for names in days {
+        add_day(&mut union, alloc, *names)?;
+    }
+    union.to_sketch(true)
 }
 
 fn main(rt: HostRuntime) -> Result<(), Stopped> {
-    let mut both = ThetaUnionBuilder::default().lg_k(14).build(rt.alloc())?;
-    add_day(&mut both, rt.alloc(), &["ann", "bob", "ann"])?;
-    add_day(&mut both, rt.alloc(), &["bob", "cy"])?;
-    let total = both.to_sketch(true)?.estimate_decimal(2);
-    println!(rt; "{total} visitors")?;
+    let all = total(rt.alloc(), &[&["ann", "bob", "ann"], &["bob", "cy"]])?;
+    let visitors = all.estimate_decimal(2);
+    println!(rt; "{visitors} visitors")?;
     Ok(())
 }

@@ -1,0 +1,134 @@
+//! Makes the public calls that the lines of standard input name, and prints what each answers.
+//!
+//! A line names an object, its settings and its calls, in words; `tests/calls/README.md` has the language. Its calls are
+//! made plainly, or with each request for memory refused in turn. `checks/calls` compares the answers with those of a
+//! second implementation that shares no code with this project.
+#![tactic(auto)]
+
+mod answers;
+mod arguments;
+mod base;
+mod built_plans;
+mod bytes;
+mod commands;
+mod differences;
+mod driver;
+mod entries;
+mod estimating;
+mod hash_tables;
+mod hashing;
+mod image_object;
+mod intersection_states;
+mod keeping;
+mod layers;
+mod letters;
+mod object;
+mod operator_tables;
+mod pieces;
+mod plain_tables;
+mod plan_answers;
+mod plan_texts;
+mod plans;
+mod policies;
+mod ports;
+mod preambles;
+mod readings;
+mod running;
+mod runs;
+mod series;
+mod settings;
+mod shown;
+mod sketches;
+mod slices;
+mod state_calls;
+mod state_objects;
+mod state_operands;
+mod states;
+mod steps;
+mod summaries;
+mod table_iterators;
+mod tables;
+mod texts;
+mod theta_compact;
+mod theta_difference;
+mod theta_intersection;
+mod theta_operand;
+mod theta_sketch;
+mod theta_union;
+mod tuple_compact;
+mod tuple_difference;
+mod tuple_intersection;
+mod tuple_operand;
+mod tuple_sketch;
+mod tuple_tables;
+mod tuple_union;
+mod tuples;
+mod tuples_shown;
+mod union_states;
+mod unwritten;
+mod updatables;
+mod words;
+
+use crate::driver::Line;
+use crate::words::cut_word;
+use lines::cut_line;
+use std::alloc::{AllocError, Global};
+use std::io::{self, Read, Write};
+use std::str;
+
+/// The settings of a line and its calls: they end at the first colon that a blank or the end follows.
+fn cut_settings(text: &str) -> (&str, &str) {
+    match text.split_once(": ") {
+        Some(parts) => parts,
+        None => (text.strip_suffix(':').unwrap_or(text), ""),
+    }
+}
+
+/// Appends the answers to a line.
+fn put_answers(out: &mut String, alloc: Global, text: &str) -> Result<(), AllocError> {
+    let (refusing, text) = match text.strip_prefix("refusing ") {
+        Some(rest) => (true, rest),
+        None => (false, text),
+    };
+    let (front, calls) = cut_settings(text);
+    let (object, settings) = cut_word(front);
+    let line = Line {
+        refusing,
+        settings,
+        calls,
+    };
+    if sketches::answer(alloc, object, line, out)? || layers::answer(alloc, object, line, out)? {
+        return Ok(());
+    }
+    out.push_str("unknown")
+}
+
+/// Appends the answers to a line, and LF.
+fn put_line(out: &mut String, alloc: Global, line: &[u8]) -> Result<(), AllocError> {
+    match str::from_utf8(line) {
+        Ok(text) => put_answers(out, alloc, text)?,
+        Err(_) => out.push_str("unknown")?,
+    }
+    out.push('\n')
+}
+
+/// The answers to all lines of an input; bytes after the last LF have no answer.
+fn answers_to(alloc: Global, input: &[u8]) -> Result<String, AllocError> {
+    let mut out = String::new(alloc);
+    let mut rest = input;
+    for _ in 0..input.len() {
+        let Some((line, behind)) = cut_line(rest) else {
+            break;
+        };
+        put_line(&mut out, alloc, line)?;
+        rest = behind;
+    }
+    Ok(out)
+}
+
+fn main(rt: HostRuntime) -> io::Result<()> {
+    let mut input = Vec::new(rt.alloc());
+    rt.stdin().read_to_end(&mut input)?;
+    let text = answers_to(rt.alloc(), &input)?;
+    rt.stdout().write_all(text.as_bytes())
+}
