@@ -5,6 +5,8 @@
 
 ghost use Rattle.std.specs.Prelude.{◌≢◌};
 ghost use Rattle.sketch_base.specs.Seed.{seed_hash};
+ghost use Rattle.distinct_arguments.specs.Faults.{request_action};
+ghost use Rattle.distinct_commands.specs.Operands.{SuitsAction};
 
 mod hints;
 mod output;
@@ -15,7 +17,7 @@ mod tests;
 use crate::hints::Hint;
 use crate::progress::Progress;
 use distinct_arguments::{Command, Fault, Options, Request, Seed, read_arguments};
-use distinct_commands::{expression_in, group_files, perform};
+use distinct_commands::{Operands, group_files, only_expression, perform};
 use distinct_inputs::{Failure, Files, Inputs, files_in_list, seed_of};
 use lines::Key;
 use sketch_base::DEFAULT_UPDATE_SEED;
@@ -79,38 +81,31 @@ fn run(rt: &HostRuntime) -> Result<(), Failure> {
     let words: Vec<String> = args.skip(1).collect(rt.alloc())?;
     let request = read_arguments(words.as_slice())?;
     match request {
-        Request::Print(_) => run_request(rt, request, DEFAULT_UPDATE_SEED, &[], &[]),
-        Request::Run(Command::Eval, options, files) => run_eval(rt, request, &options, files),
+        Request::Print(_) => run_request(rt, request, DEFAULT_UPDATE_SEED, Operands::Files(&[])),
+        Request::Run(Command::Eval, options, words) => run_eval(rt, options, words),
         Request::Run(command, options, files) => {
             check_terminal(rt, command, &options)?;
             let seed = seed_of(rt, &options)?;
             match options.list {
                 Some(list) => {
                     let names = files_in_list(rt, list)?;
-                    run_request(rt, request, seed, names.as_slice(), names.as_slice())
+                    run_request(rt, request, seed, Operands::Files(names.as_slice()))
                 }
-                None => run_request(rt, request, seed, files, files),
+                None => run_request(rt, request, seed, Operands::Files(files)),
             }
         }
     }
 }
 
-/// Evaluates an expression over the files that it names. It is read before any file is opened.
-fn run_eval(
-    rt: &HostRuntime,
-    request: Request<'_>,
-    options: &Options<'_>,
-    files: &[String],
-) -> Result<(), Failure> {
-    let [text] = files else {
-        return Err(Failure::Arguments(Fault::NotOneExpression));
-    };
-    let expression = expression_in(rt.alloc(), text.as_str())?;
+/// Evaluates the expression that is the only word, over the files that it names. It is read once, before any file is opened.
+fn run_eval(rt: &HostRuntime, options: Options<'_>, words: &[String]) -> Result<(), Failure> {
+    let expression = only_expression(rt.alloc(), words)?;
     if options.seed == Seed::File("-") && has_standard(expression.names.as_slice()) {
         return Err(Failure::Arguments(Fault::StandardTwice));
     }
-    let seed = seed_of(rt, options)?;
-    run_request(rt, request, seed, files, expression.names.as_slice())
+    let seed = seed_of(rt, &options)?;
+    let request = Request::Run(Command::Eval, options, words);
+    run_request(rt, request, seed, Operands::Expression(&expression))
 }
 
 /// Whether a name means standard input.
@@ -158,17 +153,18 @@ fn check_terminal(
     }
 }
 
-/// Does what a request says, under this seed, on files of these names, of which it opens `opened`. The answer goes to
+/// Does what a request says, under this seed, on what it is given, of which it opens the files. The answer goes to
 /// standard output, or to the file that `--output` names, which is created once the whole answer is made.
 fn run_request(
     rt: &HostRuntime,
     request: Request<'_>,
     seed: u64,
-    files: &[String],
-    opened: &[String],
+    operands: Operands<'_>,
 ) -> Result<(), Failure>
     requires seeded { seed_hash seed ≢ 0 }
+    requires suits { SuitsAction (request_action request) operands }
 {
+    let opened = operands.names();
     if let Request::Run(Command::Sketch, options, _) = request {
         if let (Some(folder), Some(by)) = (options.folder, options.group()) {
             return run_folder(rt, &options, seed, by, folder, opened);
@@ -191,11 +187,11 @@ fn run_request(
     match output {
         None => {
             let mut out = rt.stdout();
-            perform(alloc, request, seed, files, sources, watched, &mut out)
+            perform(alloc, request, seed, operands, sources, watched, &mut out)
         }
         Some(name) => {
             let mut bytes = Vec::new(alloc);
-            perform(alloc, request, seed, files, sources, watched, &mut bytes)?;
+            perform(alloc, request, seed, operands, sources, watched, &mut bytes)?;
             output::put_file(rt, name, bytes.as_slice())
         }
     }

@@ -1,8 +1,10 @@
 //! The texts of `--help` and `--version`.
+ghost use Rattle.std.specs.Prelude.{◌≡◌};
+ghost use Rattle.distinct_arguments.specs.Texts.{text_of};
 
 use crate::commands::{Command, Operator, Topic};
 
-const VERSION: &str = "distinct 0.1.0\n";
+const VERSION: &str = "distinct 0.2.0\n";
 
 const HELP: &str = "\
 distinct: counts distinct lines approximately, in little memory
@@ -199,7 +201,9 @@ with the exact sum of its numbers
 ";
 
 /// The text on a topic.
-pub fn text_of(topic: Topic) -> &'static str {
+pub fn text_of(topic: Topic) -> &'static str
+    ensures { result.now ≡ text_of topic }
+{
     match topic {
         Topic::Program => HELP,
         Topic::Version => VERSION,

@@ -1,7 +1,7 @@
 -- Lines of texts sketched one after another, and the result of an expression.
-use Rattle.std.proofs.Common.{◌≡◌, ℕ, Bool, true, List, [], ◌∷◌, ◌++◌, length, map, Option, String, string_bytes, Some, None, refl, sym, ap, subst, ◌∙◌, append_assoc, ◌≤◌, ◌<◌, arith}
+use Rattle.std.proofs.Common.{◌≡◌, ℕ, true, List, [], ◌∷◌, ◌++◌, length, map, Option, String, string_bytes, Some, None, refl, sym, ap, subst, ◌∙◌, append_assoc}
 use Rattle.std.proofs.lemmas.List.{length-map}
-use Rattle.std.specs.Prelude.{IfSome, IfOk, Result, Ok, Err, get_or}
+use Rattle.std.specs.Prelude.{IfSome, IfOk, Result, Ok, Err}
 use Rattle.sketch_base.specs.Seed.{seed_hash}
 use Rattle.core_compact.specs.CompactState.{Compact, ordered_sketch}
 use Rattle.line_sketches.specs.Sources.{GivesNext, Continues}
@@ -17,23 +17,13 @@ use Rattle.distinct_arguments.specs.Settings.{OptionValues}
 use Rattle.distinct_commands.proofs.WholeStreams.{whole_result}
 use Rattle.distinct_inputs.specs.Lists.{names_of}
 use Rattle.distinct_inputs.specs.Failures.{chosen_hashing}
-use Rattle.distinct_commands.specs.Eval.{sketch_of_text, SketchesFirst, SketchesNext, AreSketchesOfTexts, AreOperands, IsEvaluated, IsEvaluatedBy, IsEvaluatedOf, evaluated_text}
+use Rattle.distinct_commands.specs.Eval.{sketch_of_text, SketchesFirst, SketchesNext, AreSketchesOfTexts, AreOperands, IsEvaluated, evaluated_text}
 use Rattle.distinct_commands.specs.EvalSums.{IsSumsEvaluated, evaluated_sums_text}
 use Rattle.distinct_inputs.specs.Images.{images_of}
 
 mapped-more : {X Y : Type 0} (f : X → Y) (xs : List X) (x : X) → map f (xs ++ x ∷ []) ≡ map f xs ++ f x ∷ []
 mapped-more f [] x = refl
 mapped-more f (y ∷ ys) x = ap (λ zs. f y ∷ zs) (mapped-more f ys x)
-
--- a list of one
-only_one : {T : Type 0} (xs : List T) (x : T) → 1 ≤ length xs → length xs < 2 → x ≡ get_or xs 0 x → xs ≡ x ∷ []
-only_one [] x some limited is = absurd (omega arith)
-only_one (y ∷ []) x some limited is = ap (λ z. z ∷ []) (sym is)
-only_one (y ∷ z ∷ ys) x some limited is = absurd (omega arith)
-
--- .. and its name
-pub only_named : {A : Type 0} (files : List (String A)) (file : String A) (text : List ℕ) → 1 ≤ length files → length files < 2 → file ≡ get_or files 0 file → text ≡ string_bytes file → names_of files ≡ text ∷ []
-only_named files file text some limited is text_is = ap (map (λ name. string_bytes name)) (only_one files file some limited is) ∙ ap (λ t. t ∷ []) (sym text_is)
 
 module _ (options : OptionValues) (seed : ℕ) where
   sketched-more : (texts : List (List ℕ)) (sketches : List (Compact ℕ)) (text : List ℕ) (s : Compact ℕ) → AreSketchesOfTexts options seed texts sketches → s ≡ sketch_of_text options seed text → AreSketchesOfTexts options seed (texts ++ text ∷ []) (sketches ++ s ∷ [])
@@ -100,10 +90,3 @@ module _ (options : OptionValues) (seed : ℕ) where
     result = put ∙ ap (evaluated_sums_text options) value;
     whole = λ wholes samples. expression_sample sum_rules (λ x y same. same) options.lg_k (sums_values sketches) wholes spelled.tree samples;
   }
-
-  -- the result of the only expression
-  pub only_evaluated : {V E : Type 0} (r : Result V E) (items : V → List ℕ) (known : Option (List (List ℕ))) (expressions : List (List ℕ)) (text : List ℕ) (sums : Bool) → expressions ≡ text ∷ [] → options.sums ≡ sums →
-      IfSome known (λ texts. IfOk r (λ v. IsEvaluatedBy sums options seed text texts (items v))) → IfSome known (λ texts. IfOk r (λ v. IsEvaluatedOf options seed expressions texts (items v)))
-  only_evaluated r items known expressions text sums only is holds =
-      subst (λ (es : List (List ℕ)). IfSome known (λ texts. IfOk r (λ v. IsEvaluatedOf options seed es texts (items v)))) (sym only)
-      (subst (λ (b : Bool). IfSome known (λ texts. IfOk r (λ v. IsEvaluatedBy b options seed text texts (items v)))) (sym is) holds)

@@ -1,5 +1,5 @@
 -- Failures of a part of a command are failures of the command.
-use Rattle.std.proofs.Common.{◌≡◌, ℕ, Bool, true, false, List, Option, sym, subst, ◌∙◌}
+use Rattle.std.proofs.Common.{◌≡◌, ℕ, Bool, false, List, Option, sym, subst}
 use Rattle.std.specs.Prelude.{IfErr, IfSome, Result, Ok, Err}
 use Rattle.sketch_base.specs.declared.error.ErrorKind.{ErrorKind}
 use Rattle.grouped_lines.specs.United.{HasFirstFlawed, IsUnunited}
@@ -9,7 +9,8 @@ use Rattle.grouped_lines.specs.declared.uniting.Ununited.TheVariants.{Flawed}
 use Rattle.distinct_arguments.specs.Settings.{OptionValues}
 use Rattle.distinct_arguments.specs.declared.commands.Operator.{Operator}
 use Rattle.distinct_arguments.specs.declared.commands.Operator.TheVariants.{Union}
-use Rattle.distinct_inputs.specs.Failures.{images_in, unites_sums, IsOfImages, IsOfEitherUnion, IsOfCombining, IsOfOperands, IsOfEvaluation, OrUnnamed}
+use Rattle.distinct_inputs.specs.Failures.{images_in, unites_sums, IsOfImages, IsOfEitherUnion, IsOfCombining}
+use Rattle.distinct_commands.specs.Failing.{OrUnnamed}
 use Rattle.distinct_inputs.specs.declared.failure.Failure.{Failure}
 use Rattle.distinct_inputs.specs.declared.failure.Failure.TheVariants.{NotText, Arguments, NoFiles, NotTwo, NoExpression, NoName, NoNul, NoSeed, Terminal, WrongCount, NotOneEach, Memory, Unreadable, NoSketch, NoSums, NoHex, NoTab, NoLine, PastGreatest, PastUnion, PastResult, NotANumber, NotWritten}
 
@@ -74,38 +75,6 @@ pub not_united : {V : Type 0} (r : Result V Failure) (operator : Operator) (opti
     IfErr r (IsOfEitherUnion options seed (images_in options.sums options texts)) → IfErr r (IsOfCombining operator options seed count texts)
 not_united (Ok v) operator options seed count texts is failed = tt
 not_united (Err f) operator options seed count texts is failed = subst (λ (o : Operator). IsOfCombining o options seed count texts f) (sym is) (union_combining options seed count texts f failed)
-
--- the operands of an expression
-operands_evaluating : (count : ℕ) (sums hex : Bool) (seed : ℕ) (images : Option (List (List ℕ))) (f : Failure) → IsOfOperands sums hex seed images f → IsOfEvaluation count sums hex seed images f
-operands_evaluating count sums hex seed images (NotText number text) failed = absurd failed
-operands_evaluating count sums hex seed images (Arguments fault) failed = absurd failed
-operands_evaluating count sums hex seed images NoFiles failed = absurd failed
-operands_evaluating count sums hex seed images NotTwo failed = absurd failed
-operands_evaluating count sums hex seed images (NoExpression text fault) failed = absurd failed
-operands_evaluating count sums hex seed images Terminal failed = absurd failed
-operands_evaluating count sums hex seed images (WrongCount found expected) failed = absurd failed
-operands_evaluating count sums hex seed images (NotOneEach found expected) failed = failed
-operands_evaluating count sums hex seed images (NoSeed name) failed = absurd failed
-operands_evaluating count sums hex seed images (NoName name number) failed = absurd failed
-operands_evaluating count sums hex seed images (NoNul name) failed = absurd failed
-operands_evaluating count sums hex seed images Memory failed = failed
-operands_evaluating count sums hex seed images (Unreadable name error) failed = failed
-operands_evaluating count sums hex seed images (NoSketch name line flaw) failed = failed
-operands_evaluating count sums hex seed images (NoSums name line flaw) failed = failed
-operands_evaluating count sums hex seed images (NoHex name line) failed = failed
-operands_evaluating count sums hex seed images (NoTab name line) failed = absurd failed
-operands_evaluating count sums hex seed images (NoLine name) failed = failed
-operands_evaluating count sums hex seed images (PastGreatest name line) failed = absurd failed
-operands_evaluating count sums hex seed images (PastUnion name line) failed = absurd failed
-operands_evaluating count sums hex seed images (PastResult text) failed = failed
-operands_evaluating count sums hex seed images (NotANumber name line) failed = absurd failed
-operands_evaluating count sums hex seed images (NotWritten name error) failed = absurd failed
-
-pub not_evaluated : {V : Type 0} (r : Result V Failure) (count : ℕ) (options : OptionValues) (sums : Bool) (seed : ℕ) (texts : Option (List (List ℕ))) → options.sums ≡ sums →
-    IfErr r (IsOfOperands sums options.hex seed (images_in sums options texts)) → IfErr r (IsOfEvaluation count options.sums options.hex seed (images_in options.sums options texts))
-not_evaluated (Ok v) count options sums seed texts is failed = tt
-not_evaluated (Err f) count options sums seed texts is failed =
-    subst (λ (b : Bool). IsOfEvaluation count b options.hex seed (images_in b options texts) f) (sym is) (operands_evaluating count sums options.hex seed (images_in sums options texts) f failed)
 
 -- a command to which an image is named
 named : (IsUnnamed : Type 0) (IsOther : Failure → Type 0) (f : Failure) → (IsOther NoFiles → ⊥) → IsOther f → OrUnnamed IsUnnamed IsOther f

@@ -1,5 +1,5 @@
 -- Images read one after another.
-use Rattle.std.proofs.Common.{◌≡◌, ℕ, suc, Bool, true, false, List, [], ◌∷◌, ◌++◌, length, map, Option, Some, None, refl, sym, ap, subst, ◌∙◌, append_assoc, append-nil, arith, inl, inr}
+use Rattle.std.proofs.Common.{◌≡◌, ℕ, suc, Bool, true, false, List, [], ◌∷◌, ◌++◌, length, map, Option, Some, None, refl, sym, ap, subst, ◌∙◌, append_assoc, append-nil, inl, inr}
 use Rattle.std.specs.Prelude.{◌≢◌, ◌⊎◌, IfSome, IfOk, Result, Ok, Err}
 use Rattle.std.specs.Option.{option_map}
 use Rattle.sketch_base.specs.Seed.{seed_hash}
@@ -11,7 +11,7 @@ use Rattle.line_sketches.specs.Sources.{Continues, GivesNext}
 use Rattle.line_sketches.proofs.Refused.{faulty_next}
 use Rattle.line_sketches.specs.Shards.{AreRead}
 use Rattle.distinct_commands.specs.Answers.{AreShownByName, AreShown, IsExpected, IsIntersectionImage, intersection_of}
-use Rattle.distinct_inputs.specs.Failures.{called, IsOfImages}
+use Rattle.distinct_inputs.specs.Failures.{called, AreCounted, IsOfImages}
 use Rattle.distinct_inputs.specs.declared.failure.Failure.{Failure}
 use Rattle.distinct_inputs.specs.declared.failure.Failure.TheVariants.{NotText, Arguments, NoFiles, NotTwo, NoExpression, NoName, NoNul, NoSeed, Terminal, WrongCount, NotOneEach, Memory, Unreadable, NoSketch, NoSums, NoHex, NoTab, NoLine, PastGreatest, PastUnion, PastResult, NotANumber, NotWritten}
 use Rattle.distinct_inputs.specs.declared.images.Images.{Images}
@@ -134,6 +134,11 @@ module _ (seed : ℕ) where
   pub not_two : (known : Option (List (List ℕ))) (sketches : List (Compact ℕ)) → IfSome known (λ all. AreRead seed all sketches) → length sketches ≢ 2 → IfSome known (λ all. length all ≢ 2)
   not_two None sketches read other = tt
   not_two (Some all) sketches read other = λ two. other (sym (read_count all sketches read) ∙ two)
+
+  -- there are as many sketches as images
+  pub count_read : (known : Option (List (List ℕ))) (sketches : List (Compact ℕ)) (found : ℕ) → IfSome known (λ all. AreRead seed all sketches) → found ≡ length sketches → AreCounted found known
+  count_read None sketches found read is = tt
+  count_read (Some all) sketches found read is = is ∙ sym (read_count all sketches read)
 
   -- ---- the image of an intersection
 

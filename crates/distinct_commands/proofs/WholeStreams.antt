@@ -75,3 +75,9 @@ pub merge_alone : (refusal : Option ErrorKind) (may : Type 0) (e : ErrorKind) �
 merge_alone refusal may e none (inl is) = let both : None ≡ Some e = sym none ∙ is in absurd (cc)
 merge_alone refusal may e none (inr (inl memory)) = inl memory
 merge_alone refusal may e none (inr (inr policy)) = inr policy.0
+
+-- .. and by a merge only if one may be refused
+pub merge_refused : (refusal : Option ErrorKind) (may : Type 0) (e : ErrorKind) → refusal ≡ None → IsEvaluationError refusal may e → e ≡ Policy → may
+merge_refused refusal may e none (inl is) policy = let both : None ≡ Some e = sym none ∙ is in absurd (cc)
+merge_refused refusal may e none (inr (inl memory)) policy = let both : OutOfMemory ≡ Policy = sym memory ∙ policy in absurd (cc)
+merge_refused refusal may e none (inr (inr refused)) policy = refused.1

@@ -1,5 +1,5 @@
 -- What a command writes, by the texts of its files.
-use Rattle.std.specs.Prelude.{ℕ, ◌≡◌, ◌++◌, Bool, true, false, List, [], ◌∷◌, length, map, Option, Some, None, IfSome, String, Vec, string_bytes}
+use Rattle.std.specs.Prelude.{ℕ, ◌≡◌, ◌++◌, Bool, true, false, List, [], ◌∷◌, length, Option, Some, None, IfSome}
 use Rattle.std.specs.Io.KnownBytes.{Appends}
 use Rattle.core_compact.specs.CompactState.{Compact, compact_value}
 use Rattle.core_laws.specs.Entries.{hash_key, first_hash}
@@ -15,6 +15,7 @@ use Rattle.line_sums.specs.declared.addends.Amount.{Amount}
 use Rattle.distinct_arguments.specs.Settings.{OptionValues, chosen_group, chosen_value}
 use Rattle.grouped_lines.specs.United.{IsUnitedText}
 use Rattle.distinct_arguments.specs.Arguments.{Action, prints, runs, fails}
+use Rattle.distinct_arguments.specs.Texts.{text_of}
 use Rattle.distinct_inputs.specs.Failures.{called, chosen_amount, chosen_hashing, unites_groups, unites_sums}
 use Rattle.distinct_commands.specs.Eval.{IsEvaluatedOf}
 use Rattle.distinct_inputs.specs.Images.{images_of, in_form}
@@ -141,8 +142,9 @@ abbrev pub WritesAnswer : Command → OptionValues → (seed : ℕ) → (names t
 WritesAnswer command options seed names texts old new =
     (out : List ℕ) × IsCommandAnswer command options seed names texts out × Appends old new out
 
--- the program did what its arguments say: it printed a text, or ran a command under this seed on files of these names and texts
+-- the program did what its arguments say: it printed the text on a topic and nothing else, or ran a command under this seed on
+-- files of these names and texts
 abbrev pub Performs : Action → (seed : ℕ) → (names texts : List (List ℕ)) → (old new : Option (List ℕ)) → Type 0
-Performs (prints topic) seed names texts old new = (text : List ℕ) × Appends old new text
+Performs (prints topic) seed names texts old new = Appends old new (text_of topic)
 Performs (runs command options files) seed names texts old new = WritesAnswer command options seed names texts old new
 Performs (fails fault) seed names texts old new = ⊥

@@ -55,8 +55,8 @@ AreWholeSets false options seed texts sketches sets = AreSamples hash_key (value
 abbrev pub evaluated_text : OptionValues → (expression : List ℕ) → Compact ℕ → List ℕ
 evaluated_text options expression s = if is_some options.output then in_form options.hex (written s) else head_of options.form ++ shown_text options expression s
 
--- The result of an expression over the sketches of texts, one for each of its names. It retains exactly the hashes of
--- the expression of the whole streams that are below its theta.
+-- The result of an expression over the sketches of texts, one for each of its names, in the order in which it first has
+-- them. It retains exactly the hashes of the expression of the whole streams that are below its theta.
 pub record IsEvaluated (options : OptionValues) (seed : ℕ) (expression : List ℕ) (texts : List (List ℕ)) (out : List ℕ) : Type 0 where
   pub names : List (List ℕ)
   pub steps : List Step

@@ -18,8 +18,9 @@ use Rattle.distinct_commands.specs.Sums.{total_text}
 abbrev pub evaluated_sums_text : OptionValues → Compact (TupleEntry ℕ) → List ℕ
 evaluated_sums_text options s = if is_some options.output then in_form options.hex (written_sums s) else total_text options.form s
 
--- The result of an expression over the sketches of sums in files, one for each of its names. It retains exactly the
--- keys of the expression of the whole streams that are below its theta, with their sums.
+-- The result of an expression over the sketches of sums in files, one for each of its names, in the order in which it
+-- first has them. It retains exactly the keys of the expression of the whole streams that are below its theta, with
+-- their sums.
 pub record IsSumsEvaluated (options : OptionValues) (seed : ℕ) (expression : List ℕ) (texts : List (List ℕ)) (out : List ℕ) : Type 0 where
   pub names : List (List ℕ)
   pub steps : List Step

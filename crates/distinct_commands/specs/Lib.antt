@@ -5,3 +5,5 @@ pub mod Visits
 pub mod Sums
 pub mod Groups
 pub mod Answers
+pub mod Operands
+pub mod Failing

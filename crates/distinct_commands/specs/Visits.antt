@@ -50,7 +50,8 @@ abbrev pub bins_text : OptionValues → Compact (TupleEntry ℕ) → (most count
 bins_text options s most zero = []
 bins_text options s most (suc bin) = bins_text options s most bin ++ bin_up_to options s most bin
 
--- what `visits` prints of a sketch of sums
+-- What `visits` prints of a sketch of sums. Each sum from 1 to 2^64 - 1 is in exactly one bin below `BINS` (IsInOneBin), by a law
+-- of line_sums.
 unfoldable pub visits_text : OptionValues → Compact (TupleEntry ℕ) → List ℕ
 visits_text options s = ranges_head options.form ++ bins_text options s (greatest (sums_in s)) BINS
 

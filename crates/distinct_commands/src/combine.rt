@@ -1,14 +1,16 @@
 //! What `union`, `meet` and `minus` write.
-ghost use Rattle.std.specs.Prelude.{◌≡◌, ◌≢◌, ◌≤◌, ◌⊎◌, ℕ, List, [], ◌∷◌, length, Option, None, IfOk, IfErr, IfSome, IfNone, OnOk, true, false};
+ghost use Rattle.std.specs.Prelude.{◌≡◌, ◌≢◌, ◌≤◌, ◌⊎◌, ℕ, List, [], ◌∷◌, length, Option, None, IfOk, IfErr, IfSome, IfNone, OnOk, true, false, Bool};
 ghost use Rattle.sketch_base.specs.Seed.{seed_hash};
 ghost use Rattle.sketch_base.specs.declared.error.ErrorKind.TheVariants.{OutOfMemory, InvalidData, Policy};
 ghost use Rattle.theta_sketches.specs.Image.{written};
 ghost use Rattle.line_sketches.specs.Shards.{AreRead};
 ghost use Rattle.distinct_arguments.specs.Faults.{options_of};
+ghost use Rattle.distinct_arguments.specs.Settings.{OptionValues};
+ghost use Rattle.distinct_arguments.specs.declared.commands.Operator.{Operator};
 ghost use Rattle.distinct_commands.specs.Answers.{intersection_of, difference_of, IsCombinedOf, IsExpected, IsUnionOf};
 ghost use Rattle.distinct_inputs.specs.Images.{remaining_images, HasNoSketch, ReadsNext};
-ghost use Rattle.distinct_inputs.specs.Failures.{images_in, IsOfImages, IsOfCombining, IsOfCount, IsOfEitherUnion, IsOfUniting};
-ghost use Rattle.distinct_inputs.specs.Failures.{ReportsNoSketch, ReportsPastUnion};
+ghost use Rattle.distinct_inputs.specs.Failures.{images_in, unites_sums, AreCounted, IsOfImages, IsOfCombining, IsOfEitherUnion, IsOfUniting};
+ghost use Rattle.distinct_inputs.specs.Failures.{ReportsNoSketch, ReportsPastUnion, UnreadableIf};
 ghost use Rattle.distinct_arguments.specs.declared.commands.Operator.TheVariants.{Union};
 ghost use Rattle.distinct_inputs.specs.Seeds.{AreSeeded};
 ghost use Rattle.distinct_inputs.specs.declared.failure.Failure.TheVariants as failure;
@@ -33,6 +35,7 @@ pub fn refused<S: Sources>(images: &Images<'_, S>, sums: bool, hex: bool, error:
     ensures of_images { (seed : ℕ) (all : Option (List (List ℕ)))
         → (error ≡ InvalidData → HasNoSketch sums seed all)
         → IsOfImages sums hex seed all result }
+    ensures fallible { (may_fail : Bool) → UnreadableIf may_fail result }
 {
     if error.kind() == ErrorKind::InvalidData {
         images.no_sketch(sums, hex)
@@ -54,6 +57,7 @@ pub fn next_sketch<S: Sources>(
         (remaining_images S.Source.remaining S.texts images.old)
         (remaining_images S.Source.remaining S.texts images.new)) }
     ensures failed { IfErr result (IsOfImages false hex seed (remaining_images S.Source.remaining S.texts images.old)) }
+    ensures fallible { IfErr result (UnreadableIf S.may_fail) }
 {
     match images.next_image() {
         Ok(Some(image)) => match read_image(alloc, seed, image.as_slice()) {
@@ -68,7 +72,15 @@ pub fn next_sketch<S: Sources>(
 /// Fails if a number of images is expected, and another was found.
 fn check_count(expected: Option<u64>, found: u64) -> Result<(), Failure>
     ensures counted { OnOk result (IsExpected expected found) }
-    ensures failed { IfErr result (IsOfCount expected found) }
+    ensures of_union { (options : OptionValues) (seed : ℕ) (images : Option (List (List ℕ)))
+        → options.expected ≡ expected
+        → AreCounted found images
+        → IfErr result (IsOfEitherUnion options seed images) }
+    ensures of_operator { (operator : Operator) (options : OptionValues) (seed count : ℕ) (texts : Option (List (List ℕ)))
+        → options.expected ≡ expected
+        → AreCounted found (images_in (unites_sums operator options) options texts)
+        → IfErr result (IsOfCombining operator options seed count texts) }
+    ensures fallible { (may_fail : Bool) → IfErr result (UnreadableIf may_fail) }
 {
     match expected {
         Some(number) if number != found => Err(Failure::WrongCount(found, number)),
@@ -127,6 +139,7 @@ pub fn not_added<S: Sources>(images: &Images<'_, S>, options: &Options<'_>, erro
         → (error ≡ Policy → options.now.sums ≡ true)
         → (error ≡ InvalidData → HasNoSketch options.now.sums seed all)
         → IsOfEitherUnion (options_of options.now) seed all result }
+    ensures fallible { (may_fail : Bool) → UnreadableIf may_fail result }
 {
     match error.kind() {
         ErrorKind::Policy => images.past_union(),
@@ -148,6 +161,7 @@ impl<'a, S: Sources + Drop> Job<'a, S> {
             IfOk result (λ v. IsCombinedOf operator (options_of self.entry.options.now) self.entry.seed texts v.items)) }
         ensures failed { IfErr result (
             IsOfCombining operator (options_of self.entry.options.now) self.entry.seed count (S.texts self.entry.inputs.sources)) }
+        ensures fallible { IfErr result (UnreadableIf S.may_fail) }
     {
         let (alloc, options, seed) = (self.alloc, self.options, self.seed);
         match operator {
@@ -180,6 +194,7 @@ impl<'a, S: Sources + Drop> Job<'a, S> {
         ensures failed { IfErr result (
             IsOfEitherUnion (options_of self.entry.options.now) self.entry.seed
             (images_in self.entry.options.now.sums (options_of self.entry.options.now) (S.texts self.entry.inputs.sources))) }
+        ensures fallible { IfErr result (UnreadableIf S.may_fail) }
     {
         let (alloc, options, seed) = (self.alloc, self.options, self.seed);
         let mut images = Images::of(alloc, self.inputs, options.sums, options.hex, seed);
@@ -260,6 +275,7 @@ pub fn all_sketches<S: Sources>(
     ensures read { IfSome (remaining_images S.Source.remaining S.texts images.old) (λ all.
         IfOk result (λ v. AreRead seed all v.items)) }
     ensures failed { IfErr result (IsOfImages false hex seed (remaining_images S.Source.remaining S.texts images.old)) }
+    ensures fallible { IfErr result (UnreadableIf S.may_fail) }
 {
     let mut sketches = Vec::new(alloc);
     for _ in 0..u64::MAX {

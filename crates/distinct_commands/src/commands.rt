@@ -1,5 +1,6 @@
 //! What each command writes, over any sources and any writer.
 ghost use Rattle.std.specs.Prelude.{◌≡◌, ◌≢◌, ℕ, OnOk, IfOk, IfErr, IfSome, length};
+ghost use Rattle.distinct_arguments.specs.declared.commands.Command.TheVariants.{Eval};
 ghost use Rattle.sketch_base.specs.Seed.{seed_hash};
 ghost use Rattle.theta_sketches.specs.Image.{written};
 ghost use Rattle.distinct_arguments.specs.Faults.{options_of, request_action};
@@ -7,15 +8,18 @@ ghost use Rattle.distinct_arguments.specs.Settings.{chosen_group};
 ghost use Rattle.distinct_commands.specs.Answers.{sketch_of, lines_text, IsLinesText, IsSketchText, IsCommandAnswer, WritesAnswer, Performs};
 ghost use Rattle.distinct_inputs.specs.Lists.{names_of};
 ghost use Rattle.distinct_inputs.specs.Images.{in_form};
-ghost use Rattle.distinct_inputs.specs.Failures.{chosen_amount, IsOfReading, IsOfSketch, IsOfCommand, IsOfAnswer, IsOfRequest, IsUnwritten};
+ghost use Rattle.distinct_commands.specs.Failing.{IsOfCommand, IsOfOperands, IsOfAnswer, IsOfRequest};
+ghost use Rattle.distinct_commands.specs.Operands.{words_in, Suits, SuitsAction};
+ghost use Rattle.distinct_inputs.specs.Failures.{chosen_amount, IsOfReading, IsOfSketch, IsUnwritten, UnreadableIf};
 ghost use Rattle.distinct_inputs.specs.declared.failure.Failure.TheVariants as failure;
 
+use crate::expression::Operands;
 use crate::groups::GroupPrinter;
 use crate::job::Job;
 use crate::show::count_text;
 use crate::sums::chosen_amount;
 use crate::united::unites_groups;
-use distinct_arguments::{Command, Options, Request, text_of};
+use distinct_arguments::{Command, Fault, Options, Request, text_of};
 use distinct_inputs::{Console, Failure, Inputs, out_of_memory, put};
 use line_sketches::{Sources, Unread, hex_line, image_of, sketch_sources};
 use lines::Hashing;
@@ -26,24 +30,24 @@ use theta_sketches::CompactThetaSketch;
 /// The name of standard output in messages.
 const STANDARD_OUTPUT: &str = "standard output";
 
-/// Runs a command under a seed on the files that `sources` opens, under these names, and writes its whole answer and
-/// nothing else. For `eval` the only name is the expression. Only if the writer fails may a part of the answer have
-/// been written.
+/// Runs a command under a seed on what it is given, of which `sources` opens the files, and writes its whole answer and
+/// nothing else. Only if the writer fails may a part of the answer have been written.
 ///
-/// Any command may fail with `Memory`, with `Unreadable`, and with `NotWritten` for standard output. Each other failure
-/// has its commands:
+/// Any command may fail with `Memory`, with `Unreadable` if its sources may fail, and with `NotWritten` for standard output.
+/// Each other failure has its commands:
 ///
 /// - `NoSketch`, `NoSums`, `NoHex` and `NoLine`: commands that read images; `NoSums` if these are of sums, `NoSketch` if
 ///   not, `NoHex` and `NoLine` with `--hex`. If contracts know the files' bytes, only if some image is none of the seed:
-///   a line that isn't hexadecimal, a file without a line, and an image that something follows count as none. (The
-///   clause allows them to `eval --keys` too, as if its texts were images);
+///   a line that isn't hexadecimal, a file without a line, and an image that something follows count as none;
 /// - `NoTab`, `NoHex` and `NoSketch` with `--groups`: for the first line of a file that has a flaw;
 /// - `NoFiles`: commands that read images, if no file is named;
 /// - `WrongCount`: commands that combine images, if `--expect` names another number than the failure reports to have
-///   been found;
+///   been found, which is, if contracts know the files' bytes, the number of the images;
 /// - `NotTwo`: `minus`. If contracts know the files' bytes, only if the named files aren't two (without `--hex`) or
 ///   their images aren't two;
-/// - `NoName`, `NotOneEach`, `NoExpression`, `NotOneExpression` and `PastResult`: `eval`;
+/// - `NotOneEach`: `eval`;
+/// - `PastResult`: `eval --sums`. If contracts know the files' bytes, only if in some step of the expression two operands
+///   of a union or an intersection have a key whose sums are 2^64 or more together;
 /// - `PastUnion`: commands on images of sums, if the sum of a key is 2^64 or more, which no clause says;
 /// - `LoneSum`: `sum`, if its options have no field of numbers;
 /// - `NotANumber` and `PastGreatest`: commands that sum lines, if a line has no number, or if a sum is 2^64 or more.
@@ -52,52 +56,90 @@ pub fn answer<S: Sources + Drop, C: Console, O: Write>(
     command: Command,
     options: &Options<'_>,
     seed: u64,
-    files: &[String],
+    operands: Operands<'_>,
     sources: S,
     console: &mut C,
     writer: &mut O,
 ) -> Result<(), Failure>
     requires seeded { seed_hash seed ≢ 0 }
+    requires suits { Suits command operands }
     ensures answered { IfSome (S.texts sources) (λ texts.
-        OnOk result (WritesAnswer command (options_of options.now) seed (names_of files.now) texts (O.contents writer.old) (O.contents writer.new))) }
-    ensures failed { IfErr result (IsOfAnswer command (options_of options.now) seed (length files.now) (S.texts sources)) }
+        OnOk result (WritesAnswer command (options_of options.now) seed (words_in operands.entry) texts (O.contents writer.old) (O.contents writer.new))) }
+    ensures failed { IfErr result (IsOfAnswer command (options_of options.now) seed operands.entry (S.texts sources)) }
+    ensures fallible { IfErr result (UnreadableIf S.may_fail) }
     ensures unwritten { IfErr result (IsUnwritten (O.contents writer.old) (O.contents writer.new)) }
 {
-    let inputs = Inputs::new(sources, files);
-    let job = Job {
-        alloc,
-        options,
-        seed,
-        inputs,
-    };
-    let bytes = job.answer(command, files, console)?;
+    let bytes = answer_of(alloc, command, options, seed, operands, sources, console)?;
     put(alloc, writer, STANDARD_OUTPUT, bytes.as_slice())
 }
 
-/// Does what a request says: prints its text, or runs its command under this seed on the files that `sources` opens,
-/// under these names. It fails as `answer` does, or if the writer does. Unless the writer fails, a request that fails
+/// Does what a request says: prints its text, or runs its command under this seed on what it is given, of which `sources`
+/// opens the files. It fails as `answer` does, or if the writer does. Unless the writer fails, a request that fails
 /// has written nothing.
 pub fn perform<S: Sources + Drop, C: Console, O: Write>(
     alloc: Global,
     request: Request<'_>,
     seed: u64,
-    files: &[String],
+    operands: Operands<'_>,
     sources: S,
     console: &mut C,
     writer: &mut O,
 ) -> Result<(), Failure>
     requires seeded { seed_hash seed ≢ 0 }
+    requires suits { SuitsAction (request_action request) operands }
     ensures performed { IfSome (S.texts sources) (λ texts.
-        OnOk result (Performs (request_action request.entry) seed (names_of files.now) texts (O.contents writer.old) (O.contents writer.new))) }
-    ensures failed { IfErr result (IsOfRequest (request_action request.entry) seed (length files.now) (S.texts sources)) }
+        OnOk result (Performs (request_action request.entry) seed (words_in operands.entry) texts (O.contents writer.old) (O.contents writer.new))) }
+    ensures failed { IfErr result (IsOfRequest (request_action request.entry) seed operands.entry (S.texts sources)) }
     ensures unwritten { IfErr result (IsUnwritten (O.contents writer.old) (O.contents writer.new)) }
+    ensures fallible { IfErr result (UnreadableIf S.may_fail) }
 {
     match request {
         Request::Print(topic) => put(alloc, writer, STANDARD_OUTPUT, text_of(topic).as_bytes()),
         Request::Run(command, options, _) => {
             answer(
-                alloc, command, &options, seed, files, sources, console, writer,
+                alloc, command, &options, seed, operands, sources, console, writer,
             )
+        }
+    }
+}
+
+/// The bytes that a command writes of what it is given.
+fn answer_of<S: Sources + Drop, C: Console>(
+    alloc: Global,
+    command: Command,
+    options: &Options<'_>,
+    seed: u64,
+    operands: Operands<'_>,
+    sources: S,
+    console: &mut C,
+) -> Result<Vec<u8>, Failure>
+    requires seeded { seed_hash seed ≢ 0 }
+    requires suits { Suits command operands }
+    ensures answer { IfSome (S.texts sources) (λ texts.
+        IfOk result (λ v. IsCommandAnswer command (options_of options.now) seed (words_in operands.entry) texts v.items)) }
+    ensures failed { IfErr result (IsOfOperands command (options_of options.now) seed operands.entry (S.texts sources)) }
+    ensures fallible { IfErr result (UnreadableIf S.may_fail) }
+{
+    match operands {
+        Operands::Files(files) => {
+            let inputs = Inputs::new(sources, files);
+            let job = Job {
+                alloc,
+                options,
+                seed,
+                inputs,
+            };
+            job.answer(command, files, console)
+        }
+        Operands::Expression(expression) => {
+            let inputs = Inputs::new(sources, expression.names.as_slice());
+            let job = Job {
+                alloc,
+                options,
+                seed,
+                inputs,
+            };
+            job.evaluate(expression, console)
         }
     }
 }
@@ -120,8 +162,7 @@ fn lines_text(
 }
 
 impl<'a, S: Sources + Drop> Job<'a, S> {
-    /// The bytes that a command writes of the files of these names, which are those of the sources; for `eval` the only name
-    /// is the expression.
+    /// The bytes that a command, not `eval`, writes of the files of these names, which are those of the sources.
     fn answer<C: Console>(
         self,
         command: Command,
@@ -129,11 +170,13 @@ impl<'a, S: Sources + Drop> Job<'a, S> {
         console: &mut C,
     ) -> Result<Vec<u8>, Failure>
         requires seeded { seed_hash self.seed ≢ 0 }
+        requires other { command ≢ Eval }
         ensures answer { IfSome (S.texts self.entry.inputs.sources) (λ texts. IfOk result (λ v.
             IsCommandAnswer command (options_of self.entry.options.now) self.entry.seed (names_of files.now) texts v.items)) }
         ensures failed { IfErr result (
             IsOfCommand command (options_of self.entry.options.now) self.entry.seed (length files.now)
             (S.texts self.entry.inputs.sources)) }
+        ensures fallible { IfErr result (UnreadableIf S.may_fail) }
     {
         let (alloc, options) = (self.alloc, self.options);
         match command {
@@ -155,7 +198,7 @@ impl<'a, S: Sources + Drop> Job<'a, S> {
                 }
                 self.show_inputs(files)
             }
-            Command::Eval => self.eval_inputs(files, console),
+            Command::Eval => Err(Failure::Arguments(Fault::NotOneExpression)),
             Command::Visits => {
                 if options.sums && files.is_empty() {
                     return Err(Failure::NoFiles);
@@ -173,6 +216,7 @@ impl<'a, S: Sources + Drop> Job<'a, S> {
             IfOk result (λ v.
             IsLinesText images (chosen_group (options_of self.entry.options.now)) (options_of self.entry.options.now) self.entry.seed texts v.items)) }
         ensures failed { IfErr result IsOfReading }
+        ensures fallible { IfErr result (UnreadableIf S.may_fail) }
     {
         let (alloc, options) = (self.alloc, self.options);
         match options.group() {
@@ -200,6 +244,7 @@ impl<'a, S: Sources + Drop> Job<'a, S> {
             IsSketchText (chosen_amount (options_of self.entry.options.now)) (chosen_group (options_of self.entry.options.now))
             (options_of self.entry.options.now) self.entry.seed texts v.items)) }
         ensures failed { IfErr result (IsOfSketch (options_of self.entry.options.now) self.entry.seed (S.texts self.entry.inputs.sources)) }
+        ensures fallible { IfErr result (UnreadableIf S.may_fail) }
     {
         match chosen_amount(self.options) {
             Some(amount) => self.write_sums(amount),
@@ -213,6 +258,7 @@ impl<'a, S: Sources + Drop> Job<'a, S> {
         ensures sketch { IfSome (S.texts self.entry.inputs.sources) (λ texts.
             IfOk result (λ s. s ≡ sketch_of (options_of self.entry.options.now) self.entry.seed texts)) }
         ensures failed { IfErr result IsOfReading }
+        ensures fallible { IfErr result (UnreadableIf S.may_fail) }
     {
         let (alloc, options, seed) = (self.alloc, self.options, self.seed);
         let mut inputs = self.inputs;

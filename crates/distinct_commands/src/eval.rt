@@ -1,89 +1,37 @@
 //! What `eval` prints or writes: the result of a set expression over the sketches of files.
-ghost use Rattle.std.specs.Prelude.{◌≡◌, ◌≢◌, ℕ, false, List, length, IfOk, IfErr, IfSome};
+ghost use Rattle.std.specs.Prelude.{◌≡◌, ◌≢◌, ℕ, false, List, length, IfOk, IfErr, IfSome, Bool};
 ghost use Rattle.sketch_base.specs.Seed.{seed_hash};
 ghost use Rattle.core_laws.specs.Settings.{settings_refusal};
 ghost use Rattle.core_laws.specs.declared.TheConstants.{MAX_THETA};
 ghost use Rattle.line_sketches.specs.Refusals.{RefusesRead};
-ghost use Rattle.expression_text.specs.Grammar.{IsExpressionText, SpellsNothing};
-ghost use Rattle.expression_text.specs.declared.fault.Reason.TheVariants.{Memory};
+ghost use Rattle.expression_text.specs.Grammar.{IsExpressionText};
 ghost use Rattle.set_expressions.specs.Values.{hashes_value};
 ghost use Rattle.core_compact.specs.CompactState.{ordered_sketch};
 ghost use Rattle.set_expressions.specs.Running.{values_of};
 ghost use Rattle.distinct_arguments.specs.Faults.{options_of};
 ghost use Rattle.distinct_inputs.specs.Lists.{names_of};
-ghost use Rattle.distinct_commands.specs.Eval.{sketch_of_text, SketchesNext, AreSketchesOfTexts, AreOperands, IsEvaluated, IsEvaluatedOf, evaluated_text};
+ghost use Rattle.distinct_commands.specs.Eval.{sketch_of_text, SketchesNext, AreSketchesOfTexts, AreOperands, IsEvaluated, IsEvaluatedBy, evaluated_text};
+ghost use Rattle.distinct_commands.specs.Failing.{IsOfNames, IsOfThetas, IsOfEvaluation};
+ghost use Rattle.distinct_commands.specs.Operands.{IsRead};
 ghost use Rattle.distinct_inputs.specs.Seeds.{AreSeeded};
-ghost use Rattle.distinct_inputs.specs.Failures.{images_in, IsOfReading, IsOfImages, IsOfExpression, IsOfOperands, IsOfEvaluation};
+ghost use Rattle.distinct_inputs.specs.Failures.{IsOfReading, UnreadableIf};
 ghost use Rattle.distinct_inputs.specs.declared.failure.Failure.TheVariants as failure;
 
 use crate::combine::all_sketches;
 use crate::commands::image_in_form;
+use crate::expression::Expression;
 use crate::job::Job;
 use crate::show::{head_of, shown_text};
-use distinct_arguments::{Fault, Options};
-use distinct_inputs::{Console, Failure, Images, Inputs, Unlisted, out_of_memory, texts_of};
-use expression_text::{Parsed, Reason, Step, SyntaxFault, parse};
-use line_sketches::{BLOCK, Sources, Unread, sketch_lines};
+use distinct_arguments::Options;
+use distinct_inputs::{Console, Failure, Images, Inputs, out_of_memory};
+use line_sketches::{BLOCK, Sources, TextReader, Unread, sketch_lines};
 use lines::Hashing;
 use set_expressions::evaluate;
 use std::alloc::Global;
-use std::io::Read;
 use theta_sketches::CompactThetaSketch;
 
-/// An expression that was read.
-#[derive(Drop)]
-pub struct Expression {
-    /// The names of its files, each once.
-    pub names: Vec<String>,
-    /// Its steps, in postfix order.
-    pub steps: Vec<Step>,
-}
-
-/// The failure for a text that is not an expression, for this reason.
-fn unspelled(alloc: Global, text: &str, fault: SyntaxFault) -> Failure
-    requires { fault.reason ≢ Memory → SpellsNothing text.now }
-    ensures { IsOfExpression text.now result }
-{
-    if fault.reason == Reason::Memory {
-        return Failure::Memory;
-    }
-    match String::from_str(alloc, text) {
-        Ok(text) => Failure::NoExpression(text, fault),
-        Err(_) => Failure::Memory,
-    }
-}
-
-/// The failure for an expression with a name that can't be one.
-fn unnamed(alloc: Global, text: &str, reason: Unlisted) -> Failure
-    ensures { IsOfExpression text.now result }
-{
-    match reason {
-        Unlisted::Memory => Failure::Memory,
-        Unlisted::Name(number) => match String::from_str(alloc, text) {
-            Ok(text) => Failure::NoName(text, number),
-            Err(_) => Failure::Memory,
-        },
-    }
-}
-
-/// The expression that a text spells. It fails if the text spells none, or if memory is refused.
-pub fn expression_in(alloc: Global, text: &str) -> Result<Expression, Failure>
-    ensures spelled { IfOk result (λ e. IsExpressionText text.now (names_of e.names.items) e.steps.items) }
-    ensures failed { IfErr result (IsOfExpression text.now) }
-{
-    let parsed = match parse(alloc, text.as_bytes()) {
-        Ok(parsed) => parsed,
-        Err(fault) => return Err(unspelled(alloc, text, fault)),
-    };
-    let Parsed { names, steps } = parsed;
-    match texts_of(alloc, names.as_slice()) {
-        Ok(names) => Ok(Expression { names, steps }),
-        Err(reason) => Err(unnamed(alloc, text, reason)),
-    }
-}
-
 /// The sketch of the lines of a source. Refused only with `OutOfMemory`; if the source can't be read, its error is returned.
-fn sketch_source<R: Read, C: Console>(
+fn sketch_source<R: TextReader, C: Console>(
     alloc: Global,
     options: &Options<'_>,
     seed: u64,
@@ -117,6 +65,7 @@ fn next_lines<S: Sources, C: Console>(
     ensures seeded { IfOk result (λ next. IfSome next (λ s. s.seed_hash ≡ seed_hash seed)) }
     ensures sketches { IfOk result (SketchesNext (options_of options.now) seed (S.texts inputs.old.sources) (S.texts inputs.new.sources)) }
     ensures failed { IfErr result IsOfReading }
+    ensures fallible { IfErr result (UnreadableIf S.may_fail) }
 {
     let mut source = match inputs.next_source() {
         Ok(Some(source)) => source,
@@ -135,15 +84,14 @@ fn result_of(
     alloc: Global,
     options: &Options<'_>,
     seed: u64,
-    expression: &Expression,
+    expression: &Expression<'_>,
     sketches: &[CompactThetaSketch],
 ) -> Result<CompactThetaSketch, Failure>
     requires seed { seed_hash seed ≢ 0 }
     requires seeded { AreSeeded seed sketches.now }
-    requires spelled { (text : List ℕ) × IsExpressionText text (names_of expression.now.names.items) expression.now.steps.items }
+    requires read { IsRead expression.now }
     requires counted { length expression.now.names.items ≡ length sketches.now }
-    ensures value { (text : List ℕ)
-        → (spelled : IsExpressionText text (names_of expression.now.names.items) expression.now.steps.items)
+    ensures value { (spelled : IsExpressionText expression.now.text.now (names_of expression.now.names.items) expression.now.steps.items)
         → IfOk result (λ s. s ≡ ordered_sketch (hashes_value options.now.lg_k (values_of sketches.now) spelled.tree) (seed_hash seed)) }
     ensures memory { IfErr result (λ f. f ≡ failure.Memory) }
 {
@@ -183,6 +131,7 @@ impl<'a, S: Sources + Drop> Job<'a, S> {
         ensures sketched { IfSome (S.texts self.entry.inputs.sources) (λ texts.
             IfOk result (λ v. AreSketchesOfTexts (options_of self.entry.options.now) self.entry.seed texts v.items)) }
         ensures failed { IfErr result IsOfReading }
+        ensures fallible { IfErr result (UnreadableIf S.may_fail) }
     {
         let (alloc, options, seed) = (self.alloc, self.options, self.seed);
         let mut inputs = self.inputs;
@@ -204,7 +153,8 @@ impl<'a, S: Sources + Drop> Job<'a, S> {
         ensures operands { IfSome (S.texts self.entry.inputs.sources) (λ texts. IfOk result (λ v.
             AreOperands self.entry.options.now.keys (options_of self.entry.options.now) self.entry.seed texts v.items)) }
         ensures failed { IfErr result (
-            IsOfImages false self.entry.options.now.hex self.entry.seed (images_in false (options_of self.entry.options.now) (S.texts self.entry.inputs.sources))) }
+            IsOfNames self.entry.options.now.keys self.entry.options.now.hex self.entry.seed (S.texts self.entry.inputs.sources)) }
+        ensures fallible { IfErr result (UnreadableIf S.may_fail) }
     {
         if self.options.keys {
             return self.all_lines(console);
@@ -214,19 +164,18 @@ impl<'a, S: Sources + Drop> Job<'a, S> {
         all_sketches(alloc, seed, options.hex, &mut images)
     }
 
-    /// The result of an expression over the sketches of the sources, which have the expression's names in their order.
+    /// The result of an expression over the theta sketches of the sources, which have its names in their order.
     fn evaluated<C: Console>(
         self,
-        text: &str,
-        expression: &Expression,
+        expression: &Expression<'_>,
         console: &mut C,
     ) -> Result<Vec<u8>, Failure>
         requires seeded { seed_hash self.seed ≢ 0 }
-        requires spelled { IsExpressionText text.now (names_of expression.now.names.items) expression.now.steps.items }
-        ensures evaluated { IfSome (S.texts self.entry.inputs.sources) (λ texts.
-            IfOk result (λ v. IsEvaluated (options_of self.entry.options.now) self.entry.seed text.now texts v.items)) }
-        ensures failed { IfErr result (
-            IsOfOperands false self.entry.options.now.hex self.entry.seed (images_in false (options_of self.entry.options.now) (S.texts self.entry.inputs.sources))) }
+        requires read { IsRead expression.now }
+        ensures evaluated { IfSome (S.texts self.entry.inputs.sources) (λ texts. IfOk result (λ v.
+            IsEvaluated (options_of self.entry.options.now) self.entry.seed expression.now.text.now texts v.items)) }
+        ensures failed { IfErr result (IsOfThetas (options_of self.entry.options.now) self.entry.seed (S.texts self.entry.inputs.sources)) }
+        ensures fallible { IfErr result (UnreadableIf S.may_fail) }
     {
         let (alloc, options, seed) = (self.alloc, self.options, self.seed);
         let sketches = self.operands(console)?;
@@ -236,39 +185,28 @@ impl<'a, S: Sources + Drop> Job<'a, S> {
             return Err(Failure::NotOneEach(found as u64, wanted as u64));
         }
         let result = result_of(alloc, options, seed, expression, sketches.as_slice())?;
-        put_result(alloc, options, text, &result)
+        put_result(alloc, options, expression.text, &result)
     }
 
-    /// The result of the expression that is the only one of `files`, over the sketches of the sources, which have the
-    /// expression's names in their order.
-    pub fn eval_inputs<C: Console>(
+    /// The result of an expression over the sketches of the sources, which have its names in their order: sketches of sums, or
+    /// theta sketches.
+    pub fn evaluate<C: Console>(
         self,
-        files: &[String],
+        expression: &Expression<'_>,
         console: &mut C,
     ) -> Result<Vec<u8>, Failure>
         requires seeded { seed_hash self.seed ≢ 0 }
+        requires read { IsRead expression.now }
         ensures evaluated { IfSome (S.texts self.entry.inputs.sources) (λ texts. IfOk result (λ v.
-            IsEvaluatedOf (options_of self.entry.options.now) self.entry.seed (names_of files.now) texts v.items)) }
+            IsEvaluatedBy self.entry.options.now.sums (options_of self.entry.options.now) self.entry.seed expression.now.text.now texts v.items)) }
         ensures failed { IfErr result (
-            IsOfEvaluation (length files.now) self.entry.options.now.sums self.entry.options.now.hex self.entry.seed
-            (images_in self.entry.options.now.sums (options_of self.entry.options.now) (S.texts self.entry.inputs.sources))) }
+            IsOfEvaluation self.entry.options.now.sums (options_of self.entry.options.now) self.entry.seed expression.now.text.now
+            (S.texts self.entry.inputs.sources)) }
+        ensures fallible { IfErr result (UnreadableIf S.may_fail) }
     {
-        let [file] = files else {
-            return Err(Failure::Arguments(Fault::NotOneExpression));
-        };
-        let text = file.as_str();
-        let (alloc, options, seed) = (self.alloc, self.options, self.seed);
-        let expression = expression_in(alloc, text)?;
-        let inputs = self.inputs.renamed(expression.names.as_slice());
-        let renamed = Job {
-            alloc,
-            options,
-            seed,
-            inputs,
-        };
-        if options.sums {
-            return renamed.sums_evaluated(text, &expression);
+        if self.options.sums {
+            return self.sums_evaluated(expression);
         }
-        renamed.evaluated(text, &expression, console)
+        self.evaluated(expression, console)
     }
 }

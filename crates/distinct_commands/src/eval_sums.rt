@@ -1,23 +1,27 @@
 //! What `eval --sums` prints or writes: the result of a set expression over the sketches of sums of files.
-ghost use Rattle.std.specs.Prelude.{◌≡◌, ◌≢◌, ◌⊎◌, ℕ, true, List, length, IfOk, IfErr, IfSome};
+ghost use Rattle.std.specs.Prelude.{◌≡◌, ◌≢◌, ◌⊎◌, ℕ, true, List, [], Some, length, IfOk, IfErr, IfSome, Bool};
 ghost use Rattle.sketch_base.specs.Seed.{seed_hash};
 ghost use Rattle.sketch_base.specs.declared.error.ErrorKind.TheVariants.{OutOfMemory, Policy};
-ghost use Rattle.core_compact.specs.CompactState.{ordered_sketch};
+ghost use Rattle.core_compact.specs.CompactState.{Compact, ordered_sketch};
 ghost use Rattle.expression_text.specs.Grammar.{IsExpressionText};
 ghost use Rattle.line_sums.specs.Images.{AreReadSums};
-ghost use Rattle.set_expressions.specs.Values.{sums_value};
-ghost use Rattle.set_expressions.specs.Running.{sums_values};
+ghost use Rattle.core_slots.specs.declared.entry.TupleEntry.{TupleEntry};
+ghost use Rattle.expression_text.specs.declared.operator.Step.{Step};
+ghost use Rattle.set_expressions.specs.Values.{sum_rules, sums_value};
+ghost use Rattle.set_expressions.specs.Running.{sums_values, MayRefuse};
 ghost use Rattle.distinct_arguments.specs.Faults.{options_of};
 ghost use Rattle.distinct_inputs.specs.Lists.{names_of};
 ghost use Rattle.distinct_commands.specs.EvalSums.{evaluated_sums_text, IsSumsEvaluated};
-ghost use Rattle.distinct_inputs.specs.Failures.{images_in, IsOfImages, IsOfOperands, IsOfResult};
+ghost use Rattle.distinct_commands.specs.Failing.{IsOfResult, IsOfSumsResult};
+ghost use Rattle.distinct_commands.specs.Operands.{IsRead};
+ghost use Rattle.distinct_inputs.specs.Failures.{images_in, IsOfImages, UnreadableIf};
 ghost use Rattle.distinct_inputs.specs.Images.{images_of, in_form};
 ghost use Rattle.distinct_inputs.specs.Seeds.{AreSeeded};
 ghost use Rattle.distinct_inputs.specs.declared.failure.Failure.TheVariants as failure;
 
 use crate::combine::refused;
 use crate::commands::in_form;
-use crate::eval::Expression;
+use crate::expression::Expression;
 use crate::job::Job;
 use crate::sums::total_text;
 use distinct_arguments::Options;
@@ -32,7 +36,10 @@ use tuple_sketches::CompactTupleSketch;
 /// The failure of an evaluation that is refused: memory, or a sum of a key that is 2^64 or more.
 fn unevaluated(alloc: Global, text: &str, error: Error) -> Failure
     requires { (error ≡ OutOfMemory) ⊎ (error ≡ Policy) }
-    ensures { IsOfResult result }
+    ensures of_result { (lg_k : ℕ) (steps : List Step) (sketches : List (Compact (TupleEntry ℕ)))
+        → (error ≡ Policy → MayRefuse sum_rules lg_k (sums_values sketches) steps (Some []))
+        → IsOfResult lg_k text.now steps sketches result }
+    ensures fallible { (may_fail : Bool) → UnreadableIf may_fail result }
 {
     if error.kind() != ErrorKind::Policy {
         return Failure::Memory;
@@ -49,22 +56,22 @@ fn result_of(
     alloc: Global,
     options: &Options<'_>,
     seed: u64,
-    text: &str,
-    expression: &Expression,
+    expression: &Expression<'_>,
     sketches: &[CompactTupleSketch<u64>],
 ) -> Result<CompactTupleSketch<u64>, Failure>
     requires seed { seed_hash seed ≢ 0 }
     requires seeded { AreSeeded seed sketches.now }
-    requires spelled { IsExpressionText text.now (names_of expression.now.names.items) expression.now.steps.items }
+    requires read { IsRead expression.now }
     requires counted { length expression.now.names.items ≡ length sketches.now }
-    ensures value { (spelled : IsExpressionText text.now (names_of expression.now.names.items) expression.now.steps.items)
+    ensures value { (spelled : IsExpressionText expression.now.text.now (names_of expression.now.names.items) expression.now.steps.items)
         → IfOk result (λ s. s ≡ ordered_sketch (sums_value options.now.lg_k (sums_values sketches.now) spelled.tree) (seed_hash seed)) }
-    ensures failed { IfErr result IsOfResult }
+    ensures failed { IfErr result (IsOfResult options.now.lg_k expression.now.text.now expression.now.steps.items sketches.now) }
+    ensures fallible { (may_fail : Bool) → IfErr result (UnreadableIf may_fail) }
 {
     let steps = expression.steps.as_slice();
     match evaluate_sums(alloc, seed, options.lg_k, steps, sketches) {
         Ok(sketch) => Ok(sketch),
-        Err(error) => Err(unevaluated(alloc, text, error)),
+        Err(error) => Err(unevaluated(alloc, expression.text, error)),
     }
 }
 
@@ -95,6 +102,7 @@ impl<'a, S: Sources + Drop> Job<'a, S> {
             IfOk result (λ v. AreReadSums self.entry.seed (images_of true self.entry.options.now.hex texts) v.items)) }
         ensures failed { IfErr result (
             IsOfImages true self.entry.options.now.hex self.entry.seed (images_in true (options_of self.entry.options.now) (S.texts self.entry.inputs.sources))) }
+        ensures fallible { IfErr result (UnreadableIf S.may_fail) }
     {
         let (alloc, options, seed) = (self.alloc, self.options, self.seed);
         let mut images = Images::of(alloc, self.inputs, true, options.hex, seed);
@@ -105,15 +113,15 @@ impl<'a, S: Sources + Drop> Job<'a, S> {
         }
     }
 
-    /// The result of an expression over the sketches of sums of the sources, which have the expression's names in their
-    /// order.
-    pub fn sums_evaluated(self, text: &str, expression: &Expression) -> Result<Vec<u8>, Failure>
+    /// The result of an expression over the sketches of sums of the sources, which have its names in their order.
+    pub fn sums_evaluated(self, expression: &Expression<'_>) -> Result<Vec<u8>, Failure>
         requires seeded { seed_hash self.seed ≢ 0 }
-        requires spelled { IsExpressionText text.now (names_of expression.now.names.items) expression.now.steps.items }
-        ensures evaluated { IfSome (S.texts self.entry.inputs.sources) (λ texts.
-            IfOk result (λ v. IsSumsEvaluated (options_of self.entry.options.now) self.entry.seed text.now texts v.items)) }
+        requires read { IsRead expression.now }
+        ensures evaluated { IfSome (S.texts self.entry.inputs.sources) (λ texts. IfOk result (λ v.
+            IsSumsEvaluated (options_of self.entry.options.now) self.entry.seed expression.now.text.now texts v.items)) }
         ensures failed { IfErr result (
-            IsOfOperands true self.entry.options.now.hex self.entry.seed (images_in true (options_of self.entry.options.now) (S.texts self.entry.inputs.sources))) }
+            IsOfSumsResult (options_of self.entry.options.now) self.entry.seed expression.now.text.now (S.texts self.entry.inputs.sources)) }
+        ensures fallible { IfErr result (UnreadableIf S.may_fail) }
     {
         let (alloc, options, seed) = (self.alloc, self.options, self.seed);
         let sketches = self.sums_operands()?;
@@ -122,7 +130,7 @@ impl<'a, S: Sources + Drop> Job<'a, S> {
         if found != wanted {
             return Err(Failure::NotOneEach(found as u64, wanted as u64));
         }
-        let result = result_of(alloc, options, seed, text, expression, sketches.as_slice())?;
+        let result = result_of(alloc, options, seed, expression, sketches.as_slice())?;
         put_result(alloc, options, &result)
     }
 }

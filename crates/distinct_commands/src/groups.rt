@@ -5,7 +5,7 @@ ghost use Rattle.lines.specs.Lines.{lines_of_all};
 ghost use Rattle.grouped_lines.specs.Groups.{HasGroups, AreLeft};
 ghost use Rattle.grouped_lines.specs.declared.groups.Grouping.{Grouping};
 ghost use Rattle.distinct_arguments.specs.Faults.{options_of};
-ghost use Rattle.distinct_inputs.specs.Failures.{IsOfReading};
+ghost use Rattle.distinct_inputs.specs.Failures.{IsOfReading, UnreadableIf};
 ghost use Rattle.grouped_lines.specs.Ranked.{AreRanked};
 ghost use Rattle.grouped_lines.specs.Files.{AreFilesOf};
 ghost use Rattle.distinct_commands.specs.Groups.{grouping_of, group_text, group_line, groups_text, groups_head};
@@ -199,6 +199,7 @@ pub fn group_files<S: Sources + Drop, C: Console>(
     ensures files { IfSome (S.texts inputs.entry.sources) (λ texts.
         IfOk result (λ v. AreFilesOf options.now.hex (grouping_of (options_of options.now) seed by) (lines_of_all texts) v.items)) }
     ensures failed { IfErr result IsOfReading }
+    ensures fallible { IfErr result (UnreadableIf S.may_fail) }
 {
     let job = Job {
         alloc,
@@ -220,6 +221,7 @@ impl<'a, S: Sources + Drop> Job<'a, S> {
         ensures grouped { IfSome (S.texts self.entry.inputs.sources) (λ texts.
             IfOk result (HasGroups (grouping_of (options_of self.entry.options.now) self.entry.seed by) (lines_of_all texts))) }
         ensures failed { IfErr result IsOfReading }
+        ensures fallible { IfErr result (UnreadableIf S.may_fail) }
     {
         let (alloc, options, seed) = (self.alloc, self.options, self.seed);
         let mut inputs = self.inputs;

@@ -3,11 +3,11 @@
 //! The promise is that of `perform`: what a command writes is bound to its options, its seed, and the names and texts
 //! of its files. A command that fails returns a [`Failure`], and has written nothing unless the writer failed.
 //!
-//! What a request writes, of files that `sources` opens:
+//! What a request writes, of files that `sources` opens; `eval` is given an expression that was read in their place:
 //!
 //! ```
 //! let request = read_arguments(words)?;
-//! perform(alloc, request, seed, files, sources, &mut console, &mut writer)?;
+//! perform(alloc, request, seed, Operands::Files(names), sources, &mut console, &mut writer)?;
 //! ```
 #![tactic(auto)]
 
@@ -15,6 +15,7 @@ mod combine;
 mod commands;
 mod eval;
 mod eval_sums;
+mod expression;
 mod groups;
 mod job;
 mod show;
@@ -23,5 +24,5 @@ mod united;
 mod visits;
 
 pub use commands::{answer, perform};
-pub use eval::{Expression, expression_in};
+pub use expression::{Expression, Operands, expression_in, only_expression};
 pub use groups::group_files;

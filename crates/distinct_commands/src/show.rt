@@ -3,7 +3,7 @@ ghost use Rattle.std.specs.Prelude.{◌≡◌, ◌++◌, false, None, Some, IfOk
 ghost use Rattle.distinct_arguments.specs.Faults.{options_of};
 ghost use Rattle.distinct_commands.specs.Answers.{AreShownByName, AreShown, IsShownOf};
 ghost use Rattle.distinct_inputs.specs.Lists.{names_of};
-ghost use Rattle.distinct_inputs.specs.Failures.{called, images_in, IsOfImages};
+ghost use Rattle.distinct_inputs.specs.Failures.{called, images_in, IsOfImages, UnreadableIf};
 ghost use Rattle.distinct_inputs.specs.Images.{remaining_images};
 ghost use Rattle.distinct_commands.specs.Texts.{chosen_deviations, count_text, shown_text, head_of};
 
@@ -80,6 +80,7 @@ impl<'a, S: Sources + Drop> Job<'a, S> {
             IfOk result (λ v. IsShownOf (options_of self.entry.options.now) self.entry.seed (names_of files.now) texts v.items)) }
         ensures failed { IfErr result (
             IsOfImages false self.entry.options.now.hex self.entry.seed (images_in false (options_of self.entry.options.now) (S.texts self.entry.inputs.sources))) }
+        ensures fallible { IfErr result (UnreadableIf S.may_fail) }
     {
         let (alloc, options, seed) = (self.alloc, self.options, self.seed);
         let mut images = Images::new(alloc, self.inputs, options.hex, seed);
@@ -105,6 +106,7 @@ fn show_lines<S: Sources>(
     ensures shown { IfSome (remaining_images S.Source.remaining S.texts images.old) (λ all.
         IfOk result (λ v. AreShown (options_of options.now) seed all v.items)) }
     ensures failed { IfErr result (IsOfImages false options.now.hex seed (remaining_images S.Source.remaining S.texts images.old)) }
+    ensures fallible { IfErr result (UnreadableIf S.may_fail) }
 {
     let mut shown = Vec::new(alloc);
     for _ in 0..u64::MAX {
@@ -128,6 +130,7 @@ fn show_files<S: Sources>(
     ensures shown { IfSome (remaining_images S.Source.remaining S.texts images.old) (λ all.
         IfOk result (λ v. AreShownByName (options_of options.now) seed (names_of files.now) all v.items)) }
     ensures failed { IfErr result (IsOfImages false options.now.hex seed (remaining_images S.Source.remaining S.texts images.old)) }
+    ensures fallible { IfErr result (UnreadableIf S.may_fail) }
 {
     let mut shown = Vec::new(alloc);
     let mut left = files;

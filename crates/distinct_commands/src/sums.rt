@@ -1,5 +1,5 @@
 //! Sums of lines by their keys: their images, and the totals that `sum` prints of them.
-ghost use Rattle.std.specs.Prelude.{◌≡◌, ◌≢◌, ℕ, List, Option, IfOk, IfErr, IfSome, string_bytes};
+ghost use Rattle.std.specs.Prelude.{◌≡◌, ◌≢◌, ℕ, List, Option, IfOk, IfErr, IfSome, string_bytes, Bool};
 ghost use Rattle.sketch_base.specs.Seed.{seed_hash};
 ghost use Rattle.lines.specs.Lines.{lines_of_all};
 ghost use Rattle.line_sums.specs.Amounts.{AreNumbers};
@@ -9,7 +9,7 @@ ghost use Rattle.line_sums.specs.declared.addends.Amount.TheVariants.{One};
 ghost use Rattle.distinct_inputs.specs.declared.failure.Failure.TheVariants as failure;
 ghost use Rattle.distinct_arguments.specs.Faults.{options_of};
 ghost use Rattle.distinct_arguments.specs.Settings.{OptionValues, chosen_value};
-ghost use Rattle.distinct_inputs.specs.Failures.{chosen_amount, HasGreatSum, HasNoNumberIn, IsOfSums, IsOfTotal};
+ghost use Rattle.distinct_inputs.specs.Failures.{chosen_amount, HasGreatSum, HasNoNumberIn, IsOfSums, IsOfTotal, UnreadableIf};
 ghost use Rattle.distinct_commands.specs.Sums.{sums_of, total_text, IsSumsText, IsTotalText};
 
 use crate::commands::in_form;
@@ -38,9 +38,10 @@ pub fn chosen_amount(options: &Options<'_>) -> Option<Amount>
 
 /// The failure for a line of the source that was opened last, with which the sum of its key would be 2^64 or more.
 fn past_greatest<S: Sources>(alloc: Global, inputs: &Inputs<'_, S>, line: u64) -> Failure
-    ensures { (options : OptionValues) (seed : ℕ) (amount : Amount) (texts : Option (List (List ℕ)))
+    ensures of_sums { (options : OptionValues) (seed : ℕ) (amount : Amount) (texts : Option (List (List ℕ)))
         → HasGreatSum options seed amount texts
         → IsOfSums options seed amount texts result }
+    ensures fallible { (may_fail : Bool) → UnreadableIf may_fail result }
 {
     match String::from_str(alloc, inputs.name()) {
         Ok(name) => Failure::PastGreatest(name, line),
@@ -50,10 +51,11 @@ fn past_greatest<S: Sources>(alloc: Global, inputs: &Inputs<'_, S>, line: u64) -
 
 /// The failure for a line of the source that was opened last, which has no number to add.
 fn not_a_number<S: Sources>(alloc: Global, inputs: &Inputs<'_, S>, line: u64) -> Failure
-    ensures { (options : OptionValues) (seed : ℕ) (amount : Amount) (texts : Option (List (List ℕ)))
+    ensures of_sums { (options : OptionValues) (seed : ℕ) (amount : Amount) (texts : Option (List (List ℕ)))
         → amount ≢ One
-        → HasNoNumberIn amount texts
+        → HasNoNumberIn amount line texts
         → IsOfSums options seed amount texts result }
+    ensures fallible { (may_fail : Bool) → UnreadableIf may_fail result }
 {
     match String::from_str(alloc, inputs.name()) {
         Ok(name) => Failure::NotANumber(name, line),
@@ -104,6 +106,7 @@ impl<'a, S: Sources + Drop> Job<'a, S> {
             IfOk result (λ s. s ≡ sums_of (options_of self.entry.options.now) amount self.entry.seed texts)) }
         ensures numbers { IfSome (S.texts self.entry.inputs.sources) (λ texts. IfOk result (λ _. AreNumbers amount (lines_of_all texts))) }
         ensures failed { IfErr result (IsOfSums (options_of self.entry.options.now) self.entry.seed amount (S.texts self.entry.inputs.sources)) }
+        ensures fallible { IfErr result (UnreadableIf S.may_fail) }
     {
         let (alloc, options, seed) = (self.alloc, self.options, self.seed);
         let mut inputs = self.inputs;
@@ -127,6 +130,7 @@ impl<'a, S: Sources + Drop> Job<'a, S> {
         ensures written { IfSome (S.texts self.entry.inputs.sources) (λ texts.
             IfOk result (λ v. IsSumsText amount (options_of self.entry.options.now) self.entry.seed texts v.items)) }
         ensures failed { IfErr result (IsOfSums (options_of self.entry.options.now) self.entry.seed amount (S.texts self.entry.inputs.sources)) }
+        ensures fallible { IfErr result (UnreadableIf S.may_fail) }
     {
         let (alloc, options, seed) = (self.alloc, self.options, self.seed);
         let sums = self.sums_of(amount)?;
@@ -141,6 +145,7 @@ impl<'a, S: Sources + Drop> Job<'a, S> {
         ensures printed { IfSome (S.texts self.entry.inputs.sources) (λ texts. IfOk result (λ v.
             IsTotalText (chosen_value (options_of self.entry.options.now)) (options_of self.entry.options.now) self.entry.seed texts v.items)) }
         ensures failed { IfErr result (IsOfTotal (options_of self.entry.options.now) self.entry.seed (S.texts self.entry.inputs.sources)) }
+        ensures fallible { IfErr result (UnreadableIf S.may_fail) }
     {
         let (alloc, options) = (self.alloc, self.options);
         let Some(field) = options.value() else {

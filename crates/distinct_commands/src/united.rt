@@ -1,10 +1,10 @@
 //! What `union` writes of images by groups.
-ghost use Rattle.std.specs.Prelude.{◌≡◌, ◌≢◌, ℕ, List, Option, IfOk, IfErr, IfSome};
+ghost use Rattle.std.specs.Prelude.{◌≡◌, ◌≢◌, ◌≤◌, ◌<◌, ◌^◌, ℕ, List, Option, IfOk, IfErr, IfSome, IfNone, Bool};
 ghost use Rattle.sketch_base.specs.Seed.{seed_hash};
 ghost use Rattle.lines.specs.Lines.{lines_of_all};
 ghost use Rattle.grouped_lines.specs.United.{HasFirstFlawed, IsUnitedText};
 ghost use Rattle.distinct_arguments.specs.Faults.{options_of};
-ghost use Rattle.distinct_inputs.specs.Failures.{unites_groups, IsOfGroups, ReportsFlawed};
+ghost use Rattle.distinct_inputs.specs.Failures.{unites_groups, IsOfGroups, ReportsFlawed, UnreadableIf};
 
 use crate::job::Job;
 use distinct_arguments::{Operator, Options};
@@ -26,6 +26,7 @@ fn flawed(alloc: Global, name: &str, line: u64, flaw: LineFlaw) -> Failure
     ensures of_groups { (seed : ℕ) (texts : Option (List (List ℕ)))
         → IfSome texts (HasFirstFlawed seed line flaw)
         → IsOfGroups seed texts result }
+    ensures fallible { (may_fail : Bool) → UnreadableIf may_fail result }
 {
     let Ok(name) = String::from_str(alloc, name) else {
         return Failure::Memory;
@@ -37,14 +38,26 @@ fn flawed(alloc: Global, name: &str, line: u64, flaw: LineFlaw) -> Failure
     }
 }
 
-/// Remarks that an image retains more hashes than 2^`lg_k`, if one does.
-fn remark_coarser<C: Console>(retained: u64, lg_k: u8, console: &mut C) {
+/// The remark that an image retains this many hashes, if these are more than 2^`lg_k`.
+fn warning_of(retained: u64, lg_k: u8) -> Option<Coarser<'static>>
+    ensures some { IfSome result (λ c. (2 ^ lg_k < retained) × (c.retained ≡ retained) × (c.lg_k ≡ lg_k)) }
+    ensures none { IfNone result (retained ≤ 2 ^ lg_k) }
+{
     if lg_k < 64 && 1u64 << lg_k < retained {
-        console.remark(Remark::Coarser(Coarser {
+        Some(Coarser {
             name: "an image",
             retained,
             lg_k,
-        }));
+        })
+    } else {
+        None
+    }
+}
+
+/// Remarks that an image retains more hashes than 2^`lg_k`, if one does.
+fn remark_coarser<C: Console>(retained: u64, lg_k: u8, console: &mut C) {
+    if let Some(coarser) = warning_of(retained, lg_k) {
+        console.remark(Remark::Coarser(coarser));
     }
 }
 
@@ -56,6 +69,7 @@ impl<'a, S: Sources + Drop> Job<'a, S> {
         ensures united { IfSome (S.texts self.entry.inputs.sources) (λ texts.
             IfOk result (λ v. IsUnitedText self.entry.seed self.entry.options.now.lg_k (lines_of_all texts) v.items)) }
         ensures failed { IfErr result (IsOfGroups self.entry.seed (S.texts self.entry.inputs.sources)) }
+        ensures fallible { IfErr result (UnreadableIf S.may_fail) }
     {
         let (alloc, options, seed) = (self.alloc, self.options, self.seed);
         let mut inputs = self.inputs;

@@ -4,7 +4,7 @@ ghost use Rattle.sketch_base.specs.Seed.{seed_hash};
 ghost use Rattle.line_sums.specs.declared.addends.Amount.TheVariants.{One};
 ghost use Rattle.distinct_arguments.specs.Faults.{options_of};
 ghost use Rattle.line_sums.specs.Unions.{IsUnitedSums, AreSumsOfTexts};
-ghost use Rattle.distinct_inputs.specs.Failures.{images_in, IsOfEitherUnion, IsOfSums, IsOfUniting, IsOfVisits};
+ghost use Rattle.distinct_inputs.specs.Failures.{images_in, IsOfEitherUnion, IsOfSums, IsOfUniting, IsOfVisits, UnreadableIf};
 ghost use Rattle.distinct_inputs.specs.Images.{images_of, remaining_images};
 ghost use Rattle.distinct_commands.specs.Visits.{visits_of, ranges_head, bin_text, bin_up_to, visits_text, IsVisitsOfImages, IsVisitsText};
 
@@ -78,7 +78,8 @@ fn put_bin(
     text.push_str(line.as_str())
 }
 
-/// What is printed of a sketch of sums: a line for each bin up to that of the greatest sum.
+/// What is printed of a sketch of sums: a line for each bin up to that of the greatest sum. Each sum from 1 to 2^64 - 1 is in
+/// exactly one bin (`line_sums::laws::numbers_are_in_one_bin`), so each retained key that occurs is counted in exactly one line.
 fn visits_text(
     alloc: Global,
     options: &Options<'_>,
@@ -119,6 +120,7 @@ impl<'a, S: Sources + Drop> Job<'a, S> {
         ensures printed { IfSome (S.texts self.entry.inputs.sources) (λ texts. IfOk result (λ v.
             v.items ≡ visits_text (options_of self.entry.options.now) (visits_of (options_of self.entry.options.now) self.entry.seed texts))) }
         ensures failed { IfErr result (IsOfSums (options_of self.entry.options.now) self.entry.seed One (S.texts self.entry.inputs.sources)) }
+        ensures fallible { IfErr result (UnreadableIf S.may_fail) }
     {
         let (alloc, options) = (self.alloc, self.options);
         let visits = self.sums_of(Amount::One)?;
@@ -136,6 +138,7 @@ impl<'a, S: Sources + Drop> Job<'a, S> {
         ensures failed { IfErr result (
             IsOfEitherUnion (options_of self.entry.options.now) self.entry.seed
             (images_in self.entry.options.now.sums (options_of self.entry.options.now) (S.texts self.entry.inputs.sources))) }
+        ensures fallible { IfErr result (UnreadableIf S.may_fail) }
     {
         let (alloc, options, seed) = (self.alloc, self.options, self.seed);
         let mut images = Images::of(alloc, self.inputs, true, options.hex, seed);
@@ -156,6 +159,7 @@ impl<'a, S: Sources + Drop> Job<'a, S> {
         ensures printed { IfSome (S.texts self.entry.inputs.sources) (λ texts. IfOk result (λ v.
             IsVisitsText self.entry.options.now.sums (options_of self.entry.options.now) self.entry.seed texts v.items)) }
         ensures failed { IfErr result (IsOfVisits (options_of self.entry.options.now) self.entry.seed (S.texts self.entry.inputs.sources)) }
+        ensures fallible { IfErr result (UnreadableIf S.may_fail) }
     {
         if self.options.sums {
             return self.visit_images(console);

@@ -1,7 +1,7 @@
 -- Images in the lines of files, one after another.
-use Rattle.std.proofs.Common.{◌≡◌, ℕ, Bool, true, false, List, [], ◌∷◌, ◌++◌, length, drop, map, cond, Option, Some, None, refl, sym, ap, subst, ◌∙◌, ◌+◌, append-nil, eqb, arith}
+use Rattle.std.proofs.Common.{◌≡◌, ◌≤◌, ℕ, Bool, true, false, List, [], ◌∷◌, ◌++◌, length, drop, map, cond, Option, Some, None, refl, sym, ap, subst, ◌∙◌, ◌+◌, append-nil, eqb, arith}
 use mathlib.Core.Bool.{true≢false}
-use Rattle.std.specs.Prelude.{IfSome, MatchOption, unwrap_or, ◌≤◌}
+use Rattle.std.specs.Prelude.{IfSome, MatchOption, unwrap_or}
 use Rattle.std.specs.Option.{option_map}
 use Rattle.std.specs.List.{onto_first, prefix_len}
 use Rattle.std.specs.Char.{is_ascii_whitespace}
@@ -10,10 +10,11 @@ use Rattle.std.specs.Io.BufRead.{take_through, drop_through, DropsThrough}
 use Rattle.std.specs.Io.KnownBytes.{IsAtEnd, prepend_known}
 use Rattle.std.specs.Io.Buffered.{reader_remaining, reader_inner, reader_buffer, reader_capacity}
 use Rattle.std.specs.declared.io.buffered.BufReader.{BufReader}
+use Rattle.std.proofs.lemmas.Bool.{cond_both}
 use Rattle.std.proofs.lemmas.Str.Ascii.{trim_ascii_is}
 use Rattle.line_sketches.specs.Hex.{bytes_of_hex}
 use Rattle.line_sketches.specs.Sources.{GivesNext}
-use Rattle.distinct_inputs.specs.Images.{ended_lines, line_image, line_images, or_none, images_behind, images_in_lines, parts_left, open_text, GivesOrCloses}
+use Rattle.distinct_inputs.specs.Images.{alone, count_of, is_followed, ended_lines, line_image, line_images, or_none, images_behind, images_in_lines, parts_left, open_text, GivesOrCloses}
 
 -- the first line of a text, and the lines after it
 ended_first : (b : ℕ) (t : List ℕ) → ended_lines (b ∷ t) ≡ take_through 10 (b ∷ t) ∷ ended_lines (drop_through 10 (b ∷ t))
@@ -172,3 +173,13 @@ at_last (Some images) now new true line remaining None None left shown same is c
 at_last (Some images) now new true line remaining None (Some texts) left shown same is closes next =
     let e : Some (images_in_lines texts) ≡ Some images = subst (λ (n : Option (List (List ℕ))). IfSome n (λ i. parts_left true None line (Some texts) ≡ Some i)) same closes.0 in
     ap (λ o. unwrap_or o []) (sym e) ∙ ap images_in_lines next
+
+-- no bytes have no entries
+pub count_of_nothing : (sums : Bool) → count_of sums [] ≡ 0
+count_of_nothing true = refl
+count_of_nothing false = refl
+
+-- bytes have no more entries once they are none if something follows an image
+pub count_of_alone : (sums alone_sums : Bool) (bytes : List ℕ) (most : ℕ) → count_of sums bytes ≤ most → count_of sums (alone alone_sums bytes) ≤ most
+count_of_alone sums alone_sums bytes most few =
+    cond_both (is_followed alone_sums bytes) [] bytes (λ (it : List ℕ). count_of sums it ≤ most) (λ followed. let none = count_of_nothing sums in omega (arith, none)) (λ single. few)

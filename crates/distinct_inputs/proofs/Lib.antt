@@ -1,2 +1,3 @@
 mod ImageLines
 pub mod ListNames
+mod SeedFiles

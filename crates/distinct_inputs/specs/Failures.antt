@@ -4,7 +4,7 @@ use Rattle.std.specs.Option.{option_map}
 use Rattle.std.specs.Str.{bytes_eq}
 use Rattle.sketch_base.specs.declared.error.ErrorKind.TheVariants.{OutOfMemory, InvalidData, Policy}
 use Rattle.sketch_base.specs.Seed.{seed_hash}
-use Rattle.lines.specs.Lines.{lines_of_all}
+use Rattle.lines.specs.Lines.{lines_of, lines_of_all}
 use Rattle.lines.specs.declared.key.Hashing.{Hashing}
 use Rattle.lines.specs.declared.key.Key.{Key}
 use Rattle.line_sketches.specs.Refusals.{HasFault}
@@ -12,27 +12,25 @@ use Rattle.line_sketches.specs.declared.header.Flaw.TheVariants.{Damaged}
 use Rattle.line_sketches.specs.declared.sketching.Unread.{Unread}
 use Rattle.line_sketches.specs.declared.sketching.Unread.TheVariants.{Refused, Failed}
 use Rattle.line_sums.specs.Amounts.{added_by}
-use Rattle.line_sums.specs.Refusals.{HasNoNumber, IsPast}
+use Rattle.line_sums.specs.Refusals.{HasNoNumberAt, IsPast}
 use Rattle.line_sums.specs.declared.addends.Amount.{Amount}
 use Rattle.line_sums.specs.declared.addends.Amount.TheVariants.{One, Number}
-use Rattle.expression_text.specs.Grammar.{SpellsNothing}
 use Rattle.distinct_arguments.specs.Faults.{fault_status}
-use Rattle.distinct_arguments.specs.declared.fault.Fault.TheVariants.{NotOneExpression, LoneSum, ZeroSeed}
-use Rattle.distinct_arguments.specs.Arguments.{Action, prints, runs, fails}
+use Rattle.distinct_arguments.specs.declared.fault.Fault.TheVariants.{LoneSum, ZeroSeed}
 use Rattle.distinct_arguments.specs.Settings.{chosen_key, chosen_value}
 use Rattle.std.specs.declared.io.Error.{Error}
 use Rattle.distinct_arguments.specs.Settings.{OptionValues, SeedValue, seed_number, seed_file}
 use Rattle.distinct_inputs.specs.Images.{images_of, HasNoSketch}
+use Rattle.distinct_inputs.specs.Lists.{are_lines, names_in, IsFirstUnnamed}
+use Rattle.distinct_inputs.specs.Seeds.{seed_in}
 use Rattle.distinct_inputs.specs.declared.images.Images.{Images}
-use Rattle.distinct_arguments.specs.declared.commands.Command.{Command}
-use Rattle.distinct_arguments.specs.declared.commands.Command.TheVariants.{Count, Sketch, Combine, Show, Eval, Visits, Sum}
 use Rattle.distinct_arguments.specs.declared.commands.Operator.{Operator}
 use Rattle.distinct_arguments.specs.declared.commands.Operator.TheVariants.{Union, Meet, Minus}
 use Rattle.grouped_lines.specs.United.{HasFirstFlawed}
 use Rattle.grouped_lines.specs.declared.united.LineFlaw.{LineFlaw}
 use Rattle.grouped_lines.specs.declared.united.LineFlaw.TheVariants.{NoTab as NoTabAtAll, NoHex as NoDigits, NoImage}
 use Rattle.distinct_inputs.specs.declared.failure.Failure.{Failure}
-use Rattle.distinct_inputs.specs.declared.failure.Failure.TheVariants.{NotText, Arguments, NoFiles, NotTwo, NoExpression, NoName, NoSeed, Terminal, WrongCount, NotOneEach, Memory, Unreadable, NoSketch, NoSums, NoHex, NoTab, NoLine, PastGreatest, PastUnion, PastResult, NotANumber, NotWritten}
+use Rattle.distinct_inputs.specs.declared.failure.Failure.TheVariants.{NotText, Arguments, NoFiles, NotTwo, NoExpression, NoName, NoNul, NoSeed, Terminal, WrongCount, Memory, Unreadable, NoSketch, NoSums, NoHex, NoTab, NoLine, PastGreatest, PastUnion, NotANumber, NotWritten}
 
 -- the exit status: 2 if the arguments are wrong, else 1
 abbrev pub failure_status : Failure → ℕ
@@ -132,14 +130,14 @@ IsOfGroups seed texts (NoHex name line) = IfSome texts (HasFirstFlawed seed line
 IsOfGroups seed texts (NoSketch name line flaw) = IfSome texts (HasFirstFlawed seed line (NoImage flaw))
 IsOfGroups seed texts failure = IsOfReading failure
 
--- some line of texts has no number to add, if the texts are known
-abbrev pub HasNoNumberIn : Amount → (texts : Option (List (List ℕ))) → Type 0
-HasNoNumberIn amount texts = IfSome texts (λ all. HasFault (HasNoNumber amount) (lines_of_all all))
+-- the line of this number in some text has no number to add, if the texts are known
+abbrev pub HasNoNumberIn : Amount → (line : ℕ) → (texts : Option (List (List ℕ))) → Type 0
+HasNoNumberIn amount line texts = IfSome texts (HasFault (λ text. HasNoNumberAt amount line (lines_of text)))
 
 -- lines are not summed: memory was refused, a file can't be read, a sum is 2^64 or more, or a line has no number to add
 abbrev pub IsOfSums : OptionValues → (seed : ℕ) → Amount → (texts : Option (List (List ℕ))) → Failure → Type 0
 IsOfSums options seed amount texts (PastGreatest name line) = HasGreatSum options seed amount texts
-IsOfSums options seed amount texts (NotANumber name line) = (amount ≢ One) × HasNoNumberIn amount texts
+IsOfSums options seed amount texts (NotANumber name line) = (amount ≢ One) × HasNoNumberIn amount line texts
 IsOfSums options seed amount texts failure = IsOfReading failure
 
 -- lines are not sketched, or not summed if they add something
@@ -163,12 +161,29 @@ IsOfTotalOf (Some field) options seed texts failure = IsOfSums options seed (Num
 abbrev pub IsOfTotal : OptionValues → (seed : ℕ) → (texts : Option (List (List ℕ))) → Failure → Type 0
 IsOfTotal options seed texts failure = IsOfTotalOf (chosen_value options) options seed texts failure
 
+-- a file is reported to be unreadable only if files may fail
+abbrev pub UnreadableIf : (may_fail : Bool) → Failure → Type 0
+UnreadableIf may_fail (Unreadable name error) = may_fail ≡ true
+UnreadableIf may_fail _ = ⊤
+
+-- no names from the list of this name and, if they are known, of these bytes: memory was refused, the list can't be read,
+-- it has lines and no NUL byte, or the first name that can't be one has this number
+abbrev pub IsOfList : (name : List ℕ) → (list : Option (List ℕ)) → Failure → Type 0
+IsOfList name list (NoNul file) = (string_bytes file ≡ called name) × IfSome list (λ bytes. are_lines bytes ≡ true)
+IsOfList name list (NoName file number) = (string_bytes file ≡ called name) × IfSome list (λ bytes. IsFirstUnnamed number (names_in bytes))
+IsOfList name list failure = IsOfReading failure
+
+-- no seed from the file of this name and, if they are known, of these bytes: memory was refused, the file can't be read, or
+-- its bytes spell no seed
+abbrev pub IsOfSeedFile : (name : List ℕ) → (bytes : Option (List ℕ)) → Failure → Type 0
+IsOfSeedFile name bytes (NoSeed file) = (string_bytes file ≡ called name) × IfSome bytes (λ known. seed_in known ≡ None)
+IsOfSeedFile name bytes failure = IsOfReading failure
+
 -- no seed: a number has a seed hash of 0, or a file can't be read or has no seed
 abbrev pub IsOfSeed : SeedValue → Failure → Type 0
 IsOfSeed (seed_number n) (Arguments (ZeroSeed number)) = (number ≡ n) × (seed_hash n ≡ 0)
 IsOfSeed (seed_number n) _ = ⊥
-IsOfSeed (seed_file name) (NoSeed file) = ⊤
-IsOfSeed (seed_file name) failure = IsOfReading failure
+IsOfSeed (seed_file name) failure = IsOfSeedFile name None failure
 
 -- memory was refused, or the output of this name failed
 abbrev pub IsOfWriting : (name : List ℕ) → Failure → Type 0
@@ -181,14 +196,14 @@ IsOfWriting name _ = ⊥
 abbrev pub AreNotTwo : (hex : Bool) → (count : ℕ) → (texts : Option (List (List ℕ))) → Type 0
 AreNotTwo hex count texts = ((hex ≡ false) × (count ≢ 2)) ⊎ IfSome texts (λ all. length (images_of false hex all) ≢ 2)
 
--- another number of images was found than is expected
-abbrev pub IsOfCount : (expected : Option ℕ) → (found : ℕ) → Failure → Type 0
-IsOfCount expected found (WrongCount counted number) = (counted ≡ found) × (expected ≡ Some number) × (number ≢ found)
-IsOfCount expected found _ = ⊥
+-- there are this many images, if they are known
+abbrev pub AreCounted : (found : ℕ) → (images : Option (List (List ℕ))) → Type 0
+AreCounted found images = IfSome images (λ all. found ≡ length all)
 
--- images aren't united: memory, a file or its contents is at fault, or they are not as many as are expected
+-- images aren't united: memory, a file or its contents is at fault, or they are not as many as are expected; the number that is
+-- reported to be found is theirs
 abbrev pub IsOfUnion : (expected : Option ℕ) → (sums hex : Bool) → (seed : ℕ) → (images : Option (List (List ℕ))) → Failure → Type 0
-IsOfUnion expected sums hex seed images (WrongCount counted number) = (expected ≡ Some number) × (number ≢ counted)
+IsOfUnion expected sums hex seed images (WrongCount found number) = (expected ≡ Some number) × (number ≢ found) × AreCounted found images
 IsOfUnion expected sums hex seed images failure = IsOfImages sums hex seed images failure
 
 -- images of sums, or of theta sketches, can't be united
@@ -232,62 +247,6 @@ IsOfCombining operator options seed count texts failure =
 abbrev pub IsOfOperator : (by_groups : Bool) → Operator → OptionValues → (seed count : ℕ) → (texts : Option (List (List ℕ))) → Failure → Type 0
 IsOfOperator true operator options seed count texts failure = IsOfGroups seed texts failure
 IsOfOperator false operator options seed count texts failure = IsOfCombining operator options seed count texts failure
-
--- a text is not read as an expression: memory was refused, it spells none, or it has a name that can't be one
-abbrev pub IsOfExpression : (text : List ℕ) → Failure → Type 0
-IsOfExpression text Memory = ⊤
-IsOfExpression text (NoExpression copy fault) = SpellsNothing text
-IsOfExpression text (NoName copy number) = ⊤
-IsOfExpression text _ = ⊥
-
--- an expression has no result: memory was refused, or the sum of a key is 2^64 or more
-abbrev pub IsOfResult : Failure → Type 0
-IsOfResult Memory = ⊤
-IsOfResult (PastResult text) = ⊤
-IsOfResult _ = ⊥
-
--- .. or there are not as many sketches as names, or a file is at fault
-abbrev pub IsOfOperands : (sums hex : Bool) → (seed : ℕ) → (images : Option (List (List ℕ))) → Failure → Type 0
-IsOfOperands sums hex seed images (NotOneEach found names) = found ≢ names
-IsOfOperands sums hex seed images (PastResult text) = ⊤
-IsOfOperands sums hex seed images failure = IsOfImages sums hex seed images failure
-
--- an evaluation fails: there is not one expression, it is not read, there are not as many sketches as names, or a file is at fault
-abbrev pub IsOfEvaluation : (count : ℕ) → (sums hex : Bool) → (seed : ℕ) → (images : Option (List (List ℕ))) → Failure → Type 0
-IsOfEvaluation count sums hex seed images (Arguments NotOneExpression) = count ≢ 1
-IsOfEvaluation count sums hex seed images (NoExpression text fault) = ⊤
-IsOfEvaluation count sums hex seed images (NoName text number) = ⊤
-IsOfEvaluation count sums hex seed images (NotOneEach found names) = found ≢ names
-IsOfEvaluation count sums hex seed images (PastResult text) = ⊤
-IsOfEvaluation count sums hex seed images failure = IsOfImages sums hex seed images failure
-
--- no image is named, if this may be, or another failure
-abbrev pub OrUnnamed : (IsUnnamed : Type 0) → (IsOther : Failure → Type 0) → Failure → Type 0
-OrUnnamed IsUnnamed IsOther NoFiles = IsUnnamed
-OrUnnamed IsUnnamed IsOther failure = IsOther failure
-
--- a command fails before it writes: what it reads is at fault, or memory was refused; and by command, no image is
--- named, there are not as many as are expected, `minus` doesn't have two, `eval` doesn't have one expression, or `sum`
--- doesn't have the field of its numbers
-abbrev pub IsOfCommand : Command → OptionValues → (seed count : ℕ) → (texts : Option (List (List ℕ))) → Failure → Type 0
-IsOfCommand Count options seed count texts failure = IsOfReading failure
-IsOfCommand Sketch options seed count texts failure = IsOfSketch options seed texts failure
-IsOfCommand (Combine operator) options seed count texts failure =
-    OrUnnamed (count ≡ 0) (IsOfOperator (unites_groups operator options) operator options seed count texts) failure
-IsOfCommand Show options seed count texts failure = OrUnnamed (count ≡ 0) (IsOfImages false options.hex seed (images_in false options texts)) failure
-IsOfCommand Eval options seed count texts failure = IsOfEvaluation count options.sums options.hex seed (images_in options.sums options texts) failure
-IsOfCommand Visits options seed count texts failure = OrUnnamed ((count ≡ 0) × (options.sums ≡ true)) (IsOfVisits options seed texts) failure
-IsOfCommand Sum options seed count texts failure = IsOfTotal options seed texts failure
-
--- a command fails, or its answer can't be written to standard output
-abbrev pub IsOfAnswer : Command → OptionValues → (seed count : ℕ) → (texts : Option (List (List ℕ))) → Failure → Type 0
-IsOfAnswer command options seed count texts failure = IsOfCommand command options seed count texts failure ⊎ IsOfWriting (codes "standard output") failure
-
--- a request fails as its command does, or its text can't be written to standard output
-abbrev pub IsOfRequest : Action → (seed count : ℕ) → (texts : Option (List (List ℕ))) → Failure → Type 0
-IsOfRequest (prints topic) seed count texts failure = IsOfWriting (codes "standard output") failure
-IsOfRequest (runs command options files) seed count texts failure = IsOfAnswer command options seed count texts failure
-IsOfRequest (fails mistake) seed count texts failure = ⊥
 
 -- nothing was written to the writer, or it is the writer that failed
 abbrev pub IsUnwritten : (old new : Option (List ℕ)) → Failure → Type 0

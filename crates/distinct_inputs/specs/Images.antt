@@ -7,10 +7,10 @@ use Rattle.std.specs.List.{onto_first, prefix_len, suffix_len}
 use Rattle.std.specs.Char.{is_ascii_whitespace}
 use Rattle.sketch_base.specs.Seed.{seed_hash}
 use Rattle.line_sketches.specs.Hex.{hex_of, bytes_of_hex}
-use Rattle.line_sketches.specs.Header.{image_length, flaw_of}
+use Rattle.line_sketches.specs.Header.{image_length, entry_count, flaw_of}
 use Rattle.line_sketches.specs.Refusals.{IsNoImage, HasFault}
 use Rattle.line_sketches.specs.Sources.{GivesNext}
-use Rattle.line_sketches.specs.SumsHeader.{sums_length, sums_flaw_of}
+use Rattle.line_sketches.specs.SumsHeader.{sums_length, sums_count, sums_flaw_of}
 use Rattle.line_sums.specs.Unions.{AreNoSums}
 use Rattle.line_sketches.specs.declared.header.Flaw.{Flaw}
 use Rattle.distinct_inputs.specs.declared.images.Images.{Images}
@@ -127,6 +127,10 @@ ReadsNext seed (Some images) new (Some s) = ReadsFirst seed images s new
 -- why bytes are not one image: of a sketch of sums, or of a theta sketch
 abbrev pub image_flaw : (sums : Bool) → (h : ℕ) → List ℕ → Flaw
 image_flaw sums h bytes = if sums then sums_flaw_of h bytes else flaw_of h bytes
+
+-- how many entries an image has by its preamble: of a sketch of sums, or of a theta sketch
+abbrev pub count_of : (sums : Bool) → List ℕ → ℕ
+count_of sums bytes = if sums then sums_count bytes else entry_count bytes
 
 -- nothing follows the image that bytes begin, if they begin one
 abbrev pub IsAlone : (sums : Bool) → List ℕ → Type 0

@@ -1,6 +1,6 @@
 -- Lists of names of files.
-use Rattle.std.specs.Prelude.{ℕ, ◌≡◌, ◌≢◌, ◌==◌, ◌+◌, ◌-◌, ◌^◌, min, ⊤, List, [], ◌∷◌, ◌++◌, length, if◌then◌else◌, map, String, Vec, string_bytes, IsUtf8}
-use Rattle.std.specs.List.{onto_first, AllByRecursion}
+use Rattle.std.specs.Prelude.{ℕ, ◌≡◌, ◌≢◌, ◌==◌, ◌+◌, ◌-◌, ◌^◌, ◌&&◌, not, min, ⊤, Bool, List, [], ◌∷◌, ◌++◌, length, if◌then◌else◌, map, String, Vec, string_bytes, IsUtf8}
+use Rattle.std.specs.List.{onto_first, list_any, AllByRecursion}
 use Rattle.distinct_inputs.specs.declared.lists.Unlisted.{Unlisted}
 use Rattle.distinct_inputs.specs.declared.lists.Unlisted.TheVariants.{Name, Memory}
 
@@ -15,6 +15,10 @@ texts_of texts = map (λ text. text.items) texts
 abbrev pub names_in : List ℕ → List (List ℕ)
 names_in [] = []
 names_in (byte ∷ list) = if byte == 0 then [] ∷ names_in list else onto_first byte (names_in list)
+
+-- whether a list has lines, each of which an LF (10) ends, and no NUL byte: its names would be read as one
+abbrev pub are_lines : List ℕ → Bool
+are_lines list = not (list_any (λ byte. byte == 0) list) && list_any (λ byte. byte == 10) list
 
 -- a text can be the name of a file: it isn't empty, and is UTF-8
 abbrev pub IsName : List ℕ → Type 0

@@ -1,11 +1,11 @@
 //! The images in files: a file is one image and nothing else, or each of its lines is one in hexadecimal, with blanks
 //! allowed around it.
-ghost use Rattle.std.specs.Prelude.{◌≡◌, ℕ, List, Option, true, false, Some, None, IfOk, IfSome, OnOk};
+ghost use Rattle.std.specs.Prelude.{◌≡◌, ◌≤◌, ◌<◌, ◌^◌, ℕ, List, Option, true, false, Some, None, IfOk, IfSome, IfNone, OnOk, max, nat_lt, if◌then◌else◌, Bool};
 ghost use Rattle.sketch_base.specs.Seed.{seed_hash};
 ghost use Rattle.line_sketches.specs.Sources.{GivesNext};
-ghost use Rattle.distinct_inputs.specs.Images.{remaining_images, remaining_parts, alone, image_flaw, is_followed, length_of, line_image};
+ghost use Rattle.distinct_inputs.specs.Images.{remaining_images, remaining_parts, alone, image_flaw, is_followed, length_of, count_of, line_image};
 ghost use Rattle.distinct_inputs.specs.Images.{CountsLine, HasNoSketch, IsAlone, GivesOrCloses, IsSameReader};
-ghost use Rattle.distinct_inputs.specs.Failures.{called, IsOfImages, IsOfReading, NotesNext, ReportsUnreadable, ReportsNoSketch, ReportsPastUnion};
+ghost use Rattle.distinct_inputs.specs.Failures.{called, IsOfImages, IsOfReading, NotesNext, ReportsUnreadable, ReportsNoSketch, ReportsPastUnion, UnreadableIf};
 
 use crate::failure::Failure;
 use crate::inputs::Inputs;
@@ -140,6 +140,7 @@ impl<'a, S: Sources> Images<'a, S> {
     pub fn unreadable(&self, error: io::Error) -> Failure
         ensures read { ReportsUnreadable (called self.now.inputs.current.now) error result }
         ensures of_reading { IsOfReading result }
+        ensures fallible { UnreadableIf S.may_fail result }
     {
         self.inputs.unreadable(self.alloc, error)
     }
@@ -151,6 +152,7 @@ impl<'a, S: Sources> Images<'a, S> {
         ensures of_images { (seed : ℕ) (images : Option (List (List ℕ)))
             → HasNoSketch sums seed images
             → IsOfImages sums hex seed images result }
+        ensures fallible { (may_fail : Bool) → UnreadableIf may_fail result }
     {
         let Ok(name) = String::from_str(self.alloc, self.name()) else {
             return Failure::Memory;
@@ -171,7 +173,8 @@ impl<'a, S: Sources> Images<'a, S> {
 
     /// The failure if the sum of a key is 2^64 or more with the image that was read last.
     pub fn past_union(&self) -> Failure
-        ensures { ReportsPastUnion self.now result }
+        ensures reports { ReportsPastUnion self.now result }
+        ensures fallible { (may_fail : Bool) → UnreadableIf may_fail result }
     {
         match String::from_str(self.alloc, self.name()) {
             Ok(name) => Failure::PastUnion(name, self.line),
@@ -180,11 +183,16 @@ impl<'a, S: Sources> Images<'a, S> {
     }
 
     /// The remark on the image that retains the most hashes, if these are more than 2^`lg_k`.
-    pub fn coarser(&self, lg_k: u8) -> Option<Coarser<'a>> {
-        if lg_k < 64 && 1u64 << lg_k < self.most {
+    pub fn coarser(&self, lg_k: u8) -> Option<Coarser<'a>>
+        ensures some { IfSome result (λ c.
+            (2 ^ lg_k < self.now.most) × (c.retained ≡ self.now.most) × (c.lg_k ≡ lg_k) × (c.name.now ≡ self.now.most_name.now)) }
+        ensures none { IfNone result (self.now.most ≤ 2 ^ lg_k) }
+    {
+        let most = self.most;
+        if lg_k < 64 && 1u64 << lg_k < most {
             Some(Coarser {
                 name: self.most_name,
-                retained: self.most,
+                retained: most,
                 lg_k,
             })
         } else {
@@ -197,6 +205,11 @@ impl<'a, S: Sources> Images<'a, S> {
         ensures flaw { self.new.flaw ≡ Some (image_flaw self.old.sums (seed_hash self.old.seed) image.now) }
         ensures same { IsSameReader self.old self.new }
         ensures left { remaining_parts S.Source.remaining S.texts self.new ≡ remaining_parts S.Source.remaining S.texts self.old }
+        ensures most { self.new.most ≡ max self.old.most (count_of self.old.sums image.now) }
+        ensures most_name { self.new.most_name.now ≡ (
+            if nat_lt self.old.most (count_of self.old.sums image.now)
+            then called self.old.inputs.current.now
+            else self.old.most_name.now) }
     {
         self.flaw = Some(flaw_in(self.sums, image, self.seed));
         let count = if self.sums {
@@ -218,6 +231,7 @@ impl<'a, S: Sources> Images<'a, S> {
             (remaining_images S.Source.remaining S.texts self.old)
             (remaining_images S.Source.remaining S.texts self.new)) }
         ensures alone { IfOk result (λ image. IfSome image (λ v. IsAlone self.old.sums v.items)) }
+        ensures noted { IfOk result (λ image. IfSome image (λ v. count_of self.old.sums v.items ≤ self.new.most)) }
     {
         match self.next_part()? {
             Some(part) => Ok(Some(alone(self.alloc, self.sums, part))),
@@ -231,6 +245,7 @@ impl<'a, S: Sources> Images<'a, S> {
             (remaining_parts S.Source.remaining S.texts self.old)
             (remaining_parts S.Source.remaining S.texts self.new)) }
         ensures sums { OnOk result (self.new.sums ≡ self.old.sums) }
+        ensures noted { IfOk result (λ image. IfSome image (λ v. count_of self.old.sums v.items ≤ self.new.most)) }
     {
         if self.hex {
             self.next_line()
@@ -245,6 +260,7 @@ impl<'a, S: Sources> Images<'a, S> {
         ensures hex { self.new.hex ≡ self.old.hex }
         ensures sums { self.new.sums ≡ self.old.sums }
         ensures named { NotesNext self.old.inputs.current.now self.old.inputs.left.now self.new.inputs.current.now self.new.inputs.left.now }
+        ensures noted { IfOk result (λ image. IfSome image (λ v. count_of self.old.sums v.items ≤ self.new.most)) }
     {
         let Some(mut input) = self.inputs.next_source()? else {
             return Ok(None);
@@ -263,6 +279,7 @@ impl<'a, S: Sources> Images<'a, S> {
             (remaining_parts S.Source.remaining S.texts self.old)
             (remaining_parts S.Source.remaining S.texts self.new)) }
         ensures sums { OnOk result (self.new.sums ≡ self.old.sums) }
+        ensures noted { IfOk result (λ image. IfSome image (λ v. count_of self.old.sums v.items ≤ self.new.most)) }
     {
         'files: for _ in 0..u64::MAX {
             if let Some(image) = self.line_of_open()? {
@@ -288,6 +305,7 @@ impl<'a, S: Sources> Images<'a, S> {
             (remaining_parts S.Source.remaining S.texts self.old)
             (remaining_parts S.Source.remaining S.texts self.new)
             self.new.«open») }
+        ensures noted { IfOk result (λ image. IfSome image (λ v. count_of self.old.sums v.items ≤ self.new.most)) }
     {
         let Some(reader) = &mut self.open else {
             return Ok(None);
@@ -311,6 +329,7 @@ impl<'a, S: Sources> Images<'a, S> {
         ensures spelled { IfOk result (λ v. v.items ≡ line_image line.now) }
         ensures same { IsSameReader self.old self.new }
         ensures left { remaining_parts S.Source.remaining S.texts self.new ≡ remaining_parts S.Source.remaining S.texts self.old }
+        ensures most { OnOk result (self.new.most ≡ max self.old.most (count_of self.old.sums (line_image line.now))) }
     {
         self.flaw = None;
         match read_hex(self.alloc, line.trim_ascii())? {
@@ -326,7 +345,19 @@ impl<'a, S: Sources> Images<'a, S> {
 impl<'a, S: Sources> Sources for Images<'a, S> {
     type Source = Cursor<Vec<u8>>;
 
+    ghost use mathlib.Core.Bool.{false≢true};
+
     ghost texts = { λ s. remaining_images S.Source.remaining S.texts s };
+
+    ghost may_fail = { S.may_fail };
+
+    ghost readers_fail = { λ fails. absurd (false≢true fails) };
+
+    fn may_fail() -> bool
+        ensures { result ≡ S.may_fail }
+    {
+        S::may_fail()
+    }
 
     fn next_source(&mut self) -> io::Result<Option<Cursor<Vec<u8>>>> {
         match self.next_image()? {

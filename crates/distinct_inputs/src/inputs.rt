@@ -1,11 +1,12 @@
 //! The files that the program reads.
-ghost use Rattle.std.specs.Prelude.{◌≡◌, None, IfOk, IfErr};
+ghost use Rattle.std.specs.Prelude.{◌≡◌, Bool, true, false, None, Some, IfOk, IfErr, IfSome, OnOk};
 ghost use Rattle.line_sketches.specs.Sources.{GivesNext};
-ghost use Rattle.distinct_inputs.specs.Failures.{called, IsOfReading, NotesNext, ReportsUnreadable};
+ghost use Rattle.distinct_inputs.specs.Failures.{called, IsOfList, IsOfReading, NotesNext, ReportsUnreadable, UnreadableIf};
+ghost use Rattle.distinct_inputs.specs.Lists.{are_lines, names_in, names_of};
 
 use crate::failure::Failure;
 use crate::lists::{Unlisted, names_in};
-use line_sketches::Sources;
+use line_sketches::{Sources, TextReader};
 use std::alloc::Global;
 use std::fs::File;
 use std::io::{IsTerminal, Read};
@@ -25,6 +26,16 @@ impl Read for Input {
             Input::Standard(input) => input.read(buf),
             Input::File(file) => file.read(buf),
         }
+    }
+}
+
+impl TextReader for Input {
+    ghost use Rattle.std.specs.Prelude.{true};
+
+    ghost may_fail = { true };
+
+    fn may_fail() -> bool {
+        true
     }
 }
 
@@ -81,6 +92,16 @@ impl<'a> Sources for Files<'a> {
 
     ghost texts = { λ _. None };
 
+    ghost may_fail = { true };
+
+    ghost readers_fail = { λ fails. fails };
+
+    fn may_fail() -> bool
+        ensures { result ≡ true }
+    {
+        true
+    }
+
     fn next_source(&mut self) -> io::Result<Option<Input>> {
         let Some(name) = self.next_name() else {
             return Ok(None);
@@ -116,15 +137,6 @@ impl<'a, S: Sources> Inputs<'a, S> {
         }
     }
 
-    /// The same sources under other names.
-    pub fn renamed<'b>(self, names: &'b [String]) -> Inputs<'b, S>
-        ensures sources { result.sources ≡ self.entry.sources }
-        ensures names { result.left.now ≡ names.now }
-    {
-        let Inputs { sources, .. } = self;
-        Inputs::new(sources, names)
-    }
-
     /// The name, in messages, of the source that was opened last.
     pub fn name(&self) -> &'a str
         ensures { result.now ≡ called self.now.current.now }
@@ -132,14 +144,13 @@ impl<'a, S: Sources> Inputs<'a, S> {
         called(self.current)
     }
 
-    /// The failure if the source that was opened last can't be read.
+    /// The failure if the source that was opened last can't be read. If no source may fail, only memory was missing.
     pub fn unreadable(&self, alloc: Global, error: io::Error) -> Failure
-        ensures { ReportsUnreadable (called self.now.current.now) error result }
+        ensures reports { ReportsUnreadable (called self.now.current.now) error result }
+        ensures of_reading { IsOfReading result }
+        ensures fallible { UnreadableIf S.may_fail result }
     {
-        match String::from_str(alloc, self.name()) {
-            Ok(name) => Failure::Unreadable(name, error),
-            Err(_) => Failure::Memory,
-        }
+        unreadable(alloc, self.current, S::may_fail(), error)
     }
 }
 
@@ -147,6 +158,16 @@ impl<'a, S: Sources> Sources for Inputs<'a, S> {
     type Source = S::Source;
 
     ghost texts = { λ s. S.texts s.sources };
+
+    ghost may_fail = { S.may_fail };
+
+    ghost readers_fail = { S.readers_fail };
+
+    fn may_fail() -> bool
+        ensures { result ≡ S.may_fail }
+    {
+        S::may_fail()
+    }
 
     fn next_source(&mut self) -> io::Result<Option<S::Source>>
         ensures next { IfOk result (GivesNext S.Source.remaining (S.texts self.old.sources) (S.texts self.new.sources)) }
@@ -160,42 +181,99 @@ impl<'a, S: Sources> Sources for Inputs<'a, S> {
     }
 }
 
-/// All bytes of the file of this name, or of standard input for `-`.
-pub fn read_whole(rt: &HostRuntime, name: &str) -> Result<Vec<u8>, Failure>
-    ensures failed { IfErr result IsOfReading }
+/// The failure if the file of this name can't be read. If none may fail, only memory was missing.
+fn unreadable(alloc: Global, name: &str, may_fail: bool, error: io::Error) -> Failure
+    ensures reports { ReportsUnreadable (called name.now) error result }
+    ensures of_reading { IsOfReading result }
+    ensures fallible { UnreadableIf may_fail result }
 {
-    let mut bytes = Vec::new(rt.alloc());
-    match read_into(rt, name, &mut bytes) {
-        Ok(()) => Ok(bytes),
-        Err(error) => match String::from_str(rt.alloc(), called(name)) {
-            Ok(name) => Err(Failure::Unreadable(name, error)),
-            Err(_) => Err(Failure::Memory),
-        },
+    if !may_fail {
+        return Failure::Memory;
+    }
+    match String::from_str(alloc, called(name)) {
+        Ok(name) => Failure::Unreadable(name, error),
+        Err(_) => Failure::Memory,
     }
 }
 
-fn read_into(rt: &HostRuntime, name: &str, bytes: &mut Vec<u8>) -> io::Result<()> {
-    let mut input = open(rt, name)?;
-    input.read_to_end(bytes)?;
-    Ok(())
+/// The file of this name, opened, or standard input for `-`.
+pub(crate) fn opened(rt: &HostRuntime, name: &str) -> Result<Input, Failure>
+    ensures failed { IfErr result IsOfReading }
+{
+    match open(rt, name) {
+        Ok(input) => Ok(input),
+        Err(error) => Err(unreadable(rt.alloc(), name, true, error)),
+    }
 }
 
-/// The names in a list of files, which a file of this name has, or standard input for `-`. A list of lines without a NUL
+/// All bytes that a reader has left. It has this name in messages.
+pub(crate) fn read_whole<R: TextReader>(
+    alloc: Global,
+    name: &str,
+    reader: &mut R,
+) -> Result<Vec<u8>, Failure>
+    ensures bytes { IfSome (R.remaining reader.old) (λ bytes. IfOk result (λ v. v.items ≡ bytes)) }
+    ensures failed { IfErr result IsOfReading }
+    ensures fallible { IfErr result (UnreadableIf R.may_fail) }
+{
+    let mut bytes = Vec::new(alloc);
+    match reader.read_to_end(&mut bytes) {
+        Ok(_) => Ok(bytes),
+        Err(error) => Err(unreadable(alloc, name, R::may_fail(), error)),
+    }
+}
+
+/// Whether a list has lines and no NUL byte.
+fn are_lines(list: &[u8]) -> bool
+    ensures { result ≡ are_lines list.now }
+{
+    !list.contains(&0) && list.contains(&b'\n')
+}
+
+/// The names of files in a list, whose bytes these are; the list has this name in messages. A list of lines without a NUL
 /// byte is refused: its names would be read as one.
-pub fn files_in_list(rt: &HostRuntime, list: &str) -> Result<Vec<String>, Failure> {
-    let bytes = read_whole(rt, list)?;
-    if !bytes.contains(&0) && bytes.contains(&b'\n') {
-        return match String::from_str(rt.alloc(), called(list)) {
+fn listed(alloc: Global, name: &str, list: &[u8]) -> Result<Vec<String>, Failure>
+    ensures names { IfOk result (λ v. names_of v.items ≡ names_in list.now) }
+    ensures ended { OnOk result (are_lines list.now ≡ false) }
+    ensures failed { IfErr result (IsOfList name.now (Some list.now)) }
+    ensures fallible { (may_fail : Bool) → IfErr result (UnreadableIf may_fail) }
+{
+    if are_lines(list) {
+        return match String::from_str(alloc, called(name)) {
             Ok(name) => Err(Failure::NoNul(name)),
             Err(_) => Err(Failure::Memory),
         };
     }
-    match names_in(rt.alloc(), bytes.as_slice()) {
+    match names_in(alloc, list) {
         Ok(names) => Ok(names),
         Err(Unlisted::Memory) => Err(Failure::Memory),
-        Err(Unlisted::Name(number)) => match String::from_str(rt.alloc(), called(list)) {
+        Err(Unlisted::Name(number)) => match String::from_str(alloc, called(name)) {
             Ok(name) => Err(Failure::NoName(name, number)),
             Err(_) => Err(Failure::Memory),
         },
     }
+}
+
+/// The names of files in a list that a reader has left, which has this name in messages. A NUL byte ends each, which the
+/// last may lack. A list of lines without a NUL byte is refused.
+pub fn names_from<R: TextReader>(
+    alloc: Global,
+    name: &str,
+    reader: &mut R,
+) -> Result<Vec<String>, Failure>
+    ensures names { IfSome (R.remaining reader.old) (λ list. IfOk result (λ v. names_of v.items ≡ names_in list)) }
+    ensures ended { IfSome (R.remaining reader.old) (λ list. OnOk result (are_lines list ≡ false)) }
+    ensures failed { IfErr result (IsOfList name.now (R.remaining reader.old)) }
+    ensures fallible { IfErr result (UnreadableIf R.may_fail) }
+{
+    let bytes = read_whole(alloc, name, reader)?;
+    listed(alloc, name, bytes.as_slice())
+}
+
+/// The names in a list of files, which a file of this name has, or standard input for `-`.
+pub fn files_in_list(rt: &HostRuntime, list: &str) -> Result<Vec<String>, Failure>
+    ensures failed { IfErr result (IsOfList list.now None) }
+{
+    let mut input = opened(rt, list)?;
+    names_from(rt.alloc(), list, &mut input)
 }

@@ -1,7 +1,7 @@
 //! Writing answers.
-ghost use Rattle.std.specs.Prelude.{OnOk, IfErr};
+ghost use Rattle.std.specs.Prelude.{OnOk, IfErr, Bool};
 ghost use Rattle.std.specs.Io.KnownBytes.{Appends};
-ghost use Rattle.distinct_inputs.specs.Failures.{IsOfWriting, ReportsNotWritten};
+ghost use Rattle.distinct_inputs.specs.Failures.{IsOfWriting, ReportsNotWritten, UnreadableIf};
 
 use crate::failure::Failure;
 use grouped_lines::GroupFile;
@@ -13,6 +13,7 @@ use std::io::Write;
 pub fn put<W: Write>(alloc: Global, writer: &mut W, name: &str, bytes: &[u8]) -> Result<(), Failure>
     ensures written { OnOk result (Appends (W.contents writer.old) (W.contents writer.new) bytes.now) }
     ensures failed { IfErr result (IsOfWriting name.now) }
+    ensures fallible { (may_fail : Bool) → IfErr result (UnreadableIf may_fail) }
 {
     match writer.write_all(bytes) {
         Ok(()) => Ok(()),
@@ -22,7 +23,8 @@ pub fn put<W: Write>(alloc: Global, writer: &mut W, name: &str, bytes: &[u8]) ->
 
 /// The failure if the output of this name fails for this reason.
 pub fn not_written(alloc: Global, name: &str, error: io::Error) -> Failure
-    ensures { ReportsNotWritten name.now error result }
+    ensures reports { ReportsNotWritten name.now error result }
+    ensures fallible { (may_fail : Bool) → UnreadableIf may_fail result }
 {
     match String::from_str(alloc, name) {
         Ok(name) => Failure::NotWritten(name, error),

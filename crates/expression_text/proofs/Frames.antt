@@ -1,7 +1,8 @@
 -- What is pending between two tokens, from one token to the next.
-use Rattle.std.proofs.Common.{◌≡◌, ℕ, eqb, ◌<◌, ◌≤◌, ◌+◌, Bool, true, false, List, [], ◌∷◌, ◌++◌, length, get_or, refl, ap, sym, subst, ◌∙◌, arith, append_assoc, append-nil}
+use Rattle.std.proofs.Common.{◌≡◌, ℕ, eqb, ◌<◌, ◌≤◌, ◌+◌, Bool, true, false, List, [], ◌∷◌, ◌++◌, length, get_or, refl, ap, sym, subst, ◌∙◌, arith, inl, inr, append_assoc, append-nil}
 use Rattle.std.proofs.lemmas.List.{same_from_push, get_or_append_left, nil_from_length, length-map, get_or-map}
 use Rattle.std.proofs.lemmas.Slice.Eq.{bytes_eq-Decides}
+use Rattle.std.proofs.lemmas.Bool.{cases_lt}
 use Rattle.std.specs.Str.{bytes_eq}
 use Rattle.std.proofs.Common.{map}
 use Rattle.std.proofs.Common.{length-append}
@@ -12,9 +13,10 @@ use Rattle.expression_text.specs.declared.operator.Step.TheVariants.{Operand, Co
 use Rattle.expression_text.specs.declared.parsing.Pending.{Pending}
 use Rattle.expression_text.specs.declared.parsing.Pending.TheVariants.{Group, Sign}
 use Rattle.expression_text.specs.Expressions.{Expression, Named, Grouped, Combined, postfix}
-use Rattle.expression_text.specs.Grammar.{tokens_of, strength, level, IsExpressionText}
+use Rattle.expression_text.specs.Grammar.{tokens_of, names_in, strength, level, IsExpressionText}
 use Rattle.expression_text.specs.Tokens.{Lexeme, name, sign, opening, closing, IsText}
-use Rattle.expression_text.specs.Reading.{HasName, IsIndexed, Frame, group, left, pending_of, tokens_before, steps_before, open_groups, IsAbove, IsOperand, AreFrames, LacksSign, WantsOperand, HasOperand, IsSettled, IsReading}
+use Rattle.expression_text.specs.Reading.{HasName, with_name, IsIndexed, Frame, group, left, pending_of, tokens_before, steps_before, open_groups, IsAbove, IsOperand, AreFrames, LacksSign, WantsOperand, HasOperand, IsSettled, IsReading}
+use Rattle.expression_text.proofs.FirstNames.{name_added, none_added}
 
 -- ---- the last one pending
 
@@ -49,7 +51,7 @@ above_settled s (left a op ∷ frames) pending are settled = settled (pending_of
 
 pub looser : (least : ℕ) (tokens : List Lexeme) (names : List (List ℕ)) (pending : List Pending) (steps : List Step) (levels : ℕ) → least ≤ 3 → HasOperand 3 tokens names pending steps levels → HasOperand least tokens names pending steps levels
 looser least tokens names pending steps levels le has =
-    record { frames = has.frames; tree = has.tree; around = has.around; operand = has.operand; above = has.above; tight = omega (arith, has.tight, le); tokens_are = has.tokens_are; steps_are = has.steps_are }
+    record { frames = has.frames; tree = has.tree; around = has.around; named = has.named; operand = has.operand; above = has.above; tight = omega (arith, has.tight, le); tokens_are = has.tokens_are; steps_are = has.steps_are }
 
 -- ---- more names
 
@@ -72,6 +74,7 @@ module _ (tokens : List Lexeme) (names : List (List ℕ)) (pending : List Pendin
     frames = wants.frames;
     tree = Named i;
     around = record { pending_are = wants.around.pending_are; levels_are = wants.around.levels_are; sound = frames_more (length names) (length new) wants.frames (length_more names at.more new at.appended) wants.around.sound };
+    named = at.named ∙ ap (λ ns. with_name ns word) wants.named ∙ sym (name_added tokens word);
     operand = record { bound = tt; deep = omega (arith, wants.limited); within = λ n le. omega (arith, at.found.inside, le) };
     above = above_atom wants.frames;
     tight = omega arith;
@@ -93,6 +96,7 @@ module _ (tokens : List Lexeme) (names : List (List ℕ)) (pending : List Pendin
           levels_are = has.around.levels_are;
           sound = (has.operand, has.tight, above_settled (strength op) has.frames pending has.around.pending_are settled.settled, has.around.sound);
         };
+        named = has.named ∙ sym (none_added tokens (sign op ∷ []) refl);
         tokens_are = λ more. ap (λ ts. ts ++ sign op ∷ []) (has.tokens_are more) ∙ append_assoc (tokens_before (names ++ more) has.frames) (tokens_of (names ++ more) has.tree) (sign op ∷ []);
         steps_are = has.steps_are;
         limited = omega (arith, has.operand.deep);
@@ -102,19 +106,20 @@ module _ (tokens : List Lexeme) (names : List (List ℕ)) (pending : List Pendin
   opening_read wants limited = record {
     frames = group ∷ wants.frames;
     around = record { pending_are = ap (λ ps. ps ++ Group ∷ []) wants.around.pending_are; levels_are = ap (λ n. n + 1) wants.around.levels_are; sound = wants.around.sound };
+    named = wants.named ∙ sym (none_added tokens (opening ∷ []) refl);
     tokens_are = λ more. ap (λ ts. ts ++ opening ∷ []) (wants.tokens_are more);
     steps_are = wants.steps_are;
     limited = omega (arith, wants.around.levels_are, limited);
   }
 
   -- an operator that was pending is combined
-  combined_frames : (least : ℕ) (new : List Pending) (op : Operator) (frames : List Frame) (tree : Expression) → least ≤ strength op → new ++ Sign op ∷ [] ≡ pending_of frames → levels ≡ open_groups frames →
+  combined_frames : (least : ℕ) (new : List Pending) (op : Operator) (frames : List Frame) (tree : Expression) → least ≤ strength op → new ++ Sign op ∷ [] ≡ pending_of frames → levels ≡ open_groups frames → names ≡ names_in tokens →
       AreFrames (length names) frames → IsOperand (length names) frames tree → IsAbove (level tree) frames → ((more : List (List ℕ)) → tokens ≡ tokens_before (names ++ more) frames ++ tokens_of (names ++ more) tree) →
       steps ≡ steps_before frames ++ postfix tree → HasOperand least tokens names new (steps ++ Combine op ∷ []) levels
-  combined_frames least new op [] tree le are opened sound operand above tokens_are steps_are = absurd (no_push new (Sign op) are)
-  combined_frames least new op (group ∷ frames) tree le are opened sound operand above tokens_are steps_are =
+  combined_frames least new op [] tree le are opened named sound operand above tokens_are steps_are = absurd (no_push new (Sign op) are)
+  combined_frames least new op (group ∷ frames) tree le are opened named sound operand above tokens_are steps_are =
       let both : Sign op ≡ Group = (same_from_push new (pending_of frames) (Sign op) Group are).1 in absurd (cc)
-  combined_frames least new op (left a last ∷ frames) tree le are opened sound operand above tokens_are steps_are =
+  combined_frames least new op (left a last ∷ frames) tree le are opened named sound operand above tokens_are steps_are =
       let parts = same_from_push new (pending_of frames) (Sign op) (Sign last) are in
       let same : op ≡ last = same_sign op last parts.1 in
       let P : Operator → Type 0 = λ o. HasOperand least tokens names new (steps ++ Combine o ∷ []) levels in
@@ -122,6 +127,7 @@ module _ (tokens : List Lexeme) (names : List (List ℕ)) (pending : List Pendin
         frames = frames;
         tree = Combined last a tree;
         around = record { pending_are = parts.0; levels_are = opened; sound = sound.3 };
+        named = named;
         operand = record { bound = (sound.1, above, sound.0.bound, operand.bound); deep = omega (arith, sound.0.deep, operand.deep); within = λ n within. (sound.0.within n within, operand.within n within) };
         above = sound.2;
         tight = subst (λ (o : Operator). least ≤ strength o) same le;
@@ -136,17 +142,18 @@ module _ (tokens : List Lexeme) (names : List (List ℕ)) (pending : List Pendin
 
   pub sign_combined : (least : ℕ) (new : List Pending) (op : Operator) → HasOperand least tokens names pending steps levels → pending ≡ new ++ Sign op ∷ [] → least ≤ strength op → HasOperand least tokens names new (steps ++ Combine op ∷ []) levels
   sign_combined least new op has is le =
-      combined_frames least new op has.frames has.tree le (sym is ∙ has.around.pending_are) has.around.levels_are has.around.sound has.operand has.above has.tokens_are has.steps_are
+      combined_frames least new op has.frames has.tree le (sym is ∙ has.around.pending_are) has.around.levels_are has.named has.around.sound has.operand has.above has.tokens_are has.steps_are
 
-  closed_frames : (new : List Pending) (last : Pending) (fewer : ℕ) (frames : List Frame) (tree : Expression) → levels ≡ fewer + 1 → LacksSign 0 pending → pending ≡ new ++ last ∷ [] → pending ≡ pending_of frames → levels ≡ open_groups frames →
+  closed_frames : (new : List Pending) (last : Pending) (fewer : ℕ) (frames : List Frame) (tree : Expression) → levels ≡ fewer + 1 → LacksSign 0 pending → pending ≡ new ++ last ∷ [] → pending ≡ pending_of frames → levels ≡ open_groups frames → names ≡ names_in tokens →
       AreFrames (length names) frames → IsOperand (length names) frames tree → ((more : List (List ℕ)) → tokens ≡ tokens_before (names ++ more) frames ++ tokens_of (names ++ more) tree) → steps ≡ steps_before frames ++ postfix tree →
       HasOperand 3 (tokens ++ closing ∷ []) names new steps fewer
-  closed_frames new last fewer [] tree some settled is are opened sound operand tokens_are steps_are = absurd (omega (arith, some, opened))
-  closed_frames new last fewer (left a op ∷ frames) tree some settled is are opened sound operand tokens_are steps_are = absurd (omega (arith, settled (pending_of frames) op are))
-  closed_frames new last fewer (group ∷ frames) tree some settled is are opened sound operand tokens_are steps_are = record {
+  closed_frames new last fewer [] tree some settled is are opened named sound operand tokens_are steps_are = absurd (omega (arith, some, opened))
+  closed_frames new last fewer (left a op ∷ frames) tree some settled is are opened named sound operand tokens_are steps_are = absurd (omega (arith, settled (pending_of frames) op are))
+  closed_frames new last fewer (group ∷ frames) tree some settled is are opened named sound operand tokens_are steps_are = record {
     frames = frames;
     tree = Grouped tree;
     around = record { pending_are = (same_from_push new (pending_of frames) last Group (sym is ∙ are)).0; levels_are = omega (arith, some, opened); sound = sound };
+    named = named ∙ sym (none_added tokens (closing ∷ []) refl);
     operand = record { bound = operand.bound; deep = omega (arith, operand.deep); within = operand.within };
     above = above_atom frames;
     tight = omega arith;
@@ -160,27 +167,30 @@ module _ (tokens : List Lexeme) (names : List (List ℕ)) (pending : List Pendin
   pub closing_read : (new : List Pending) (last : Pending) (fewer : ℕ) → IsSettled 0 tokens names pending steps levels → levels ≡ fewer + 1 → pending ≡ new ++ last ∷ [] → HasOperand 3 (tokens ++ closing ∷ []) names new steps fewer
   closing_read new last fewer settled some is =
       let has = settled.has in
-      closed_frames new last fewer has.frames has.tree some settled.settled is has.around.pending_are has.around.levels_are has.around.sound has.operand has.tokens_are has.steps_are
+      closed_frames new last fewer has.frames has.tree some settled.settled is has.around.pending_are has.around.levels_are has.named has.around.sound has.operand has.tokens_are has.steps_are
 
-  ended_frames : (text : List ℕ) (frames : List Frame) (tree : Expression) → IsText tokens text → pending ≡ [] → LacksSign 0 pending → pending ≡ pending_of frames → IsOperand (length names) frames tree →
+  ended_frames : (text : List ℕ) (frames : List Frame) (tree : Expression) → IsText tokens text → pending ≡ [] → LacksSign 0 pending → pending ≡ pending_of frames → names ≡ names_in tokens → IsOperand (length names) frames tree →
       ((more : List (List ℕ)) → tokens ≡ tokens_before (names ++ more) frames ++ tokens_of (names ++ more) tree) → steps ≡ steps_before frames ++ postfix tree → IsExpressionText text names steps
-  ended_frames text (group ∷ frames) tree is none settled are operand tokens_are steps_are = absurd (no_push (pending_of frames) Group (sym are ∙ none))
-  ended_frames text (left a op ∷ frames) tree is none settled are operand tokens_are steps_are = absurd (no_push (pending_of frames) (Sign op) (sym are ∙ none))
-  ended_frames text [] tree is none settled are operand tokens_are steps_are = record {
+  ended_frames text (group ∷ frames) tree is none settled are named operand tokens_are steps_are = absurd (no_push (pending_of frames) Group (sym are ∙ none))
+  ended_frames text (left a op ∷ frames) tree is none settled are named operand tokens_are steps_are = absurd (no_push (pending_of frames) (Sign op) (sym are ∙ none))
+  ended_frames text [] tree is none settled are named operand tokens_are steps_are = record {
     tree = tree;
-    tokens = tokens;
-    is_text = is;
-    are_tokens = tokens_are [] ∙ ap (λ ns. tokens_of ns tree) (append-nil names);
-    bound = operand.bound;
-    deep = omega (arith, operand.deep);
-    within = operand.within (length names) (omega arith);
+    spelled = record {
+      tokens = tokens;
+      is_text = is;
+      are_tokens = tokens_are [] ∙ ap (λ ns. tokens_of ns tree) (append-nil names);
+      bound = operand.bound;
+      deep = omega (arith, operand.deep);
+      within = operand.within (length names) (omega arith);
+    };
+    names_are = named;
     steps_are = steps_are;
   }
 
   pub end_read : (text : List ℕ) → IsText tokens text → IsSettled 0 tokens names pending steps levels → length pending ≡ 0 → IsExpressionText text names steps
   end_read text is settled none =
       let has = settled.has in
-      ended_frames text has.frames has.tree is (nil_from_length pending none) settled.settled has.around.pending_are has.operand has.tokens_are has.steps_are
+      ended_frames text has.frames has.tree is (nil_from_length pending none) settled.settled has.around.pending_are has.named has.operand has.tokens_are has.steps_are
 
 -- ---- the state from one token to the next
 
@@ -269,3 +279,14 @@ name_found items names word found i d lt is has same = record {
   inside = omega (arith, lt, length-map names items);
   same = get_or-map items names i d [] lt ∙ ap items (sym is) ∙ sym has ∙ (bytes_eq-Decides found word).0 same;
 }
+
+-- no name up to a place is the word
+pub other_names : {V : Type 0} (items : V → List ℕ) (names : List V) (word found : List ℕ) (i : ℕ) (d : V) → i < length names → d ≡ get_or names i d → found ≡ items d → bytes_eq found word ≡ false →
+    ((k : ℕ) → k < i → bytes_eq (get_or (map items names) k []) word ≡ false) → (k : ℕ) → k < i + 1 → bytes_eq (get_or (map items names) k []) word ≡ false
+other_names items names word found i d lt is has differs each k low = elim (cases_lt k i) [
+  | inl lower ↦ each k lower
+  | inr le ↦
+      let last : k ≡ i = omega (arith, low, le) in
+      let there : get_or (map items names) i [] ≡ found = get_or-map items names i d [] lt ∙ ap items (sym is) ∙ sym has in
+      ap (λ (n : ℕ). bytes_eq (get_or (map items names) n []) word) last ∙ ap (λ (w : List ℕ). bytes_eq w word) there ∙ differs
+]

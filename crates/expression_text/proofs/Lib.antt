@@ -1,4 +1,5 @@
 pub mod SplitTokens
+mod FirstNames
 pub mod Frames
 mod NextToken
 mod Shapes

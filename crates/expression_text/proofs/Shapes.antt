@@ -3,7 +3,7 @@ use Rattle.std.proofs.Common.{◌≡◌, ℕ, ◌≤◌, ◌+◌, ◌-◌, Bool,
 use Rattle.expression_text.specs.declared.operator.Step.{Step}
 use Rattle.expression_text.specs.declared.parsing.Pending.{Pending}
 use Rattle.expression_text.specs.Expressions.{Expression, Named, Grouped, Combined}
-use Rattle.expression_text.specs.Grammar.{tokens_of, depth, most_levels, IsExpressionText, SpellsNothing}
+use Rattle.expression_text.specs.Grammar.{tokens_of, depth, most_levels, IsSpelled, SpellsNothing}
 use Rattle.expression_text.specs.Tokens.{Lexeme, name, sign, opening, closing, IsText, IsToken, IsAfterBlanks, NoBlankFirst}
 use Rattle.expression_text.specs.Reading.{Frame, group, left, tokens_before, open_groups, AreFrames, WantsOperand, HasOperand, IsReading, HasRead, CanFollow, NothingFollows, CanEnd}
 use Rattle.expression_text.proofs.NextToken.{same_token, same_tokens, same_rest, token_unblank}
@@ -81,10 +81,10 @@ reading_follows : (tokens : List Lexeme) (names : List (List ℕ)) (pending : Li
 reading_follows tokens names pending steps levels true reading = has_follow tokens names pending steps levels reading
 reading_follows tokens names pending steps levels false reading = wants_follow tokens names pending steps levels reading
 
-spelled_follows : (text : List ℕ) (names : List (List ℕ)) (steps : List Step) → (spelled : IsExpressionText text names steps) → Follow spelled.tokens 0 false 0 true
-spelled_follows text names steps spelled =
+spelled_follows : (text : List ℕ) (names : List (List ℕ)) (tree : Expression) → (spelled : IsSpelled text names tree) → Follow spelled.tokens 0 false 0 true
+spelled_follows text names tree spelled =
     let T : List Lexeme → Type 0 = λ ts. Follow ts 0 false 0 true in
-    subst T (sym spelled.are_tokens) (tree_follows names spelled.tree 0 (omega (arith, spelled.deep)))
+    subst T (sym spelled.are_tokens) (tree_follows names tree 0 (omega (arith, spelled.deep)))
 
 -- ---- why a text spells nothing
 
@@ -100,19 +100,19 @@ stuck_at text rest before levels after (t ∷ more) blanks trimmed some stuck is
 
 -- the next token of a text may not follow
 pub stuck : (text rest : List ℕ) (names : List (List ℕ)) (pending : List Pending) (steps : List Step) (levels : ℕ) (after : Bool) → HasRead text rest names pending steps levels after → (rest ≡ [] → ⊥) → NothingFollows levels after rest → SpellsNothing text
-stuck text rest names pending steps levels after has some cannot = λ others all_steps spelled.
+stuck text rest names pending steps levels after has some cannot = λ others tree spelled.
     let end = has.parted spelled.tokens spelled.is_text in
     let T : List Lexeme → Type 0 = λ ts. Follow ts 0 false 0 true in
-    let all = subst T end.parted (spelled_follows text others all_steps spelled) in
+    let all = subst T end.parted (spelled_follows text others tree spelled) in
     stuck_at text rest has.before levels after end.more has.blanks has.trimmed some cannot end.is_text
     (behind has.tokens end.more 0 false levels after 0 true (reading_follows has.tokens names pending steps levels after has.reading) all)
 
 -- or it ends too early
 pub unended : (text : List ℕ) (tokens : List Lexeme) (names : List (List ℕ)) (pending : List Pending) (steps : List Step) (levels : ℕ) (after : Bool) → IsText tokens text → IsReading tokens names pending steps levels after → (CanEnd levels after → ⊥) → SpellsNothing text
-unended text tokens names pending steps levels after is reading cannot = λ others all_steps spelled.
+unended text tokens names pending steps levels after is reading cannot = λ others tree spelled.
     let same : spelled.tokens ≡ tokens ++ [] = same_tokens spelled.tokens tokens text spelled.is_text is ∙ sym (append-nil tokens) in
     let T : List Lexeme → Type 0 = λ ts. Follow ts 0 false 0 true in
-    let last = behind tokens [] 0 false levels after 0 true (reading_follows tokens names pending steps levels after reading) (subst T same (spelled_follows text others all_steps spelled)) in
+    let last = behind tokens [] 0 false levels after 0 true (reading_follows tokens names pending steps levels after reading) (subst T same (spelled_follows text others tree spelled)) in
     cannot (last.0, last.1)
 
 -- a text's token may not follow

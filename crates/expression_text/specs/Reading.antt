@@ -1,12 +1,13 @@
 -- The state between two tokens: what is pending, and the operand after it.
-use Rattle.std.specs.Prelude.{ℕ, ◌≡◌, ◌<◌, ◌≤◌, ◌+◌, Bool, true, false, List, [], ◌∷◌, ◌++◌, length, get_or, map}
+use Rattle.std.specs.Prelude.{ℕ, ◌≡◌, ◌<◌, ◌≤◌, ◌+◌, ◌||◌, Bool, true, false, if◌then◌else◌, List, [], ◌∷◌, ◌++◌, length, get_or, map}
+use Rattle.std.specs.Str.{bytes_eq}
 use Rattle.expression_text.specs.declared.operator.Operator.{Operator}
 use Rattle.expression_text.specs.declared.operator.Step.{Step}
 use Rattle.expression_text.specs.declared.parsing.Pending.{Pending}
 use Rattle.expression_text.specs.declared.parsing.Pending.TheVariants.{Group, Sign}
 use Rattle.expression_text.specs.declared.parsing.Reading.{Reading}
 use Rattle.expression_text.specs.Expressions.{Expression, postfix, HasIndicesBelow}
-use Rattle.expression_text.specs.Grammar.{tokens_of, strength, level, IsBound, depth, most_levels}
+use Rattle.expression_text.specs.Grammar.{tokens_of, names_in, strength, level, IsBound, depth, most_levels}
 use Rattle.expression_text.specs.Tokens.{Lexeme, name, sign, opening, closing, IsAfterBlanks, IsText, IsToken, NoBlankFirst}
 
 -- names have this name at an index
@@ -14,10 +15,20 @@ pub record HasName (names : List (List ℕ)) (word : List ℕ) (i : ℕ) : Type 
   pub inside : i < length names
   pub same : get_or names i [] ≡ word
 
+-- whether a word is among names
+abbrev pub has_name : (names : List (List ℕ)) → (word : List ℕ) → Bool
+has_name [] word = false
+has_name (other ∷ names) word = bytes_eq other word || has_name names word
+
+-- names and a word, which is appended if it isn't among them
+abbrev pub with_name : (names : List (List ℕ)) → (word : List ℕ) → List (List ℕ)
+with_name names word = if has_name names word then names else names ++ word ∷ []
+
 -- names have this name at an index, perhaps after it was appended to them
 pub record IsIndexed (old new : List (List ℕ)) (word : List ℕ) (i : ℕ) : Type 0 where
   pub more : List (List ℕ)
   pub appended : new ≡ old ++ more
+  pub named : new ≡ with_name old word
   pub found : HasName new word i
 
 -- what is around an operand: an open group, or an operator after its left operand
@@ -81,6 +92,7 @@ pub record AreAround (names : List (List ℕ)) (pending : List Pending) (levels 
 pub record WantsOperand (tokens : List Lexeme) (names : List (List ℕ)) (pending : List Pending) (steps : List Step) (levels : ℕ) : Type 0 where
   pub frames : List Frame
   pub around : AreAround names pending levels frames
+  pub named : names ≡ names_in tokens
   pub tokens_are : (more : List (List ℕ)) → tokens ≡ tokens_before (names ++ more) frames
   pub steps_are : steps ≡ steps_before frames
   pub limited : open_groups frames ≤ most_levels
@@ -90,6 +102,7 @@ pub record HasOperand (least : ℕ) (tokens : List Lexeme) (names : List (List �
   pub frames : List Frame
   pub tree : Expression
   pub around : AreAround names pending levels frames
+  pub named : names ≡ names_in tokens
   pub operand : IsOperand (length names) frames tree
   pub above : IsAbove (level tree) frames
   pub tight : least ≤ level tree

@@ -8,6 +8,7 @@
 #![tactic(auto)]
 
 mod fault;
+pub mod laws;
 mod operator;
 mod parsing;
 mod tokens;

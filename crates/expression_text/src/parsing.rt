@@ -1,8 +1,8 @@
 //! Reads an expression, token by token.
-ghost use Rattle.std.specs.Prelude.{◌≡◌, ◌≢◌, ◌++◌, ◌∷◌, ◌<◌, ◌≤◌, ℕ, [], List, map, length, IfOk, IfErr, IfSome, OnOk, MatchOption};
+ghost use Rattle.std.specs.Prelude.{◌≡◌, ◌≢◌, ◌++◌, ◌∷◌, ◌<◌, ◌≤◌, ℕ, [], List, map, false, length, IfOk, IfErr, IfSome, IfNone, OnOk, MatchOption};
 ghost use Rattle.expression_text.specs.Grammar.{strength, IsExpressionText, SpellsNothing};
 ghost use Rattle.expression_text.specs.Tokens.{Lexeme, name, sign, opening, closing, lexeme_of, IsText, IsToken, NoBlankFirst};
-ghost use Rattle.expression_text.specs.Reading.{HasName, IsIndexed, HasOperand, IsSettled, LacksSign, HasTokens, CanFollow, NothingFollows, CanEnd};
+ghost use Rattle.expression_text.specs.Reading.{HasName, has_name, IsIndexed, HasOperand, IsSettled, LacksSign, HasTokens, CanFollow, NothingFollows, CanEnd};
 ghost use Rattle.expression_text.specs.declared.parsing.Pending.TheVariants.{Sign};
 ghost use Rattle.expression_text.specs.declared.fault.Reason.TheVariants.{Memory};
 
@@ -91,7 +91,8 @@ fn settle<A: Allocator>(
 
 /// The index of a name among names.
 fn place_of<A: Allocator>(names: &[Vec<u8, A>], word: &[u8]) -> Option<usize>
-    ensures { IfSome result (λ i. HasName (map (λ v. v.items) names.now) word.now i) }
+    ensures found { IfSome result (λ i. HasName (map (λ v. v.items) names.now) word.now i) }
+    ensures none { IfNone result (has_name (map (λ v. v.items) names.now) word.now ≡ false) }
 {
     for (i, name) in names.iter().enumerate() {
         if name.as_slice() == word {

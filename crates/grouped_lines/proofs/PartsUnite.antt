@@ -1,6 +1,6 @@
 -- Groups of lines that are sketched in parts, and united.
-use Rattle.std.proofs.Common.{ℕ, ◌≡◌, ◌<◌, Bool, true, false, cond, eqb, List, [], ◌∷◌, ◌++◌, map, None, refl, sym, ap, subst, ◌∙◌, inl, inr, arith, append_assoc, append-nil, get_or, zero, suc, length}
-use Rattle.std.specs.Prelude.{◌⊎◌, flat_map, unwrap_or}
+use Rattle.std.proofs.Common.{ℕ, ◌≡◌, ◌<◌, ◌≤◌, Bool, true, false, cond, eqb, List, [], ◌∷◌, ◌++◌, map, None, refl, sym, ap, subst, ◌∙◌, inl, inr, arith, append_assoc, append-nil, get_or, zero, suc, length}
+use Rattle.std.specs.Prelude.{◌⊎◌, ⊤, flat_map, unwrap_or}
 use Rattle.std.specs.List.{AllByRecursion, filter, onto_first}
 use Rattle.std.specs.List.Sorted.{IsStrictlySortedBy}
 use Rattle.std.specs.Ordering.{nat_cmp}
@@ -23,15 +23,15 @@ use Rattle.lines.specs.declared.key.Key.{Key}
 use Rattle.lines.specs.declared.key.Key.TheVariants.{Line, Field}
 use Rattle.line_sketches.specs.Hex.{hex_of, bytes_of_hex}
 use Rattle.line_sketches.specs.Keys.{IsAmong, HaveSameLines, value_of_lines, sketch_of_value, image_of_lines}
-use Rattle.line_sketches.specs.Shards.{united, values_of_sketches, AreRead}
+use Rattle.line_sketches.specs.Shards.{values_of_sketches, AreRead}
 use Rattle.line_sketches.specs.Unions.{IsUnitedImage}
 use Rattle.line_sketches.proofs.Compacts.{compact}
 use Rattle.line_sketches.proofs.Rereads.{ReadsOne, ReadsAgain, reads_it, value_again}
-use Rattle.line_sketches.proofs.Shards.{all_lines, united_lines}
-use Rattle.line_sketches.proofs.Unions.{size_small, seeded}
+use Rattle.line_sketches.proofs.Shards.{all_lines, AreValues, united_values}
+use Rattle.line_sketches.proofs.Unions.{seeded}
 use Rattle.grouped_lines.specs.Tabs.{before_tab}
 use Rattle.grouped_lines.specs.Groups.{lines_in, AreGroups, group_sketch}
-use Rattle.grouped_lines.specs.United.{image_line, image_in, images_in, AreUnitedLines, IsUnitedText, IsSketchedText, AreSketchedTexts}
+use Rattle.grouped_lines.specs.United.{image_line, image_in, images_in, of_size, AreUnitedLines, IsUnitedText, IsSketchedText, AreSketchedTexts}
 use Rattle.grouped_lines.specs.declared.groups.Grouping.{Grouping}
 use Rattle.grouped_lines.proofs.LastTabs.{before_last, behind_last}
 use Rattle.grouped_lines.proofs.UnitedInTurn.{among_front, among_back}
@@ -246,78 +246,104 @@ module _ (one : ReadsOne) (again : ReadsAgain) (grouping : Grouping) (settled : 
   abbrev image_of : List (List ℕ) → List ℕ
   image_of lines = image_of_lines hashing grouping.lg_k lines
 
-  seed_of : (lines : List (List ℕ)) → (sketch_of_value hashing.seed (value_of_lines hashing grouping.lg_k lines)).seed_hash ≡ seed_hash hashing.seed
-  seed_of [] = refl
-  seed_of (line ∷ lines) = refl
+  seed_of : (own : ℕ) (lines : List (List ℕ)) → (sketch_of_value hashing.seed (value_of_lines hashing own lines)).seed_hash ≡ seed_hash hashing.seed
+  seed_of own [] = refl
+  seed_of own (line ∷ lines) = refl
 
-  image_reads : (lines : List (List ℕ)) → Reads (image_of lines) (seed_hash hashing.seed) (sketch_of_value hashing.seed (value_of_lines hashing grouping.lg_k lines))
-  image_reads lines =
-      reads_it again (sketch_of_value hashing.seed (value_of_lines hashing grouping.lg_k lines)) hashing.seed (image_of lines) (compact hashing grouping.lg_k lines (size_small hashing.seed grouping.lg_k settled)) (seed_of lines) (seeded hashing.seed grouping.lg_k settled) refl
+  image_reads : (own : ℕ) (lines : List (List ℕ)) (image : List ℕ) → own ≤ 26 → image ≡ image_of_lines hashing own lines → Reads image (seed_hash hashing.seed) (sketch_of_value hashing.seed (value_of_lines hashing own lines))
+  image_reads own lines image small is =
+      reads_it again (sketch_of_value hashing.seed (value_of_lines hashing own lines)) hashing.seed image (compact hashing own lines small) (seed_of own lines) (seeded hashing.seed grouping.lg_k settled) is
 
-  values_read : (parts : List (List (List ℕ))) (sketches : List (Compact ℕ)) → AreRead hashing.seed (map image_of parts) sketches → values_of_sketches sketches ≡ map (value_of_lines hashing grouping.lg_k) parts
-  values_read [] [] read = refl
-  values_read [] (s ∷ sketches) read = absurd read
-  values_read (part ∷ parts) [] read = absurd read
-  values_read (part ∷ parts) (s ∷ sketches) read =
-      ap (λ v. v ∷ values_of_sketches sketches) (ap (λ (r : Compact ℕ). compact_value hash_key r) (one (image_of part) (seed_hash hashing.seed) s (sketch_of_value hashing.seed (value_of_lines hashing grouping.lg_k part)) read.0 (image_reads part)) ∙ value_again hashing grouping.lg_k part)
-      ∙ ap (λ vs. value_of_lines hashing grouping.lg_k part ∷ vs) (values_read parts sketches read.1)
+  -- each image is that of the lines of its part, with at least the nominal entries of the union
+  abbrev AreOfParts : (images : List (List ℕ)) → (parts : List (List (List ℕ))) → Type 0
+  AreOfParts [] [] = ⊤
+  AreOfParts (image ∷ images) (part ∷ parts) = ((own : ℕ) × (grouping.lg_k ≤ own) × (own ≤ 26) × (image ≡ image_of_lines hashing own part)) × AreOfParts images parts
+  AreOfParts [] (part ∷ parts) = ⊥
+  AreOfParts (image ∷ images) [] = ⊥
+
+  of_parts_joined : (images more : List (List ℕ)) (parts others : List (List (List ℕ))) → AreOfParts images parts → AreOfParts more others → AreOfParts (images ++ more) (parts ++ others)
+  of_parts_joined [] more [] others are also = also
+  of_parts_joined [] more (part ∷ parts) others are also = absurd are
+  of_parts_joined (image ∷ images) more [] others are also = absurd are
+  of_parts_joined (image ∷ images) more (part ∷ parts) others are also = (are.0, of_parts_joined images more parts others are.1 also)
+
+  values_read : (images : List (List ℕ)) (parts : List (List (List ℕ))) (sketches : List (Compact ℕ)) → AreOfParts images parts → AreRead hashing.seed images sketches → AreValues hashing grouping.lg_k parts (values_of_sketches sketches)
+  values_read [] [] [] are read = tt
+  values_read [] [] (s ∷ sketches) are read = absurd read
+  values_read [] (part ∷ parts) sketches are read = absurd are
+  values_read (image ∷ images) [] sketches are read = absurd are
+  values_read (image ∷ images) (part ∷ parts) [] are read = absurd read
+  values_read (image ∷ images) (part ∷ parts) (s ∷ sketches) are read = (
+    (
+      are.0.0,
+      are.0.1,
+      ap (λ (r : Compact ℕ). compact_value hash_key r) (one image (seed_hash hashing.seed) s (sketch_of_value hashing.seed (value_of_lines hashing are.0.0 part)) read.0 (image_reads are.0.0 part image are.0.2 are.0.3)) ∙ value_again hashing are.0.0 part,
+    ),
+    values_read images parts sketches are.1 read.1,
+  )
 
   -- the union of the images of parts is the image of all their lines
-  parts_united : (parts : List (List (List ℕ))) (image : List ℕ) → IsUnitedImage hashing.seed grouping.lg_k (map image_of parts) image → image ≡ image_of (all_lines hashing parts)
-  parts_united parts image is =
-      is.2 ∙ ap (λ v. written (sketch_of_value hashing.seed v)) (ap (united grouping.lg_k) (values_read parts is.0 is.1) ∙ united_lines hashing grouping.lg_k parts)
+  parts_united : (images : List (List ℕ)) (parts : List (List (List ℕ))) (image : List ℕ) → AreOfParts images parts → IsUnitedImage hashing.seed grouping.lg_k images image → image ≡ image_of (all_lines hashing parts)
+  parts_united images parts image are is =
+      is.2 ∙ ap (λ v. written (sketch_of_value hashing.seed v)) (united_values hashing grouping.lg_k parts (values_of_sketches is.0) (values_read images parts is.0 are is.1))
 
   all_parts_joined : (parts more : List (List (List ℕ))) → all_lines hashing (parts ++ more) ≡ all_lines hashing parts ++ all_lines hashing more
   all_parts_joined [] more = refl
   all_parts_joined (part ∷ parts) more = ap (λ ls. part ++ ls) (all_parts_joined parts more) ∙ sym (append_assoc part (all_lines hashing parts) (all_lines hashing more))
 
-  abbrev group_image : (lines : List (List ℕ)) → List ℕ → List ℕ
-  group_image lines name = written (group_sketch grouping lines name)
+  abbrev group_image : (own : ℕ) → (lines : List (List ℕ)) → List ℕ → List ℕ
+  group_image own lines name = written (group_sketch (of_size grouping own) lines name)
 
   -- the parts of one group, whose images these are
   record IsParted (name : List ℕ) (images lines : List (List ℕ)) : Type 0 where
     parts : List (List (List ℕ))
-    are : images ≡ map image_of parts
+    are : AreOfParts images parts
     all : all_lines hashing parts ≡ lines_in grouping.by name lines
-
-  map_twice : (lines names : List (List ℕ)) → map (group_image lines) names ≡ map image_of (map (λ n. lines_in grouping.by n lines) names)
-  map_twice lines [] = refl
-  map_twice lines (name ∷ names) = ap (λ is. group_image lines name ∷ is) (map_twice lines names)
 
   not_empty : (line : List ℕ) (others : List (List ℕ)) → line ∷ others ≡ [] → ⊥
   not_empty line others none = cc
 
-  one_part : (name : List ℕ) (lines names : List (List ℕ)) (found : List (List ℕ)) → lines_in grouping.by name lines ≡ found → AreGroups grouping.by lines names → IsParted name (map (group_image lines) (filter (λ n. bytes_eq n name) names)) lines
-  one_part name lines names [] found groups =
-      let none = none_equal name names (λ among. has_line grouping.by name lines (groups.same.0 name among) found) in
-      record { parts = []; are = ap (map (group_image lines)) none; all = sym found }
-  one_part name lines names (line ∷ others) found groups =
-      let here = one_equal name names groups.ascending (groups.same.1 name (lines_among grouping.by name lines (λ none. not_empty line others (sym found ∙ none)))) in
-      record { parts = lines_in grouping.by name lines ∷ []; are = ap (map (group_image lines)) here; all = append-nil (lines_in grouping.by name lines) }
+  one_part : (own : ℕ) → grouping.lg_k ≤ own → own ≤ 26 → (name : List ℕ) (lines names : List (List ℕ)) (found : List (List ℕ)) → lines_in grouping.by name lines ≡ found → AreGroups grouping.by lines names →
+      IsParted name (map (group_image own lines) (filter (λ n. bytes_eq n name) names)) lines
+  one_part own least small name lines names [] found groups =
+      let none = none_equal name names (λ among. has_line grouping.by name lines (groups.same.0 name among) found) in record {
+        parts = [];
+        are = subst (λ (images : List (List ℕ)). AreOfParts images []) (sym (ap (map (group_image own lines)) none)) tt;
+        all = sym found;
+      }
+  one_part own least small name lines names (line ∷ others) found groups =
+      let here = one_equal name names groups.ascending (groups.same.1 name (lines_among grouping.by name lines (λ none. not_empty line others (sym found ∙ none)))) in record {
+        parts = lines_in grouping.by name lines ∷ [];
+        are = subst (λ (images : List (List ℕ)). AreOfParts images (lines_in grouping.by name lines ∷ [])) (sym (ap (map (group_image own lines)) here)) ((own, least, small, refl), tt);
+        all = append-nil (lines_in grouping.by name lines);
+      }
 
   names_lack : (texts names : List (List ℕ)) → AreGroups grouping.by (lines_of_all texts) names → AllLackLf names
   names_lack texts names groups = each_lacks names (λ name among. one_lacks name (map (key_of grouping.by) (lines_of_all texts)) (keys_lack grouping.by (lines_of_all texts) (all_lines_lack texts)) (groups.same.0 name among))
 
   -- the lines of a text of groups
-  text_lines : (texts : List (List ℕ)) (text : List ℕ) (is : IsSketchedText grouping (lines_of_all texts) text) → lines_of text ≡ map (group_line (group_image (lines_of_all texts)) (λ n. written_bytes (group_sketch grouping (lines_of_all texts) n))) is.0
-  text_lines texts text is = ap lines_of is.2 ∙ lines_again (group_image (lines_of_all texts)) (λ n. written_bytes (group_sketch grouping (lines_of_all texts) n)) is.0 (names_lack texts is.0 is.1)
+  text_lines : (own : ℕ) (texts : List (List ℕ)) (text : List ℕ) (is : IsSketchedText (of_size grouping own) (lines_of_all texts) text) →
+      lines_of text ≡ map (group_line (group_image own (lines_of_all texts)) (λ n. written_bytes (group_sketch (of_size grouping own) (lines_of_all texts) n))) is.0
+  text_lines own texts text is = ap lines_of is.2 ∙ lines_again (group_image own (lines_of_all texts)) (λ n. written_bytes (group_sketch (of_size grouping own) (lines_of_all texts) n)) is.0 (names_lack texts is.0 is.1)
 
   grouped_parts : (name : List ℕ) (sources : List (List (List ℕ))) (texts : List (List ℕ)) → AreSketchedTexts grouping sources texts → IsParted name (images_in name (lines_of_all texts)) (lines_of_all (flat_map (λ part. part) sources))
-  grouped_parts name [] [] sketched = record { parts = []; are = refl; all = refl }
+  grouped_parts name [] [] sketched = record { parts = []; are = tt; all = refl }
   grouped_parts name [] (text ∷ texts) sketched = absurd sketched
   grouped_parts name (part ∷ sources) [] sketched = absurd sketched
   grouped_parts name (part ∷ sources) (text ∷ texts) sketched =
       let lines = lines_of_all part in
-      let bytes : (n : List ℕ) → AreBytes (group_image lines n) = λ n. written_bytes (group_sketch grouping lines n) in
-      let names = sketched.0.0 in
-      let first = one_part name lines names (lines_in grouping.by name lines) refl sketched.0.1 in
+      let own = sketched.0.0 in
+      let is = sketched.0.3 in
+      let bytes : (n : List ℕ) → AreBytes (group_image own lines n) = λ n. written_bytes (group_sketch (of_size grouping own) lines n) in
+      let names = is.0 in
+      let images = map (group_image own lines) (filter (λ n. bytes_eq n name) names) in
+      let more = images_in name (lines_of_all texts) in
+      let first = one_part own sketched.0.1 sketched.0.2 name lines names (lines_in grouping.by name lines) refl is.1 in
       let others = grouped_parts name sources texts sketched.1 in record {
         parts = first.parts ++ others.parts;
-        are =
-            images_joined name (lines_of text) (lines_of_all texts)
-            ∙ ap (λ is. is ++ images_in name (lines_of_all texts)) (ap (images_in name) (text_lines part text sketched.0) ∙ images_again (group_image lines) bytes name names ∙ first.are)
-            ∙ ap (λ is. map image_of first.parts ++ is) others.are
-            ∙ sym (map-append image_of first.parts others.parts);
+        are = subst (λ (images : List (List ℕ)). AreOfParts images (first.parts ++ others.parts))
+            (sym (images_joined name (lines_of text) (lines_of_all texts) ∙ ap (λ is. is ++ more) (ap (images_in name) (text_lines own part text is) ∙ images_again (group_image own lines) bytes name names)))
+            (of_parts_joined images more first.parts others.parts first.are others.are);
         all =
             all_parts_joined first.parts others.parts
             ∙ ap (λ ls. ls ++ all_lines hashing others.parts) first.all
@@ -332,22 +358,24 @@ module _ (one : ReadsOne) (again : ReadsAgain) (grouping : Grouping) (settled : 
   same_names (part ∷ sources) [] sketched = absurd sketched
   same_names (part ∷ sources) (text ∷ texts) sketched =
       let lines = lines_of_all part in
-      let names = sketched.0.0 in
-      let here : map before_tab (lines_of text) ≡ names = ap (map before_tab) (text_lines part text sketched.0) ∙ names_again (group_image lines) (λ n. written_bytes (group_sketch grouping lines n)) names in
+      let own = sketched.0.0 in
+      let is = sketched.0.3 in
+      let names = is.0 in
+      let here : map before_tab (lines_of text) ≡ names = ap (map before_tab) (text_lines own part text is) ∙ names_again (group_image own lines) (λ n. written_bytes (group_sketch (of_size grouping own) lines n)) names in
       subst (λ ks. HaveSameLines (map before_tab (lines_of text ++ lines_of_all texts)) ks) (sym (ap (map (key_of grouping.by)) (texts_joined part (flat_map (λ part. part) sources)) ∙ map-append (key_of grouping.by) lines (lines_of_all (flat_map (λ part. part) sources))))
       (subst (λ ns. HaveSameLines ns (map (key_of grouping.by) lines ++ map (key_of grouping.by) (lines_of_all (flat_map (λ part. part) sources)))) (sym (map-append before_tab (lines_of text) (lines_of_all texts)))
       (same_joined (map before_tab (lines_of text)) (map (key_of grouping.by) lines) (map before_tab (lines_of_all texts)) (map (key_of grouping.by) (lines_of_all (flat_map (λ part. part) sources)))
-      (subst (λ ns. HaveSameLines ns (map (key_of grouping.by) lines)) (sym here) sketched.0.1.same) (same_names sources texts sketched.1)))
+      (subst (λ ns. HaveSameLines ns (map (key_of grouping.by) lines)) (sym here) is.1.same) (same_names sources texts sketched.1)))
 
   lines_united : (sources : List (List (List ℕ))) (texts names : List (List ℕ)) (out : List ℕ) → AreSketchedTexts grouping sources texts → AreUnitedLines hashing.seed grouping.lg_k (lines_of_all texts) names out →
-      out ≡ flat_map (λ name. image_line name (group_image (lines_of_all (flat_map (λ part. part) sources)) name)) names
+      out ≡ flat_map (λ name. image_line name (group_image grouping.lg_k (lines_of_all (flat_map (λ part. part) sources)) name)) names
   lines_united sources texts [] out sketched unions = unions
   lines_united sources texts (name ∷ names) out sketched unions =
       let parted = grouped_parts name sources texts sketched in
       let rest = unions.1 in
-      let image : unions.0 ≡ group_image (lines_of_all (flat_map (λ part. part) sources)) name =
-      parts_united parted.parts unions.0 (subst (λ images. IsUnitedImage hashing.seed grouping.lg_k images unions.0) parted.are unions.2) ∙ ap image_of parted.all in
-      unions.3 ∙ ap (λ i. image_line name i ++ rest) image ∙ ap (λ t. image_line name (group_image (lines_of_all (flat_map (λ part. part) sources)) name) ++ t) (lines_united sources texts names rest sketched unions.4)
+      let image : unions.0 ≡ group_image grouping.lg_k (lines_of_all (flat_map (λ part. part) sources)) name =
+      parts_united (images_in name (lines_of_all texts)) parted.parts unions.0 parted.are unions.2 ∙ ap image_of parted.all in
+      unions.3 ∙ ap (λ i. image_line name i ++ rest) image ∙ ap (λ t. image_line name (group_image grouping.lg_k (lines_of_all (flat_map (λ part. part) sources)) name) ++ t) (lines_united sources texts names rest sketched unions.4)
 
   -- parts that are sketched by groups, united by groups, are sketched by groups as a whole
   pub groups_united : (sources : List (List (List ℕ))) (texts : List (List ℕ)) (out : List ℕ) → AreSketchedTexts grouping sources texts → IsUnitedText hashing.seed grouping.lg_k (lines_of_all texts) out → IsSketchedText grouping (lines_of_all (flat_map (λ part. part) sources)) out

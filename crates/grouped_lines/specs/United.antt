@@ -1,5 +1,5 @@
 -- Groups of images in lines, and their unions.
-use Rattle.std.specs.Prelude.{ℕ, ◌≡◌, ◌⊎◌, ◌+◌, ◌-◌, ◌^◌, nat_lt, min, ⊤, Bool, true, false, List, [], ◌∷◌, ◌++◌, map, Option, Some, None, IfSome, Vec, length, flat_map, unwrap_or, if◌then◌else◌}
+use Rattle.std.specs.Prelude.{ℕ, ◌≡◌, ◌≤◌, ◌⊎◌, ◌+◌, ◌-◌, ◌^◌, nat_lt, min, ⊤, Bool, true, false, List, [], ◌∷◌, ◌++◌, map, Option, Some, None, IfSome, Vec, length, flat_map, unwrap_or, if◌then◌else◌}
 use Rattle.std.specs.List.{filter, AllByRecursion}
 use Rattle.std.specs.Option.{option_map_or}
 use Rattle.std.specs.List.Sorted.{IsStrictlySortedBy}
@@ -66,10 +66,19 @@ IsSketchedText grouping lines out =
     (names : List (List ℕ)) × AreGroups grouping.by lines names
     × (out ≡ flat_map (λ name. image_line name (written (group_sketch grouping lines name))) names)
 
--- each text has the groups of the lines of its sources, each source cut into lines by itself
+-- the same grouping, with sketches of 2^own nominal entries
+abbrev pub of_size : Grouping → (own : ℕ) → Grouping
+of_size grouping own = record grouping { lg_k = own }
+
+-- a text has the groups of the lines of its sources, each source cut into lines by itself, in sketches of at least the
+-- grouping's nominal entries, and at most the 2^26 that a sketch may have
+abbrev pub IsSketchedPart : Grouping → (part : List (List ℕ)) → (text : List ℕ) → Type 0
+IsSketchedPart grouping part text = (own : ℕ) × (grouping.lg_k ≤ own) × (own ≤ 26) × IsSketchedText (of_size grouping own) (lines_of_all part) text
+
+-- .. each text of its own sources
 abbrev pub AreSketchedTexts : Grouping → (sources : List (List (List ℕ))) → (texts : List (List ℕ)) → Type 0
 AreSketchedTexts grouping [] [] = ⊤
-AreSketchedTexts grouping (part ∷ parts) (text ∷ texts) = IsSketchedText grouping (lines_of_all part) text × AreSketchedTexts grouping parts texts
+AreSketchedTexts grouping (part ∷ parts) (text ∷ texts) = IsSketchedPart grouping part text × AreSketchedTexts grouping parts texts
 AreSketchedTexts grouping [] (text ∷ texts) = ⊥
 AreSketchedTexts grouping (part ∷ parts) [] = ⊥
 
@@ -205,7 +214,13 @@ IsOfLines (Refused kind) = kind ≡ OutOfMemory
 IsOfLines (Failed error) = ⊤
 IsOfLines (Flawed number flaw) = ⊤
 
--- .. and this is then the first line with a flaw
+-- a text is reported to have failed only if it may fail
+abbrev pub FailsIf : (may_fail : Bool) → Ununited → Type 0
+FailsIf may_fail (Failed error) = may_fail ≡ true
+FailsIf may_fail (Refused kind) = ⊤
+FailsIf may_fail (Flawed number flaw) = ⊤
+
+-- lines are not united, and this is then the first line with a flaw
 abbrev pub ReportsFirst : (seed : ℕ) → (lines : Option (List (List ℕ))) → Ununited → Type 0
 ReportsFirst seed lines (Flawed number flaw) = IfSome lines (IsFirstFlawed seed number flaw)
 ReportsFirst seed lines (Refused kind) = ⊤

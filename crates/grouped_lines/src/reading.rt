@@ -1,16 +1,16 @@
 //! Lines of readers, put into groups.
-ghost use Rattle.std.specs.Prelude.{◌≡◌, ◌++◌, ℕ, List, None, IfOk, IfSome, OnOk};
+ghost use Rattle.std.specs.Prelude.{◌≡◌, ◌++◌, ℕ, List, None, IfOk, IfErr, IfSome, OnOk};
 ghost use Rattle.std.specs.Io.Buffered.{reader_remaining};
 ghost use Rattle.core_laws.specs.Settings.{settings_refusal};
 ghost use Rattle.core_laws.specs.declared.TheConstants.{MAX_THETA};
 ghost use Rattle.lines.specs.Lines.{lines_of, lines_of_all};
-ghost use Rattle.line_sketches.specs.Refusals.{RefusesRead};
+ghost use Rattle.line_sketches.specs.Refusals.{FailsIf, RefusesRead};
 ghost use Rattle.grouped_lines.specs.Groups.{HasGroups, without_lf};
 ghost use Rattle.grouped_lines.specs.Reading.{ReadsLine};
 ghost use Rattle.grouped_lines.specs.States.{IsGrouped};
 
 use crate::groups::{Grouping, Groups, check_settings};
-use line_sketches::{BLOCK, Sources, Unread};
+use line_sketches::{BLOCK, Sources, TextReader, Unread, read_failure};
 use sketch_base::Error;
 use std::alloc::{AllocError, Global};
 use std::io;
@@ -51,7 +51,7 @@ pub(crate) fn next_line<R: Read>(reader: &mut BufReader<R>, line: &mut Vec<u8>) 
 
 /// Inserts all lines that a reader has left. Refused only with `OutOfMemory`. If the reader fails, its error is
 /// returned. After an error, some of the first lines are inserted; no clause says which.
-fn add_lines<R: Read + Drop, W: GroupWatch>(
+fn add_lines<R: TextReader + Drop, W: GroupWatch>(
     groups: &mut Groups,
     alloc: Global,
     grouping: Grouping,
@@ -63,6 +63,7 @@ fn add_lines<R: Read + Drop, W: GroupWatch>(
         → IsGrouped grouping before groups.old.map
         → IfSome (R.remaining reader) (λ text. OnOk result (IsGrouped grouping (before ++ lines_of text) groups.new.map)) }
     ensures refused { RefusesRead result None }
+    ensures fallible { IfErr result (FailsIf R.may_fail) }
 {
     let mut buffered = match BufReader::with_capacity(alloc, BLOCK, reader) {
         Ok(buffered) => buffered,
@@ -77,7 +78,7 @@ fn add_lines<R: Read + Drop, W: GroupWatch>(
                 watch.saw_line(bytes.len(), groups.count());
             }
             Ok(false) => return Ok(()),
-            Err(error) => return Err(Unread::Failed(error)),
+            Err(error) => return Err(read_failure(R::may_fail(), error)),
         }
     }
     Err(Unread::Refused(Error::from(AllocError)))
@@ -87,8 +88,8 @@ fn add_lines<R: Read + Drop, W: GroupWatch>(
 /// next text. Each group has the sketch of its own lines.
 ///
 /// Refused with `InvalidArgument` only for an `lg_k` that isn't from 4 to 26 or a seed whose seed hash is 0, and with
-/// `OutOfMemory`. If a source fails, or can't be opened, its error is returned, and for a wrong `lg_k` or seed nothing
-/// is read; no clause says so. It allocates memory for the longest line, and for the name and the sketch of each group.
+/// `OutOfMemory`. If a source fails, or can't be opened, its error is returned: only if sources may fail, so never for
+/// texts in memory. For a wrong `lg_k` or seed nothing is read; no clause says so. It allocates memory for the longest line, and for the name and the sketch of each group.
 pub fn group_sources<S: Sources, W: GroupWatch>(
     alloc: Global,
     grouping: Grouping,
@@ -98,6 +99,7 @@ pub fn group_sources<S: Sources, W: GroupWatch>(
     ensures grouped { IfSome (S.texts sources.old) (λ texts.
         IfOk result (HasGroups grouping (lines_of_all texts))) }
     ensures refused { RefusesRead result (settings_refusal grouping.lg_k MAX_THETA grouping.hashing.seed) }
+    ensures fallible { IfErr result (FailsIf S.may_fail) }
 {
     check_settings(alloc, grouping)?;
     let mut groups = Groups::new(alloc);
@@ -107,7 +109,7 @@ pub fn group_sources<S: Sources, W: GroupWatch>(
                 add_lines(&mut groups, alloc, grouping, source, watch)?;
             }
             Ok(None) => return Ok(groups.sorted()),
-            Err(error) => return Err(Unread::Failed(error)),
+            Err(error) => return Err(read_failure(S::may_fail(), error)),
         }
     }
     Err(Unread::Refused(Error::from(AllocError)))

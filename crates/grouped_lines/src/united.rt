@@ -1,5 +1,6 @@
 //! Groups of images, each with the union of its images.
-ghost use Rattle.std.specs.Prelude.{◌≡◌, ◌++◌, ◌∷◌, ℕ, List, [], true, Some, None, IfOk, IfErr, OnOk};
+ghost use Rattle.std.specs.Prelude.{◌≡◌, ◌++◌, ◌∷◌, ℕ, List, [], true, Some, None, IfOk, IfErr, OnOk, max};
+ghost use Rattle.line_sketches.specs.Header.{entry_count};
 ghost use Rattle.line_sketches.specs.Hex.{bytes_of_hex};
 ghost use Rattle.sketch_base.specs.Seed.{seed_hash};
 ghost use Rattle.core_images.specs.Read.{IsRefused};
@@ -137,6 +138,7 @@ impl UnitedGroups {
     pub(crate) fn new(alloc: Global) -> UnitedGroups
         ensures uniting { (seed lg_k : ℕ) → IsUniting seed lg_k [] result.map }
         ensures ready { (seed : ℕ) → AreReady seed result.map }
+        ensures most { result.most ≡ 0 }
     {
         UnitedGroups {
             map: BTreeMap::new(alloc),
@@ -148,6 +150,7 @@ impl UnitedGroups {
     fn update(&mut self, alloc: Global, seed: u64, name: &[u8], image: &[u8]) -> Result<bool, Error>
         requires ready { AreReady seed self.old.map }
         ensures updated { IfOk result (UpdatesUnion seed name.now image.now self.old.map self.new.map) }
+        ensures most { self.new.most ≡ self.old.most }
         ensures refused { IfErr result (λ e. IsRefused e (IsReadable image.now (seed_hash seed))) }
     {
         match self.map.get_mut(name) {
@@ -170,6 +173,7 @@ impl UnitedGroups {
     ) -> Result<(), Error>
         requires settled { settings_refusal lg_k MAX_THETA seed ≡ None }
         ensures begun { OnOk result (BeginsUnion seed lg_k name.now image.now self.old.map self.new.map) }
+        ensures most { self.new.most ≡ self.old.most }
         ensures refused { IfErr result (λ e. IsRefused e (IsReadable image.now (seed_hash seed))) }
     {
         let mut union = small_union(alloc, seed, lg_k)?;
@@ -196,6 +200,7 @@ impl UnitedGroups {
             → IsUniting seed lg_k lines self.old.map
             → OnOk result (IsUniting seed lg_k (lines ++ line ∷ []) self.new.map) }
         ensures ready { OnOk result (AreReady seed self.new.map) }
+        ensures most { self.new.most ≡ self.old.most }
         ensures refused { IfErr result (λ e. IsRefused e (IsReadable image.now (seed_hash seed))) }
     {
         let found = self.update(alloc, seed, name, image)?;
@@ -221,6 +226,7 @@ impl UnitedGroups {
             → OnOk result (IsUniting seed lg_k (lines ++ line.now ∷ []) self.new.map) }
         ensures flawless { (lines : List (List ℕ)) → IsUniting seed lg_k lines self.old.map → OnOk result (IsFlawless seed line.now) }
         ensures ready { OnOk result (AreReady seed self.new.map) }
+        ensures most { OnOk result (self.new.most ≡ max self.old.most (entry_count (image_in line.now))) }
         ensures failed { IfErr result (IsNotAdded seed line.now) }
     {
         let (name, image) = parts_of(alloc, line)?;
@@ -235,7 +241,9 @@ impl UnitedGroups {
     }
 
     /// The most hashes that an image retains; 0 if there is none.
-    pub fn most_retained(&self) -> u64 {
+    pub fn most_retained(&self) -> u64
+        ensures { result ≡ self.now.most }
+    {
         self.most
     }
 
@@ -245,6 +253,7 @@ impl UnitedGroups {
             → IsUniting seed lg_k lines self.map
             → HasUnions seed lg_k lines result }
         ensures sound { (seed : ℕ) → AreReady seed self.map → AreSound result }
+        ensures most { result.most ≡ self.most }
     {
         let _ = self.map.len();
         self

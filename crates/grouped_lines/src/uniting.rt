@@ -1,23 +1,23 @@
 //! Lines of readers, each with a group and its image, united by groups.
-ghost use Rattle.std.specs.Prelude.{◌≡◌, ℕ, List, flat_map, true, None, IfOk, IfErr, IfSome, OnOk};
+ghost use Rattle.std.specs.Prelude.{◌≡◌, ℕ, Bool, List, Option, flat_map, true, None, IfOk, IfErr, IfSome, OnOk};
 ghost use Rattle.std.specs.Option.{option_map};
 ghost use Rattle.core_laws.specs.Refusal.{Refuses};
 ghost use Rattle.core_laws.specs.Settings.{settings_refusal};
 ghost use Rattle.core_laws.specs.declared.TheConstants.{MAX_THETA};
 ghost use Rattle.lines.specs.Lines.{lines_of, lines_of_all};
 ghost use Rattle.grouped_lines.specs.United.{IsNotAdded, IsUniting, AreReady, AreAdded, HasUnions, AreSound, AreUnited, AreUnitedLines};
-ghost use Rattle.grouped_lines.specs.United.{IsOfLine, IsOfLines, ReportsFirst, IsUnunited};
+ghost use Rattle.grouped_lines.specs.United.{FailsIf, IsOfLine, IsOfLines, ReportsFirst, IsUnunited};
 ghost use Rattle.grouped_lines.specs.United.{AreSketchedTexts, IsSketchedText};
 ghost use Rattle.grouped_lines.specs.declared.groups.Grouping.{Grouping};
 
 use crate::laws::groups_unite;
 use crate::reading::{next_line, without_lf};
 use crate::united::{LineFlaw, NotAdded, UnitedGroups, check_union, image_line};
-use line_sketches::{BLOCK, Sources};
+use line_sketches::{BLOCK, Sources, TextReader};
 use sketch_base::Error;
 use std::alloc::{AllocError, Global};
 use std::io;
-use std::io::{BufReader, Read};
+use std::io::BufReader;
 
 /// Why images are not united by groups.
 #[derive(Debug, Drop)]
@@ -40,9 +40,24 @@ impl From<Error> for Ununited {
     }
 }
 
+/// Why images are not united, if a read failed with this error. If no read may fail, only memory was missing.
+fn read_failure(may_fail: bool, error: io::Error) -> Ununited
+    ensures fallible { FailsIf may_fail result }
+    ensures memory { IsOfLines result }
+    ensures first { (seed : ℕ) (lines : Option (List (List ℕ))) → ReportsFirst seed lines result }
+    ensures failed { (seed : ℕ) (texts : Option (List (List ℕ))) → IsUnunited seed None texts result }
+{
+    if may_fail {
+        Ununited::Failed(error)
+    } else {
+        Ununited::Refused(Error::from(AllocError))
+    }
+}
+
 /// The failure at the line after this many others.
 fn failure_at(passed: u64, reason: NotAdded) -> Ununited
     ensures memory { IsOfLines result }
+    ensures fallible { (may_fail : Bool) → FailsIf may_fail result }
     ensures line { (seed : ℕ) (line : List ℕ) → IsNotAdded seed line reason → IsOfLine seed passed line result }
 {
     match reason {
@@ -52,7 +67,7 @@ fn failure_at(passed: u64, reason: NotAdded) -> Ununited
 }
 
 /// Unites the images of all lines that a reader has left, each into the group of its line.
-fn add_lines<R: Read + Drop>(
+fn add_lines<R: TextReader + Drop>(
     groups: &mut UnitedGroups,
     alloc: Global,
     seed: u64,
@@ -69,6 +84,7 @@ fn add_lines<R: Read + Drop>(
     ensures first { (before : List (List ℕ))
         → IsUniting seed lg_k before groups.old.map
         → IfErr result (ReportsFirst seed (option_map lines_of (R.remaining reader))) }
+    ensures fallible { IfErr result (FailsIf R.may_fail) }
 {
     let mut buffered = match BufReader::with_capacity(alloc, BLOCK, reader) {
         Ok(buffered) => buffered,
@@ -85,7 +101,7 @@ fn add_lines<R: Read + Drop>(
                 }
             }
             Ok(false) => return Ok(()),
-            Err(error) => return Err(Ununited::Failed(error)),
+            Err(error) => return Err(read_failure(R::may_fail(), error)),
         }
     }
     Err(Ununited::Refused(Error::from(AllocError)))
@@ -95,12 +111,12 @@ fn add_lines<R: Read + Drop>(
 /// an image of this seed in hexadecimal digits. A name may have tabs, since the last tab of a line counts. Each text is
 /// cut into lines by itself, and may have none.
 ///
-/// If the texts are those that `sketch --by` writes of files that were sketched apart, by one key, with this seed and this
-/// `lg_k`, the unions are the sketches of the groups of all their lines (`laws::groups_unite`).
+/// If the texts are those that `sketch --by` writes of files that were sketched apart, by one key, with this seed and at
+/// least this `lg_k`, the unions are the sketches of the groups of all their lines (`laws::groups_unite`).
 ///
 /// Refused with `InvalidArgument` only for an `lg_k` that isn't from 4 to 26 or a seed whose seed hash is 0, and with
-/// `OutOfMemory`. If a source fails, or can't be opened, its error is returned, and for a wrong `lg_k` or seed nothing is
-/// read; no clause says so. A flaw is returned only for the first line that has one, with its number in its text.
+/// `OutOfMemory`. If a source fails, or can't be opened, its error is returned: only if sources may fail, so never for
+/// texts in memory. For a wrong `lg_k` or seed nothing is read; no clause says so. A flaw is returned only for the first line that has one, with its number in its text.
 pub fn unite_groups<S: Sources>(
     alloc: Global,
     seed: u64,
@@ -111,6 +127,7 @@ pub fn unite_groups<S: Sources>(
     ensures sound { IfOk result AreSound }
     ensures accepted { OnOk result (settings_refusal lg_k MAX_THETA seed ≡ None) }
     ensures failed { IfErr result (IsUnunited seed (settings_refusal lg_k MAX_THETA seed) (S.texts sources.old)) }
+    ensures fallible { IfErr result (FailsIf S.may_fail) }
 {
     check_union(alloc, seed, lg_k)?;
     let mut groups = UnitedGroups::new(alloc);
@@ -120,7 +137,7 @@ pub fn unite_groups<S: Sources>(
                 add_lines(&mut groups, alloc, seed, lg_k, source)?;
             }
             Ok(None) => return Ok(groups.sorted()),
-            Err(error) => return Err(Ununited::Failed(error)),
+            Err(error) => return Err(read_failure(S::may_fail(), error)),
         }
     }
     Err(Ununited::Refused(Error::from(AllocError)))

@@ -1,5 +1,5 @@
 -- Ordered sketches of lines keep the laws of compact sketches, and their images are read as them.
-use Rattle.std.proofs.Common.{◌≡◌, ℕ, ◌^◌, ◌<◌, ◌≤◌, true, false, cond, List, [], ◌∷◌, ◌++◌, length, map, Some, None, refl, sym, ap, subst, ◌∙◌, arith, append_assoc, append-nil}
+use Rattle.std.proofs.Common.{◌≡◌, ℕ, ◌^◌, ◌<◌, ◌≤◌, true, false, cond, List, [], ◌∷◌, ◌++◌, length, map, Some, None, refl, sym, ap, ◌∙◌, arith, append_assoc, append-nil}
 use Rattle.std.specs.List.{AllByRecursion, concat}
 use Rattle.std.specs.Option.{option_map_or}
 use Rattle.std.proofs.lemmas.Bool.Decides.{nat_tests}
@@ -16,12 +16,12 @@ use Rattle.core_laws.proofs.maps.Ascending.{each-with_entry}
 use Rattle.core_laws.proofs.cuts.WithinWholeMaps.{found_key}
 use Rattle.core_compact.specs.CompactState.{Compact, IsCompact}
 use Rattle.core_compact.proofs.LawsOfShown.{IsShown-retained, IsShown-none}
-use Rattle.theta_sketches.specs.Image.{written}
+use Rattle.theta_sketches.specs.Image.{Reads, written}
 use Rattle.lines.specs.Keys.{line_hash}
 use Rattle.lines.specs.Lines.{lines_of, lines_of_all, AreWhole}
 use Rattle.lines.specs.declared.key.Hashing.{Hashing}
 use Rattle.line_sketches.specs.Keys.{line_steps, key_set, value_of_lines, sketch_of_value, image_of_text, image_of_lines, HaveSameLines}
-use Rattle.line_sketches.specs.Shards.{united, values_of_sketches, AreRead, sketches_of_texts, images_of_texts}
+use Rattle.line_sketches.specs.Shards.{values_of_sketches, AreRead, AreImagesOfTexts, AreReadAsTexts, AreValuesOfTexts, sketches_of_texts, images_of_texts}
 use Rattle.line_sketches.specs.Unions.{IsUnitedImage}
 use Rattle.line_sketches.proofs.Shards.{sample, united_texts, united_lines_apart, same_value}
 use Rattle.line_sketches.proofs.Rereads.{ReadsOne, ReadsAgain, reads_it, values_read}
@@ -61,49 +61,55 @@ module _ (hashing : Hashing) where
         empty_ordered = λ e. absurd (cc);
       }
 
-  -- the image of a text is read as its sketch
-  module _ (again : ReadsAgain) (seeded : 0 < seed_hash hashing.seed) (lg_k : ℕ) (small : lg_k ≤ 26) where
-    seed_of : (lines : List (List ℕ)) → (sketch_of_value hashing.seed (value_of_lines hashing lg_k lines)).seed_hash ≡ seed_hash hashing.seed
-    seed_of [] = refl
-    seed_of (line ∷ lines) = refl
+  seed_of : (lg_k : ℕ) (lines : List (List ℕ)) → (sketch_of_value hashing.seed (value_of_lines hashing lg_k lines)).seed_hash ≡ seed_hash hashing.seed
+  seed_of lg_k [] = refl
+  seed_of lg_k (line ∷ lines) = refl
 
-    pub images_read : (texts : List (List ℕ)) → AreRead hashing.seed (images_of_texts hashing lg_k texts) (sketches_of_texts hashing lg_k texts)
-    images_read [] = tt
-    images_read (text ∷ texts) = (
-      reads_it again (sketch_of_value hashing.seed (value_of_lines hashing lg_k (lines_of text))) hashing.seed (image_of_text hashing lg_k text) (compact lg_k (lines_of text) small) (seed_of (lines_of text)) seeded refl,
-      images_read texts,
-    )
+  -- the images of texts are read as their sketches
+  module _ (again : ReadsAgain) (seeded : 0 < seed_hash hashing.seed) where
+    image_read : (lg_k : ℕ) (image text : List ℕ) → lg_k ≤ 26 → image ≡ image_of_text hashing lg_k text → Reads image (seed_hash hashing.seed) (sketch_of_value hashing.seed (value_of_lines hashing lg_k (lines_of text)))
+    image_read lg_k image text small is =
+        reads_it again (sketch_of_value hashing.seed (value_of_lines hashing lg_k (lines_of text))) hashing.seed image (compact lg_k (lines_of text) small) (seed_of lg_k (lines_of text)) seeded is
+
+    pub images_read : (lg_k : ℕ) → lg_k ≤ 26 → (texts : List (List ℕ)) → AreRead hashing.seed (images_of_texts hashing lg_k texts) (sketches_of_texts hashing lg_k texts)
+    images_read lg_k small [] = tt
+    images_read lg_k small (text ∷ texts) = (image_read lg_k (image_of_text hashing lg_k text) text small refl, images_read lg_k small texts)
+
+    all_read : (lg_k : ℕ) (images texts : List (List ℕ)) → AreImagesOfTexts hashing lg_k images texts → AreReadAsTexts hashing lg_k images texts
+    all_read lg_k [] [] are = tt
+    all_read lg_k [] (text ∷ texts) are = absurd are
+    all_read lg_k (image ∷ images) [] are = absurd are
+    all_read lg_k (image ∷ images) (text ∷ texts) are = ((are.0.0, are.0.1, image_read are.0.0 image text are.0.2 are.0.3), all_read lg_k images texts are.1)
+
+  -- images of texts with 2^lg_k nominal entries each
+  pub own_images : (lg_k : ℕ) → lg_k ≤ 26 → (texts : List (List ℕ)) → AreImagesOfTexts hashing lg_k (images_of_texts hashing lg_k texts) texts
+  own_images lg_k small [] = tt
+  own_images lg_k small (text ∷ texts) = ((lg_k, omega arith, small, refl), own_images lg_k small texts)
 
 -- if an image is read, its seed has a hash
 seeded_by : (seed : ℕ) (image : List ℕ) (images : List (List ℕ)) (sketches : List (Compact ℕ)) → AreRead seed (image ∷ images) sketches → 0 < seed_hash seed
 seeded_by seed image images [] read = absurd read
 seeded_by seed image images (s ∷ sketches) read = read.0.seeded
 
-module _ (one : ReadsOne) (again : ReadsAgain) (hashing : Hashing) (lg_k : ℕ) (small : lg_k ≤ 26) where
-  are_written : (texts : List (List ℕ)) (sketches : List (Compact ℕ)) → AreRead hashing.seed (images_of_texts hashing lg_k texts) sketches → AreRead hashing.seed (images_of_texts hashing lg_k texts) (sketches_of_texts hashing lg_k texts)
-  are_written [] sketches read = tt
-  are_written (text ∷ texts) sketches read = images_read hashing again (seeded_by hashing.seed (image_of_text hashing lg_k text) (images_of_texts hashing lg_k texts) sketches read) lg_k small (text ∷ texts)
+module _ (one : ReadsOne) (again : ReadsAgain) (hashing : Hashing) (lg_k : ℕ) where
+  read_as : (images texts : List (List ℕ)) (sketches : List (Compact ℕ)) → AreRead hashing.seed images sketches → AreImagesOfTexts hashing lg_k images texts → AreReadAsTexts hashing lg_k images texts
+  read_as [] [] sketches read are = tt
+  read_as [] (text ∷ texts) sketches read are = absurd are
+  read_as (image ∷ images) texts sketches read are = all_read hashing again (seeded_by hashing.seed image images sketches read) lg_k (image ∷ images) texts are
 
-  texts_united : (texts : List (List ℕ)) (sketches : List (Compact ℕ)) (bytes : List ℕ) → AreWhole texts → AreRead hashing.seed (images_of_texts hashing lg_k texts) sketches → bytes ≡ written (sketch_of_value hashing.seed (united lg_k (values_of_sketches sketches))) →
-      bytes ≡ image_of_text hashing lg_k (concat texts)
-  texts_united texts sketches bytes whole read is =
-      is ∙ ap (λ v. written (sketch_of_value hashing.seed v)) (ap (united lg_k) (values_read hashing one lg_k (images_of_texts hashing lg_k texts) sketches texts (are_written texts sketches read) read) ∙ united_texts hashing lg_k texts whole)
+  values_are : (texts images : List (List ℕ)) (bytes : List ℕ) → AreImagesOfTexts hashing lg_k images texts → (image : IsUnitedImage hashing.seed lg_k images bytes) → AreValuesOfTexts hashing lg_k texts (values_of_sketches image.0)
+  values_are texts images bytes are image = values_read hashing one lg_k images image.0 texts (read_as images texts image.0 image.1 are) image.1
 
   -- the union of the images of texts is the image of the concatenated texts
-  pub united_whole : (texts images : List (List ℕ)) (bytes : List ℕ) → AreWhole texts → images ≡ images_of_texts hashing lg_k texts → IsUnitedImage hashing.seed lg_k images bytes → bytes ≡ image_of_text hashing lg_k (concat texts)
+  pub united_whole : (texts images : List (List ℕ)) (bytes : List ℕ) → AreWhole texts → AreImagesOfTexts hashing lg_k images texts → IsUnitedImage hashing.seed lg_k images bytes → bytes ≡ image_of_text hashing lg_k (concat texts)
   united_whole texts images bytes whole are image =
-      texts_united texts image.0 bytes whole (subst (λ (is : List (List ℕ)). AreRead hashing.seed is image.0) are image.1) image.2
-
-  lines_united : (texts : List (List ℕ)) (sketches : List (Compact ℕ)) (bytes : List ℕ) → AreRead hashing.seed (images_of_texts hashing lg_k texts) sketches → bytes ≡ written (sketch_of_value hashing.seed (united lg_k (values_of_sketches sketches))) →
-      bytes ≡ image_of_lines hashing lg_k (lines_of_all texts)
-  lines_united texts sketches bytes read is =
-      is ∙ ap (λ v. written (sketch_of_value hashing.seed v)) (ap (united lg_k) (values_read hashing one lg_k (images_of_texts hashing lg_k texts) sketches texts (are_written texts sketches read) read) ∙ united_lines_apart hashing lg_k texts)
+      image.2 ∙ ap (λ v. written (sketch_of_value hashing.seed v)) (united_texts hashing lg_k texts (values_of_sketches image.0) whole (values_are texts images bytes are image))
 
   -- the union of the images of texts is the image of all their lines, in any order
-  pub united_apart : (texts lines images : List (List ℕ)) (bytes : List ℕ) → HaveSameLines (lines_of_all texts) lines → images ≡ images_of_texts hashing lg_k texts → IsUnitedImage hashing.seed lg_k images bytes → bytes ≡ image_of_lines hashing lg_k lines
+  pub united_apart : (texts lines images : List (List ℕ)) (bytes : List ℕ) → HaveSameLines (lines_of_all texts) lines → AreImagesOfTexts hashing lg_k images texts → IsUnitedImage hashing.seed lg_k images bytes → bytes ≡ image_of_lines hashing lg_k lines
   united_apart texts lines images bytes same are image =
-      lines_united texts image.0 bytes (subst (λ (is : List (List ℕ)). AreRead hashing.seed is image.0) are image.1) image.2
-      ∙ ap (λ v. written (sketch_of_value hashing.seed v)) (same_value hashing lg_k (lines_of_all texts) lines same)
+      image.2
+      ∙ ap (λ v. written (sketch_of_value hashing.seed v)) (united_lines_apart hashing lg_k texts (values_of_sketches image.0) (values_are texts images bytes are image) ∙ same_value hashing lg_k (lines_of_all texts) lines same)
 
 -- ---- images made one by one
 

@@ -13,7 +13,7 @@ use Rattle.core_table.proofs.OtherOrders.{map_of-ascending}
 use Rattle.theta_sketches.specs.Image.{Reads, written}
 use Rattle.lines.specs.Lines.{lines_of}
 use Rattle.line_sketches.specs.Keys.{key_set, value_of_lines, sketch_of_value}
-use Rattle.line_sketches.specs.Shards.{AreRead, sketches_of_texts, values_of_sketches, values_of_texts}
+use Rattle.line_sketches.specs.Shards.{AreRead, AreReadAsTexts, AreValuesOfTexts, values_of_sketches}
 use Rattle.line_sketches.proofs.Shards.{sample}
 use Rattle.lines.specs.declared.key.Hashing.{Hashing}
 
@@ -33,15 +33,17 @@ module _ (hashing : Hashing) where
   value_again lg_k (line ∷ lines) = again _ (key_set hashing (line ∷ lines)) (sample hashing lg_k (line ∷ lines))
 
   module _ (one : ReadsOne) (lg_k : ℕ) where
-    pub values_read : (images : List (List ℕ)) (sketches : List (Compact ℕ)) (texts : List (List ℕ)) → AreRead hashing.seed images (sketches_of_texts hashing lg_k texts) → AreRead hashing.seed images sketches → values_of_sketches sketches ≡ values_of_texts hashing lg_k texts
-    values_read [] [] [] written read = refl
-    values_read [] [] (t ∷ ts) written read = absurd written
-    values_read [] (s ∷ ss) ts written read = absurd read
-    values_read (b ∷ bs) [] ts written read = absurd read
-    values_read (b ∷ bs) (s ∷ ss) [] written read = absurd written
-    values_read (b ∷ bs) (s ∷ ss) (t ∷ ts) written read =
-        ap (λ v. v ∷ values_of_sketches ss) (ap (λ r. compact_value hash_key r) (one b (seed_hash hashing.seed) s (sketch_of_value hashing.seed (value_of_lines hashing lg_k (lines_of t))) read.0 written.0) ∙ value_again lg_k (lines_of t))
-        ∙ ap (λ vs. value_of_lines hashing lg_k (lines_of t) ∷ vs) (values_read bs ss ts written.1 read.1)
+    -- the values of the sketches that were read are those of the texts
+    pub values_read : (images : List (List ℕ)) (sketches : List (Compact ℕ)) (texts : List (List ℕ)) → AreReadAsTexts hashing lg_k images texts → AreRead hashing.seed images sketches → AreValuesOfTexts hashing lg_k texts (values_of_sketches sketches)
+    values_read [] [] [] are read = tt
+    values_read [] [] (t ∷ ts) are read = absurd are
+    values_read [] (s ∷ ss) ts are read = absurd read
+    values_read (b ∷ bs) [] ts are read = absurd read
+    values_read (b ∷ bs) (s ∷ ss) [] are read = absurd are
+    values_read (b ∷ bs) (s ∷ ss) (t ∷ ts) are read = (
+      (are.0.0, are.0.1, ap (λ r. compact_value hash_key r) (one b (seed_hash hashing.seed) s (sketch_of_value hashing.seed (value_of_lines hashing are.0.0 (lines_of t))) read.0 are.0.2) ∙ value_again are.0.0 (lines_of t)),
+      values_read bs ss ts are.1 read.1,
+    )
 
 -- what is written is read
 pub seed_hash-small : (seed : ℕ) → seed_hash seed < 2 ^ 16

@@ -1,6 +1,8 @@
 -- Texts that are sketched apart, and united.
-use Rattle.std.proofs.Common.{◌≡◌, ℕ, ◌^◌, Bool, true, false, cond, eqb, List, [], ◌∷◌, ◌++◌, map, filter, Option, Some, None, inl, inr, refl, sym, subst, ap, ◌∙◌, arith, append_assoc, append-nil}
+use Rattle.std.proofs.Common.{◌≡◌, ℕ, ◌^◌, ◌≤◌, Bool, true, false, cond, eqb, List, [], ◌∷◌, ◌++◌, map, filter, Option, Some, None, inl, inr, refl, sym, subst, ap, ◌∙◌, arith, append_assoc, append-nil}
 use Rattle.std.proofs.lemmas.Bool.Decides.{nat_tests}
+use Rattle.std.proofs.Math.Pow.{pow_mono}
+use Rattle.std.specs.Prelude.{⊤}
 use Rattle.std.specs.List.{onto_first, concat}
 use Rattle.std.specs.Option.{option_map_or}
 use Rattle.core_laws.specs.Maps.{IsAscending, entry_at, with_entry}
@@ -18,11 +20,11 @@ use Rattle.core_laws.proofs.insertions.Leaves.{leaf-sample, leaf-lawful, hash_ke
 use Rattle.core_laws.proofs.operators.JoinedMaps.{either, entry_at-join, ascending-joined}
 use Rattle.core_laws.proofs.maps.LookUps.{same_map}
 use Rattle.core_laws.proofs.cuts.WithinWholeMaps.{found_key}
-use Rattle.core_laws.proofs.operators.Samples.{union_lawful}
+use Rattle.core_laws.proofs.operators.Samples.{lawful_less, union_lawful}
 use Rattle.lines.specs.Lines.{lines_of, lines_of_all, IsWhole, nothing, ended, AreWhole}
 use Rattle.lines.specs.Keys.{line_hash}
 use Rattle.line_sketches.specs.Keys.{line_steps, key_set, value_of_lines, IsAmong, HaveSameLines}
-use Rattle.line_sketches.specs.Shards.{united, values_of_texts}
+use Rattle.line_sketches.specs.Shards.{united, AreValuesOfTexts}
 use Rattle.line_sketches.proofs.Worth.{value_is_leaf}
 use Rattle.lines.specs.declared.key.Hashing.{Hashing}
 
@@ -143,43 +145,90 @@ module _ (hashing : Hashing) where
     pub lawful : (lines : List (List ℕ)) → IsLawfulValue hash_key (2 ^ lg_k) MAX_THETA (value lines) (key_set hashing lines)
     lawful lines = rw (value_is_leaf hashing lg_k lines, ← trim-whole (line_steps hashing lines) []) (leaf-lawful hash_key hash_step_of hash_keeps (2 ^ lg_k) MAX_THETA (line_steps hashing lines ++ Trim ∷ []) (omega arith))
 
-    samples : (parts : List (List (List ℕ))) → AreSamples hash_key (map value parts) (map (key_set hashing) parts)
-    samples [] = tt
-    samples (part ∷ parts) = (sample part, samples parts)
+  -- ---- the union of values of parts
 
-    lawfuls : (parts : List (List (List ℕ))) → AreLawful hash_key (2 ^ lg_k) MAX_THETA (map value parts) (map (key_set hashing) parts)
-    lawfuls [] = tt
-    lawfuls (part ∷ parts) = (lawful part, lawfuls parts)
+  module _ (lg_k : ℕ) where
+    -- each value is that of its part, with at least 2^lg_k nominal entries
+    abbrev pub AreValues : (parts : List (List (List ℕ))) → List (Sketch ℕ) → Type 0
+    AreValues [] [] = ⊤
+    AreValues (part ∷ parts) (value ∷ values) = ((own : ℕ) × (lg_k ≤ own) × (value ≡ value_of_lines hashing own part)) × AreValues parts values
+    AreValues [] (value ∷ values) = ⊥
+    AreValues (part ∷ parts) [] = ⊥
 
-    none_none : (parts : List (List (List ℕ))) → nonempties (map value parts) ≡ [] → all_lines parts ≡ []
-    none_none [] e = refl
-    none_none ([] ∷ parts) e = none_none parts e
-    none_none ((line ∷ lines) ∷ parts) e = absurd (cc)
+    samples : (parts : List (List (List ℕ))) (values : List (Sketch ℕ)) → AreValues parts values → AreSamples hash_key values (map (key_set hashing) parts)
+    samples [] [] are = tt
+    samples [] (value ∷ values) are = absurd are
+    samples (part ∷ parts) [] are = absurd are
+    samples (part ∷ parts) (value ∷ values) are = (
+      subst (λ v. IsSample hash_key v (key_set hashing part)) (sym are.0.2) (sample are.0.0 part),
+      samples parts values are.1,
+    )
 
-    all_none : (parts : List (List (List ℕ))) → all_lines parts ≡ [] → nonempties (map value parts) ≡ []
-    all_none [] e = refl
-    all_none ([] ∷ parts) e = all_none parts e
-    all_none ((line ∷ lines) ∷ parts) e = absurd (cc)
+    lawfuls : (parts : List (List (List ℕ))) (values : List (Sketch ℕ)) → AreValues parts values → AreLawful hash_key (2 ^ lg_k) MAX_THETA values (map (key_set hashing) parts)
+    lawfuls [] [] are = tt
+    lawfuls [] (value ∷ values) are = absurd are
+    lawfuls (part ∷ parts) [] are = absurd are
+    lawfuls (part ∷ parts) (value ∷ values) are = (
+      lawful_less hash_key (2 ^ lg_k) (2 ^ are.0.0) MAX_THETA value (key_set hashing part) (pow_mono {i = lg_k} {j = are.0.0} are.0.1)
+          (subst (λ v. IsLawfulValue hash_key (2 ^ are.0.0) MAX_THETA v (key_set hashing part)) (sym are.0.2) (lawful are.0.0 part)),
+      lawfuls parts values are.1,
+    )
+
+    -- values are Empty exactly if there are no lines
+    first_none : (own : ℕ) (part : List (List ℕ)) (values : List (Sketch ℕ)) (rest : List (List ℕ)) → (nonempties values ≡ [] → rest ≡ []) →
+        nonempties (value_of_lines hashing own part ∷ values) ≡ [] → part ++ rest ≡ []
+    first_none own [] values rest later none = later none
+    first_none own (line ∷ lines) values rest later none = absurd (cc)
+
+    none_none : (parts : List (List (List ℕ))) (values : List (Sketch ℕ)) → AreValues parts values → nonempties values ≡ [] → all_lines parts ≡ []
+    none_none [] [] are none = refl
+    none_none [] (value ∷ values) are none = absurd are
+    none_none (part ∷ parts) [] are none = absurd are
+    none_none (part ∷ parts) (value ∷ values) are none =
+        first_none are.0.0 part values (all_lines parts) (none_none parts values are.1) (subst (λ v. nonempties (v ∷ values) ≡ []) are.0.2 none)
+
+    first_all : (own : ℕ) (part : List (List ℕ)) (values : List (Sketch ℕ)) (rest : List (List ℕ)) → (rest ≡ [] → nonempties values ≡ []) →
+        part ++ rest ≡ [] → nonempties (value_of_lines hashing own part ∷ values) ≡ []
+    first_all own [] values rest later none = later none
+    first_all own (line ∷ lines) values rest later none = absurd (cc)
+
+    all_none : (parts : List (List (List ℕ))) (values : List (Sketch ℕ)) → AreValues parts values → all_lines parts ≡ [] → nonempties values ≡ []
+    all_none [] [] are none = refl
+    all_none [] (value ∷ values) are none = absurd are
+    all_none (part ∷ parts) [] are none = absurd are
+    all_none (part ∷ parts) (value ∷ values) are none =
+        subst (λ v. nonempties (v ∷ values) ≡ []) (sym are.0.2) (first_all are.0.0 part values (all_lines parts) (all_none parts values are.1) none)
 
     some_none : (line : List ℕ) (lines : List (List ℕ)) (all : List (List ℕ)) → all ≡ line ∷ lines → all ≡ [] → ⊥
     some_none line lines all one other = cc
 
     -- the union of the values of parts is the value of all their lines
-    pub united_lines : (parts : List (List (List ℕ))) → united lg_k (map value parts) ≡ value (all_lines parts)
-    united_lines parts = (elim (all_lines parts) as (λ all. all_lines parts ≡ all → united lg_k (map value parts) ≡ value all) [
-      | [] ↦ λ e. ap (unite_nonempty hash_key first_hash (2 ^ lg_k) MAX_THETA) (all_none parts e)
+    pub united_values : (parts : List (List (List ℕ))) (values : List (Sketch ℕ)) → AreValues parts values → united lg_k values ≡ value_of_lines hashing lg_k (all_lines parts)
+    united_values parts values are = (elim (all_lines parts) as (λ all. all_lines parts ≡ all → united lg_k values ≡ value_of_lines hashing lg_k all) [
+      | [] ↦ λ e. ap (unite_nonempty hash_key first_hash (2 ^ lg_k) MAX_THETA) (all_none parts values are e)
       | line ∷ lines ↦ λ e.
-          union_lawful hash_key first_hash same_key (2 ^ lg_k) MAX_THETA MAX_THETA (map value parts) (map (key_set hashing) parts) (omega arith) (samples parts) (lawfuls parts) (λ none. some_none line lines (all_lines parts) e (none_none parts none))
+          union_lawful hash_key first_hash same_key (2 ^ lg_k) MAX_THETA MAX_THETA values (map (key_set hashing) parts) (omega arith) (samples parts values are) (lawfuls parts values are)
+          (λ none. some_none line lines (all_lines parts) e (none_none parts values are none))
           ∙ ap (λ keys. NonEmpty (kmin (2 ^ lg_k) keys MAX_THETA)) (sets-joined parts [] (ascending-nil hash_key) ∙ ap (key_set hashing) e)
     ]) refl
 
-  values_map : (lg_k : ℕ) (texts : List (List ℕ)) → values_of_texts hashing lg_k texts ≡ map (value_of_lines hashing lg_k) (map lines_of texts)
-  values_map lg_k [] = refl
-  values_map lg_k (text ∷ texts) = ap (λ vs. value_of_lines hashing lg_k (lines_of text) ∷ vs) (values_map lg_k texts)
+    -- .. if each has 2^lg_k nominal entries
+    own_values : (parts : List (List (List ℕ))) → AreValues parts (map (value_of_lines hashing lg_k) parts)
+    own_values [] = tt
+    own_values (part ∷ parts) = ((lg_k, omega arith, refl), own_values parts)
 
-  pub united_texts : (lg_k : ℕ) (texts : List (List ℕ)) → AreWhole texts → united lg_k (values_of_texts hashing lg_k texts) ≡ value_of_lines hashing lg_k (lines_of (concat texts))
-  united_texts lg_k texts whole =
-      ap (united lg_k) (values_map lg_k texts) ∙ united_lines lg_k (map lines_of texts) ∙ ap (value_of_lines hashing lg_k) (sym (lines_concat texts whole))
+    pub united_lines : (parts : List (List (List ℕ))) → united lg_k (map (value_of_lines hashing lg_k) parts) ≡ value_of_lines hashing lg_k (all_lines parts)
+    united_lines parts = united_values parts (map (value_of_lines hashing lg_k) parts) (own_values parts)
+
+    by_parts : (texts : List (List ℕ)) (values : List (Sketch ℕ)) → AreValuesOfTexts hashing lg_k texts values → AreValues (map lines_of texts) values
+    by_parts [] [] are = tt
+    by_parts [] (value ∷ values) are = absurd are
+    by_parts (text ∷ texts) [] are = absurd are
+    by_parts (text ∷ texts) (value ∷ values) are = (are.0, by_parts texts values are.1)
+
+  pub united_texts : (lg_k : ℕ) (texts : List (List ℕ)) (values : List (Sketch ℕ)) → AreWhole texts → AreValuesOfTexts hashing lg_k texts values → united lg_k values ≡ value_of_lines hashing lg_k (lines_of (concat texts))
+  united_texts lg_k texts values whole are =
+      united_values lg_k (map lines_of texts) values (by_parts lg_k texts values are) ∙ ap (value_of_lines hashing lg_k) (sym (lines_concat texts whole))
 
   -- ---- texts of which each is cut into lines by itself
 
@@ -187,9 +236,8 @@ module _ (hashing : Hashing) where
   lines_apart [] = refl
   lines_apart (text ∷ texts) = ap (λ ls. lines_of text ++ ls) (lines_apart texts)
 
-  pub united_lines_apart : (lg_k : ℕ) (texts : List (List ℕ)) → united lg_k (values_of_texts hashing lg_k texts) ≡ value_of_lines hashing lg_k (lines_of_all texts)
-  united_lines_apart lg_k texts =
-      ap (united lg_k) (values_map lg_k texts) ∙ united_lines lg_k (map lines_of texts) ∙ ap (value_of_lines hashing lg_k) (lines_apart texts)
+  pub united_lines_apart : (lg_k : ℕ) (texts : List (List ℕ)) (values : List (Sketch ℕ)) → AreValuesOfTexts hashing lg_k texts values → united lg_k values ≡ value_of_lines hashing lg_k (lines_of_all texts)
+  united_lines_apart lg_k texts values are = united_values lg_k (map lines_of texts) values (by_parts lg_k texts values are) ∙ ap (value_of_lines hashing lg_k) (lines_apart texts)
 
   -- ---- the same lines, in any order
 

@@ -1,5 +1,5 @@
 -- Why lines and images are not read.
-use Rattle.std.specs.Prelude.{ℕ, ◌≡◌, ◌≢◌, ◌⊎◌, ⊤, List, ◌∷◌, ◌++◌, Option, Some, None, IfSome, Result, MatchResult}
+use Rattle.std.specs.Prelude.{ℕ, ◌≡◌, ◌≢◌, ◌⊎◌, ⊤, Bool, true, List, ◌∷◌, ◌++◌, Option, Some, None, IfSome, Result, MatchResult}
 use Rattle.std.specs.IoError.{error_kind}
 use Rattle.std.specs.declared.io.ErrorKind.TheVariants.{Interrupted}
 use Rattle.sketch_base.specs.Seed.{seed_hash}
@@ -17,6 +17,11 @@ IsUnread refusal (Failed error) = refusal ≡ None
 -- the result is Ok only if nothing is refused
 abbrev pub RefusesRead : {T : Type 0} → Result T Unread → Option ErrorKind → Type 0
 RefusesRead r refusal = MatchResult r (λ _. refusal ≡ None) (IsUnread refusal)
+
+-- a text is reported to have failed only if it may fail
+abbrev pub FailsIf : (may_fail : Bool) → Unread → Type 0
+FailsIf may_fail (Refused kind) = ⊤
+FailsIf may_fail (Failed error) = may_fail ≡ true
 
 -- a failed read was not just interrupted
 abbrev pub IsLasting : Unread → Type 0

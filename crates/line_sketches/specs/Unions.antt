@@ -10,7 +10,7 @@ use Rattle.lines.specs.Keys.{hashing_of}
 use Rattle.lines.specs.Lines.{lines_of_all}
 use Rattle.lines.specs.declared.key.Key.{Key}
 use Rattle.line_sketches.specs.Keys.{sketch_of_value, image_of_lines, HaveSameLines}
-use Rattle.line_sketches.specs.Shards.{united, values_of_sketches, AreRead, images_of_texts}
+use Rattle.line_sketches.specs.Shards.{united, values_of_sketches, AreRead, AreImagesOfTexts}
 
 -- a union is ready for images: it hasn't failed, and its sketches are of this seed
 pub record IsReady {X P : Type 0} (seed : ℕ) (u : Union X P) : Type 0 where
@@ -28,8 +28,11 @@ pub record HasUnited {P : Type 0} (seed lg_k : ℕ) (images : List (List ℕ)) (
 abbrev pub IsUnitedImage : (seed lg_k : ℕ) → (images : List (List ℕ)) → List ℕ → Type 0
 IsUnitedImage seed lg_k images bytes = (sketches : List (Compact ℕ)) × AreRead seed images sketches × (bytes ≡ written (sketch_of_value seed (united lg_k (values_of_sketches sketches))))
 
--- for images of texts that were sketched apart, by one key, with this seed and this lg_k, it is the image of all their
--- lines, in any order
+-- for images of texts that were sketched apart, by one key, with this seed and at least this lg_k, it is the image of all
+-- their lines, in any order
 abbrev pub UnitesTexts : (seed lg_k : ℕ) → (images : List (List ℕ)) → List ℕ → Type 0
 UnitesTexts seed lg_k images bytes =
-    (key : Key) (texts lines : List (List ℕ)) → images ≡ images_of_texts (hashing_of key seed) lg_k texts → HaveSameLines (lines_of_all texts) lines → bytes ≡ image_of_lines (hashing_of key seed) lg_k lines
+    (key : Key) (texts lines : List (List ℕ))
+    → AreImagesOfTexts (hashing_of key seed) lg_k images texts
+    → HaveSameLines (lines_of_all texts) lines
+    → bytes ≡ image_of_lines (hashing_of key seed) lg_k lines

@@ -1,12 +1,11 @@
 //! Unions to which images are added one after another.
 ghost use Rattle.std.specs.Prelude.{◌≡◌, ◌++◌, ◌∷◌, ℕ, List, [], IfOk, IfErr, OnOk, IfSome, length};
-ghost use Rattle.line_sketches.specs.Refusals.{IsImageRefusal, IsImageFailure, HasFault};
+ghost use Rattle.line_sketches.specs.Refusals.{IsImageRefusal, IsImageFailure, HasFault, FailsIf};
 
-use crate::sketching::Unread;
-use crate::sources::Sources;
+use crate::sketching::{Unread, read_failure};
+use crate::sources::{Sources, TextReader};
 use sketch_base::Error;
 use std::alloc::{AllocError, Allocator};
-use std::io::Read;
 
 /// A union to which images of sketches are added.
 pub trait ImageUnion {
@@ -42,7 +41,7 @@ pub trait ImageUnion {
 }
 
 /// Adds the image in a reader to a union.
-fn add_reader<U: ImageUnion, B: Allocator + Clone + Drop, R: Read>(
+fn add_reader<U: ImageUnion, B: Allocator + Clone + Drop, R: TextReader>(
     union: &mut U,
     alloc: B,
     seed: u64,
@@ -54,10 +53,11 @@ fn add_reader<U: ImageUnion, B: Allocator + Clone + Drop, R: Read>(
     ensures refused { U.is_ready seed union.old
         → IfErr result (IsImageFailure U.merge_refusal (IfSome (R.remaining reader.old) (U.is_no_image seed))) }
     ensures ready { U.is_ready seed union.old → OnOk result (U.is_ready seed union.new) }
+    ensures fallible { IfErr result (FailsIf R.may_fail) }
 {
     let mut image = Vec::new(alloc.clone()?);
     if let Err(error) = reader.read_to_end(&mut image) {
-        return Err(Unread::Failed(error));
+        return Err(read_failure(R::may_fail(), error));
     }
     union.add_image(alloc, seed, image.as_slice())?;
     Ok(())
@@ -67,7 +67,8 @@ fn add_reader<U: ImageUnion, B: Allocator + Clone + Drop, R: Read>(
 ///
 /// If the union has not failed, it is refused only with `InvalidData`, if some source is no image of this seed, with
 /// `OutOfMemory`, and with `Policy` if the union's policy may refuse to merge summaries. If a source fails, or can't be
-/// opened, its error is returned; no clause says so. After an error, what the union has is unspecified.
+/// opened, its error is returned: only if sources may fail, so never for texts in memory. After an error, what the union
+/// has is unspecified.
 pub fn add_images<U: ImageUnion, B: Allocator + Clone + Drop, S: Sources>(
     union: &mut U,
     alloc: B,
@@ -81,6 +82,7 @@ pub fn add_images<U: ImageUnion, B: Allocator + Clone + Drop, S: Sources>(
     ensures refused { U.is_ready seed union.old
         → IfErr result (IsImageFailure U.merge_refusal (IfSome (S.texts sources.old) (HasFault (U.is_no_image seed)))) }
     ensures ready { U.is_ready seed union.old → OnOk result (U.is_ready seed union.new) }
+    ensures fallible { IfErr result (FailsIf S.may_fail) }
 {
     for count in 0..u64::MAX {
         match sources.next_source() {
@@ -88,7 +90,7 @@ pub fn add_images<U: ImageUnion, B: Allocator + Clone + Drop, S: Sources>(
                 add_reader(union, alloc.clone()?, seed, &mut source)?;
             }
             Ok(None) => return Ok(count),
-            Err(error) => return Err(Unread::Failed(error)),
+            Err(error) => return Err(read_failure(S::may_fail(), error)),
         }
     }
     Err(Unread::Refused(Error::from(AllocError)))

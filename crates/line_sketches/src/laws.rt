@@ -7,24 +7,27 @@ ghost use Rattle.lines.specs.declared.key.Hashing.{Hashing};
 ghost use Rattle.core_compact.specs.CompactState.{Compact};
 ghost use Rattle.theta_sketches.specs.Image.{Reads, IsReadable, written};
 ghost use Rattle.line_sketches.specs.Header.{BeginsWithImage, entry_count, flaw_of, MayBeRead};
-ghost use Rattle.line_sketches.specs.Shards.{united, values_of_texts, values_of_sketches, sketches_of_texts, AreRead};
+ghost use Rattle.core_laws.specs.Values.{Sketch};
+ghost use Rattle.line_sketches.specs.Shards.{united, values_of_sketches, AreRead, AreReadAsTexts, AreValuesOfTexts};
 
 use theta_sketches::laws::one_reading;
 
 /// If each text but the last is empty or ends in an LF, the union of the texts' sketches has the value of the
-/// concatenated texts.
+/// concatenated texts. Each text may be sketched with more nominal entries than the union has.
 pub fn shards_unite()
-    ensures { (hashing : Hashing) (lg_k : ℕ) (texts : List (List ℕ))
+    ensures { (hashing : Hashing) (lg_k : ℕ) (texts : List (List ℕ)) (values : List (Sketch ℕ))
         → AreWhole texts
-        → united lg_k (values_of_texts hashing lg_k texts) ≡ value_of_lines hashing lg_k (lines_of (concat texts)) }
+        → AreValuesOfTexts hashing lg_k texts values
+        → united lg_k values ≡ value_of_lines hashing lg_k (lines_of (concat texts)) }
 {}
 
 /// If each text but the last is empty or ends in an LF, then sketching the texts apart, writing and reading the
-/// sketches, and uniting them gives the image of the concatenated texts.
+/// sketches, and uniting them gives the image of the concatenated texts. Each text may be sketched with more nominal
+/// entries than the union has.
 pub fn images_unite()
     ensures { (hashing : Hashing) (lg_k : ℕ) (texts images : List (List ℕ)) (sketches : List (Compact ℕ))
         → AreWhole texts
-        → AreRead hashing.seed images (sketches_of_texts hashing lg_k texts)
+        → AreReadAsTexts hashing lg_k images texts
         → AreRead hashing.seed images sketches
         → written (sketch_of_value hashing.seed (united lg_k (values_of_sketches sketches)))
         ≡ image_of_text hashing lg_k (concat texts) }

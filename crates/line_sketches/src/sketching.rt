@@ -1,5 +1,5 @@
 //! Sketches of the lines of a reader.
-ghost use Rattle.std.specs.Prelude.{◌≡◌, ◌<◌, ℕ, List, [], length, IfOk, IfErr, OnOk, IfSome, None, true};
+ghost use Rattle.std.specs.Prelude.{◌≡◌, ◌≢◌, ◌<◌, ℕ, List, [], length, IfOk, IfErr, OnOk, IfSome, None, true};
 ghost use Rattle.sketch_base.specs.Seed.{seed_hash};
 ghost use Rattle.core_laws.specs.Refusal.{Refuses};
 ghost use Rattle.core_laws.specs.Settings.{settings_refusal};
@@ -9,13 +9,16 @@ ghost use Rattle.lines.specs.Open.{IsOpen};
 ghost use Rattle.lines.specs.declared.key.Hashing.{Hashing};
 ghost use Rattle.line_sketches.specs.Keys.{line_state, new_state, with_lines, value_of_lines, sketch_of_value};
 ghost use Rattle.line_sketches.specs.Taking.{Takes, Leaves};
-ghost use Rattle.line_sketches.specs.Refusals.{RefusesRead, IsLasting};
+ghost use Rattle.line_sketches.specs.Refusals.{RefusesRead, IsUnread, IsLasting, FailsIf};
+ghost use Rattle.std.specs.IoError.{error_kind};
+ghost use Rattle.std.specs.declared.io.ErrorKind.TheVariants.{Interrupted};
 
+use crate::sources::TextReader;
 use lines::{Hashing, OpenLine, cut_line, hash_lines};
 use sketch_base::Error;
 use std::alloc::{AllocError, Allocator};
 use std::io;
-use std::io::{ErrorKind, Read};
+use std::io::ErrorKind;
 use theta_sketches::{CompactThetaSketch, ThetaSketch, ThetaSketchBuilder};
 
 /// Why lines or images were not read.
@@ -46,6 +49,19 @@ impl From<AllocError> for Unread {
 
     fn from(e: AllocError) -> Unread {
         Unread::Refused(Error::from(e))
+    }
+}
+
+/// Why a text was not read, if a read failed with this error. If no read may fail, only memory was missing.
+pub fn read_failure(may_fail: bool, error: io::Error) -> Unread
+    ensures fallible { FailsIf may_fail result }
+    ensures unread { IsUnread None result }
+    ensures retried { error_kind error ≢ Interrupted → IsLasting result }
+{
+    if may_fail {
+        Unread::Failed(error)
+    } else {
+        Unread::Refused(Error::from(AllocError))
     }
 }
 
@@ -147,11 +163,11 @@ fn take_last<A: Allocator + Clone>(
 /// Inserts all lines that a reader has left, block by block, each by its key. The seed of `hashing` should be the
 /// sketch's, which is not checked. An interrupted read is repeated.
 ///
-/// Refused only with `OutOfMemory`. If the reader fails, its error is returned. After an error, some of the first lines
-/// are inserted; no clause says which.
+/// Refused only with `OutOfMemory`. If the reader fails, its error is returned: only if its reads may fail, so never for a
+/// text in memory. After an error, some of the first lines are inserted; no clause says which.
 ///
 /// `block` has at least one byte, and its length is the most that one read requests. Its old contents are not used.
-pub fn add_lines<A: Allocator + Clone, R: Read, W: Watch>(
+pub fn add_lines<A: Allocator + Clone, R: TextReader, W: Watch>(
     sketch: &mut ThetaSketch<A>,
     hashing: Hashing,
     reader: &mut R,
@@ -163,6 +179,7 @@ pub fn add_lines<A: Allocator + Clone, R: Read, W: Watch>(
     ensures seeded { OnOk result (sketch.new.map.seed_hash ≡ sketch.old.map.seed_hash) }
     ensures refused { RefusesRead result None }
     ensures retried { IfErr result IsLasting }
+    ensures fallible { IfErr result (FailsIf R.may_fail) }
 {
     let mut last = OpenLine::new(hashing);
     for _ in 0..u64::MAX {
@@ -177,7 +194,7 @@ pub fn add_lines<A: Allocator + Clone, R: Read, W: Watch>(
             }
             Err(error) => {
                 if error.kind() != ErrorKind::Interrupted {
-                    return Err(Unread::Failed(error));
+                    return Err(read_failure(R::may_fail(), error));
                 }
             }
         }
@@ -218,12 +235,12 @@ pub fn finished<A: Allocator + Clone>(
 }
 
 /// The sketch of all lines that a reader has left. Refused with `InvalidArgument` only for an `lg_k` that isn't from 4
-/// to 26 or a seed whose seed hash is 0, and with `OutOfMemory`. If a read fails, its error is returned; an interrupted
-/// read is repeated. For a wrong `lg_k` or seed nothing is read. No clause says that the error is the reader's, or that
-/// nothing is read.
+/// to 26 or a seed whose seed hash is 0, and with `OutOfMemory`. If a read fails, its error is returned: only if reads may
+/// fail, so never for a text in memory. An interrupted read is repeated. For a wrong `lg_k` or seed nothing is read. No
+/// clause says that the error is the reader's, or that nothing is read.
 ///
 /// `block` has at least one byte, and its length is the most that one read requests. Its old contents are not used.
-pub fn sketch_lines<A: Allocator + Clone + Drop, R: Read, W: Watch>(
+pub fn sketch_lines<A: Allocator + Clone + Drop, R: TextReader, W: Watch>(
     alloc: A,
     hashing: Hashing,
     lg_k: u8,
@@ -237,6 +254,7 @@ pub fn sketch_lines<A: Allocator + Clone + Drop, R: Read, W: Watch>(
     ensures seeded { IfOk result (λ s. s.seed_hash ≡ seed_hash hashing.seed) }
     ensures refused { RefusesRead result (settings_refusal lg_k MAX_THETA hashing.seed) }
     ensures retried { IfErr result IsLasting }
+    ensures fallible { IfErr result (FailsIf R.may_fail) }
 {
     let mut sketch = new_sketch(alloc, hashing.seed, lg_k)?;
     add_lines(&mut sketch, hashing, reader, block, watch)?;

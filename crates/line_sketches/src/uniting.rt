@@ -10,9 +10,9 @@ ghost use Rattle.lines.specs.Lines.{lines_of_all, AreWhole};
 ghost use Rattle.lines.specs.declared.key.Key.{Key};
 ghost use Rattle.line_sketches.specs.Batches.{HasRead, IsReadyFor};
 ghost use Rattle.line_sketches.specs.Keys.{image_of_text, image_of_lines, HaveSameLines};
-ghost use Rattle.line_sketches.specs.Shards.{ReadsUnder, images_of_texts, values_of_sketches};
+ghost use Rattle.line_sketches.specs.Shards.{ReadsUnder, AreImagesOfTexts, values_of_sketches};
 ghost use Rattle.line_sketches.specs.Unions.{HasUnited, IsReady, IsUnitedImage, UnitesTexts};
-ghost use Rattle.line_sketches.specs.Refusals.{IsUniteRefusal};
+ghost use Rattle.line_sketches.specs.Refusals.{IsUniteRefusal, FailsIf};
 ghost use Rattle.core_laws.specs.Refusal.{Refuses};
 ghost use Rattle.core_laws.specs.declared.TheConstants.{MAX_THETA};
 ghost use Rattle.core_laws.specs.Settings.{settings_refusal};
@@ -159,9 +159,10 @@ pub struct United<A: Allocator = Global> {
 
 /// The image of the union of images of this seed, each with its own reader, and the number of these images.
 ///
-/// If the images are those of texts that were sketched apart, by one key, with this seed and this `lg_k`, it is the image
-/// of all their lines, byte for byte, in any order of the images. If each text but the last is empty or ends in an LF,
-/// it is also the image of the concatenated texts. An image doesn't show the key and the `lg_k` that it was made with.
+/// If the images are those of texts that were sketched apart, by one key, with this seed and at least this `lg_k`, it is
+/// the image of all their lines, byte for byte, in any order of the images. If each text but the last is empty or ends in
+/// an LF, it is also the image of the concatenated texts. An image doesn't show the key and the `lg_k` that it was made
+/// with.
 ///
 /// Each image is read and checked before the next source is opened. Its sketch waits until 64 sketches wait, or they have
 /// more than 2^17 entries together, and is then merged with them. So in memory beside the union are at most one image, its
@@ -169,7 +170,8 @@ pub struct United<A: Allocator = Global> {
 ///
 /// Refused with `InvalidArgument` only for an `lg_k` that isn't from 4 to 26 or a seed whose seed hash is 0; with
 /// `InvalidData` only if some source is no image of a theta sketch of this seed; and with `OutOfMemory`. If a source
-/// fails, or can't be opened, its error is returned, and for a wrong `lg_k` or seed nothing is read; no clause says so.
+/// fails, or can't be opened, its error is returned: only if sources may fail, so never for images in memory. For a wrong
+/// `lg_k` or seed nothing is read; no clause says so.
 pub fn unite_images<A: Allocator + Clone + Drop, S: Sources>(
     alloc: A,
     seed: u64,
@@ -181,11 +183,12 @@ pub fn unite_images<A: Allocator + Clone + Drop, S: Sources>(
     ensures whole { IfSome (S.texts images.old) (λ all.
         (key : Key) (texts : List (List ℕ))
         → AreWhole texts
-        → all ≡ images_of_texts (hashing_of key seed) lg_k texts
+        → AreImagesOfTexts (hashing_of key seed) lg_k all texts
         → IfOk result (λ u. u.image.items ≡ image_of_text (hashing_of key seed) lg_k (concat texts))) }
     ensures apart { IfSome (S.texts images.old) (λ all. IfOk result (λ u. UnitesTexts seed lg_k all u.image.items)) }
     ensures accepted { OnOk result (settings_refusal lg_k MAX_THETA seed ≡ None) }
     ensures refused { IfErr result (IsUniteRefusal seed (settings_refusal lg_k MAX_THETA seed) (S.texts images.old)) }
+    ensures fallible { IfErr result (FailsIf S.may_fail) }
 {
     one_reading();
     read_again();

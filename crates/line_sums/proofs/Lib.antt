@@ -9,3 +9,4 @@ pub mod UnitedSums
 pub mod RefusedSums
 pub mod ReadOperands
 pub mod SumsPreambles
+pub mod BinsOfNumbers

@@ -1,6 +1,8 @@
 -- Pieces of a text, read one after another, and texts.
-use Rattle.std.proofs.Common.{◌≡◌, ℕ, List, [], ◌∷◌, ◌++◌, refl, sym, ap, subst, ◌∙◌, arith, append_assoc, append-nil}
-use Rattle.std.specs.Prelude.{IsTrue, is_some, IfSome, Option, Some, None}
+use Rattle.std.proofs.Common.{◌≡◌, ℕ, zero, suc, ◌+◌, ◌-◌, ◌^◌, List, [], ◌∷◌, ◌++◌, length, refl, sym, ap, subst, ◌∙◌, arith, append_assoc, append-nil}
+use Rattle.std.specs.Prelude.{IsTrue, is_some, min, IfSome, Option, Some, None}
+use Rattle.std.proofs.lemmas.Bool.Decides.{nat_tests}
+use Rattle.std.proofs.lemmas.List.{length-append}
 use Rattle.std.specs.Io.KnownBytes.{Consumes}
 use Rattle.sketch_base.specs.declared.error.ErrorKind.{ErrorKind}
 use Rattle.sketch_base.specs.declared.error.ErrorKind.TheVariants.{Policy}
@@ -14,7 +16,7 @@ use Rattle.lines.proofs.Texts.{lines_after-line, lines_after-lacking, lines_whol
 use Rattle.line_sums.specs.Amounts.{amount_in, added_by, AreNumbers, IsOpenAddend}
 use Rattle.line_sums.specs.Sums.{sum_at, HasAdded}
 use Rattle.line_sums.specs.Reading.{Ends, HasTaken}
-use Rattle.line_sums.specs.Refusals.{LacksNumber, LacksNumberIn, IsPast, IsByPolicy, IsPastIn}
+use Rattle.line_sums.specs.Refusals.{count_after, LacksNumber, LacksNumberIn, LacksNumberAt, LacksNumberOf, IsPast, IsByPolicy, IsPastIn}
 use Rattle.line_sums.proofs.Amounts.{sum_append}
 use Rattle.line_sums.specs.declared.summing.Unsummed.{Unsummed}
 use Rattle.line_sums.specs.declared.summing.Unsummed.TheVariants.{Refused, Failed, PastGreatest, NotANumber}
@@ -48,28 +50,64 @@ all_parted : (front : List (List ℕ)) (text : List ℕ) (back : List (List ℕ)
 all_parted [] text back = refl
 all_parted (first ∷ front) text back = ap (λ ls. lines_of first ++ ls) (all_parted front text back) ∙ sym (append_assoc (lines_of first) (lines_of_all front) (lines_of text ++ lines_of_all back))
 
--- lines of which one has no number, behind others and before others
-pub lacking_among : (amount : Amount) (front lines back all : List (List ℕ)) (u : Unsummed) → front ++ (lines ++ back) ≡ all → LacksNumberIn amount lines u → LacksNumberIn amount all u
-lacking_among amount front lines back all (NotANumber number) whole lacking = record {
-  front = front ++ lacking.front;
-  faulty = lacking.faulty;
-  back = lacking.back ++ back;
-  parted =
-      sym whole ∙ ap (λ ls. front ++ (ls ++ back)) lacking.parted ∙ ap (λ ls. front ++ ls) (append_assoc lacking.front (lacking.faulty ∷ lacking.back) back)
-      ∙ sym (append_assoc front lacking.front (lacking.faulty ∷ (lacking.back ++ back)));
-  is_faulty = lacking.is_faulty;
-}
-lacking_among amount front lines back all (Refused kind) whole lacking = tt
-lacking_among amount front lines back all (Failed error) whole lacking = tt
-lacking_among amount front lines back all (PastGreatest number) whole lacking = tt
+-- ---- counts of lines
 
-lacking_behind : (amount : Amount) (front lines all : List (List ℕ)) (u : Unsummed) → front ++ lines ≡ all → LacksNumberIn amount lines u → LacksNumberIn amount all u
-lacking_behind amount front lines all u whole lacking = lacking_among amount front lines [] all u (ap (λ ls. front ++ ls) (append-nil lines) ∙ whole) lacking
+count_both : (count first second : ℕ) → count_after (count_after count first) second ≡ count_after count (first + second)
+count_both count first zero = let same : first ≡ first + 0 = omega arith in ap (count_after count) same
+count_both count first (suc second) =
+    let same : suc (first + second) ≡ first + suc second = omega arith in
+    ap (λ n. min (n + 1) (2 ^ 64 - 1)) (count_both count first second) ∙ ap (count_after count) same
+
+count_more : (count : ℕ) (ended more : List (List ℕ)) → count_after (count_after count (length ended)) (length more) ≡ count_after count (length (ended ++ more))
+count_more count ended more = count_both count (length ended) (length more) ∙ ap (count_after count) (sym (length-append ended more))
+
+count_from_start : (more : ℕ) → count_after 0 more ≡ min more (2 ^ 64 - 1)
+count_from_start zero = refl
+count_from_start (suc more) = ap (λ n. min (n + 1) (2 ^ 64 - 1)) (count_from_start more) ∙ least_again more
+  where
+    least_again : (n : ℕ) → min (min n (2 ^ 64 - 1) + 1) (2 ^ 64 - 1) ≡ min (suc n) (2 ^ 64 - 1)
+    least_again n = grind (arith, nat_tests)
+
+-- ---- lines of which one has no number
+
+-- .. behind others
+lacking_behind : (amount : Amount) (m n : ℕ) (front lines all : List (List ℕ)) (u : Unsummed) → front ++ lines ≡ all → n ≡ count_after m (length front) → LacksNumberIn amount n lines u → LacksNumberIn amount m all u
+lacking_behind amount m n front lines all (NotANumber number) whole counted lacking = record {
+  before = front ++ lacking.before;
+  line = lacking.line;
+  others = lacking.others;
+  parted = sym whole ∙ ap (λ ls. front ++ ls) lacking.parted ∙ sym (append_assoc front lacking.before (lacking.line ∷ lacking.others));
+  none = lacking.none;
+  numbered =
+      lacking.numbered ∙ ap (λ k. min (count_after k (length lacking.before) + 1) (2 ^ 64 - 1)) counted
+      ∙ ap (λ k. min (k + 1) (2 ^ 64 - 1)) (count_more m front lacking.before);
+}
+lacking_behind amount m n front lines all (Refused kind) whole counted lacking = tt
+lacking_behind amount m n front lines all (Failed error) whole counted lacking = tt
+lacking_behind amount m n front lines all (PastGreatest number) whole counted lacking = tt
+
+-- .. by its number in a text
+lacking_at : (amount : Amount) (text : List ℕ) (u : Unsummed) → LacksNumberIn amount 0 (lines_of text) u → LacksNumberAt amount text u
+lacking_at amount text (NotANumber number) lacking = record {
+  before = lacking.before;
+  line = lacking.line;
+  others = lacking.others;
+  parted = lacking.parted;
+  none = lacking.none;
+  numbered =
+      let same : suc (length lacking.before) ≡ length lacking.before + 1 = omega arith in
+      lacking.numbered ∙ count_from_start (suc (length lacking.before)) ∙ ap (λ n. min n (2 ^ 64 - 1)) same;
+}
+lacking_at amount text (Refused kind) lacking = tt
+lacking_at amount text (Failed error) lacking = tt
+lacking_at amount text (PastGreatest number) lacking = tt
 
 -- one of the texts has such a line
-pub lacking_texts : (amount : Amount) (u : Unsummed) (texts : List (List ℕ)) → HasFault (λ text. LacksNumberIn amount (lines_of text) u) texts → LacksNumberIn amount (lines_of_all texts) u
-lacking_texts amount u texts fault = lacking_among amount (lines_of_all fault.front) (lines_of fault.faulty) (lines_of_all fault.back) (lines_of_all texts) u
-    (sym (all_parted fault.front fault.faulty fault.back) ∙ ap lines_of_all (sym fault.parted)) fault.is_faulty
+pub lacking_texts : (amount : Amount) (u : Unsummed) (texts : List (List ℕ)) → HasFault (λ text. LacksNumberAt amount text u) texts → LacksNumberOf amount texts u
+lacking_texts amount (NotANumber number) texts fault = fault
+lacking_texts amount (Refused kind) texts fault = tt
+lacking_texts amount (Failed error) texts fault = tt
+lacking_texts amount (PastGreatest number) texts fault = tt
 
 -- ---- a sum of 2^64 or more among the sums of lines
 
@@ -93,70 +131,76 @@ past_policy hashing amount lines kind (NotANumber number) policy past = tt
 
 module _ (hashing : Hashing) (amount : Amount) where
   -- nothing was read yet
-  pub taken_nothing : (front : List ℕ) (s : Updatable (TupleEntry ℕ)) (last : OpenAddend) → IsOpenAddend hashing amount front last → HasTaken hashing amount front [] s s last
-  taken_nothing front s last is = record {
+  pub taken_nothing : (front : List ℕ) (s : Updatable (TupleEntry ℕ)) (last : OpenAddend) (count : ℕ) → IsOpenAddend hashing amount front last → HasTaken hashing amount front [] s s last count count
+  taken_nothing front s last count is = record {
     ended = [];
     left = front;
     ends = ends_nothing front;
+    counts = refl;
     is_open = is;
     added = λ lg_k lines has. subst (λ (ls : List (List ℕ)). HasAdded hashing amount lg_k ls s) (sym (append-nil lines)) has;
   }
 
   -- one line more ended
-  pub taken_line : (front taken line : List ℕ) (r s t : Updatable (TupleEntry ℕ)) (last next : OpenAddend) (was : HasTaken hashing amount front taken r s last) → Lacks 10 line → IsOpenAddend hashing amount [] next →
-      ((lg_k : ℕ) (lines : List (List ℕ)) → HasAdded hashing amount lg_k lines s → HasAdded hashing amount lg_k (lines ++ (was.left ++ line) ∷ []) t) → HasTaken hashing amount front (taken ++ (line ++ 10 ∷ [])) r t next
-  taken_line front taken line r s t last next was lacks is step = record {
+  pub taken_line : (front taken line : List ℕ) (r s t : Updatable (TupleEntry ℕ)) (last next : OpenAddend) (count counted more : ℕ) (was : HasTaken hashing amount front taken r s last count counted) → Lacks 10 line →
+      IsOpenAddend hashing amount [] next → more ≡ min (counted + 1) (2 ^ 64 - 1) →
+      ((lg_k : ℕ) (lines : List (List ℕ)) → HasAdded hashing amount lg_k lines s → HasAdded hashing amount lg_k (lines ++ (was.left ++ line) ∷ []) t) → HasTaken hashing amount front (taken ++ (line ++ 10 ∷ [])) r t next count more
+  taken_line front taken line r s t last next count counted more was lacks is one step = record {
     ended = was.ended ++ (was.left ++ line) ∷ [];
     left = [];
     ends = ends_line front taken was.left line was.ended was.ends lacks;
+    counts = one ∙ ap (λ n. min (n + 1) (2 ^ 64 - 1)) was.counts ∙ count_more count was.ended ((was.left ++ line) ∷ []);
     is_open = is;
     added = λ lg_k lines has.
         subst (λ (ls : List (List ℕ)). HasAdded hashing amount lg_k ls t) (append_assoc lines was.ended ((was.left ++ line) ∷ [])) (step lg_k (lines ++ was.ended) (was.added lg_k lines has));
   }
 
   -- the rest of a block, in which no line ends
-  pub taken_rest : (front taken rest : List ℕ) (r s : Updatable (TupleEntry ℕ)) (last next : OpenAddend) (was : HasTaken hashing amount front taken r s last) → Lacks 10 rest → IsOpenAddend hashing amount (was.left ++ rest) next →
-      HasTaken hashing amount front (taken ++ rest) r s next
-  taken_rest front taken rest r s last next was lacks is = record {
+  pub taken_rest : (front taken rest : List ℕ) (r s : Updatable (TupleEntry ℕ)) (last next : OpenAddend) (count counted : ℕ) (was : HasTaken hashing amount front taken r s last count counted) → Lacks 10 rest →
+      IsOpenAddend hashing amount (was.left ++ rest) next → HasTaken hashing amount front (taken ++ rest) r s next count counted
+  taken_rest front taken rest r s last next count counted was lacks is = record {
     ended = was.ended;
     left = was.left ++ rest;
     ends = ends_none front taken was.left rest was.ended was.ends lacks;
+    counts = was.counts;
     is_open = is;
     added = was.added;
   }
 
   -- one block more was read
-  pub taken_both : (front piece block : List ℕ) (r s t : Updatable (TupleEntry ℕ)) (last next : OpenAddend) (first : HasTaken hashing amount front piece r s last) →
-      HasTaken hashing amount first.left block s t next → HasTaken hashing amount front (piece ++ block) r t next
-  taken_both front piece block r s t last next first second = record {
+  pub taken_both : (front piece block : List ℕ) (r s t : Updatable (TupleEntry ℕ)) (last next : OpenAddend) (count counted more : ℕ) (first : HasTaken hashing amount front piece r s last count counted) →
+      HasTaken hashing amount first.left block s t next counted more → HasTaken hashing amount front (piece ++ block) r t next count more
+  taken_both front piece block r s t last next count counted more first second = record {
     ended = first.ended ++ second.ended;
     left = second.left;
     ends = λ more.
         ap (lines_after front) (append_assoc piece block more) ∙ first.ends (block ++ more) ∙ ap (λ ls. first.ended ++ ls) (second.ends more) ∙ sym (append_assoc first.ended second.ended (lines_after second.left more));
+    counts = second.counts ∙ ap (λ n. count_after n (length second.ended)) first.counts ∙ count_more count first.ended second.ended;
     is_open = second.is_open;
     added = λ lg_k lines has.
         subst (λ (ls : List (List ℕ)). HasAdded hashing amount lg_k ls t) (append_assoc lines first.ended second.ended) (second.added lg_k (lines ++ first.ended) (first.added lg_k lines has));
   }
 
-  whole_text : (text : List ℕ) (r s : Updatable (TupleEntry ℕ)) (last : OpenAddend) (all : HasTaken hashing amount [] text r s last) → all.ended ++ lines_after all.left [] ≡ lines_of text
-  whole_text text r s last all = sym (all.ends []) ∙ ap (lines_after []) (append-nil text) ∙ lines_whole text
+  whole_text : (text : List ℕ) (r s : Updatable (TupleEntry ℕ)) (last : OpenAddend) (count counted : ℕ) (all : HasTaken hashing amount [] text r s last count counted) → all.ended ++ lines_after all.left [] ≡ lines_of text
+  whole_text text r s last count counted all = sym (all.ends []) ∙ ap (lines_after []) (append-nil text) ∙ lines_whole text
 
   -- at the end of a text
-  pub taken_all : (lg_k : ℕ) (lines : List (List ℕ)) (text : List ℕ) (r s t : Updatable (TupleEntry ℕ)) (last : OpenAddend) (all : HasTaken hashing amount [] text r s last) →
+  pub taken_all : (lg_k : ℕ) (lines : List (List ℕ)) (text : List ℕ) (r s t : Updatable (TupleEntry ℕ)) (last : OpenAddend) (count counted : ℕ) (all : HasTaken hashing amount [] text r s last count counted) →
       HasAdded hashing amount lg_k ((lines ++ all.ended) ++ lines_after all.left []) t → HasAdded hashing amount lg_k (lines ++ lines_of text) t
-  taken_all lg_k lines text r s t last all has =
-      subst (λ (ls : List (List ℕ)). HasAdded hashing amount lg_k ls t) (append_assoc lines all.ended (lines_after all.left []) ∙ ap (λ ls. lines ++ ls) (whole_text text r s last all)) has
+  taken_all lg_k lines text r s t last count counted all has =
+      subst (λ (ls : List (List ℕ)). HasAdded hashing amount lg_k ls t) (append_assoc lines all.ended (lines_after all.left []) ∙ ap (λ ls. lines ++ ls) (whole_text text r s last count counted all)) has
 
   -- ---- a line that has no number
 
   -- .. is the last of a text
-  pub lacking_end : (text : List ℕ) (u : Unsummed) (r s : Updatable (TupleEntry ℕ)) (last : OpenAddend) (all : HasTaken hashing amount [] text r s last) → LacksNumberIn amount (lines_after all.left []) u → LacksNumberIn amount (lines_of text) u
-  lacking_end text u r s last all lacking = lacking_behind amount all.ended (lines_after all.left []) (lines_of text) u (whole_text text r s last all) lacking
+  pub lacking_end : (text : List ℕ) (u : Unsummed) (r s : Updatable (TupleEntry ℕ)) (last : OpenAddend) (counted : ℕ) (all : HasTaken hashing amount [] text r s last 0 counted) → LacksNumberIn amount counted (lines_after all.left []) u → LacksNumberAt amount text u
+  lacking_end text u r s last counted all lacking =
+      lacking_at amount text u (lacking_behind amount 0 counted all.ended (lines_after all.left []) (lines_of text) u (whole_text text r s last 0 counted all) all.counts lacking)
 
   -- the lines around one that a block ends
-  line_parted : (front taken line others more block : List ℕ) (r s : Updatable (TupleEntry ℕ)) (last : OpenAddend) (was : HasTaken hashing amount front taken r s last) → Lacks 10 line → block ≡ taken ++ (line ++ 10 ∷ others) →
+  line_parted : (front taken line others more block : List ℕ) (r s : Updatable (TupleEntry ℕ)) (last : OpenAddend) (count counted : ℕ) (was : HasTaken hashing amount front taken r s last count counted) → Lacks 10 line → block ≡ taken ++ (line ++ 10 ∷ others) →
       lines_after front (block ++ more) ≡ was.ended ++ (was.left ++ line) ∷ lines_after [] (others ++ more)
-  line_parted front taken line others more block r s last was lacks parted =
+  line_parted front taken line others more block r s last count counted was lacks parted =
       ap (λ (bs : List ℕ). lines_after front (bs ++ more)) parted
       ∙ ap (lines_after front) (
       append_assoc taken (line ++ 10 ∷ others) more ∙ ap (λ bs. taken ++ bs) (append_assoc line (10 ∷ others) more ∙ sym (append_assoc line (10 ∷ []) (others ++ more))) ∙ sym (append_assoc taken (line ++ 10 ∷ []) (others ++ more))
@@ -165,57 +209,60 @@ module _ (hashing : Hashing) (amount : Amount) where
       ∙ append_assoc was.ended ((was.left ++ line) ∷ []) (lines_after [] (others ++ more))
 
   -- .. is one of the lines that a block ends
-  pub lacking_line : (front taken line others more block : List ℕ) (count : ℕ) (u : Unsummed) (r s : Updatable (TupleEntry ℕ)) (last : OpenAddend) (was : HasTaken hashing amount front taken r s last) → Lacks 10 line →
-      block ≡ taken ++ (line ++ 10 ∷ others) → LacksNumber amount (was.left ++ line) count u → LacksNumberIn amount (lines_after front (block ++ more)) u
-  lacking_line front taken line others more block count (NotANumber number) r s last was lacks parted lacking = record {
-    front = was.ended;
-    faulty = was.left ++ line;
-    back = lines_after [] (others ++ more);
-    parted = line_parted front taken line others more block r s last was lacks parted;
-    is_faulty = lacking.0;
+  pub lacking_line : (front taken line others more block : List ℕ) (count counted : ℕ) (u : Unsummed) (r s : Updatable (TupleEntry ℕ)) (last : OpenAddend) (was : HasTaken hashing amount front taken r s last count counted) → Lacks 10 line →
+      block ≡ taken ++ (line ++ 10 ∷ others) → LacksNumber amount (was.left ++ line) counted u → LacksNumberIn amount count (lines_after front (block ++ more)) u
+  lacking_line front taken line others more block count counted (NotANumber number) r s last was lacks parted lacking = record {
+    before = was.ended;
+    line = was.left ++ line;
+    others = lines_after [] (others ++ more);
+    parted = line_parted front taken line others more block r s last count counted was lacks parted;
+    none = lacking.0;
+    numbered = lacking.1 ∙ ap (λ n. min (n + 1) (2 ^ 64 - 1)) was.counts;
   }
-  lacking_line front taken line others more block count (Refused kind) r s last was lacks parted lacking = tt
-  lacking_line front taken line others more block count (Failed error) r s last was lacks parted lacking = tt
-  lacking_line front taken line others more block count (PastGreatest number) r s last was lacks parted lacking = tt
+  lacking_line front taken line others more block count counted (Refused kind) r s last was lacks parted lacking = tt
+  lacking_line front taken line others more block count counted (Failed error) r s last was lacks parted lacking = tt
+  lacking_line front taken line others more block count counted (PastGreatest number) r s last was lacks parted lacking = tt
 
   -- the lines of a text, by those of its first bytes
-  text_parted : (text more read block : List ℕ) (r s : Updatable (TupleEntry ℕ)) (last : OpenAddend) (was : HasTaken hashing amount [] read r s last) → text ≡ (read ++ block) ++ more → was.ended ++ lines_after was.left (block ++ more) ≡ lines_of text
-  text_parted text more read block r s last was parted =
+  text_parted : (text more read block : List ℕ) (r s : Updatable (TupleEntry ℕ)) (last : OpenAddend) (count counted : ℕ) (was : HasTaken hashing amount [] read r s last count counted) → text ≡ (read ++ block) ++ more →
+      was.ended ++ lines_after was.left (block ++ more) ≡ lines_of text
+  text_parted text more read block r s last count counted was parted =
       sym (was.ends (block ++ more)) ∙ ap (lines_after []) (sym (append_assoc read block more) ∙ sym parted) ∙ lines_whole text
 
   -- .. is one of the lines of a text whose first bytes are read
-  pub lacking_text : (o new : Option (List ℕ)) (read block : List ℕ) (u : Unsummed) (r s : Updatable (TupleEntry ℕ)) (last : OpenAddend) (was : HasTaken hashing amount [] read r s last) → Consumes o new (read ++ block) →
-      ((more : List ℕ) → LacksNumberIn amount (lines_after was.left (block ++ more)) u) → IfSome o (λ text. LacksNumberIn amount (lines_of text) u)
-  lacking_text None new read block u r s last was consumes lacking = tt
-  lacking_text (Some text) None read block u r s last was consumes lacking = absurd consumes
-  lacking_text (Some text) (Some more) read block u r s last was consumes lacking =
-      lacking_behind amount was.ended (lines_after was.left (block ++ more)) (lines_of text) u (text_parted text more read block r s last was consumes) (lacking more)
+  pub lacking_text : (o new : Option (List ℕ)) (read block : List ℕ) (u : Unsummed) (r s : Updatable (TupleEntry ℕ)) (last : OpenAddend) (counted : ℕ) (was : HasTaken hashing amount [] read r s last 0 counted) → Consumes o new (read ++ block) →
+      ((more : List ℕ) → LacksNumberIn amount counted (lines_after was.left (block ++ more)) u) → IfSome o (λ text. LacksNumberAt amount text u)
+  lacking_text None new read block u r s last counted was consumes lacking = tt
+  lacking_text (Some text) None read block u r s last counted was consumes lacking = absurd consumes
+  lacking_text (Some text) (Some more) read block u r s last counted was consumes lacking =
+      lacking_at amount text u
+      (lacking_behind amount 0 counted was.ended (lines_after was.left (block ++ more)) (lines_of text) u (text_parted text more read block r s last 0 counted was consumes) was.counts (lacking more))
 
   -- ---- a sum of 2^64 or more
 
   -- .. with a line that a block ends
-  pub past_block : (lines : List (List ℕ)) (front taken line others more block : List ℕ) (u : Unsummed) (r s : Updatable (TupleEntry ℕ)) (last : OpenAddend) (was : HasTaken hashing amount front taken r s last) → Lacks 10 line →
+  pub past_block : (lines : List (List ℕ)) (front taken line others more block : List ℕ) (u : Unsummed) (r s : Updatable (TupleEntry ℕ)) (last : OpenAddend) (count counted : ℕ) (was : HasTaken hashing amount front taken r s last count counted) → Lacks 10 line →
       block ≡ taken ++ (line ++ 10 ∷ others) → IsPastIn hashing amount ((lines ++ was.ended) ++ (was.left ++ line) ∷ []) u → IsPastIn hashing amount (lines ++ lines_after front (block ++ more)) u
-  past_block lines front taken line others more block u r s last was lacks parted past =
+  past_block lines front taken line others more block u r s last count counted was lacks parted past =
       let back : List (List ℕ) = lines_after [] (others ++ more) in
       past_among hashing amount ((lines ++ was.ended) ++ (was.left ++ line) ∷ []) back (lines ++ lines_after front (block ++ more)) u
-      (append_assoc (lines ++ was.ended) ((was.left ++ line) ∷ []) back ∙ append_assoc lines was.ended ((was.left ++ line) ∷ back) ∙ ap (λ ls. lines ++ ls) (sym (line_parted front taken line others more block r s last was lacks parted)))
+      (append_assoc (lines ++ was.ended) ((was.left ++ line) ∷ []) back ∙ append_assoc lines was.ended ((was.left ++ line) ∷ back) ∙ ap (λ ls. lines ++ ls) (sym (line_parted front taken line others more block r s last count counted was lacks parted)))
       past
 
   -- .. with the last line of a text
-  pub past_end : (lines : List (List ℕ)) (text : List ℕ) (u : Unsummed) (r s : Updatable (TupleEntry ℕ)) (last : OpenAddend) (all : HasTaken hashing amount [] text r s last) →
+  pub past_end : (lines : List (List ℕ)) (text : List ℕ) (u : Unsummed) (r s : Updatable (TupleEntry ℕ)) (last : OpenAddend) (count counted : ℕ) (all : HasTaken hashing amount [] text r s last count counted) →
       IsPastIn hashing amount ((lines ++ all.ended) ++ lines_after all.left []) u → IsPastIn hashing amount (lines ++ lines_of text) u
-  past_end lines text u r s last all past =
-      subst (λ (ls : List (List ℕ)). IsPastIn hashing amount ls u) (append_assoc lines all.ended (lines_after all.left []) ∙ ap (λ ls. lines ++ ls) (whole_text text r s last all)) past
+  past_end lines text u r s last count counted all past =
+      subst (λ (ls : List (List ℕ)). IsPastIn hashing amount ls u) (append_assoc lines all.ended (lines_after all.left []) ∙ ap (λ ls. lines ++ ls) (whole_text text r s last count counted all)) past
 
   -- .. with a line of a text whose first bytes are read
-  pub past_text : (lines : List (List ℕ)) (o new : Option (List ℕ)) (read block : List ℕ) (u : Unsummed) (r s : Updatable (TupleEntry ℕ)) (last : OpenAddend) (was : HasTaken hashing amount [] read r s last) → Consumes o new (read ++ block) →
+  pub past_text : (lines : List (List ℕ)) (o new : Option (List ℕ)) (read block : List ℕ) (u : Unsummed) (r s : Updatable (TupleEntry ℕ)) (last : OpenAddend) (count counted : ℕ) (was : HasTaken hashing amount [] read r s last count counted) → Consumes o new (read ++ block) →
       ((more : List ℕ) → IsPastIn hashing amount ((lines ++ was.ended) ++ lines_after was.left (block ++ more)) u) → IfSome o (λ text. IsPastIn hashing amount (lines ++ lines_of text) u)
-  past_text lines None new read block u r s last was consumes past = tt
-  past_text lines (Some text) None read block u r s last was consumes past = absurd consumes
-  past_text lines (Some text) (Some more) read block u r s last was consumes past =
+  past_text lines None new read block u r s last count counted was consumes past = tt
+  past_text lines (Some text) None read block u r s last count counted was consumes past = absurd consumes
+  past_text lines (Some text) (Some more) read block u r s last count counted was consumes past =
       subst (λ (ls : List (List ℕ)). IsPastIn hashing amount ls u)
-      (append_assoc lines was.ended (lines_after was.left (block ++ more)) ∙ ap (λ ls. lines ++ ls) (text_parted text more read block r s last was consumes)) (past more)
+      (append_assoc lines was.ended (lines_after was.left (block ++ more)) ∙ ap (λ ls. lines ++ ls) (text_parted text more read block r s last count counted was consumes)) (past more)
 
   -- .. with a line of the next text
   pub past_next : {S : Type 0} (lg_k : ℕ) (remaining : S → Option (List ℕ)) (old now new : Option (List (List ℕ))) (o : Option S) (source : S) (u : Unsummed) (s : Updatable (TupleEntry ℕ)) →

@@ -1,11 +1,11 @@
 -- Lines of a text that is read in pieces.
-use Rattle.std.specs.Prelude.{ℕ, ◌≡◌, List, ◌++◌, Option, IfSome, Result, OnOk, IfErr}
+use Rattle.std.specs.Prelude.{ℕ, ◌≡◌, List, ◌++◌, length, Option, IfSome, Result, OnOk, IfErr}
 use Rattle.lines.specs.Lines.{lines_after, lines_of}
 use Rattle.lines.specs.declared.key.Hashing.{Hashing}
 use Rattle.core_slots.specs.declared.entry.TupleEntry.{TupleEntry}
 use Rattle.core_state.specs.Updatable.{Updatable}
 use Rattle.line_sums.specs.Amounts.{IsOpenAddend}
-use Rattle.line_sums.specs.Refusals.{IsPastIn}
+use Rattle.line_sums.specs.Refusals.{count_after, IsPastIn}
 use Rattle.line_sums.specs.Sums.{HasAdded}
 use Rattle.line_sums.specs.declared.addends.Amount.{Amount}
 use Rattle.line_sums.specs.declared.addends.OpenAddend.{OpenAddend}
@@ -15,12 +15,13 @@ use Rattle.line_sums.specs.declared.summing.Unsummed.{Unsummed}
 abbrev pub Ends : (front piece : List ℕ) → (ended : List (List ℕ)) → (left : List ℕ) → Type 0
 Ends front piece ended left = (more : List ℕ) → lines_after front (piece ++ more) ≡ ended ++ lines_after left more
 
--- a piece of a text was read: the lines that ended are added, after those that the sketch had before, and the open line has the
--- bytes behind them
-pub record HasTaken (hashing : Hashing) (amount : Amount) (front piece : List ℕ) (old new : Updatable (TupleEntry ℕ)) (last : OpenAddend) : Type 0 where
+-- a piece of a text was read: the lines that ended are added, after those that the sketch had before, and counted, and the open
+-- line has the bytes behind them
+pub record HasTaken (hashing : Hashing) (amount : Amount) (front piece : List ℕ) (old new : Updatable (TupleEntry ℕ)) (last : OpenAddend) (count counted : ℕ) : Type 0 where
   pub ended : List (List ℕ)
   pub left : List ℕ
   pub ends : Ends front piece ended left
+  pub counts : counted ≡ count_after count (length ended)
   pub is_open : IsOpenAddend hashing amount left last
   pub added : (lg_k : ℕ) (lines : List (List ℕ)) → HasAdded hashing amount lg_k lines old → HasAdded hashing amount lg_k (lines ++ ended) new
 

@@ -5,7 +5,7 @@ ghost use Rattle.line_sums.specs.Bins.{least_of, greatest_of, is_in, greatest, s
 use std::alloc::Allocator;
 use tuple_sketches::CompactTupleSketch;
 
-/// How many bins have all sums of 64 bits but 0.
+/// How many bins have all sums of 64 bits but 0, each in exactly one of them (`laws::numbers_are_in_one_bin`).
 pub const BINS: u32 = 65;
 
 /// The least number of a bin, which is below `BINS`: 1 of bin 0, and 2^(`bin` - 1) + 1 of the others.

@@ -1,24 +1,24 @@
 //! Sketches of sums of the lines of a reader.
-ghost use Rattle.std.specs.Prelude.{◌≡◌, ◌<◌, ◌++◌, ◌∷◌, ℕ, List, [], length, IfOk, IfErr, OnOk, IfSome, None, true};
+ghost use Rattle.std.specs.Prelude.{◌≡◌, ◌<◌, ◌++◌, ◌∷◌, ℕ, Bool, List, [], length, IfOk, IfErr, OnOk, IfSome, None, true};
 ghost use Rattle.sketch_base.specs.declared.error.ErrorKind.TheVariants.{Policy};
 ghost use Rattle.core_laws.specs.Refusal.{Refuses};
 ghost use Rattle.core_laws.specs.Settings.{settings_refusal};
 ghost use Rattle.core_laws.specs.declared.TheConstants.{MAX_THETA};
 ghost use Rattle.lines.specs.Keys.{line_hash};
-ghost use Rattle.lines.specs.Lines.{lines_of, lines_after};
+ghost use Rattle.lines.specs.Lines.{lines_after};
 ghost use Rattle.lines.specs.declared.key.Hashing.{Hashing};
 ghost use Rattle.line_sums.specs.Amounts.{IsOpenAddend};
 ghost use Rattle.line_sums.specs.Sums.{HasSummed, sketch_of_sums};
 ghost use Rattle.line_sums.specs.Reading.{HasTaken, AddsLines, AddsText, ReportsPast, ReportsPastText};
-ghost use Rattle.line_sums.specs.Refusals.{IsAddRefusal, IsByPolicy, IsLastingFailure, IsPast, IsUnsummed, LacksNumber, LacksNumberIn, RefusesSums};
+ghost use Rattle.line_sums.specs.Refusals.{FailsIf, IsAddRefusal, IsByPolicy, IsLastingFailure, IsPast, IsUnsummed, LacksNumber, LacksNumberAt, LacksNumberIn, RefusesSums};
 ghost use Rattle.line_sums.specs.declared.addends.Amount.{Amount};
 
 use crate::addends::{Amount, OpenAddend};
+use line_sketches::TextReader;
 use lines::{Hashing, cut_line};
 use sketch_base::{Error, ErrorKind};
 use std::alloc::{AllocError, Allocator, Global};
 use std::io;
-use std::io::Read;
 use tuple_sketches::{CompactTupleSketch, DefaultUpdatePolicy, TupleSketch, TupleSketchBuilder};
 
 /// A tuple sketch whose summaries are sums of 64 bits.
@@ -100,6 +100,7 @@ fn not_added(error: Error, count: u64) -> Unsummed
     ensures number { (amount : Amount) (line : List ℕ) → LacksNumber amount line count result }
     ensures policy { IsByPolicy error result }
     ensures retried { IsLastingFailure result }
+    ensures fallible { (may_fail : Bool) → FailsIf may_fail result }
 {
     if error.kind() == ErrorKind::Policy {
         Unsummed::PastGreatest(count.saturating_add(1))
@@ -126,6 +127,7 @@ fn add_line<A: Allocator + Clone>(
         → ReportsPast hashing amount (line ∷ []) sketch.old.state result }
     ensures refused { RefusesSums amount result None }
     ensures retried { IfErr result IsLastingFailure }
+    ensures fallible { (may_fail : Bool) → IfErr result (FailsIf may_fail) }
 {
     let Some(value) = last.value(amount) else {
         return Err(Unsummed::NotANumber(count.saturating_add(1)));
@@ -148,15 +150,16 @@ fn take_block<A: Allocator + Clone>(
 ) -> Result<u64, Unsummed>
     ensures taken { (front : List ℕ)
         → IsOpenAddend hashing amount front last.old
-        → OnOk result (HasTaken hashing amount front block.now sketch.old.state sketch.new.state last.new) }
+        → IfOk result (HasTaken hashing amount front block.now sketch.old.state sketch.new.state last.new count) }
     ensures numbered { (front more : List ℕ)
         → IsOpenAddend hashing amount front last.old
-        → IfErr result (LacksNumberIn amount (lines_after front (block.now ++ more))) }
+        → IfErr result (LacksNumberIn amount count (lines_after front (block.now ++ more))) }
     ensures past { (front more : List ℕ)
         → IsOpenAddend hashing amount front last.old
         → ReportsPast hashing amount (lines_after front (block.now ++ more)) sketch.old.state result }
     ensures refused { RefusesSums amount result None }
     ensures retried { IfErr result IsLastingFailure }
+    ensures fallible { (may_fail : Bool) → IfErr result (FailsIf may_fail) }
 {
     let mut rest = block;
     let mut count = count;
@@ -183,12 +186,13 @@ fn take_last<A: Allocator + Clone>(
         → AddsLines hashing amount (lines_after front []) sketch.old.state result sketch.new.state }
     ensures numbered { (hashing : Hashing) (front : List ℕ)
         → IsOpenAddend hashing amount front last.now
-        → IfErr result (LacksNumberIn amount (lines_after front [])) }
+        → IfErr result (LacksNumberIn amount count (lines_after front [])) }
     ensures past { (hashing : Hashing) (front : List ℕ)
         → IsOpenAddend hashing amount front last.now
         → ReportsPast hashing amount (lines_after front []) sketch.old.state result }
     ensures refused { RefusesSums amount result None }
     ensures retried { IfErr result IsLastingFailure }
+    ensures fallible { (may_fail : Bool) → IfErr result (FailsIf may_fail) }
 {
     if !last.is_begun() {
         return Ok(());
@@ -200,12 +204,12 @@ fn take_last<A: Allocator + Clone>(
 /// should be the sketch's, which is not checked. An interrupted read is repeated.
 ///
 /// Refused only with `OutOfMemory`. A line that would make a sum 2^64 or more, or that adds no number, is an error that
-/// has its number. A line is reported to add no number only if some line adds none, and a sum to be 2^64 or more only if one
-/// of all lines is. If the reader fails, its error is returned. After an error some first part of the lines is added; no
-/// clause says so.
+/// has its number. A line is reported to add no number only if the line of its number adds none, and a sum to be 2^64 or
+/// more only if one of all lines is. If the reader fails, its error is returned: only if its reads may fail, so never for a
+/// text in memory. After an error some first part of the lines is added; no clause says so.
 ///
 /// `block` has at least one byte, and its length is the most that one read gets. Its old contents are not used.
-pub fn add_lines<A: Allocator + Clone, R: Read>(
+pub fn add_lines<A: Allocator + Clone, R: TextReader>(
     sketch: &mut SumSketch<A>,
     hashing: Hashing,
     amount: Amount,
@@ -214,10 +218,11 @@ pub fn add_lines<A: Allocator + Clone, R: Read>(
 ) -> Result<(), Unsummed>
     requires room { 0 < length block.old }
     ensures added { AddsText hashing amount (R.remaining reader.old) sketch.old.state result sketch.new.state }
-    ensures numbered { IfSome (R.remaining reader.old) (λ text. IfErr result (LacksNumberIn amount (lines_of text))) }
+    ensures numbered { IfSome (R.remaining reader.old) (λ text. IfErr result (LacksNumberAt amount text)) }
     ensures past { ReportsPastText hashing amount (R.remaining reader.old) sketch.old.state result }
     ensures refused { RefusesSums amount result None }
     ensures retried { IfErr result IsLastingFailure }
+    ensures fallible { IfErr result (FailsIf R.may_fail) }
 {
     let mut last = OpenAddend::new(hashing);
     let mut count = 0u64;
@@ -233,7 +238,10 @@ pub fn add_lines<A: Allocator + Clone, R: Read>(
             }
             Err(error) => {
                 if error.kind() != io::ErrorKind::Interrupted {
-                    return Err(Unsummed::Failed(error));
+                    if R::may_fail() {
+                        return Err(Unsummed::Failed(error));
+                    }
+                    return Err(Unsummed::Refused(Error::from(AllocError)));
                 }
             }
         }

@@ -12,7 +12,7 @@ ghost use Rattle.core_operators.specs.Union.{empty_union};
 ghost use Rattle.core_slots.specs.Entry.{tuple_key};
 ghost use Rattle.core_state.specs.View.{shows, sequence};
 ghost use Rattle.line_sketches.specs.Batches.{HasRead, IsReadyFor};
-ghost use Rattle.line_sketches.specs.Refusals.{IsMergeError};
+ghost use Rattle.line_sketches.specs.Refusals.{FailsIf, IsMergeError};
 ghost use Rattle.line_sketches.specs.Unions.{IsReady};
 ghost use Rattle.line_sums.specs.Images.{ReadsSumsUnder};
 ghost use Rattle.line_sums.specs.Unions.{HasUnitedSums, IsUnitedSums, IsUnitedSumsImage, AreSumsOfTexts, UnitesSumsOfTexts};
@@ -172,7 +172,8 @@ pub struct UnionOfSums<A: Allocator + Drop = Global> {
 /// Refused with `InvalidArgument` only for an `lg_k` that isn't from 4 to 26 or a seed whose seed hash is 0; with
 /// `InvalidData` only if some source is no image of sums of this seed; with `Policy` if the sums of a key below every theta
 /// so far are 2^64 or more together, which no clause says; and with `OutOfMemory`. If a source fails, or can't be opened,
-/// its error is returned, and for a wrong `lg_k` or seed nothing is read; no clause says so.
+/// its error is returned: only if sources may fail, so never for images in memory. For a wrong `lg_k` or seed nothing is
+/// read; no clause says so.
 pub fn union_of_sums<A: Allocator + Clone + Drop, S: Sources>(
     alloc: A,
     seed: u64,
@@ -184,6 +185,7 @@ pub fn union_of_sums<A: Allocator + Clone + Drop, S: Sources>(
     ensures apart { IfSome (S.texts images.old) (λ all. IfOk result (λ u. AreSumsOfTexts seed lg_k all u.sketch)) }
     ensures accepted { OnOk result (settings_refusal lg_k MAX_THETA seed ≡ None) }
     ensures refused { IfErr result (IsUniteSumsRefusal seed (settings_refusal lg_k MAX_THETA seed) (S.texts images.old)) }
+    ensures fallible { IfErr result (FailsIf S.may_fail) }
 {
     one_reading::<u64, A>();
     let mut batch = new_batch(alloc.clone()?, seed, lg_k)?;
@@ -206,6 +208,7 @@ pub fn unite_sums<A: Allocator + Clone + Drop, S: Sources>(
     ensures apart { IfSome (S.texts images.old) (λ all. IfOk result (λ u. UnitesSumsOfTexts seed lg_k all u.image.items)) }
     ensures accepted { OnOk result (settings_refusal lg_k MAX_THETA seed ≡ None) }
     ensures refused { IfErr result (IsUniteSumsRefusal seed (settings_refusal lg_k MAX_THETA seed) (S.texts images.old)) }
+    ensures fallible { IfErr result (FailsIf S.may_fail) }
 {
     let united = union_of_sums(alloc, seed, lg_k, images)?;
     let image = sums_image(&united.sketch)?;

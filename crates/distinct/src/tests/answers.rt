@@ -4,19 +4,20 @@ ghost use Rattle.sketch_base.specs.Seed.{seed_hash};
 ghost use Rattle.theta_sketches.specs.Image.{written};
 ghost use Rattle.distinct_arguments.specs.Arguments.{action_of};
 ghost use Rattle.distinct_arguments.specs.declared.commands.Operator.TheVariants.{Union};
-ghost use Rattle.distinct_arguments.specs.Faults.{options_of};
+ghost use Rattle.distinct_arguments.specs.Faults.{options_of, request_action};
 ghost use Rattle.distinct_arguments.specs.Settings.{chosen_group, chosen_value};
 ghost use Rattle.distinct_inputs.specs.Failures.{chosen_amount};
 ghost use Rattle.distinct_inputs.specs.Lists.{names_of, texts_of};
 ghost use Rattle.distinct_commands.specs.Answers.{sketch_of, IsIntersectionImage, IsDifferenceImage, IsShownOf, IsCountOf, IsSketchText, IsCommandAnswer, IsCombinedText, Performs};
 ghost use Rattle.distinct_commands.specs.Eval.{IsEvaluatedOf};
+ghost use Rattle.distinct_commands.specs.Operands.{words_for, words_in, Suits, SuitsAction};
 ghost use Rattle.distinct_inputs.specs.Images.{images_of, in_form};
 ghost use Rattle.distinct_commands.specs.Sums.{IsTotalText};
 ghost use Rattle.distinct_commands.specs.Visits.{IsVisitsText};
 
 use crate::tests::words_of;
 use distinct_arguments::{Command, Operator, Options, Request, Seed, read_arguments};
-use distinct_commands::{answer, perform};
+use distinct_commands::{Operands, answer, only_expression, perform};
 use distinct_inputs::{Console, Failure, Remark};
 use grouped_lines::GroupWatch;
 use line_sketches::{Texts, Watch, hex_line, read_hex};
@@ -41,17 +42,18 @@ impl Console for Quiet {
     fn remark(&mut self, _remark: Remark<'_>) {}
 }
 
-/// What a command writes under a seed of texts in memory, as files of these names.
+/// What a command writes under a seed of texts in memory, as the files of what it is given.
 fn answered(
     alloc: Global,
     command: Command,
     options: &Options<'_>,
     seed: u64,
-    names: &[String],
+    operands: Operands<'_>,
     texts: &[Vec<u8>],
 ) -> Result<Vec<u8>, Failure>
     requires seeded { seed_hash seed ≢ 0 }
-    ensures written { IfOk result (λ v. IsCommandAnswer command (options_of options.now) seed (names_of names.now) (texts_of texts.now) v.items) }
+    requires suits { Suits command operands }
+    ensures written { IfOk result (λ v. IsCommandAnswer command (options_of options.now) seed (words_in operands.entry) (texts_of texts.now) v.items) }
 {
     let mut bytes = Vec::new(alloc);
     let mut console = Quiet {};
@@ -60,7 +62,7 @@ fn answered(
         command,
         options,
         seed,
-        names,
+        operands,
         Texts::new(texts),
         &mut console,
         &mut bytes,
@@ -79,7 +81,14 @@ fn count_of(
     requires seeded { seed_hash seed ≢ 0 }
     ensures counted { IfOk result (λ v. IsCountOf (chosen_group (options_of options.now)) (options_of options.now) seed (texts_of texts.now) v.items) }
 {
-    answered(alloc, Command::Count, options, seed, names, texts)
+    answered(
+        alloc,
+        Command::Count,
+        options,
+        seed,
+        Operands::Files(names),
+        texts,
+    )
 }
 
 /// What `sketch` writes of texts.
@@ -95,7 +104,14 @@ fn sketch_of(
         IsSketchText (chosen_amount (options_of options.now)) (chosen_group (options_of options.now))
         (options_of options.now) seed (texts_of texts.now) v.items) }
 {
-    answered(alloc, Command::Sketch, options, seed, names, texts)
+    answered(
+        alloc,
+        Command::Sketch,
+        options,
+        seed,
+        Operands::Files(names),
+        texts,
+    )
 }
 
 /// What `union` writes of files of images, by groups or not.
@@ -110,7 +126,7 @@ fn union_of(
     ensures united { IfOk result (λ v. IsCombinedText options.now.groups Union (options_of options.now) seed (texts_of texts.now) v.items) }
 {
     let union = Command::Combine(Operator::Union);
-    answered(alloc, union, options, seed, names, texts)
+    answered(alloc, union, options, seed, Operands::Files(names), texts)
 }
 
 /// What `meet` writes of files of images.
@@ -127,7 +143,7 @@ fn meet_of(
         × (v.items ≡ in_form options.now.hex image)) }
 {
     let meet = Command::Combine(Operator::Meet);
-    answered(alloc, meet, options, seed, names, texts)
+    answered(alloc, meet, options, seed, Operands::Files(names), texts)
 }
 
 /// What `minus` writes of files of two images.
@@ -144,7 +160,7 @@ fn minus_of(
         × (v.items ≡ in_form options.now.hex image)) }
 {
     let minus = Command::Combine(Operator::Minus);
-    answered(alloc, minus, options, seed, names, texts)
+    answered(alloc, minus, options, seed, Operands::Files(names), texts)
 }
 
 /// What `show` writes of files of images.
@@ -158,7 +174,14 @@ fn show_of(
     requires seeded { seed_hash seed ≢ 0 }
     ensures shown { IfOk result (λ v. IsShownOf (options_of options.now) seed (names_of names.now) (texts_of texts.now) v.items) }
 {
-    answered(alloc, Command::Show, options, seed, names, texts)
+    answered(
+        alloc,
+        Command::Show,
+        options,
+        seed,
+        Operands::Files(names),
+        texts,
+    )
 }
 
 /// What `eval` writes of files.
@@ -172,7 +195,9 @@ fn eval_of(
     requires seeded { seed_hash seed ≢ 0 }
     ensures evaluated { IfOk result (λ v. IsEvaluatedOf (options_of options.now) seed (names_of names.now) (texts_of texts.now) v.items) }
 {
-    answered(alloc, Command::Eval, options, seed, names, texts)
+    let expression = only_expression(alloc, names)?;
+    let operands = Operands::Expression(&expression);
+    answered(alloc, Command::Eval, options, seed, operands, texts)
 }
 
 /// What `visits` writes of texts, or of files of images of sums.
@@ -186,7 +211,14 @@ fn visits_of(
     requires seeded { seed_hash seed ≢ 0 }
     ensures visited { IfOk result (λ v. IsVisitsText options.now.sums (options_of options.now) seed (texts_of texts.now) v.items) }
 {
-    answered(alloc, Command::Visits, options, seed, names, texts)
+    answered(
+        alloc,
+        Command::Visits,
+        options,
+        seed,
+        Operands::Files(names),
+        texts,
+    )
 }
 
 /// What `sum` writes of texts.
@@ -200,7 +232,14 @@ fn sum_of(
     requires seeded { seed_hash seed ≢ 0 }
     ensures summed { IfOk result (λ v. IsTotalText (chosen_value (options_of options.now)) (options_of options.now) seed (texts_of texts.now) v.items) }
 {
-    answered(alloc, Command::Sum, options, seed, names, texts)
+    answered(
+        alloc,
+        Command::Sum,
+        options,
+        seed,
+        Operands::Files(names),
+        texts,
+    )
 }
 
 /// What a command writes, by its helper.
@@ -242,30 +281,55 @@ fn written_by_seed(
     }
 }
 
-/// What a request writes of texts in memory, under a seed.
-fn performed(
+/// What a request writes of texts in memory under a seed, as the files of what it is given.
+fn request_written(
     alloc: Global,
-    words: &[String],
+    request: Request<'_>,
     seed: u64,
-    names: &[String],
+    operands: Operands<'_>,
     texts: &[Vec<u8>],
 ) -> Result<Vec<u8>, Failure>
     requires seeded { seed_hash seed ≢ 0 }
-    ensures { IfOk result (λ v. Performs (action_of (names_of words.now)) seed (names_of names.now) (texts_of texts.now) (Some []) (Some v.items)) }
+    requires suits { SuitsAction (request_action request) operands }
+    ensures { IfOk result (λ v. Performs (request_action request.entry) seed (words_in operands.entry) (texts_of texts.now) (Some []) (Some v.items)) }
 {
-    let request = read_arguments(words)?;
     let mut bytes = Vec::new(alloc);
     let mut console = Quiet {};
     perform(
         alloc,
         request,
         seed,
-        names,
+        operands,
         Texts::new(texts),
         &mut console,
         &mut bytes,
     )?;
     Ok(bytes)
+}
+
+/// What the program writes by these arguments of texts in memory, as the files that they name, under a seed.
+fn performed(
+    alloc: Global,
+    words: &[String],
+    seed: u64,
+    texts: &[Vec<u8>],
+) -> Result<Vec<u8>, Failure>
+    requires seeded { seed_hash seed ≢ 0 }
+    ensures { IfOk result (λ v.
+        Performs (action_of (names_of words.now)) seed (words_for (action_of (names_of words.now))) (texts_of texts.now) (Some []) (Some v.items)) }
+{
+    let request = read_arguments(words)?;
+    match request {
+        Request::Print(_) => request_written(alloc, request, seed, Operands::Files(&[]), texts),
+        Request::Run(Command::Eval, options, names) => {
+            let expression = only_expression(alloc, names)?;
+            let eval = Request::Run(Command::Eval, options, names);
+            request_written(alloc, eval, seed, Operands::Expression(&expression), texts)
+        }
+        Request::Run(_, _, names) => {
+            request_written(alloc, request, seed, Operands::Files(names), texts)
+        }
+    }
 }
 
 /// Two texts, or the bytes that they spell in hexadecimal digits.
@@ -322,7 +386,7 @@ fn both_written(
     let prints = command == Command::Count || command == Command::Show || command == Command::Eval;
     let is_image = !options.hex && !is_sums && (!prints || options.output.is_some());
     let files = two_texts(alloc, !options.hex && !reads_lines, texts)?;
-    let written = performed(alloc, words.as_slice(), seed, names, files.as_slice())?;
+    let written = performed(alloc, words.as_slice(), seed, files.as_slice())?;
     let second = written_by_seed(alloc, command, &options, seed, names, files.as_slice())?;
     Ok((
         in_digits(alloc, is_image, written)?,

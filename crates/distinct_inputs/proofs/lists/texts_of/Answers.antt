@@ -1,8 +1,6 @@
 use Rattle.std.proofs.Common.{◌≡◌, [], ◌∷◌, ◌++◌, length, sym, ap, subst, ◌∙◌, append_assoc, append-nil, arith}
-use Rattle.std.specs.Prelude.{IfErr}
-use Rattle.std.proofs.lemmas.Result.{err_from_is_err_and}
-use Rattle.distinct_inputs.specs.Lists.{names_of, texts_of, IsName, IsUnlisted}
-use Rattle.distinct_inputs.proofs.ListNames.{nothing_named, named_more, unlisted}
+use Rattle.distinct_inputs.specs.Lists.{names_of, texts_of, IsName}
+use Rattle.distinct_inputs.proofs.ListNames.{nothing_named, named_more}
 use Rattle.distinct_inputs.proofs.lists.texts_of.Goals as goal
 
 pub put_each-preserved : goal.put_each-preserved

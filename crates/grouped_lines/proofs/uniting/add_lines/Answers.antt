@@ -73,3 +73,9 @@ returns-in-Err-add_line-clause-first g c = λ before uniting.
     (c.failure_at.ensures.line seed (without_lf bytes) (subst (λ (text : List ℕ). IsNotAdded seed text c.in-Err-add_line.reason) line c.in-Err-add_line.ensures.failed))
     (read_behind seed c.args.lg_k passed before c.each_line.groups.map (g.R.Read.remaining c.args.reader) known left bytes (c.each_line.invariant.counted before uniting)
     (subst (ReadsLine known left bytes) c.in-Ok-true.field-0-test c.in-Ok-true.ensures))
+
+pub returns-in-Err-add_line-clause-fallible : goal.returns-in-Err-add_line-clause-fallible
+returns-in-Err-add_line-clause-fallible g c = c.failure_at.ensures.fallible g.R.TextReader.may_fail
+
+pub returns-in-Err-next_line-clause-first : goal.returns-in-Err-next_line-clause-first
+returns-in-Err-next_line-clause-first g c = λ before uniting. c.read_failure.ensures.first c.args.seed (option_map lines_of (g.R.Read.remaining c.args.reader))

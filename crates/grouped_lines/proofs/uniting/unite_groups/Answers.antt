@@ -1,4 +1,5 @@
-use Rattle.std.proofs.Common.{[], ◌++◌, ◌∷◌, sym, subst}
+use Rattle.std.proofs.Common.{Option, [], ◌++◌, ◌∷◌, sym, subst}
+use Rattle.sketch_base.specs.declared.error.ErrorKind.{ErrorKind}
 use Rattle.std.specs.Prelude.{IfErr}
 use Rattle.std.proofs.lemmas.Result.{err_from_is_err_and}
 use Rattle.core_laws.specs.Settings.{settings_refusal}
@@ -55,3 +56,8 @@ returns-in_err-add_lines-in-Ok-Some-clause-failed g c =
     let failed = failed_next seed c.args.lg_k g.S.Source.Read.remaining c.each_source.groups.map texts (g.S.Sources.texts c.each_source.sources) (g.S.Sources.texts c.next_source.new.self) c.in-Ok-Some.field-0 c.in-Ok-Some.source refusal c.in_err-add_lines-in-Ok-Some.field-0.0
     c.each_source.invariant.added c.in-Ok-Some.ensures c.in-Ok-Some.field-0-is c.in_ok-check_union.ensures.refused c.in_err-add_lines-in-Ok-Some.ensures.memory c.in_err-add_lines-in-Ok-Some.ensures.first in
     subst (λ r. IfErr r (IsUnunited seed refusal texts)) (sym p.1) (subst (IsUnunited seed refusal texts) (sym p.2) failed)
+
+pub returns-in-Err-clause-failed : goal.returns-in-Err-clause-failed
+returns-in-Err-clause-failed g c =
+    let texts = g.S.Sources.texts c.args.sources.now in
+    subst (λ (refusal : Option ErrorKind). IsUnunited c.args.seed refusal texts c.read_failure.result) (sym c.in_ok-check_union.ensures.refused) (c.read_failure.ensures.failed c.args.seed texts)

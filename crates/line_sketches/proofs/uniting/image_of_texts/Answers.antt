@@ -1,13 +1,13 @@
-use Rattle.std.proofs.Common.{◌≡◌, ◌∷◌, ◌++◌, [], ℕ, Vec, Global, Option, Result, Ok, Err, true, refl, ap, sym, subst, ◌∙◌, arith}
+use Rattle.std.proofs.Common.{◌≡◌, ◌∷◌, ◌++◌, [], ℕ, List, Vec, Global, Option, Result, Ok, Err, true, refl, ap, sym, subst, ◌∙◌, arith}
 use Rattle.std.specs.Prelude.{length, map, IfOk}
 use Rattle.std.proofs.lemmas.Result.{err_from_is_err_and}
 use Rattle.core_laws.specs.Refusal.{Refuses}
 use Rattle.core_laws.specs.declared.TheConstants.{MAX_THETA}
 use Rattle.core_laws.specs.Settings.{settings_refusal}
 use Rattle.line_sketches.specs.Keys.{image_of_text, image_of_lines}
-use Rattle.line_sketches.specs.Shards.{images_of_texts}
+use Rattle.line_sketches.specs.Shards.{AreImagesOfTexts, images_of_texts}
 use Rattle.line_sketches.specs.Unions.{IsUnitedImage}
-use Rattle.line_sketches.proofs.Compacts.{text_more, texts_made, united_apart}
+use Rattle.line_sketches.proofs.Compacts.{own_images, text_more, texts_made, united_apart}
 use Rattle.line_sketches.proofs.Refused.{refuses_memory, text_refused}
 use Rattle.line_sketches.proofs.Unions.{nothing_united, size_small}
 use Rattle.line_sketches.proofs.uniting.image_of_texts.Goals as goal
@@ -52,7 +52,9 @@ returns g c = record {
       let texts = map (λ (v : Vec ℕ Global). v.items) c.args.texts.now in
       let inv = c.loop-text.invariant.united in
       let are = texts_made (λ (v : Vec ℕ Global). v.items) c.args.hashing c.args.lg_k inv.0 c.loop-text.left.now (images_of_texts c.args.hashing c.args.lg_k texts) inv.1 none in
+      let small = size_small c.args.hashing.seed c.args.lg_k c.in_ok-union.ensures.refused in
+      let apart = subst (λ (is : List (List ℕ)). AreImagesOfTexts c.args.hashing c.args.lg_k is texts) (sym are) (own_images c.args.hashing c.args.lg_k small texts) in
       if_ok c.united_image.result (λ v. IsUnitedImage c.args.hashing.seed c.args.lg_k inv.0 v.items) (λ v. v.items ≡ image_of_lines c.args.hashing c.args.lg_k lines) (c.united_image.ensures.image c.args.hashing.seed c.args.lg_k inv.0 inv.2)
-      (λ v image. united_apart c.one_reading.ensures c.read_again.ensures c.args.hashing c.args.lg_k (size_small c.args.hashing.seed c.args.lg_k c.in_ok-union.ensures.refused) texts lines inv.0 v.items same are image);
+      (λ v image. united_apart c.one_reading.ensures c.read_again.ensures c.args.hashing c.args.lg_k texts lines inv.0 v.items same apart image);
   refused = subst (λ (o : Option _). Refuses c.united_image.result o true) (sym c.in_ok-union.ensures.refused) (c.united_image.ensures.refused c.args.hashing.seed c.loop-text.invariant.ready);
 }

@@ -4,7 +4,7 @@ use Rattle.std.proofs.lemmas.Result.{err_from_is_err_and}
 use Rattle.lines.specs.Lines.{lines_of, lines_of_all}
 use Rattle.line_sketches.proofs.Turns.{if_some, if_any, continues_itself, continues_next, continues_end}
 use Rattle.line_sums.specs.Sums.{HasAdded}
-use Rattle.line_sums.specs.Refusals.{LacksNumberIn, IsPastIn}
+use Rattle.line_sums.specs.Refusals.{LacksNumberAt, LacksNumberOf, IsPastIn}
 use Rattle.line_sums.proofs.Pieces.{lines_more, lacking_texts, past_next}
 use Rattle.line_sketches.proofs.Refused.{faulty_next}
 use Rattle.line_sketches.specs.Refusals.{HasFault}
@@ -39,10 +39,10 @@ returns-in_err-add_source-in-Ok-Some-clause-numbered g c =
     let u = c.in_err-add_source-in-Ok-Some.field-0.0 in
     let r = c.from_residual-in_err-add_source-in-Ok-Some.result in
     let p = err_from_is_err_and r c.from_residual-in_err-add_source-in-Ok-Some.ensures.1 in
-    let fault = faulty_next (λ text. LacksNumberIn amount (lines_of text) u) g.S.Source.Read.remaining texts (g.S.Sources.texts c.loop.sources) (g.S.Sources.texts c.next_source.new.self) c.in-Ok-Some.field-0 c.in-Ok-Some.source
+    let fault = faulty_next (λ text. LacksNumberAt amount text u) g.S.Source.Read.remaining texts (g.S.Sources.texts c.loop.sources) (g.S.Sources.texts c.next_source.new.self) c.in-Ok-Some.field-0 c.in-Ok-Some.source
     c.loop.invariant.parted c.in-Ok-Some.ensures c.in-Ok-Some.field-0-is c.in_err-add_source-in-Ok-Some.ensures.numbered in
-    subst (λ r. IfSome texts (λ all. IfErr r (LacksNumberIn amount (lines_of_all all)))) (sym p.1) (subst (λ v. IfSome texts (λ all. LacksNumberIn amount (lines_of_all all) v)) (sym p.2)
-    (if_some texts (HasFault (λ text. LacksNumberIn amount (lines_of text) u)) (λ all. LacksNumberIn amount (lines_of_all all) u) (lacking_texts amount u) fault))
+    subst (λ r. IfSome texts (λ all. IfErr r (LacksNumberOf amount all))) (sym p.1) (subst (λ v. IfSome texts (λ all. LacksNumberOf amount all v)) (sym p.2)
+    (if_some texts (HasFault (λ text. LacksNumberAt amount text u)) (λ all. LacksNumberOf amount all u) (lacking_texts amount u) fault))
 
 pub returns-in_err-add_source-in-Ok-Some-clause-past : goal.returns-in_err-add_source-in-Ok-Some-clause-past
 returns-in_err-add_source-in-Ok-Some-clause-past g c = λ lg_k has.

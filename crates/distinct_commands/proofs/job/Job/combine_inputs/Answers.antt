@@ -1,4 +1,4 @@
-use Rattle.std.proofs.Common.{◌≡◌, ℕ, false, List, length, sym, ap, subst, ◌∙◌, inr}
+use Rattle.std.proofs.Common.{◌≡◌, ℕ, Bool, false, List, length, refl, sym, ap, subst, ◌∙◌, inr}
 use Rattle.std.proofs.lemmas.Result.{err_from_is_err_and}
 use Rattle.std.specs.Prelude.{◌≢◌, IfSome, IfOk, IfErr}
 use Rattle.std.specs.Option.{option_map}
@@ -7,10 +7,10 @@ use Rattle.theta_sketches.specs.Image.{written}
 use Rattle.distinct_arguments.specs.Faults.{options_of}
 use Rattle.distinct_arguments.specs.declared.commands.Operator.{Operator}
 use Rattle.distinct_commands.specs.Answers.{IsCombinedOf, IsIntersectionImage, IsExpected, intersection_of}
-use Rattle.distinct_inputs.specs.Failures.{unites_sums, IsOfCombining, IsOfImages}
+use Rattle.distinct_inputs.specs.Failures.{unites_sums, AreCounted, IsOfCombining, IsOfImages, UnreadableIf}
 use Rattle.distinct_inputs.specs.Images.{images_of, remaining_images}
 use Rattle.distinct_commands.proofs.Failing.{not_combined, not_united}
-use Rattle.distinct_commands.proofs.NextImages.{all_hold, all_images, met_of_known, not_two}
+use Rattle.distinct_commands.proofs.NextImages.{all_hold, all_images, met_of_known, not_two, count_read}
 use Rattle.distinct_commands.proofs.job.Job.combine_inputs.Goals as goal
 
 pub returns-clause-failed : goal.returns-clause-failed
@@ -69,3 +69,27 @@ returns-in-Meet-clause-combined g c =
     (met_of_known seed c.meet_image.result (λ v. v.items) options.expected (remaining_images g.S.Source.Read.remaining g.S.Sources.texts images) sketches c.in_ok-sketches-in-Meet.ensures.read image expected) in
     subst (λ (o : Operator). IfSome (g.S.Sources.texts c.args.self.inputs.sources) (λ texts. IfOk c.meet_image.result (λ v. IsCombinedOf o (options_of options) seed texts v.items))) (sym c.in-Meet.is)
     (subst (λ inputs. IfSome (g.S.Sources.texts inputs.sources) (λ all. IfOk c.meet_image.result (λ v. IsIntersectionImage seed (images_of false options.hex all) v.items × IsExpected options.expected (length (images_of false options.hex all))))) c.new-images.ensures.inputs left)
+
+pub returns-in_err-check_count-in-Meet-clause-failed : goal.returns-in_err-check_count-in-Meet-clause-failed
+returns-in_err-check_count-in-Meet-clause-failed g c =
+    let images = c.new-images.result in
+    let options = options_of c.args.self.options.now in
+    let seed = c.args.self.seed in
+    let texts = g.S.Sources.texts c.args.self.inputs.sources in
+    let failed = IsOfCombining c.args.operator options seed c.args.count texts in
+    let sketches = c.in_ok-sketches-in-Meet.sketches.items in
+    let found = c.len.result in
+    let p = err_from_is_err_and c.from_residual-in_err-check_count-in-Meet.result c.from_residual-in_err-check_count-in-Meet.ensures.1 in
+    let read = count_read seed (remaining_images g.S.Source.Read.remaining g.S.Sources.texts images) sketches found c.in_ok-sketches-in-Meet.ensures.read (c.len.ensures ∙ c.in_ok-sketches-in-Meet.sketches.ok.0) in
+    let known = subst (λ all. AreCounted found all) (all_images g.S.Source.Read.remaining g.S.Sources.texts images false options.hex c.new-images.ensures.sums c.new-images.ensures.hex c.new-images.ensures.closed) read in
+    let counted = subst (λ inputs. AreCounted found (option_map (images_of false options.hex) (g.S.Sources.texts inputs.sources))) c.new-images.ensures.inputs known in
+    let sums = ap (λ (o : Operator). unites_sums o options) c.in-Meet.is in
+    subst (λ r. IfErr r failed) (sym p.1) (subst failed (sym p.2)
+    (c.in_err-check_count-in-Meet.ensures.of_operator c.args.operator options seed c.args.count texts refl
+    (subst (λ (b : Bool). AreCounted found (option_map (images_of b options.hex) texts)) (sym sums) counted)))
+
+pub returns-in_err-check_count-in-Meet-clause-fallible : goal.returns-in_err-check_count-in-Meet-clause-fallible
+returns-in_err-check_count-in-Meet-clause-fallible g c =
+    let unreadable = UnreadableIf g.S.Sources.may_fail in
+    let p = err_from_is_err_and c.from_residual-in_err-check_count-in-Meet.result c.from_residual-in_err-check_count-in-Meet.ensures.1 in
+    subst (λ r. IfErr r unreadable) (sym p.1) (subst unreadable (sym p.2) (c.in_err-check_count-in-Meet.ensures.fallible g.S.Sources.may_fail))

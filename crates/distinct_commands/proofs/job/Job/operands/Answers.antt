@@ -5,6 +5,7 @@ use Rattle.line_sketches.specs.Shards.{AreRead}
 use Rattle.distinct_arguments.specs.Faults.{options_of}
 use Rattle.distinct_commands.specs.Eval.{AreOperands}
 use Rattle.distinct_inputs.specs.Failures.{IsOfImages}
+use Rattle.distinct_commands.specs.Failing.{IsOfNames}
 use Rattle.distinct_inputs.specs.Images.{images_of}
 use Rattle.distinct_commands.proofs.NextImages.{all_hold, all_images}
 use Rattle.distinct_commands.proofs.job.Job.operands.Goals as goal
@@ -26,5 +27,6 @@ returns-clause-failed g c =
     let hex = c.args.self.options.now.hex in
     let seed = c.args.self.seed in
     let result = c.all_sketches.result in
-    subst (λ inputs. IfErr result (IsOfImages false hex seed (option_map (images_of false hex) (g.S.Sources.texts inputs.sources)))) c.new-images.ensures.inputs
-    (subst (λ all. IfErr result (IsOfImages false hex seed all)) (all_images g.S.Source.Read.remaining g.S.Sources.texts images false hex c.new-images.ensures.sums c.new-images.ensures.hex c.new-images.ensures.closed) c.all_sketches.ensures.failed)
+    subst (λ (keys : Bool). IfErr result (IsOfNames keys hex seed (g.S.Sources.texts c.args.self.inputs.sources))) (sym c.if-self.false)
+    (subst (λ inputs. IfErr result (IsOfImages false hex seed (option_map (images_of false hex) (g.S.Sources.texts inputs.sources)))) c.new-images.ensures.inputs
+    (subst (λ all. IfErr result (IsOfImages false hex seed all)) (all_images g.S.Source.Read.remaining g.S.Sources.texts images false hex c.new-images.ensures.sums c.new-images.ensures.hex c.new-images.ensures.closed) c.all_sketches.ensures.failed))

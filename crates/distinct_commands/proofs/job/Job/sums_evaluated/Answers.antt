@@ -10,8 +10,8 @@ use Rattle.distinct_commands.proofs.job.Job.sums_evaluated.Goals as goal
 
 pub returns-clause-evaluated : goal.returns-clause-evaluated
 returns-clause-evaluated g c =
-    sums_evaluated (options_of c.args.self.options.now) c.args.self.seed c.put_result.result (λ v. v.items) (g.S.Sources.texts c.args.self.inputs.sources) c.args.text.now c.args.expression.now.names.items c.args.expression.now.steps.items
-    c.in_ok-sketches.sketches.items c.in_ok-result.result c.requires.spelled c.in_ok-sketches.ensures.operands
+    sums_evaluated (options_of c.args.self.options.now) c.args.self.seed c.put_result.result (λ v. v.items) (g.S.Sources.texts c.args.self.inputs.sources) c.args.expression.now.text.now c.args.expression.now.names.items c.args.expression.now.steps.items
+    c.in_ok-sketches.sketches.items c.in_ok-result.result c.requires.read c.in_ok-sketches.ensures.operands
     (omega (arith, c.if-found-wanted.false, c.len-found.ensures, c.len-wanted.ensures, c.in_ok-sketches.sketches.ok.0, c.args.expression.now.names.ok.0))
-    (c.in_ok-result.ensures.value c.requires.spelled ∙ ap (λ (ss : List (Compact (TupleEntry ℕ))). ordered_sketch (sums_value c.args.self.options.now.lg_k (sums_values ss) c.requires.spelled.tree) (seed_hash c.args.self.seed)) c.as_slice.ensures.value)
+    (c.in_ok-result.ensures.value c.requires.read ∙ ap (λ (ss : List (Compact (TupleEntry ℕ))). ordered_sketch (sums_value c.args.self.options.now.lg_k (sums_values ss) c.requires.read.tree) (seed_hash c.args.self.seed)) c.as_slice.ensures.value)
     c.put_result.ensures.result

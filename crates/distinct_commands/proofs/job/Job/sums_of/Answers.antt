@@ -6,7 +6,7 @@ use Rattle.line_sketches.proofs.Turns.{if_some}
 use Rattle.line_sums.specs.Amounts.{added_by}
 use Rattle.core_laws.specs.Settings.{settings_refusal}
 use Rattle.core_laws.specs.declared.TheConstants.{MAX_THETA}
-use Rattle.line_sums.specs.Refusals.{IsUnsummed, LacksNumberIn, IsPast, IsPastIn}
+use Rattle.line_sums.specs.Refusals.{IsUnsummed, LacksNumberOf, IsPast, IsPastIn}
 use Rattle.line_sums.specs.Sums.{sketch_of_sums}
 use Rattle.line_sums.specs.declared.summing.Unsummed.{Unsummed}
 use Rattle.distinct_arguments.specs.Faults.{options_of}
@@ -25,7 +25,7 @@ returns-in-Err-PastGreatest-clause-failed g c =
     let amount = c.args.amount in
     let texts = g.S.Sources.texts c.args.self.inputs.sources in
     let past = subst (λ (u : Unsummed). IfSome texts (λ all. IsPastIn (record { key = c.key.result; seed = seed }) amount (lines_of_all all) u)) c.in-Err-PastGreatest.field-0-is c.in-Err-PastGreatest.ensures.past in
-    c.past_greatest.ensures options seed amount texts (subst (λ (k : Key). IfSome texts (λ all. IsPast (record { key = k; seed = seed }) (added_by amount) (lines_of_all all))) c.key.ensures past)
+    c.past_greatest.ensures.of_sums options seed amount texts (subst (λ (k : Key). IfSome texts (λ all. IsPast (record { key = k; seed = seed }) (added_by amount) (lines_of_all all))) c.key.ensures past)
 
 pub returns-in-Err-NotANumber-clause-failed : goal.returns-in-Err-NotANumber-clause-failed
 returns-in-Err-NotANumber-clause-failed g c =
@@ -33,5 +33,11 @@ returns-in-Err-NotANumber-clause-failed g c =
     let amount = c.args.amount in
     let texts = g.S.Sources.texts c.args.self.inputs.sources in
     let is = subst (λ (u : Unsummed). IsUnsummed amount refusal u) c.in-Err-NotANumber.field-0-is c.in-Err-NotANumber.ensures.refused in
-    let lacking = subst (λ (u : Unsummed). IfSome texts (λ all. LacksNumberIn amount (lines_of_all all) u)) c.in-Err-NotANumber.field-0-is c.in-Err-NotANumber.ensures.numbered in
-    c.not_a_number.ensures (options_of c.args.self.options.now) c.args.self.seed amount texts is.1 lacking
+    let lacking = subst (λ (u : Unsummed). IfSome texts (λ all. LacksNumberOf amount all u)) c.in-Err-NotANumber.field-0-is c.in-Err-NotANumber.ensures.numbered in
+    c.not_a_number.ensures.of_sums (options_of c.args.self.options.now) c.args.self.seed amount texts is.1 lacking
+
+pub returns-in-Err-PastGreatest-clause-fallible : goal.returns-in-Err-PastGreatest-clause-fallible
+returns-in-Err-PastGreatest-clause-fallible g c = c.past_greatest.ensures.fallible g.S.Sources.may_fail
+
+pub returns-in-Err-NotANumber-clause-fallible : goal.returns-in-Err-NotANumber-clause-fallible
+returns-in-Err-NotANumber-clause-fallible g c = c.not_a_number.ensures.fallible g.S.Sources.may_fail

@@ -34,3 +34,6 @@ returns-clause-failed g c =
     (subst (λ all. IsOfEitherUnion options seed all f) (all_images g.S.Source.Read.remaining g.S.Sources.texts images options.sums options.hex sums c.of-images.ensures.hex c.of-images.ensures.closed)
     (c.not_added.ensures.of_union seed left (λ policy. c.requires.sums)
     (λ data_is. subst (λ (b : Bool). HasNoSketch b seed left) (sym c.requires.sums) (data_of_images true seed left c.in-Err-Refused.field-0 c.in-Err-Refused.error c.in-Err-Refused.field-0-is c.in-Err-Refused.ensures.refused (sym c.in-Err-Refused.error-is ∙ data_is)))))
+
+pub returns-clause-fallible : goal.returns-clause-fallible
+returns-clause-fallible g c = c.not_added.ensures.fallible g.S.Sources.may_fail

@@ -1,8 +1,9 @@
-use Rattle.std.proofs.Common.{ℕ, Bool, List, Option, map, Some, Vec, Global, sym, ap, subst, ◌∙◌}
+use Rattle.std.proofs.Common.{ℕ, ◌≤◌, Bool, List, Option, map, Some, Vec, Global, sym, ap, subst, ◌∙◌}
+use Rattle.std.specs.Prelude.{IfSome}
 use Rattle.std.specs.Option.{option_map}
 use Rattle.line_sketches.specs.Sources.{GivesNext}
-use Rattle.distinct_inputs.specs.Images.{alone, remaining_parts}
-use Rattle.distinct_inputs.proofs.ImageLines.{next_mapped}
+use Rattle.distinct_inputs.specs.Images.{alone, count_of, remaining_parts}
+use Rattle.distinct_inputs.proofs.ImageLines.{next_mapped, count_of_alone}
 use Rattle.distinct_inputs.proofs.images.Images.next_image.Goals as goal
 
 pub returns-in-Some-clause-next : goal.returns-in-Some-clause-next
@@ -14,3 +15,10 @@ returns-in-Some-clause-next g c =
     (next_mapped (alone sums) old new (λ (v : Vec ℕ Global). v.items) c.in-Some.part c.alone.result
     (subst (λ (o : Option (Vec ℕ Global)). GivesNext (λ (v : Vec ℕ Global). Some v.items) old new o) c.in-Some.is c.in_ok-part.ensures.next)
     (c.alone.ensures.bytes ∙ ap (λ (b : Bool). alone b c.in-Some.part.items) c.in_ok-part.ensures.sums))
+
+pub returns-in-Some-clause-noted : goal.returns-in-Some-clause-noted
+returns-in-Some-clause-noted g c =
+    let sums = c.args.self.now.sums in
+    let most = c.next_part.new.self.most in
+    let few = subst (λ (o : Option (Vec ℕ Global)). IfSome o (λ v. count_of sums v.items ≤ most)) c.in-Some.is c.in_ok-part.ensures.noted in
+    subst (λ (bytes : List ℕ). count_of sums bytes ≤ most) (sym c.alone.ensures.bytes) (count_of_alone sums c.next_part.new.self.sums c.in-Some.part.items most few)

@@ -1,6 +1,7 @@
-use Rattle.std.proofs.Common.{refl, subst, ◌∙◌}
+use Rattle.std.proofs.Common.{ℕ, ◌≤◌, Bool, Option, Vec, Global, refl, subst, ◌∙◌}
+use Rattle.std.specs.Prelude.{IfSome}
 use Rattle.line_sketches.specs.Sources.{GivesNext}
-use Rattle.distinct_inputs.specs.Images.{remaining_parts, GivesOrCloses}
+use Rattle.distinct_inputs.specs.Images.{remaining_parts, count_of, GivesOrCloses}
 use Rattle.distinct_inputs.proofs.ImageLines.{known_same, none_of, gives_first, opened, at_last}
 use Rattle.distinct_inputs.proofs.images.Images.next_line.Goals as goal
 
@@ -14,6 +15,8 @@ pub returns-in-Some : goal.returns-in-Some
 returns-in-Some g c = record {
   next = gives_first (remaining_parts g.S.Source.Read.remaining g.S.Sources.texts c.args.self.now) (remaining_parts g.S.Source.Read.remaining g.S.Sources.texts c.files.self) (remaining_parts g.S.Source.Read.remaining g.S.Sources.texts c.line_of_open.new.self) (λ v. v.items) c.line_of_open.new.self.«open» c.in_ok-image.field-0 c.in-Some.image c.files.invariant.same c.in_ok-image.ensures.next c.in-Some.is;
   sums = c.in_ok-image.ensures.sums ∙ c.files.invariant.sums;
+  noted = subst (λ (b : Bool). count_of b c.in-Some.image.items ≤ c.line_of_open.new.self.most) c.files.invariant.sums
+      (subst (λ (o : Option (Vec ℕ Global)). IfSome o (λ v. count_of c.files.self.sums v.items ≤ c.line_of_open.new.self.most)) c.in-Some.is c.in_ok-image.ensures.noted);
 }
 
 pub returns-in_default-2 : goal.returns-in_default-2
@@ -25,6 +28,7 @@ returns-in_default-2 g c =
       next = at_last (remaining_parts g.S.Source.Read.remaining g.S.Sources.texts c.args.self.now) now _ c.line_of_open.new.self.hex c.line_of_open.new.self.line g.S.Source.Read.remaining c.line_of_open.new.self.«open» _ _ _ c.files.invariant.same (c.in_ok-image.ensures.hex ∙ c.files.invariant.hex) closes
           (subst (GivesNext g.S.Source.Read.remaining _ _) (none_of c.in_ok-input.field-0 c.in_default-2.not-Some) c.in_ok-input.ensures.next);
       sums = c.in_ok-image.ensures.sums ∙ c.files.invariant.sums;
+      noted = tt;
     }
 
 pub files-preserved : goal.files-preserved

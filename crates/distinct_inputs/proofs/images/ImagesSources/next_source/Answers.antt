@@ -1,4 +1,4 @@
-use Rattle.std.proofs.Common.{ℕ, List, Option, Some, Vec, Global, refl, subst}
+use Rattle.std.proofs.Common.{ℕ, Option, Some, Vec, Global, refl, subst}
 use Rattle.line_sketches.specs.Sources.{GivesNext}
 use Rattle.distinct_inputs.specs.Images.{remaining_images}
 use Rattle.distinct_inputs.proofs.ImageLines.{same_first}

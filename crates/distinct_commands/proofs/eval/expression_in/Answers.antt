@@ -1,6 +1,0 @@
-use Rattle.std.proofs.Common.{subst}
-use Rattle.expression_text.specs.Grammar.{SpellsNothing}
-use Rattle.distinct_commands.proofs.eval.expression_in.Goals as goal
-
-pub unspelled-requires : goal.unspelled-requires
-unspelled-requires c = λ other. subst SpellsNothing c.as_bytes.ensures.value (c.in-Err.ensures.unspelled other)

@@ -1,8 +1,0 @@
-use Rattle.std.proofs.Common.{◌≡◌, ◌∙◌, true, false, sym, ap}
-use denote.Enum.Bare.{sameb}
-use Rattle.expression_text.specs.contracts.fault.Reason.{the_type}
-use Rattle.expression_text.specs.declared.fault.Reason.TheVariants.{Memory}
-use Rattle.distinct_commands.proofs.eval.unspelled.Goals as goal
-
-pub returns-in-Ok : goal.returns-in-Ok
-returns-in-Ok c = c.requires (λ memory. let both : false ≡ true = sym c.if-eq.false ∙ c.eq.ensures ∙ ap (λ r. sameb the_type r Memory) memory in absurd (cc))

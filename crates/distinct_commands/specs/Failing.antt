@@ -1,0 +1,118 @@
+-- When a command fails.
+use Rattle.std.specs.Prelude.{ℕ, ◌≡◌, ◌≢◌, ◌⊎◌, ⊤, Bool, true, false, List, [], ◌∷◌, length, Option, Some, IfSome}
+use Rattle.std.specs.Prelude.{codes, string_bytes}
+use Rattle.std.specs.Option.{option_map}
+use Rattle.core_compact.specs.CompactState.{Compact}
+use Rattle.core_slots.specs.declared.entry.TupleEntry.{TupleEntry}
+use Rattle.line_sums.specs.Images.{AreReadSums}
+use Rattle.expression_text.specs.Grammar.{IsExpressionText, SpellsNothing}
+use Rattle.expression_text.specs.declared.operator.Step.{Step}
+use Rattle.set_expressions.specs.Values.{sum_rules}
+use Rattle.set_expressions.specs.Running.{sums_values, MayRefuse}
+use Rattle.distinct_arguments.specs.Arguments.{Action, prints, runs, fails}
+use Rattle.distinct_arguments.specs.Settings.{OptionValues}
+use Rattle.distinct_arguments.specs.declared.commands.Command.{Command}
+use Rattle.distinct_arguments.specs.declared.commands.Command.TheVariants.{Count, Sketch, Combine, Show, Eval, Visits, Sum}
+use Rattle.distinct_arguments.specs.declared.fault.Fault.TheVariants.{NotOneExpression}
+use Rattle.distinct_inputs.specs.Failures.{images_in, unites_groups, IsOfReading, IsOfImages, IsOfSketch, IsOfOperator, IsOfVisits, IsOfTotal, IsOfWriting}
+use Rattle.distinct_inputs.specs.Images.{images_of}
+use Rattle.distinct_inputs.specs.Lists.{IsFirstUnnamed}
+use Rattle.distinct_inputs.specs.declared.failure.Failure.{Failure}
+use Rattle.distinct_inputs.specs.declared.lists.Unlisted.{Unlisted}
+use Rattle.distinct_inputs.specs.declared.lists.Unlisted.TheVariants.{Name, Memory as NoMemory}
+use Rattle.distinct_inputs.specs.declared.failure.Failure.TheVariants.{Arguments, NoFiles, NoExpression, NoName, NotOneEach, PastResult, Memory}
+use Rattle.distinct_commands.specs.declared.expression.Operands.{Operands}
+use Rattle.distinct_commands.specs.declared.expression.Operands.TheVariants as operands
+
+-- the name of this number, from 1, of those in an expression is the first that can't be a file's: it isn't UTF-8 text
+abbrev pub HasUnnamed : (number : ℕ) → (text : List ℕ) → Type 0
+HasUnnamed number text = (names : List (List ℕ)) × (steps : List Step) × IsExpressionText text names steps × IsFirstUnnamed number names
+
+-- the names of an expression are not read: memory was refused, or one can't be a file's
+abbrev pub IsUnnamed : (text : List ℕ) → Unlisted → Type 0
+IsUnnamed text NoMemory = ⊤
+IsUnnamed text (Name number) = HasUnnamed number text
+
+-- a text is not read as an expression: memory was refused, it spells none, or it has a name that can't be a file's
+abbrev pub IsOfExpression : (text : List ℕ) → Failure → Type 0
+IsOfExpression text Memory = ⊤
+IsOfExpression text (NoExpression copy fault) = (string_bytes copy ≡ text) × SpellsNothing text
+IsOfExpression text (NoName copy number) = (string_bytes copy ≡ text) × HasUnnamed number text
+IsOfExpression text _ = ⊥
+
+-- .. if it is the only word
+abbrev pub IsOfWords : (words : List (List ℕ)) → Failure → Type 0
+IsOfWords (text ∷ []) failure = IsOfExpression text failure
+IsOfWords words (Arguments NotOneExpression) = ⊤
+IsOfWords words _ = ⊥
+
+-- the files of an expression over theta sketches are at fault: with `--keys` one can't be read, else one isn't an image
+abbrev pub IsOfNames : (keys hex : Bool) → (seed : ℕ) → (texts : Option (List (List ℕ))) → Failure → Type 0
+IsOfNames true hex seed texts failure = IsOfReading failure
+IsOfNames false hex seed texts failure = IsOfImages false hex seed (option_map (images_of false hex) texts) failure
+
+-- .. or there are not as many as names; no sum can be past a result
+abbrev pub IsOfThetas : OptionValues → (seed : ℕ) → (texts : Option (List (List ℕ))) → Failure → Type 0
+IsOfThetas options seed texts (NotOneEach found names) = found ≢ names
+IsOfThetas options seed texts failure = IsOfNames options.keys options.hex seed texts failure
+
+-- an expression over sketches of sums has no result: memory was refused, or in some step two operands of a union or an
+-- intersection have a key whose sums are 2^64 or more together
+abbrev pub IsOfResult : (lg_k : ℕ) → (text : List ℕ) → List Step → List (Compact (TupleEntry ℕ)) → Failure → Type 0
+IsOfResult lg_k text steps sketches Memory = ⊤
+IsOfResult lg_k text steps sketches (PastResult copy) = (string_bytes copy ≡ text) × MayRefuse sum_rules lg_k (sums_values sketches) steps (Some [])
+IsOfResult lg_k text steps sketches _ = ⊥
+
+-- .. over those that images have, one for each name
+pub record IsPastResult (lg_k seed : ℕ) (text : List ℕ) (images : List (List ℕ)) : Type 0 where
+  pub names : List (List ℕ)
+  pub steps : List Step
+  pub spelled : IsExpressionText text names steps
+  pub sketches : List (Compact (TupleEntry ℕ))
+  pub read : AreReadSums seed images sketches
+  pub counted : length names ≡ length sketches
+  pub refused : MayRefuse sum_rules lg_k (sums_values sketches) steps (Some [])
+
+-- an expression over images of sums isn't evaluated: a file is at fault, there are not as many as names, or a sum is past the result
+abbrev pub IsOfSumsResult : OptionValues → (seed : ℕ) → (text : List ℕ) → (texts : Option (List (List ℕ))) → Failure → Type 0
+IsOfSumsResult options seed text texts (NotOneEach found names) = found ≢ names
+IsOfSumsResult options seed text texts (PastResult copy) =
+    (string_bytes copy ≡ text) × IfSome texts (λ all. IsPastResult options.lg_k seed text (images_of true options.hex all))
+IsOfSumsResult options seed text texts failure = IsOfImages true options.hex seed (images_in true options texts) failure
+
+-- an expression isn't evaluated, over sketches of sums or over theta sketches
+abbrev pub IsOfEvaluation : (sums : Bool) → OptionValues → (seed : ℕ) → (text : List ℕ) → (texts : Option (List (List ℕ))) → Failure → Type 0
+IsOfEvaluation true options seed text texts failure = IsOfSumsResult options seed text texts failure
+IsOfEvaluation false options seed text texts failure = IsOfThetas options seed texts failure
+
+-- no image is named, if this may be, or another failure
+abbrev pub OrUnnamed : (IsAlone : Type 0) → (IsOther : Failure → Type 0) → Failure → Type 0
+OrUnnamed IsAlone IsOther NoFiles = IsAlone
+OrUnnamed IsAlone IsOther failure = IsOther failure
+
+-- a command on files of these names fails before it writes: what it reads is at fault, or memory was refused; and by command, no image
+-- is named, there are not as many as are expected, `minus` doesn't have two, or `sum` doesn't have the field of its numbers
+abbrev pub IsOfCommand : Command → OptionValues → (seed count : ℕ) → (texts : Option (List (List ℕ))) → Failure → Type 0
+IsOfCommand Count options seed count texts failure = IsOfReading failure
+IsOfCommand Sketch options seed count texts failure = IsOfSketch options seed texts failure
+IsOfCommand (Combine operator) options seed count texts failure =
+    OrUnnamed (count ≡ 0) (IsOfOperator (unites_groups operator options) operator options seed count texts) failure
+IsOfCommand Show options seed count texts failure = OrUnnamed (count ≡ 0) (IsOfImages false options.hex seed (images_in false options texts)) failure
+IsOfCommand Eval options seed count texts failure = ⊥
+IsOfCommand Visits options seed count texts failure = OrUnnamed ((count ≡ 0) × (options.sums ≡ true)) (IsOfVisits options seed texts) failure
+IsOfCommand Sum options seed count texts failure = IsOfTotal options seed texts failure
+
+-- .. or `eval` fails on an expression
+abbrev pub IsOfOperands : Command → OptionValues → (seed : ℕ) → Operands → (texts : Option (List (List ℕ))) → Failure → Type 0
+IsOfOperands command options seed (operands.Files names) texts failure = IsOfCommand command options seed (length names.now) texts failure
+IsOfOperands command options seed (operands.Expression e) texts failure = IsOfEvaluation options.sums options seed e.now.text.now texts failure
+
+-- a command fails, or its answer can't be written to standard output
+abbrev pub IsOfAnswer : Command → OptionValues → (seed : ℕ) → Operands → (texts : Option (List (List ℕ))) → Failure → Type 0
+IsOfAnswer command options seed given texts failure = IsOfOperands command options seed given texts failure ⊎ IsOfWriting (codes "standard output") failure
+
+-- a request fails as its command does, or its text can't be written to standard output
+abbrev pub IsOfRequest : Action → (seed : ℕ) → Operands → (texts : Option (List (List ℕ))) → Failure → Type 0
+IsOfRequest (prints topic) seed given texts failure = IsOfWriting (codes "standard output") failure
+IsOfRequest (runs command options words) seed given texts failure = IsOfAnswer command options seed given texts failure
+IsOfRequest (fails mistake) seed given texts failure = ⊥

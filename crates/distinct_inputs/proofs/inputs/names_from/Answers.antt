@@ -1,0 +1,4 @@
+use Rattle.distinct_inputs.proofs.inputs.names_from.Goals as goal
+
+pub returns-clause-fallible : goal.returns-clause-fallible
+returns-clause-fallible g c = c.listed.ensures.fallible g.R.TextReader.may_fail
