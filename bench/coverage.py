@@ -3,7 +3,7 @@
 
 A sketch of k nominal entries that was trimmed retains k hashes below the (k+1)th smallest of n random ones, which is drawn
 from its distribution. A sketch below a fixed theta, as of an intersection, retains each of n hashes by chance. The bounds are
-those of docs/SPECIFICATION.md, "Bounds of a count".
+those of docs/verify/SPECIFICATION.md, "Bounds of a count".
 """
 import math
 import random

@@ -160,8 +160,9 @@ kc_status kc_intersection_add_image(kc_intersection *i, const void *image, size_
  * with KC_OUT_OF_MEMORY. */
 kc_status kc_intersection_result(kc_intersection *i, kc_compact *out);
 /* Makes the difference of two sketches, as an ordered compact sketch: the hashes of the first that the second lacks, below the
- * lesser theta. Pass three different handles. Refused with KC_INVALID_ARGUMENT if the hash of the seed is 0 or a sketch
- * is of another seed, and with KC_OUT_OF_MEMORY. */
+ * lesser theta. Pass three different handles. Refused with KC_INVALID_ARGUMENT if the hash of the seed is 0, and, unless the first
+ * sketch is empty, if one that isn't empty is of another seed; and with KC_OUT_OF_MEMORY. With an empty first sketch the
+ * difference is empty, and the second sketch may be of any seed. */
 kc_status kc_difference(kc_compact *first, kc_compact *second, uint64_t seed, kc_compact *out);
 
 /* ---- Images alone ---- */

@@ -1,4 +1,4 @@
-/* The requests for memory of calls, their number and their bytes: what docs/DECISIONS.md says of them, no request of a call that
+/* The requests for memory of calls, their number and their bytes: what docs/develop/DECISIONS.md says of them, no request of a call that
  * needs no memory, and none for more entries than the bytes of an image can hold. An object takes one request of its own, so
  * calls that make one are counted without it. */
 #include "kaftanclay.h"
@@ -140,8 +140,75 @@ static void operators(void) {
     NOTHING(KC_INVALID_ARGUMENT, kc_difference(&e, &d, SEED, &r));
     ASKS(KC_OK, 1, object, kc_difference(&d, &e, SEED, &r));
     NOTHING(KC_INVALID_ARGUMENT, kc_difference(&e, &d, SEED, &r));
+    /* a seed whose hash is 0, whether a sketch is empty or not */
+    kc_compact_free(&r);
+    NOTHING(KC_INVALID_ARGUMENT, kc_difference(&d, &e, 50541, &r));
+    NOTHING(KC_INVALID_ARGUMENT, kc_difference(&e, &d, 50541, &r));
+    NOTHING(KC_INVALID_ARGUMENT, kc_difference(&c, &e, 50541, &r));
+    WANT(r.object == NULL);
     kc_theta_free(&few), kc_theta_free(&none), kc_theta_free(&other), kc_union_free(&u), kc_intersection_free(&i);
     kc_compact_free(&c), kc_compact_free(&d), kc_compact_free(&e), kc_compact_free(&r);
+}
+
+/* The slots of a sketch of 2^12 nominal entries: at first, and after each of 65 hashes, which need more than 128 of them. They
+ * begin at the least number, from 32 on, from which steps of the resize factor lead to all 8,192. */
+static void growths(void) {
+    static const struct { uint32_t factor; uint64_t first, count, grown; } rows[] = {
+        {1, 8192, 0, 0},
+        {2, 32, 3, 64 + 128 + 256},
+        {4, 32, 2, 128 + 512},
+        {8, 128, 1, 1024},
+    };
+    uint64_t theta_object = 0, sums_object = 0;
+    for (size_t n = 0; n <= sizeof rows / sizeof *rows; n++) {
+        kc_theta s = {0};
+        kc_sums m = {0};
+        /* the last row is that of the default, 8 */
+        int is_default = n == sizeof rows / sizeof *rows;
+        size_t row = is_default ? n - 1 : n;
+        requests = bytes = 0;
+        WANT((is_default ? kc_theta_new(&s, 12, SEED) : kc_theta_new_with(&s, 12, SEED, rows[row].factor, KC_MAX_THETA)) == KC_OK);
+        if (n == 0) theta_object = bytes - rows[0].first * SLOT;
+        WANT(requests == 2 && bytes == theta_object + rows[row].first * SLOT);
+        requests = bytes = 0;
+        for (uint64_t hash = 1; hash <= 65; hash++) WANT(kc_theta_update_hash(&s, hash) == KC_OK);
+        WANT(requests == rows[row].count && bytes == rows[row].grown * SLOT);
+        requests = bytes = 0;
+        WANT((is_default ? kc_sums_new(&m, 12, SEED) : kc_sums_new_with(&m, 12, SEED, rows[row].factor, KC_MAX_THETA)) == KC_OK);
+        if (n == 0) sums_object = bytes - rows[0].first * SUM_SLOT;
+        WANT(requests == 2 && bytes == sums_object + rows[row].first * SUM_SLOT);
+        requests = bytes = 0;
+        for (uint64_t hash = 1; hash <= 65; hash++) WANT(kc_sums_add_hash(&m, hash, 1) == KC_OK);
+        WANT(requests == rows[row].count && bytes == rows[row].grown * SUM_SLOT);
+        kc_theta_free(&s), kc_sums_free(&m);
+    }
+}
+
+/* An intersection requests room for the entries that it keeps, once: here two of the first sketch, and one that it shares with the
+ * second. Both are ordered, so they are read in place. */
+static void intersections(void) {
+    static const uint64_t hashes[2][2] = {{2, 5}, {3, 5}};
+    kc_compact c[2] = {{0}};
+    kc_compact_sums m[2] = {{0}};
+    kc_intersection i = {0};
+    kc_sums_intersection j = {0};
+    for (size_t n = 0; n < 2; n++) {
+        kc_theta s = {0};
+        kc_sums t = {0};
+        WANT(kc_theta_new(&s, 5, SEED) == KC_OK && kc_theta_update_hashes(&s, hashes[n], 2) == KC_OK && kc_theta_compact(&s, &c[n]) == KC_OK);
+        WANT(kc_sums_new(&t, 5, SEED) == KC_OK && kc_sums_add_hash(&t, hashes[n][0], 1) == KC_OK && kc_sums_add_hash(&t, hashes[n][1], 1) == KC_OK);
+        WANT(kc_sums_compact(&t, &m[n]) == KC_OK);
+        kc_theta_free(&s), kc_sums_free(&t);
+    }
+    WANT(kc_intersection_new(&i, SEED) == KC_OK && kc_sums_intersection_new(&j, SEED) == KC_OK);
+    for (size_t n = 0; n < 2; n++) {
+        requests = 0;
+        WANT(kc_intersection_add_compact(&i, &c[n]) == KC_OK && requests == 1);
+        requests = 0;
+        WANT(kc_sums_intersection_add_compact(&j, &m[n]) == KC_OK && requests == 1);
+        kc_compact_free(&c[n]), kc_compact_sums_free(&m[n]);
+    }
+    kc_intersection_free(&i), kc_sums_intersection_free(&j);
 }
 
 static uint64_t next(uint64_t hash) { return (hash + UINT64_C(5700357409661599241)) & KC_MAX_THETA; }
@@ -204,6 +271,8 @@ int main(void) {
     theta();
     readings();
     operators();
+    growths();
+    intersections();
     rebuilds();
     images_of_sums();
     printf("requests_test: %d checks, %d faults\n", checks, faults);

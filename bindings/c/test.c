@@ -181,6 +181,9 @@ static void operators(void) {
     left = 5, out[0] = 77;
     WANT(kc_images_difference(a_image, a_length, b_image, 3, SEED, out, sizeof out, &left) == KC_INVALID_DATA && left == 5 && out[0] == 77);
     WANT(kc_compact_free(&r) == KC_OK && kc_difference(&ca, &cb, SEED + 1, &r) == KC_INVALID_ARGUMENT && r.object == NULL);
+    /* the hash of seed 50541 is 0: it is refused by itself, and no image is of this seed */
+    WANT(kc_difference(&ca, &cb, 50541, &r) == KC_INVALID_ARGUMENT && r.object == NULL);
+    WANT(kc_images_difference(a_image, a_length, a_image, a_length, 50541, out, sizeof out, &left) == KC_INVALID_DATA);
     WANT(kc_difference(&ca, &ca, SEED, &r) == KC_INVALID_ARGUMENT && kc_difference(&ca, &no_compact, SEED, &r) == KC_INVALID_ARGUMENT);
     WANT(kc_difference(&no_compact, &ca, SEED, &r) == KC_INVALID_ARGUMENT && ca.object != NULL);
     kc_theta_free(&a), kc_theta_free(&b), kc_theta_free(&other), kc_compact_free(&ca), kc_compact_free(&cb);

@@ -5,6 +5,12 @@
 
 /* ---- Unions ---- */
 
+uint8_t lg_k_for(uint64_t retained) {
+    uint8_t lg_k = DEFAULT_LG_K;
+    while (lg_k < GREATEST_LG_K && retained > (uint64_t)1 << lg_k) lg_k++;
+    return lg_k;
+}
+
 static kc_status begin_rows(union_group *group) {
     return group->rows.object != NULL ? KC_OK : kc_theta_new(&group->rows, group->lg_k, KC_DEFAULT_SEED);
 }

@@ -10,6 +10,9 @@
 /* The binary logarithm of the nominal entries if none is passed, and its range. */
 enum { DEFAULT_LG_K = 12, LEAST_LG_K = 4, GREATEST_LG_K = 26 };
 
+/* The least lg_k, from DEFAULT_LG_K on, of a union that keeps so many hashes; at most GREATEST_LG_K. An image doesn't record its lg_k. */
+uint8_t lg_k_for(uint64_t retained);
+
 /* The union of keys and sketches. Keys are inserted into `rows`, sketches are merged into `parts`; each is made at its first use. Begin
  * with {0}, and set lg_k before the first call. */
 typedef struct {

@@ -1,4 +1,4 @@
--- Theta sketches. docs/FROM-OTHER-LANGUAGES.md describes the functions.
+-- Theta sketches. docs/use/FROM-OTHER-LANGUAGES.md describes the functions.
 \echo Use "CREATE EXTENSION theta_sketch" to load this file. \quit
 
 -- ---- The type: an image, whose text is base64 ----
@@ -34,7 +34,7 @@ CREATE FUNCTION theta_sketch_get_estimate_and_bounds(theta_sketch, integer) RETU
     AS 'MODULE_PATHNAME', 'theta_sketch_get_estimate_and_bounds' LANGUAGE C IMMUTABLE STRICT PARALLEL SAFE;
 CREATE FUNCTION theta_sketch_to_string(theta_sketch) RETURNS text
     AS 'MODULE_PATHNAME', 'theta_sketch_to_string' LANGUAGE C IMMUTABLE STRICT PARALLEL SAFE;
--- With a number: the union has 2 to its power nominal entries; without it 2^12.
+-- With a number: the union has 2 to its power nominal entries; without it, it keeps all that both retain.
 CREATE FUNCTION theta_sketch_union(theta_sketch, theta_sketch) RETURNS theta_sketch
     AS 'MODULE_PATHNAME', 'theta_sketch_union' LANGUAGE C IMMUTABLE STRICT PARALLEL SAFE;
 CREATE FUNCTION theta_sketch_union(theta_sketch, theta_sketch, integer) RETURNS theta_sketch

@@ -1,4 +1,4 @@
-/* Theta sketches in PostgreSQL: the type, the aggregates and the functions that theta_sketch--0.1.0.sql declares.
+/* Theta sketches in PostgreSQL: the type, the aggregates and the functions that theta_sketch--VERSION.sql declares.
  *
  * A value of the type is an image of one sketch under the default seed, in the form that the library writes: what is read, from text,
  * bytes or a network, is checked and written anew. A transition state lives in the context of its aggregate, with all that the library
@@ -143,15 +143,22 @@ Datum theta_sketch_to_string(PG_FUNCTION_ARGS) {
     PG_RETURN_TEXT_P(cstring_to_text_with_len(text, describe_state(&state, text)));
 }
 
+/* How many hashes a sketch retains. */
+static uint64_t retained_of(kc_compact *sketch) {
+    kc_state state = {0, 0, 0};
+    want(kc_compact_state(sketch, &state));
+    return state.retained;
+}
+
+/* Without lg_k, which an image doesn't record, the union keeps all that both sketches retain, up to 2^26 hashes. */
 PG_FUNCTION_INFO_V1(theta_sketch_union);
 Datum theta_sketch_union(PG_FUNCTION_ARGS) {
     union_group group = {.lg_k = (uint8_t)checked_lg_k(PG_NARGS() > 2 ? PG_GETARG_INT32(2) : DEFAULT_LG_K)};
     kc_compact sketches[3] = {{0}};
     theta_sketch_heap = CurrentMemoryContext;
-    for (int i = 0; i < 2; i++) {
-        read_value(PG_GETARG_BYTEA_PP(i), &sketches[i]);
-        want(union_add_sketch(&group, &sketches[i]));
-    }
+    for (int i = 0; i < 2; i++) read_value(PG_GETARG_BYTEA_PP(i), &sketches[i]);
+    if (PG_NARGS() <= 2) group.lg_k = lg_k_for(retained_of(&sketches[0]) + retained_of(&sketches[1]));
+    for (int i = 0; i < 2; i++) want(union_add_sketch(&group, &sketches[i]));
     want(union_result(&group, &sketches[2]));
     PG_RETURN_BYTEA_P(image_of(&sketches[2]));
 }
@@ -267,12 +274,23 @@ Datum theta_sketch_add_int8(PG_FUNCTION_ARGS) {
     PG_RETURN_POINTER(state);
 }
 
+/* Warns, once for a call in a query, of a sketch that retains more than a union without lg_k keeps, which drops some of its hashes. */
+static void warn_of(FunctionCallInfo fcinfo, kc_compact *sketch) {
+    if (PG_NARGS() > 2 || fcinfo->flinfo->fn_extra != NULL || lg_k_for(retained_of(sketch)) == DEFAULT_LG_K) return;
+    fcinfo->flinfo->fn_extra = fcinfo->flinfo;
+    ereport(WARNING, errcode(ERRCODE_WARNING),
+            errmsg("theta_sketch: a sketch retains %llu hashes, and a union without lg_k keeps %d",
+                   (unsigned long long)retained_of(sketch), 1 << DEFAULT_LG_K),
+            errhint("Pass lg_k, such as theta_sketch_union(sketch, %d).", lg_k_for(retained_of(sketch))));
+}
+
 PG_FUNCTION_INFO_V1(theta_sketch_add_sketch);
 Datum theta_sketch_add_sketch(PG_FUNCTION_ARGS) {
     kc_compact sketch = {0};
     if (PG_ARGISNULL(1)) return unchanged(fcinfo);
     UnionState *state = state_for_row(fcinfo);
     read_value(PG_GETARG_BYTEA_PP(1), &sketch);
+    warn_of(fcinfo, &sketch);
     want(union_add_sketch(&state->group, &sketch));
     kc_compact_free(&sketch);
     PG_RETURN_POINTER(state);

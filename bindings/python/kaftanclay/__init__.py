@@ -7,15 +7,15 @@
     >>> (monday | tuesday).estimate, (monday & tuesday).estimate, (monday - tuesday).estimate
     (3.0, 1.0, 1.0)
 
-Images are in the DataSketches format. The sketches are those of a library in C, each call of which is proved; this package
-only passes arguments to it.
+Images are in the DataSketches format. The sketches are those of a library in C, each call of which is proved; the compiled
+module of this package only passes arguments to it.
 """
-from ._library import DEFAULT_SEED, MAX_THETA
-from .errors import FailedError, InvalidArgumentError, InvalidDataError, OutOfMemoryError, PolicyError, SketchError
+from ._native import DEFAULT_SEED, MAX_THETA
+from .errors import FailedError, InvalidArgumentError, InvalidDataError, OutOfMemoryError, PolicyError, SketchError, SketchWarning
 from .sums import CompactTupleSums, TupleSums, TupleSumsIntersection, TupleSumsUnion
 from .theta import CompactThetaSketch, ThetaIntersection, ThetaSketch, ThetaUnion
 
-__version__ = "0.1.0"
+__version__ = "0.2.0"
 
 __all__ = [
     "DEFAULT_SEED",
@@ -28,6 +28,7 @@ __all__ = [
     "OutOfMemoryError",
     "PolicyError",
     "SketchError",
+    "SketchWarning",
     "ThetaIntersection",
     "ThetaSketch",
     "ThetaUnion",

@@ -1,16 +1,31 @@
-"""What the sketches of both families share."""
+"""What the sketches of both families share, over the compiled module."""
 from __future__ import annotations
 
-import threading
+import copyreg
+import html
+import operator
+import warnings
+from collections.abc import Iterable
 from fractions import Fraction
-from typing import Any, TypeVar
+from typing import TYPE_CHECKING, Any, TypeVar
 
-from . import _library as library
-from ._library import DEFAULT_SEED, MAX_THETA, State, Wide, check, number, written
-from .errors import InvalidArgumentError
+from . import _native
+from ._native import DEFAULT_SEED, MAX_THETA
+from .errors import InvalidArgumentError, SketchWarning
 
-PREAMBLE = 24
 Made = TypeVar("Made", bound="UpdatableSketch")
+Kept = TypeVar("Kept", bound="CompactSketch")
+State = tuple[int, int, bool]
+GREATEST_LG_K = 26
+
+# The classes below stand beside a type of the compiled module, which has the calls of the library; a checker of types sees them
+# as derived from it.
+if TYPE_CHECKING:
+    _Sketch = _native.Sketch
+    _Updatable = _native.Updatable
+    _Compact = _native.Compact
+else:
+    _Sketch = _Updatable = _Compact = object
 
 
 def entries_of(image: bytes) -> bytes:
@@ -25,135 +40,114 @@ def image_of(data: Any) -> bytes:
     return bytes(data)
 
 
-def require_seed(sketch: Sketch, seed: int) -> None:
+def seed_of(seed: Any) -> int:
+    """A seed as an int. Raises TypeError, or InvalidArgumentError if it is out of range."""
+    found = operator.index(seed)
+    if not 0 <= found < 1 << 64:
+        raise InvalidArgumentError(f"a seed is from 0 to 2^64 - 1, not {found}")
+    return found
+
+
+def require_seed(sketch: _native.Sketch, seed: int) -> None:
     """Raises InvalidArgumentError if the sketch has another seed."""
     if sketch.seed != seed:
         raise InvalidArgumentError(f"the sketches have different seeds, {seed} and {sketch.seed}; make them with one seed")
 
 
-class Sketch:
-    """A sketch of distinct keys: it retains the hashes of 63 bits that are below its theta."""
+def least_lg_k(retained: int, least: int = 12) -> int:
+    """The least lg_k, from `least` on, with 2^lg_k at least so many hashes; at most 26."""
+    return min(max(least, (retained - 1).bit_length()), GREATEST_LG_K)
 
-    __slots__ = ("_lg_k", "_seed", "__weakref__")
-    _lg_k: int
-    _seed: int
 
-    @property
-    def lg_k(self) -> int:
-        """The binary logarithm of its nominal entries, from 4 to 26."""
-        return self._lg_k
+def warn_of_drops(theta: int, sketches: Iterable[Sketch], level: int) -> None:
+    """Warns if a union of this theta, which was to keep all, drops hashes that its sketches retain; at a level as of warnings.warn."""
+    if theta < min(it.theta for it in sketches):
+        text = f"a union keeps at most 2^{GREATEST_LG_K} hashes, so this one drops some that its sketches retain"
+        warnings.warn(text, SketchWarning, stacklevel=level)
 
-    @property
-    def seed(self) -> int:
-        """The seed of its hashes, of 64 bits."""
-        return self._seed
 
-    def _state(self) -> State:
-        raise NotImplementedError
+def unite(union: Any, result: Any, first: Sketch, second: Sketch) -> Any:
+    """The union of two sketches, by a type of unions, as a compact sketch of a type.
 
-    def to_bytes(self) -> bytes:
-        """Its image in the DataSketches format."""
-        raise NotImplementedError
+    Its lg_k is the greater of the two. If one of these is a guess, it keeps all hashes that both retain below the lesser theta, up to
+    2^26; if they are more, it warns.
+    """
+    lg_k, is_guess = max(first.lg_k, second.lg_k), first._guesses_lg_k or second._guesses_lg_k
+    made = union(least_lg_k(len(first) + len(second), lg_k) if is_guess else lg_k, first.seed)
+    for it in (first, second):
+        made.update(it)
+    image, state = made._result()
+    if is_guess:
+        warn_of_drops(state[1], (first, second), 4)
+    return result._of(image, state, first.seed, least_lg_k(state[0], lg_k) if is_guess else lg_k, is_guess)
 
-    def __bytes__(self) -> bytes:
-        return self.to_bytes()
 
-    def __len__(self) -> int:
-        """How many hashes it retains."""
-        return self._state().retained
+def guessed(kind: type[Kept], data: bytes, seed: int, lg_k: int) -> Kept:
+    """The sketch of an image that the library wrote, whose lg_k is a guess."""
+    found = kind.from_bytes(data, seed)
+    return kind._of(found.to_bytes(), found._state(), seed, lg_k, True)
 
-    @property
-    def theta(self) -> int:
-        """Its theta, from 1 to 2^63 - 1; hashes at or above it are dropped."""
-        return self._state().theta
 
-    @property
-    def is_empty(self) -> bool:
-        """Whether no update was accepted. A sketch that retains nothing may be nonempty."""
-        return self._state().empty == 1
+class Sketch(_Sketch):
+    """What all sketches answer beside what their types of the compiled module do."""
 
-    @property
-    def is_exact(self) -> bool:
-        """Whether no hash was dropped, so that the estimate is the number of distinct hashes."""
-        return self._state().theta == MAX_THETA
-
-    @property
-    def estimate(self) -> float:
-        """The estimated number of distinct keys, rounded to the nearest float."""
-        return float(self.estimate_fraction)
+    __slots__ = ()
 
     @property
     def estimate_fraction(self) -> Fraction:
         """The estimate: how many hashes are retained, times 2^63 - 1, over theta."""
-        state, above = self._state(), Wide()
-        check(library.estimate_numerator(state.retained, above))
-        return Fraction(int(above), state.theta)
-
-    def estimate_text(self, places: int = 0) -> str:
-        """The estimate rounded down to so many decimals, from 0 to 19.
-
-        Raises InvalidArgumentError for any other number of decimals.
-        """
-        places = number(places, 32, "the number of decimals")
-        reason = f"the number of decimals is from 0 to 19, not {places}"
-        return written(library.estimate_text, self._state(), places, room=64, reason=reason).decode("ascii")
-
-    def bounds(self, deviations: int = 2) -> tuple[int, int]:
-        """Bounds of the number of distinct keys by 1, 2 or 3 standard deviations: the lower and the upper one.
-
-        If hashes are random, the number is within them in about 68, 95 or 99.7 of 100 sketches. Raises InvalidArgumentError
-        for any other number of standard deviations.
-        """
-        deviations = number(deviations, 32, "the number of standard deviations")
-        state, lower, upper = self._state(), Wide(), Wide()
-        status = library.count_bounds(state.retained, state.theta, deviations, lower, upper)
-        check(status, f"the number of standard deviations is 1, 2 or 3, not {deviations}")
-        return int(lower), int(upper)
+        retained, theta, _ = self._state()
+        return Fraction(_native.estimate_numerator(retained), theta)
 
     def __repr__(self) -> str:
-        state = self._state()
-        estimate = f"{state.retained}" if state.theta == MAX_THETA else f"about {self.estimate:.0f}"
+        retained, theta, _ = self._state()
+        estimate = f"{retained}" if theta == MAX_THETA else f"about {self.estimate:.0f}"
         return f"<{type(self).__name__} of {estimate} keys, lg_k {self.lg_k}>"
 
 
-class CompactSketch(Sketch):
+    def _rows(self) -> list[tuple[str, Any]]:
+        """What a notebook shows: names and values."""
+        retained, theta, _ = self._state()
+        low, high = self.bounds()
+        found = f"{retained}, exact" if theta == MAX_THETA else f"about {self.estimate:.0f}, from {low} to {high}"
+        return [("distinct keys", found), ("retained hashes", retained), ("theta", f"{theta / MAX_THETA:.6g}"), ("lg_k", self.lg_k)]
+
+    def _repr_html_(self) -> str:
+        """A small table, for notebooks. The bounds are those by two standard deviations, and theta is its share of 2^63 - 1."""
+        rows = "".join(f"<tr><th>{name}</th><td>{html.escape(str(value))}</td></tr>" for name, value in self._rows())
+        return f"<table><caption>{html.escape(type(self).__name__)}</caption>{rows}</table>"
+
+
+class CompactSketch(Sketch, _Compact):
     """A sketch that never changes. It is its image, in the DataSketches format.
 
     It has no object of the library, may be used by many threads at once, pickled, copied, compared and hashed.
     """
 
-    __slots__ = ("_image", "_kept_state")
-    _image: bytes
-    _kept_state: State
+    __slots__ = ()
 
     def __init__(self) -> None:
         raise TypeError(f"a {type(self).__name__} is made by from_bytes, by compact and by the operators")
 
-    def _keep(self, image: bytes, state: State, seed: int, lg_k: int | None) -> None:
-        self._image, self._kept_state, self._seed = image, state, seed
-        if lg_k is None:
-            lg_k = min(max(12, (state.retained - 1).bit_length()), 26)
-        elif not 4 <= lg_k <= 26:
-            raise InvalidArgumentError(f"lg_k is from 4 to 26, not {lg_k}")
-        self._lg_k = lg_k
+    @classmethod
+    def _of(cls: type[Kept], image: bytes, state: State, seed: int, lg_k: int | None, is_guess: bool = False) -> Kept:
+        """The sketch of an image that the library wrote. Without an lg_k it is guessed."""
+        made = cls.__new__(cls)
+        made._keep(image, state, seed, least_lg_k(state[0]) if lg_k is None else lg_k, lg_k is None or is_guess)
+        return made
 
     @classmethod
     def from_bytes(cls, data: bytes, seed: int = DEFAULT_SEED, lg_k: int | None = None) -> Any:
+        """Reads the sketch that bytes begin with."""
         raise NotImplementedError
-
-    def _state(self) -> State:
-        return self._kept_state
-
-    def to_bytes(self) -> bytes:
-        return self._image
 
     def __eq__(self, other: object) -> bool:
         if not isinstance(other, type(self)):
             return NotImplemented
-        return self._image == other._image and self._seed == other._seed
+        return self.to_bytes() == other.to_bytes() and self.seed == other.seed
 
     def __hash__(self) -> int:
-        return hash((self._image, self._seed))
+        return hash((self.to_bytes(), self.seed))
 
     def __copy__(self) -> Any:
         return self
@@ -162,99 +156,43 @@ class CompactSketch(Sketch):
         return self
 
     def __reduce__(self) -> tuple[Any, ...]:
-        return type(self).from_bytes, (self._image, self._seed, self._lg_k)
+        parts = (self.to_bytes(), self.seed, self.lg_k)
+        return (guessed, (type(self), *parts)) if self._guesses_lg_k else (type(self).from_bytes, parts)
 
 
-class UpdatableSketch(Sketch):
+class UpdatableSketch(Sketch, _Updatable):
     """What sketches that take updates share. ThetaSketch describes their settings."""
 
-    __slots__ = ("_handle", "_lock", "_resize_factor", "_starting_theta")
-    _handle: Any
-    _kind: Any
-    _new: Any
-    _clone: Any
-    _trim: Any
-    _read_state: Any
-    _write_image: Any
-    _entry_size: int
+    __slots__ = ()
 
-    def __init__(
-        self,
-        lg_k: int = 12,
-        seed: int = DEFAULT_SEED,
-        *,
-        resize_factor: int = 8,
-        starting_theta: int = MAX_THETA,
-    ) -> None:
-        self._lg_k, self._seed = number(lg_k, 8, "lg_k"), number(seed, 64, "a seed")
-        self._resize_factor = number(resize_factor, 32, "a resize factor")
-        self._starting_theta = number(starting_theta, 64, "a theta")
-        self._lock = threading.RLock()
-        self._handle = self._made(self._starting_theta)
-
-    def _made(self, theta: int) -> Any:
-        """The handle of a new sketch of its settings, that begins at this theta."""
-        handle = self._kind()
-        reason = (
-            "lg_k is from 4 to 26, a resize factor 1, 2, 4 or 8, a theta from 1 to 2^63 - 1, and the hash of a seed isn't 0;"
-            f" here are lg_k {self._lg_k}, resize factor {self._resize_factor}, theta {theta}, seed {self._seed}"
-        )
-        check(self._new(handle, self._lg_k, self._seed, self._resize_factor, theta), reason)
-        return handle
-
-    def _fill(self, value: CompactSketch, handle: Any) -> None:
+    def _fill(self, value: CompactSketch) -> None:
         """Inserts the entries of a value into a new sketch that begins at its theta."""
         raise NotImplementedError
 
     def compact(self) -> Any:
-        """Its value as a compact sketch, untrimmed."""
+        """Its value as a compact sketch, untrimmed. Raises OutOfMemoryError."""
         raise NotImplementedError
 
-    def trim(self) -> None:
-        """If it retains more than 2^lg_k hashes, keeps the 2^lg_k least.
-
-        Its image then depends only on its settings and on the set of keys (of TupleSums, with their sums), not on the order
-        of the updates. After an OutOfMemoryError it is unchanged.
-        """
-        with self._lock:
-            check(self._trim(self._handle))
-
-    def reset(self) -> None:
-        """Makes it empty again, as when it was new. After an OutOfMemoryError it is unchanged."""
-        with self._lock:
-            self._handle = self._made(self._starting_theta)
-
-    def to_bytes(self) -> bytes:
-        with self._lock:
-            room = self._entry_size * self._state().retained + PREAMBLE
-            return written(self._write_image, self._handle, room=room)
-
-    def _state(self) -> State:
-        state = State()
-        with self._lock:
-            check(self._read_state(self._handle, state))
-        return state
-
     def __copy__(self: Made) -> Made:
-        made = type(self)(self.lg_k, self.seed, resize_factor=self._resize_factor, starting_theta=self._starting_theta)
-        copied = self._kind()
-        with self._lock:
-            check(self._clone(self._handle, copied))
-        made._handle = copied
+        lg_k, seed, resize_factor, starting_theta = self._settings()
+        made = type(self)(lg_k, seed, resize_factor=resize_factor, starting_theta=starting_theta)
+        made._copy(self)
         return made
 
     def __deepcopy__(self: Made, memo: Any) -> Made:
         return self.__copy__()
 
+    def __reduce_ex__(self, protocol: Any) -> tuple[Any, ...]:
+        return getattr(copyreg, "__newobj__"), (type(self),), self.__getstate__()
+
     def __getstate__(self) -> Any:
-        return self.compact(), self._resize_factor, self._starting_theta
+        return self.compact(), *self._settings()[2:]
 
     def __setstate__(self, state: Any) -> None:
         value, resize_factor, starting_theta = state
-        self._lg_k, self._seed, self._lock = value.lg_k, value.seed, threading.RLock()
-        self._resize_factor, self._starting_theta = resize_factor, starting_theta
-        self._handle = self._made(starting_theta if value.is_empty else value.theta)
-        self._fill(value, self._handle)
+        theta = starting_theta if value.is_empty else value.theta
+        self._begin(value.lg_k, value.seed, resize_factor, starting_theta, theta, value._guesses_lg_k)
+        self._fill(value)
 
     @classmethod
     def _of(cls: type[Made], value: CompactSketch) -> Made:
@@ -265,94 +203,9 @@ class UpdatableSketch(Sketch):
 
 
 class Merge:
-    """What operators on many sketches share: `update` merges a sketch, or the image of one."""
-
-    __slots__ = ("_handle", "_lock", "_seed", "__weakref__")
-    _handle: Any
-    _lock: Any
-    _family: Any
-    _updatable: Any
-    _kind: Any
-    _new: Any
-    _add: Any
-    _add_image: Any
-    _result: Any
-    _result_kind: Any
-    _seed: int
-
-    @property
-    def seed(self) -> int:
-        """The seed of its sketches."""
-        return self._seed
-
-    def _result_handle(self) -> Any:
-        """The handle of its value, which no other thread knows."""
-        made = self._result_kind()
-        with self._lock:
-            check(self._result(self._handle, made), "an intersection has no value before its first sketch")
-        return made
-
-    def _value(self, lg_k: int | None) -> Any:
-        """Its value as a compact sketch of this lg_k."""
-        raise NotImplementedError
-
-    def _of_two(self, first: Sketch, second: Sketch) -> Any:
-        """The value of a new merge after two sketches."""
-        self.update(first)
-        self.update(second)
-        return self._value(max(first.lg_k, second.lg_k))
-
-    def update(self, sketch: Any) -> None:
-        """Merges a sketch, or the bytes of an image; neither changes.
-
-        Raises InvalidArgumentError for a sketch of another seed, InvalidDataError for bytes that begin with no image of
-        this seed, and OutOfMemoryError. Of sums it also raises PolicyError if the sum of a key would be 2^64 or more. A union
-        that has failed raises FailedError.
-        """
-        if isinstance(sketch, self._family):
-            require_seed(sketch, self._seed)
-        with self._lock:
-            if isinstance(sketch, self._updatable):
-                with sketch._lock:
-                    check(self._add(self._handle, sketch._handle))
-            else:
-                image = sketch.to_bytes() if isinstance(sketch, self._family) else image_of(sketch)
-                check(self._add_image(self._handle, image, len(image)))
-
-    def __reduce__(self) -> Any:
-        raise TypeError(f"a {type(self).__name__} is neither copied nor pickled; take its result")
-
-
-class UnionMerge(Merge):
-    """What unions share."""
-
-    __slots__ = ("_lg_k",)
-    _reset: Any
-    _lg_k: int
-
-    def __init__(self, lg_k: int = 12, seed: int = DEFAULT_SEED) -> None:
-        self._lg_k, self._seed = number(lg_k, 8, "lg_k"), number(seed, 64, "a seed")
-        self._lock, self._handle = threading.RLock(), self._kind()
-        reason = f"lg_k is from 4 to 26, and the hash of a seed isn't 0; here are lg_k {lg_k}, seed {seed}"
-        check(self._new(self._handle, self._lg_k, self._seed), reason)
-
-    @property
-    def lg_k(self) -> int:
-        """The binary logarithm of its nominal entries, from 4 to 26."""
-        return self._lg_k
-
-    def reset(self) -> None:
-        """Makes it empty again, as when it was new, and ends a failure."""
-        with self._lock:
-            check(self._reset(self._handle))
-
-
-class IntersectionMerge(Merge):
-    """What intersections share."""
+    """What operators on many sketches share beside what their types of the compiled module have."""
 
     __slots__ = ()
 
-    def __init__(self, seed: int = DEFAULT_SEED) -> None:
-        self._seed = number(seed, 64, "a seed")
-        self._lock, self._handle = threading.RLock(), self._kind()
-        check(self._new(self._handle, self._seed), f"the hash of the seed {seed} is 0; pass another")
+    def __reduce__(self) -> Any:
+        raise TypeError(f"a {type(self).__name__} is neither copied nor pickled; take its result")

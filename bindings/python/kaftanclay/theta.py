@@ -2,25 +2,14 @@
 from __future__ import annotations
 
 from array import array
-from collections.abc import Iterable
-from typing import Any
+from typing import Any, cast
 
-from . import _keys
-from . import _library as library
+from . import _native
 from ._keys import Key
-from ._library import DEFAULT_SEED, CompactHandle, IntersectionHandle, State, ThetaHandle, UnionHandle, check, number, written
-from ._sketch import (
-    PREAMBLE,
-    CompactSketch,
-    IntersectionMerge,
-    Merge,
-    Sketch,
-    UnionMerge,
-    UpdatableSketch,
-    entries_of,
-    image_of,
-    require_seed,
-)
+from ._native import DEFAULT_SEED
+from ._sketch import CompactSketch, Merge, Sketch, UpdatableSketch, entries_of, image_of, require_seed, seed_of, unite
+
+__all__ = ["CompactThetaSketch", "Key", "ThetaIntersection", "ThetaSketch", "ThetaUnion"]
 
 _EMPTY = bytes.fromhex("010303 00001e 0000")
 
@@ -29,162 +18,130 @@ class ThetaValue(Sketch):
     """What both kinds of theta sketches share: `|` unites two, `&` intersects them, `-` is their difference.
 
     The results are compact. Raises InvalidArgumentError if the sketches have different seeds, and OutOfMemoryError. The
-    `lg_k` of a result is the greater of the two; a union retains at most 2^lg_k hashes.
+    `lg_k` of a result is the greater of the two, and a union retains at most 2^lg_k hashes. But a union with an image that was
+    read without its `lg_k` keeps all hashes that both retain below the lesser theta, up to 2^26.
     """
 
     __slots__ = ()
 
     def hashes(self) -> list[int]:
-        """The hashes that it retains, which ascend."""
+        """The hashes that it retains, from 1 to 2^63 - 1, which ascend. Raises OutOfMemoryError."""
         return array("Q", entries_of(self.to_bytes())).tolist()
 
     def __or__(self, other: ThetaValue) -> CompactThetaSketch:
         if not isinstance(other, ThetaValue):
             return NotImplemented
-        return ThetaUnion(max(self.lg_k, other.lg_k), self.seed)._of_two(self, other)
+        return cast("CompactThetaSketch", unite(ThetaUnion, CompactThetaSketch, self, other))
 
     def __and__(self, other: ThetaValue) -> CompactThetaSketch:
-        return self._combined(library.images_intersect, other)
+        return self._combined(_native.images_intersect, other)
 
     def __sub__(self, other: ThetaValue) -> CompactThetaSketch:
-        return self._combined(library.images_difference, other)
+        return self._combined(_native.images_difference, other)
 
     def _combined(self, call: Any, other: Any) -> CompactThetaSketch:
         if not isinstance(other, ThetaValue):
             return NotImplemented
         require_seed(other, self.seed)
-        first, second = self.to_bytes(), other.to_bytes()
-        room = len(first) + PREAMBLE
-        image = written(call, first, len(first), second, len(second), self.seed, room=room)
-        return CompactThetaSketch._of(image, self.seed, max(self.lg_k, other.lg_k))
+        image, is_guess = call(self.to_bytes(), other.to_bytes(), self.seed), self._guesses_lg_k or other._guesses_lg_k
+        return CompactThetaSketch._of_image(image, self.seed, max(self.lg_k, other.lg_k), is_guess)
 
 
-class CompactThetaSketch(CompactSketch, ThetaValue):
+class CompactThetaSketch(CompactSketch, ThetaValue, _native.CompactTheta):
     """A theta sketch that never changes: its image, ordered, in the DataSketches format.
 
     It is made by `from_bytes`, by `ThetaSketch.compact` and by the operators. It has no object of the library, may be used
     by many threads at once, pickled, copied, compared and hashed.
+
+        >>> sketch = ThetaSketch()
+        >>> sketch.update_many(["ann", "bob"])
+        >>> read = CompactThetaSketch.from_bytes(sketch.to_bytes())
+        >>> read == sketch.compact(), read.estimate, len(read)
+        (True, 2.0, 2)
     """
 
-    __slots__ = ()
+    __slots__ = ("__weakref__",)
 
     @classmethod
-    def _of(cls, image: bytes, seed: int, lg_k: int | None) -> CompactThetaSketch:
+    def _of_image(cls, image: bytes, seed: int, lg_k: int | None, is_guess: bool = False) -> CompactThetaSketch:
         """The sketch of an image that the library wrote."""
-        made, state = cls.__new__(cls), State()
-        check(library.image_state(image, len(image), seed, state))
-        made._keep(image, state, seed, lg_k)
-        return made
+        return cls._of(image, _native.image_state(image, seed), seed, lg_k, is_guess)
 
     @classmethod
     def from_bytes(cls, data: bytes, seed: int = DEFAULT_SEED, lg_k: int | None = None) -> CompactThetaSketch:
         """Reads the sketch that the bytes begin with, under this seed; bytes after it are ignored.
 
-        An image has no `lg_k`. If none is passed, it is the least from 12 on with 2^lg_k at least the retained hashes. It
-        limits only what unions with this sketch retain. Raises InvalidDataError if the bytes begin with no sketch of this
-        seed, and OutOfMemoryError.
+        An image has no `lg_k`: pass that of the sketch, if you know it. It limits only what unions with this sketch retain. If
+        none is passed, it is guessed as the least from 12 on with 2^lg_k at least the retained hashes, and `|` keeps all. Raises InvalidDataError if the bytes begin with no sketch of this
+        seed, InvalidArgumentError if lg_k isn't from 4 to 26 or the seed from 0 to 2^64 - 1, TypeError for anything but
+        bytes, and OutOfMemoryError.
         """
-        data, seed = image_of(data), number(seed, 64, "a seed")
+        data, seed = image_of(data), seed_of(seed)
         # The difference with the empty sketch is the sketch itself, ordered, as the library writes it.
-        room = len(data) + PREAMBLE
-        image = written(library.images_difference, data, len(data), _EMPTY, len(_EMPTY), seed, room=room)
-        return cls._of(image, seed, lg_k)
+        return cls._of_image(_native.images_difference(data, _EMPTY, seed), seed, lg_k)
 
 
-class ThetaSketch(UpdatableSketch, ThetaValue):
+class ThetaSketch(UpdatableSketch, ThetaValue, _native.Theta):
     """A theta sketch that takes updates.
 
     `lg_k` is the binary logarithm of its nominal entries, from 4 to 26; the usual error of an estimate is about
-    1 / sqrt(2^lg_k). Sketches are combined only if they have the same seed. Its theta is `starting_theta`, from 1 to
-    2^63 - 1, at first and after a reset, and its slots grow by the factor `resize_factor`, 1, 2, 4 or 8. Threads may share
-    it: each call takes its lock. Raises InvalidArgumentError if a setting is out of range, and OutOfMemoryError.
+    1 / sqrt(2^lg_k). Sketches are combined only if they have the same seed, from 0 to 2^64 - 1. Its theta is
+    `starting_theta`, from 1 to 2^63 - 1, at first and after a reset, and its slots grow by the factor `resize_factor`, 1, 2,
+    4 or 8. Threads may share it. Raises InvalidArgumentError if a setting is out of range, and OutOfMemoryError.
+
+        >>> sketch = ThetaSketch(lg_k=14)
+        >>> sketch.update("ann")
+        >>> sketch.update_many(["bob", None, "ann"])
+        >>> sketch.estimate, sketch.bounds(), sketch.is_exact
+        (2.0, (2, 2), True)
     """
 
-    __slots__ = ()
-    _kind, _new, _clone, _trim = ThetaHandle, library.theta_new, library.theta_clone, library.theta_trim
-    _read_state, _write_image, _entry_size = library.theta_state, library.theta_image, 8
+    __slots__ = ("__weakref__",)
 
     @classmethod
     def from_bytes(cls, data: bytes, seed: int = DEFAULT_SEED, lg_k: int | None = None) -> ThetaSketch:
         """Reads a sketch as CompactThetaSketch.from_bytes does, for further updates."""
         return cls._of(CompactThetaSketch.from_bytes(data, seed, lg_k))
 
-    def update(self, key: Key) -> None:
-        """Updates it with a key: a str by its UTF-8 bytes, bytes, or an int from -2^63 to 2^64 - 1 by its eight bytes.
-
-        An int is never the same key as a str or bytes of its digits, and -1 is the same key as 2^64 - 1. Raises TypeError
-        for a float, InvalidArgumentError for an int out of range, and OutOfMemoryError; the sketch is then unchanged.
-        """
-        if isinstance(key, (str, bytes, bytearray, memoryview)):
-            data = _keys.bytes_of(key)
-            with self._lock:
-                status = library.theta_update_bytes(self._handle, data, len(data))
-        else:
-            found = _keys.number_of(key)
-            with self._lock:
-                status = library.theta_update_u64(self._handle, found)
-        if status:
-            check(status)
-
-    def update_many(self, keys: Iterable[Key]) -> None:
-        """Updates it with many keys, which `update` describes, about a thousand in a call of the library.
-
-        Arrays of numbers of 64 bits, such as those of numpy and array, are read without a Python object for each. Raises
-        what `update` raises; keys before the refused one may then have been inserted, and inserting them again changes
-        nothing.
-        """
-        for data, ends in _keys.batches(keys):
-            where, count = ends.buffer_info()
-            with self._lock:
-                check(library.theta_update_strings(self._handle, data, len(data), where, count))
-
     def compact(self) -> CompactThetaSketch:
-        """Its value as a compact sketch, untrimmed."""
-        return CompactThetaSketch._of(self.to_bytes(), self.seed, self.lg_k)
+        """Its value as a compact sketch, untrimmed. Raises OutOfMemoryError."""
+        return CompactThetaSketch._of_image(self.to_bytes(), self.seed, self.lg_k, self._guesses_lg_k)
 
-    def _fill(self, value: CompactSketch, handle: Any) -> None:
-        hashes = array("Q", entries_of(value.to_bytes()))
-        where, count = hashes.buffer_info()
-        check(library.theta_update_hashes(handle, where, count))
-        # The hash 0 is never retained; it makes the sketch nonempty.
-        if not value.is_empty:
-            check(library.theta_update_hash(handle, 0))
+    def _fill(self, value: CompactSketch) -> None:
+        self._insert(entries_of(value.to_bytes()), value.is_empty)
 
 
-class ThetaMerge(Merge):
-    """What unions and intersections of theta sketches share."""
-
-    __slots__ = ()
-    _family, _updatable, _result_kind = ThetaValue, ThetaSketch, CompactHandle
-
-    def _value(self, lg_k: int | None) -> CompactThetaSketch:
-        image = written(library.compact_image, self._result_handle(), room=4096)
-        return CompactThetaSketch._of(image, self.seed, lg_k)
-
-
-class ThetaUnion(UnionMerge, ThetaMerge):
+class ThetaUnion(Merge, _native.Union):
     """A union of any number of theta sketches, in any order.
 
-    It retains at most 2^lg_k hashes, the least of all that its sketches retain below their least theta. After an
-    OutOfMemoryError of `update` it may have failed: it then raises FailedError until it is reset.
+    It retains at most 2^lg_k hashes (lg_k from 4 to 26), the least of all that its sketches retain below their least theta.
+    If no lg_k is passed it is 12, and `update` warns (SketchWarning) of a sketch that retains more, unless that has an `lg_k` of 12
+    itself. After an OutOfMemoryError of `update` it may have failed: it then raises FailedError until it is reset.
+
+        >>> union = ThetaUnion(lg_k=14)
+        >>> for keys in (["ann", "bob"], ["bob", "cid"]):
+        ...     day = ThetaSketch(lg_k=14)
+        ...     day.update_many(keys)
+        ...     union.update(day)
+        >>> union.result().estimate
+        3.0
     """
 
-    __slots__ = ()
-    _kind, _new, _reset = UnionHandle, library.union_new, library.union_reset
-    _add, _add_image, _result = library.union_add, library.union_add_image, library.union_result
+    __slots__ = ("__weakref__",)
 
     def result(self) -> CompactThetaSketch:
-        """Its value as a compact sketch."""
-        return self._value(self.lg_k)
+        """Its value as a compact sketch. Raises FailedError if it has failed, and OutOfMemoryError."""
+        return CompactThetaSketch._of(*self._result(), self.seed, self.lg_k)
 
 
-class ThetaIntersection(IntersectionMerge, ThetaMerge):
-    """An intersection of any number of theta sketches, in any order. It has no value before its first sketch."""
+class ThetaIntersection(Merge, _native.Intersection):
+    """An intersection of any number of theta sketches, in any order. It has no value before its first sketch.
 
-    __slots__ = ()
-    _kind, _new = IntersectionHandle, library.intersection_new
-    _add, _add_image, _result = library.intersection_add, library.intersection_add_image, library.intersection_result
+    Raises InvalidArgumentError if the seed isn't from 0 to 2^64 - 1 or its hash is 0.
+    """
+
+    __slots__ = ("__weakref__",)
 
     def result(self) -> CompactThetaSketch:
-        """Its value as a compact sketch. Raises InvalidArgumentError before the first sketch."""
-        return self._value(None)
+        """Its value as a compact sketch. Raises InvalidArgumentError before the first sketch, and OutOfMemoryError."""
+        return CompactThetaSketch._of(*self._result(), self.seed, None)

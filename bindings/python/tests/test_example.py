@@ -1,21 +1,49 @@
-"""The first example of docs/FROM-OTHER-LANGUAGES.md, and that of the package, print what they say."""
+"""The examples of docs/use/FROM-OTHER-LANGUAGES.md and of the texts of the package print what they say."""
 import doctest
+import importlib
 import os
 import re
 import subprocess
 import sys
 
-import kaftanclay
+import pytest
 from conftest import TOP
 
+NOT_RUN = "# Not run here:"
 
-def test_example_of_the_page():
-    with open(os.path.join(TOP, "docs", "FROM-OTHER-LANGUAGES.md"), encoding="utf-8") as file:
-        program, printed = re.search(r"```python\n(.*?)```\n\nIt prints (.*?);", file.read(), re.S).groups()
-    wanted = "".join(f"{line}\n" for line in re.findall("`(.*?)`", printed))
+
+def examples():
+    """Each program of the part on Python, and what the page says that it prints."""
+    with open(os.path.join(TOP, "docs", "use", "FROM-OTHER-LANGUAGES.md"), encoding="utf-8") as file:
+        part = file.read().split("\n## Python\n")[1].split("\n## ")[0]
+    for program, text in re.findall(r"```python\n(.*?)```\n\n(.*?)\n\n", part, re.S):
+        printed = re.match(r"It prints (.*?)[.;](?= |$)", text)
+        yield program, re.findall("`(.*?)`", printed[1]) if printed else None
+
+
+def test_each_example_of_the_page():
+    """All are run but the one for Spark, which can be compiled."""
+    found = list(examples())
+    assert len(found) == 4 and [program for program, printed in found if printed is None] == [it for it, _ in found if it.startswith(NOT_RUN)]
+    assert sum(it.startswith(NOT_RUN) for it, _ in found) == 1
+    for program, _ in found:
+        compile(program, "page", "exec")
+
+
+@pytest.mark.parametrize("program, printed", [it for it in examples() if it[1] is not None])
+def test_example_of_the_page(program, printed):
+    for name in re.findall(r"^(?:import|from) (pandas|dask)\b", program, re.M):
+        pytest.importorskip(name)
     run = subprocess.run([sys.executable, "-c", program], capture_output=True, text=True, check=False)
-    assert (run.returncode, run.stdout, run.stderr) == (0, wanted, "")
+    assert (run.returncode, run.stdout, run.stderr) == (0, "".join(f"{line}\n" for line in printed), "")
 
 
-def test_example_of_the_package():
-    assert doctest.testmod(kaftanclay).attempted >= 5 and doctest.testmod(kaftanclay).failed == 0
+@pytest.mark.parametrize("module, least, needs", [
+    ("kaftanclay", 5, ()), ("kaftanclay.theta", 9, ()), ("kaftanclay.sums", 4, ()), ("kaftanclay.pandas", 7, ("pandas",)),
+    ("kaftanclay.dask", 8, ("pandas", "dask")),
+])
+def test_examples_of_the_package(module, least, needs):
+    for name in needs:
+        pytest.importorskip(name)
+    found = doctest.testmod(importlib.import_module(module))
+    assert found.attempted >= least and found.failed == 0

@@ -1,60 +1,98 @@
-"""The types by which the package calls the library are those of include/kaftanclay.h."""
-import ctypes
+"""The errors, the numbers and the stubs of the package are those of include/kaftanclay.h and of the compiled module.
+
+The types of the calls are compared by the compiler, which reads the header.
+"""
+import ast
+import inspect
 import os
 import re
-from ctypes import POINTER, c_char_p, c_size_t, c_uint8, c_uint32, c_uint64, c_void_p
 
 from conftest import TOP
-from kaftanclay import _library
+from kaftanclay import (
+    DEFAULT_SEED,
+    MAX_THETA,
+    CompactThetaSketch,
+    CompactTupleSums,
+    ThetaIntersection,
+    ThetaSketch,
+    ThetaUnion,
+    TupleSums,
+    TupleSumsIntersection,
+    TupleSumsUnion,
+    _native,
+    errors,
+)
 
-HANDLES = {"".join(it.__name__.split("Handle")): it for it in _library.Handle.__subclasses__()}
-
-TYPES = {
-    "uint8_t": {c_uint8}, "uint32_t": {c_uint32}, "uint64_t": {c_uint64}, "size_t": {c_size_t},
-    "const void *": {c_char_p, c_void_p}, "const uint64_t *": {c_void_p}, "void *": {c_void_p}, "char *": {c_void_p},
-    "uint64_t *": {POINTER(c_uint64)}, "kc_state *": {POINTER(_library.State)}, "const kc_state *": {POINTER(_library.State)},
-    "kc_wide *": {POINTER(_library.Wide)}, "const kc_wide *": {POINTER(_library.Wide)},
-}
+PACKAGE = os.path.dirname(os.path.abspath(inspect.getfile(errors)))
 
 
-def declared():
-    """The types of the parameters of each call of the header."""
+def header():
     with open(os.path.join(TOP, "include", "kaftanclay.h"), encoding="utf-8") as file:
-        text = re.sub(r"/\*.*?\*/", "", file.read(), flags=re.S)
-    for name, kinds in re.findall(r"^kc_status (kc_\w+)\((.*?)\);", text, re.M | re.S):
-        yield name, [re.sub(r"\w+$", "", re.sub(r"\s+", " ", it).strip()).strip() for it in kinds.split(",")]
+        return re.sub(r"/\*.*?\*/", "", file.read(), flags=re.S)
 
 
-def is_type(kind, found):
-    handle = re.fullmatch(r"kc_(\w+) \*", kind)
-    if handle and kind not in TYPES:
-        return found is POINTER(HANDLES["".join(it.title() for it in handle[1].split("_"))])
-    return found in TYPES[kind]
+def test_errors():
+    statuses = {name: int(status) for name, status in re.findall(r"KC_(\w+) = (\d)", header())}
+    assert len(statuses) == 7 and statuses["OK"] == 0
+    for name, status in statuses.items():
+        if name in ("OK", "TOO_SMALL"):
+            assert status not in errors._REASONS
+            continue
+        error = errors.error_of_status(status, None)
+        assert type(error).__name__ == "".join(map(str.title, name.split("_"))) + "Error" and error.status == status
+        assert str(errors.error_of_status(status, "this")) == ("this" if status in (1, 5) else str(error))
 
 
-def test_declarations():
-    header = dict(declared())
-    calls = [it for it in vars(_library).values() if isinstance(it, ctypes._CFuncPtr)]
-    calls += [it.free for it in _library.Handle.__subclasses__()]
-    assert len(calls) >= 35
-    for call in calls:
-        kinds = header[call.__name__]
-        assert len(kinds) == len(call.argtypes) and call.restype is c_uint32, call.__name__
-        assert all(is_type(kind, found) for kind, found in zip(kinds, call.argtypes)), (call.__name__, kinds)
+def test_numbers():
+    assert f"KC_MAX_THETA UINT64_C({MAX_THETA})" in header() and f"KC_DEFAULT_SEED UINT64_C({DEFAULT_SEED})" in header()
 
 
-def test_structs():
-    with open(os.path.join(TOP, "include", "kaftanclay.h"), encoding="utf-8") as file:
-        text = re.sub(r"/\*.*?\*/", "", file.read(), flags=re.S)
-    bodies = re.findall(r"typedef struct \{(.*?)\} kc_(\w+);", text, re.S)
-    structs = {name: re.findall(r"(\w+ \*?)(\w+);", body) for body, name in bodies}
-    for name, struct in (("state", _library.State), ("wide", _library.Wide)):
-        assert [(field, c_uint64) for kind, field in structs[name] if kind == "uint64_t "] == struct._fields_
-        assert len(structs[name]) == len(struct._fields_)
-    statuses = dict(re.findall(r"KC_(\w+) = (\d)", text))
-    assert int(statuses["TOO_SMALL"]) == _library.TOO_SMALL and len(statuses) == 7
-    for status, (kind, _) in _library._REASONS.items():
-        name = next(it for it, number in statuses.items() if int(number) == status)
-        assert kind.status == status and kind.__name__.removesuffix("Error").lower() == name.replace("_", "").lower()
-    assert _library.MAX_THETA == 9223372036854775807 and _library.DEFAULT_SEED == 9001
-    assert "KC_MAX_THETA UINT64_C(9223372036854775807)" in text and "KC_DEFAULT_SEED UINT64_C(9001)" in text
+def test_calls_of_the_header():
+    """The sources of the compiled module call nothing of the library that the header lacks, and name no format of theirs."""
+    declared = set(re.findall(r"^kc_status (kc_\w+)\(", header(), re.M))
+    folder = os.path.join(TOP, "bindings", "python", "native")
+    text = "".join(open(os.path.join(folder, it), encoding="utf-8").read() for it in sorted(os.listdir(folder)))
+    called = set(re.findall(r"\b(kc_\w+)\(", re.sub(r"/\*.*?\*/", "", text, flags=re.S)))
+    assert len(called) > 20 and called <= declared
+
+
+def names_in(text, name=None):
+    """The public and private names that a stub defines: of the module, or of one of its classes."""
+    body = ast.parse(text).body
+    if name:
+        body = next(it for it in body if isinstance(it, ast.ClassDef) and it.name == name).body
+    for it in body:
+        if isinstance(it, (ast.FunctionDef, ast.ClassDef)):
+            yield it.name
+        elif isinstance(it, ast.AnnAssign):
+            yield it.target.id
+
+
+def test_stubs():
+    with open(os.path.join(PACKAGE, "_native.pyi"), encoding="utf-8") as file:
+        text = file.read()
+    only_there = {"Updatable", "Compact"}
+    found = {it for it in vars(_native) if not it.startswith("__")}
+    assert set(names_in(text)) - only_there == found
+    for name in ("Sketch", "Theta", "Sums", "CompactTheta", "Union", "Intersection", "SumsUnion", "SumsIntersection"):
+        ignored = {"__new__", "__doc__", "__module__", "__init__", "__len__", "__bytes__", "__del__"}
+        own = {it for it in vars(getattr(_native, name)) if it not in ignored}
+        bases = {"Theta": ["Updatable"], "Sums": ["Updatable"], "CompactTheta": ["Compact"]}.get(name, [])
+        told = {it for base in [name, *bases] for it in names_in(text, base)} - ignored
+        assert own == told, name
+
+
+def test_texts_of_help():
+    """Each public method has a text, and a signature that Python reads."""
+    for kind in (it for it in vars(_native).values() if isinstance(it, type)):
+        for name, method in vars(kind).items():
+            if callable(method) and not name.startswith("_"):
+                assert method.__doc__ and list(inspect.signature(method).parameters)[0] == "self", (kind, name)
+    settings = inspect.signature(ThetaSketch).parameters
+    assert {name: it.default for name, it in settings.items()} == {
+        "lg_k": 12, "seed": DEFAULT_SEED, "resize_factor": 8, "starting_theta": MAX_THETA,
+    }
+    assert list(inspect.signature(ThetaUnion).parameters) == ["lg_k", "seed"]
+    for kind in (ThetaSketch, CompactThetaSketch, ThetaUnion, ThetaIntersection, TupleSums, CompactTupleSums, TupleSumsUnion, TupleSumsIntersection):
+        for name in dir(kind):
+            assert name.startswith("_") or inspect.getdoc(getattr(kind, name)), (kind, name)

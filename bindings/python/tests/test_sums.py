@@ -67,6 +67,7 @@ def test_sums():
     assert sums.total == 24.0 and sums.estimate == 4.0 and sums.bounds() == (4, 4) and len(sums) == 4 and not sums.is_empty
     assert bytes(sums) == sums.to_bytes() and sums.to_bytes()[2] == 9
     assert repr(sums) == "<TupleSums of 4 keys, lg_k 12>"
+    assert "<td>4, exact</td></tr><tr><th>total</th><td>24</td></tr><tr><th>retained hashes</th><td>4</td></tr>" in sums.compact()._repr_html_()
     sums.reset()
     assert sums.is_empty and sums.items() == []
 

@@ -44,7 +44,7 @@ def sketch_of(keys, lg_k=12):
 
 
 def test_image_of_three_lines():
-    """The image of docs/OTHER-LIBRARIES.md."""
+    """The image of docs/use/OTHER-LIBRARIES.md."""
     wanted = "02030300001acc9303000000000000005f1032909707cc2780b8a85705094430fc08309e1c5ed36b"
     assert sketch_of(["ann", "bob", "cy"]).to_bytes().hex() == wanted
 
@@ -72,7 +72,7 @@ def test_keys_of_one_hash():
 @pytest.mark.parametrize("key", [1.0, None, [], ("a",), 1j])
 def test_key_of_another_type(key):
     sketch = ThetaSketch()
-    for call in (lambda: sketch.update(key), lambda: sketch.update_many([key])):
+    for call in (lambda: sketch.update(key), lambda: sketch.update_many([key], skipna=False)):
         with pytest.raises(TypeError, match="a key is a str, bytes or an int"):
             call()
     assert sketch.is_empty
@@ -204,6 +204,12 @@ def test_what_a_sketch_answers():
         assert rough.bounds(deviations) == lines.count_bounds(deviations, 4096, theta)
     assert rough.bounds() == rough.bounds(2) and rough.compact().bounds() == rough.bounds()
     assert repr(exact) == "<ThetaSketch of 100 keys, lg_k 12>" and "about" in repr(rough.compact())
+    assert exact._repr_html_() == (
+        "<table><caption>ThetaSketch</caption><tr><th>distinct keys</th><td>100, exact</td></tr><tr><th>retained hashes</th><td>100</td></tr>"
+        "<tr><th>theta</th><td>1</td></tr><tr><th>lg_k</th><td>12</td></tr></table>"
+    )
+    low, high = rough.bounds()
+    assert f"<td>about {rough.estimate:.0f}, from {low} to {high}</td>" in rough.compact()._repr_html_()
     for deviations in (0, 4, 2**32 + 2, -1):
         with pytest.raises(InvalidArgumentError, match="deviations"):
             rough.bounds(deviations)

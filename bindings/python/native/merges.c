@@ -1,0 +1,239 @@
+/* The types of unions and intersections, of both families. */
+#include "native.h"
+
+/* The calls of a kind of operator: its name, and that of the sketches it takes. */
+#define CALLS_OF_MERGE(name, sketch) \
+    static kc_status free_##name(Handle *h) { return kc_##name##_free(&h->of_##name); } \
+    static kc_status add_to_##name(Handle *h, Handle *other) { return kc_##name##_add(&h->of_##name, &other->sketch); } \
+    static kc_status add_image_to_##name(Handle *h, const void *image, size_t count) { \
+        return kc_##name##_add_image(&h->of_##name, image, count); } \
+    static kc_status result_of_##name(Handle *h, Result *out) { return kc_##name##_result(&h->of_##name, &out->sketch); }
+#define CALLS_OF_UNION(name) \
+    static kc_status make_##name(Handle *h, const Settings *s) { return kc_##name##_new(&h->of_##name, s->lg_k, s->seed); } \
+    static kc_status reset_##name(Handle *h) { return kc_##name##_reset(&h->of_##name); }
+#define CALLS_OF_INTERSECTION(name) \
+    static kc_status make_##name(Handle *h, const Settings *s) { return kc_##name##_new(&h->of_##name, s->seed); }
+CALLS_OF_MERGE(union, theta)
+CALLS_OF_MERGE(intersection, theta)
+CALLS_OF_MERGE(sums_union, sums)
+CALLS_OF_MERGE(sums_intersection, sums)
+CALLS_OF_UNION(union)
+CALLS_OF_UNION(sums_union)
+CALLS_OF_INTERSECTION(intersection)
+CALLS_OF_INTERSECTION(sums_intersection)
+
+#define KIND(name) .make = make_##name, .free = free_##name, .add = add_to_##name, .add_image = add_image_to_##name, .result = result_of_##name
+const Kind union_kind = {KIND(union), .reset = reset_union};
+const Kind intersection_kind = {KIND(intersection)};
+const Kind sums_union_kind = {KIND(sums_union), .reset = reset_sums_union, .of_sums = true};
+const Kind sums_intersection_kind = {KIND(sums_intersection), .of_sums = true};
+
+static int merge_init(Object *o, PyObject *lg_k, PyObject *seed) {
+    uint64_t nominal = 12, found = KC_DEFAULT_SEED;
+    if (lg_k != NULL && number_of(lg_k, "lg_k is from 4 to 26", UINT8_MAX, &nominal)) return -1;
+    if (seed != NULL && number_of(seed, "a seed is from 0 to 2^64 - 1", UINT64_MAX, &found)) return -1;
+    Settings settings = {(uint8_t)nominal, found, 8, KC_MAX_THETA, lg_k == NULL};
+    if (make_object(o, &settings)) return -1;
+    o->settings = settings;
+    return 0;
+}
+
+static int union_init(PyObject *self, PyObject *given, PyObject *by_name) {
+    static char *names[] = {"lg_k", "seed", NULL};
+    PyObject *lg_k = NULL, *seed = NULL;
+    if (!PyArg_ParseTupleAndKeywords(given, by_name, "|OO", names, &lg_k, &seed)) return -1;
+    return merge_init((Object *)self, lg_k, seed);
+}
+
+static int intersection_init(PyObject *self, PyObject *given, PyObject *by_name) {
+    static char *names[] = {"seed", NULL};
+    PyObject *seed = NULL;
+    if (!PyArg_ParseTupleAndKeywords(given, by_name, "|O", names, &seed)) return -1;
+    return merge_init((Object *)self, NULL, seed);
+}
+
+static PyObject *merge_lg_k(PyObject *self, void *unused) {
+    (void)unused;
+    return require_made((Object *)self) ? NULL : PyLong_FromLong(((Object *)self)->settings.lg_k);
+}
+
+static PyObject *merge_seed(PyObject *self, void *unused) {
+    (void)unused;
+    return require_made((Object *)self) ? NULL : PyLong_FromUnsignedLongLong(((Object *)self)->settings.seed);
+}
+
+static int add_image(Object *o, const char *image, Py_ssize_t count) {
+    kc_status status;
+    if (count < 8 * MANY) {
+        if (ready(o)) return -1;
+        status = o->kind->add_image(&o->handle, image, (size_t)count);
+    } else {
+        if (begin(o)) return -1;
+        WITHOUT_LOCK(status, o->kind->add_image(&o->handle, image, (size_t)count));
+        end(o);
+    }
+    if (status == KC_OK) return 0;
+    refuse(status, NULL);
+    return -1;
+}
+
+/* An image, or null with an error. The reference is the function's own now. */
+static int add_bytes(Object *o, PyObject *bytes) {
+    char *image;
+    Py_ssize_t count;
+    if (bytes == NULL) return -1;
+    int status = PyBytes_AsStringAndSize(bytes, &image, &count) ? -1 : add_image(o, image, count);
+    Py_DECREF(bytes);
+    return status;
+}
+
+/* A sketch that takes updates, which no other thread changes meanwhile. No thread that has a sketch waits for an operator. */
+static int add_sketch(Object *o, Object *sketch) {
+    kc_status status;
+    if (begin_two(o, sketch)) return -1;
+    WITHOUT_LOCK(status, o->kind->add(&o->handle, &sketch->handle));
+    end(sketch);
+    end(o);
+    if (status == KC_OK) return 0;
+    refuse(status, NULL);
+    return -1;
+}
+
+static int require_seed(const Object *o, const Object *sketch) {
+    if (o->settings.seed == sketch->settings.seed) return 0;
+    char reason[160];
+    PyOS_snprintf(reason, sizeof reason, "the sketches have different seeds, %llu and %llu; make them with one seed",
+                  (unsigned long long)o->settings.seed, (unsigned long long)sketch->settings.seed);
+    refuse(KC_INVALID_ARGUMENT, reason);
+    return -1;
+}
+
+/* The state of the sketch of an image. */
+static kc_status state_of_image(const Object *o, const char *image, size_t count, kc_state *state) {
+    kc_compact_sums sums = {0};
+    if (!o->kind->of_sums) return kc_image_state(image, count, o->settings.seed, state);
+    kc_status status = kc_compact_sums_read(&sums, image, count, o->settings.seed);
+    if (status == KC_OK) status = kc_compact_sums_state(&sums, state);
+    kc_compact_sums_free(&sums);
+    return status;
+}
+
+/* Warns, once, that a union to which nobody passed lg_k can't keep what a sketch retains. Returns -1 if the warning is an error. */
+static int warn_of(Object *o, const kc_state *state) {
+    unsigned long long most = 1ULL << o->settings.lg_k, retained = state->retained;
+    if (retained <= most || o->has_warned) return 0;
+    int status = PyErr_WarnFormat(
+        sketch_warning, 1, "a union without lg_k keeps %llu hashes, and this sketch retains %llu, so the union drops some of them; pass lg_k",
+        most, retained);
+    o->has_warned = status == 0;
+    return status;
+}
+
+/* Whether a union may have to warn: whoever passed lg_k chose what it keeps. */
+static bool may_warn(const Object *o) { return o->kind->reset != NULL && o->settings.guesses_lg_k && !o->has_warned; }
+
+/* Warns of a sketch whose own lg_k is greater, or unknown. */
+static int warn_of_sketch(Object *o, Object *sketch) {
+    kc_state state = sketch->state;
+    if (!may_warn(o) || (sketch->settings.lg_k <= o->settings.lg_k && !sketch->settings.guesses_lg_k)) return 0;
+    if (sketch->kind != NULL && (ready(sketch) || sketch->kind->state(&sketch->handle, &state) != KC_OK)) return -1;
+    return warn_of(o, &state);
+}
+
+/* Warns of an image. One of so many hashes has more bytes than they have; others are not read twice. */
+static int warn_of_image(Object *o, PyObject *bytes) {
+    kc_state state;
+    char *image;
+    Py_ssize_t count;
+    if (!may_warn(o) || PyBytes_AsStringAndSize(bytes, &image, &count) || count <= (Py_ssize_t)8 << o->settings.lg_k) return 0;
+    return state_of_image(o, image, (size_t)count, &state) == KC_OK ? warn_of(o, &state) : 0;
+}
+
+/* Adds the image of bytes, whose reference is the function's own now. */
+static int add_image_of(Object *o, PyObject *bytes) {
+    if (bytes == NULL || warn_of_image(o, bytes) == 0) return add_bytes(o, bytes);
+    Py_DECREF(bytes);
+    return -1;
+}
+
+static int add_any(Object *o, PyObject *sketch) {
+    Object *other = (Object *)sketch;
+    bool is_updatable = PyObject_TypeCheck(sketch, o->kind->of_sums ? sums_type : theta_type);
+    if (is_updatable || PyObject_TypeCheck(sketch, o->kind->of_sums ? compact_sums_type : compact_theta_type)) {
+        if (require_made(other) || require_seed(o, other) || warn_of_sketch(o, other)) return -1;
+        return is_updatable ? add_sketch(o, other) : add_bytes(o, Py_NewRef(other->image));
+    }
+    if (PyBytes_Check(sketch)) return add_image_of(o, Py_NewRef(sketch));
+    if (!PyByteArray_Check(sketch) && !PyMemoryView_Check(sketch)) {
+        PyObject *name = PyType_GetName(Py_TYPE(sketch));
+        if (name != NULL) PyErr_Format(PyExc_TypeError, "an image is bytes, not %U", name);
+        Py_XDECREF(name);
+        return -1;
+    }
+    return add_image_of(o, PyBytes_FromObject(sketch));
+}
+
+static PyObject *merge_update(PyObject *self, PyObject *const *given, Py_ssize_t count, PyObject *by_name) {
+    static const char *const names[] = {"sketch", NULL};
+    PyObject *values[1] = {0};
+    if (arguments("update", names, 1, 1, given, count, by_name, values) || require_made((Object *)self)) return NULL;
+    return add_any((Object *)self, values[0]) ? NULL : Py_NewRef(Py_None);
+}
+
+/* The image and the state of its value. */
+static PyObject *merge_result(PyObject *self, PyObject *unused) {
+    Object *o = (Object *)self;
+    Result made = {{0}};
+    kc_status status;
+    (void)unused;
+    if (require_made(o) || begin(o)) return NULL;
+    WITHOUT_LOCK(status, o->kind->result(&o->handle, &made));
+    end(o);
+    if (status != KC_OK) return refuse(status, status == KC_FAILED ? NULL : "an intersection has no value before its first sketch");
+    return o->kind->of_sums ? result_of_sums(&made.sums) : result_of_compact(&made.theta);
+}
+
+static PyObject *union_reset(PyObject *self, PyObject *unused) {
+    Object *o = (Object *)self;
+    (void)unused;
+    if (is_left_over(o)) return make_object(o, &o->settings) ? NULL : Py_NewRef(Py_None);
+    if (require_made(o) || ready(o)) return NULL;
+    kc_status status = o->kind->reset(&o->handle);
+    return status == KC_OK ? Py_NewRef(Py_None) : refuse(status, NULL);
+}
+
+#define METHODS_OF_MERGE(more) \
+    METHOD("update", merge_update, \
+           "update($self, sketch)\n--\n\n" \
+           "Merges a sketch, or the bytes of an image; neither changes.\n\n" \
+           "Raises InvalidArgumentError for a sketch of another seed, InvalidDataError for bytes that begin with no image of\n" \
+           "this seed, TypeError for anything else, and OutOfMemoryError." more), \
+    {"_result", merge_result, METH_NOARGS, "The image and the state of its value."}
+#define SUMS_TEXT " PolicyError if the sum of a key would be 2^64 or more."
+#define UNION_TEXT " A union that has failed raises FailedError.\n\n" \
+    "A union that was made without lg_k warns (SketchWarning), once, if a sketch of a greater or an unknown lg_k retains more\n" \
+    "hashes than it keeps."
+#define RESET \
+    {"reset", union_reset, METH_NOARGS, "reset($self)\n--\n\nMakes it empty again, as when it was new, and ends a failure."}
+
+static PyMethodDef union_methods[] = {METHODS_OF_MERGE(UNION_TEXT), RESET, {0}};
+static PyMethodDef intersection_methods[] = {METHODS_OF_MERGE(""), {0}};
+static PyMethodDef sums_union_methods[] = {METHODS_OF_MERGE(" Raises" SUMS_TEXT UNION_TEXT), RESET, {0}};
+static PyMethodDef sums_intersection_methods[] = {METHODS_OF_MERGE(" Raises" SUMS_TEXT), {0}};
+static PyGetSetDef intersection_getters[] = {{"seed", merge_seed, NULL, "The seed of its sketches.", NULL}, {0}};
+static PyGetSetDef union_getters[] = {
+    {"lg_k", merge_lg_k, NULL, "The binary logarithm of its nominal entries, from 4 to 26.", NULL},
+    {"seed", merge_seed, NULL, "The seed of its sketches.", NULL},
+    {0}};
+
+#define TYPE(name, type, init, getters, text) \
+    static PyType_Slot name##_slots[] = { \
+        {Py_tp_doc, type text}, {Py_tp_new, new_object}, {Py_tp_dealloc, free_object}, {Py_tp_init, init}, {Py_tp_methods, name##_methods}, \
+        {Py_tp_getset, getters}, {0, NULL}}; \
+    PyType_Spec name##_spec = {"kaftanclay._native." type, sizeof(Object), 0, Py_TPFLAGS_DEFAULT | Py_TPFLAGS_BASETYPE, name##_slots};
+#define UNION_DOC "(lg_k=12, seed=9001)\n--\n\nA union of any number of sketches, in any order."
+#define INTERSECTION_DOC "(seed=9001)\n--\n\nAn intersection of any number of sketches, in any order."
+TYPE(union, "Union", union_init, union_getters, UNION_DOC)
+TYPE(intersection, "Intersection", intersection_init, intersection_getters, INTERSECTION_DOC)
+TYPE(sums_union, "SumsUnion", union_init, union_getters, UNION_DOC)
+TYPE(sums_intersection, "SumsIntersection", intersection_init, intersection_getters, INTERSECTION_DOC)
