@@ -1,0 +1,118 @@
+"""Completions of the program distinct for bash, zsh and fish, from its help (helps.py)."""
+import re
+
+HEAD = "completion for distinct, made from its help"
+
+
+def short(meaning):
+    """The first sentence of a meaning, or what is before its semicolon."""
+    return re.split(r"[.;] ", meaning)[0]
+
+
+def bash(help_text):
+    """For bash. A value may be the next word, or follow =, which bash makes a word of its own."""
+    cases, values = "", {}
+    for command in help_text.commands:
+        flags = [it.flag + ("=" if it.form == "behind" else "") for it in command.options]
+        cases += f"        {command.name}) options='{' '.join([*flags, '--help'])}' ;;\n"
+        for it in command.options:
+            if it.value:
+                mark = "=" if it.form in ("behind", "optional") else "*"
+                values.setdefault((bash_answer(it), mark), set()).add(it.flag)
+    rows = ""
+    for (answer, mark), flags in sorted(values.items()):
+        patterns = " | ".join(f"{flag}:{mark}" for flag in sorted(flags))
+        rows += f"        {patterns})\n            {answer}\n            return\n            ;;\n"
+    names = " ".join([*(it.name for it in help_text.commands), "--help", "--version"])
+    return f"""# bash {HEAD}                                -*- shell-script -*-
+
+_distinct() {{
+    local cur=${{COMP_WORDS[COMP_CWORD]}} prev=${{COMP_WORDS[COMP_CWORD - 1]}} command=${{COMP_WORDS[1]}} mark='' options=''
+    COMPREPLY=()
+    if [ "$COMP_CWORD" -eq 1 ]; then
+        COMPREPLY=($(compgen -W '{names}' -- "$cur"))
+        return
+    fi
+    if [ "$cur" = '=' ]; then
+        cur='' mark='='
+    elif [ "$prev" = '=' ]; then
+        prev=${{COMP_WORDS[COMP_CWORD - 2]}} mark='='
+    fi
+    case $prev:$mark in
+{rows}    esac
+    case $command in
+{cases}    esac
+    if [[ $cur == -* ]]; then
+        COMPREPLY=($(compgen -W "$options" -- "$cur"))
+        [[ ${{COMPREPLY-}} != *= ]] || compopt -o nospace
+    else
+        compopt -o filenames
+        COMPREPLY=($(compgen -f -- "$cur"))
+    fi
+}}
+complete -F _distinct distinct
+"""
+
+
+def bash_answer(option):
+    """The line that answers with an option's values."""
+    if option.value in ("FILE", "DIR"):
+        return f'compopt -o filenames; COMPREPLY=($(compgen -{"f" if option.value == "FILE" else "d"} -- "$cur"))'
+    return f"COMPREPLY=($(compgen -W '{' '.join(option.choices)}' -- \"$cur\"))" if option.choices else ":"
+
+
+def fish(help_text):
+    """For fish."""
+    def quoted(text):
+        return "'" + text.replace("\\", "\\\\").replace("'", "\\'") + "'"
+    first = "complete -c distinct -n __fish_use_subcommand"
+    lines = [f"# fish {HEAD}", "complete -c distinct -l help -d 'print the help'", f"{first} -f -l version -d 'print the version'"]
+    for command in help_text.commands:
+        lines.append(f"{first} -f -a {command.name} -d {quoted(command.line)}")
+        for it in command.options:
+            if it.value == "FILE":
+                kind = "-r -F"
+            elif it.value == "DIR":
+                kind = "-x -a '(__fish_complete_directories)'"
+            elif it.form == "optional":
+                kind = "-f"
+            else:
+                kind = f"-x -a '{' '.join(it.choices)}'" if it.choices else "-x" if it.value else "-f"
+            lines.append(f"complete -c distinct -n '__fish_seen_subcommand_from {command.name}' -l {it.flag[2:]} {kind} -d {quoted(short(it.meaning))}")
+    return "\n".join(lines) + "\n"
+
+
+def zsh(help_text):
+    """For zsh."""
+    def plain(text):
+        return re.sub(r"([\[\]:\\])", r"\\\1", text).replace("'", "'\\''")
+    commands = "\n".join(f"        '{it.name}:{plain(it.line)}'" for it in help_text.commands)
+    cases = ""
+    for command in help_text.commands:
+        rows = []
+        for it in command.options:
+            values = {"FILE": "_files", "DIR": "_files -/"}.get(it.value, f"({' '.join(it.choices)})" if it.choices else " ")
+            form = {"": "", "needed": "=", "behind": "=-", "optional": "=-"}[it.form]
+            message = {"": "", "needed": f":{it.value}:{values}", "behind": f":{it.value}:{values}", "optional": f"::{it.value}:{values}"}[it.form]
+            rows.append(f"                '{it.flag}{form}[{plain(short(it.meaning))}]{message}' \\\n")
+        cases += f"        {command.name})\n            _arguments \\\n{''.join(rows)}                '--help[print the options]' \\\n                '*:file:_files'\n            ;;\n"
+    return f"""#compdef distinct
+# zsh {HEAD}
+
+_distinct() {{
+    local -a commands
+    commands=(
+{commands}
+    )
+    if (( CURRENT == 2 )); then
+        _describe command commands
+        return
+    fi
+    shift words
+    (( CURRENT-- ))
+    case $words[1] in
+{cases}    esac
+}}
+
+_distinct "$@"
+"""

@@ -1,0 +1,113 @@
+"""The help of the program distinct, read: its commands, and the options of each with their values."""
+import re
+import subprocess
+import sys
+from dataclasses import dataclass, field
+
+
+@dataclass
+class Option:
+    """An option. Its value is `needed` (the next word, or behind =), `behind` = alone, `optional` behind =, or none, ''."""
+
+    flag: str
+    form: str
+    value: str
+    meaning: str
+
+    @property
+    def choices(self):
+        """The values that the help names one by one."""
+        if self.value == "ORDER":
+            found = re.search(r"\b(\w+), the default, or (\w+)", self.meaning)
+            return self._all(found)
+        if self.value == "Z":
+            return self._all(re.search(r"Z is (\d), (\d) or (\d)", self.meaning))
+        span = re.search(r"\bN from (\d+) to (\d+)(?![\d^])", self.meaning)
+        return [str(it) for it in range(int(span[1]), int(span[2]) + 1)] if span else []
+
+    def _all(self, found):
+        if found is None:
+            sys.exit(f"manual: the help of {self.flag} doesn't name the values of {self.value}: {self.meaning}")
+        return list(found.groups())
+
+
+@dataclass
+class Command:
+    """A command: how it is called, what it does in a line and in whole, what else the help says, and its options."""
+
+    name: str
+    synopsis: str
+    line: str
+    summary: str
+    paragraphs: list = field(default_factory=list)
+    options: list = field(default_factory=list)
+
+
+@dataclass
+class Help:
+    """The help of the program."""
+
+    version: str
+    summary: str
+    rows: list
+    paragraphs: list
+    status: str
+    commands: list
+
+
+def of_program(program):
+    """What a built program prints."""
+    def said(*words):
+        return subprocess.run([program, *words], capture_output=True, text=True, check=True).stdout
+    return read(said("--version"), said("--help"), lambda name: said(name, "--help"))
+
+
+def read(version, text, text_of):
+    """The help, from the version's line, the text of the whole, and a function from a command to its text."""
+    blocks = text.rstrip("\n").split("\n\n")
+    rows = []
+    for line in blocks[1].split("\n"):
+        found = re.fullmatch(r"  (distinct \S.*?)  +(\S.*)", line)
+        if found is None:
+            sys.exit(f"manual: a line of the help is no call and its meaning: {line}")
+        rows.append(found.groups())
+    names = list(dict.fromkeys(words.split()[1] for words, _ in rows if re.match(r"distinct [a-z]+\b", words)))
+    lines = {words.split()[1]: meaning for words, meaning in rows}
+    commands = [command(it, lines[it], text_of(it)) for it in names]
+    status = [it for it in blocks[2:] if it.startswith("Status: ")]
+    others = [it for it in blocks[2:] if not it.startswith("Status: ")]
+    if len(status) != 1 or not commands:
+        sys.exit("manual: the help has no commands, or no paragraph that begins with 'Status: '")
+    return Help(version.split()[1], joined(blocks[0]).partition(": ")[2], rows, [joined(it) for it in others], joined(status[0])[8:], commands)
+
+
+def command(name, line, text):
+    """A command, from its line in the help and from its own help."""
+    head, _, rest = text.partition("\n\n")
+    synopsis, _, summary = joined(head).partition(": ")
+    found = Command(name, synopsis, summary if line.startswith("..") else line, summary)
+    for block in rest.rstrip("\n").split("\n\n"):
+        if not block.startswith("  --"):
+            found.paragraphs.append(joined(block))
+            continue
+        for row in block.split("\n"):
+            if row.startswith("  --"):
+                head, _, meaning = row.strip().partition("  ")
+                found.options.append(option(head, meaning.strip()))
+            else:
+                found.options[-1].meaning += " " + row.strip()
+    if not synopsis.startswith(f"distinct {name}") or not found.options:
+        sys.exit(f"manual: the help of {name} doesn't begin with its call, or has no options")
+    return found
+
+
+def option(head, meaning):
+    found = re.fullmatch(r"(--[a-z0-9-]+)(?:(\[=| |=)([A-Z]+)\]?)?", head)
+    if found is None:
+        sys.exit(f"manual: the help has an option that can't be read: {head}")
+    form = {None: "", " ": "needed", "=": "behind", "[=": "optional"}[found[2]]
+    return Option(found[1], form, found[3] or "", meaning)
+
+
+def joined(block):
+    return " ".join(block.split())
