@@ -1,5 +1,5 @@
 #!/usr/bin/env python3
-"""What the program `distinct` writes, computed from docs/FORMATS.md, docs/SPECIFICATION.md and docs/DISTINCT.md alone.
+"""What the program `distinct` writes, computed from docs/use/FORMATS.md, docs/verify/SPECIFICATION.md and docs/use/DISTINCT.md alone.
 
 checks/lines.py COMMAND [OPTION..] [FILE..] writes it. checks/lines.py --check FOLDER compares it with the cases of a folder,
 such as examples/lines: what is written, to standard output and to files, and the status; where a case has NAME.stderr, also
@@ -335,7 +335,7 @@ def ceil_sqrt(number):
 
 
 def count_bounds(z, retained, theta):
-    """The ends of the Wilson score interval (docs/SPECIFICATION.md, "Bounds of a count")."""
+    """The ends of the Wilson score interval (docs/verify/SPECIFICATION.md, "Bounds of a count")."""
     spread_of_z = z * z * (MAX_THETA - theta)
     scaled = retained * MAX_THETA
     reach = ceil_sqrt(spread_of_z) * ceil_sqrt(spread_of_z + 4 * scaled)
@@ -650,11 +650,11 @@ def seed_of(files, options):
     option, value = options["seed"]
     if option == "--seed":
         return value
-    text = text_of(files, value).decode()
     try:
-        return number_of("--seed", text.removesuffix("\n"))
-    except Fault:
-        raise Failure(f"{called(value)}: is no seed") from None
+        return number_of("--seed", text_of(files, value).decode().strip(" \t\n\f\r"))
+    except (Fault, UnicodeDecodeError):
+        flaw = f"has no seed: a number from 0 to {M64} whose seed hash is not 0"
+        raise Failure(f"{escaped(called(value))}: {flaw}") from None
 
 
 def combined(command, sketches, options, messages):
@@ -673,7 +673,11 @@ def combined(command, sketches, options, messages):
         if not options["--sums"]:
             return unite(2**lg_k, parts)
         return unite_sums(2**lg_k, parts)[0]
-    return meet(parts) if command == "meet" else minus(*parts)
+    sketch = meet(parts) if command == "meet" else minus(*parts)
+    report = report_of(sketch, 2)
+    if not report["exact"]:
+        messages.append("about {estimate} lines, from {lower} to {upper}".format(**report))
+    return sketch
 
 
 def group_line(name, image):

@@ -1,10 +1,12 @@
-"""A second reader of images, written from docs/FORMATS.md, and images that are damaged by chance for it.
+"""A second reader of images, written from docs/use/FORMATS.md, and images that are damaged by chance for it.
 
-`answer(kind, image)` is the line that crates/readings prints for an image: kind is `theta`, or the type of a tuple sketch's
-summaries; `sketch_line(kind, image)` is the same without the image that the sketch is written as. `damaged(chance)` is a
-kind and an image; `chance` is a random.Random.
+`held_by(kind, image, seed_hash)` is the sketch that an image is read as: kind is `theta`, or the type of a tuple sketch's
+summaries (`text` is a byte n and n bytes). `image_of` is the image of a sketch. `answer(kind, image)` is the line that
+crates/readings prints for an image; `sketch_line(kind, image)` is the same without the image that the sketch is written as.
+`damaged(chance)` is a kind and an image; `chance` is a random.Random.
 """
 import struct
+import typing
 
 MAX_THETA = 2**63 - 1
 SEED_HASH = 0x93CC
@@ -17,6 +19,14 @@ class Refused(Exception):
     """The image is refused."""
 
 
+class Held(typing.NamedTuple):
+    """A sketch that isn't empty: its entries are pairs of a hash and a summary, in its order; a theta sketch has None there."""
+
+    theta: int
+    ordered: bool
+    entries: list
+
+
 def number(image, place, size):
     """The number that some bytes spell, the lowest first."""
     if len(image) < place + size:
@@ -24,68 +34,78 @@ def number(image, place, size):
     return int.from_bytes(image[place : place + size], "little")
 
 
-def entries_at(kind, image, place, count):
-    """So many entries from a place on: the hash, the entry as text, and its bytes."""
-    size = 8 if kind == "theta" else 8 + struct.calcsize(SUMMARIES[kind])
-    if len(image) < place + size * count:
+def summary_at(kind, image, place):
+    """The summary that is spelled at a place, and the place behind it."""
+    if kind == "theta":
+        return None, place
+    if kind == "text":
+        end = place + 1 + number(image, place, 1)
+        if len(image) < end:
+            raise Refused
+        return bytes(image[place + 1 : end]), end
+    end = place + struct.calcsize(SUMMARIES[kind])
+    if len(image) < end:
         raise Refused
-    for start in range(place, place + size * count, size):
-        hash = number(image, start, 8)
-        spelled = image[start : start + size]
-        if kind == "theta":
-            yield hash, str(hash), spelled
-        else:
-            (summary,) = struct.unpack_from(SUMMARIES[kind], image, start + 8)
-            yield hash, f"{hash}:{summary}", spelled
+    return struct.unpack_from(SUMMARIES[kind], image, place)[0], end
 
 
-def written_as(kind, theta, ordered, entries):
-    """The image that a sketch is written as, if it isn't empty. The entries are in bytes."""
-    longs = 3 if theta < MAX_THETA else 1 if len(entries) == 1 else 2
+def spelled_summary(kind, summary):
+    """The bytes of a summary."""
+    if kind == "theta":
+        return b""
+    return bytes([len(summary)]) + summary if kind == "text" else struct.pack(SUMMARIES[kind], summary)
+
+
+def entries_at(kind, image, place, count):
+    """So many entries from a place on: pairs of a hash and a summary."""
+    if len(image) < place + 8 * count:
+        raise Refused
+    entries = []
+    for _ in range(count):
+        hash = number(image, place, 8)
+        summary, place = summary_at(kind, image, place + 8)
+        entries.append((hash, summary))
+    return entries
+
+
+def image_of(kind, held, seed_hash=SEED_HASH):
+    """The image that a sketch is written as; the empty one is None."""
     family, sketch_type = (3, 0) if kind == "theta" else (9, 1)
-    head = struct.pack("<BBBBBBH", longs, 3, family, sketch_type, 0, 10 + ORDERED * ordered, SEED_HASH)
+    if held is None:
+        return bytes([1, 3, family, sketch_type, 0, 0x1E, 0, 0])
+    theta, ordered, entries = held
+    longs = 3 if theta < MAX_THETA else 1 if len(entries) == 1 else 2
+    head = struct.pack("<BBBBBBH", longs, 3, family, sketch_type, 0, 10 + ORDERED * ordered, seed_hash)
     head += struct.pack("<II", len(entries), 0) * (longs > 1) + struct.pack("<Q", theta) * (longs > 2)
-    return head + b"".join(entries)
-
-
-def shown(held, theta, ordered, texts):
-    """A sketch's line."""
-    return " ".join([held, str(theta), str(SEED_HASH), "ordered" if ordered else "unordered", *texts])
-
-
-def empty(kind):
-    """The line of the empty sketch."""
-    image = "01030300001e0000" if kind == "theta" else "01030901001e0000"
-    return f"{shown('empty', MAX_THETA, True, [])} image {image}"
+    return head + b"".join(struct.pack("<Q", hash) + spelled_summary(kind, summary) for hash, summary in entries)
 
 
 def sketch(kind, image, place, count, theta, ordered):
-    """The line of a sketch that isn't empty, whose entries begin at a place."""
+    """A sketch that isn't empty, whose entries begin at a place."""
     if not 1 <= theta <= MAX_THETA:
         raise Refused
-    entries = list(entries_at(kind, image, place, count))
-    hashes = [hash for hash, _, _ in entries]
+    entries = entries_at(kind, image, place, count)
+    hashes = [hash for hash, _ in entries]
     if any(not 1 <= hash < theta for hash in hashes) or len(set(hashes)) < count:
         raise Refused
     if ordered and hashes != sorted(hashes):
         raise Refused
-    image = written_as(kind, theta, ordered, [spelled for _, _, spelled in entries])
-    return f"{shown('filled', theta, ordered, [text for _, text, _ in entries])} image {image.hex()}"
+    return Held(theta, ordered, entries)
 
 
-def flagged(kind, image, longs):
+def flagged(kind, image, longs, seed_hash):
     """What version 3 of theta sketches is read as, and both versions of tuple sketches."""
     flags = number(image, 5, 1)
     if flags & EMPTY:
-        return empty(kind)
-    if number(image, 6, 2) != SEED_HASH:
+        return None
+    if number(image, 6, 2) != seed_hash:
         raise Refused
     count = 1 if longs == 1 else number(image, 8, 4)
     theta = number(image, 16, 8) if longs == 3 else MAX_THETA
     return sketch(kind, image, 8 * longs, count, theta, flags & ORDERED != 0)
 
 
-def unflagged(image, version, longs):
+def unflagged(image, version, longs, seed_hash):
     """What versions 1 and 2 of theta sketches are read as."""
     if version == 1:
         longs = 3
@@ -94,14 +114,14 @@ def unflagged(image, version, longs):
     count = 0 if longs == 1 else number(image, 8, 4)
     theta = number(image, 16, 8) if longs == 3 else MAX_THETA
     if count == 0 and theta == MAX_THETA:
-        return empty("theta")
-    if version == 2 and number(image, 6, 2) != SEED_HASH:
+        return None
+    if version == 2 and number(image, 6, 2) != seed_hash:
         raise Refused
     return sketch("theta", image, 8 * longs, count, theta, True)
 
 
-def read(kind, image):
-    """The line of the sketch that an image is read as."""
+def held_by(kind, image, seed_hash=SEED_HASH):
+    """The sketch that an image is read as: None if it is empty."""
     if len(image) < 8:
         raise Refused
     longs, version, family, sketch_type = image[:4]
@@ -110,16 +130,26 @@ def read(kind, image):
     if kind != "theta":
         if family != 9 or version not in (1, 3) or sketch_type not in (1, 5):
             raise Refused
-        return flagged(kind, image, longs)
+        return flagged(kind, image, longs, seed_hash)
     if family != 3 or version not in (1, 2, 3):
         raise Refused
-    return flagged(kind, image, longs) if version == 3 else unflagged(image, version, longs)
+    return flagged(kind, image, longs, seed_hash) if version == 3 else unflagged(image, version, longs, seed_hash)
+
+
+def shown(kind, held):
+    """A sketch's line."""
+    image = image_of(kind, held).hex()
+    if held is None:
+        return f"empty {MAX_THETA} {SEED_HASH} ordered image {image}"
+    texts = [str(hash) if kind == "theta" else f"{hash}:{summary}" for hash, summary in held.entries]
+    order = "ordered" if held.ordered else "unordered"
+    return " ".join(["filled", str(held.theta), str(SEED_HASH), order, *texts, "image", image])
 
 
 def answer(kind, image):
     """The line that answers an image."""
     try:
-        return read(kind, image)
+        return shown(kind, held_by(kind, image))
     except Refused:
         return REFUSED
 

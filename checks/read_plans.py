@@ -1,7 +1,7 @@
 """A second reader of plan texts, written from docs/ (the evaluation after answers.py), and texts that are damaged by chance for it.
 
 `answers(text)` are the lines that crates/readings may print for a text: one line, but for a tuple plan that may be refused by
-its sums. docs/FORMATS.md says which texts are plans and which fault another text has, docs/SPECIFICATION.md what a plan's
+its sums. docs/use/FORMATS.md says which texts are plans and which fault another text has, docs/verify/SPECIFICATION.md what a plan's
 value is. `damaged(chance)` is a text; `chance` is a random.Random.
 """
 MAX_THETA = 2**63 - 1
