@@ -68,8 +68,8 @@ def image_of_lines(lines, lg_k=12):
 
 
 def example(database):
-    """The example of a database in docs/use/FROM-OTHER-LANGUAGES.md, as SQL, and what the page says that it prints."""
-    with open(os.path.join(TOP, "docs", "use", "FROM-OTHER-LANGUAGES.md"), encoding="utf-8") as file:
+    """The example of a database in docs/use/SQL.md, as SQL, and what the page says that it prints."""
+    with open(os.path.join(TOP, "docs", "use", "SQL.md"), encoding="utf-8") as file:
         section = file.read().split(f"\n## {database}\n")[1]
     sql, said = re.search(r"```sql\n(.*?)```\n\nIt prints (.*?)\.\n", section, re.S).groups()
     return sql, re.findall("`(.*?)`", said)

@@ -1,4 +1,4 @@
--- Theta sketches. docs/use/FROM-OTHER-LANGUAGES.md describes the functions.
+-- Theta sketches. docs/use/SQL.md describes the functions.
 \echo Use "CREATE EXTENSION theta_sketch" to load this file. \quit
 
 -- ---- The type: an image, whose text is base64 ----

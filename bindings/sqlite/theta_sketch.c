@@ -1,4 +1,4 @@
-/* Theta sketches in SQLite, and the registration of all functions. docs/use/FROM-OTHER-LANGUAGES.md lists the functions.
+/* Theta sketches in SQLite, and the registration of all functions. docs/use/SQL.md lists the functions.
  *
  * A key is a text or a blob, by its bytes, or an integer, by the eight bytes of its 64 bits. NULLs are passed over. An image is a blob of
  * one sketch under the default seed. SQLite calls one function of a connection at a time, and each aggregate has a state of its own, so no

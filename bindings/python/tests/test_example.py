@@ -1,4 +1,4 @@
-"""The examples of docs/use/FROM-OTHER-LANGUAGES.md and of the texts of the package print what they say."""
+"""The examples of docs/use/PYTHON.md and of the texts of the package print what they say."""
 import doctest
 import importlib
 import os
@@ -13,10 +13,10 @@ NOT_RUN = "# Not run here:"
 
 
 def examples():
-    """Each program of the part on Python, and what the page says that it prints."""
-    with open(os.path.join(TOP, "docs", "use", "FROM-OTHER-LANGUAGES.md"), encoding="utf-8") as file:
-        part = file.read().split("\n## Python\n")[1].split("\n## ")[0]
-    for program, text in re.findall(r"```python\n(.*?)```\n\n(.*?)\n\n", part, re.S):
+    """Each program of the page, and what the page says that it prints."""
+    with open(os.path.join(TOP, "docs", "use", "PYTHON.md"), encoding="utf-8") as file:
+        page = file.read()
+    for program, text in re.findall(r"```python\n(.*?)```\n\n(.*?)\n\n", page, re.S):
         printed = re.match(r"It prints (.*?)[.;](?= |$)", text)
         yield program, re.findall("`(.*?)`", printed[1]) if printed else None
 
