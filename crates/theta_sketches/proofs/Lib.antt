@@ -1,5 +1,4 @@
 pub mod ImageLayouts
 pub mod ReadBack
 pub mod UnitedHashes
-pub mod WholeMaps
 pub mod Streams

@@ -1,6 +1,5 @@
 -- What was written is read as the sketch that was written.
 use Rattle.std.proofs.Common.{◌≡◌, ℕ, ◌<◌, ◌^◌, List, [], ◌∷◌, ◌++◌, subst, append-nil}
-use Rattle.std.specs.Prelude.{Result, Ok, Err, IfOk}
 use Rattle.std.specs.Bool.{⊤}
 use Rattle.std.specs.Int.{w64, to_le_bytes}
 use Rattle.std.specs.List.{AllByRecursion}
@@ -30,7 +29,3 @@ read_back r s w high reads =
     let h : ℕ = r.seed_hash in
     let again : SpellsSketch (written r) h r = subst (λ bytes. SpellsSketch bytes h r) (append-nil (written r)) (spells_again r [] w high) in
     comes_one hash_key SpellsHash (written r) h one_hash (theta_layout (written r) h) s r (theta_from (written r) h reads.spelled) (theta_from (written r) h again)
-
-pub if_ok : {T E : Type 0} (r : Result T E) (P Q : T → Type 0) → ((x : T) → P x → Q x) → IfOk r P → IfOk r Q
-if_ok (Ok x) P Q f p = f x p
-if_ok (Err e) P Q f p = p

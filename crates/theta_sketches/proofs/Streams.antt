@@ -1,7 +1,7 @@
 -- Sketches, unions, intersections and differences against streams of hashes.
-use Rattle.std.proofs.Common.{◌≡◌, ℕ, ◌<◌, ◌≤◌, ◌≢◌, ◌^◌, Bool, true, false, cond, is_some, is_none, IsSome, List, [], ◌∷◌, ◌++◌, map, length, Option, Some, None, inl, inr, refl, sym, ap, ◌∙◌, subst, arith, append-nil}
-use Rattle.std.specs.Prelude.{◌&&◌, ◌==◌, not, filter, Result, Ok, Err, OnOk, OnErr, MatchOption}
-use Rattle.std.specs.List.{AllByRecursion, concat}
+use Rattle.std.proofs.Common.{◌≡◌, ℕ, ◌≤◌, ◌≢◌, ◌^◌, Bool, true, false, cond, is_some, is_none, IsSome, List, [], ◌∷◌, ◌++◌, map, length, Option, Some, None, inl, inr, refl, sym, ap, ◌∙◌, subst, arith, append-nil}
+use Rattle.std.specs.Prelude.{◌&&◌, ◌==◌, not, MatchOption}
+use Rattle.std.specs.List.{concat}
 use Rattle.std.specs.Option.{option_map_or}
 use Rattle.std.proofs.lemmas.List.{append_assoc}
 use Rattle.std.proofs.lemmas.Bool.Decides.{nat_tests}
@@ -9,66 +9,35 @@ use Rattle.sketch_base.specs.Seed.{seed_hash}
 use Rattle.sketch_base.specs.declared.error.ErrorKind.{ErrorKind}
 use Rattle.sketch_base.specs.declared.error.ErrorKind.TheVariants.{OutOfMemory}
 use Rattle.core_laws.specs.declared.TheConstants.{MAX_THETA}
-use Rattle.core_laws.specs.Cuts.{Retained, cut, none_below}
+use Rattle.core_laws.specs.Cuts.{Retained}
 use Rattle.core_laws.specs.Entries.{is_carried, hash_key, hash_step, first_hash}
-use Rattle.core_laws.specs.Insertion.{whole_upsert, after_upsert, after_upserts, is_screened}
+use Rattle.core_laws.specs.Insertion.{whole_upsert, after_upsert, after_upserts}
 use Rattle.core_laws.specs.Lawful.{IsWithin}
-use Rattle.core_laws.specs.Leaf.{kmin}
-use Rattle.core_laws.specs.Maps.{IsAscending, entry_at, with_entry, map_of, below}
+use Rattle.core_laws.specs.Leaf.{kmin, hash_step_of}
+use Rattle.core_laws.proofs.insertions.Leaves.{hash_keeps}
+use Rattle.core_laws.specs.Maps.{entry_at, with_entry, map_of, below}
 use Rattle.core_laws.specs.Operators.{joined, joined_all, unite, common, lacking, both, meet, meet_next, minus}
 use Rattle.core_laws.specs.Parts.{StopsAt}
 use Rattle.core_laws.specs.Samples.{IsSample, AreSamples, AreLawful}
 use Rattle.core_laws.specs.Shown.{Shown, shown_value}
 use Rattle.core_laws.specs.Values.{Sketch, Empty, NonEmpty, cut_value}
-use Rattle.core_compact.specs.CompactState.{Compact, IsAnswer, shown_of}
+use Rattle.core_compact.specs.CompactState.{Compact, IsAnswer}
 use Rattle.core_operators.specs.Intersection.{Intersection, IsAnswerIfAny}
 use Rattle.core_operators.specs.Union.{Union, empty_union, union_value, lowered, all_empty, UnitesHashes, IsBroken, IsUpdateError, update_refusal}
 use Rattle.core_state.specs.Updatable.{Updatable, sketch_value, StopsUpdates}
-use Rattle.core_state.specs.declared.view.SketchView.{SketchView}
 use Rattle.core_table.specs.HashTable.{empty_table, after_hashes, after_reset, trimmed_table}
-use Rattle.core_laws.proofs.maps.Ascending.{ascending-nil, ascending-filter, each-with_entry, each-passes}
-use Rattle.core_laws.proofs.maps.LookUps.{entry_at-append, entry_at-filter_in, entry_at-filter_out, same_map}
-use Rattle.core_laws.proofs.maps.MapsOfLists.{ascending-apart, ascending-map_of, entry_at-map_of}
-use Rattle.core_laws.proofs.cuts.Cuts.{cut_few}
-use Rattle.core_laws.proofs.cuts.LawfulThetas.{cut_lawful}
-use Rattle.core_laws.proofs.cuts.WithinWholeMaps.{within-upsert, cut_below, lawful-le, found_key}
-use Rattle.core_laws.proofs.insertions.Cases.{screened_case}
+use Rattle.core_laws.proofs.maps.Ascending.{ascending-nil, ascending-filter}
+use Rattle.core_laws.proofs.maps.LookUps.{entry_at-append, same_map}
+use Rattle.core_laws.proofs.maps.MapsOfLists.{ascending-apart}
+use Rattle.core_laws.proofs.cuts.WithinWholeMaps.{found_key}
 use Rattle.core_laws.proofs.operators.JoinedMaps.{either, ascending-joined, entry_at-joined}
 use Rattle.core_laws.proofs.operators.CommonMaps.{ascending-common, entry_at-common}
 use Rattle.core_laws.proofs.operators.Samples.{meet_samples, minus_samples}
 use Rattle.core_compact.proofs.Answered.{answer-value, answer-seed}
-use Rattle.theta_sketches.specs.Streams.{set_of, set_below, has, shared_hashes, lacking_hashes, shared_by_all, shared_by, value_of, view_value, retained_of, IsSampleOf, IsPartOf, IsSketchOf, IsTrimmedOf, IsUnionOf, IsUnionOfSamples, ArePartsOf, SamplesShared, IsIntersectionOf, GivesMore, GivesNothing}
-use Rattle.theta_sketches.specs.View.{view_shows, view_sequence}
-use Rattle.theta_sketches.specs.WholeMaps.{IsUnionOfMap}
-use Rattle.theta_sketches.proofs.WholeMaps.{and_left, and_right, made_again, new-sketch, copy-given, reset-given, trimmed-given, trimmed-again, part-of, fewer-part, least-part, cut-sample, new-union, lowered-given, fewer-union, parts-given, sample-given}
-
--- what a set of hashes has at a hash
-at-filter : (p : ℕ → Bool) (xs : List ℕ) (q : ℕ) → entry_at hash_key (filter p xs) q ≡ cond (p q) (entry_at hash_key xs q) None
-at-filter p xs q =
-    (elim (p q) as (λ b. p q ≡ b → entry_at hash_key (filter p xs) q ≡ cond b (entry_at hash_key xs q) None) [
-      | true ↦ λ e. entry_at-filter_in hash_key p xs q (λ x same. ap p same ∙ e)
-      | false ↦ λ e. entry_at-filter_out hash_key p xs q (λ x same. ap p same ∙ e)
-    ]) refl
-
-at-set_of : (hs : List ℕ) (q : ℕ) → entry_at hash_key (set_of hs) q ≡ cond (is_carried q) (entry_at hash_key hs q) None
-unfolding set_of
-at-set_of hs q = entry_at-map_of hash_key (filter is_carried hs) q ∙ at-filter is_carried hs q
-
-ascending-set_of : (hs : List ℕ) → IsAscending hash_key (set_of hs)
-unfolding set_of
-ascending-set_of hs = ascending-map_of hash_key (filter is_carried hs)
-
-carried-map_of : (P : ℕ → Type 0) (xs : List ℕ) → AllByRecursion P xs → AllByRecursion P (map_of hash_key xs)
-carried-map_of P [] all = tt
-carried-map_of P (x ∷ xs) all = each-with_entry hash_key P (map_of hash_key xs) x (carried-map_of P xs all.1) all.0
-
-carried-set_of : (hs : List ℕ) → AllByRecursion (λ h. h < MAX_THETA) (set_of hs)
-unfolding set_of
-carried-set_of hs = carried-map_of (λ h. h < MAX_THETA) (filter is_carried hs) (each-passes (λ h. h < MAX_THETA) is_carried (λ x e. grind (arith, nat_tests)) hs)
-
-pub none-set_of : set_of [] ≡ []
-unfolding set_of
-none-set_of = refl
+use Rattle.theta_sketches.specs.Streams.{set_of, set_below, has, shared_hashes, lacking_hashes, shared_by_all, shared_by, value_of, retained_of, IsSampleOf, IsPartOf, IsSketchOf, IsTrimmedOf, IsUnionOf, IsUnionOfSamples, ArePartsOf, SamplesShared, IsIntersectionOf, GivesMore, GivesNothing}
+use Rattle.core_streams.specs.WholeMaps.{IsUnionOfMap}
+use Rattle.core_streams.proofs.HashSets.{at-filter, at-set_of, ascending-set_of, carried-set_of, none-set_of}
+use Rattle.core_streams.proofs.WholeMaps.{and_left, and_right, made_again, new-sketch, copy-given, reset-given, trimmed-given, trimmed-again, part-of, fewer-part, least-part, kmin-part, answer-retained, meet-one, value-empty, empty-value, empty-union, cut-empty, settings_kept, within-add, cut-sample, new-union, lowered-given, fewer-union, parts-given, sample-given}
 
 -- the sets of two streams, joined, are the set of both
 either_cond : (b : Bool) (o p : Option ℕ) → either first_hash (cond b o None) (cond b p None) ≡ cond b (option_map_or Some o p) None
@@ -169,14 +138,7 @@ one_more hs h =
 
 -- one hash more, and many in turn
 within-hash : (k start h : ℕ) (v : Retained ℕ) (w : List ℕ) → start ≤ MAX_THETA → IsWithin hash_key k start v w → IsWithin hash_key k start (after_upsert hash_key k h (hash_step h) v) (with_hash h w)
-within-hash k start h v w high within =
-    (elim (is_carried h) as (λ b. is_carried h ≡ b → IsWithin hash_key k start (after_upsert hash_key k h (hash_step h) v) (cond b (whole_upsert hash_key h (hash_step h) w) w)) [
-      | true ↦ λ e. let low : 0 < h = grind (arith, nat_tests) in within-upsert hash_key k start h (hash_step h) v w low (λ x same. same) (λ x made. cc) within
-      | false ↦ λ e.
-          let below_start : v.theta ≤ start = lawful-le hash_key w k start v.theta within.lawful in
-          let screened : is_screened h v.theta ≡ true = grind (arith, nat_tests) in
-          rw (screened_case hash_key k h (hash_step h) v screened).after_is within
-    ]) refl
+within-hash k start h v w high within = within-add hash_key (hash_step_of {V = Unit {0}}) hash_keeps k start h tt v w high within
 
 within-hashes : (k start : ℕ) (hs before : List ℕ) (v : Retained ℕ) → start ≤ MAX_THETA → IsWithin hash_key k start v (set_of before) → IsWithin hash_key k start (after_upserts hash_key k hash_step hs v) (set_of (before ++ hs))
 within-hashes k start [] before v high within = rw (append-nil before) within
@@ -184,20 +146,6 @@ within-hashes k start (h ∷ hs) before v high within =
     let one : IsWithin hash_key k start (after_upsert hash_key k h (hash_step h) v) (set_of (before ++ h ∷ [])) = subst (IsWithin hash_key k start (after_upsert hash_key k h (hash_step h) v)) (one_more before h) (within-hash k start h v (set_of before) high within) in
     subst (λ hashes. IsWithin hash_key k start (after_upserts hash_key k hash_step hs (after_upsert hash_key k h (hash_step h) v)) (set_of hashes)) (append_assoc before (h ∷ []) hs)
     (within-hashes k start hs (before ++ h ∷ []) (after_upsert hash_key k h (hash_step h) v) high one)
-
--- a sketch or a union is empty just if its value is Empty
-value-empty : (s : Updatable ℕ) → s.empty ≡ true → sketch_value s ≡ Empty
-value-empty s e = ap (λ b. cond b Empty (NonEmpty s.map.kept)) e
-
-empty-value : (s : Updatable ℕ) → sketch_value s ≡ Empty → s.empty ≡ true
-empty-value s = elim s.empty as (λ b. cond b Empty (NonEmpty s.map.kept) ≡ Empty → b ≡ true) [ true ↦ λ e. refl | false ↦ λ e. absurd (cc) ]
-
-empty-union : {P : Type 0} (u : Union ℕ P) → union_value hash_key u ≡ Empty → u.empty ≡ true
-empty-union u = elim u.empty as (λ b. cond b Empty (NonEmpty (cut hash_key (2 ^ u.lg_k) u.content.entries u.content.theta)) ≡ Empty → b ≡ true) [ true ↦ λ e. refl | false ↦ λ e. absurd (cc) ]
-
-cut-empty : (k : ℕ) (value : Sketch ℕ) → cut_value hash_key k value ≡ Empty → value ≡ Empty
-cut-empty k Empty e = refl
-cut-empty k (NonEmpty v) e = absurd (cc)
 
 module _ (lg_k start seed : ℕ) where
   -- a new sketch was given nothing, and so was one after a reset
@@ -211,7 +159,7 @@ module _ (lg_k start seed : ℕ) where
   pub sketch-copied : (old new : Updatable ℕ) (hashes : List ℕ) → new.empty ≡ old.empty → new.map ≡ old.map → IsSketchOf lg_k start seed old hashes → IsSketchOf lg_k start seed new hashes
   sketch-copied old new hashes same copied is = record {
     of_map = copy-given hash_key lg_k start seed old new (set_of hashes) same copied is.of_map;
-    none = λ e. is.none (value-empty old (sym same ∙ empty-value new e));
+    none = λ e. is.none (value-empty hash_key old (sym same ∙ empty-value hash_key new e));
   }
 
   -- a trim keeps what a sketch was given, and leaves no more than its nominal entries
@@ -219,7 +167,7 @@ module _ (lg_k start seed : ℕ) where
   sketch-trimmed old new hashes same after is = record {
     sketch = record {
       of_map = trimmed-given hash_key lg_k start seed old new (set_of hashes) same after is.of_map;
-      none = λ e. is.none (value-empty old (sym same ∙ empty-value new e));
+      none = λ e. is.none (value-empty hash_key old (sym same ∙ empty-value hash_key new e));
     };
     no_more = trimmed-again hash_key lg_k start seed old new (set_of hashes) after is.of_map;
   }
@@ -230,7 +178,7 @@ module _ (lg_k start seed : ℕ) where
       let m = is.of_map in
       let lg : old.map.lg_nom ≡ lg_k = ap (λ t. t.lg_nom) m.made_with in
       let kept : new.map.kept ≡ after_upserts hash_key (2 ^ lg_k) hash_step more old.map.kept = ap (λ t. t.kept) after ∙ ap (λ (n : ℕ). after_upserts hash_key (2 ^ n) hash_step more old.map.kept) lg in
-      let none : new.empty ≡ true → hashes ++ more ≡ [] = λ e. rw ((empty e).1, append-nil hashes) (is.none (value-empty old (empty e).0)) in
+      let none : new.empty ≡ true → hashes ++ more ≡ [] = λ e. rw ((empty e).1, append-nil hashes) (is.none (value-empty hash_key old (empty e).0)) in
       record {
         of_map = record {
           made_with = made_again lg_k start seed old.map new.map m.made_with (after ∙ ap (λ v. record old.map { kept = v }) (sym (ap (λ t. t.kept) after)));
@@ -239,7 +187,7 @@ module _ (lg_k start seed : ℕ) where
           kept = rw kept (within-hashes (2 ^ lg_k) start more hashes old.map.kept m.start_high m.kept);
           none = λ e. ap set_of (none e) ∙ none-set_of;
         };
-        none = λ e. none (empty-value new e);
+        none = λ e. none (empty-value hash_key new e);
       }
 
   -- the value of a sketch is a part of its stream
@@ -304,14 +252,9 @@ module _ {P : Type 0} where
         | false ↦ λ e p. record {
           of_map = subst (IsUnionOfMap hash_key lg_k k start new) (sets_joined hashes more)
               (parts-given hash_key first_hash (λ x y same. same) lg_k k start old new (shown_value hash_key s listing ∷ []) (set_of hashes) (set_of more ∷ []) (united e) (ap (λ u. u.lg_k) (made e)) (ap (λ u. u.start) (made e)) is.of_map (part.part.sample, tt) (part.part.lawful, tt));
-          none = λ none. absurd (let filled : new.empty ≡ false = ap (λ u. u.empty) (made e) in let bare : new.empty ≡ true = empty-union new none in cc);
+          none = λ none. absurd (let filled : new.empty ≡ false = ap (λ u. u.empty) (made e) in let bare : new.empty ≡ true = empty-union hash_key new none in cc);
         }
       ]) refl part
-
-  -- an update keeps the settings
-  settings_kept : (old new : Union ℕ P) (b : Bool) → (b ≡ true → new ≡ old) → (b ≡ false → new ≡ record old { empty = false; content = new.content }) → (new.lg_k ≡ old.lg_k) × (new.start ≡ old.start)
-  settings_kept old new true skipped made = (ap (λ u. u.lg_k) (skipped refl), ap (λ u. u.start) (skipped refl))
-  settings_kept old new false skipped made = (ap (λ u. u.lg_k) (made refl), ap (λ u. u.start) (made refl))
 
   -- a union that was given many parts more, at once
   pub union-given-all : {V : Type 0} (lg_k k start : ℕ) (old new : Union ℕ P) (shown : V → Shown) (listing : V → List ℕ) (views : List V) (hashes : List ℕ) (streams : List (List ℕ)) → (all_empty shown views ≡ true → new ≡ old) →
@@ -326,14 +269,14 @@ module _ {P : Type 0} where
         none = λ none.
             (elim (all_empty shown views) as (λ b. all_empty shown views ≡ b → hashes ++ concat streams ≡ []) [
               | true ↦ λ e. rw (none-given k start shown listing views streams e parts, append-nil hashes) (is.none (ap (λ u. union_value hash_key u) (sym (skipped e)) ∙ none))
-              | false ↦ λ e. absurd (let filled : new.empty ≡ false = ap (λ u. u.empty) (made e) in let bare : new.empty ≡ true = empty-union new none in cc)
+              | false ↦ λ e. absurd (let filled : new.empty ≡ false = ap (λ u. u.empty) (made e) in let bare : new.empty ≡ true = empty-union hash_key new none in cc)
             ]) refl;
       }
 
   pub union-lowered : (lg_k k start lg less : ℕ) (old new : Union ℕ P) (hashes : List ℕ) → new ≡ lowered hash_key lg old → union_value hash_key new ≡ cut_value hash_key (2 ^ lg) (union_value hash_key old) → less ≤ k → less ≤ 2 ^ lg → IsUnionOf lg_k k start old hashes → IsUnionOf lg less start new hashes
   union-lowered lg_k k start lg less old new hashes after value fewer enough is = record {
     of_map = lowered-given hash_key lg_k k start lg less old new (set_of hashes) after value fewer enough is.of_map;
-    none = λ none. is.none (cut-empty (2 ^ lg) (union_value hash_key old) (sym value ∙ none));
+    none = λ none. is.none (cut-empty hash_key (2 ^ lg) (union_value hash_key old) (sym value ∙ none));
   }
 
   -- the same of samples
@@ -364,10 +307,6 @@ module _ {P : Type 0} where
   pub union-part : (lg_k k start : ℕ) (u : Union ℕ P) (hashes : List ℕ) → IsUnionOf lg_k k start u hashes → IsPartOf k start (union_value hash_key u) hashes
   union-part lg_k k start u hashes is = record { part = is.of_map.part; none = is.none }
 
--- the value of a view of a compact sketch
-pub viewed : {Z S : Type 0} (view : SketchView ℕ Z S) (s : Compact ℕ) → view_shows view ≡ shown_of hash_key s → view_sequence view ≡ s.entries → view_value view ≡ value_of s
-viewed view s shows sequence = ap (λ sh. shown_value hash_key sh (view_sequence view)) shows ∙ ap (λ xs. shown_value hash_key (shown_of hash_key s) xs) sequence
-
 -- a result of a part is a part
 pub answer-part : (k start h : ℕ) (requested : Bool) (value : Sketch ℕ) (s : Compact ℕ) (hashes : List ℕ) → IsAnswer hash_key value h requested s → IsPartOf k start value hashes → IsPartOf k start (value_of s) hashes
 answer-part k start h requested value s hashes answer is = subst (λ v. IsPartOf k start v hashes) (sym (answer-value hash_key value h requested s answer)) is
@@ -377,21 +316,8 @@ pub answer-least : (k start h : ℕ) (requested : Bool) (value : Sketch ℕ) (s 
 answer-least k start h requested value s hashes answer same is some = answer-value hash_key value h requested s answer ∙ least-part hash_key k start value (set_of hashes) same is.part (λ none. some (is.none none))
 
 -- and if the start is the greatest, an ordered result has them also if it is Empty
-abbrev inner : Sketch ℕ → Retained ℕ
-inner Empty = none_below 0
-inner (NonEmpty v) = v
-
 pub answer-kmin : (k h : ℕ) (requested : Bool) (value : Sketch ℕ) (s : Compact ℕ) (hashes : List ℕ) → IsAnswer hash_key value h requested s → requested ≡ true → cut_value hash_key k value ≡ value → IsPartOf k MAX_THETA value hashes → retained_of s ≡ kmin k (set_of hashes) MAX_THETA
-answer-kmin k h requested Empty s hashes answer ordered same is = rw (answer, is.part.sample.all_below) (sym (cut_few hash_key k [] MAX_THETA (ascending-nil hash_key) (omega arith)))
-answer-kmin k h requested (NonEmpty v) s hashes answer ordered same is =
-    let listed : s.ordered ≡ true = answer.ordered_if ∙ rw ordered refl in
-    let in_order : s.entries ≡ v.entries = answer.in_order listed in
-    let whole : retained_of s ≡ v = λ i. record { entries = in_order i; theta = answer.same_theta i } in
-    whole
-    ∙ sym (ap inner same)
-    ∙ ap (λ xs. cut hash_key k xs v.theta) is.part.sample.all_below
-    ∙ cut_below hash_key k (set_of hashes) v.theta is.part.sample.ascending
-    ∙ cut_lawful hash_key (set_of hashes) k MAX_THETA v.theta is.part.sample.ascending is.part.lawful
+answer-kmin k h requested value s hashes answer ordered same is = answer-retained hash_key value h requested s answer ordered ∙ kmin-part hash_key k value (set_of hashes) same is.part
 
 -- a result of a sample is a sample; an ordered one lists it
 pub answer-sample : (h : ℕ) (requested : Bool) (value : Sketch ℕ) (s : Compact ℕ) (hashes : List ℕ) → IsAnswer hash_key value h requested s → IsSampleOf value hashes → IsSampleOf (value_of s) hashes
@@ -418,12 +344,8 @@ shared_more : (hashes : List ℕ) (streams : List (List ℕ)) (more : List ℕ) 
 shared_more hashes [] more = refl
 shared_more hashes (others ∷ streams) more = shared_more (shared_hashes hashes others) streams more
 
-meet_one : (v : Sketch ℕ) → meet hash_key first_hash (v ∷ []) ≡ v
-meet_one Empty = refl
-meet_one (NonEmpty u) = refl
-
 met : (o : Option (Sketch ℕ)) (v : Sketch ℕ) (streams : List (List ℕ)) (more : List ℕ) → SamplesShared o streams → IsSampleOf v more → SamplesShared (Some (meet_next hash_key first_hash o v)) (streams ++ more ∷ [])
-met None v streams more none sample = rw (none, meet_one v) ((λ e. absurd (cc)), sample)
+met None v streams more none sample = rw (none, meet-one hash_key first_hash v) ((λ e. absurd (cc)), sample)
 met (Some u) v [] more some sample = absurd (some.0 refl)
 met (Some u) v (hashes ∷ streams) more some sample = (
   (λ e. absurd (cc)),
@@ -458,20 +380,3 @@ shared-below (Some v) h requested s streams answer ordered is = answer-below h r
 -- the difference of samples samples what the other lacks
 pub minus-sample : (a b : Sketch ℕ) (hashes others : List ℕ) → IsSampleOf a hashes → IsSampleOf b others → IsSampleOf (minus hash_key hash_key a b) (lacking_hashes hashes others)
 minus-sample a b hashes others sa sb = record { sample = subst (IsSample hash_key (minus hash_key hash_key a b)) (sets_lack hashes others) (minus_samples hash_key hash_key a b (set_of hashes) (set_of others) sa.sample sb.sample) }
-
--- facts on a call that is returned as it is
-pub on_ok : {T E P Q : Type 0} (r : Result T E) → (P → Q) → OnOk r P → OnOk r Q
-on_ok (Ok x) f p = f p
-on_ok (Err e) f p = p
-
-pub on_both : {T E P Q R : Type 0} (r : Result T E) → (P → Q → R) → OnOk r P → OnOk r Q → OnOk r R
-on_both (Ok x) f p q = f p q
-on_both (Err e) f p q = p
-
-pub on_err : {T E P Q : Type 0} (r : Result T E) → (P → Q) → OnErr r P → OnErr r Q
-on_err (Ok x) f p = p
-on_err (Err e) f p = f p
-
-pub on_both_err : {T E P Q R : Type 0} (r : Result T E) → (P → Q → R) → OnErr r P → OnErr r Q → OnErr r R
-on_both_err (Ok x) f p q = p
-on_both_err (Err e) f p q = f p q

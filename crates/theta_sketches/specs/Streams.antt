@@ -1,11 +1,9 @@
 -- Sketches, views and operators against the streams of hashes that they were given. A stream is a list of hashes, in
 -- their order. The words that a contract needs beside these are named here too.
 use Rattle.std.specs.Prelude.{ℕ, ◌≡◌, ◌≢◌, ◌==◌, ◌^◌, Bool, not, is_some, List, [], ◌∷◌, ◌++◌, filter, find, Option, Some, None}
-use Rattle.std.specs.List.{concat}
 use Rattle.core_compact.specs.CompactState.{compact_value}
 use Rattle.core_laws.specs.Cuts.{Retained}
-use Rattle.core_laws.specs.Entries.{is_carried, hash_key}
-use Rattle.core_laws.specs.Maps.{below, map_of}
+use Rattle.core_laws.specs.Entries.{hash_key}
 use Rattle.core_laws.specs.Samples.{IsSample}
 use Rattle.core_laws.specs.Shown.{shown_value}
 use Rattle.core_laws.specs.Values.{cut_value}
@@ -14,7 +12,7 @@ use Rattle.core_operators.specs.Union.{union_value}
 use Rattle.core_state.specs.Updatable.{Updatable, sketch_value}
 use Rattle.core_state.specs.declared.view.SketchView.{SketchView}
 use Rattle.theta_sketches.specs.View.{view_shows, view_sequence}
-use Rattle.theta_sketches.specs.WholeMaps.{IsPart, IsSketchOfMap, IsUnionOfMap}
+use Rattle.core_streams.specs.WholeMaps.{IsPart, IsSketchOfMap, IsUnionOfMap}
 pub use Rattle.sketch_base.specs.Seed.{hash_of, seed_hash}
 pub use Rattle.sketch_base.specs.declared.seed.TheConstants.{DEFAULT_UPDATE_SEED}
 pub use Rattle.core_compact.specs.CompactState.{Compact}
@@ -22,18 +20,8 @@ pub use Rattle.core_laws.specs.Leaf.{kmin}
 pub use Rattle.core_laws.specs.Values.{Sketch, Empty, NonEmpty}
 pub use Rattle.core_laws.specs.declared.TheConstants.{MAX_THETA}
 pub use Rattle.core_operators.specs.Union.{Union}
-
--- the hash of a value under a seed; std's `Hash` writes its bytes in pieces
-abbrev pub value_hash : (seed : ℕ) → (pieces : List (List ℕ)) → ℕ
-value_hash seed pieces = hash_of seed (concat pieces)
-
--- the set of a stream: its hashes from 1 to below the greatest theta, each once, ascending
-unfoldable pub set_of : List ℕ → List ℕ
-set_of hashes = map_of hash_key (filter is_carried hashes)
-
--- the set of a stream, below a theta
-abbrev pub set_below : (theta : ℕ) → List ℕ → List ℕ
-set_below theta hashes = below hash_key (set_of hashes) theta
+pub use Rattle.core_streams.specs.HashSets.{value_hash, set_below}
+unfoldable pub use Rattle.core_streams.specs.HashSets.{set_of}
 
 -- whether a stream has a hash
 abbrev pub has : (hashes : List ℕ) → ℕ → Bool

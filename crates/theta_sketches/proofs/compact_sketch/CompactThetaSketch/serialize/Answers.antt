@@ -1,6 +1,7 @@
 use Rattle.std.proofs.Common.{◌<◌, ◌^◌, ap, ◌∙◌, subst, arith}
 use Rattle.theta_sketches.specs.Image.{Reads, written}
-use Rattle.theta_sketches.proofs.ReadBack.{read_back, if_ok}
+use Rattle.core_streams.proofs.Calls.{if_ok}
+use Rattle.theta_sketches.proofs.ReadBack.{read_back}
 use Rattle.theta_sketches.proofs.compact_sketch.CompactThetaSketch.serialize.Goals as goal
 
 pub returns-clause-read_back : goal.returns-clause-read_back

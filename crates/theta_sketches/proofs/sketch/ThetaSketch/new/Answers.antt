@@ -1,4 +1,4 @@
-use Rattle.theta_sketches.proofs.WholeMaps.{start_fits}
+use Rattle.core_streams.proofs.WholeMaps.{start_fits}
 use Rattle.theta_sketches.proofs.Streams.{sketch-made}
 use Rattle.theta_sketches.proofs.sketch.ThetaSketch.new.Goals as goal
 

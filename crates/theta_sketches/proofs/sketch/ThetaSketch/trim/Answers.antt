@@ -1,4 +1,5 @@
-use Rattle.theta_sketches.proofs.Streams.{sketch-trimmed, gives-nothing, on_ok, on_err}
+use Rattle.core_streams.proofs.Calls.{on_ok, on_err}
+use Rattle.theta_sketches.proofs.Streams.{sketch-trimmed, gives-nothing}
 use Rattle.theta_sketches.proofs.sketch.ThetaSketch.trim.Goals as goal
 
 pub returns-clause-given : goal.returns-clause-given

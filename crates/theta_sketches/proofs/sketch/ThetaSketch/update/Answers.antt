@@ -1,6 +1,7 @@
 use Rattle.std.proofs.Common.{ℕ, [], ◌∷◌, ◌++◌, ap, ◌∙◌, subst}
 use Rattle.theta_sketches.specs.Streams.{value_hash, IsSketchOf}
-use Rattle.theta_sketches.proofs.Streams.{seed-is, on_ok}
+use Rattle.core_streams.proofs.Calls.{on_ok}
+use Rattle.theta_sketches.proofs.Streams.{seed-is}
 use Rattle.theta_sketches.proofs.sketch.ThetaSketch.update.Goals as goal
 
 pub returns-clause-given : goal.returns-clause-given

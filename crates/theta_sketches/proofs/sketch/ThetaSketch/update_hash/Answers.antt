@@ -1,4 +1,5 @@
-use Rattle.theta_sketches.proofs.Streams.{gives-hash, gives-nothing, on_both, on_both_err}
+use Rattle.core_streams.proofs.Calls.{on_both, on_both_err}
+use Rattle.theta_sketches.proofs.Streams.{gives-hash, gives-nothing}
 use Rattle.theta_sketches.proofs.sketch.ThetaSketch.update_hash.Goals as goal
 
 pub returns-clause-given : goal.returns-clause-given

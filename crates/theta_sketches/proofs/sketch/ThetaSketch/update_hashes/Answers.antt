@@ -1,4 +1,5 @@
-use Rattle.theta_sketches.proofs.Streams.{gives-hashes, stops-given, on_both, on_err}
+use Rattle.core_streams.proofs.Calls.{on_both, on_err}
+use Rattle.theta_sketches.proofs.Streams.{gives-hashes, stops-given}
 use Rattle.theta_sketches.proofs.sketch.ThetaSketch.update_hashes.Goals as goal
 
 pub returns-clause-given : goal.returns-clause-given

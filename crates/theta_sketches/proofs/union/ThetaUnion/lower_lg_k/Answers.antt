@@ -1,4 +1,5 @@
-use Rattle.theta_sketches.proofs.Streams.{union-lowered, samples-lowered, on_ok, on_both}
+use Rattle.core_streams.proofs.Calls.{on_ok, on_both}
+use Rattle.theta_sketches.proofs.Streams.{union-lowered, samples-lowered}
 use Rattle.theta_sketches.proofs.union.ThetaUnion.lower_lg_k.Goals as goal
 
 pub returns-clause-given : goal.returns-clause-given

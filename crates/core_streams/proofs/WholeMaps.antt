@@ -1,28 +1,40 @@
 -- Sketches and unions against the whole map of what they were given.
-use Rattle.std.proofs.Common.{◌≡◌, ℕ, ◌≤◌, ◌≢◌, ◌^◌, Bool, true, false, cond, eqb, List, [], ◌∷◌, Some, None, inl, inr, refl, sym, ap, ◌∙◌, subst, arith}
+use Rattle.std.proofs.Common.{◌≡◌, ℕ, ◌<◌, ◌≤◌, ◌≢◌, ◌^◌, Bool, true, false, cond, eqb, List, [], ◌∷◌, Some, None, inl, inr, refl, sym, ap, ◌∙◌, subst, arith}
 use Rattle.std.specs.Prelude.{◌&&◌, nat_le}
+use Rattle.std.specs.List.{AllByRecursion}
+use Rattle.std.specs.Option.{option_map_or}
 use Rattle.std.proofs.lemmas.Bool.Decides.{nat_tests}
 use Rattle.sketch_base.specs.declared.error.ErrorKind.TheVariants.{InvalidArgument}
 use Rattle.core_laws.specs.declared.TheConstants.{MAX_THETA}
 use Rattle.core_laws.specs.Cuts.{Retained, cut, none_below}
-use Rattle.core_laws.specs.Entries.{KeepsKey}
-use Rattle.core_laws.specs.Lawful.{IsLawful}
-use Rattle.core_laws.specs.Maps.{IsAscending}
-use Rattle.core_laws.specs.Operators.{joined, joined_all, unite}
+use Rattle.core_compact.specs.CompactState.{Compact, IsAnswer, shown_of, compact_value}
+use Rattle.core_laws.specs.Entries.{KeepsKey, is_carried}
+use Rattle.core_laws.specs.Insertion.{whole_upsert, after_upsert, is_screened}
+use Rattle.core_laws.specs.Lawful.{IsLawful, IsWithin}
+use Rattle.core_laws.specs.Leaf.{KeepsHashes, whole_step}
+use Rattle.core_laws.specs.declared.leaf.LeafStep.TheVariants.{Add}
+use Rattle.core_laws.specs.Maps.{IsAscending, below, entry_at, with_entry}
+use Rattle.core_laws.specs.Operators.{joined, joined_all, unite, meet}
 use Rattle.core_laws.specs.Samples.{IsAllBelow, IsSample, IsLawfulValue, AreSamples, AreLawful}
 use Rattle.core_laws.specs.Settings.{settings_refusal}
+use Rattle.core_laws.specs.Shown.{shown_value}
+use Rattle.core_laws.specs.Step.{Step}
 use Rattle.core_laws.specs.Values.{Sketch, Empty, NonEmpty, cut_value}
 use Rattle.core_operators.specs.Union.{Union, empty_union, union_value, lowered}
 use Rattle.core_state.specs.Updatable.{Updatable, sketch_value}
-use Rattle.core_table.specs.HashTable.{MapTable, empty_table, after_reset, trimmed_table}
-use Rattle.core_laws.proofs.maps.Ascending.{ascending-nil, ascending-filter}
-use Rattle.core_laws.proofs.cuts.Cuts.{cut_is_below}
+use Rattle.core_state.specs.View.{shows, sequence}
+use Rattle.core_state.specs.declared.view.SketchView.{SketchView}
+use Rattle.core_table.specs.HashTable.{MapTable, empty_table, after_insertion, after_reset, trimmed_table}
+use Rattle.core_laws.proofs.maps.Ascending.{ascending-nil, ascending-filter, each-with_entry}
+use Rattle.core_laws.proofs.maps.LookUps.{entry_at-with_entry}
+use Rattle.core_laws.proofs.cuts.Cuts.{cut_few, cut_is_below}
 use Rattle.core_laws.proofs.cuts.LawfulThetas.{cut_lawful}
-use Rattle.core_laws.proofs.cuts.WithinWholeMaps.{within-cut, cut_below, cut_of_cut, lawful-le}
+use Rattle.core_laws.proofs.cuts.WithinWholeMaps.{within-cut, within-upsert, cut_below, cut_of_cut, lawful-le, found_key}
+use Rattle.core_laws.proofs.insertions.Cases.{screened_case}
 use Rattle.core_laws.proofs.operators.JoinedMaps.{joined-nil}
 use Rattle.core_laws.proofs.operators.Samples.{union_samples, union_stays_lawful, lawful_less}
 use Rattle.core_laws.proofs.operators.Unions.{cut_of_union}
-use Rattle.theta_sketches.specs.WholeMaps.{IsPart, IsSketchOfMap, IsUnionOfMap}
+use Rattle.core_streams.specs.WholeMaps.{IsPart, IsSketchOfMap, IsUnionOfMap}
 
 -- settings that are accepted
 accepted : (c : Bool) → cond c None (Some InvalidArgument) ≡ None → c ≡ true
@@ -84,6 +96,106 @@ module _ {X : Type 0} (key : X → ℕ) where
       ap (λ xs. cut key k xs v.theta) is.sample.all_below
       ∙ cut_below key k w v.theta is.sample.ascending
       ∙ cut_lawful key w k start v.theta is.sample.ascending is.lawful)
+
+  -- and if the start is the greatest, also a part that is Empty
+  abbrev pub retained_in : Sketch X → Retained X
+  retained_in Empty = none_below MAX_THETA
+  retained_in (NonEmpty v) = v
+
+  pub kmin-part : (k : ℕ) (value : Sketch X) (w : List X) → cut_value key k value ≡ value → IsPart key k MAX_THETA value w → retained_in value ≡ cut key k w MAX_THETA
+  kmin-part k Empty w same is = rw is.sample.all_below (sym (cut_few key k [] MAX_THETA (ascending-nil key) (omega arith)))
+  kmin-part k (NonEmpty v) w same is =
+      sym (ap retained_in same)
+      ∙ ap (λ xs. cut key k xs v.theta) is.sample.all_below
+      ∙ cut_below key k w v.theta is.sample.ascending
+      ∙ cut_lawful key w k MAX_THETA v.theta is.sample.ascending is.lawful
+
+  -- what an ordered result retains is what its value retains
+  pub answer-retained : (value : Sketch X) (h : ℕ) (requested : Bool) (s : Compact X) → IsAnswer key value h requested s → requested ≡ true → record { entries = s.entries; theta = s.theta } ≡ retained_in value
+  answer-retained Empty h requested s answer ordered = ap (λ c. record { entries = c.entries; theta = c.theta }) answer
+  answer-retained (NonEmpty v) h requested s answer ordered =
+      let listed : s.ordered ≡ true = answer.ordered_if ∙ rw ordered refl in
+      let in_order : s.entries ≡ v.entries = answer.in_order listed in
+      λ i. record { entries = in_order i; theta = answer.same_theta i }
+
+  -- a value that samples a whole map retains what is below its theta
+  pub retained-below : (value : Sketch X) (w : List X) → IsSample key value w → (retained_in value).entries ≡ below key w (retained_in value).theta
+  retained-below Empty w is = ap (λ xs. below key xs MAX_THETA) (sym is.all_below)
+  retained-below (NonEmpty v) w is = is.all_below
+
+  -- the intersection of one value
+  pub meet-one : (merges : X → X → X) (v : Sketch X) → meet key merges (v ∷ []) ≡ v
+  meet-one merges Empty = refl
+  meet-one merges (NonEmpty u) = refl
+
+  -- a sketch or a union is empty just if its value is Empty
+  pub value-empty : (s : Updatable X) → s.empty ≡ true → sketch_value s ≡ Empty
+  value-empty s e = ap (λ b. cond b Empty (NonEmpty s.map.kept)) e
+
+  pub empty-value : (s : Updatable X) → sketch_value s ≡ Empty → s.empty ≡ true
+  empty-value s = elim s.empty as (λ b. cond b Empty (NonEmpty s.map.kept) ≡ Empty → b ≡ true) [ true ↦ λ e. refl | false ↦ λ e. absurd (cc) ]
+
+  pub empty-union : {P : Type 0} (u : Union X P) → union_value key u ≡ Empty → u.empty ≡ true
+  empty-union u = elim u.empty as (λ b. cond b Empty (NonEmpty (cut key (2 ^ u.lg_k) u.content.entries u.content.theta)) ≡ Empty → b ≡ true) [ true ↦ λ e. refl | false ↦ λ e. absurd (cc) ]
+
+  pub cut-empty : (k : ℕ) (value : Sketch X) → cut_value key k value ≡ Empty → value ≡ Empty
+  cut-empty k Empty e = refl
+  cut-empty k (NonEmpty v) e = absurd (cc)
+
+  -- the value of a view of a compact sketch
+  pub viewed : {Z S : Type 0} (view : SketchView X Z S) (s : Compact X) → shows key view ≡ shown_of key s → sequence view ≡ s.entries → shown_value key (shows key view) (sequence view) ≡ compact_value key s
+  viewed view s showing listing = ap (λ sh. shown_value key sh (sequence view)) showing ∙ ap (λ xs. shown_value key (shown_of key s) xs) listing
+
+-- an update keeps the settings of a union
+pub settings_kept : {X P : Type 0} (old new : Union X P) (b : Bool) → (b ≡ true → new ≡ old) → (b ≡ false → new ≡ record old { empty = false; content = new.content }) → (new.lg_k ≡ old.lg_k) × (new.start ≡ old.start)
+settings_kept old new true skipped made = (ap (λ u. u.lg_k) (skipped refl), ap (λ u. u.start) (skipped refl))
+settings_kept old new false skipped made = (ap (λ u. u.lg_k) (made refl), ap (λ u. u.start) (made refl))
+
+module _ {X V : Type 0} (key : X → ℕ) (step_of : ℕ → V → Step X) (keeps : KeepsHashes key step_of) where
+  -- one value more
+  pub within-add : (k start h : ℕ) (x : V) (v : Retained X) (w : List X) → start ≤ MAX_THETA → IsWithin key k start v w → IsWithin key k start (after_upsert key k h (step_of h x) v) (whole_step key step_of (Add h x) w)
+  within-add k start h x v w high within =
+      (elim (is_carried h) as (λ b. is_carried h ≡ b → IsWithin key k start (after_upsert key k h (step_of h x) v) (cond b (whole_upsert key h (step_of h x) w) w)) [
+        | true ↦ λ e. let low : 0 < h = grind (arith, nat_tests) in within-upsert key k start h (step_of h x) v w low (keeps.writes h x) (keeps.makes h x) within
+        | false ↦ λ e.
+            let below_start : v.theta ≤ start = lawful-le key w k start v.theta within.lawful in
+            let screened : is_screened h v.theta ≡ true = grind (arith, nat_tests) in
+            rw (screened_case key k h (step_of h x) v screened).after_is within
+      ]) refl
+
+  carried-upsert : (h : ℕ) (x : V) (w : List X) → h < MAX_THETA → AllByRecursion (λ e. key e < MAX_THETA) w → AllByRecursion (λ e. key e < MAX_THETA) (whole_upsert key h (step_of h x) w)
+  carried-upsert h x w high all =
+      (elim (entry_at key w h) as (λ o. entry_at key w h ≡ o → AllByRecursion (λ e. key e < MAX_THETA) (option_map_or (λ e. with_entry key w ((step_of h x).writes e)) o (option_map_or (λ e. with_entry key w e) (step_of h x).makes w))) [
+        | Some e ↦ λ found. let same : key ((step_of h x).writes e) ≡ h = keeps.writes h x e (found_key key w h e found) in each-with_entry key (λ z. key z < MAX_THETA) w ((step_of h x).writes e) all (omega arith)
+        | None ↦ λ found.
+            (elim (step_of h x).makes as (λ m. (step_of h x).makes ≡ m → AllByRecursion (λ e. key e < MAX_THETA) (option_map_or (λ e. with_entry key w e) m w)) [
+              | Some e ↦ λ made. let same : key e ≡ h = keeps.makes h x e made in each-with_entry key (λ z. key z < MAX_THETA) w e all (omega arith)
+              | None ↦ λ made. all
+            ]) refl
+      ]) refl
+
+  pub carried-add : (h : ℕ) (x : V) (w : List X) → AllByRecursion (λ e. key e < MAX_THETA) w → AllByRecursion (λ e. key e < MAX_THETA) (whole_step key step_of (Add h x) w)
+  carried-add h x w all =
+      (elim (is_carried h) as (λ b. is_carried h ≡ b → AllByRecursion (λ e. key e < MAX_THETA) (cond b (whole_upsert key h (step_of h x) w) w)) [
+        | true ↦ λ e. let high : h < MAX_THETA = grind (arith, nat_tests) in carried-upsert h x w high all
+        | false ↦ λ e. all
+      ]) refl
+
+  -- and at another hash nothing changes
+  elsewhere : (g h : ℕ) (y : X) (w : List X) → key y ≡ g → eqb g h ≡ false → entry_at key (with_entry key w y) h ≡ entry_at key w h
+  elsewhere g h y w same other =
+      entry_at-with_entry key w y h ∙ ap (λ (q : ℕ). cond (eqb q h) (Some y) (entry_at key w h)) same ∙ ap (λ b. cond b (Some y) (entry_at key w h)) other
+
+  pub upsert-elsewhere : (g h : ℕ) (x : V) (w : List X) → eqb g h ≡ false → entry_at key (whole_upsert key g (step_of g x) w) h ≡ entry_at key w h
+  upsert-elsewhere g h x w other =
+      (elim (entry_at key w g) as (λ o. entry_at key w g ≡ o → entry_at key (option_map_or (λ y. with_entry key w ((step_of g x).writes y)) o (option_map_or (λ y. with_entry key w y) (step_of g x).makes w)) h ≡ entry_at key w h) [
+        | Some y ↦ λ found. elsewhere g h ((step_of g x).writes y) w (keeps.writes g x y (found_key key w g y found)) other
+        | None ↦ λ found.
+            (elim (step_of g x).makes as (λ m. (step_of g x).makes ≡ m → entry_at key (option_map_or (λ y. with_entry key w y) m w) h ≡ entry_at key w h) [
+              | Some y ↦ λ made. elsewhere g h y w (keeps.makes g x y made) other
+              | None ↦ λ made. refl
+            ]) refl
+      ]) refl
 
 pub made_again : {X : Type 0} (lg_k start seed : ℕ) (old new : MapTable X) → old ≡ record (empty_table lg_k start seed) { kept = old.kept } → new ≡ record old { kept = new.kept } → new ≡ record (empty_table lg_k start seed) { kept = new.kept }
 made_again {X} lg_k start seed old new made after = (let again : MapTable X → MapTable X = λ t. record t { kept = new.kept } in after ∙ ap again made)
@@ -150,6 +262,20 @@ module _ {X : Type 0} (key : X → ℕ) (lg_k start seed : ℕ) where
     };
     lawful = elim s.empty as (λ b. IsLawfulValue key (2 ^ lg_k) start (cond b Empty (NonEmpty s.map.kept)) w) [ true ↦ tt | false ↦ is.kept.lawful ];
   }
+
+module _ {X V : Type 0} (key : X → ℕ) (step_of : ℕ → V → Step X) (keeps : KeepsHashes key step_of) (lg_k start seed : ℕ) where
+  -- a sketch that was given one value more
+  pub value-given : (h : ℕ) (x : V) (old new : Updatable X) (w : List X) → new.empty ≡ false → new.map ≡ after_insertion key h (step_of h x) old.map → IsSketchOfMap key lg_k start seed old w → IsSketchOfMap key lg_k start seed new (whole_step key step_of (Add h x) w)
+  value-given h x old new w nonempty after is =
+      let lg : old.map.lg_nom ≡ lg_k = ap (λ t. t.lg_nom) is.made_with in
+      let kept : new.map.kept ≡ after_upsert key (2 ^ lg_k) h (step_of h x) old.map.kept = ap (λ t. t.kept) after ∙ ap (λ (n : ℕ). after_upsert key (2 ^ n) h (step_of h x) old.map.kept) lg in
+      record {
+        made_with = made_again lg_k start seed old.map new.map is.made_with (after ∙ ap (λ v. record old.map { kept = v }) (sym (ap (λ t. t.kept) after)));
+        start_high = is.start_high;
+        carried = carried-add key step_of keeps h x w is.carried;
+        kept = rw kept (within-add key step_of keeps (2 ^ lg_k) start h x old.map.kept w is.start_high is.kept);
+        none = λ e. absurd (cc);
+      }
 
 module _ {X P : Type 0} (key : X → ℕ) (lg_k k start : ℕ) where
   -- a new union was given nothing

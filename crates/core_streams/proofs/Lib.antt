@@ -1,0 +1,4 @@
+pub mod WholeMaps
+pub mod HashSets
+pub mod Folds
+pub mod Calls

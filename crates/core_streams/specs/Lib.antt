@@ -1,0 +1,3 @@
+pub mod WholeMaps
+pub mod HashSets
+pub mod Folds
