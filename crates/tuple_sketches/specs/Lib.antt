@@ -1,3 +1,6 @@
 pub mod Image
 pub mod ImageLayout
 pub mod Sketch
+pub mod Given
+pub mod Sums
+pub mod Streams

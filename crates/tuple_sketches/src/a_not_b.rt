@@ -1,5 +1,5 @@
 //! Differences of tuple sketches.
-ghost use Rattle.std.specs.Prelude.{◌≡◌, ◌||◌, true, false, IfOk};
+ghost use Rattle.std.specs.Prelude.{◌≡◌, map, true, false, IfOk};
 ghost use Rattle.sketch_base.specs.Seed.{seed_hash};
 ghost use Rattle.sketch_base.specs.declared.seed.TheConstants.{DEFAULT_UPDATE_SEED};
 ghost use Rattle.core_slots.specs.Entry.{tuple_key};
@@ -8,6 +8,9 @@ ghost use Rattle.core_laws.specs.Refusal.{Refuses};
 ghost use Rattle.core_operators.specs.ANotB.{difference_refusal, IsDifference};
 ghost use Rattle.core_operators.specs.Intersection.{seed_refusal};
 ghost use Rattle.core_state.specs.View.{shows, sequence};
+ghost use Rattle.core_laws.specs.Folds.{Value};
+ghost use Rattle.core_laws.specs.Maps.{below};
+ghost use Rattle.tuple_sketches.specs.Streams.{Given, without, fold_key, value_of, view_value, IsSampleOf};
 
 use crate::compact_sketch::CompactTupleSketch;
 use crate::operands::difference_of;
@@ -86,6 +89,11 @@ impl TupleANotB {
     ) -> Result<CompactTupleSketch<S, A>, Error>
         requires clones_equal { ClonesEqual S.is_clone }
         ensures ok { IfOk result (IsDifference tuple_key (shows tuple_key a.entry) (sequence a.entry) (shows tuple_key b.entry) ordered) }
+        ensures sample { IfOk result (λ s. (given : Given S) (others : Given T) → IsSampleOf (view_value a.entry) given →
+            IsSampleOf (view_value b.entry) others → IsSampleOf (value_of s) (without given others)) }
+        ensures below { IfOk result (λ s. (given : Given S) (others : Given T) → IsSampleOf (view_value a.entry) given →
+            IsSampleOf (view_value b.entry) others → ordered ≡ true →
+            map Value s.entries ≡ below (fold_key tuple_key) (without given others).whole s.theta) }
         ensures refused { Refuses result (difference_refusal self.now (shows tuple_key a.entry) (shows tuple_key b.entry)) true }
     {
         let state = difference_of(alloc, self.seed_hash, a, b, ordered)?;

@@ -4,6 +4,7 @@ ghost use Rattle.core_laws.specs.Refusal.{Refuses};
 ghost use Rattle.core_state.specs.Settings.{default_settings};
 ghost use Rattle.core_laws.specs.Settings.{settings_refusal};
 ghost use Rattle.core_table.specs.HashTable.{empty_table};
+ghost use Rattle.tuple_sketches.specs.Streams.{nothing, IsSketchOf};
 
 use crate::sketch::TupleSketch;
 use core_policies::SummaryPolicy;
@@ -69,6 +70,7 @@ impl<P: SummaryPolicy + Drop> TupleSketchBuilder<P> {
         ensures empty { IfOk result (λ s. s.state.empty ≡ true) }
         ensures made { IfOk result (λ s. s.state.map ≡ empty_table self.settings.lg_k self.settings.starting_theta self.settings.seed) }
         ensures policy { IfOk result (λ s. s.policy ≡ self.policy) }
+        ensures given { IfOk result (λ s. IsSketchOf self.settings.lg_k self.settings.starting_theta self.settings.seed s.state nothing) }
         ensures refused { Refuses result (settings_refusal self.settings.lg_k self.settings.starting_theta self.settings.seed) true }
     {
         let TupleSketchBuilder { settings, policy } = self;

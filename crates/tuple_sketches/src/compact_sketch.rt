@@ -1,5 +1,5 @@
 //! Compact tuple sketches, which are immutable.
-ghost use Rattle.std.specs.Prelude.{◌≡◌, ◌≤◌, ◌&&◌, true, not, nat_lt, None, length, IfOk};
+ghost use Rattle.std.specs.Prelude.{◌≡◌, ◌≤◌, ◌&&◌, ℕ, true, not, nat_lt, None, length, IfOk};
 ghost use Rattle.core_compact.specs.CompactState.{IsCompact, shown_of, compact_value};
 ghost use Rattle.core_laws.specs.Entries.{ClonesEqual};
 ghost use Rattle.core_laws.specs.Refusal.{Refuses};
@@ -8,6 +8,7 @@ ghost use Rattle.core_state.specs.Fraction.{decimal_of, compact_fraction};
 ghost use Rattle.core_state.specs.View.{shows, sequence};
 ghost use Rattle.core_state.specs.declared.fraction.TheConstants.{MAX_PLACES};
 ghost use Rattle.core_slots.specs.Entry.{tuple_key};
+ghost use Rattle.tuple_sketches.specs.Streams.{Given, value_of, view_value, IsPartOf, IsSampleOf};
 
 use crate::view::{TupleSketchIter, TupleSketchView};
 use core_compact::CompactSketchState;
@@ -53,6 +54,8 @@ impl<S: Drop, A: Allocator> CompactTupleSketch<S, A> {
         ensures shows { shows tuple_key result ≡ shown_of tuple_key self.now }
         ensures sequence { sequence result ≡ self.now.entries }
         ensures value { shown_value tuple_key (shows tuple_key result) (sequence result) ≡ compact_value tuple_key self.now }
+        ensures part { (k start : ℕ) (given : Given S) → IsPartOf k start (value_of self.now) given → IsPartOf k start (view_value result) given }
+        ensures sample { (given : Given S) → IsSampleOf (value_of self.now) given → IsSampleOf (view_value result) given }
     {
         TupleSketchView::of_compact(&self.state)
     }

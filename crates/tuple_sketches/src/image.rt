@@ -6,9 +6,11 @@ ghost use Rattle.std.specs.Prelude.{◌≡◌, ◌≤◌, ◌+◌, ◌-◌, ◌^
 ghost use Rattle.std.specs.List.{flat_map};
 ghost use Rattle.sketch_base.specs.Seed.{seed_hash};
 ghost use Rattle.sketch_base.specs.declared.seed.TheConstants.{DEFAULT_UPDATE_SEED};
+ghost use Rattle.core_compact.specs.CompactState.{Compact};
 ghost use Rattle.core_images.specs.Read.{IsRefused};
 ghost use Rattle.core_images.specs.Summary.{tuple_text};
 ghost use Rattle.core_laws.specs.Refusal.{Refuses};
+ghost use Rattle.core_slots.specs.declared.entry.TupleEntry.{TupleEntry};
 ghost use Rattle.tuple_sketches.specs.Image.{Reads, IsReadable, HasValues, written};
 ghost use Rattle.tuple_sketches.specs.ImageLayout.{is_read_version, is_sketch_type, tuple_layout};
 
@@ -86,8 +88,10 @@ impl<S: TupleSummaryValue<A> + Drop, A: Allocator + Clone + Drop> CompactTupleSk
     pub fn serialize(&self) -> Result<Vec<u8, A>, Error>
         ensures ok { IfOk result (λ v. v.items ≡ written S.text self.now) }
         ensures values { OnOk result (HasValues S.is_value self.now) }
+        ensures read_back { IfOk result (λ v. (s : Compact (TupleEntry S)) → Reads S.spells v.items self.now.seed_hash s → s ≡ self.now) }
         ensures refused { Refuses result None true }
     {
+        let _ = (self.num_retained(), self.seed_hash());
         let alloc = self.state().allocator().clone()?;
         let capacity = greatest_size::<S, A>(self.state().retained_entries());
         write_image_with_capacity(alloc, self.state(), Family::TUPLE, SKETCH_TYPE, capacity)

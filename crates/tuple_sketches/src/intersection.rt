@@ -1,5 +1,5 @@
 //! Intersections of tuple sketches.
-ghost use Rattle.std.specs.Prelude.{◌≡◌, None, false, is_some, IfOk, IfErr, OnOk};
+ghost use Rattle.std.specs.Prelude.{◌≡◌, ◌≢◌, ◌++◌, List, [], ◌∷◌, map, Option, None, true, false, is_some, IsSome, IfSome, IfOk, IfErr, OnOk};
 ghost use Rattle.sketch_base.specs.Seed.{seed_hash};
 ghost use Rattle.sketch_base.specs.declared.seed.TheConstants.{DEFAULT_UPDATE_SEED};
 ghost use Rattle.core_slots.specs.Entry.{tuple_key};
@@ -9,6 +9,9 @@ ghost use Rattle.core_laws.specs.Refusal.{Refuses};
 ghost use Rattle.core_policies.specs.Summaries.{combined, combine_refused};
 ghost use Rattle.core_operators.specs.Intersection.{new_intersection, seed_refusal, intersect_refusal, IsAnswerIfAny, IsIntersection, IsMet, content_of, IsIntersectError};
 ghost use Rattle.core_state.specs.View.{shows, sequence};
+ghost use Rattle.core_laws.specs.Folds.{Value};
+ghost use Rattle.core_laws.specs.Maps.{below};
+ghost use Rattle.tuple_sketches.specs.Streams.{Given, shared_by, fold_key, value_of, view_value, IsSampleOf, IsIntersectionOf};
 
 use crate::compact_sketch::CompactTupleSketch;
 use crate::operands::meet_view;
@@ -36,6 +39,7 @@ impl<P: SummaryPolicy + Drop, A: Allocator + Drop> TupleIntersection<P, A> {
     /// Never refused: the seed hash of 9001 isn't 0.
     pub fn new(alloc: A, policy: P) -> Result<Self, Error>
         ensures made { IfOk result (λ i. i.state ≡ new_intersection (seed_hash DEFAULT_UPDATE_SEED) policy) }
+        ensures given { (combines : P.Summary → P.Summary → Option P.Summary) → IfOk result (λ i. IsIntersectionOf combines i.state []) }
         ensures refused { Refuses result (seed_refusal DEFAULT_UPDATE_SEED) false }
     {
         TupleIntersection::with_seed(alloc, policy, DEFAULT_UPDATE_SEED)
@@ -46,6 +50,7 @@ impl<P: SummaryPolicy + Drop, A: Allocator + Drop> TupleIntersection<P, A> {
     /// Refused with `InvalidArgument` for a seed whose seed hash is 0.
     pub fn with_seed(alloc: A, policy: P, seed: u64) -> Result<Self, Error>
         ensures made { IfOk result (λ i. i.state ≡ new_intersection (seed_hash seed) policy) }
+        ensures given { (combines : P.Summary → P.Summary → Option P.Summary) → IfOk result (λ i. IsIntersectionOf combines i.state []) }
         ensures refused { Refuses result (seed_refusal seed) false }
     {
         let state = IntersectionState::new(alloc, seed, policy)?;
@@ -89,6 +94,9 @@ impl<P: SummaryCombinePolicy + Drop, A: Allocator + Clone> TupleIntersection<P, 
             (combine_refused (P.combines self.old.state.policy)) self.old.state self.new.state
             (shows tuple_key sketch.entry) (sequence sketch.entry)) }
         ensures made_with { self.new.state ≡ record self.old.state { result = self.new.state.result } }
+        ensures given { OnOk result ((givens : List (Given P.Summary)) (more : Given P.Summary) →
+            IsIntersectionOf (P.combines self.old.state.policy) self.old.state givens → IsSampleOf (view_value sketch.entry) more →
+            IsIntersectionOf (P.combines self.old.state.policy) self.new.state (givens ++ more ∷ [])) }
         ensures accepted { OnOk result (intersect_refusal self.old.state (shows tuple_key sketch.entry) ≡ None) }
         ensures refused { IfErr result (
             IsIntersectError tuple_key (combine_refused (P.combines self.old.state.policy)) self.old.state
@@ -110,6 +118,14 @@ impl<P: SummaryCombinePolicy + Drop, A: Allocator + Clone> TupleIntersection<P, 
         P::Summary: Clone,
         requires clones_equal { ClonesEqual P.Summary.is_clone }
         ensures ok { IfOk result (IsAnswerIfAny tuple_key self.now.state.result self.now.state.seed_hash ordered) }
+        ensures found { IfOk result (λ o. (givens : List (Given P.Summary)) →
+            IsIntersectionOf (P.combines self.now.state.policy) self.now.state givens → givens ≢ [] → IsSome o) }
+        ensures sample { IfOk result (λ o. IfSome o (λ s. (givens : List (Given P.Summary)) →
+            IsIntersectionOf (P.combines self.now.state.policy) self.now.state givens →
+            IsSampleOf (value_of s) (shared_by (P.combines self.now.state.policy) givens))) }
+        ensures below { IfOk result (λ o. IfSome o (λ s. (givens : List (Given P.Summary)) →
+            IsIntersectionOf (P.combines self.now.state.policy) self.now.state givens → ordered ≡ true →
+            map Value s.entries ≡ below (fold_key tuple_key) (shared_by (P.combines self.now.state.policy) givens).whole s.theta)) }
         ensures refused { Refuses result None (is_some self.now.state.result) }
     {
         match self.state.to_compact_sketch_state(ordered)? {

@@ -17,6 +17,9 @@ ghost use Rattle.core_slots.specs.Entry.{tuple_key};
 ghost use Rattle.tuple_sketches.specs.Image.{Reads, HasValues, written};
 ghost use Rattle.tuple_sketches.specs.declared.image.TheConstants.{EMPTY_SKETCH_BYTES};
 
+ghost use Rattle.core_policies.specs.Sums.{unsigned_sum};
+ghost use Rattle.tuple_sketches.specs.Streams.{Sketch, Given, nothing, with_value, given_values, united, least_folds, given_sums, least_sums, IsPartOf, IsSampleOf};
+
 use core_images::TupleSummaryValue;
 use core_laws::MAX_THETA;
 use std::alloc::Allocator;
@@ -68,4 +71,27 @@ pub fn read_again<S: TupleSummaryValue<A>, A: Allocator>()
 /// The image of every empty sketch is `EMPTY_SKETCH_BYTES`.
 pub fn written_of_empty<S>()
     ensures { (text : S → List ℕ) (seed_hash : ℕ) → written text (empty_compact seed_hash) ≡ EMPTY_SKETCH_BYTES }
+{}
+
+/// A stream of no values gives nothing, and one value more at its end gives that value too.
+pub fn streams_of_values<S, U>()
+    ensures none { (creates : Option S) (updates : S → U → Option S) → given_values creates updates [] ≡ nothing }
+    ensures one_more { (creates : Option S) (updates : S → U → Option S) (stream : List (ℕ × U)) (value : ℕ × U) →
+        given_values creates updates (stream ++ value ∷ []) ≡ with_value creates updates value.0 value.1 (given_values creates updates stream) }
+{}
+
+/// Sums of two streams, united, are the sums of both streams in turn, the marks of sums of 2^64 or more included. What is
+/// retained of the k least folds of a stream of numbers, none of them a mark, are its k least hashes, each with the sum
+/// of its numbers.
+pub fn streams_of_sums()
+    ensures united { (stream more : List (ℕ × ℕ)) → united (unsigned_sum 64) (given_sums stream) (given_sums more) ≡ given_sums (stream ++ more) }
+    ensures least { (k start : ℕ) (stream : List (ℕ × ℕ)) (v : Retained (TupleEntry ℕ)) → unmarked v ≡ least_folds k (given_sums stream) start →
+        v ≡ least_sums k stream start }
+{}
+
+/// A part samples what was given, and a part for some k is one for fewer.
+pub fn parts_of_streams<S>()
+    ensures sample { (k start : ℕ) (value : Sketch (TupleEntry S)) (given : Given S) → IsPartOf k start value given → IsSampleOf value given }
+    ensures fewer { (k more start : ℕ) (value : Sketch (TupleEntry S)) (given : Given S) → k ≤ more → IsPartOf more start value given →
+        IsPartOf k start value given }
 {}

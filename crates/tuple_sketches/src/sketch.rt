@@ -1,5 +1,5 @@
 //! Tuple sketches that take updates.
-ghost use Rattle.std.specs.Prelude.{◌≡◌, ◌≤◌, ◌&&◌, ◌^◌, true, false, not, nat_lt, None, length, IfOk, OnOk, OnErr};
+ghost use Rattle.std.specs.Prelude.{◌≡◌, ◌≤◌, ◌&&◌, ◌^◌, ℕ, true, false, not, nat_lt, None, length, IfOk, OnOk, OnErr};
 ghost use Rattle.core_compact.specs.CompactState.{IsAnswer};
 ghost use Rattle.core_laws.specs.Entries.{ClonesEqual};
 ghost use Rattle.core_laws.specs.Refusal.{Refuses};
@@ -15,6 +15,7 @@ ghost use Rattle.core_state.specs.Fraction.{decimal_of};
 ghost use Rattle.core_state.specs.declared.fraction.TheConstants.{MAX_PLACES};
 ghost use Rattle.core_policies.specs.Summaries.{update_step};
 ghost use Rattle.core_slots.specs.Entry.{tuple_key};
+ghost use Rattle.tuple_sketches.specs.Streams.{NonEmpty, seed_hash, value_hash, Given, nothing, with_value, least_folds, unmarked, unmarked_value, value_of, view_value, retained_of, IsPartOf, IsSampleOf, IsSketchOf, IsTrimmedOf, GivesMore, GivesNothing};
 
 use crate::compact_sketch::CompactTupleSketch;
 use crate::view::{TupleSketchIter, TupleSketchView};
@@ -43,6 +44,7 @@ impl<P: SummaryPolicy, A: Allocator> TupleSketch<P, A> {
         ensures empty { IfOk result (λ s. s.state.empty ≡ true) }
         ensures made { IfOk result (λ s. s.state.map ≡ empty_table settings.lg_k settings.starting_theta settings.seed) }
         ensures policy { IfOk result (λ s. s.policy ≡ policy) }
+        ensures given { IfOk result (λ s. IsSketchOf settings.lg_k settings.starting_theta settings.seed s.state nothing) }
         ensures refused { Refuses result (settings_refusal settings.lg_k settings.starting_theta settings.seed) true }
     {
         let state = UpdatableState::new(alloc, settings)?;
@@ -54,6 +56,10 @@ impl<P: SummaryPolicy, A: Allocator> TupleSketch<P, A> {
         ensures shows { shows tuple_key result ≡ sketch_shows tuple_key self.now.state }
         ensures sequence { sequence result ≡ self.now.state.sequence }
         ensures value { shown_value tuple_key (shows tuple_key result) (sequence result) ≡ sketch_value self.now.state }
+        ensures part { (lg_k start seed : ℕ) (given : Given P.Summary) → IsSketchOf lg_k start seed self.now.state given →
+            IsPartOf (2 ^ lg_k) start (view_value result) given }
+        ensures sample { (lg_k start seed : ℕ) (given : Given P.Summary) → IsSketchOf lg_k start seed self.now.state given →
+            IsSampleOf (view_value result) given }
     {
         TupleSketchView::of_state(&self.state)
     }
@@ -137,6 +143,8 @@ impl<P: SummaryPolicy, A: Allocator> TupleSketch<P, A> {
         ensures empty { self.new.state.empty ≡ true }
         ensures map { self.new.state.map ≡ after_reset self.old.state.map }
         ensures same_policy { self.new.policy ≡ self.old.policy }
+        ensures given { (lg_k start seed : ℕ) (given : Given P.Summary) → IsSketchOf lg_k start seed self.old.state given →
+            IsSketchOf lg_k start seed self.new.state nothing }
     {
         self.state.reset();
     }
@@ -161,6 +169,10 @@ impl<P: SummaryPolicy, A: Allocator + Clone> TupleSketch<P, A> {
         ensures same_policy { self.new.policy ≡ self.old.policy }
         ensures err_empty { OnErr result (self.new.state.empty ≡ self.old.state.empty) }
         ensures err { OnErr result (self.new.state.map ≡ self.old.state.map) }
+        ensures given { OnOk result (
+            GivesMore self.old.state self.new.state (λ seed given.
+            with_value (P.creates self.old.policy) (P.updates self.old.policy) (value_hash seed (K.hash_input key)) value given)) }
+        ensures err_given { OnErr result (GivesNothing self.old.state self.new.state) }
         ensures refused { let h = key_hash self.old.state.map (K.hash_input key) in
             let step = update_step (P.creates self.old.policy) (P.updates self.old.policy) h value in
             Refuses result (upsert_refusal tuple_key h step self.old.state.map.kept)
@@ -189,6 +201,10 @@ impl<P: SummaryPolicy, A: Allocator + Clone> TupleSketch<P, A> {
         ensures same_policy { self.new.policy ≡ self.old.policy }
         ensures err_empty { OnErr result (self.new.state.empty ≡ self.old.state.empty) }
         ensures err { OnErr result (self.new.state.map ≡ self.old.state.map) }
+        ensures given { OnOk result (
+            GivesMore self.old.state self.new.state (λ _ given.
+            with_value (P.creates self.old.policy) (P.updates self.old.policy) hash value given)) }
+        ensures err_given { OnErr result (GivesNothing self.old.state self.new.state) }
         ensures refused { let step = update_step (P.creates self.old.policy) (P.updates self.old.policy) hash value in
             Refuses result (upsert_refusal tuple_key hash step self.old.state.map.kept)
             (upsert_allocates tuple_key hash (record step { allocates = P.takes_memory self.old.policy }) self.old.state.map.kept) }
@@ -206,6 +222,9 @@ impl<P: SummaryPolicy, A: Allocator + Clone> TupleSketch<P, A> {
         ensures after { OnOk result (self.new.state.map ≡ trimmed_table tuple_key self.old.state.map) }
         ensures same_policy { self.new.policy ≡ self.old.policy }
         ensures err { OnErr result (self.new.state.map ≡ self.old.state.map) }
+        ensures given { OnOk result ((lg_k start seed : ℕ) (given : Given P.Summary) → IsSketchOf lg_k start seed self.old.state given →
+            IsTrimmedOf lg_k start seed self.new.state given) }
+        ensures err_given { OnErr result (GivesNothing self.old.state self.new.state) }
         ensures refused { Refuses result None (nat_lt (2 ^ self.old.state.map.lg_nom) (length self.old.state.map.kept.entries)) }
     {
         self.state.trim()
@@ -219,6 +238,14 @@ impl<P: SummaryPolicy, A: Allocator + Clone> TupleSketch<P, A> {
         P::Summary: Clone,
         requires clones_equal { ClonesEqual P.Summary.is_clone }
         ensures ok { IfOk result (IsAnswer tuple_key (sketch_value self.now.state) self.now.state.map.seed_hash ordered) }
+        ensures part { IfOk result (λ s. (lg_k start seed : ℕ) (given : Given P.Summary) → IsSketchOf lg_k start seed self.now.state given →
+            IsPartOf (2 ^ lg_k) start (value_of s) given) }
+        ensures seeded { IfOk result (λ s. (lg_k start seed : ℕ) (given : Given P.Summary) → IsSketchOf lg_k start seed self.now.state given →
+            s.seed_hash ≡ seed_hash seed) }
+        ensures least { IfOk result (λ s. (lg_k start seed : ℕ) (given : Given P.Summary) → IsTrimmedOf lg_k start seed self.now.state given →
+            given.any ≡ true → unmarked_value (value_of s) ≡ NonEmpty (least_folds (2 ^ lg_k) given start)) }
+        ensures kmin { IfOk result (λ s. (lg_k seed : ℕ) (given : Given P.Summary) → IsTrimmedOf lg_k MAX_THETA seed self.now.state given →
+            ordered ≡ true → unmarked (retained_of s) ≡ least_folds (2 ^ lg_k) given MAX_THETA) }
         ensures refused { Refuses result None true }
     {
         let state = self.state.compact(ordered)?;
@@ -237,6 +264,7 @@ impl<P: SummaryPolicy + Copy, A: Allocator + Clone> TupleSketch<P, A> {
         ensures empty { IfOk result (λ s. s.state.empty ≡ self.now.state.empty) }
         ensures copied { IfOk result (λ s. s.state.map ≡ self.now.state.map) }
         ensures same_policy { IfOk result (λ s. s.policy ≡ self.now.policy) }
+        ensures given { IfOk result (λ s. GivesNothing self.now.state s.state) }
         ensures refused { Refuses result None true }
     {
         let state = self.state.clone()?;

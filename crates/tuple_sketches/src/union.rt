@@ -1,5 +1,5 @@
 //! Unions of tuple sketches.
-ghost use Rattle.std.specs.Prelude.{◌≡◌, ◌^◌, [], ◌∷◌, true, not, None, IfOk, IfErr, OnOk, OnErr};
+ghost use Rattle.std.specs.Prelude.{◌≡◌, ◌≢◌, ◌≤◌, ◌^◌, ℕ, List, [], ◌∷◌, true, not, None, map, IfOk, IfErr, OnOk, OnErr};
 ghost use Rattle.sketch_base.specs.Seed.{seed_hash};
 ghost use Rattle.core_compact.specs.CompactState.{IsAnswer};
 ghost use Rattle.core_slots.specs.Entry.{tuple_key};
@@ -11,6 +11,10 @@ ghost use Rattle.core_laws.specs.Values.{cut_value};
 ghost use Rattle.core_policies.specs.Summaries.{combined, combine_refused};
 ghost use Rattle.core_operators.specs.Union.{empty_union, union_value, update_refusal, lower_refusal, lower_allocates, lowered, failure, IsUnion, IsUpdateError, JoinsSummaries, UnitesSummaries, all_empty, update_all_refusal, IsUpdateAllError, JoinsAllSummaries, UnitesAllSummaries};
 ghost use Rattle.core_state.specs.View.{shows, sequence};
+ghost use Rattle.core_laws.specs.Folds.{Value};
+ghost use Rattle.core_laws.specs.Maps.{below};
+ghost use Rattle.sketch_base.specs.declared.error.ErrorKind.TheVariants.{OutOfMemory, Policy};
+ghost use Rattle.tuple_sketches.specs.Streams.{MAX_THETA, NonEmpty, Given, nothing, united, united_all, least_folds, fold_key, unmarked, unmarked_value, value_of, view_value, retained_of, IsPartOf, IsSampleOf, ArePartsOf, IsUnionOf, IsUnionOfSamples};
 
 use crate::compact_sketch::CompactTupleSketch;
 use crate::operands::{join_view, join_views};
@@ -37,6 +41,8 @@ pub struct TupleUnion<P: SummaryPolicy, A: Allocator = Global> {
 impl<P: SummaryPolicy + Drop, A: Allocator + Drop> TupleUnion<P, A> {
     pub(crate) fn new(alloc: A, settings: Settings, policy: P) -> Result<Self, Error>
         ensures made { IfOk result (λ u. u.state ≡ empty_union settings.lg_k settings.starting_theta (seed_hash settings.seed) policy) }
+        ensures given { IfOk result (λ u. IsUnionOf settings.lg_k (2 ^ settings.lg_k) settings.starting_theta u.state nothing) }
+        ensures sampled { IfOk result (λ u. IsUnionOfSamples u.state nothing) }
         ensures refused { Refuses result (settings_refusal settings.lg_k settings.starting_theta settings.seed) true }
     {
         let state = UnionState::new(
@@ -52,7 +58,10 @@ impl<P: SummaryPolicy + Drop, A: Allocator + Drop> TupleUnion<P, A> {
 
     /// Makes it empty again, and ends a failure. It allocates nothing.
     pub fn reset(&mut self)
-        ensures { self.new.state ≡ empty_union self.old.state.lg_k self.old.state.start self.old.state.seed_hash self.old.state.policy }
+        ensures after { self.new.state ≡ empty_union self.old.state.lg_k self.old.state.start self.old.state.seed_hash self.old.state.policy }
+        ensures given { (lg_k k start : ℕ) (given : Given P.Summary) → IsUnionOf lg_k k start self.old.state given →
+            IsUnionOf lg_k k start self.new.state nothing }
+        ensures sampled { IsUnionOfSamples self.new.state nothing }
     {
         self.state.reset();
     }
@@ -81,6 +90,13 @@ impl<P: SummaryCombinePolicy + Drop, A: Allocator + Clone> TupleUnion<P, A> {
             (shows tuple_key sketch.entry) (sequence sketch.entry)) }
         ensures made_with { OnOk result (self.new.state ≡ record self.old.state { empty = self.new.state.empty; content = self.new.state.content }) }
         ensures accepted { OnOk result (update_refusal self.old.state (shows tuple_key sketch.entry) ≡ None) }
+        ensures given { OnOk result ((lg_k k start : ℕ) (given more : Given P.Summary) → IsUnionOf lg_k k start self.old.state given →
+            IsPartOf k start (view_value sketch.entry) more →
+            IsUnionOf lg_k k start self.new.state (united (P.combines self.old.state.policy) given more)) }
+        ensures sampled { OnOk result ((given more : Given P.Summary) → IsUnionOfSamples self.old.state given →
+            IsSampleOf (view_value sketch.entry) more →
+            IsUnionOfSamples self.new.state (united (P.combines self.old.state.policy) given more)) }
+        ensures err_given { IfErr result (λ e. e ≢ OutOfMemory → e ≢ Policy → self.new.state ≡ self.old.state) }
         ensures refused { IfErr result (
             IsUpdateError tuple_key (combine_refused (P.combines self.old.state.policy)) self.old.state
             self.new.state (shows tuple_key sketch.entry) (sequence sketch.entry)) }
@@ -121,6 +137,10 @@ impl<P: SummaryCombinePolicy + Drop, A: Allocator + Clone> TupleUnion<P, A> {
             (λ v. shows tuple_key v) (λ v. sequence v) sketches.now) }
         ensures made_with { OnOk result (self.new.state ≡ record self.old.state { empty = self.new.state.empty; content = self.new.state.content }) }
         ensures accepted { OnOk result (update_all_refusal self.old.state (λ v. shows tuple_key v) sketches.now ≡ None) }
+        ensures given { OnOk result (
+            (lg_k k start : ℕ) (given : Given P.Summary) (others : List (Given P.Summary)) → IsUnionOf lg_k k start self.old.state given →
+            ArePartsOf k start (map (λ v. view_value v) sketches.now) others →
+            IsUnionOf lg_k k start self.new.state (united_all (P.combines self.old.state.policy) given others)) }
         ensures refused { IfErr result (
             IsUpdateAllError tuple_key (combined (P.combines self.old.state.policy))
             (combine_refused (P.combines self.old.state.policy)) self.old.state self.new.state
@@ -139,6 +159,15 @@ impl<P: SummaryCombinePolicy + Drop, A: Allocator + Clone> TupleUnion<P, A> {
         P::Summary: Clone,
         requires clones_equal { ClonesEqual P.Summary.is_clone }
         ensures ok { IfOk result (IsAnswer tuple_key (union_value tuple_key self.now.state) self.now.state.seed_hash ordered) }
+        ensures part { IfOk result (λ s. (lg_k k start : ℕ) (given : Given P.Summary) → IsUnionOf lg_k k start self.now.state given →
+            IsPartOf k start (value_of s) given) }
+        ensures sample { IfOk result (λ s. (given : Given P.Summary) → IsUnionOfSamples self.now.state given → IsSampleOf (value_of s) given) }
+        ensures below { IfOk result (λ s. (given : Given P.Summary) → IsUnionOfSamples self.now.state given → ordered ≡ true →
+            map Value s.entries ≡ below (fold_key tuple_key) given.whole s.theta) }
+        ensures least { IfOk result (λ s. (lg_k start : ℕ) (given : Given P.Summary) → IsUnionOf lg_k (2 ^ lg_k) start self.now.state given →
+            given.any ≡ true → unmarked_value (value_of s) ≡ NonEmpty (least_folds (2 ^ lg_k) given start)) }
+        ensures kmin { IfOk result (λ s. (lg_k : ℕ) (given : Given P.Summary) → IsUnionOf lg_k (2 ^ lg_k) MAX_THETA self.now.state given →
+            ordered ≡ true → unmarked (retained_of s) ≡ least_folds (2 ^ lg_k) given MAX_THETA) }
         ensures refused { Refuses result (failure self.now.state.failed) (not self.now.state.failed) }
     {
         let state = self.state.to_compact_sketch_state(ordered)?;
@@ -159,6 +188,9 @@ impl<P: SummaryCombinePolicy + Drop, A: Allocator + Clone> TupleUnion<P, A> {
         ensures after { OnOk result (self.new.state ≡ lowered tuple_key lg_k self.old.state) }
         ensures value { OnOk result (union_value tuple_key self.new.state ≡ cut_value tuple_key (2 ^ lg_k) (union_value tuple_key self.old.state)) }
         ensures err { OnErr result (self.new.state ≡ self.old.state) }
+        ensures given { OnOk result ((nominal k less start : ℕ) (given : Given P.Summary) → IsUnionOf nominal k start self.old.state given →
+            less ≤ k → less ≤ 2 ^ lg_k → IsUnionOf lg_k less start self.new.state given) }
+        ensures sampled { OnOk result ((given : Given P.Summary) → IsUnionOfSamples self.old.state given → IsUnionOfSamples self.new.state given) }
         ensures refused { Refuses result (lower_refusal self.old.state lg_k) (lower_allocates self.old.state lg_k) }
         ensures sound { IsUnion self.old.state }
         ensures content { IsRetained tuple_key self.old.state.content }

@@ -1,10 +1,11 @@
 //! Builders of tuple unions.
-ghost use Rattle.std.specs.Prelude.{◌≡◌, true, IfOk};
+ghost use Rattle.std.specs.Prelude.{◌≡◌, ◌^◌, true, IfOk};
 ghost use Rattle.sketch_base.specs.Seed.{seed_hash};
 ghost use Rattle.core_laws.specs.Refusal.{Refuses};
 ghost use Rattle.core_state.specs.Settings.{default_settings};
 ghost use Rattle.core_operators.specs.Union.{empty_union};
 ghost use Rattle.core_laws.specs.Settings.{settings_refusal};
+ghost use Rattle.tuple_sketches.specs.Streams.{nothing, IsUnionOf, IsUnionOfSamples};
 
 use crate::union::TupleUnion;
 use core_policies::SummaryPolicy;
@@ -72,6 +73,9 @@ impl<P: SummaryPolicy + Drop> TupleUnionBuilder<P> {
             u.state
             ≡ empty_union self.settings.lg_k self.settings.starting_theta (seed_hash self.settings.seed)
             self.policy) }
+        ensures given { IfOk result (λ u.
+            IsUnionOf self.settings.lg_k (2 ^ self.settings.lg_k) self.settings.starting_theta u.state nothing) }
+        ensures sampled { IfOk result (λ u. IsUnionOfSamples u.state nothing) }
         ensures refused { Refuses result (settings_refusal self.settings.lg_k self.settings.starting_theta self.settings.seed) true }
     {
         let TupleUnionBuilder { settings, policy } = self;
