@@ -16,7 +16,6 @@ ghost use Rattle.core_compact.specs.CompactState.{Compact, IsCompact, empty_comp
 ghost use Rattle.core_slots.specs.Entry.{tuple_key};
 ghost use Rattle.tuple_sketches.specs.Image.{Reads, HasValues, written};
 ghost use Rattle.tuple_sketches.specs.declared.image.TheConstants.{EMPTY_SKETCH_BYTES};
-
 ghost use Rattle.core_policies.specs.Sums.{unsigned_sum};
 ghost use Rattle.tuple_sketches.specs.Streams.{Sketch, Given, nothing, with_value, given_values, united, least_folds, given_sums, least_sums, IsPartOf, IsSampleOf};
 
