@@ -18,17 +18,17 @@ MAX_THETA = 2**63 - 1
 DEFAULT_SEED = 9001
 M64 = 2**64 - 1
 
-LINES = "--lg-k --field --separator --seed --seed-file --files0-from --progress "
+LINES = "-C --lg-k --field --separator --seed --seed-file --files0-from --progress "
 OPTIONS = {
     "count": LINES + "--by --sort --bounds --tsv --json",
     "sketch": LINES + "--by --value --visits --hex --output --output-dir",
-    "union": "--lg-k --seed --seed-file --files0-from --expect --hex --groups --sums --output",
-    "meet": "--seed --seed-file --files0-from --expect --hex --output",
-    "minus": "--seed --seed-file --hex --output",
-    "show": "--seed --seed-file --files0-from --hex --bounds --tsv --json",
-    "eval": "--lg-k --seed --seed-file --keys --sums --field --separator --bounds --tsv --json --hex --output",
-    "visits": "--lg-k --field --separator --sums --hex --seed --seed-file --files0-from --bounds --tsv --json",
-    "sum": "--value --lg-k --field --separator --seed --seed-file --files0-from --tsv --json",
+    "union": "-C --lg-k --seed --seed-file --files0-from --expect --hex --groups --sums --output",
+    "meet": "-C --seed --seed-file --files0-from --expect --hex --output",
+    "minus": "-C --seed --seed-file --hex --output",
+    "show": "-C --seed --seed-file --files0-from --hex --bounds --tsv --json",
+    "eval": "-C --lg-k --seed --seed-file --keys --sums --field --separator --bounds --tsv --json --hex --output",
+    "visits": "-C --lg-k --field --separator --sums --hex --seed --seed-file --files0-from --bounds --tsv --json",
+    "sum": "-C --value --lg-k --field --separator --seed --seed-file --files0-from --tsv --json",
 }
 FLAGS = ("--hex", "--groups", "--sums", "--visits", "--progress", "--keys")
 FAMILIES = (
@@ -232,7 +232,7 @@ def sums_flaw_of(image, own_hash):
     if image[5] & 1:
         return "is in big-endian order: write it in little-endian order"
     if not image[5] & 4 and struct.unpack_from("<H", image, 6)[0] != own_hash:
-        return "is a sketch under another seed than this command's: pass the --seed it was made with"
+        return "was made with another seed: pass that --seed"
     if not 1 <= image[0] <= 3 or image[3] not in (1, 5) or length == len(image):
         return "is damaged (its preamble, sketch type, theta or hashes are not valid): copy or make it again"
     if length is None or length > len(image):
@@ -302,7 +302,7 @@ def flaw_of(image, own_hash):
     if image[1] == 3 and image[5] & 1:
         return "is in big-endian order: write it in little-endian order"
     if image[1] > 1 and not is_empty(image) and struct.unpack_from("<H", image, 6)[0] != own_hash:
-        return "is a sketch under another seed than this command's: pass the --seed it was made with"
+        return "was made with another seed: pass that --seed"
     if not 1 <= image[0] <= 3 or length == len(image):
         return "is damaged (its preamble, theta or hashes are not valid): copy or make it again"
     if length is None or length > len(image):
@@ -535,8 +535,12 @@ def evaluated(steps, sketches, k, of_sums=False):
 
 
 def read_arguments(words):
-    """The command, its options and its files."""
-    words = list(words)
+    """The command, its options and its files. The folders before the command and that among the options are its `dirs`."""
+    words, dirs = list(words), []
+    while words and words[0].partition("=")[0] == "-C":
+        front = {}
+        set_option("count", front, words)
+        dirs.append(front["-C"])
     if words and words[0] in ("--help", "-h", "--version", "-V"):
         raise Uncomputed(words[0])
     if not words or words[0] not in OPTIONS:
@@ -588,6 +592,7 @@ def read_arguments(words):
     for option in ("--field", "--by", "--sort", "--bounds", "--hex", "--groups", "--sums", "--keys", "--output", "--output-dir", "--expect"):
         options.setdefault(option)
     options["--separator"] = options.get("--separator", "\t").encode()
+    options["dirs"] = dirs + ([options["-C"]] if "-C" in options else [])
     return command, options, words
 
 
@@ -613,7 +618,7 @@ def images_in(files, names, hex_lines):
             yield f"{shown}: ", called(name), text
             continue
         if not text:
-            raise Failure(f"{shown}: has no line, and so no image: make it again or leave it out")
+            raise Failure(f"{shown}: is empty: recreate it, or omit it")
         for number, line in enumerate(lines_of(text), 1):
             digits = line.strip(b" \t\r\f")
             if not re.fullmatch(rb"([0-9a-fA-F]{2})*", digits):
@@ -653,7 +658,7 @@ def seed_of(files, options):
     try:
         return number_of("--seed", text_of(files, value).decode().strip(" \t\n\f\r"))
     except (Fault, UnicodeDecodeError):
-        flaw = f"has no seed: a number from 0 to {M64} whose seed hash is not 0"
+        flaw = "does not contain a valid seed (a number below 2^64 whose seed hash is not 0)"
         raise Failure(f"{escaped(called(value))}: {flaw}") from None
 
 
@@ -724,6 +729,8 @@ def written(answer, files, options):
 def run(words, files, messages):
     """What the program writes to standard output. It changes the files that `--output` and `--output-dir` name."""
     command, options, names = read_arguments(words)
+    for dir in options["dirs"]:
+        files = InFolder(files, dir)
     hex_lines = options["--hex"]
     if command == "minus" and not hex_lines and len(names) != 2:
         raise Fault("not two files")
@@ -857,7 +864,7 @@ def wrong_help(case):
     """What is wrong with the text of help on a command: it names its options and no others, in lines of at most 100 bytes."""
     command = case.rpartition("help_on_")[2]
     text = bytes_of(case + ".stdout").decode()
-    named = set(re.findall(r"--[a-z0-9-]+", text)) - {"--help"}
+    named = set(re.findall(r"(?<!\S)-C|--[a-z0-9-]+", text)) - {"--help"}
     options = set(OPTIONS.get(command, "").split())
     long = [line for line in text.split("\n") if len(line.encode()) > 100]
     differ = sorted(named ^ options) if command in OPTIONS else []
@@ -883,6 +890,27 @@ def check(folder):
         sys.exit("\n".join(wrong))
     print("\n".join(uncomputed + [f"lines: {number} cases are as computed, {len(uncomputed)} are not computed"]))
     sys.exit()
+
+
+class InFolder:
+    """Files by their names in a folder of other files. The @ before a name is a folder too."""
+
+    def __init__(self, files, dir):
+        self.files, self.dir = files, dir
+
+    def path(self, name):
+        if name == "-" or name.startswith(("/", "@")):
+            return name
+        return os.path.normpath(os.path.join(self.dir.replace("@", "@/", 1), name)).replace("@/", "@", 1)
+
+    def __contains__(self, name):
+        return self.path(name) in self.files
+
+    def __getitem__(self, name):
+        return self.files[self.path(name)]
+
+    def __setitem__(self, name, text):
+        self.files[self.path(name)] = text
 
 
 class OpenFiles(dict):

@@ -78,7 +78,8 @@ def fish(help_text):
                 kind = "-f"
             else:
                 kind = f"-x -a '{' '.join(it.choices)}'" if it.choices else "-x" if it.value else "-f"
-            lines.append(f"complete -c distinct -n '__fish_seen_subcommand_from {command.name}' -l {it.flag[2:]} {kind} -d {quoted(short(it.meaning))}")
+            flag = f"-l {it.flag[2:]}" if it.flag.startswith("--") else f"-s {it.flag[1:]}"
+            lines.append(f"complete -c distinct -n '__fish_seen_subcommand_from {command.name}' {flag} {kind} -d {quoted(short(it.meaning))}")
     return "\n".join(lines) + "\n"
 
 
@@ -92,7 +93,7 @@ def zsh(help_text):
         rows = []
         for it in command.options:
             values = {"FILE": "_files", "DIR": "_files -/"}.get(it.value, f"({' '.join(it.choices)})" if it.choices else " ")
-            form = {"": "", "needed": "=", "behind": "=-", "optional": "=-"}[it.form]
+            form = {"": "", "needed": "=" if it.flag.startswith("--") else "", "behind": "=-", "optional": "=-"}[it.form]
             message = {"": "", "needed": f":{it.value}:{values}", "behind": f":{it.value}:{values}", "optional": f"::{it.value}:{values}"}[it.form]
             rows.append(f"                '{it.flag}{form}[{plain(short(it.meaning))}]{message}' \\\n")
         cases += f"        {command.name})\n            _arguments \\\n{''.join(rows)}                '--help[print the options]' \\\n                '*:file:_files'\n            ;;\n"

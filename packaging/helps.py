@@ -87,11 +87,11 @@ def command(name, line, text):
     synopsis, _, summary = joined(head).partition(": ")
     found = Command(name, synopsis, summary if line.startswith("..") else line, summary)
     for block in rest.rstrip("\n").split("\n\n"):
-        if not block.startswith("  --"):
+        if not block.startswith("  -"):
             found.paragraphs.append(joined(block))
             continue
         for row in block.split("\n"):
-            if row.startswith("  --"):
+            if row.startswith("  -"):
                 head, _, meaning = row.strip().partition("  ")
                 found.options.append(option(head, meaning.strip()))
             else:
@@ -102,7 +102,7 @@ def command(name, line, text):
 
 
 def option(head, meaning):
-    found = re.fullmatch(r"(--[a-z0-9-]+)(?:(\[=| |=)([A-Z]+)\]?)?", head)
+    found = re.fullmatch(r"(-[A-Z]|--[a-z0-9-]+)(?:(\[=| |=)([A-Z]+)\]?)?", head)
     if found is None:
         sys.exit(f"manual: the help has an option that can't be read: {head}")
     form = {None: "", " ": "needed", "=": "behind", "[=": "optional"}[found[2]]

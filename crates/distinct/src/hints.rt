@@ -6,7 +6,7 @@ use line_sketches::Flaw;
 use std::fmt;
 use std::io::ErrorKind;
 
-/// What to do about a failure, by the program's arguments; nothing if nothing is known.
+/// What to do about a failure, by the program's arguments from the command on; nothing if nothing is known.
 #[derive(Drop)]
 pub struct Hint<'a> {
     pub failure: &'a Failure,

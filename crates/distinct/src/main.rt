@@ -3,10 +3,11 @@
 //! of its fields.
 #![tactic(auto)]
 
-ghost use Rattle.std.specs.Prelude.{◌≢◌};
+ghost use Rattle.std.specs.Prelude.{◌≢◌, IfErr};
 ghost use Rattle.sketch_base.specs.Seed.{seed_hash};
 ghost use Rattle.distinct_arguments.specs.Faults.{request_action};
 ghost use Rattle.distinct_commands.specs.Operands.{SuitsAction};
+ghost use Rattle.distinct_inputs.specs.Failures.{IsOfDir};
 
 mod hints;
 mod output;
@@ -16,7 +17,7 @@ mod tests;
 
 use crate::hints::Hint;
 use crate::progress::Progress;
-use distinct_arguments::{Command, Fault, Options, Request, Seed, read_arguments};
+use distinct_arguments::{Command, Fault, Front, Options, Request, Seed, front_of, read_arguments};
 use distinct_commands::{Operands, group_files, only_expression, perform};
 use distinct_inputs::{Failure, Files, Inputs, files_in_list, seed_of};
 use lines::Key;
@@ -34,7 +35,7 @@ fn main(rt: HostRuntime) -> ExitCode {
             let words = words_of(&rt);
             let hint = Hint {
                 failure: &failure,
-                words: words.as_slice(),
+                words: words_behind_dirs(words.as_slice()),
             };
             let _ = eprintln!(rt; "distinct: {failure}{hint}");
             ExitCode::from(status)
@@ -51,6 +52,18 @@ fn words_of(rt: &HostRuntime) -> Vec<String> {
         Ok(words) => words,
         Err(_) => Vec::new(rt.alloc()),
     }
+}
+
+/// The words from the command on: those behind each `-C` in front.
+fn words_behind_dirs(words: &[String]) -> &[String] {
+    let mut rest = words;
+    for _ in words {
+        match front_of(rest) {
+            Front::Dir(_, others) => rest = others,
+            _ => break,
+        }
+    }
+    rest
 }
 
 /// The most bytes of an argument that a message prints.
@@ -74,6 +87,35 @@ fn not_text(rt: &HostRuntime) -> Failure {
     Failure::Memory
 }
 
+/// Enters a folder: names of files are then relative to it.
+fn enter(rt: &HostRuntime, dir: &str) -> Result<(), Failure>
+    ensures failed { IfErr result (IsOfDir dir.now) }
+{
+    match env::set_current_dir(rt, dir) {
+        Ok(()) => Ok(()),
+        Err(error) => match String::from_str(rt.alloc(), dir) {
+            Ok(name) => Err(Failure::NoDir(name, error)),
+            Err(_) => Err(Failure::Memory),
+        },
+    }
+}
+
+/// Enters the folder of each `-C` in front of the command, one after another, and then that among the options.
+fn enter_dirs(rt: &HostRuntime, words: &[String], options: &Options<'_>) -> Result<(), Failure> {
+    let mut rest = words;
+    for _ in words {
+        let Front::Dir(dir, others) = front_of(rest) else {
+            break;
+        };
+        enter(rt, dir)?;
+        rest = others;
+    }
+    match options.dir {
+        Some(dir) => enter(rt, dir),
+        None => Ok(()),
+    }
+}
+
 fn run(rt: &HostRuntime) -> Result<(), Failure> {
     let Ok(args) = env::args(rt) else {
         return Err(not_text(rt));
@@ -82,9 +124,12 @@ fn run(rt: &HostRuntime) -> Result<(), Failure> {
     let request = read_arguments(words.as_slice())?;
     match request {
         Request::Print(_) => run_request(rt, request, DEFAULT_UPDATE_SEED, Operands::Files(&[])),
-        Request::Run(Command::Eval, options, words) => run_eval(rt, options, words),
+        Request::Run(Command::Eval, options, expression) => {
+            run_eval(rt, options, words.as_slice(), expression)
+        }
         Request::Run(command, options, files) => {
             check_terminal(rt, command, &options)?;
+            enter_dirs(rt, words.as_slice(), &options)?;
             let seed = seed_of(rt, &options)?;
             match options.list {
                 Some(list) => {
@@ -97,14 +142,21 @@ fn run(rt: &HostRuntime) -> Result<(), Failure> {
     }
 }
 
-/// Evaluates the expression that is the only word, over the files that it names. It is read once, before any file is opened.
-fn run_eval(rt: &HostRuntime, options: Options<'_>, words: &[String]) -> Result<(), Failure> {
-    let expression = only_expression(rt.alloc(), words)?;
+/// Evaluates the expression that is the only file word, over the files that it names. `words` are all arguments. The
+/// expression is read once, before any folder is entered and any file is opened.
+fn run_eval(
+    rt: &HostRuntime,
+    options: Options<'_>,
+    words: &[String],
+    files: &[String],
+) -> Result<(), Failure> {
+    let expression = only_expression(rt.alloc(), files)?;
     if options.seed == Seed::File("-") && has_standard(expression.names.as_slice()) {
         return Err(Failure::Arguments(Fault::StandardTwice));
     }
+    enter_dirs(rt, words, &options)?;
     let seed = seed_of(rt, &options)?;
-    let request = Request::Run(Command::Eval, options, words);
+    let request = Request::Run(Command::Eval, options, files);
     run_request(rt, request, seed, Operands::Expression(&expression))
 }
 

@@ -5,9 +5,9 @@ use Rattle.std.specs.Option.{option_map_or}
 use Rattle.std.specs.List.{find}
 use Rattle.std.specs.Str.{bytes_eq}
 use Rattle.std.proofs.lemmas.Bool.Decides.{nat_tests}
-use Rattle.distinct_arguments.specs.Words.{command_of, is_help, is_version, is_option, split_option}
+use Rattle.distinct_arguments.specs.Words.{command_of, is_help, is_version, is_dir, is_option, split_option}
 use Rattle.distinct_arguments.specs.Settings.{OptionValues, default_options, Mistake, behind_file, standard_twice, with_value}
-use Rattle.distinct_arguments.specs.Arguments.{Action, runs, fails, Awaiting, Meaning, help, sets, awaits, wrong, setting_meaning, standard_uses, has_one_expression, has_lone_field, has_lone_sum, is_separator_lone, has_lone_groups, has_two_amounts, has_plain_sums, has_lone_digits, has_summed_bounds, listed_action, grouped_action, summed_action, added_action, run_action, at_meaning, at_value, command_action, action_of, ReadsOnce}
+use Rattle.distinct_arguments.specs.Arguments.{Action, runs, fails, Awaiting, Meaning, help, sets, awaits, wrong, setting_meaning, standard_uses, has_one_expression, has_lone_field, has_lone_sum, is_separator_lone, has_lone_groups, has_two_amounts, has_plain_sums, has_lone_digits, has_summed_bounds, listed_action, grouped_action, summed_action, added_action, run_action, at_meaning, at_value, command_action, first_action, Placed, within, placed_action, action_of, ReadsOnce}
 use Rattle.distinct_arguments.specs.declared.commands.Command.{Command}
 
 -- what runs at the end of two tests and a third
@@ -88,9 +88,24 @@ at_command : (found : Option Command) (next : Command → Action) (none : Action
 at_command None next none all once = once
 at_command (Some command) next none all once = all command
 
--- no request reads standard input twice
-pub once_action : (words : List (List ℕ)) → ReadsOnce (action_of words)
-once_action [] = tt
-once_action (word ∷ words) =
+once_first : (words : List (List ℕ)) → ReadsOnce (first_action words)
+once_first [] = tt
+once_first (word ∷ words) =
     at_first (is_help word) (is_version word) _ _ _ tt tt
     (at_command (command_of word) (λ command. command_action command default_options None words) _ (λ command. once_command command default_options None words) tt)
+
+at_front_dir : (other : Bool) (found : Option (List ℕ)) (a b next : Placed) → ReadsOnce a.action → ReadsOnce b.action → ReadsOnce next.action → ReadsOnce (cond other a (option_map_or (λ dir. within dir next) found b)).action
+at_front_dir true found a b next first second third = first
+at_front_dir false None a b next first second third = second
+at_front_dir false (Some dir) a b next first second third = third
+
+once_placed : (pending : Option (List ℕ)) (words : List (List ℕ)) → ReadsOnce (placed_action pending words).action
+once_placed None [] = tt
+once_placed None (word ∷ words) =
+    at_front_dir (not (is_dir (split_option word).name)) (split_option word).value _ _ _ (once_first (word ∷ words)) (once_placed (Some (split_option word).name) words) (once_placed None words)
+once_placed (Some name) [] = tt
+once_placed (Some name) (dir ∷ words) = once_placed None words
+
+-- no request reads standard input twice
+pub once_action : (words : List (List ℕ)) → ReadsOnce (action_of words)
+once_action words = once_placed None words

@@ -3,7 +3,7 @@ use Rattle.std.specs.Prelude.{ℕ, ◌≤◌, ⊤, ◌+◌, ◌==◌, ◌&&◌, 
 use Rattle.std.specs.Option.{option_map_or}
 use Rattle.std.specs.List.{find}
 use Rattle.std.specs.Str.{bytes_eq}
-use Rattle.distinct_arguments.specs.Words.{command_of, option_called, has_option, reads_lines, reads_expression, is_help, is_version, is_option, is_standard, Setting, split_option}
+use Rattle.distinct_arguments.specs.Words.{command_of, option_called, has_option, reads_lines, reads_expression, is_help, is_version, is_dir, is_option, is_standard, Setting, split_option}
 use Rattle.distinct_arguments.specs.Settings.{SeedValue, seed_number, seed_file, OptionValues, default_options, Mistake, no_command, unknown_command, unknown_option, behind_file, no_value, unneeded_value, not_one_expression, lone_field, lone_sum, lone_separator, two_amounts, plain_sums, lone_digits, summed_keys, summed_field, summed_groups, summed_bounds, lone_groups, lone_order, lone_unions, counted_groups, lone_folder, two_outputs, files_and_list, standard_twice, with_flag, with_value}
 use Rattle.distinct_arguments.specs.declared.commands.Command.{Command}
 use Rattle.distinct_arguments.specs.declared.commands.Topic.{Topic}
@@ -193,13 +193,39 @@ command_action command options (Some awaiting) [] = fails (no_value awaiting.nam
 command_action command options (Some awaiting) (value ∷ words) =
     at_value (with_value options awaiting.option awaiting.name value) (λ next. command_action command next None words)
 
--- what the program does by its arguments
-abbrev pub action_of : List (List ℕ) → Action
-action_of [] = fails no_command
-action_of (word ∷ words) =
+-- what the program does by words that don't begin with `-C`
+abbrev pub first_action : List (List ℕ) → Action
+first_action [] = fails no_command
+first_action (word ∷ words) =
     if is_help word then prints Program else
     if is_version word then prints Version else
     option_map_or (λ command. command_action command default_options None words) (command_of word) (fails (unknown_command word))
+
+-- what the program does, and before it the folders that it enters one after another
+pub record Placed : Type 0 where
+  pub dirs : List (List ℕ)
+  pub action : Action
+
+abbrev pub within : (dir : List ℕ) → Placed → Placed
+within dir placed = record { dirs = dir ∷ placed.dirs; action = placed.action }
+
+-- What the program does by words, behind the name of an option that awaits a folder or not: each `-C` in front names a
+-- folder, which is after its `=` or the next word.
+abbrev pub placed_action : Option (List ℕ) → List (List ℕ) → Placed
+placed_action None [] = record { dirs = []; action = first_action [] }
+placed_action None (word ∷ words) =
+    if not (is_dir (split_option word).name) then record { dirs = []; action = first_action (word ∷ words) } else
+    option_map_or (λ dir. within dir (placed_action None words)) (split_option word).value (placed_action (Some (split_option word).name) words)
+placed_action (Some name) [] = record { dirs = []; action = fails (no_value name) }
+placed_action (Some name) (dir ∷ words) = within dir (placed_action None words)
+
+-- the folders that arguments name in front of the command
+abbrev pub dirs_of : List (List ℕ) → List (List ℕ)
+dirs_of words = (placed_action None words).dirs
+
+-- what the program does by its arguments
+abbrev pub action_of : List (List ℕ) → Action
+action_of words = (placed_action None words).action
 
 -- an action reads standard input at most once
 abbrev pub ReadsOnce : Action → Type 0

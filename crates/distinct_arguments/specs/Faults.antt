@@ -1,11 +1,13 @@
 -- How the program reads its arguments.
-use Rattle.std.specs.Prelude.{ℕ, ◌≡◌, ◌<◌, ◌⊎◌, IsTrue, Bool, true, false, List, length, Option, Some, None, Result, Ok, Err, string_bytes}
+use Rattle.std.specs.Prelude.{ℕ, ◌≡◌, ◌<◌, ◌⊎◌, IsTrue, Bool, true, false, List, [], ◌∷◌, length, Option, Some, None, Result, Ok, Err, string_bytes}
 use Rattle.std.specs.Option.{option_map}
-use Rattle.distinct_arguments.specs.Arguments.{Action, prints, runs, fails, Meaning, help, sets, awaits, wrong, files_action, run_action, command_action}
+use Rattle.distinct_arguments.specs.Arguments.{Action, prints, runs, fails, Meaning, help, sets, awaits, wrong, files_action, run_action, command_action, first_action, dirs_of, action_of}
 use Rattle.distinct_arguments.specs.Settings.{SeedValue, seed_number, seed_file, OptionValues, Mistake, no_command, unknown_command, unknown_option, behind_file, no_value, unneeded_value, wrong_size, wrong_field, wrong_group, wrong_value, wrong_order, wrong_separator, wrong_seed, wrong_deviations, wrong_count, not_one_expression, lone_field, lone_sum, lone_separator, two_amounts, plain_sums, lone_digits, summed_keys, summed_field, summed_groups, summed_bounds, lone_groups, lone_order, lone_unions, counted_groups, lone_folder, two_outputs, files_and_list, standard_twice}
 use Rattle.distinct_arguments.specs.Words.{words_of}
 use Rattle.distinct_arguments.specs.declared.arguments.Meaning.{Meaning as MeaningOf}
 use Rattle.distinct_arguments.specs.declared.arguments.Meaning.TheVariants.{Help as MeansHelp, Sets, Awaits, Wrong as MeansWrong}
+use Rattle.distinct_arguments.specs.declared.arguments.Front.{Front}
+use Rattle.distinct_arguments.specs.declared.arguments.Front.TheVariants.{Dir, Other, Wrong as WrongFront}
 use Rattle.distinct_arguments.specs.declared.arguments.Step.{Step}
 use Rattle.distinct_arguments.specs.declared.arguments.Step.TheVariants.{Next, Help, Files, Behind, Wrong}
 use Rattle.distinct_arguments.specs.declared.commands.Command.{Command}
@@ -48,6 +50,7 @@ options_of o = record {
   output = option_map (λ name. name.now) o.output;
   folder = option_map (λ name. name.now) o.folder;
   list = option_map (λ name. name.now) o.list;
+  dir = option_map (λ name. name.now) o.dir;
   expected = o.expected;
   bounds = o.bounds;
   form = o.form;
@@ -158,3 +161,10 @@ IsStep command options count action Help = prints (HelpOn command) ≡ action
 IsStep command options count action (Files files) = files_action command options (words_of files.now) ≡ action
 IsStep command options count action (Behind files) = run_action command options (words_of files.now) ≡ action
 IsStep command options count action (Wrong fault) = ReportsMistake fault action
+
+-- The front of arguments: a folder, behind which fewer words than this count request the same, or something else.
+abbrev pub IsFront : (count : ℕ) → (words : List (List ℕ)) → Front → Type 0
+IsFront count words (Dir dir others) =
+    (length others.now < count) × (dirs_of words ≡ dir.now ∷ dirs_of (words_of others.now)) × (action_of (words_of others.now) ≡ action_of words)
+IsFront count words Other = (dirs_of words ≡ []) × (first_action words ≡ action_of words)
+IsFront count words (WrongFront fault) = ReportsMistake fault (action_of words)

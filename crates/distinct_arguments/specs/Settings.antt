@@ -11,7 +11,7 @@ use Rattle.distinct_arguments.specs.declared.options.Form.{Form}
 use Rattle.distinct_arguments.specs.declared.options.Order.{Order}
 use Rattle.distinct_arguments.specs.declared.options.Form.TheVariants.{Plain, Tsv as TsvForm, Json as JsonForm}
 use Rattle.distinct_arguments.specs.declared.options.OptionName.{OptionName}
-use Rattle.distinct_arguments.specs.declared.options.OptionName.TheVariants.{LgK, Field, Separator, By, Value, Visits, Sort, Groups, Sums, Seed, SeedFile, FileList, Expect, Progress, Bounds, Tsv, Json, Hex, Output, OutputDir, Keys}
+use Rattle.distinct_arguments.specs.declared.options.OptionName.TheVariants.{LgK, Field, Separator, By, Value, Visits, Sort, Groups, Sums, Seed, SeedFile, FileList, Expect, Progress, Bounds, Tsv, Json, Hex, Output, OutputDir, Keys, Dir}
 
 -- the seed of hashes: a number, or the name of the file that has it
 pub data SeedValue : Type 0 where
@@ -36,6 +36,7 @@ pub record OptionValues : Type 0 where
   pub output : Option (List ℕ)
   pub folder : Option (List ℕ)
   pub list : Option (List ℕ)
+  pub dir : Option (List ℕ)
   pub expected : Option ℕ
   pub bounds : Option Deviations
   pub form : Form
@@ -59,6 +60,7 @@ default_options = record {
   output = None;
   folder = None;
   list = None;
+  dir = None;
   expected = None;
   bounds = None;
   form = Plain;
@@ -149,4 +151,5 @@ with_value options Expect name value = value_or wrong_count (λ n. record option
 with_value options Bounds name value = value_or wrong_deviations (λ d. record options { bounds = Some d }) (deviations_of value)
 with_value options Output name value = Ok (record options { output = Some value })
 with_value options OutputDir name value = Ok (record options { folder = Some value })
+with_value options Dir name value = Ok (record options { dir = Some value })
 with_value options _ name value = Err (unneeded_value name)

@@ -13,7 +13,7 @@ use Rattle.distinct_arguments.specs.declared.commands.Operator.TheVariants.{Unio
 use Rattle.distinct_arguments.specs.declared.options.OptionName.{OptionName}
 use Rattle.distinct_arguments.specs.declared.options.Order.{Order}
 use Rattle.distinct_arguments.specs.declared.options.Order.TheVariants.{Name, Estimate}
-use Rattle.distinct_arguments.specs.declared.options.OptionName.TheVariants.{LgK, Field, Separator, By, Sort, Groups, Sums, Value, Visits as VisitsOption, Seed, SeedFile, FileList, Expect, Progress, Bounds, Tsv, Json, Hex, Output, OutputDir, Keys}
+use Rattle.distinct_arguments.specs.declared.options.OptionName.TheVariants.{LgK, Field, Separator, By, Sort, Groups, Sums, Value, Visits as VisitsOption, Seed, SeedFile, FileList, Expect, Progress, Bounds, Tsv, Json, Hex, Output, OutputDir, Keys, Dir}
 
 -- the bytes of words
 abbrev pub words_of : {A : Type 0} → List (String A) → List (List ℕ)
@@ -38,6 +38,10 @@ is_help word = bytes_eq word (codes "--help") || bytes_eq word (codes "-h")
 
 abbrev pub is_version : List ℕ → Bool
 is_version word = bytes_eq word (codes "--version") || bytes_eq word (codes "-V")
+
+-- the name of the option whose value is the folder to which names of files are relative
+abbrev pub is_dir : List ℕ → Bool
+is_dir name = bytes_eq name (codes "-C")
 
 -- a word that begins with a hyphen and has at least one more byte
 abbrev pub is_option : List ℕ → Bool
@@ -84,7 +88,8 @@ option_called name =
     if bytes_eq name (codes "--hex") then Some Hex else
     if bytes_eq name (codes "--output") then Some Output else
     if bytes_eq name (codes "--output-dir") then Some OutputDir else
-    if bytes_eq name (codes "--keys") then Some Keys else None
+    if bytes_eq name (codes "--keys") then Some Keys else
+    if bytes_eq name (codes "-C") then Some Dir else None
 
 -- the commands that read lines from any files or standard input
 abbrev pub reads_lines : Command → Bool
@@ -206,6 +211,7 @@ has_option command Sums = has_sums command
 has_option command Progress = makes_sketches command
 has_option command Seed = true
 has_option command SeedFile = true
+has_option command Dir = true
 has_option command FileList = has_list command
 has_option command Expect = has_expected command
 has_option command Bounds = prints_counts command

@@ -2,8 +2,8 @@
 ghost use Rattle.std.specs.Prelude.{◌≡◌, ◌+◌, ◌∷◌, true, false, Some, None, codes, length, string_bytes};
 ghost use Rattle.std.specs.Option.{option_map};
 ghost use Rattle.std.specs.Str.{bytes_eq};
-ghost use Rattle.distinct_arguments.specs.Arguments.{action_of, command_action, option_meaning, setting_meaning};
-ghost use Rattle.distinct_arguments.specs.Faults.{options_of, IsMeaning, IsStep, ParsesAs};
+ghost use Rattle.distinct_arguments.specs.Arguments.{action_of, first_action, command_action, option_meaning, setting_meaning};
+ghost use Rattle.distinct_arguments.specs.Faults.{options_of, IsFront, IsMeaning, IsStep, ParsesAs};
 ghost use Rattle.distinct_arguments.specs.Words.{Setting, is_option, words_of};
 
 use crate::commands::{Command, Request, Topic};
@@ -12,7 +12,7 @@ use crate::files::{files_request, run_request};
 use crate::options::{OptionName, Options};
 use crate::settings::{with_flag, with_value};
 use crate::words::{
-    command_of, has_option, is_help, is_option, is_version, option_called, split_option,
+    command_of, has_option, is_dir, is_help, is_option, is_version, option_called, split_option,
 };
 use std::alloc::Global;
 
@@ -167,12 +167,9 @@ fn read_command<'a>(
     }
 }
 
-/// What the arguments request, without the program's name. If they are wrong, it fails with the first fault of a word
-/// from the left; if no word has one, with the first that applies of `NotOneExpression`, `LoneField`, `LoneSum`,
-/// `LoneSeparator`, those of sums and of groups, `FilesAndList` and `StandardTwice`. If memory for the text of a fault
-/// is refused, it fails with `Memory`.
-pub fn read_arguments(words: &[String]) -> Result<Request<'_>, Fault>
-    ensures { ParsesAs result (action_of (words_of words.now)) }
+/// What words without `-C` in front request.
+fn read_words(words: &[String]) -> Result<Request<'_>, Fault>
+    ensures { ParsesAs result (first_action (words_of words.now)) }
 {
     let Some((first, rest)) = words.split_first() else {
         return Err(Fault::NoCommand);
@@ -187,5 +184,50 @@ pub fn read_arguments(words: &[String]) -> Result<Request<'_>, Fault>
     match command_of(word) {
         Some(command) => read_command(command, Options::new(), rest),
         None => Err(quoting(*first.allocator(), WrongWord::UnknownCommand, word)),
+    }
+}
+
+/// What is in front of arguments.
+#[derive(Debug, Drop)]
+pub enum Front<'a> {
+    /// `-C` with this folder, and behind both these words.
+    Dir(&'a str, &'a [String]),
+    /// A command or another word, or there is no word.
+    Other,
+    /// `-C` without a folder.
+    Wrong(Fault),
+}
+
+/// What is in front of arguments: `-C` with its folder, or something else.
+pub fn front_of(words: &[String]) -> Front<'_>
+    ensures { IsFront (length words.now) (words_of words.now) result }
+{
+    let Some((word, others)) = words.split_first() else {
+        return Front::Other;
+    };
+    let setting = split_option(word.as_str());
+    if !is_dir(setting.0) {
+        return Front::Other;
+    }
+    if let Some(dir) = setting.1 {
+        return Front::Dir(dir, others);
+    }
+    match others.split_first() {
+        Some((dir, behind)) => Front::Dir(dir.as_str(), behind),
+        None => Front::Wrong(quoting(*word.allocator(), WrongWord::NoValue, setting.0)),
+    }
+}
+
+/// What the arguments request, without the program's name. In front of the command each `-C` has a folder (`front_of`). If
+/// they are wrong, it fails with the first fault of a word from the left; if no word has one, with the first that applies of
+/// `NotOneExpression`, `LoneField`, `LoneSum`, `LoneSeparator`, those of sums and of groups, `FilesAndList` and
+/// `StandardTwice`. If memory for the text of a fault is refused, it fails with `Memory`.
+pub fn read_arguments(words: &[String]) -> Result<Request<'_>, Fault>
+    ensures { ParsesAs result (action_of (words_of words.now)) }
+{
+    match front_of(words) {
+        Front::Dir(_, others) => read_arguments(others),
+        Front::Other => read_words(words),
+        Front::Wrong(fault) => Err(fault),
     }
 }

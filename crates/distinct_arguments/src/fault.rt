@@ -7,7 +7,7 @@ use crate::words::number_of;
 use std::alloc::Global;
 use std::fmt;
 
-/// What is wrong with arguments. A text is the word or the option that is at fault.
+/// What is wrong with arguments. The string is the offending word.
 #[derive(Debug, Drop)]
 pub enum Fault {
     /// There is no argument.
@@ -207,11 +207,11 @@ impl fmt::Display for Fault {
                 f,
                 "eval --field needs --keys: without it the files have images"
             ),
-            Fault::LoneSum => write!(f, "sum needs --value N, the field of its numbers"),
+            Fault::LoneSum => write!(f, "sum needs --value M, the field that has the numbers"),
             Fault::LoneSeparator => write!(f, "--separator needs --field, --by or --value"),
             Fault::TwoAmounts => write!(
                 f,
-                "--value and --visits exclude each other: a line adds its number, or one"
+                "--value and --visits exclude each other: a line adds either its number or 1"
             ),
             Fault::PlainSums => write!(
                 f,
@@ -231,7 +231,7 @@ impl fmt::Display for Fault {
             ),
             Fault::SummedGroups => write!(
                 f,
-                "--sums and --groups exclude each other: unite the images of each group by themselves"
+                "--sums and --groups exclude each other: unite the images of each group in a run of their own"
             ),
             Fault::SummedBounds => write!(f, "--sums prints a total without bounds: drop --bounds"),
             Fault::LoneGroups => write!(f, "--by needs --hex or --output-dir"),
@@ -249,7 +249,7 @@ impl fmt::Display for Fault {
             ),
             Fault::StandardTwice => write!(
                 f,
-                "standard input would be read twice: name files, and - at most once"
+                "standard input would be read twice: read one of the two from a file"
             ),
             Fault::Memory => write!(f, "out of memory"),
         }

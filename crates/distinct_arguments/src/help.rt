@@ -9,11 +9,11 @@ const VERSION: &str = "distinct 0.2.0\n";
 const HELP: &str = "\
 distinct: counts distinct lines approximately, in little memory
 
-  distinct count [FILE..]          prints about how many distinct lines the files have together
+  distinct count [FILE..]          prints how many distinct lines the files have together
   distinct sketch [FILE..]         writes the sketch of the lines as an image
-  distinct union IMAGE..           writes the sketch of the lines that any of these saw
-  distinct meet IMAGE..            .. that all of these saw
-  distinct minus IMAGE IMAGE       .. that the first saw and the second did not
+  distinct union IMAGE..           writes the union of the sketches
+  distinct meet IMAGE..            writes their intersection: the lines that all of them saw
+  distinct minus IMAGE IMAGE       writes the lines that the first sketch saw and the second did not
   distinct show IMAGE..            prints one line per image
   distinct eval EXPRESSION         prints one line on a set expression, such as 'mon + tue - wed'
   distinct visits [FILE..]         prints how many lines occur once, twice, 3 to 4 times, and so on
@@ -24,6 +24,9 @@ distinct: counts distinct lines approximately, in little memory
 
 Options come before files. A value is the next word, or follows =, as in --field 2 and --field=2. If
 an option is given twice, the last counts. After -- every word is a file.
+
+With -C DIR names of files are relative to the folder DIR. -C may also stand before the command, and
+several times: each DIR there is relative to the one before.
 
 A file named - is standard input. Without a FILE, count, sketch, visits and sum read standard input.
 With --files0-from FILE the names of the files are read from FILE, where each ends in a NUL byte,
@@ -40,86 +43,93 @@ refused, 2 for wrong arguments.
 ";
 
 const COUNT: &str = "\
-distinct count [OPTION..] [FILE..]: prints about how many distinct lines the files have together
+distinct count [OPTION..] [FILE..]: prints how many distinct lines the files have together,
+exactly or estimated
 
   --lg-k N            keep 2^N hashes, N from 4 to 26; default 12, with a standard error of 1.6
                       percent
-  --field N           a line's key is its field N, from 1, as cut has it: a line without a
-                      separator is its own key, and one of fewer fields has the empty key
-  --by N              count the lines of each group: those whose field N is the same, as --field has
-                      it. Prints a line per group: its name, a tab, its count; in ascending order
-  --sort ORDER        with --by: name, the default, or estimate: the greatest estimate first, and
-                      equal ones by name
+  --field N           use field N as a line's key, counted from 1 as in cut -f N. A line without a
+                      separator is its own key, and a line of fewer fields has the empty key
+  --by N              count each group of lines that have the same field N, as in cut -f N. Print a
+                      line per group, in ascending order: its name, a tab, its count
+  --sort ORDER        with --by, the order of groups: name, the default, or estimate, the greatest
+                      first and equal ones by name
   --separator C       the byte between fields, with --field or --by; default a tab
   --seed N            the seed of the hashes, from 0 to 2^64 - 1; default 9001
-  --seed-file FILE    the seed is the number in FILE, and not in the process list
-  --files0-from FILE  the names of the files are in FILE, each ended by a NUL byte
-  --progress          about once a second, a line to standard error: lines, bytes and the
-                      estimate so far, or the number of groups
+  --seed-file FILE    read the seed from FILE, which keeps it out of the process list
+  --files0-from FILE  read the names of the files from FILE, each ended by a NUL byte
+  --progress          about once a second, report on standard error how many lines and bytes were
+                      read, and the estimate or the number of groups so far
   --bounds[=Z]        print three numbers: the estimate, its lower and its upper bound, for Z
                       standard deviations; Z is 1, 2 or 3, default 2
   --tsv               print values separated by tabs, under a line of their names
   --json              print a JSON object
+  -C DIR              names of files are relative to the folder DIR
 ";
 
 const SKETCH: &str = "\
 distinct sketch [OPTION..] [FILE..]: writes the sketch of the files' lines as an image
 
   --lg-k N            keep 2^N hashes, N from 4 to 26; default 12
-  --field N           a line's key is its field N, from 1, as cut has it
-  --by N              with --hex: sketch the lines of each group, which have the same field N, and
-                      write a line per group: its name, a tab, its image; in ascending order
-  --output-dir DIR    with --by: write the image of each group to a file of its own in DIR, which is
-                      made if it is missing: DIR/GROUP.theta
-  --value M           write an image of sums: of each key the sum of the numbers in field M of its
-                      lines, as sum has them. Without --by and --progress
-  --visits            write an image of sums: of each key the number of its lines, as visits reads
-                      them. Without --value, --by and --progress
+  --field N           use field N as a line's key, counted from 1 as in cut -f N
+  --by N              with --hex: sketch each group of lines that have the same field N. Write a
+                      line per group, in ascending order: its name, a tab, its image
+  --output-dir DIR    with --by: write the image of each group to DIR/GROUP.theta. DIR is created if
+                      it is missing
+  --value M           write an image of sums: for each key, the sum of field M (see distinct sum
+                      --help). Not with --by or --progress
+  --visits            write an image of sums: for each key, the number of its lines (see distinct
+                      visits --help). Not with --value, --by or --progress
   --separator C       the byte between fields, with --field, --by or --value; default a tab
   --seed N            the seed of the hashes, from 0 to 2^64 - 1; default 9001
-  --seed-file FILE    the seed is the number in FILE, and not in the process list
-  --files0-from FILE  the names of the files are in FILE, each ended by a NUL byte
-  --progress          about once a second, a line to standard error: lines, bytes and the
-                      estimate so far, or the number of groups
-  --hex               the image in hexadecimal, on a line
+  --seed-file FILE    read the seed from FILE, which keeps it out of the process list
+  --files0-from FILE  read the names of the files from FILE, each ended by a NUL byte
+  --progress          about once a second, report on standard error how many lines and bytes were
+                      read, and the estimate or the number of groups so far
+  --hex               write the image in hexadecimal, as one line
   --output FILE       write to FILE, all or nothing, instead of standard output
+  -C DIR              names of files are relative to the folder DIR
 ";
 
 const UNION: &str = "\
-distinct union [OPTION..] IMAGE..: writes the sketch of the lines that any of these saw
+distinct union [OPTION..] IMAGE..: writes the union of the sketches
 
-  --lg-k N            keep 2^N hashes, N from 4 to 26; default 12. An image doesn't show its N: give
-                      the same N as to sketch
+  --lg-k N            keep 2^N hashes, N from 4 to 26; default 12. Pass the same N as to sketch: an
+                      image does not record it
   --seed N            the seed of the images, from 0 to 2^64 - 1; default 9001
-  --seed-file FILE    the seed is the number in FILE, and not in the process list
-  --files0-from FILE  the names of the files are in FILE, each ended by a NUL byte
-  --expect N          fail if there are not N images; N from 1 to 2^32 - 1
-  --hex               images in hexadecimal, one per line, in and out
-  --groups            with --hex: a line has the name of a group, a tab and an image, as those that
-                      sketch writes of groups; unite them by group, and write such a line per group
-  --sums              the images are of sums: the sums of a key are added. Without --groups
+  --seed-file FILE    read the seed from FILE, which keeps it out of the process list
+  --files0-from FILE  read the names of the files from FILE, each ended by a NUL byte
+  --expect N          fail unless there are exactly N images; N from 1 to 2^32 - 1
+  --hex               read and write images in hexadecimal, one per line
+  --groups            with --hex: unite the images of each group. A line has the name of a group, a
+                      tab and an image, as sketch writes lines of groups
+  --sums              unite images of sums: the sums of a key are added. Not with --groups
   --output FILE       write to FILE, all or nothing, instead of standard output
+  -C DIR              names of files are relative to the folder DIR
 ";
 
 const MEET: &str = "\
-distinct meet [OPTION..] IMAGE..: writes the sketch of the lines that all of these saw
+distinct meet [OPTION..] IMAGE..: writes the intersection of the sketches: the lines that all of
+them saw
 
   --seed N            the seed of the images, from 0 to 2^64 - 1; default 9001
-  --seed-file FILE    the seed is the number in FILE, and not in the process list
-  --files0-from FILE  the names of the files are in FILE, each ended by a NUL byte
-  --expect N          fail if there are not N images; N from 1 to 2^32 - 1
-  --hex               images in hexadecimal, one per line, in and out
+  --seed-file FILE    read the seed from FILE, which keeps it out of the process list
+  --files0-from FILE  read the names of the files from FILE, each ended by a NUL byte
+  --expect N          fail unless there are exactly N images; N from 1 to 2^32 - 1
+  --hex               read and write images in hexadecimal, one per line
   --output FILE       write to FILE, all or nothing, instead of standard output
+  -C DIR              names of files are relative to the folder DIR
 ";
 
 const MINUS: &str = "\
-distinct minus [OPTION..] IMAGE IMAGE: writes the sketch of the lines that the first saw and
-the second did not
+distinct minus [OPTION..] IMAGE IMAGE: writes the difference of two sketches: the lines that the
+first saw and the second did not
 
   --seed N            the seed of the images, from 0 to 2^64 - 1; default 9001
-  --seed-file FILE    the seed is the number in FILE, and not in the process list
-  --hex               images in hexadecimal, one per line, in and out
+  --seed-file FILE    read the seed from FILE, which keeps it out of the process list
+  --hex               read and write images in hexadecimal, one per line
   --output FILE       write to FILE, all or nothing, instead of standard output
+  -C DIR              names of files are relative to the folder DIR
 ";
 
 const SHOW: &str = "\
@@ -127,13 +137,14 @@ distinct show [OPTION..] IMAGE..: prints one line per image: how many distinct l
 exactly or estimated, how many hashes it retains, and its theta
 
   --seed N            the seed of the images, from 0 to 2^64 - 1; default 9001
-  --seed-file FILE    the seed is the number in FILE, and not in the process list
-  --files0-from FILE  the names of the files are in FILE, each ended by a NUL byte
+  --seed-file FILE    read the seed from FILE, which keeps it out of the process list
+  --files0-from FILE  read the names of the files from FILE, each ended by a NUL byte
   --hex               images in hexadecimal, one per line
   --bounds=Z          the bounds of an estimate are for Z standard deviations; Z is 1, 2 or 3,
                       default 2
   --tsv               print values separated by tabs, under a line of their names
   --json              print a JSON object per image, one per line
+  -C DIR              names of files are relative to the folder DIR
 ";
 
 const EVAL: &str = "\
@@ -141,63 +152,64 @@ distinct eval [OPTION..] EXPRESSION: prints one line on a set expression over im
 distinct lines it has, exactly or estimated, how many hashes it retains, and its theta
 
   EXPRESSION is one argument, in quotes, such as 'mon.theta + tue.theta - wed.theta'. Its names are
-  those of files. + and | are the union, & is the intersection, and a word that is - alone is the
+  those of files. + and | are the union, & is the intersection, and - as a word of its own is the
   difference. & binds tighter than the others, which bind alike, from the left; parentheses group.
   Put a name between two \" if it has a blank, a tab, an LF or one of ( ) & + |, or is - alone.
 
   --lg-k N            keep 2^N hashes of a union, N from 4 to 26; default 12
   --seed N            the seed of the hashes, from 0 to 2^64 - 1; default 9001
-  --seed-file FILE    the seed is the number in FILE, and not in the process list
-  --keys              the files have lines, not images; each is sketched with 2^N hashes
-  --field N           with --keys: a line's key is its field N, from 1, as cut has it
-  --sums              the images are of sums: + and & add the sums of a key, and a difference keeps
-                      those of its first part. Prints the total, as sum does, without --bounds and
-                      without --keys
+  --seed-file FILE    read the seed from FILE, which keeps it out of the process list
+  --keys              the files have lines, not images: sketch each with 2^N hashes
+  --field N           with --keys: use field N as a line's key, counted from 1 as in cut -f N
+  --sums              read images of sums and print the total, as sum does. + and & add the sums of
+                      a key, - keeps the sums on its left. Not with --bounds or --keys
   --separator C       the byte between fields, with --field; default a tab
   --bounds=Z          the bounds of an estimate are for Z standard deviations; Z is 1, 2 or 3,
                       default 2
   --tsv               print values separated by tabs, under a line of their names
   --json              print a JSON object
-  --hex               images in hexadecimal: each file has one line, and so has that of --output
+  --hex               read and write images in hexadecimal, one line per file
   --output FILE       write the image of the result to FILE, all or nothing, and print nothing
+  -C DIR              names of files are relative to the folder DIR
 ";
 
 const VISITS: &str = "\
-distinct visits [OPTION..] [FILE..]: how many distinct lines occur once in all files, twice,
-3 to 4 times, 5 to 8 times and so on: a line for each range up to the most frequent line retained
+distinct visits [OPTION..] [FILE..]: prints how many distinct lines occur once, twice, 3 to 4 times,
+5 to 8 times and so on, a line for each range up to that of the most frequent line retained
 
-  --lg-k N            keep 2^N hashes, N from 4 to 26; default 12. The numbers are exact up to 2^N
-                      distinct lines, and else estimates; how often a retained line occurs is exact
-  --field N           a line's key is its field N, from 1, as cut has it
+  --lg-k N            keep 2^N hashes, N from 4 to 26; default 12. Up to 2^N distinct lines the
+                      numbers are exact, beyond that they are estimates
+  --field N           use field N as a line's key, counted from 1 as in cut -f N
   --separator C       the byte between fields, with --field; default a tab
-  --sums              the files are images of sums, at least one, as sketch writes them of visits:
-                      print this of the lines of all. Give the same N of --lg-k as to sketch, and
-                      the field to sketch alone
+  --sums              read images of sums, at least one, as sketch writes them of visits, and count
+                      the lines of all. Pass the same --lg-k as to sketch, --field to sketch only
   --hex               with --sums: images in hexadecimal, one per line
   --seed N            the seed of the hashes, from 0 to 2^64 - 1; default 9001
-  --seed-file FILE    the seed is the number in FILE, and not in the process list
-  --files0-from FILE  the names of the files are in FILE, each ended by a NUL byte
+  --seed-file FILE    read the seed from FILE, which keeps it out of the process list
+  --files0-from FILE  read the names of the files from FILE, each ended by a NUL byte
   --bounds[=Z]        print bounds of each number too, for Z standard deviations; Z is 1, 2 or 3,
                       default 2
   --tsv               print values separated by tabs, under a line of their names
   --json              print a JSON object per range, each on a line
+  -C DIR              names of files are relative to the folder DIR
 ";
 
 const SUM: &str = "\
-distinct sum --value M [OPTION..] [FILE..]: prints about the total of the numbers in field M of all
-lines. It is exact up to 2^N distinct keys, and else estimated from the keys that are retained, each
-with the exact sum of its numbers
+distinct sum --value M [OPTION..] [FILE..]: prints the total of the numbers in field M of all lines.
+It is exact up to 2^N distinct keys; beyond that it is estimated from the retained keys, each with
+the exact sum of its numbers
 
-  --value M           a line's number is its field M, from 1, as cut has it: decimal digits alone,
-                      below 2^64. A line without such a number is an error
+  --value M           add up field M, counted from 1 as in cut -f M: decimal digits only, below
+                      2^64. A line without such a number is an error
   --lg-k N            keep 2^N hashes, N from 4 to 26; default 12
-  --field N           a line's key is its field N, from 1, as cut has it; default the whole line
+  --field N           use field N as a line's key, counted from 1 as in cut -f N; default the line
   --separator C       the byte between fields; default a tab
   --seed N            the seed of the hashes, from 0 to 2^64 - 1; default 9001
-  --seed-file FILE    the seed is the number in FILE, and not in the process list
-  --files0-from FILE  the names of the files are in FILE, each ended by a NUL byte
+  --seed-file FILE    read the seed from FILE, which keeps it out of the process list
+  --files0-from FILE  read the names of the files from FILE, each ended by a NUL byte
   --tsv               print values separated by tabs, under a line of their names
   --json              print a JSON object
+  -C DIR              names of files are relative to the folder DIR
 ";
 
 /// The text on a topic.

@@ -1,6 +1,6 @@
 //! The arguments of the program `distinct`: what they request, the first fault in them, its message, and the texts of help.
 //!
-//! Arguments are a command, its options, and then files. Nothing here opens a file or prints.
+//! Arguments are folders by `-C`, a command, its options, and then files. Nothing here opens a file or prints.
 #![tactic(auto)]
 
 mod arguments;
@@ -13,7 +13,7 @@ mod options;
 mod settings;
 mod words;
 
-pub use arguments::read_arguments;
+pub use arguments::{Front, front_of, read_arguments};
 pub use commands::{Command, Operator, Request, Topic};
 pub use fault::{Escaped, Fault};
 pub use help::text_of;

@@ -28,6 +28,7 @@ pub enum OptionName {
     Output,
     OutputDir,
     Keys,
+    Dir,
 }
 
 /// The seed of hashes: a number, or the name of the file that has it.
@@ -89,6 +90,8 @@ pub struct Options<'a> {
     pub folder: Option<&'a str>,
     /// The file that has the names of the files, each ended by a NUL byte.
     pub list: Option<&'a str>,
+    /// The folder to which names of files are relative; the working directory if `None`.
+    pub dir: Option<&'a str>,
     /// The number of images that are expected, from 1 to 2^32 - 1 if it was read from arguments.
     pub expected: Option<u64>,
     /// The standard deviations of the bounds that are printed; `None` if no bounds are.

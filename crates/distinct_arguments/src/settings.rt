@@ -39,6 +39,7 @@ impl<'a> Options<'a> {
             output: None,
             folder: None,
             list: None,
+            dir: None,
             expected: None,
             bounds: None,
             form: Form::Plain,
@@ -152,6 +153,7 @@ pub(crate) fn with_value<'a>(
         OptionName::FileList => changed.list = Some(value),
         OptionName::Output => changed.output = Some(value),
         OptionName::OutputDir => changed.folder = Some(value),
+        OptionName::Dir => changed.dir = Some(value),
         _ => return Err(quoting(alloc, WrongWord::UnneededValue, name)),
     }
     Ok(changed)

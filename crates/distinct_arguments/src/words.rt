@@ -1,7 +1,7 @@
 //! Single words of the arguments.
 ghost use Rattle.std.specs.Prelude.{◌≡◌, ◌==◌, slice_index};
 ghost use Rattle.std.specs.Option.{option_map};
-ghost use Rattle.distinct_arguments.specs.Words.{command_of, option_called, has_option, is_help, is_version, is_option};
+ghost use Rattle.distinct_arguments.specs.Words.{command_of, option_called, has_option, is_help, is_version, is_dir, is_option};
 ghost use Rattle.distinct_arguments.specs.Words.{split_option, number_of, byte_of, seed_of, deviations_of, order_of};
 
 use crate::commands::{Command, Operator};
@@ -39,6 +39,13 @@ pub(crate) fn is_version(word: &str) -> bool
     ensures { result ≡ is_version word.now }
 {
     word == "--version" || word == "-V"
+}
+
+/// Whether the name of an option is that of a folder, to which names of files are relative.
+pub(crate) fn is_dir(name: &str) -> bool
+    ensures { result ≡ is_dir name.now }
+{
+    name == "-C"
 }
 
 /// Whether a word looks like an option: it begins with a hyphen and has at least one more byte.
@@ -88,6 +95,7 @@ pub fn option_called(name: &str) -> Option<OptionName>
         "--output" => Some(OptionName::Output),
         "--output-dir" => Some(OptionName::OutputDir),
         "--keys" => Some(OptionName::Keys),
+        "-C" => Some(OptionName::Dir),
         _ => None,
     }
 }
@@ -106,6 +114,7 @@ pub fn has_option(command: Command, option: OptionName) -> bool
     match option {
         OptionName::Seed => true,
         OptionName::SeedFile => true,
+        OptionName::Dir => true,
         OptionName::LgK => {
             reads_lines || is_eval || command == Command::Combine(Operator::Union)
         }

@@ -30,7 +30,7 @@ use Rattle.grouped_lines.specs.United.{HasFirstFlawed}
 use Rattle.grouped_lines.specs.declared.united.LineFlaw.{LineFlaw}
 use Rattle.grouped_lines.specs.declared.united.LineFlaw.TheVariants.{NoTab as NoTabAtAll, NoHex as NoDigits, NoImage}
 use Rattle.distinct_inputs.specs.declared.failure.Failure.{Failure}
-use Rattle.distinct_inputs.specs.declared.failure.Failure.TheVariants.{NotText, Arguments, NoFiles, NotTwo, NoExpression, NoName, NoNul, NoSeed, Terminal, WrongCount, Memory, Unreadable, NoSketch, NoSums, NoHex, NoTab, NoLine, PastGreatest, PastUnion, NotANumber, NotWritten}
+use Rattle.distinct_inputs.specs.declared.failure.Failure.TheVariants.{NotText, Arguments, NoFiles, NotTwo, NoExpression, NoDir, NoName, NoNul, NoSeed, Terminal, WrongCount, Memory, Unreadable, NoSketch, NoSums, NoHex, NoTab, NoLine, PastGreatest, PastUnion, NotANumber, NotWritten}
 
 -- the exit status: 2 if the arguments are wrong, else 1
 abbrev pub failure_status : Failure → ℕ
@@ -184,6 +184,12 @@ abbrev pub IsOfSeed : SeedValue → Failure → Type 0
 IsOfSeed (seed_number n) (Arguments (ZeroSeed number)) = (number ≡ n) × (seed_hash n ≡ 0)
 IsOfSeed (seed_number n) _ = ⊥
 IsOfSeed (seed_file name) failure = IsOfSeedFile name None failure
+
+-- memory was refused, or the folder of this name can't be entered
+abbrev pub IsOfDir : (name : List ℕ) → Failure → Type 0
+IsOfDir name Memory = ⊤
+IsOfDir name (NoDir folder error) = string_bytes folder ≡ name
+IsOfDir name _ = ⊥
 
 -- memory was refused, or the output of this name failed
 abbrev pub IsOfWriting : (name : List ℕ) → Failure → Type 0

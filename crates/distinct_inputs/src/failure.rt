@@ -31,6 +31,8 @@ pub enum Failure {
     WrongCount(u64, u64),
     /// The images found are not as many as the names of an expression, the second number: with `--hex` each file has one.
     NotOneEach(u64, u64),
+    /// The folder that `-C` names can't be entered.
+    NoDir(String, io::Error),
     /// A file has no seed: no number, or one that can't be a seed.
     NoSeed(String),
     /// A list of files has an empty name, or one that is not UTF-8, at this number, from 1.
@@ -178,10 +180,7 @@ impl fmt::Display for Defect<'_> {
                 "is of version {version}; versions 1 to 3 are read: write it in version 3, uncompressed"
             ),
             Flaw::BigEndian => write!(f, "is in big-endian order: write it in little-endian order"),
-            Flaw::Seed => write!(
-                f,
-                "is a sketch under another seed than this command's: pass the --seed it was made with"
-            ),
+            Flaw::Seed => write!(f, "was made with another seed: pass that --seed"),
             Flaw::Cut => write!(f, "is cut short: copy or make it again"),
             Flaw::Longer => write!(
                 f,
@@ -283,9 +282,14 @@ impl fmt::Display for Failure {
                 f,
                 "{found} images found, {names} expected: with eval --hex each file has one line"
             ),
+            Failure::NoDir(name, error) => write!(
+                f,
+                "-C {}: the folder can't be entered: {error}",
+                Named(name)
+            ),
             Failure::NoSeed(name) => write!(
                 f,
-                "{}: has no seed: a number from 0 to 18446744073709551615 whose seed hash is not 0",
+                "{}: does not contain a valid seed (a number below 2^64 whose seed hash is not 0)",
                 Named(name)
             ),
             Failure::NoName(name, number) => write!(
@@ -326,7 +330,7 @@ impl fmt::Display for Failure {
             ),
             Failure::NoLine(name) => write!(
                 f,
-                "{}: has no line, and so no image: make it again or leave it out",
+                "{}: is empty: recreate it, or omit it",
                 Named(name)
             ),
             Failure::PastGreatest(name, line) => write!(

@@ -109,7 +109,7 @@ impl<'a> Sources for Files<'a> {
         let input = open(self.rt, name)?;
         if name == "-" && self.rt.stdin().is_terminal() {
             let _ = eprintln!(self.rt;
-                "distinct: waits for lines; Ctrl-D on a line of its own ends them"
+                "distinct: reading from the terminal; press Ctrl-D to finish"
             );
         }
         Ok(Some(input))

@@ -1,5 +1,5 @@
 //! The answers of the reader of the arguments of `distinct`.
-use distinct_arguments::{Command, Form, Options, Request, Seed, read_arguments};
+use distinct_arguments::{Command, Form, Front, Options, Request, Seed, front_of, read_arguments};
 use std::alloc::{AllocError, Global};
 use std::fmt::Display;
 use std::str;
@@ -47,6 +47,7 @@ fn put_names(text: &mut String, options: &Options<'_>) -> Result<(), AllocError>
         Seed::File(name) => write!(text, " seed_file={name}")?,
     }
     put_value(text, "list", options.list)?;
+    put_value(text, "dir", options.dir)?;
     put_value(text, "output", options.output)?;
     put_value(text, "folder", options.folder)
 }
@@ -95,11 +96,27 @@ fn put_run(
     Ok(())
 }
 
+/// Appends the folder of each `-C` in front of words.
+fn put_dirs(text: &mut String, words: &[String]) -> Result<(), AllocError> {
+    let mut rest = words;
+    for _ in words {
+        let Front::Dir(dir, others) = front_of(rest) else {
+            break;
+        };
+        write!(text, "{dir}/ ")?;
+        rest = others;
+    }
+    Ok(())
+}
+
 /// Appends what the words of a text request, or the fault in them.
 fn put_words(text: &mut String, words: &[String]) -> Result<(), AllocError> {
     match read_arguments(words) {
         Ok(Request::Print(topic)) => write!(text, "{topic:?}"),
-        Ok(Request::Run(command, options, files)) => put_run(text, command, &options, files),
+        Ok(Request::Run(command, options, files)) => {
+            put_dirs(text, words)?;
+            put_run(text, command, &options, files)
+        }
         Err(fault) => write!(text, "{fault:?}"),
     }
 }

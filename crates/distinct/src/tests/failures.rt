@@ -54,7 +54,7 @@ fn prints_rare_failures(rt: HostRuntime) -> Result<(), Fail> {
         (
             Kind::NoSeed,
             1,
-            "it: has no seed: a number from 0 to 18446744073709551615 whose seed hash is not 0",
+            "it: does not contain a valid seed (a number below 2^64 whose seed hash is not 0)",
         ),
         (Kind::NoName, 1, "it: name 2 is empty or not UTF-8 text"),
         (Kind::Memory, 1, "out of memory"),
