@@ -1,27 +1,31 @@
 /* Theta sketches, and tuple sketches of sums of 64 bits, for C.
  *
- * A theta sketch estimates how many distinct values a stream has. It retains the hashes of the values that are below its
- * theta; if they become too many, it lowers theta and drops the greatest hashes. The estimate is
+ * A theta sketch estimates how many distinct values a stream has. It retains the hashes of the values that are below
+ * its theta; if they become too many, it lowers theta and drops the greatest hashes. The estimate is
  * retained * KC_MAX_THETA / theta.
  *
- * Handles. An object is kept in a handle, a variable of one of the eight types below. Begin each with {0}, which has no
- * object. A call that makes an object puts it into such a handle, and is refused with KC_INVALID_ARGUMENT if the handle has
- * one already. The free calls take the object out again, so freeing twice does nothing. Don't copy a handle: two copies
- * would own one object.
+ * Handles. An object is kept in a handle, a variable of one of the types below that have it as their only member. Begin
+ * each with {0}, which has no object. A call that makes an object puts it into such a handle, and is refused with
+ * KC_INVALID_ARGUMENT if the handle has one already. The free calls take the object out again, so freeing twice does
+ * nothing. Don't copy a handle: two copies would own one object. A call that takes a handle as const leaves its object
+ * as it was.
  *
- * Statuses. Each call returns KC_OK, or the reason why it was refused. A call that is refused changes nothing, neither an object
- * nor an output, except where its comment says otherwise. KC_INVALID_ARGUMENT is also the status of a null pointer, and of
- * a handle without an object. A buffer of input may be null if its count is 0. No call stops the process.
+ * Statuses. A call returns KC_OK, or the reason why it was refused; kc_status_text has the reason in words. A call that
+ * is refused changes nothing, neither an object nor an output, except where its comment says otherwise.
+ * KC_INVALID_ARGUMENT is also the status of a null pointer, and of a handle without an object. A buffer of input may be
+ * null if its count is 0. No call stops the process.
  *
  * Buffers of output. A call that writes bytes writes their number to *length. If the buffer has no room for them, the
- * status is KC_TOO_SMALL, the buffer is as before, and *length is the room that is needed. So call with a room of 0 first
- * (the buffer may then be null), allocate, and call again.
+ * status is KC_TOO_SMALL, the buffer is as before, and *length is the room that is needed. So call with a room of 0
+ * first (the buffer may then be null), allocate, and call again.
  *
- * Seeds. Sketches are merged only if their seeds have one seed hash. KC_DEFAULT_SEED is the seed that all implementations
- * of the DataSketches format use if no other is passed. The seed of an empty sketch is never checked.
+ * Seeds. Sketches are merged only if their seeds have one seed hash. KC_DEFAULT_SEED is the seed that all
+ * implementations of the DataSketches format use if no other is passed. The seed of an empty sketch is never checked.
  *
- * Threads. A handle is used by one call at a time. No two arguments of a call may overlap, except two buffers of input.
+ * Threads. A handle is used by one call at a time, also by calls that take it as const. No two arguments of a call may
+ * overlap, except two buffers of input.
  */
+/* Made by bindings/c/make_calls.py from the exports of crates/sketch_c: change those. */
 #ifndef KAFTANCLAY_H
 #define KAFTANCLAY_H
 #include <stddef.h>
@@ -30,14 +34,15 @@
 extern "C" {
 #endif
 
+#define KC_VERSION "0.2.0"
 #define KC_DEFAULT_SEED UINT64_C(9001)
 #define KC_MAX_THETA UINT64_C(9223372036854775807)
 
 typedef uint32_t kc_status;
 enum {
     KC_OK = 0,               /* the call did what it promises */
-    KC_INVALID_ARGUMENT = 1, /* a null pointer, a handle without an object or one that has one already, a number out of range,
-                              * a sketch of another seed */
+    KC_INVALID_ARGUMENT = 1, /* a null pointer, a handle without an object or one that has one already, a number out of
+                              * range, a sketch of another seed */
     KC_INVALID_DATA = 2,     /* the bytes begin with no sketch of this seed */
     KC_OUT_OF_MEMORY = 3,    /* the memory that the call requested was refused */
     KC_POLICY = 4,           /* a sum would be 2^64 or more */
@@ -63,217 +68,288 @@ typedef struct {
 
 /* A number of 128 bits: low + 2^64 * high. */
 typedef struct {
-    uint64_t low;
-    uint64_t high;
+    uint64_t low;  /* the number modulo 2^64 */
+    uint64_t high; /* the number divided by 2^64, rounded down */
 } kc_wide;
 
 /* ---- Theta sketches that take updates ---- */
 
-/* Makes an empty sketch of 2^lg_k nominal entries. Refused with KC_INVALID_ARGUMENT if lg_k isn't from 4 to 26 or the hash of
- * the seed is 0, and with KC_OUT_OF_MEMORY. */
+/* Makes an empty sketch of 2^lg_k nominal entries. Refused with KC_INVALID_ARGUMENT if lg_k isn't from 4 to 26 or the
+ * hash of the seed is 0, and with KC_OUT_OF_MEMORY. */
 kc_status kc_theta_new(kc_theta *sketch, uint8_t lg_k, uint64_t seed);
-/* Makes a sketch whose slots grow by a resize factor, 1, 2, 4 or 8 (kc_theta_new takes 8), and that begins at a theta from 1 to
- * KC_MAX_THETA, also after a reset. With the factor 1 it has all of its slots from the start. No value depends on the factor.
- * Refused as kc_theta_new is, and with KC_INVALID_ARGUMENT if the factor or the theta is out of range. */
-kc_status kc_theta_new_with(kc_theta *sketch, uint8_t lg_k, uint64_t seed, uint32_t resize_factor, uint64_t starting_theta);
-/* Frees the object of a handle, if it has one. */
+/* Makes a sketch whose slots grow by a resize factor, 1, 2, 4 or 8 (kc_theta_new takes 8), and that begins at a theta
+ * from 1 to KC_MAX_THETA, also after a reset. With the factor 1 it has all of its slots from the start. No value
+ * depends on the factor. Refused as kc_theta_new is, and with KC_INVALID_ARGUMENT if the factor or the theta is out of
+ * range. */
+kc_status kc_theta_new_with(kc_theta *sketch, uint8_t lg_k, uint64_t seed, uint32_t resize_factor,
+                            uint64_t starting_theta);
+/* Copies a sketch, with its theta and settings, into another handle. Refused with KC_OUT_OF_MEMORY. */
+kc_status kc_theta_clone(const kc_theta *sketch, kc_theta *out);
+/* Frees the sketch of a handle, if it has one. */
 kc_status kc_theta_free(kc_theta *sketch);
-/* Updates a sketch with a hash of 63 bits. A hash that is 0 or at least theta is not retained, but the sketch is nonempty
- * afterwards. Refused with KC_OUT_OF_MEMORY, only for a new hash below theta. */
+/* Updates a sketch with a hash of 63 bits. A hash that is 0 or at least theta is not retained, but the sketch is
+ * nonempty afterwards. Refused with KC_OUT_OF_MEMORY, only for a new hash below theta. */
 kc_status kc_theta_update_hash(kc_theta *sketch, uint64_t hash);
-/* Updates a sketch with many hashes in their order; a few hundred per call are fast. Without hashes nothing changes. Refused with
- * KC_OUT_OF_MEMORY at a new hash below theta; then exactly the hashes before it have been inserted, and the same call may be
- * repeated. */
-kc_status kc_theta_update_hashes(kc_theta *sketch, const uint64_t *hashes, size_t count);
-/* Updates a sketch with a number, by the hash of its eight bytes, the lowest first: the hash of the other implementations. Refused
- * as kc_theta_update_hash is. */
+/* Updates a sketch with a number, by the hash of its eight bytes, the lowest first: the hash of the other
+ * implementations. Refused as kc_theta_update_hash is. */
 kc_status kc_theta_update_u64(kc_theta *sketch, uint64_t number);
-/* Updates a sketch with bytes, by their hash: the hash of the other implementations. A string of no bytes is a value too. Refused as
- * kc_theta_update_hash is. */
+/* Updates a sketch with bytes, by their hash: the hash of the other implementations. A string of no bytes is a value
+ * too. Refused as kc_theta_update_hash is. */
 kc_status kc_theta_update_bytes(kc_theta *sketch, const void *bytes, size_t count);
-/* Updates a sketch with byte strings in their order, each by its hash. They lie one after another in `bytes`, the first from offset
- * 0, and ends[i] is the offset of the end of string i. Refused with KC_INVALID_ARGUMENT if an end is below the one before it or
- * above `count`. Refused with KC_OUT_OF_MEMORY; then only the first strings have been inserted, perhaps none, and the same call may
- * be repeated. */
-kc_status kc_theta_update_strings(kc_theta *sketch, const void *bytes, size_t count, const uint64_t *ends, size_t strings);
-/* If the sketch retains more than its k = 2^lg_k nominal entries, lowers theta to the (k+1)th smallest hash and keeps the k
- * hashes below it. Refused with KC_OUT_OF_MEMORY, only if it retains more. */
+/* Updates a sketch with many hashes in their order, each as kc_theta_update_hash does; a few hundred per call are fast.
+ * Without hashes nothing changes. Refused with KC_OUT_OF_MEMORY at a new hash below theta; then exactly the hashes
+ * before it have been inserted, and the same call may be repeated. */
+kc_status kc_theta_update_hashes(kc_theta *sketch, const uint64_t *hashes, size_t count);
+/* If the sketch retains more than its k = 2^lg_k nominal entries, lowers theta to the (k+1)th smallest hash and keeps
+ * the k hashes below it. Refused with KC_OUT_OF_MEMORY, only if it retains more. */
 kc_status kc_theta_trim(kc_theta *sketch);
 /* Makes a sketch empty again, as when it was new. */
 kc_status kc_theta_reset(kc_theta *sketch);
 /* Writes the sketch's state: how many hashes it retains, its theta, and whether it is empty. */
-kc_status kc_theta_state(kc_theta *sketch, kc_state *out);
+kc_status kc_theta_state(const kc_theta *sketch, kc_state *out);
 /* Writes the image of the sketch's ordered compact form, in the DataSketches format. Refused with KC_OUT_OF_MEMORY. */
-kc_status kc_theta_image(kc_theta *sketch, void *out, size_t room, uint64_t *length);
+kc_status kc_theta_image(const kc_theta *sketch, void *out, size_t room, uint64_t *length);
 /* Makes the sketch's ordered compact form, of the same value, untrimmed. Refused with KC_OUT_OF_MEMORY. */
-kc_status kc_theta_compact(kc_theta *sketch, kc_compact *out);
-/* Copies a sketch, with its theta and settings, into another handle. Refused with KC_OUT_OF_MEMORY. */
-kc_status kc_theta_clone(kc_theta *sketch, kc_theta *out);
+kc_status kc_theta_compact(const kc_theta *sketch, kc_compact *out);
+/* Updates a sketch with byte strings in their order, each by its hash. They lie one after another in `bytes`, the first
+ * from offset 0, and ends[i] is the offset of the end of string i. The call allocates eight bytes per string. Refused
+ * with KC_INVALID_ARGUMENT if an end is below the one before it or past the bytes. Refused with KC_OUT_OF_MEMORY; then
+ * only the first strings have been inserted, perhaps none, and the same call may be repeated. */
+kc_status kc_theta_update_strings(kc_theta *sketch, const void *bytes, size_t bytes_count, const uint64_t *ends,
+                                  size_t ends_count);
 
 /* ---- Compact theta sketches ---- */
 
-/* Reads the sketch that the bytes begin with, under this seed; bytes after it are ignored. Serial versions 1, 2 and 3 are read.
- * Refused with KC_INVALID_DATA if the bytes begin with no sketch of this seed, and with KC_OUT_OF_MEMORY. */
+/* Reads the sketch that the bytes begin with, under this seed; bytes after it are ignored. Serial versions 1, 2 and 3
+ * are read. Refused with KC_INVALID_DATA if the bytes begin with no sketch of this seed, and with KC_OUT_OF_MEMORY. */
 kc_status kc_compact_read(kc_compact *sketch, const void *image, size_t count, uint64_t seed);
+/* Frees the sketch of a handle, if it has one. */
 kc_status kc_compact_free(kc_compact *sketch);
 /* Copies a sketch into another handle. Refused with KC_OUT_OF_MEMORY. */
-kc_status kc_compact_clone(kc_compact *sketch, kc_compact *out);
-kc_status kc_compact_state(kc_compact *sketch, kc_state *out);
+kc_status kc_compact_clone(const kc_compact *sketch, kc_compact *out);
+/* Writes the sketch's state, as kc_theta_state does. */
+kc_status kc_compact_state(const kc_compact *sketch, kc_state *out);
 /* Writes the sketch's image, in the DataSketches format. Refused with KC_OUT_OF_MEMORY. */
-kc_status kc_compact_image(kc_compact *sketch, void *out, size_t room, uint64_t *length);
+kc_status kc_compact_image(const kc_compact *sketch, void *out, size_t room, uint64_t *length);
 
 /* ---- Unions ---- */
 
-/* Makes a union of 2^lg_k nominal entries, refused as kc_theta_new is. Its value has the hashes of all its sketches below their
- * least theta; if these are more than k = 2^lg_k, the k least, and its theta is the (k+1)th. */
+/* Makes a union of 2^lg_k nominal entries. Its value has the hashes of all its sketches below their least theta; if
+ * these are more than k = 2^lg_k, the k least, and its theta is the (k+1)th. Refused as kc_theta_new is. */
 kc_status kc_union_new(kc_union *u, uint8_t lg_k, uint64_t seed);
+/* Frees the union of a handle, if it has one. */
 kc_status kc_union_free(kc_union *u);
-/* Merge a sketch into the union. The sketch doesn't change; an empty sketch changes nothing. Refused with KC_INVALID_ARGUMENT
- * for a sketch of another seed, with KC_INVALID_DATA for bytes that begin with no sketch of the union's seed, and with
- * KC_FAILED if the union has failed, whatever the sketch; then nothing has changed. Refused with KC_OUT_OF_MEMORY: if memory runs
- * out in the merge, the union has failed until it is reset; if it runs out while an image is read, nothing has changed. */
-kc_status kc_union_add(kc_union *u, kc_theta *sketch);
-kc_status kc_union_add_compact(kc_union *u, kc_compact *sketch);
+/* Merges a sketch that takes updates into the union. An empty sketch changes nothing. Refused with KC_INVALID_ARGUMENT
+ * for a sketch of another seed, and with KC_FAILED if the union has failed, whatever the sketch; then nothing has
+ * changed. Refused with KC_OUT_OF_MEMORY; then the union has failed until it is reset. */
+kc_status kc_union_add(kc_union *u, const kc_theta *sketch);
+/* Merges a compact sketch into the union, as kc_union_add does. */
+kc_status kc_union_add_compact(kc_union *u, const kc_compact *sketch);
+/* Merges the sketch that the bytes begin with, read under the union's seed, as kc_union_add does. Refused with
+ * KC_INVALID_DATA if the bytes begin with no sketch of this seed, and otherwise as kc_union_add is; but if memory runs
+ * out while the image is read, nothing has changed. */
 kc_status kc_union_add_image(kc_union *u, const void *image, size_t count);
 /* Makes the union's value as an ordered compact sketch. Refused with KC_FAILED if the union has failed, and with
  * KC_OUT_OF_MEMORY. */
-kc_status kc_union_result(kc_union *u, kc_compact *out);
+kc_status kc_union_result(const kc_union *u, kc_compact *out);
 /* Writes the image of that sketch, refused as kc_union_result is. */
-kc_status kc_union_image(kc_union *u, void *out, size_t room, uint64_t *length);
+kc_status kc_union_image(const kc_union *u, void *out, size_t room, uint64_t *length);
 /* Makes the union empty again, as when it was new, and ends a failure. */
 kc_status kc_union_reset(kc_union *u);
 
 /* ---- Intersections and differences ---- */
 
-/* Makes an intersection, which has no value before its first sketch. Refused with KC_INVALID_ARGUMENT if the hash of the seed is
- * 0, and with KC_OUT_OF_MEMORY. */
-kc_status kc_intersection_new(kc_intersection *i, uint64_t seed);
-kc_status kc_intersection_free(kc_intersection *i);
-/* Intersect with a sketch, which doesn't change: the value keeps the hashes that all sketches share below their least theta. It
- * is empty for good once a sketch is, or once sketches that have hashes share none while theta is KC_MAX_THETA; it then accepts
- * every sketch. Refused with KC_INVALID_ARGUMENT for a sketch of another seed, with KC_INVALID_DATA for bytes that begin with no
- * sketch of the intersection's seed, and with KC_OUT_OF_MEMORY; nothing has changed then. */
-kc_status kc_intersection_add(kc_intersection *i, kc_theta *sketch);
-kc_status kc_intersection_add_compact(kc_intersection *i, kc_compact *sketch);
-kc_status kc_intersection_add_image(kc_intersection *i, const void *image, size_t count);
-/* Makes the intersection's value as an ordered compact sketch. Refused with KC_INVALID_ARGUMENT before the first sketch, and
- * with KC_OUT_OF_MEMORY. */
-kc_status kc_intersection_result(kc_intersection *i, kc_compact *out);
-/* Makes the difference of two sketches, as an ordered compact sketch: the hashes of the first that the second lacks, below the
- * lesser theta. Pass three different handles. Refused with KC_INVALID_ARGUMENT if the hash of the seed is 0, and, unless the first
- * sketch is empty, if one that isn't empty is of another seed; and with KC_OUT_OF_MEMORY. With an empty first sketch the
- * difference is empty, and the second sketch may be of any seed. */
-kc_status kc_difference(kc_compact *first, kc_compact *second, uint64_t seed, kc_compact *out);
+/* Makes an intersection, which has no value before its first sketch. Refused with KC_INVALID_ARGUMENT if the hash of
+ * the seed is 0, and with KC_OUT_OF_MEMORY. */
+kc_status kc_intersection_new(kc_intersection *intersection, uint64_t seed);
+/* Frees the intersection of a handle, if it has one. */
+kc_status kc_intersection_free(kc_intersection *intersection);
+/* Intersects with a sketch that takes updates: the value keeps the hashes that all sketches share below their least
+ * theta. It is empty for good once a sketch is, or once sketches that have hashes share none while theta is
+ * KC_MAX_THETA; it then accepts every sketch. Refused with KC_INVALID_ARGUMENT for a sketch of another seed, and with
+ * KC_OUT_OF_MEMORY; nothing has changed then. */
+kc_status kc_intersection_add(kc_intersection *intersection, const kc_theta *sketch);
+/* Intersects with a compact sketch, as kc_intersection_add does. */
+kc_status kc_intersection_add_compact(kc_intersection *intersection, const kc_compact *sketch);
+/* Intersects with the sketch that the bytes begin with, read under the intersection's seed, as kc_intersection_add
+ * does. Refused with KC_INVALID_DATA if the bytes begin with no sketch of this seed, and otherwise as
+ * kc_intersection_add is; nothing has changed then. */
+kc_status kc_intersection_add_image(kc_intersection *intersection, const void *image, size_t count);
+/* Makes the intersection's value as an ordered compact sketch. Refused with KC_INVALID_ARGUMENT before the first
+ * sketch, and with KC_OUT_OF_MEMORY. */
+kc_status kc_intersection_result(const kc_intersection *intersection, kc_compact *out);
+/* Makes the difference of two sketches, as an ordered compact sketch: the hashes of the first that the second lacks,
+ * below the lesser theta. Pass three different handles. Refused with KC_INVALID_ARGUMENT if the hash of the seed is 0,
+ * and, unless the first sketch is empty, if one that isn't empty is of another seed; and with KC_OUT_OF_MEMORY. With an
+ * empty first sketch the difference is empty, and the second sketch may be of any seed. */
+kc_status kc_difference(const kc_compact *first, const kc_compact *second, uint64_t seed, kc_compact *out);
 
 /* ---- Images alone ---- */
 
-/* Writes the state of the sketch that the bytes begin with, read under this seed. Refused with KC_INVALID_DATA if the bytes begin
- * with no sketch of this seed, and with KC_OUT_OF_MEMORY. */
+/* Writes the state of the sketch that the bytes begin with, read under this seed. Refused with KC_INVALID_DATA if the
+ * bytes begin with no sketch of this seed, and with KC_OUT_OF_MEMORY. */
 kc_status kc_image_state(const void *image, size_t count, uint64_t seed, kc_state *out);
-/* Write the image of the intersection, or of the difference, of the sketches that two images begin with, read under this seed. The
- * difference has the hashes of the first that the second lacks. Refused as kc_image_state is. */
-kc_status kc_images_intersect(const void *first, size_t first_count, const void *second, size_t second_count, uint64_t seed,
-                              void *out, size_t room, uint64_t *length);
-kc_status kc_images_difference(const void *first, size_t first_count, const void *second, size_t second_count, uint64_t seed,
-                               void *out, size_t room, uint64_t *length);
+/* Writes the image of the intersection of the sketches that two images begin with, read under this seed. Refused as
+ * kc_image_state is. */
+kc_status kc_images_intersect(const void *first, size_t first_count, const void *second, size_t second_count,
+                              uint64_t seed, void *out, size_t room, uint64_t *length);
+/* Writes the image of their difference, which has the hashes of the first that the second lacks. Refused as
+ * kc_image_state is. */
+kc_status kc_images_difference(const void *first, size_t first_count, const void *second, size_t second_count,
+                               uint64_t seed, void *out, size_t room, uint64_t *length);
 
 /* ---- Tuple sketches of sums ---- */
 
-/* Make an empty sketch, as kc_theta_new and kc_theta_new_with do. */
-kc_status kc_sums_new(kc_sums *sketch, uint8_t lg_k, uint64_t seed);
-kc_status kc_sums_new_with(kc_sums *sketch, uint8_t lg_k, uint64_t seed, uint32_t resize_factor, uint64_t starting_theta);
-kc_status kc_sums_free(kc_sums *sketch);
-/* Add a value to the sum of a key's hash, which is 0 at first. A hash that is 0 or at least theta is not retained, but the sketch
- * is nonempty afterwards. Refused with KC_POLICY if the sum would be 2^64 or more, and with KC_OUT_OF_MEMORY, only for a new hash
- * below theta. */
-kc_status kc_sums_add_hash(kc_sums *sketch, uint64_t hash, uint64_t value);
-kc_status kc_sums_add_u64(kc_sums *sketch, uint64_t number, uint64_t value);
-kc_status kc_sums_add_bytes(kc_sums *sketch, const void *bytes, size_t count, uint64_t value);
-kc_status kc_sums_trim(kc_sums *sketch);
-kc_status kc_sums_reset(kc_sums *sketch);
-kc_status kc_sums_state(kc_sums *sketch, kc_state *out);
-/* Writes the image of the sketch's ordered compact form: after each hash the eight bytes of its sum, the lowest first. Refused with
- * KC_OUT_OF_MEMORY. */
-kc_status kc_sums_image(kc_sums *sketch, void *out, size_t room, uint64_t *length);
-/* Makes the sketch's ordered compact form, of the same value, untrimmed. Refused with KC_OUT_OF_MEMORY. */
-kc_status kc_sums_compact(kc_sums *sketch, kc_compact_sums *out);
+/* Makes an empty sketch, as kc_theta_new does. */
+kc_status kc_sums_new(kc_sums *sums, uint8_t lg_k, uint64_t seed);
+/* Makes a sketch with a resize factor and a starting theta, as kc_theta_new_with does. */
+kc_status kc_sums_new_with(kc_sums *sums, uint8_t lg_k, uint64_t seed, uint32_t resize_factor, uint64_t starting_theta);
 /* Copies a sketch, with its sums, its theta and settings, into another handle. Refused with KC_OUT_OF_MEMORY. */
-kc_status kc_sums_clone(kc_sums *sketch, kc_sums *out);
-/* Writes the total of a sketch, the sum of its sums, below 2^96. The estimate of the total of all values that were added is
- * this total * KC_MAX_THETA / theta (kc_total, kc_total_decimal, kc_total_text). */
-kc_status kc_sums_total(kc_sums *sketch, kc_wide *out);
+kc_status kc_sums_clone(const kc_sums *sums, kc_sums *out);
+/* Frees the sketch of a handle, if it has one. */
+kc_status kc_sums_free(kc_sums *sums);
+/* Adds a value to the sum of a hash, which is 0 at first. A hash that is 0 or at least theta is not retained, but the
+ * sketch is nonempty afterwards. Refused with KC_POLICY if the sum would be 2^64 or more, and with KC_OUT_OF_MEMORY,
+ * only for a new hash below theta. */
+kc_status kc_sums_add_hash(kc_sums *sums, uint64_t hash, uint64_t value);
+/* Adds a value to the sum of a number, by its hash as in kc_theta_update_u64. Refused as kc_sums_add_hash is. */
+kc_status kc_sums_add_u64(kc_sums *sums, uint64_t number, uint64_t value);
+/* Adds a value to the sum of bytes, by their hash as in kc_theta_update_bytes. Refused as kc_sums_add_hash is. */
+kc_status kc_sums_add_bytes(kc_sums *sums, const void *bytes, size_t count, uint64_t value);
+/* Cuts a sketch to its nominal entries, as kc_theta_trim does. */
+kc_status kc_sums_trim(kc_sums *sums);
+/* Makes a sketch empty again, as when it was new. */
+kc_status kc_sums_reset(kc_sums *sums);
+/* Writes the sketch's state, as kc_theta_state does. */
+kc_status kc_sums_state(const kc_sums *sums, kc_state *out);
+/* Writes the image of the sketch's ordered compact form: after each hash the eight bytes of its sum, the lowest first.
+ * Refused with KC_OUT_OF_MEMORY. */
+kc_status kc_sums_image(const kc_sums *sums, void *out, size_t room, uint64_t *length);
+/* Makes the sketch's ordered compact form, of the same value, untrimmed. Refused with KC_OUT_OF_MEMORY. */
+kc_status kc_sums_compact(const kc_sums *sums, kc_compact_sums *out);
+/* Writes the total of a sketch, the sum of its sums, below 2^96. The estimate of the total of all values that were
+ * added is this total * KC_MAX_THETA / theta (kc_total, kc_total_decimal, kc_total_rounded, kc_total_text). */
+kc_status kc_sums_total(const kc_sums *sums, kc_wide *out);
+
+/* ---- Compact tuple sketches of sums ---- */
 
 /* Reads the sketch that the bytes begin with, under this seed, as kc_compact_read does. */
-kc_status kc_compact_sums_read(kc_compact_sums *sketch, const void *image, size_t count, uint64_t seed);
-kc_status kc_compact_sums_free(kc_compact_sums *sketch);
-kc_status kc_compact_sums_state(kc_compact_sums *sketch, kc_state *out);
-kc_status kc_compact_sums_image(kc_compact_sums *sketch, void *out, size_t room, uint64_t *length);
-/* Writes the hashes of the sketch and their sums, in the order of the image, to two arrays of `room` numbers each, and their
- * number to *count. If room is less, the status is KC_TOO_SMALL, the arrays are as before, and *count is the room that is
- * needed. */
-kc_status kc_compact_sums_entries(kc_compact_sums *sketch, uint64_t *hashes, uint64_t *sums, size_t room, uint64_t *count);
-kc_status kc_compact_sums_total(kc_compact_sums *sketch, kc_wide *out);
+kc_status kc_compact_sums_read(kc_compact_sums *sums, const void *image, size_t count, uint64_t seed);
+/* Frees the sketch of a handle, if it has one. */
+kc_status kc_compact_sums_free(kc_compact_sums *sums);
+/* Writes the sketch's state, as kc_theta_state does. */
+kc_status kc_compact_sums_state(const kc_compact_sums *sums, kc_state *out);
+/* Writes the sketch's image, as kc_sums_image does. */
+kc_status kc_compact_sums_image(const kc_compact_sums *sums, void *out, size_t room, uint64_t *length);
+/* Writes the hashes of the sketch and their sums, in the order of the image, to two arrays of `room` numbers each, and
+ * their number to *count. If room is less, the status is KC_TOO_SMALL, the arrays are as before, and *count is the room
+ * that is needed. */
+kc_status kc_compact_sums_entries(const kc_compact_sums *sums, uint64_t *hashes, uint64_t *values, size_t room,
+                                  uint64_t *count);
+/* Writes the total of a sketch, as kc_sums_total does. */
+kc_status kc_compact_sums_total(const kc_compact_sums *sums, kc_wide *out);
 
-/* Makes a union of 2^lg_k nominal entries, refused as kc_theta_new is. Its value is that of a union of theta sketches, and beside
- * each hash the sum of the sums of all sketches. */
+/* ---- Unions of tuple sketches of sums ---- */
+
+/* Makes a union of 2^lg_k nominal entries, refused as kc_theta_new is. Its value is that of a union of theta sketches,
+ * and beside each hash the sum of the sums of all sketches. */
 kc_status kc_sums_union_new(kc_sums_union *u, uint8_t lg_k, uint64_t seed);
+/* Frees the union of a handle, if it has one. */
 kc_status kc_sums_union_free(kc_sums_union *u);
-/* Merge a sketch into the union, as kc_union_add and so on do. Refused as these are; and with KC_POLICY if the sums of one hash are
- * 2^64 or more together, after which the union has failed until it is reset. */
-kc_status kc_sums_union_add(kc_sums_union *u, kc_sums *sketch);
-kc_status kc_sums_union_add_compact(kc_sums_union *u, kc_compact_sums *sketch);
+/* Merges a sketch that takes updates into the union, as kc_union_add does. Refused as that call is; and with KC_POLICY
+ * if the sums of one hash are 2^64 or more together, after which the union has failed until it is reset. */
+kc_status kc_sums_union_add(kc_sums_union *u, const kc_sums *sketch);
+/* Merges a compact sketch into the union, as kc_sums_union_add does. */
+kc_status kc_sums_union_add_compact(kc_sums_union *u, const kc_compact_sums *sketch);
+/* Merges the sketch that the bytes begin with, as kc_union_add_image does. Refused as that call and kc_sums_union_add
+ * are. */
 kc_status kc_sums_union_add_image(kc_sums_union *u, const void *image, size_t count);
-/* Make the union's value as an ordered compact sketch, or write its image. Refused with KC_FAILED if the union has failed, and
- * with KC_OUT_OF_MEMORY. */
-kc_status kc_sums_union_result(kc_sums_union *u, kc_compact_sums *out);
-kc_status kc_sums_union_image(kc_sums_union *u, void *out, size_t room, uint64_t *length);
+/* Makes the union's value as an ordered compact sketch. Refused with KC_FAILED if the union has failed, and with
+ * KC_OUT_OF_MEMORY. */
+kc_status kc_sums_union_result(const kc_sums_union *u, kc_compact_sums *out);
+/* Writes the image of that sketch, refused as kc_sums_union_result is. */
+kc_status kc_sums_union_image(const kc_sums_union *u, void *out, size_t room, uint64_t *length);
 /* Makes the union empty again, as when it was new, and ends a failure. */
 kc_status kc_sums_union_reset(kc_sums_union *u);
 
-/* Makes an intersection, refused as kc_intersection_new is. Its value is that of an intersection of theta sketches, and beside
- * each hash the sum of the sums of all sketches. */
-kc_status kc_sums_intersection_new(kc_sums_intersection *i, uint64_t seed);
-kc_status kc_sums_intersection_free(kc_sums_intersection *i);
-/* Intersect with a sketch, as kc_intersection_add and so on do. Refused as these are, and with KC_POLICY if the sums of one hash
- * are 2^64 or more together; nothing has changed then. */
-kc_status kc_sums_intersection_add(kc_sums_intersection *i, kc_sums *sketch);
-kc_status kc_sums_intersection_add_compact(kc_sums_intersection *i, kc_compact_sums *sketch);
-kc_status kc_sums_intersection_add_image(kc_sums_intersection *i, const void *image, size_t count);
-/* Makes the intersection's value as an ordered compact sketch. Refused with KC_INVALID_ARGUMENT before the first sketch, and
- * with KC_OUT_OF_MEMORY. */
-kc_status kc_sums_intersection_result(kc_sums_intersection *i, kc_compact_sums *out);
+/* ---- Intersections and differences of tuple sketches of sums ---- */
+
+/* Makes an intersection, refused as kc_intersection_new is. Its value is that of an intersection of theta sketches, and
+ * beside each hash the sum of the sums of all sketches. */
+kc_status kc_sums_intersection_new(kc_sums_intersection *intersection, uint64_t seed);
+/* Frees the intersection of a handle, if it has one. */
+kc_status kc_sums_intersection_free(kc_sums_intersection *intersection);
+/* Intersects with a sketch that takes updates, as kc_intersection_add does. Refused as that call is, and with KC_POLICY
+ * if the sums of one hash are 2^64 or more together; nothing has changed then. */
+kc_status kc_sums_intersection_add(kc_sums_intersection *intersection, const kc_sums *sketch);
+/* Intersects with a compact sketch, as kc_sums_intersection_add does. */
+kc_status kc_sums_intersection_add_compact(kc_sums_intersection *intersection, const kc_compact_sums *sketch);
+/* Intersects with the sketch that the bytes begin with, as kc_intersection_add_image does. Refused as that call and
+ * kc_sums_intersection_add are. */
+kc_status kc_sums_intersection_add_image(kc_sums_intersection *intersection, const void *image, size_t count);
+/* Makes the intersection's value as an ordered compact sketch. Refused with KC_INVALID_ARGUMENT before the first
+ * sketch, and with KC_OUT_OF_MEMORY. */
+kc_status kc_sums_intersection_result(const kc_sums_intersection *intersection, kc_compact_sums *out);
 /* Makes the difference of two sketches, as kc_difference does; each hash keeps the sum that it has in the first. */
-kc_status kc_sums_difference(kc_compact_sums *first, kc_compact_sums *second, uint64_t seed, kc_compact_sums *out);
+kc_status kc_sums_difference(const kc_compact_sums *first, const kc_compact_sums *second, uint64_t seed,
+                             kc_compact_sums *out);
 
-/* ---- Hashes and estimates ---- */
+/* ---- Hashes ---- */
 
-/* Write the hash that the update calls insert, of 63 bits: the first half of MurmurHash3 x64 128 without its lowest bit. */
+/* Writes the hash of bytes under a seed, which the update calls insert, of 63 bits: the first half of MurmurHash3 x64
+ * 128 without its lowest bit. */
 kc_status kc_hash_bytes(uint64_t seed, const void *bytes, size_t count, uint64_t *hash);
+/* Writes the hash of a number's eight bytes under a seed, the lowest byte first, likewise. */
 kc_status kc_hash_u64(uint64_t seed, uint64_t number, uint64_t *hash);
-/* The estimate of a state is the fraction retained * KC_MAX_THETA / theta. Writes its numerator; its denominator is theta. */
+
+/* ---- Estimates ---- */
+
+/* Writes the numerator of the estimate of a state, the fraction retained * KC_MAX_THETA / theta; its denominator is
+ * theta. */
 kc_status kc_estimate_numerator(uint64_t retained, kc_wide *out);
-/* Writes the estimate of a state rounded down to `places` decimals, from 0 to 19: its whole part, and the decimals as one number
- * below 10^places. Refused with KC_INVALID_ARGUMENT if no sketch has such a state or there are more decimals. */
+/* Writes the estimate of a state rounded down to `places` decimals, from 0 to 19: its whole part, and the decimals as
+ * one number below 10^`places`. Refused with KC_INVALID_ARGUMENT if no sketch has such a state or there are more
+ * decimals. */
 kc_status kc_estimate_decimal(uint64_t retained, uint64_t theta, uint32_t places, kc_wide *whole, uint64_t *decimals);
-/* Writes bounds of the number of distinct values by 1, 2 or 3 standard deviations: the ends of the Wilson score interval, rounded
- * outwards. If hashes are random, the number is within them in about 68, 95 or 99.7 of 100 sketches; that isn't proved. Refused
- * with KC_INVALID_ARGUMENT if no sketch has such a state or `deviations` isn't 1, 2 or 3. */
+/* Writes the estimate of a state as text with `places` decimals, rounded down and without a final 0 byte: at most 49
+ * bytes. Refused as kc_estimate_decimal is. */
+kc_status kc_estimate_text(const kc_state *state, uint32_t places, char *text, size_t room, uint64_t *length);
+/* Writes the nearest whole number to the estimate of a state; a half is rounded up. Refused with KC_INVALID_ARGUMENT if
+ * no sketch has such a state. */
+kc_status kc_estimate_rounded(uint64_t retained, uint64_t theta, kc_wide *out);
+/* Writes bounds of the number of distinct values by 1, 2 or 3 standard deviations: the ends of the Wilson score
+ * interval, rounded outwards. If hashes are random, the number is within them in about 68, 95 or 99.7 of 100 sketches;
+ * that isn't proved. Refused with KC_INVALID_ARGUMENT if no sketch has such a state or `deviations` isn't 1, 2 or 3. */
 kc_status kc_count_bounds(uint64_t retained, uint64_t theta, uint32_t deviations, kc_wide *lower, kc_wide *upper);
 /* Writes the estimate of the total of all values, total * KC_MAX_THETA / theta, rounded down to `places` decimals, as
- * kc_estimate_decimal writes an estimate; theta is that of the sketch's state. Refused with KC_INVALID_ARGUMENT if no sketch has
- * such a total and theta (the total isn't below 2^64 * theta) or there are more decimals. */
+ * kc_estimate_decimal writes an estimate; theta is that of the sketch's state. Refused with KC_INVALID_ARGUMENT if no
+ * sketch has such a total and theta (the total isn't below 2^64 * theta) or there are more decimals. */
 kc_status kc_total_decimal(const kc_wide *total, uint64_t theta, uint32_t places, kc_wide *whole, uint64_t *decimals);
-/* Write the estimate of a state, or that of a total, as text with `places` decimals, rounded down and without a final 0 byte.
- * Refused as kc_estimate_decimal and kc_total_decimal are. */
-kc_status kc_estimate_text(const kc_state *state, uint32_t places, char *out, size_t room, uint64_t *length);
-kc_status kc_total_text(const kc_wide *total, uint64_t theta, uint32_t places, char *out, size_t room, uint64_t *length);
+/* Writes the estimate of the total of all values as text with `places` decimals, rounded down and without a final 0
+ * byte: at most 59 bytes. Refused as kc_total_decimal is. */
+kc_status kc_total_text(const kc_wide *total, uint64_t theta, uint32_t places, char *text, size_t room,
+                        uint64_t *length);
+/* Writes the nearest whole number to the estimate of the total of all values; a half is rounded up. Refused with
+ * KC_INVALID_ARGUMENT if no sketch has such a total and theta. */
+kc_status kc_total_rounded(const kc_wide *total, uint64_t theta, kc_wide *out);
+/* Writes a number of 128 bits as text, without a final 0 byte: at most 39 bytes. */
+kc_status kc_wide_text(const kc_wide *number, char *text, size_t room, uint64_t *length);
 
-/* The estimate of a state in floating point. Pass a state that a call has written. */
+/* ---- The library ---- */
+
+/* Returns what a status means, as a text with a final 0 byte, which is never freed. Any number may be passed. */
+const char *kc_status_text(kc_status status);
+/* Returns the version of the library that the program is linked with, as such a text; that of this header is KC_VERSION. */
+const char *kc_version(void);
+
+/* ---- Estimates in floating point ---- */
+
+/* Returns the estimate of a state. Pass a state that a call has written. */
 static inline double kc_estimate(const kc_state *state) {
     return (double)state->retained * ((double)KC_MAX_THETA / (double)state->theta);
 }
 
-/* The estimate of the total of all values in floating point; theta isn't 0. */
+/* Returns the estimate of the total of all values; theta isn't 0. */
 static inline double kc_total(const kc_wide *total, uint64_t theta) {
     return ((double)total->low + 18446744073709551616.0 * (double)total->high) * ((double)KC_MAX_THETA / (double)theta);
 }

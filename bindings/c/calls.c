@@ -1,299 +1,504 @@
-/* The calls of kaftanclay.h. Each tests its pointers for null, and then calls the proved export of its name with the prefix kcp_.
- * Nothing else is done here, but the texts of estimates. */
+/* The calls of kaftanclay.h. Each tests its pointers for null, and that two that may not be one variable are two, and then calls
+ * the proved export of its name with the prefix kcp_. Nothing else is done here. Made by make_calls.py from the exports of
+ * crates/sketch_c: change those.
+ *
+ * A handle is const if the contract of the export says that its object is as it was. The export takes it by &mut all the same,
+ * which needs the cast, and which is why two calls at once must not read one handle. */
 #include "proved.h"
-#include <string.h>
 
-_Static_assert(sizeof(kc_theta) == sizeof(void *) && sizeof(kc_state) == 24 && sizeof(kc_wide) == 16 && sizeof(size_t) == 8, "the layout of the proved library");
+_Static_assert(sizeof(kc_theta) == 8, "the layout of the proved library");
+_Static_assert(sizeof(kc_compact) == 8, "the layout of the proved library");
+_Static_assert(sizeof(kc_union) == 8, "the layout of the proved library");
+_Static_assert(sizeof(kc_intersection) == 8, "the layout of the proved library");
+_Static_assert(sizeof(kc_sums) == 8, "the layout of the proved library");
+_Static_assert(sizeof(kc_compact_sums) == 8, "the layout of the proved library");
+_Static_assert(sizeof(kc_sums_union) == 8, "the layout of the proved library");
+_Static_assert(sizeof(kc_sums_intersection) == 8, "the layout of the proved library");
+_Static_assert(sizeof(kc_state) == 24, "the layout of the proved library");
+_Static_assert(sizeof(kc_wide) == 16, "the layout of the proved library");
+_Static_assert(offsetof(kc_state, retained) == 0, "the layout of the proved library");
+_Static_assert(offsetof(kc_state, theta) == 8, "the layout of the proved library");
+_Static_assert(offsetof(kc_state, empty) == 16, "the layout of the proved library");
+_Static_assert(offsetof(kc_wide, low) == 0, "the layout of the proved library");
+_Static_assert(offsetof(kc_wide, high) == 8, "the layout of the proved library");
+_Static_assert(sizeof(size_t) == 8, "the layout of the proved library");
 
 #define REFUSE_UNLESS(condition) \
     do { if (!(condition)) return KC_INVALID_ARGUMENT; } while (0)
 
-/* A buffer may be null if its count is 0; the proved calls get another pointer then. */
-static uint8_t nothing[8];
+/* A buffer may be null if its count is 0; the proved calls get another pointer then, each buffer of output its own. */
+static uint64_t nothing[4];
 #define IS_BUFFER(at, count) ((at) != NULL || (count) == 0)
 #define INPUT(at) ((at) != NULL ? (const uint8_t *)(at) : (const uint8_t *)nothing)
-#define OUTPUT(at) ((at) != NULL ? (uint8_t *)(at) : nothing)
+#define OUTPUT(at, number) ((at) != NULL ? (uint8_t *)(at) : (uint8_t *)(nothing + (number)))
+#define NUMBERS(at, number) ((at) != NULL ? (at) : nothing + (number))
 
-/* The calls on one handle, of each kind of object. */
-#define CALLS_OF_KIND(kind) \
-    kc_status kc_##kind##_free(kc_##kind *h) { REFUSE_UNLESS(h); kcp_##kind##_free(h); return KC_OK; }
-#define STATE_AND_IMAGE_OF_KIND(kind) \
-    kc_status kc_##kind##_state(kc_##kind *h, kc_state *out) { REFUSE_UNLESS(h && out); return kcp_##kind##_state(h, out); } \
-    kc_status kc_##kind##_image(kc_##kind *h, void *out, size_t room, uint64_t *length) { \
-        REFUSE_UNLESS(h && IS_BUFFER(out, room) && length); return kcp_##kind##_image(h, OUTPUT(out), room, length); }
-CALLS_OF_KIND(theta)
-CALLS_OF_KIND(compact)
-CALLS_OF_KIND(union)
-CALLS_OF_KIND(intersection)
-CALLS_OF_KIND(sums)
-CALLS_OF_KIND(compact_sums)
-CALLS_OF_KIND(sums_union)
-CALLS_OF_KIND(sums_intersection)
-STATE_AND_IMAGE_OF_KIND(theta)
-STATE_AND_IMAGE_OF_KIND(compact)
-STATE_AND_IMAGE_OF_KIND(sums)
-STATE_AND_IMAGE_OF_KIND(compact_sums)
+/* ---- Theta sketches that take updates ---- */
 
-kc_status kc_theta_new(kc_theta *h, uint8_t lg_k, uint64_t seed) { REFUSE_UNLESS(h); return kcp_theta_new(h, lg_k, seed); }
-kc_status kc_theta_update_hash(kc_theta *h, uint64_t hash) { REFUSE_UNLESS(h); return kcp_theta_update_hash(h, hash); }
-kc_status kc_theta_update_u64(kc_theta *h, uint64_t n) { REFUSE_UNLESS(h); return kcp_theta_update_u64(h, n); }
-kc_status kc_theta_trim(kc_theta *h) { REFUSE_UNLESS(h); return kcp_theta_trim(h); }
-kc_status kc_theta_reset(kc_theta *h) { REFUSE_UNLESS(h); return kcp_theta_reset(h); }
-kc_status kc_theta_compact(kc_theta *h, kc_compact *out) { REFUSE_UNLESS(h && out); return kcp_theta_compact(h, out); }
-
-static const uint64_t no_numbers[1];
-
-kc_status kc_theta_update_hashes(kc_theta *h, const uint64_t *hashes, size_t count) {
-    REFUSE_UNLESS(h && IS_BUFFER(hashes, count));
-    return kcp_theta_update_hashes(h, hashes != NULL ? hashes : no_numbers, count);
+kc_status kc_theta_new(kc_theta *sketch, uint8_t lg_k, uint64_t seed) {
+    REFUSE_UNLESS(sketch != NULL);
+    return kcp_theta_new(sketch, lg_k, seed);
 }
 
-kc_status kc_theta_update_strings(kc_theta *h, const void *bytes, size_t count, const uint64_t *ends, size_t strings) {
-    REFUSE_UNLESS(h && IS_BUFFER(bytes, count) && IS_BUFFER(ends, strings));
-    return kcp_theta_update_strings(h, INPUT(bytes), count, ends != NULL ? ends : no_numbers, strings);
+kc_status kc_theta_new_with(kc_theta *sketch, uint8_t lg_k, uint64_t seed, uint32_t resize_factor,
+                            uint64_t starting_theta) {
+    REFUSE_UNLESS(sketch != NULL);
+    return kcp_theta_new_with(sketch, lg_k, seed, resize_factor, starting_theta);
 }
 
-kc_status kc_theta_update_bytes(kc_theta *h, const void *bytes, size_t count) {
-    REFUSE_UNLESS(h && IS_BUFFER(bytes, count));
-    return kcp_theta_update_bytes(h, INPUT(bytes), count);
+kc_status kc_theta_clone(const kc_theta *sketch, kc_theta *out) {
+    REFUSE_UNLESS(sketch != NULL && out != NULL && sketch != out);
+    return kcp_theta_clone((kc_theta *)sketch, out);
 }
 
-kc_status kc_compact_read(kc_compact *h, const void *image, size_t count, uint64_t seed) {
-    REFUSE_UNLESS(h && IS_BUFFER(image, count));
-    return kcp_compact_read(h, INPUT(image), count, seed);
+kc_status kc_theta_free(kc_theta *sketch) {
+    REFUSE_UNLESS(sketch != NULL);
+    kcp_theta_free(sketch);
+    return KC_OK;
 }
 
-kc_status kc_compact_clone(kc_compact *h, kc_compact *out) {
-    REFUSE_UNLESS(h && out && h != out);
-    return kcp_compact_clone(h, out);
+kc_status kc_theta_update_hash(kc_theta *sketch, uint64_t hash) {
+    REFUSE_UNLESS(sketch != NULL);
+    return kcp_theta_update_hash(sketch, hash);
 }
 
-kc_status kc_union_new(kc_union *u, uint8_t lg_k, uint64_t seed) { REFUSE_UNLESS(u); return kcp_union_new(u, lg_k, seed); }
-kc_status kc_union_add(kc_union *u, kc_theta *h) { REFUSE_UNLESS(u && h); return kcp_union_add(u, h); }
-kc_status kc_union_add_compact(kc_union *u, kc_compact *h) { REFUSE_UNLESS(u && h); return kcp_union_add_compact(u, h); }
-kc_status kc_union_result(kc_union *u, kc_compact *out) { REFUSE_UNLESS(u && out); return kcp_union_result(u, out); }
-kc_status kc_union_reset(kc_union *u) { REFUSE_UNLESS(u); return kcp_union_reset(u); }
+kc_status kc_theta_update_u64(kc_theta *sketch, uint64_t number) {
+    REFUSE_UNLESS(sketch != NULL);
+    return kcp_theta_update_u64(sketch, number);
+}
 
-kc_status kc_union_image(kc_union *u, void *out, size_t room, uint64_t *length) {
-    REFUSE_UNLESS(u && IS_BUFFER(out, room) && length);
-    return kcp_union_image(u, OUTPUT(out), room, length);
+kc_status kc_theta_update_bytes(kc_theta *sketch, const void *bytes, size_t count) {
+    REFUSE_UNLESS(sketch != NULL && IS_BUFFER(bytes, count));
+    return kcp_theta_update_bytes(sketch, INPUT(bytes), count);
+}
+
+kc_status kc_theta_update_hashes(kc_theta *sketch, const uint64_t *hashes, size_t count) {
+    REFUSE_UNLESS(sketch != NULL && IS_BUFFER(hashes, count));
+    return kcp_theta_update_hashes(sketch, NUMBERS(hashes, 0), count);
+}
+
+kc_status kc_theta_trim(kc_theta *sketch) {
+    REFUSE_UNLESS(sketch != NULL);
+    return kcp_theta_trim(sketch);
+}
+
+kc_status kc_theta_reset(kc_theta *sketch) {
+    REFUSE_UNLESS(sketch != NULL);
+    return kcp_theta_reset(sketch);
+}
+
+kc_status kc_theta_state(const kc_theta *sketch, kc_state *out) {
+    REFUSE_UNLESS(sketch != NULL && out != NULL);
+    return kcp_theta_state((kc_theta *)sketch, out);
+}
+
+kc_status kc_theta_image(const kc_theta *sketch, void *out, size_t room, uint64_t *length) {
+    REFUSE_UNLESS(sketch != NULL && IS_BUFFER(out, room) && length != NULL);
+    return kcp_theta_image((kc_theta *)sketch, OUTPUT(out, 0), room, length);
+}
+
+kc_status kc_theta_compact(const kc_theta *sketch, kc_compact *out) {
+    REFUSE_UNLESS(sketch != NULL && out != NULL);
+    return kcp_theta_compact((kc_theta *)sketch, out);
+}
+
+kc_status kc_theta_update_strings(kc_theta *sketch, const void *bytes, size_t bytes_count, const uint64_t *ends,
+                                  size_t ends_count) {
+    REFUSE_UNLESS(sketch != NULL && IS_BUFFER(bytes, bytes_count) && IS_BUFFER(ends, ends_count));
+    return kcp_theta_update_strings(sketch, INPUT(bytes), bytes_count, NUMBERS(ends, 0), ends_count);
+}
+
+/* ---- Compact theta sketches ---- */
+
+kc_status kc_compact_read(kc_compact *sketch, const void *image, size_t count, uint64_t seed) {
+    REFUSE_UNLESS(sketch != NULL && IS_BUFFER(image, count));
+    return kcp_compact_read(sketch, INPUT(image), count, seed);
+}
+
+kc_status kc_compact_free(kc_compact *sketch) {
+    REFUSE_UNLESS(sketch != NULL);
+    kcp_compact_free(sketch);
+    return KC_OK;
+}
+
+kc_status kc_compact_clone(const kc_compact *sketch, kc_compact *out) {
+    REFUSE_UNLESS(sketch != NULL && out != NULL && sketch != out);
+    return kcp_compact_clone((kc_compact *)sketch, out);
+}
+
+kc_status kc_compact_state(const kc_compact *sketch, kc_state *out) {
+    REFUSE_UNLESS(sketch != NULL && out != NULL);
+    return kcp_compact_state((kc_compact *)sketch, out);
+}
+
+kc_status kc_compact_image(const kc_compact *sketch, void *out, size_t room, uint64_t *length) {
+    REFUSE_UNLESS(sketch != NULL && IS_BUFFER(out, room) && length != NULL);
+    return kcp_compact_image((kc_compact *)sketch, OUTPUT(out, 0), room, length);
+}
+
+/* ---- Unions ---- */
+
+kc_status kc_union_new(kc_union *u, uint8_t lg_k, uint64_t seed) {
+    REFUSE_UNLESS(u != NULL);
+    return kcp_union_new(u, lg_k, seed);
+}
+
+kc_status kc_union_free(kc_union *u) {
+    REFUSE_UNLESS(u != NULL);
+    kcp_union_free(u);
+    return KC_OK;
+}
+
+kc_status kc_union_add(kc_union *u, const kc_theta *sketch) {
+    REFUSE_UNLESS(u != NULL && sketch != NULL);
+    return kcp_union_add(u, (kc_theta *)sketch);
+}
+
+kc_status kc_union_add_compact(kc_union *u, const kc_compact *sketch) {
+    REFUSE_UNLESS(u != NULL && sketch != NULL);
+    return kcp_union_add_compact(u, (kc_compact *)sketch);
 }
 
 kc_status kc_union_add_image(kc_union *u, const void *image, size_t count) {
-    REFUSE_UNLESS(u && IS_BUFFER(image, count));
+    REFUSE_UNLESS(u != NULL && IS_BUFFER(image, count));
     return kcp_union_add_image(u, INPUT(image), count);
 }
 
-kc_status kc_intersection_new(kc_intersection *i, uint64_t seed) { REFUSE_UNLESS(i); return kcp_intersection_new(i, seed); }
-kc_status kc_intersection_add(kc_intersection *i, kc_theta *h) { REFUSE_UNLESS(i && h); return kcp_intersection_add(i, h); }
-
-kc_status kc_intersection_add_compact(kc_intersection *i, kc_compact *h) {
-    REFUSE_UNLESS(i && h);
-    return kcp_intersection_add_compact(i, h);
+kc_status kc_union_result(const kc_union *u, kc_compact *out) {
+    REFUSE_UNLESS(u != NULL && out != NULL);
+    return kcp_union_result((kc_union *)u, out);
 }
 
-kc_status kc_intersection_add_image(kc_intersection *i, const void *image, size_t count) {
-    REFUSE_UNLESS(i && IS_BUFFER(image, count));
-    return kcp_intersection_add_image(i, INPUT(image), count);
+kc_status kc_union_image(const kc_union *u, void *out, size_t room, uint64_t *length) {
+    REFUSE_UNLESS(u != NULL && IS_BUFFER(out, room) && length != NULL);
+    return kcp_union_image((kc_union *)u, OUTPUT(out, 0), room, length);
 }
 
-kc_status kc_intersection_result(kc_intersection *i, kc_compact *out) {
-    REFUSE_UNLESS(i && out);
-    return kcp_intersection_result(i, out);
+kc_status kc_union_reset(kc_union *u) {
+    REFUSE_UNLESS(u != NULL);
+    return kcp_union_reset(u);
 }
 
-kc_status kc_difference(kc_compact *first, kc_compact *second, uint64_t seed, kc_compact *out) {
-    REFUSE_UNLESS(first && second && out && first != second && first != out && second != out);
-    return kcp_difference(first, second, seed, out);
+/* ---- Intersections and differences ---- */
+
+kc_status kc_intersection_new(kc_intersection *intersection, uint64_t seed) {
+    REFUSE_UNLESS(intersection != NULL);
+    return kcp_intersection_new(intersection, seed);
 }
+
+kc_status kc_intersection_free(kc_intersection *intersection) {
+    REFUSE_UNLESS(intersection != NULL);
+    kcp_intersection_free(intersection);
+    return KC_OK;
+}
+
+kc_status kc_intersection_add(kc_intersection *intersection, const kc_theta *sketch) {
+    REFUSE_UNLESS(intersection != NULL && sketch != NULL);
+    return kcp_intersection_add(intersection, (kc_theta *)sketch);
+}
+
+kc_status kc_intersection_add_compact(kc_intersection *intersection, const kc_compact *sketch) {
+    REFUSE_UNLESS(intersection != NULL && sketch != NULL);
+    return kcp_intersection_add_compact(intersection, (kc_compact *)sketch);
+}
+
+kc_status kc_intersection_add_image(kc_intersection *intersection, const void *image, size_t count) {
+    REFUSE_UNLESS(intersection != NULL && IS_BUFFER(image, count));
+    return kcp_intersection_add_image(intersection, INPUT(image), count);
+}
+
+kc_status kc_intersection_result(const kc_intersection *intersection, kc_compact *out) {
+    REFUSE_UNLESS(intersection != NULL && out != NULL);
+    return kcp_intersection_result((kc_intersection *)intersection, out);
+}
+
+kc_status kc_difference(const kc_compact *first, const kc_compact *second, uint64_t seed, kc_compact *out) {
+    REFUSE_UNLESS(first != NULL && second != NULL && first != second && out != NULL && first != out && second != out);
+    return kcp_difference((kc_compact *)first, (kc_compact *)second, seed, out);
+}
+
+/* ---- Images alone ---- */
 
 kc_status kc_image_state(const void *image, size_t count, uint64_t seed, kc_state *out) {
-    REFUSE_UNLESS(IS_BUFFER(image, count) && out);
+    REFUSE_UNLESS(IS_BUFFER(image, count) && out != NULL);
     return kcp_image_state(INPUT(image), count, seed, out);
 }
 
-#define CALL_ON_IMAGES(name) \
-    kc_status kc_##name(const void *first, size_t first_count, const void *second, size_t second_count, uint64_t seed, \
-                        void *out, size_t room, uint64_t *length) { \
-        REFUSE_UNLESS(IS_BUFFER(first, first_count) && IS_BUFFER(second, second_count) && IS_BUFFER(out, room) && length); \
-        return kcp_##name(INPUT(first), first_count, INPUT(second), second_count, seed, OUTPUT(out), room, length); }
-CALL_ON_IMAGES(images_intersect)
-CALL_ON_IMAGES(images_difference)
-
-kc_status kc_sums_new(kc_sums *h, uint8_t lg_k, uint64_t seed) { REFUSE_UNLESS(h); return kcp_sums_new(h, lg_k, seed); }
-kc_status kc_theta_new_with(kc_theta *h, uint8_t lg_k, uint64_t seed, uint32_t resize_factor, uint64_t starting_theta) {
-    REFUSE_UNLESS(h);
-    return kcp_theta_new_with(h, lg_k, seed, resize_factor, starting_theta);
+kc_status kc_images_intersect(const void *first, size_t first_count, const void *second, size_t second_count,
+                              uint64_t seed, void *out, size_t room, uint64_t *length) {
+    REFUSE_UNLESS(IS_BUFFER(first, first_count) && IS_BUFFER(second, second_count) && IS_BUFFER(out, room) && length !=
+                  NULL);
+    return kcp_images_intersect(INPUT(first), first_count, INPUT(second), second_count, seed, OUTPUT(out, 0), room, length);
 }
 
-kc_status kc_theta_clone(kc_theta *h, kc_theta *out) {
-    REFUSE_UNLESS(h && out && h != out);
-    return kcp_theta_clone(h, out);
+kc_status kc_images_difference(const void *first, size_t first_count, const void *second, size_t second_count,
+                               uint64_t seed, void *out, size_t room, uint64_t *length) {
+    REFUSE_UNLESS(IS_BUFFER(first, first_count) && IS_BUFFER(second, second_count) && IS_BUFFER(out, room) && length !=
+                  NULL);
+    return kcp_images_difference(INPUT(first), first_count, INPUT(second), second_count, seed, OUTPUT(out, 0), room, length);
 }
 
-kc_status kc_sums_new_with(kc_sums *h, uint8_t lg_k, uint64_t seed, uint32_t resize_factor, uint64_t starting_theta) {
-    REFUSE_UNLESS(h);
-    return kcp_sums_new_with(h, lg_k, seed, resize_factor, starting_theta);
+/* ---- Tuple sketches of sums ---- */
+
+kc_status kc_sums_new(kc_sums *sums, uint8_t lg_k, uint64_t seed) {
+    REFUSE_UNLESS(sums != NULL);
+    return kcp_sums_new(sums, lg_k, seed);
 }
 
-kc_status kc_sums_compact(kc_sums *h, kc_compact_sums *out) { REFUSE_UNLESS(h && out); return kcp_sums_compact(h, out); }
-kc_status kc_sums_clone(kc_sums *h, kc_sums *out) { REFUSE_UNLESS(h && out && h != out); return kcp_sums_clone(h, out); }
-kc_status kc_sums_total(kc_sums *h, kc_wide *out) { REFUSE_UNLESS(h && out); return kcp_sums_total(h, out); }
-kc_status kc_sums_trim(kc_sums *h) { REFUSE_UNLESS(h); return kcp_sums_trim(h); }
-kc_status kc_sums_reset(kc_sums *h) { REFUSE_UNLESS(h); return kcp_sums_reset(h); }
-
-kc_status kc_sums_add_hash(kc_sums *h, uint64_t hash, uint64_t value) {
-    REFUSE_UNLESS(h);
-    return kcp_sums_add_hash(h, hash, value);
+kc_status kc_sums_new_with(kc_sums *sums, uint8_t lg_k, uint64_t seed, uint32_t resize_factor, uint64_t starting_theta) {
+    REFUSE_UNLESS(sums != NULL);
+    return kcp_sums_new_with(sums, lg_k, seed, resize_factor, starting_theta);
 }
 
-kc_status kc_sums_add_u64(kc_sums *h, uint64_t number, uint64_t value) {
-    REFUSE_UNLESS(h);
-    return kcp_sums_add_u64(h, number, value);
+kc_status kc_sums_clone(const kc_sums *sums, kc_sums *out) {
+    REFUSE_UNLESS(sums != NULL && out != NULL && sums != out);
+    return kcp_sums_clone((kc_sums *)sums, out);
 }
 
-kc_status kc_sums_add_bytes(kc_sums *h, const void *bytes, size_t count, uint64_t value) {
-    REFUSE_UNLESS(h && IS_BUFFER(bytes, count));
-    return kcp_sums_add_bytes(h, INPUT(bytes), count, value);
+kc_status kc_sums_free(kc_sums *sums) {
+    REFUSE_UNLESS(sums != NULL);
+    kcp_sums_free(sums);
+    return KC_OK;
 }
 
-kc_status kc_compact_sums_read(kc_compact_sums *h, const void *image, size_t count, uint64_t seed) {
-    REFUSE_UNLESS(h && IS_BUFFER(image, count));
-    return kcp_compact_sums_read(h, INPUT(image), count, seed);
+kc_status kc_sums_add_hash(kc_sums *sums, uint64_t hash, uint64_t value) {
+    REFUSE_UNLESS(sums != NULL);
+    return kcp_sums_add_hash(sums, hash, value);
 }
 
-kc_status kc_compact_sums_total(kc_compact_sums *h, kc_wide *out) {
-    REFUSE_UNLESS(h && out);
-    return kcp_compact_sums_total(h, out);
+kc_status kc_sums_add_u64(kc_sums *sums, uint64_t number, uint64_t value) {
+    REFUSE_UNLESS(sums != NULL);
+    return kcp_sums_add_u64(sums, number, value);
 }
 
-kc_status kc_compact_sums_entries(kc_compact_sums *h, uint64_t *hashes, uint64_t *sums, size_t room, uint64_t *count) {
-    static uint64_t no_hashes[1], no_sums[1];
-    REFUSE_UNLESS(h && IS_BUFFER(hashes, room) && IS_BUFFER(sums, room) && count && (room == 0 || hashes != sums));
-    return kcp_compact_sums_entries(h, hashes != NULL ? hashes : no_hashes, room, sums != NULL ? sums : no_sums, room, count);
+kc_status kc_sums_add_bytes(kc_sums *sums, const void *bytes, size_t count, uint64_t value) {
+    REFUSE_UNLESS(sums != NULL && IS_BUFFER(bytes, count));
+    return kcp_sums_add_bytes(sums, INPUT(bytes), count, value);
 }
 
-kc_status kc_sums_union_new(kc_sums_union *u, uint8_t lg_k, uint64_t seed) { REFUSE_UNLESS(u); return kcp_sums_union_new(u, lg_k, seed); }
-kc_status kc_sums_union_add(kc_sums_union *u, kc_sums *h) { REFUSE_UNLESS(u && h); return kcp_sums_union_add(u, h); }
-kc_status kc_sums_union_reset(kc_sums_union *u) { REFUSE_UNLESS(u); return kcp_sums_union_reset(u); }
+kc_status kc_sums_trim(kc_sums *sums) {
+    REFUSE_UNLESS(sums != NULL);
+    return kcp_sums_trim(sums);
+}
 
-kc_status kc_sums_union_add_compact(kc_sums_union *u, kc_compact_sums *h) {
-    REFUSE_UNLESS(u && h);
-    return kcp_sums_union_add_compact(u, h);
+kc_status kc_sums_reset(kc_sums *sums) {
+    REFUSE_UNLESS(sums != NULL);
+    return kcp_sums_reset(sums);
+}
+
+kc_status kc_sums_state(const kc_sums *sums, kc_state *out) {
+    REFUSE_UNLESS(sums != NULL && out != NULL);
+    return kcp_sums_state((kc_sums *)sums, out);
+}
+
+kc_status kc_sums_image(const kc_sums *sums, void *out, size_t room, uint64_t *length) {
+    REFUSE_UNLESS(sums != NULL && IS_BUFFER(out, room) && length != NULL);
+    return kcp_sums_image((kc_sums *)sums, OUTPUT(out, 0), room, length);
+}
+
+kc_status kc_sums_compact(const kc_sums *sums, kc_compact_sums *out) {
+    REFUSE_UNLESS(sums != NULL && out != NULL);
+    return kcp_sums_compact((kc_sums *)sums, out);
+}
+
+kc_status kc_sums_total(const kc_sums *sums, kc_wide *out) {
+    REFUSE_UNLESS(sums != NULL && out != NULL);
+    return kcp_sums_total((kc_sums *)sums, out);
+}
+
+/* ---- Compact tuple sketches of sums ---- */
+
+kc_status kc_compact_sums_read(kc_compact_sums *sums, const void *image, size_t count, uint64_t seed) {
+    REFUSE_UNLESS(sums != NULL && IS_BUFFER(image, count));
+    return kcp_compact_sums_read(sums, INPUT(image), count, seed);
+}
+
+kc_status kc_compact_sums_free(kc_compact_sums *sums) {
+    REFUSE_UNLESS(sums != NULL);
+    kcp_compact_sums_free(sums);
+    return KC_OK;
+}
+
+kc_status kc_compact_sums_state(const kc_compact_sums *sums, kc_state *out) {
+    REFUSE_UNLESS(sums != NULL && out != NULL);
+    return kcp_compact_sums_state((kc_compact_sums *)sums, out);
+}
+
+kc_status kc_compact_sums_image(const kc_compact_sums *sums, void *out, size_t room, uint64_t *length) {
+    REFUSE_UNLESS(sums != NULL && IS_BUFFER(out, room) && length != NULL);
+    return kcp_compact_sums_image((kc_compact_sums *)sums, OUTPUT(out, 0), room, length);
+}
+
+kc_status kc_compact_sums_entries(const kc_compact_sums *sums, uint64_t *hashes, uint64_t *values, size_t room,
+                                  uint64_t *count) {
+    REFUSE_UNLESS(sums != NULL && IS_BUFFER(hashes, room) && IS_BUFFER(values, room) && (room == 0 || hashes != values)
+                  && count != NULL);
+    return kcp_compact_sums_entries((kc_compact_sums *)sums, NUMBERS(hashes, 0), room, NUMBERS(values, 1), room, count);
+}
+
+kc_status kc_compact_sums_total(const kc_compact_sums *sums, kc_wide *out) {
+    REFUSE_UNLESS(sums != NULL && out != NULL);
+    return kcp_compact_sums_total((kc_compact_sums *)sums, out);
+}
+
+/* ---- Unions of tuple sketches of sums ---- */
+
+kc_status kc_sums_union_new(kc_sums_union *u, uint8_t lg_k, uint64_t seed) {
+    REFUSE_UNLESS(u != NULL);
+    return kcp_sums_union_new(u, lg_k, seed);
+}
+
+kc_status kc_sums_union_free(kc_sums_union *u) {
+    REFUSE_UNLESS(u != NULL);
+    kcp_sums_union_free(u);
+    return KC_OK;
+}
+
+kc_status kc_sums_union_add(kc_sums_union *u, const kc_sums *sketch) {
+    REFUSE_UNLESS(u != NULL && sketch != NULL);
+    return kcp_sums_union_add(u, (kc_sums *)sketch);
+}
+
+kc_status kc_sums_union_add_compact(kc_sums_union *u, const kc_compact_sums *sketch) {
+    REFUSE_UNLESS(u != NULL && sketch != NULL);
+    return kcp_sums_union_add_compact(u, (kc_compact_sums *)sketch);
 }
 
 kc_status kc_sums_union_add_image(kc_sums_union *u, const void *image, size_t count) {
-    REFUSE_UNLESS(u && IS_BUFFER(image, count));
+    REFUSE_UNLESS(u != NULL && IS_BUFFER(image, count));
     return kcp_sums_union_add_image(u, INPUT(image), count);
 }
 
-kc_status kc_sums_union_result(kc_sums_union *u, kc_compact_sums *out) {
-    REFUSE_UNLESS(u && out);
-    return kcp_sums_union_result(u, out);
+kc_status kc_sums_union_result(const kc_sums_union *u, kc_compact_sums *out) {
+    REFUSE_UNLESS(u != NULL && out != NULL);
+    return kcp_sums_union_result((kc_sums_union *)u, out);
 }
 
-kc_status kc_sums_union_image(kc_sums_union *u, void *out, size_t room, uint64_t *length) {
-    REFUSE_UNLESS(u && IS_BUFFER(out, room) && length);
-    return kcp_sums_union_image(u, OUTPUT(out), room, length);
+kc_status kc_sums_union_image(const kc_sums_union *u, void *out, size_t room, uint64_t *length) {
+    REFUSE_UNLESS(u != NULL && IS_BUFFER(out, room) && length != NULL);
+    return kcp_sums_union_image((kc_sums_union *)u, OUTPUT(out, 0), room, length);
 }
 
-kc_status kc_sums_intersection_new(kc_sums_intersection *i, uint64_t seed) {
-    REFUSE_UNLESS(i);
-    return kcp_sums_intersection_new(i, seed);
+kc_status kc_sums_union_reset(kc_sums_union *u) {
+    REFUSE_UNLESS(u != NULL);
+    return kcp_sums_union_reset(u);
 }
 
-kc_status kc_sums_intersection_add(kc_sums_intersection *i, kc_sums *h) {
-    REFUSE_UNLESS(i && h);
-    return kcp_sums_intersection_add(i, h);
+/* ---- Intersections and differences of tuple sketches of sums ---- */
+
+kc_status kc_sums_intersection_new(kc_sums_intersection *intersection, uint64_t seed) {
+    REFUSE_UNLESS(intersection != NULL);
+    return kcp_sums_intersection_new(intersection, seed);
 }
 
-kc_status kc_sums_intersection_add_compact(kc_sums_intersection *i, kc_compact_sums *h) {
-    REFUSE_UNLESS(i && h);
-    return kcp_sums_intersection_add_compact(i, h);
+kc_status kc_sums_intersection_free(kc_sums_intersection *intersection) {
+    REFUSE_UNLESS(intersection != NULL);
+    kcp_sums_intersection_free(intersection);
+    return KC_OK;
 }
 
-kc_status kc_sums_intersection_add_image(kc_sums_intersection *i, const void *image, size_t count) {
-    REFUSE_UNLESS(i && IS_BUFFER(image, count));
-    return kcp_sums_intersection_add_image(i, INPUT(image), count);
+kc_status kc_sums_intersection_add(kc_sums_intersection *intersection, const kc_sums *sketch) {
+    REFUSE_UNLESS(intersection != NULL && sketch != NULL);
+    return kcp_sums_intersection_add(intersection, (kc_sums *)sketch);
 }
 
-kc_status kc_sums_intersection_result(kc_sums_intersection *i, kc_compact_sums *out) {
-    REFUSE_UNLESS(i && out);
-    return kcp_sums_intersection_result(i, out);
+kc_status kc_sums_intersection_add_compact(kc_sums_intersection *intersection, const kc_compact_sums *sketch) {
+    REFUSE_UNLESS(intersection != NULL && sketch != NULL);
+    return kcp_sums_intersection_add_compact(intersection, (kc_compact_sums *)sketch);
 }
 
-kc_status kc_sums_difference(kc_compact_sums *first, kc_compact_sums *second, uint64_t seed, kc_compact_sums *out) {
-    REFUSE_UNLESS(first && second && out && first != second && first != out && second != out);
-    return kcp_sums_difference(first, second, seed, out);
+kc_status kc_sums_intersection_add_image(kc_sums_intersection *intersection, const void *image, size_t count) {
+    REFUSE_UNLESS(intersection != NULL && IS_BUFFER(image, count));
+    return kcp_sums_intersection_add_image(intersection, INPUT(image), count);
 }
+
+kc_status kc_sums_intersection_result(const kc_sums_intersection *intersection, kc_compact_sums *out) {
+    REFUSE_UNLESS(intersection != NULL && out != NULL);
+    return kcp_sums_intersection_result((kc_sums_intersection *)intersection, out);
+}
+
+kc_status kc_sums_difference(const kc_compact_sums *first, const kc_compact_sums *second, uint64_t seed,
+                             kc_compact_sums *out) {
+    REFUSE_UNLESS(first != NULL && second != NULL && first != second && out != NULL && first != out && second != out);
+    return kcp_sums_difference((kc_compact_sums *)first, (kc_compact_sums *)second, seed, out);
+}
+
+/* ---- Hashes ---- */
 
 kc_status kc_hash_bytes(uint64_t seed, const void *bytes, size_t count, uint64_t *hash) {
-    REFUSE_UNLESS(IS_BUFFER(bytes, count) && hash);
+    REFUSE_UNLESS(IS_BUFFER(bytes, count) && hash != NULL);
     *hash = kcp_hash_bytes(seed, INPUT(bytes), count);
     return KC_OK;
 }
 
 kc_status kc_hash_u64(uint64_t seed, uint64_t number, uint64_t *hash) {
-    REFUSE_UNLESS(hash);
+    REFUSE_UNLESS(hash != NULL);
     *hash = kcp_hash_u64(seed, number);
     return KC_OK;
 }
 
+/* ---- Estimates ---- */
+
 kc_status kc_estimate_numerator(uint64_t retained, kc_wide *out) {
-    REFUSE_UNLESS(out);
+    REFUSE_UNLESS(out != NULL);
     kcp_estimate_numerator(retained, out);
     return KC_OK;
 }
 
 kc_status kc_estimate_decimal(uint64_t retained, uint64_t theta, uint32_t places, kc_wide *whole, uint64_t *decimals) {
-    REFUSE_UNLESS(whole && decimals);
+    REFUSE_UNLESS(whole != NULL && decimals != NULL);
     return kcp_estimate_decimal(retained, theta, places, whole, decimals);
 }
 
-kc_status kc_total_decimal(const kc_wide *total, uint64_t theta, uint32_t places, kc_wide *whole, uint64_t *decimals) {
-    REFUSE_UNLESS(total && whole && decimals && total != whole);
-    return kcp_total_decimal(total->low, total->high, theta, places, whole, decimals);
+kc_status kc_estimate_text(const kc_state *state, uint32_t places, char *text, size_t room, uint64_t *length) {
+    REFUSE_UNLESS(state != NULL && IS_BUFFER(text, room) && length != NULL);
+    return kcp_estimate_text(state, places, OUTPUT(text, 0), room, length);
+}
+
+kc_status kc_estimate_rounded(uint64_t retained, uint64_t theta, kc_wide *out) {
+    REFUSE_UNLESS(out != NULL);
+    return kcp_estimate_rounded(retained, theta, out);
 }
 
 kc_status kc_count_bounds(uint64_t retained, uint64_t theta, uint32_t deviations, kc_wide *lower, kc_wide *upper) {
-    REFUSE_UNLESS(lower && upper && lower != upper);
+    REFUSE_UNLESS(lower != NULL && upper != NULL && lower != upper);
     return kcp_count_bounds(retained, theta, deviations, lower, upper);
 }
 
-/* A number of 128 bits divided by ten, and its last digit. */
-static char last_digit(kc_wide *n) {
-    uint64_t middle = (n->high % 10 << 32) | n->low >> 32;
-    uint64_t lowest = (middle % 10 << 32) | (n->low & 0xffffffff);
-    n->high /= 10;
-    n->low = middle / 10 << 32 | lowest / 10;
-    return (char)('0' + lowest % 10);
+kc_status kc_total_decimal(const kc_wide *total, uint64_t theta, uint32_t places, kc_wide *whole, uint64_t *decimals) {
+    REFUSE_UNLESS(total != NULL && whole != NULL && total != whole && decimals != NULL);
+    return kcp_total_decimal(total, theta, places, whole, decimals);
 }
 
-/* Writes a decimal number as text. */
-static kc_status put_decimal(kc_wide whole, uint64_t decimals, uint32_t places, char *out, size_t room, uint64_t *length) {
-    char text[64]; /* 39 digits of the whole part, the point, 19 decimals */
-    size_t at = sizeof text;
-    for (uint32_t i = 0; i < places; i++, decimals /= 10) text[--at] = (char)('0' + decimals % 10);
-    if (places > 0) text[--at] = '.';
-    do text[--at] = last_digit(&whole); while (whole.low != 0 || whole.high != 0);
-    *length = sizeof text - at;
-    if (room < *length) return KC_TOO_SMALL;
-    memcpy(out, text + at, sizeof text - at);
-    return KC_OK;
+kc_status kc_total_text(const kc_wide *total, uint64_t theta, uint32_t places, char *text, size_t room,
+                        uint64_t *length) {
+    REFUSE_UNLESS(total != NULL && IS_BUFFER(text, room) && length != NULL);
+    return kcp_total_text(total, theta, places, OUTPUT(text, 0), room, length);
 }
 
-kc_status kc_estimate_text(const kc_state *state, uint32_t places, char *out, size_t room, uint64_t *length) {
-    kc_wide whole;
-    uint64_t decimals;
-    REFUSE_UNLESS(state && IS_BUFFER(out, room) && length);
-    kc_status status = kcp_estimate_decimal(state->retained, state->theta, places, &whole, &decimals);
-    return status == KC_OK ? put_decimal(whole, decimals, places, out, room, length) : status;
+kc_status kc_total_rounded(const kc_wide *total, uint64_t theta, kc_wide *out) {
+    REFUSE_UNLESS(total != NULL && out != NULL && total != out);
+    return kcp_total_rounded(total, theta, out);
 }
 
-kc_status kc_total_text(const kc_wide *total, uint64_t theta, uint32_t places, char *out, size_t room, uint64_t *length) {
-    kc_wide whole;
-    uint64_t decimals;
-    REFUSE_UNLESS(total && IS_BUFFER(out, room) && length);
-    kc_status status = kcp_total_decimal(total->low, total->high, theta, places, &whole, &decimals);
-    return status == KC_OK ? put_decimal(whole, decimals, places, out, room, length) : status;
+kc_status kc_wide_text(const kc_wide *number, char *text, size_t room, uint64_t *length) {
+    REFUSE_UNLESS(number != NULL && IS_BUFFER(text, room) && length != NULL);
+    return kcp_wide_text(number, OUTPUT(text, 0), room, length);
 }
+
+/* ---- The library ---- */
+
+const char *kc_status_text(kc_status status) {
+    switch (status) {
+    case KC_OK: return "the call did what it promises";
+    case KC_INVALID_ARGUMENT: return "a null pointer, a handle without an object or one that has one already, a number out of range, a sketch of another seed";
+    case KC_INVALID_DATA: return "the bytes begin with no sketch of this seed";
+    case KC_OUT_OF_MEMORY: return "the memory that the call requested was refused";
+    case KC_POLICY: return "a sum would be 2^64 or more";
+    case KC_FAILED: return "memory or a sum was refused in an earlier merge; the union refuses until it is reset";
+    case KC_TOO_SMALL: return "the buffer is too small; *length is the room that is needed";
+    default: return "a number that is no status of this library";
+    }
+}
+
+const char *kc_version(void) { return KC_VERSION; }

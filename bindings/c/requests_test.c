@@ -267,6 +267,20 @@ static void images_of_sums(void) {
     }
 }
 
+/* Numbers are computed and written as text without a request. */
+static void numbers(void) {
+    const kc_state state = {4096, 377528331862415411, 0};
+    const kc_wide total = {UINT64_MAX, 376};
+    char text[64];
+    kc_wide whole;
+    uint64_t length;
+    ASKS(KC_OK, 0, 0, kc_estimate_text(&state, 19, text, sizeof text, &length));
+    ASKS(KC_OK, 0, 0, kc_total_text(&total, 377, 19, text, sizeof text, &length));
+    ASKS(KC_OK, 0, 0, kc_wide_text(&total, text, sizeof text, &length));
+    ASKS(KC_OK, 0, 0, kc_total_rounded(&total, 377, &whole));
+    ASKS(KC_OK, 0, 0, kc_estimate_rounded(state.retained, state.theta, &whole));
+}
+
 int main(void) {
     theta();
     readings();
@@ -275,6 +289,7 @@ int main(void) {
     intersections();
     rebuilds();
     images_of_sums();
+    numbers();
     printf("requests_test: %d checks, %d faults\n", checks, faults);
     return faults != 0;
 }

@@ -16,7 +16,7 @@ static void numbers(kc_theta *sketch, uint64_t first, uint64_t count) {
     for (uint64_t i = 0; i < count; i++) WANT(kc_theta_update_u64(sketch, first + i) == KC_OK);
 }
 
-static kc_state state_of(kc_compact *sketch) {
+static kc_state state_of(const kc_compact *sketch) {
     kc_state s = {0, 0, 0};
     WANT(kc_compact_state(sketch, &s) == KC_OK);
     return s;
@@ -423,6 +423,73 @@ static void estimates(void) {
     WANT(kc_hash_bytes(0, NULL, 1, &hash) == KC_INVALID_ARGUMENT && kc_hash_u64(0, 1, NULL) == KC_INVALID_ARGUMENT);
 }
 
+/* Numbers of 128 bits, and their texts. */
+static const struct { kc_wide number; const char *text; } wides[] = {
+    {{0, 0}, "0"},
+    {{10, 0}, "10"},
+    {{UINT64_MAX, 0}, "18446744073709551615"},
+    {{0, 1}, "18446744073709551616"},
+    {{UINT64_MAX, UINT64_MAX}, "340282366920938463463374607431768211455"},
+};
+
+static void numbers_as_text(void) {
+    char text[64];
+    uint64_t length = 0;
+    for (size_t n = 0; n < sizeof wides / sizeof *wides; n++) {
+        size_t wanted = strlen(wides[n].text);
+        memset(text, 'x', sizeof text);
+        WANT(kc_wide_text(&wides[n].number, text, wanted - 1, &length) == KC_TOO_SMALL && length == wanted && text[0] == 'x');
+        WANT(kc_wide_text(&wides[n].number, NULL, 0, &length) == KC_TOO_SMALL && length == wanted);
+        WANT(kc_wide_text(&wides[n].number, text, wanted, &length) == KC_OK && length == wanted);
+        WANT(memcmp(text, wides[n].text, wanted) == 0 && text[wanted] == 'x');
+    }
+    WANT(kc_wide_text(NULL, text, 9, &length) == KC_INVALID_ARGUMENT && kc_wide_text(&wides[1].number, NULL, 9, &length) == KC_INVALID_ARGUMENT);
+    WANT(kc_wide_text(&wides[1].number, text, 9, NULL) == KC_INVALID_ARGUMENT);
+}
+
+/* A count or a total, a theta, and the nearest whole number to the estimate, computed in Python. */
+static const struct { kc_wide total; uint64_t theta; const char *text; } nearest[] = {
+    {{0, 0}, KC_MAX_THETA, "0"},
+    {{2, 0}, KC_MAX_THETA, "2"},
+    {{1, 0}, 2, "4611686018427387904"},
+    {{1, 0}, 3, "3074457345618258602"},
+    {{2, 0}, 3, "6148914691236517205"},
+    {{4294967295, 0}, 2, "19807040623954398377811116033"},
+    {{4096, 0}, 377528331862415411, "100069"},
+    {{UINT64_MAX, 376}, 377, "170141183460469231713216094464357963195"},
+    {{7, 12}, 9223372036854775806, "221360928884514619423"},
+};
+
+static void rounded(void) {
+    kc_wide out = {7, 7}, same = {7, 7};
+    char text[64];
+    uint64_t length = 0;
+    for (size_t n = 0; n < sizeof nearest / sizeof *nearest; n++) {
+        WANT(kc_total_rounded(&nearest[n].total, nearest[n].theta, &out) == KC_OK && kc_wide_text(&out, text, sizeof text, &length) == KC_OK);
+        WANT(length == strlen(nearest[n].text) && memcmp(text, nearest[n].text, length) == 0);
+        if (nearest[n].total.high != 0 || nearest[n].total.low > UINT32_MAX) continue;
+        WANT(kc_estimate_rounded(nearest[n].total.low, nearest[n].theta, &same) == KC_OK && memcmp(&same, &out, sizeof out) == 0);
+    }
+    const kc_wide one = {1, 0}, large = {0, 5};
+    out.low = 7, out.high = 7;
+    WANT(kc_estimate_rounded(1, 0, &out) == KC_INVALID_ARGUMENT && kc_estimate_rounded(1, KC_MAX_THETA + 1, &out) == KC_INVALID_ARGUMENT);
+    WANT(kc_estimate_rounded(UINT64_C(1) << 32, 3, &out) == KC_INVALID_ARGUMENT && kc_estimate_rounded(1, 3, NULL) == KC_INVALID_ARGUMENT);
+    WANT(kc_total_rounded(&one, 0, &out) == KC_INVALID_ARGUMENT && kc_total_rounded(&one, KC_MAX_THETA + 1, &out) == KC_INVALID_ARGUMENT);
+    WANT(kc_total_rounded(&large, 5, &out) == KC_INVALID_ARGUMENT && kc_total_rounded(NULL, 6, &out) == KC_INVALID_ARGUMENT);
+    WANT(kc_total_rounded(&large, 6, NULL) == KC_INVALID_ARGUMENT && out.low == 7 && out.high == 7);
+    WANT(kc_total_rounded(&out, 8, &out) == KC_INVALID_ARGUMENT && kc_total_rounded(&large, 6, &out) == KC_OK);
+}
+
+/* The texts of statuses, and the version. */
+static void library(void) {
+    for (kc_status status = KC_OK; status <= KC_TOO_SMALL; status++) {
+        WANT(strlen(kc_status_text(status)) > 10 && strcmp(kc_status_text(status), kc_status_text(KC_TOO_SMALL + 1)) != 0);
+    }
+    WANT(strcmp(kc_status_text(KC_OUT_OF_MEMORY), "the memory that the call requested was refused") == 0);
+    WANT(strcmp(kc_status_text(KC_TOO_SMALL + 1), kc_status_text(UINT32_MAX)) == 0);
+    WANT(strcmp(kc_version(), KC_VERSION) == 0);
+}
+
 int main(void) {
     sketches();
     settings();
@@ -434,6 +501,9 @@ int main(void) {
     sums_intersections();
     estimates();
     total_texts();
+    numbers_as_text();
+    rounded();
+    library();
     printf("test: %d checks, %d faults\n", checks, faults);
     return faults != 0;
 }

@@ -33,7 +33,7 @@ impl Model for ThetaHandle {
     ghost also_owns = { λ h. handle_owns seeded_sketch.the_row h.at h.value };
 }
 
-/// A handle of C: a compact theta sketch, or none.
+/// A handle of C: a compact theta sketch, which never changes, or none.
 #[repr(C)]
 pub struct CompactHandle {
     at: *mut Opaque,
@@ -44,7 +44,7 @@ impl Model for CompactHandle {
     ghost also_owns = { λ h. handle_owns compact_sketch.the_row h.at h.value };
 }
 
-/// A handle of C: a union, or none.
+/// A handle of C: a union of theta sketches, or none.
 #[repr(C)]
 pub struct UnionHandle {
     at: *mut Opaque,
@@ -55,7 +55,7 @@ impl Model for UnionHandle {
     ghost also_owns = { λ h. handle_owns seeded_union.the_row h.at h.value };
 }
 
-/// A handle of C: an intersection, or none.
+/// A handle of C: an intersection of theta sketches, or none.
 #[repr(C)]
 pub struct IntersectionHandle {
     at: *mut Opaque,
@@ -66,7 +66,7 @@ impl Model for IntersectionHandle {
     ghost also_owns = { λ h. handle_owns seeded_intersection.the_row h.at h.value };
 }
 
-/// A handle of C: a tuple sketch of sums, or none.
+/// A handle of C: a tuple sketch whose summaries are sums of 64 bits, or none.
 #[repr(C)]
 pub struct SumsHandle {
     at: *mut Opaque,
@@ -77,7 +77,7 @@ impl Model for SumsHandle {
     ghost also_owns = { λ h. handle_owns seeded_sums.the_row h.at h.value };
 }
 
-/// A handle of C: a compact tuple sketch of sums, or none.
+/// A handle of C: a compact tuple sketch of sums, which never changes, or none.
 #[repr(C)]
 pub struct CompactSumsHandle {
     at: *mut Opaque,
@@ -88,7 +88,7 @@ impl Model for CompactSumsHandle {
     ghost also_owns = { λ h. handle_owns compact_sums.the_row h.at h.value };
 }
 
-/// A handle of C: a union of sketches of sums, or none.
+/// A handle of C: a union of tuple sketches of sums, or none.
 #[repr(C)]
 pub struct SumsUnionHandle {
     at: *mut Opaque,
@@ -99,7 +99,7 @@ impl Model for SumsUnionHandle {
     ghost also_owns = { λ h. handle_owns seeded_sums_union.the_row h.at h.value };
 }
 
-/// A handle of C: an intersection of sketches of sums, or none.
+/// A handle of C: an intersection of tuple sketches of sums, or none.
 #[repr(C)]
 pub struct SumsIntersectionHandle {
     at: *mut Opaque,

@@ -1,13 +1,19 @@
 //! Estimates and bounds of a count, from the numbers of a sketch's state.
 ghost use Rattle.std.specs.Prelude.{◌≡◌};
-ghost use Rattle.sketch_objects.specs.Bounds.{wide, is_state, numerator, WritesDecimal, WritesBounds};
+ghost use Rattle.sketch_objects.specs.Bounds.{wide, is_state, numerator, WritesBounds};
+ghost use Rattle.sketch_objects.specs.Quotients.{WritesNumber, WritesParts, WritesText, parts_of, rounded_of};
 
 use estimates::count_bounds;
 use sketch_objects::bounds::{Wide, deviations_of, is_state, split};
+use sketch_objects::quotients::{
+    estimate_parts, estimate_rounded, put_parts, put_parts_text, put_wide,
+};
+use sketch_objects::state::State;
 use sketch_objects::status::{INVALID_ARGUMENT, OK};
-use theta_sketches::{MAX_PLACES, MAX_THETA, estimate_decimal};
+use theta_sketches::MAX_THETA;
 
-/// Writes the numerator of the estimate of a sketch that retains this many entries; its denominator is theta.
+/// Writes the numerator of the estimate of a state, the fraction retained * `MAX_THETA` / theta; its denominator is
+/// theta.
 #[unsafe(no_mangle)]
 pub extern "C" fn kcp_estimate_numerator(retained: u64, out: &mut Wide)
     ensures { out.new ≡ wide (numerator retained) }
@@ -15,11 +21,10 @@ pub extern "C" fn kcp_estimate_numerator(retained: u64, out: &mut Wide)
     *out = split(retained as u128 * MAX_THETA as u128);
 }
 
-/// Writes the estimate of a sketch of this state with `places` decimals, rounded down: its whole part, and its decimals
-/// as one number, below 10^`places`.
+/// Writes the estimate of a state rounded down to `places` decimals, from 0 to 19: its whole part, and the decimals as one
+/// number below 10^`places`.
 ///
-/// Refused with `INVALID_ARGUMENT` if no sketch has such a state or there are more than 19 decimals; then nothing is
-/// written.
+/// Refused with `INVALID_ARGUMENT` if no sketch has such a state or there are more decimals.
 #[unsafe(no_mangle)]
 pub extern "C" fn kcp_estimate_decimal(
     retained: u64,
@@ -28,25 +33,42 @@ pub extern "C" fn kcp_estimate_decimal(
     whole: &mut Wide,
     decimals: &mut u64,
 ) -> u32
-    ensures { WritesDecimal retained theta places whole.old decimals.old result whole.new decimals.new }
+    ensures { WritesParts (parts_of (is_state retained theta) (numerator retained, theta) places)
+        whole.old decimals.old result whole.new decimals.new }
 {
-    if !is_state(retained, theta) || MAX_PLACES < places {
-        return INVALID_ARGUMENT;
-    }
-    let estimate = estimate_decimal(
-        (retained as u128 * MAX_THETA as u128, theta as u128),
-        places,
-    );
-    *whole = split(estimate.whole());
-    *decimals = estimate.decimals() as u64;
-    OK
+    put_parts(estimate_parts(retained, theta, places), whole, decimals)
 }
 
-/// Writes bounds of the number of distinct values that a sketch of this state has seen, by one, two or three standard
-/// deviations: the ends of the Wilson score interval, rounded outwards. That the number is within them in about 68, 95 or
-/// 99.7 of 100 sketches isn't proved.
+/// Writes the estimate of a state as text with `places` decimals, rounded down and without a final 0 byte: at most 49
+/// bytes. Refused as `kcp_estimate_decimal` is.
+#[unsafe(no_mangle)]
+pub extern "C" fn kcp_estimate_text(
+    state: &State,
+    places: u32,
+    text: &mut [u8],
+    length: &mut u64,
+) -> u32
+    ensures { WritesText (parts_of (is_state state.now.retained state.now.theta) (numerator state.now.retained, state.now.theta) places)
+        places text.old length.old result text.new length.new }
+{
+    let parts = estimate_parts(state.retained, state.theta, places);
+    put_parts_text(parts, places, text, length)
+}
+
+/// Writes the nearest whole number to the estimate of a state; a half is rounded up. Refused with `INVALID_ARGUMENT` if no
+/// sketch has such a state.
+#[unsafe(no_mangle)]
+pub extern "C" fn kcp_estimate_rounded(retained: u64, theta: u64, out: &mut Wide) -> u32
+    ensures { WritesNumber (rounded_of (is_state retained theta) (numerator retained, theta)) out.old result out.new }
+{
+    put_wide(estimate_rounded(retained, theta), out)
+}
+
+/// Writes bounds of the number of distinct values by 1, 2 or 3 standard deviations: the ends of the Wilson score
+/// interval, rounded outwards. If hashes are random, the number is within them in about 68, 95 or 99.7 of 100 sketches;
+/// that isn't proved.
 ///
-/// Refused with `INVALID_ARGUMENT` if no sketch has such a state or `deviations` isn't 1, 2 or 3; then nothing is written.
+/// Refused with `INVALID_ARGUMENT` if no sketch has such a state or `deviations` isn't 1, 2 or 3.
 #[unsafe(no_mangle)]
 pub extern "C" fn kcp_count_bounds(
     retained: u64,

@@ -10,11 +10,10 @@ use c_handles::handles::CompactHandle;
 use sketch_objects::state::State;
 use std::alloc::Global;
 
-/// Reads the sketch that the bytes begin with, under this seed, and puts it into a handle. Bytes after the image are
-/// ignored.
+/// Reads the sketch that the bytes begin with, under this seed; bytes after it are ignored. Serial versions 1, 2 and 3
+/// are read.
 ///
-/// Refused with `INVALID_ARGUMENT` if the handle has a sketch already, with `INVALID_DATA` if the bytes begin with no
-/// sketch of this seed, and with `OUT_OF_MEMORY`; then the handle is as before.
+/// Refused with `INVALID_DATA` if the bytes begin with no sketch of this seed, and with `OUT_OF_MEMORY`.
 #[unsafe(no_mangle)]
 pub extern "C" fn kcp_compact_read(
     alloc: Global,
@@ -27,7 +26,7 @@ pub extern "C" fn kcp_compact_read(
     sketch.owned().read(alloc, image, seed)
 }
 
-/// Frees the sketch of a handle, which has none afterwards. A handle without one stays as it is.
+/// Frees the sketch of a handle, if it has one.
 #[unsafe(no_mangle)]
 pub extern "C" fn kcp_compact_free(alloc: Global, sketch: &mut CompactHandle)
     ensures { sketch.new.value ≡ None }
@@ -35,7 +34,7 @@ pub extern "C" fn kcp_compact_free(alloc: Global, sketch: &mut CompactHandle)
     sketch.owned().free(alloc);
 }
 
-/// Copies a sketch into another handle, as `kcp_theta_clone` does.
+/// Copies a sketch into another handle. Refused with `OUT_OF_MEMORY`.
 #[unsafe(no_mangle)]
 pub extern "C" fn kcp_compact_clone(
     alloc: Global,
@@ -48,7 +47,7 @@ pub extern "C" fn kcp_compact_clone(
     sketch.owned().copy(alloc, out.owned())
 }
 
-/// Writes the state of a sketch, as `kcp_theta_state` does.
+/// Writes the sketch's state, as `kcp_theta_state` does.
 #[unsafe(no_mangle)]
 pub extern "C" fn kcp_compact_state(sketch: &mut CompactHandle, out: &mut State) -> u32
     ensures state { WritesValue (option_map compact_state sketch.old.value) out.old result out.new }
@@ -58,7 +57,7 @@ pub extern "C" fn kcp_compact_state(sketch: &mut CompactHandle, out: &mut State)
     sketch.owned().state(out)
 }
 
-/// Writes the image of a sketch to the front of a buffer, and its length, as `kcp_theta_image` does.
+/// Writes the sketch's image, in the DataSketches format. Refused with `OUT_OF_MEMORY`.
 #[unsafe(no_mangle)]
 pub extern "C" fn kcp_compact_image(
     sketch: &mut CompactHandle,

@@ -13,7 +13,7 @@ use sketch_objects::state::State;
 use sketch_objects::status::INVALID_ARGUMENT;
 use std::alloc::Global;
 
-/// Reads the sketch of sums that the bytes begin with, as `kcp_compact_read` does.
+/// Reads the sketch that the bytes begin with, under this seed, as `kcp_compact_read` does.
 #[unsafe(no_mangle)]
 pub extern "C" fn kcp_compact_sums_read(
     alloc: Global,
@@ -26,7 +26,7 @@ pub extern "C" fn kcp_compact_sums_read(
     sums.owned().read(alloc, image, seed)
 }
 
-/// Frees the sketch of a handle, which has none afterwards. A handle without one stays as it is.
+/// Frees the sketch of a handle, if it has one.
 #[unsafe(no_mangle)]
 pub extern "C" fn kcp_compact_sums_free(alloc: Global, sums: &mut CompactSumsHandle)
     ensures { sums.new.value ≡ None }
@@ -34,7 +34,7 @@ pub extern "C" fn kcp_compact_sums_free(alloc: Global, sums: &mut CompactSumsHan
     sums.owned().free(alloc);
 }
 
-/// Writes the state of a sketch, as `kcp_theta_state` does.
+/// Writes the sketch's state, as `kcp_theta_state` does.
 #[unsafe(no_mangle)]
 pub extern "C" fn kcp_compact_sums_state(sums: &mut CompactSumsHandle, out: &mut State) -> u32
     ensures state { WritesValue (option_map compact_sums_state sums.old.value) out.old result out.new }
@@ -44,8 +44,7 @@ pub extern "C" fn kcp_compact_sums_state(sums: &mut CompactSumsHandle, out: &mut
     sums.owned().state(out)
 }
 
-/// Writes the image of a sketch to the front of a buffer, and its length, as `kcp_compact_image` does. After each hash
-/// it has the eight bytes of its sum, the lowest first.
+/// Writes the sketch's image, as `kcp_sums_image` does.
 #[unsafe(no_mangle)]
 pub extern "C" fn kcp_compact_sums_image(
     sums: &mut CompactSumsHandle,
@@ -58,11 +57,10 @@ pub extern "C" fn kcp_compact_sums_image(
     sums.owned().image(out, length)
 }
 
-/// Writes the hashes of a sketch and their sums to the fronts of two arrays, in the order of its image, and how many they
-/// are. The sketch doesn't change.
+/// Writes the hashes of the sketch and their sums, in the order of the image, to two arrays of `room` numbers each, and
+/// their number to `*count`.
 ///
-/// If an array is too small, the status is `TOO_SMALL`, the number is written, and both arrays are as before. Refused with
-/// `INVALID_ARGUMENT` if the handle has no sketch; then nothing is written.
+/// If room is less, the status is `TOO_SMALL`, the arrays are as before, and `*count` is the room that is needed.
 #[unsafe(no_mangle)]
 pub extern "C" fn kcp_compact_sums_entries(
     sums: &mut CompactSumsHandle,
@@ -79,7 +77,7 @@ pub extern "C" fn kcp_compact_sums_entries(
     }
 }
 
-/// Writes the total of a sketch, the sum of its sums, as `kcp_sums_total` does.
+/// Writes the total of a sketch, as `kcp_sums_total` does.
 #[unsafe(no_mangle)]
 pub extern "C" fn kcp_compact_sums_total(sums: &mut CompactSumsHandle, out: &mut Wide) -> u32
     ensures total { WritesValue (option_map (λ s. wide (compact_total s)) sums.old.value) out.old result out.new }

@@ -6,13 +6,12 @@ ghost use Rattle.sketch_objects.specs.Intersection.{AreOfSeed, IsDifferenceOf, I
 use c_handles::handles::CompactHandle;
 use std::alloc::Global;
 
-/// Puts the hashes of the first sketch that the second lacks into a handle, below the lesser theta, as an ordered compact
-/// sketch. The sketches don't change.
+/// Makes the difference of two sketches, as an ordered compact sketch: the hashes of the first that the second lacks,
+/// below the lesser theta. Pass three different handles.
 ///
-/// Refused with `INVALID_ARGUMENT` if one of the first two handles has no sketch or the third one has a sketch, if the hash
-/// of the seed is 0, and, unless the first sketch is empty, if one that isn't empty is of another seed; and with
-/// `OUT_OF_MEMORY`. Then nothing has changed. With an empty first sketch the difference is empty, and the second sketch may
-/// be of any seed.
+/// Refused with `INVALID_ARGUMENT` if the hash of the seed is 0, and, unless the first sketch is empty, if one that
+/// isn't empty is of another seed; and with `OUT_OF_MEMORY`. With an empty first sketch the difference is empty, and
+/// the second sketch may be of any seed.
 #[unsafe(no_mangle)]
 pub extern "C" fn kcp_difference(
     alloc: Global,

@@ -5,7 +5,8 @@ ghost use Rattle.sketch_base.specs.Seed.{hash_of};
 
 use sketch_objects::hashes::{hash_of_bytes, hash_of_number};
 
-/// The hash of bytes under a seed, of 63 bits, as `kcp_theta_update_hash` takes it.
+/// Writes the hash of bytes under a seed, which the update calls insert, of 63 bits: the first half of MurmurHash3 x64
+/// 128 without its lowest bit.
 #[unsafe(no_mangle)]
 pub extern "C" fn kcp_hash_bytes(seed: u64, bytes: &[u8]) -> u64
     ensures { result ≡ hash_of seed bytes.now }
@@ -13,7 +14,7 @@ pub extern "C" fn kcp_hash_bytes(seed: u64, bytes: &[u8]) -> u64
     hash_of_bytes(seed, bytes)
 }
 
-/// The hash of a number's eight bytes under a seed, of 63 bits, the lowest byte first.
+/// Writes the hash of a number's eight bytes under a seed, the lowest byte first, likewise.
 #[unsafe(no_mangle)]
 pub extern "C" fn kcp_hash_u64(seed: u64, number: u64) -> u64
     ensures { result ≡ hash_of seed (to_le_bytes w64 number) }

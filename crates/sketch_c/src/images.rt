@@ -11,10 +11,8 @@ use sketch_objects::state::State;
 use sketch_objects::status::{OK, OUT_OF_MEMORY};
 use std::alloc::Global;
 
-/// Writes the state of the sketch that the bytes begin with, read under this seed.
-///
-/// Refused with `INVALID_DATA` if the bytes begin with no sketch of this seed, and with `OUT_OF_MEMORY`; then nothing is
-/// written.
+/// Writes the state of the sketch that the bytes begin with, read under this seed. Refused with `INVALID_DATA` if the
+/// bytes begin with no sketch of this seed, and with `OUT_OF_MEMORY`.
 #[unsafe(no_mangle)]
 pub extern "C" fn kcp_image_state(alloc: Global, image: &[u8], seed: u64, out: &mut State) -> u32
     ensures state { ReadsImageState image.now seed out.old result out.new }
@@ -29,11 +27,8 @@ pub extern "C" fn kcp_image_state(alloc: Global, image: &[u8], seed: u64, out: &
     }
 }
 
-/// Writes the image of the intersection of the sketches that two images begin with to the front of a buffer, and its
-/// length.
-///
-/// If the buffer is too small, the status is `TOO_SMALL`, the length is written, and the buffer is as before. Refused with
-/// `INVALID_DATA` if an image begins with no sketch of this seed, and with `OUT_OF_MEMORY`; then nothing is written.
+/// Writes the image of the intersection of the sketches that two images begin with, read under this seed. Refused as
+/// `kcp_image_state` is.
 #[unsafe(no_mangle)]
 pub extern "C" fn kcp_images_intersect(
     alloc: Global,
@@ -54,8 +49,8 @@ pub extern "C" fn kcp_images_intersect(
     }
 }
 
-/// Writes the image of the difference of the sketches that two images begin with, the hashes of the first that the second
-/// lacks, as `kcp_images_intersect` does.
+/// Writes the image of their difference, which has the hashes of the first that the second lacks. Refused as
+/// `kcp_image_state` is.
 #[unsafe(no_mangle)]
 pub extern "C" fn kcp_images_difference(
     alloc: Global,

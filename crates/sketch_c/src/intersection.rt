@@ -8,10 +8,8 @@ use c_handles::handles::{CompactHandle, IntersectionHandle, ThetaHandle};
 use sketch_objects::intersection::built;
 use std::alloc::Global;
 
-/// Makes an intersection of theta sketches, without a value, and puts it into a handle.
-///
-/// Refused with `INVALID_ARGUMENT` if the handle has an intersection already or the hash of the seed is 0, and with
-/// `OUT_OF_MEMORY`; then the handle is as before.
+/// Makes an intersection, which has no value before its first sketch. Refused with `INVALID_ARGUMENT` if the hash of
+/// the seed is 0, and with `OUT_OF_MEMORY`.
 #[unsafe(no_mangle)]
 pub extern "C" fn kcp_intersection_new(
     alloc: Global,
@@ -23,7 +21,7 @@ pub extern "C" fn kcp_intersection_new(
     intersection.owned().put(alloc, built(alloc, seed))
 }
 
-/// Frees the intersection of a handle, which has none afterwards. A handle without one stays as it is.
+/// Frees the intersection of a handle, if it has one.
 #[unsafe(no_mangle)]
 pub extern "C" fn kcp_intersection_free(alloc: Global, intersection: &mut IntersectionHandle)
     ensures { intersection.new.value ≡ None }
@@ -31,11 +29,11 @@ pub extern "C" fn kcp_intersection_free(alloc: Global, intersection: &mut Inters
     intersection.owned().free(alloc);
 }
 
-/// Intersects with a sketch that takes updates. The sketch doesn't change. The value is empty for good once a sketch is, or
-/// once sketches that have hashes share none while theta is still the greatest; an empty value accepts every sketch.
+/// Intersects with a sketch that takes updates: the value keeps the hashes that all sketches share below their least
+/// theta. It is empty for good once a sketch is, or once sketches that have hashes share none while theta is
+/// `MAX_THETA`; it then accepts every sketch.
 ///
-/// Refused with `INVALID_ARGUMENT` if a handle has no object or the sketch is of another seed, and with `OUT_OF_MEMORY`;
-/// then nothing has changed. The seed of an empty sketch is not checked.
+/// Refused with `INVALID_ARGUMENT` for a sketch of another seed, and with `OUT_OF_MEMORY`; nothing has changed then.
 #[unsafe(no_mangle)]
 pub extern "C" fn kcp_intersection_add(
     intersection: &mut IntersectionHandle,
@@ -59,10 +57,11 @@ pub extern "C" fn kcp_intersection_add_compact(
     intersection.owned().add(sketch.owned())
 }
 
-/// Intersects with the sketch that the bytes begin with, read under the intersection's seed.
+/// Intersects with the sketch that the bytes begin with, read under the intersection's seed, as `kcp_intersection_add`
+/// does.
 ///
-/// Refused with `INVALID_DATA` if the bytes begin with no sketch of this seed, and otherwise as `kcp_intersection_add` is;
-/// then nothing has changed.
+/// Refused with `INVALID_DATA` if the bytes begin with no sketch of this seed, and otherwise as `kcp_intersection_add`
+/// is; nothing has changed then.
 #[unsafe(no_mangle)]
 pub extern "C" fn kcp_intersection_add_image(
     alloc: Global,
@@ -74,10 +73,8 @@ pub extern "C" fn kcp_intersection_add_image(
     intersection.owned().add_image(alloc, image)
 }
 
-/// Puts the intersection's value into a handle, as an ordered compact sketch. The intersection doesn't change.
-///
-/// Refused with `INVALID_ARGUMENT` if the first handle has no intersection, the intersection has no value as no sketch was
-/// passed to it, or the second handle has a sketch, and with `OUT_OF_MEMORY`; then nothing has changed.
+/// Makes the intersection's value as an ordered compact sketch. Refused with `INVALID_ARGUMENT` before the first
+/// sketch, and with `OUT_OF_MEMORY`.
 #[unsafe(no_mangle)]
 pub extern "C" fn kcp_intersection_result(
     alloc: Global,

@@ -8,11 +8,10 @@ use sketch_objects::strings::update_strings;
 use std::alloc::Global;
 
 /// Updates a sketch with byte strings in their order, each by its hash. They lie one after another in `bytes`, the
-/// first from offset 0, and `ends` has the offset of each one's end.
+/// first from offset 0, and `ends[i]` is the offset of the end of string i. The call allocates eight bytes per string.
 ///
-/// Refused with `INVALID_ARGUMENT` if the handle has no sketch, or an end is below the one before it or past the bytes;
-/// then nothing has changed. Refused with `OUT_OF_MEMORY`; then only the first strings have been inserted, perhaps
-/// none, and the same call may be repeated. It allocates eight bytes per string.
+/// Refused with `INVALID_ARGUMENT` if an end is below the one before it or past the bytes. Refused with
+/// `OUT_OF_MEMORY`; then only the first strings have been inserted, perhaps none, and the same call may be repeated.
 #[unsafe(no_mangle)]
 pub extern "C" fn kcp_theta_update_strings(
     alloc: Global,

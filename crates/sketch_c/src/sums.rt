@@ -17,7 +17,7 @@ use sketch_objects::sums::{add_at_bytes, add_at_hash, add_at_number, built};
 use std::alloc::Global;
 use tuple_sketches::{MAX_THETA, ResizeFactor};
 
-/// Makes a tuple sketch of sums with 2^`lg_k` nominal entries, as `kcp_theta_new` makes a theta sketch.
+/// Makes an empty sketch, as `kcp_theta_new` does.
 #[unsafe(no_mangle)]
 pub extern "C" fn kcp_sums_new(alloc: Global, sums: &mut SumsHandle, lg_k: u8, seed: u64) -> u32
     ensures { Fills (IsNewSums lg_k MAX_THETA seed) (IsSettingsRefusal lg_k seed) sums.old.value result sums.new.value }
@@ -25,7 +25,7 @@ pub extern "C" fn kcp_sums_new(alloc: Global, sums: &mut SumsHandle, lg_k: u8, s
     sums.owned().put(alloc, built(alloc, lg_k, ResizeFactor::X8, MAX_THETA, seed))
 }
 
-/// Makes a sketch of sums with a resize factor and a starting theta, as `kcp_theta_new_with` does.
+/// Makes a sketch with a resize factor and a starting theta, as `kcp_theta_new_with` does.
 #[unsafe(no_mangle)]
 pub extern "C" fn kcp_sums_new_with(
     alloc: Global,
@@ -45,7 +45,7 @@ pub extern "C" fn kcp_sums_new_with(
     }
 }
 
-/// Copies a sketch of sums into another handle, as `kcp_theta_clone` does: its sums too.
+/// Copies a sketch, with its sums, its theta and settings, into another handle. Refused with `OUT_OF_MEMORY`.
 #[unsafe(no_mangle)]
 pub extern "C" fn kcp_sums_clone(alloc: Global, sums: &mut SumsHandle, out: &mut SumsHandle) -> u32
     ensures copied { FillsFrom IsSameSums (λ _. IsMemoryRefusal) sums.old.value out.old.value result out.new.value }
@@ -54,7 +54,7 @@ pub extern "C" fn kcp_sums_clone(alloc: Global, sums: &mut SumsHandle, out: &mut
     sums.owned().copy(alloc, out.owned())
 }
 
-/// Frees the sketch of a handle, which has none afterwards. A handle without one stays as it is.
+/// Frees the sketch of a handle, if it has one.
 #[unsafe(no_mangle)]
 pub extern "C" fn kcp_sums_free(alloc: Global, sums: &mut SumsHandle)
     ensures { sums.new.value ≡ None }
@@ -63,10 +63,9 @@ pub extern "C" fn kcp_sums_free(alloc: Global, sums: &mut SumsHandle)
 }
 
 /// Adds a value to the sum of a hash, which is 0 at first. A hash that is 0 or at least theta is not retained, but the
-/// sketch becomes nonempty.
+/// sketch is nonempty afterwards.
 ///
-/// Refused with `INVALID_ARGUMENT` if the handle has no sketch, with `POLICY` if the sum would be 2^64 or more, and with
-/// `OUT_OF_MEMORY`, only for a new hash below theta; then nothing has changed.
+/// Refused with `POLICY` if the sum would be 2^64 or more, and with `OUT_OF_MEMORY`, only for a new hash below theta.
 #[unsafe(no_mangle)]
 pub extern "C" fn kcp_sums_add_hash(sums: &mut SumsHandle, hash: u64, value: u64) -> u32
     ensures { OnObject (AddsValue hash value) sums.old.value result sums.new.value }
@@ -77,7 +76,7 @@ pub extern "C" fn kcp_sums_add_hash(sums: &mut SumsHandle, hash: u64, value: u64
     }
 }
 
-/// Adds a value to the sum of a number, by the hash of its eight bytes, the lowest first. Refused as `kcp_sums_add_hash` is.
+/// Adds a value to the sum of a number, by its hash as in `kcp_theta_update_u64`. Refused as `kcp_sums_add_hash` is.
 #[unsafe(no_mangle)]
 pub extern "C" fn kcp_sums_add_u64(sums: &mut SumsHandle, number: u64, value: u64) -> u32
     ensures { OnObject (AddsAtNumber number value) sums.old.value result sums.new.value }
@@ -88,7 +87,7 @@ pub extern "C" fn kcp_sums_add_u64(sums: &mut SumsHandle, number: u64, value: u6
     }
 }
 
-/// Adds a value to the sum of bytes, by their hash. Refused as `kcp_sums_add_hash` is.
+/// Adds a value to the sum of bytes, by their hash as in `kcp_theta_update_bytes`. Refused as `kcp_sums_add_hash` is.
 #[unsafe(no_mangle)]
 pub extern "C" fn kcp_sums_add_bytes(sums: &mut SumsHandle, bytes: &[u8], value: u64) -> u32
     ensures { OnObject (AddsAtBytes bytes.now value) sums.old.value result sums.new.value }
@@ -107,7 +106,7 @@ pub extern "C" fn kcp_sums_trim(sums: &mut SumsHandle) -> u32
     sums.owned().trim()
 }
 
-/// Makes a sketch empty again, as `kcp_theta_reset` does.
+/// Makes a sketch empty again, as when it was new.
 #[unsafe(no_mangle)]
 pub extern "C" fn kcp_sums_reset(sums: &mut SumsHandle) -> u32
     ensures { OnObject ResetsSums sums.old.value result sums.new.value }
@@ -115,7 +114,7 @@ pub extern "C" fn kcp_sums_reset(sums: &mut SumsHandle) -> u32
     sums.owned().reset()
 }
 
-/// Writes the state of a sketch, as `kcp_theta_state` does.
+/// Writes the sketch's state, as `kcp_theta_state` does.
 #[unsafe(no_mangle)]
 pub extern "C" fn kcp_sums_state(sums: &mut SumsHandle, out: &mut State) -> u32
     ensures state { WritesValue (option_map sums_state sums.old.value) out.old result out.new }
@@ -125,8 +124,8 @@ pub extern "C" fn kcp_sums_state(sums: &mut SumsHandle, out: &mut State) -> u32
     sums.owned().state(out)
 }
 
-/// Writes the image of a sketch, ordered, to the front of a buffer, and its length, as `kcp_theta_image` does. After
-/// each hash it has the eight bytes of its sum, the lowest first.
+/// Writes the image of the sketch's ordered compact form: after each hash the eight bytes of its sum, the lowest first.
+/// Refused with `OUT_OF_MEMORY`.
 #[unsafe(no_mangle)]
 pub extern "C" fn kcp_sums_image(sums: &mut SumsHandle, out: &mut [u8], length: &mut u64) -> u32
     ensures image { WritesOf IsImageOfSums (λ _. IsMemoryRefusal) sums.old.value out.old length.old result out.new length.new }
@@ -135,7 +134,7 @@ pub extern "C" fn kcp_sums_image(sums: &mut SumsHandle, out: &mut [u8], length: 
     sums.owned().image(out, length)
 }
 
-/// Makes the ordered compact form of a sketch, as `kcp_theta_compact` does.
+/// Makes the sketch's ordered compact form, of the same value, untrimmed. Refused with `OUT_OF_MEMORY`.
 #[unsafe(no_mangle)]
 pub extern "C" fn kcp_sums_compact(
     alloc: Global,
@@ -148,10 +147,8 @@ pub extern "C" fn kcp_sums_compact(
     sums.owned().compact(alloc, out.owned())
 }
 
-/// Writes the total of a sketch, the sum of its sums, below 2^96. The estimate of the total of all values that were added
-/// is this total times `MAX_THETA`, over theta. The sketch doesn't change.
-///
-/// Refused with `INVALID_ARGUMENT` if the handle has no sketch; then nothing is written.
+/// Writes the total of a sketch, the sum of its sums, below 2^96. The estimate of the total of all values that were
+/// added is this total * `MAX_THETA` / theta (`kc_total`, `kcp_total_decimal`, `kcp_total_rounded`, `kcp_total_text`).
 #[unsafe(no_mangle)]
 pub extern "C" fn kcp_sums_total(sums: &mut SumsHandle, out: &mut Wide) -> u32
     ensures total { WritesValue (option_map (λ t. wide (sums_total t)) sums.old.value) out.old result out.new }

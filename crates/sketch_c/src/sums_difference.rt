@@ -6,8 +6,7 @@ ghost use Rattle.sketch_objects.specs.SumsIntersection.{AreSumsOfSeed, IsDiffere
 use c_handles::handles::CompactSumsHandle;
 use std::alloc::Global;
 
-/// Puts the difference of two sketches into a handle, as `kcp_difference` does; each hash keeps the sum that it has in the
-/// first.
+/// Makes the difference of two sketches, as `kcp_difference` does; each hash keeps the sum that it has in the first.
 #[unsafe(no_mangle)]
 pub extern "C" fn kcp_sums_difference(
     alloc: Global,

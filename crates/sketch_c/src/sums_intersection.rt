@@ -9,7 +9,8 @@ use c_handles::handles::{CompactSumsHandle, SumsHandle, SumsIntersectionHandle};
 use sketch_objects::sums_intersection::built;
 use std::alloc::Global;
 
-/// Makes an intersection of sketches of sums, without a value, as `kcp_intersection_new` does.
+/// Makes an intersection, refused as `kcp_intersection_new` is. Its value is that of an intersection of theta sketches,
+/// and beside each hash the sum of the sums of all sketches.
 #[unsafe(no_mangle)]
 pub extern "C" fn kcp_sums_intersection_new(
     alloc: Global,
@@ -21,7 +22,7 @@ pub extern "C" fn kcp_sums_intersection_new(
     intersection.owned().put(alloc, built(alloc, seed))
 }
 
-/// Frees the intersection of a handle, which has none afterwards. A handle without one stays as it is.
+/// Frees the intersection of a handle, if it has one.
 #[unsafe(no_mangle)]
 pub extern "C" fn kcp_sums_intersection_free(
     alloc: Global,
@@ -32,8 +33,10 @@ pub extern "C" fn kcp_sums_intersection_free(
     intersection.owned().free(alloc);
 }
 
-/// Intersects with a sketch that takes updates, as `kcp_intersection_add` does; the sums of a shared hash are added. Refused
-/// with `POLICY` also, if two sums of one hash are 2^64 or more together; then nothing has changed.
+/// Intersects with a sketch that takes updates, as `kcp_intersection_add` does.
+///
+/// Refused as that call is, and with `POLICY` if the sums of one hash are 2^64 or more together; nothing has changed
+/// then.
 #[unsafe(no_mangle)]
 pub extern "C" fn kcp_sums_intersection_add(
     intersection: &mut SumsIntersectionHandle,
@@ -57,8 +60,8 @@ pub extern "C" fn kcp_sums_intersection_add_compact(
     intersection.owned().add(sketch.owned())
 }
 
-/// Intersects with the sketch that the bytes begin with, as `kcp_intersection_add_image` does. Refused with `POLICY` also, as
-/// `kcp_sums_intersection_add` is.
+/// Intersects with the sketch that the bytes begin with, as `kcp_intersection_add_image` does. Refused as that call and
+/// `kcp_sums_intersection_add` are.
 #[unsafe(no_mangle)]
 pub extern "C" fn kcp_sums_intersection_add_image(
     alloc: Global,
@@ -70,7 +73,8 @@ pub extern "C" fn kcp_sums_intersection_add_image(
     intersection.owned().add_image(alloc, image)
 }
 
-/// Puts the intersection's value into a handle, as `kcp_intersection_result` does.
+/// Makes the intersection's value as an ordered compact sketch. Refused with `INVALID_ARGUMENT` before the first
+/// sketch, and with `OUT_OF_MEMORY`.
 #[unsafe(no_mangle)]
 pub extern "C" fn kcp_sums_intersection_result(
     alloc: Global,

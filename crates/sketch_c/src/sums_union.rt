@@ -10,7 +10,8 @@ use c_handles::handles::{CompactSumsHandle, SumsHandle, SumsUnionHandle};
 use sketch_objects::sums_union::built;
 use std::alloc::Global;
 
-/// Makes a union of sketches of sums of 2^`lg_k` nominal entries, as `kcp_union_new` does.
+/// Makes a union of 2^`lg_k` nominal entries, refused as `kcp_theta_new` is. Its value is that of a union of theta
+/// sketches, and beside each hash the sum of the sums of all sketches.
 #[unsafe(no_mangle)]
 pub extern "C" fn kcp_sums_union_new(
     alloc: Global,
@@ -23,7 +24,7 @@ pub extern "C" fn kcp_sums_union_new(
     union.owned().put(alloc, built(alloc, lg_k, seed))
 }
 
-/// Frees the union of a handle, which has none afterwards. A handle without one stays as it is.
+/// Frees the union of a handle, if it has one.
 #[unsafe(no_mangle)]
 pub extern "C" fn kcp_sums_union_free(alloc: Global, union: &mut SumsUnionHandle)
     ensures { union.new.value ≡ None }
@@ -31,8 +32,10 @@ pub extern "C" fn kcp_sums_union_free(alloc: Global, union: &mut SumsUnionHandle
     union.owned().free(alloc);
 }
 
-/// Merges a sketch that takes updates into a union, as `kcp_union_add` does. Refused with `POLICY` also, if two sums of one hash
-/// are 2^64 or more together; then the union has failed until it is reset.
+/// Merges a sketch that takes updates into the union, as `kcp_union_add` does.
+///
+/// Refused as that call is; and with `POLICY` if the sums of one hash are 2^64 or more together, after which the union
+/// has failed until it is reset.
 #[unsafe(no_mangle)]
 pub extern "C" fn kcp_sums_union_add(union: &mut SumsUnionHandle, sketch: &mut SumsHandle) -> u32
     ensures added { OnObjectWith (OfSums AddsShownSums) sketch.old.value union.old.value result union.new.value }
@@ -41,7 +44,7 @@ pub extern "C" fn kcp_sums_union_add(union: &mut SumsUnionHandle, sketch: &mut S
     union.owned().add(sketch.owned())
 }
 
-/// Merges a compact sketch into a union, as `kcp_sums_union_add` does.
+/// Merges a compact sketch into the union, as `kcp_sums_union_add` does.
 #[unsafe(no_mangle)]
 pub extern "C" fn kcp_sums_union_add_compact(
     union: &mut SumsUnionHandle,
@@ -53,7 +56,8 @@ pub extern "C" fn kcp_sums_union_add_compact(
     union.owned().add(sketch.owned())
 }
 
-/// Merges the sketch that the bytes begin with into a union, as `kcp_union_add_image` does. Refused as `kcp_sums_union_add` is.
+/// Merges the sketch that the bytes begin with, as `kcp_union_add_image` does. Refused as that call and
+/// `kcp_sums_union_add` are.
 #[unsafe(no_mangle)]
 pub extern "C" fn kcp_sums_union_add_image(
     alloc: Global,
@@ -65,7 +69,8 @@ pub extern "C" fn kcp_sums_union_add_image(
     union.owned().add_image(alloc, image)
 }
 
-/// Puts the union's value into a handle, as `kcp_union_result` does.
+/// Makes the union's value as an ordered compact sketch. Refused with `FAILED` if the union has failed, and with
+/// `OUT_OF_MEMORY`.
 #[unsafe(no_mangle)]
 pub extern "C" fn kcp_sums_union_result(
     alloc: Global,
@@ -78,7 +83,7 @@ pub extern "C" fn kcp_sums_union_result(
     union.owned().compact(alloc, out.owned())
 }
 
-/// Writes the image of the union's value, as `kcp_union_image` does.
+/// Writes the image of that sketch, refused as `kcp_sums_union_result` is.
 #[unsafe(no_mangle)]
 pub extern "C" fn kcp_sums_union_image(
     union: &mut SumsUnionHandle,
@@ -91,7 +96,7 @@ pub extern "C" fn kcp_sums_union_image(
     union.owned().image(out, length)
 }
 
-/// Makes a union empty again, as `kcp_union_reset` does.
+/// Makes the union empty again, as when it was new, and ends a failure.
 #[unsafe(no_mangle)]
 pub extern "C" fn kcp_sums_union_reset(union: &mut SumsUnionHandle) -> u32
     ensures { OnObject ResetsSumsUnion union.old.value result union.new.value }

@@ -16,10 +16,9 @@ use sketch_objects::theta::{built, update_bytes, update_hash, update_hashes, upd
 use std::alloc::Global;
 use theta_sketches::{MAX_THETA, ResizeFactor};
 
-/// Makes a theta sketch of 2^`lg_k` nominal entries, `lg_k` from 4 to 26, and puts it into a handle.
+/// Makes an empty sketch of 2^`lg_k` nominal entries.
 ///
-/// Refused with `INVALID_ARGUMENT` if the handle has a sketch already, `lg_k` is out of range or the hash of the seed is
-/// 0, and with `OUT_OF_MEMORY`; then the handle is as before.
+/// Refused with `INVALID_ARGUMENT` if `lg_k` isn't from 4 to 26 or the hash of the seed is 0, and with `OUT_OF_MEMORY`.
 #[unsafe(no_mangle)]
 pub extern "C" fn kcp_theta_new(alloc: Global, sketch: &mut ThetaHandle, lg_k: u8, seed: u64) -> u32
     ensures { Fills (IsNewSketch lg_k MAX_THETA seed) (IsSettingsRefusal lg_k seed) sketch.old.value result sketch.new.value }
@@ -27,11 +26,11 @@ pub extern "C" fn kcp_theta_new(alloc: Global, sketch: &mut ThetaHandle, lg_k: u
     sketch.owned().put(alloc, built(alloc, lg_k, ResizeFactor::X8, MAX_THETA, seed))
 }
 
-/// Makes a theta sketch, as `kcp_theta_new` does, whose slots grow by the resize factor, 1, 2, 4 or 8, and which begins at
-/// a theta from 1 to `MAX_THETA`, also after a reset. With the factor 1 it has all of its slots from the start. No value
+/// Makes a sketch whose slots grow by a resize factor, 1, 2, 4 or 8 (`kcp_theta_new` takes 8), and that begins at a
+/// theta from 1 to `MAX_THETA`, also after a reset. With the factor 1 it has all of its slots from the start. No value
 /// depends on the factor.
 ///
-/// Refused as `kcp_theta_new` is, and with `INVALID_ARGUMENT` also if the factor or the theta is out of range.
+/// Refused as `kcp_theta_new` is, and with `INVALID_ARGUMENT` if the factor or the theta is out of range.
 #[unsafe(no_mangle)]
 pub extern "C" fn kcp_theta_new_with(
     alloc: Global,
@@ -51,10 +50,7 @@ pub extern "C" fn kcp_theta_new_with(
     }
 }
 
-/// Copies a sketch into another handle: its entries, its theta and its settings. The sketch doesn't change.
-///
-/// Refused with `INVALID_ARGUMENT` if the first handle has no sketch or the second one has a sketch, and with
-/// `OUT_OF_MEMORY`; then nothing has changed.
+/// Copies a sketch, with its theta and settings, into another handle. Refused with `OUT_OF_MEMORY`.
 #[unsafe(no_mangle)]
 pub extern "C" fn kcp_theta_clone(
     alloc: Global,
@@ -67,7 +63,7 @@ pub extern "C" fn kcp_theta_clone(
     sketch.owned().copy(alloc, out.owned())
 }
 
-/// Frees the sketch of a handle, which has none afterwards. A handle without one stays as it is.
+/// Frees the sketch of a handle, if it has one.
 #[unsafe(no_mangle)]
 pub extern "C" fn kcp_theta_free(alloc: Global, sketch: &mut ThetaHandle)
     ensures { sketch.new.value ≡ None }
@@ -75,11 +71,10 @@ pub extern "C" fn kcp_theta_free(alloc: Global, sketch: &mut ThetaHandle)
     sketch.owned().free(alloc);
 }
 
-/// Updates a sketch with a hash of 63 bits. A hash that is 0 or at least theta is not retained, but the sketch becomes
-/// nonempty.
+/// Updates a sketch with a hash of 63 bits. A hash that is 0 or at least theta is not retained, but the sketch is
+/// nonempty afterwards.
 ///
-/// Refused with `INVALID_ARGUMENT` if the handle has no sketch, and with `OUT_OF_MEMORY`, only for a new hash below theta;
-/// then nothing has changed.
+/// Refused with `OUT_OF_MEMORY`, only for a new hash below theta.
 #[unsafe(no_mangle)]
 pub extern "C" fn kcp_theta_update_hash(sketch: &mut ThetaHandle, hash: u64) -> u32
     ensures { OnObject (UpdatesHash hash) sketch.old.value result sketch.new.value }
@@ -90,7 +85,8 @@ pub extern "C" fn kcp_theta_update_hash(sketch: &mut ThetaHandle, hash: u64) -> 
     }
 }
 
-/// Updates a sketch with a number, by the hash of its eight bytes, the lowest first. Refused as `kcp_theta_update_hash` is.
+/// Updates a sketch with a number, by the hash of its eight bytes, the lowest first: the hash of the other
+/// implementations. Refused as `kcp_theta_update_hash` is.
 #[unsafe(no_mangle)]
 pub extern "C" fn kcp_theta_update_u64(sketch: &mut ThetaHandle, number: u64) -> u32
     ensures { OnObject (UpdatesNumber number) sketch.old.value result sketch.new.value }
@@ -101,7 +97,8 @@ pub extern "C" fn kcp_theta_update_u64(sketch: &mut ThetaHandle, number: u64) ->
     }
 }
 
-/// Updates a sketch with bytes, by their hash. Refused as `kcp_theta_update_hash` is.
+/// Updates a sketch with bytes, by their hash: the hash of the other implementations. A string of no bytes is a value
+/// too. Refused as `kcp_theta_update_hash` is.
 #[unsafe(no_mangle)]
 pub extern "C" fn kcp_theta_update_bytes(sketch: &mut ThetaHandle, bytes: &[u8]) -> u32
     ensures { OnObject (UpdatesBytes bytes.now) sketch.old.value result sketch.new.value }
@@ -112,10 +109,11 @@ pub extern "C" fn kcp_theta_update_bytes(sketch: &mut ThetaHandle, bytes: &[u8])
     }
 }
 
-/// Updates a sketch with hashes in their order, each as `kcp_theta_update_hash` does. Without hashes nothing changes.
+/// Updates a sketch with many hashes in their order, each as `kcp_theta_update_hash` does; a few hundred per call are
+/// fast. Without hashes nothing changes.
 ///
-/// Refused with `INVALID_ARGUMENT` if the handle has no sketch. Refused with `OUT_OF_MEMORY` at a new hash below theta;
-/// then exactly the hashes before it have been inserted, and the same call may be repeated.
+/// Refused with `OUT_OF_MEMORY` at a new hash below theta; then exactly the hashes before it have been inserted, and
+/// the same call may be repeated.
 #[unsafe(no_mangle)]
 pub extern "C" fn kcp_theta_update_hashes(sketch: &mut ThetaHandle, hashes: &[u64]) -> u32
     ensures { OnObject (UpdatesHashes hashes.now) sketch.old.value result sketch.new.value }
@@ -126,11 +124,8 @@ pub extern "C" fn kcp_theta_update_hashes(sketch: &mut ThetaHandle, hashes: &[u6
     }
 }
 
-/// Cuts a sketch to its k nominal entries: if it retains more, theta becomes the (k+1)th smallest hash, and the k
-/// hashes below it stay.
-///
-/// Refused with `INVALID_ARGUMENT` if the handle has no sketch, and with `OUT_OF_MEMORY`, only if it retains more; then
-/// nothing has changed.
+/// If the sketch retains more than its k = 2^`lg_k` nominal entries, lowers theta to the (k+1)th smallest hash and
+/// keeps the k hashes below it. Refused with `OUT_OF_MEMORY`, only if it retains more.
 #[unsafe(no_mangle)]
 pub extern "C" fn kcp_theta_trim(sketch: &mut ThetaHandle) -> u32
     ensures { OnObject Trims sketch.old.value result sketch.new.value }
@@ -138,7 +133,7 @@ pub extern "C" fn kcp_theta_trim(sketch: &mut ThetaHandle) -> u32
     sketch.owned().trim()
 }
 
-/// Makes a sketch empty again, as when it was new. Refused with `INVALID_ARGUMENT` if the handle has no sketch.
+/// Makes a sketch empty again, as when it was new.
 #[unsafe(no_mangle)]
 pub extern "C" fn kcp_theta_reset(sketch: &mut ThetaHandle) -> u32
     ensures { OnObject Resets sketch.old.value result sketch.new.value }
@@ -146,8 +141,7 @@ pub extern "C" fn kcp_theta_reset(sketch: &mut ThetaHandle) -> u32
     sketch.owned().reset()
 }
 
-/// Writes the state of a sketch: how many hashes it retains, its theta, and whether it is empty. The sketch doesn't change.
-/// Refused with `INVALID_ARGUMENT` if the handle has no sketch; then nothing is written.
+/// Writes the sketch's state: how many hashes it retains, its theta, and whether it is empty.
 #[unsafe(no_mangle)]
 pub extern "C" fn kcp_theta_state(sketch: &mut ThetaHandle, out: &mut State) -> u32
     ensures state { WritesValue (option_map theta_state sketch.old.value) out.old result out.new }
@@ -157,10 +151,7 @@ pub extern "C" fn kcp_theta_state(sketch: &mut ThetaHandle, out: &mut State) -> 
     sketch.owned().state(out)
 }
 
-/// Writes the image of a sketch, ordered, to the front of a buffer, and its length. The sketch doesn't change.
-///
-/// If the buffer is too small, the status is `TOO_SMALL`, the length is written, and the buffer is as before. Refused with
-/// `INVALID_ARGUMENT` if the handle has no sketch, and with `OUT_OF_MEMORY`; then nothing is written.
+/// Writes the image of the sketch's ordered compact form, in the DataSketches format. Refused with `OUT_OF_MEMORY`.
 #[unsafe(no_mangle)]
 pub extern "C" fn kcp_theta_image(sketch: &mut ThetaHandle, out: &mut [u8], length: &mut u64) -> u32
     ensures image { WritesOf IsImageOf (λ _. IsMemoryRefusal) sketch.old.value out.old length.old result out.new length.new }
@@ -169,10 +160,7 @@ pub extern "C" fn kcp_theta_image(sketch: &mut ThetaHandle, out: &mut [u8], leng
     sketch.owned().image(out, length)
 }
 
-/// Makes the ordered compact form of a sketch, and puts it into a handle. The sketch doesn't change.
-///
-/// Refused with `INVALID_ARGUMENT` if the first handle has no sketch or the second one has a sketch, and with
-/// `OUT_OF_MEMORY`; then nothing has changed.
+/// Makes the sketch's ordered compact form, of the same value, untrimmed. Refused with `OUT_OF_MEMORY`.
 #[unsafe(no_mangle)]
 pub extern "C" fn kcp_theta_compact(
     alloc: Global,

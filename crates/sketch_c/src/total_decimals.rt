@@ -1,34 +1,54 @@
-//! The decimals of what totals of sums estimate.
-ghost use Rattle.std.specs.Prelude.{◌<◌};
-ghost use Rattle.sketch_objects.specs.Totals.{WritesTotalDecimal};
+//! What totals of sums estimate.
+ghost use Rattle.sketch_objects.specs.Quotients.{WritesNumber, WritesParts, WritesText, parts_of, rounded_of};
+ghost use Rattle.sketch_objects.specs.Totals.{is_total, total_fraction};
 
-use sketch_objects::bounds::{Wide, split};
-use sketch_objects::status::{INVALID_ARGUMENT, OK};
-use theta_sketches::{MAX_PLACES, MAX_THETA};
+use sketch_objects::bounds::Wide;
+use sketch_objects::quotients::{put_parts, put_parts_text, put_wide, total_parts, total_rounded};
 
-/// Writes the estimate of the total of all values of a stream, rounded down: its whole part, and its decimals as one
-/// number, below 10^`places`. It is the total of the sketch, `low` + 2^64 * `high`, times `MAX_THETA`, over its theta.
+/// Writes the estimate of the total of all values, total * `MAX_THETA` / theta, rounded down to `places` decimals, as
+/// `kcp_estimate_decimal` writes an estimate; theta is that of the sketch's state.
 ///
-/// Refused with `INVALID_ARGUMENT` if theta isn't from 1 to `MAX_THETA`, the total isn't below 2^64 times theta (that
-/// of every sketch is), or there are more than 19 decimals; then nothing is written.
+/// Refused with `INVALID_ARGUMENT` if no sketch has such a total and theta (the total isn't below 2^64 * theta) or there
+/// are more decimals.
 #[unsafe(no_mangle)]
 pub extern "C" fn kcp_total_decimal(
-    low: u64,
-    high: u64,
+    total: &Wide,
     theta: u64,
     places: u32,
     whole: &mut Wide,
     decimals: &mut u64,
 ) -> u32
-    ensures { WritesTotalDecimal low high theta places whole.old decimals.old result whole.new decimals.new }
+    ensures { WritesParts
+        (parts_of (is_total total.now.low total.now.high theta) (total_fraction total.now.low total.now.high theta) places)
+        whole.old decimals.old result whole.new decimals.new }
 {
-    if theta <= high || MAX_THETA < theta || MAX_PLACES < places {
-        return INVALID_ARGUMENT;
-    }
-    let total = low as u128 + 18446744073709551616 * high as u128;
-    let divisor = theta as u128;
-    let rest = total % divisor * MAX_THETA as u128;
-    *whole = split(total / divisor * MAX_THETA as u128 + rest / divisor);
-    *decimals = (rest % divisor * 10u128.pow(places) / divisor) as u64;
-    OK
+    put_parts(total_parts(total, theta, places), whole, decimals)
+}
+
+/// Writes the estimate of the total of all values as text with `places` decimals, rounded down and without a final 0 byte:
+/// at most 59 bytes. Refused as `kcp_total_decimal` is.
+#[unsafe(no_mangle)]
+pub extern "C" fn kcp_total_text(
+    total: &Wide,
+    theta: u64,
+    places: u32,
+    text: &mut [u8],
+    length: &mut u64,
+) -> u32
+    ensures { WritesText
+        (parts_of (is_total total.now.low total.now.high theta) (total_fraction total.now.low total.now.high theta) places)
+        places text.old length.old result text.new length.new }
+{
+    put_parts_text(total_parts(total, theta, places), places, text, length)
+}
+
+/// Writes the nearest whole number to the estimate of the total of all values; a half is rounded up. Refused with
+/// `INVALID_ARGUMENT` if no sketch has such a total and theta.
+#[unsafe(no_mangle)]
+pub extern "C" fn kcp_total_rounded(total: &Wide, theta: u64, out: &mut Wide) -> u32
+    ensures { WritesNumber
+        (rounded_of (is_total total.now.low total.now.high theta) (total_fraction total.now.low total.now.high theta))
+        out.old result out.new }
+{
+    put_wide(total_rounded(total, theta), out)
 }

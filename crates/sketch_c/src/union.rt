@@ -10,10 +10,10 @@ use c_handles::handles::{CompactHandle, ThetaHandle, UnionHandle};
 use sketch_objects::union::built;
 use std::alloc::Global;
 
-/// Makes a union of theta sketches of 2^`lg_k` nominal entries, `lg_k` from 4 to 26, and puts it into a handle.
+/// Makes a union of 2^`lg_k` nominal entries. Its value has the hashes of all its sketches below their least theta; if
+/// these are more than k = 2^`lg_k`, the k least, and its theta is the (k+1)th.
 ///
-/// Refused with `INVALID_ARGUMENT` if the handle has a union already, `lg_k` is out of range or the hash of the seed is 0,
-/// and with `OUT_OF_MEMORY`; then the handle is as before.
+/// Refused as `kcp_theta_new` is.
 #[unsafe(no_mangle)]
 pub extern "C" fn kcp_union_new(alloc: Global, union: &mut UnionHandle, lg_k: u8, seed: u64) -> u32
     ensures { Fills (IsNewUnion lg_k seed) (IsSettingsRefusal lg_k seed) union.old.value result union.new.value }
@@ -21,7 +21,7 @@ pub extern "C" fn kcp_union_new(alloc: Global, union: &mut UnionHandle, lg_k: u8
     union.owned().put(alloc, built(alloc, lg_k, seed))
 }
 
-/// Frees the union of a handle, which has none afterwards. A handle without one stays as it is.
+/// Frees the union of a handle, if it has one.
 #[unsafe(no_mangle)]
 pub extern "C" fn kcp_union_free(alloc: Global, union: &mut UnionHandle)
     ensures { union.new.value ≡ None }
@@ -29,12 +29,10 @@ pub extern "C" fn kcp_union_free(alloc: Global, union: &mut UnionHandle)
     union.owned().free(alloc);
 }
 
-/// Merges a sketch that takes updates into a union. The sketch doesn't change. An empty sketch changes nothing, and its
-/// seed is not checked.
+/// Merges a sketch that takes updates into the union. An empty sketch changes nothing.
 ///
-/// Refused with `INVALID_ARGUMENT` if a handle has no object or the sketch is of another seed, and with `FAILED` if the
-/// union has failed, whatever the sketch; then nothing has changed. Refused with `OUT_OF_MEMORY`; then the union has
-/// failed until it is reset.
+/// Refused with `INVALID_ARGUMENT` for a sketch of another seed, and with `FAILED` if the union has failed, whatever
+/// the sketch; then nothing has changed. Refused with `OUT_OF_MEMORY`; then the union has failed until it is reset.
 #[unsafe(no_mangle)]
 pub extern "C" fn kcp_union_add(union: &mut UnionHandle, sketch: &mut ThetaHandle) -> u32
     ensures added { OnObjectWith (OfSketch AddsShown) sketch.old.value union.old.value result union.new.value }
@@ -43,7 +41,7 @@ pub extern "C" fn kcp_union_add(union: &mut UnionHandle, sketch: &mut ThetaHandl
     union.owned().add(sketch.owned())
 }
 
-/// Merges a compact sketch into a union, as `kcp_union_add` does.
+/// Merges a compact sketch into the union, as `kcp_union_add` does.
 #[unsafe(no_mangle)]
 pub extern "C" fn kcp_union_add_compact(union: &mut UnionHandle, sketch: &mut CompactHandle) -> u32
     ensures added { OnObjectWith (OfCompact AddsShown) sketch.old.value union.old.value result union.new.value }
@@ -52,10 +50,10 @@ pub extern "C" fn kcp_union_add_compact(union: &mut UnionHandle, sketch: &mut Co
     union.owned().add(sketch.owned())
 }
 
-/// Merges the sketch that the bytes begin with into a union, read under the union's seed.
+/// Merges the sketch that the bytes begin with, read under the union's seed, as `kcp_union_add` does.
 ///
-/// Refused with `INVALID_DATA` if the bytes begin with no sketch of this seed, and otherwise as `kcp_union_add` is. If memory
-/// is refused while the image is read, nothing has changed.
+/// Refused with `INVALID_DATA` if the bytes begin with no sketch of this seed, and otherwise as `kcp_union_add` is; but
+/// if memory runs out while the image is read, nothing has changed.
 #[unsafe(no_mangle)]
 pub extern "C" fn kcp_union_add_image(alloc: Global, union: &mut UnionHandle, image: &[u8]) -> u32
     ensures { OnObject (OfImage AddsShown (λ u. u.seed) image.now) union.old.value result union.new.value }
@@ -63,10 +61,8 @@ pub extern "C" fn kcp_union_add_image(alloc: Global, union: &mut UnionHandle, im
     union.owned().add_image(alloc, image)
 }
 
-/// Puts the union's value into a handle, as an ordered compact sketch. The union doesn't change.
-///
-/// Refused with `INVALID_ARGUMENT` if the first handle has no union or the second one has a sketch, with `FAILED` if the
-/// union has failed, and with `OUT_OF_MEMORY`; then nothing has changed.
+/// Makes the union's value as an ordered compact sketch. Refused with `FAILED` if the union has failed, and with
+/// `OUT_OF_MEMORY`.
 #[unsafe(no_mangle)]
 pub extern "C" fn kcp_union_result(
     alloc: Global,
@@ -79,11 +75,7 @@ pub extern "C" fn kcp_union_result(
     union.owned().compact(alloc, out.owned())
 }
 
-/// Writes the image of the union's value, ordered, to the front of a buffer, and its length. The union doesn't change.
-///
-/// If the buffer is too small, the status is `TOO_SMALL`, the length is written, and the buffer is as before. Refused with
-/// `INVALID_ARGUMENT` if the handle has no union, with `FAILED` if the union has failed, and with `OUT_OF_MEMORY`; then
-/// nothing is written.
+/// Writes the image of that sketch, refused as `kcp_union_result` is.
 #[unsafe(no_mangle)]
 pub extern "C" fn kcp_union_image(union: &mut UnionHandle, out: &mut [u8], length: &mut u64) -> u32
     ensures image { WritesOf IsUnionImage IsResultRefusal union.old.value out.old length.old result out.new length.new }
@@ -92,8 +84,7 @@ pub extern "C" fn kcp_union_image(union: &mut UnionHandle, out: &mut [u8], lengt
     union.owned().image(out, length)
 }
 
-/// Makes a union empty again, as when it was new, and ends a failure. Refused with `INVALID_ARGUMENT` if the handle has no
-/// union.
+/// Makes the union empty again, as when it was new, and ends a failure.
 #[unsafe(no_mangle)]
 pub extern "C" fn kcp_union_reset(union: &mut UnionHandle) -> u32
     ensures { OnObject ResetsUnion union.old.value result union.new.value }

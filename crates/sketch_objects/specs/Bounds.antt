@@ -1,8 +1,6 @@
 -- Estimates from the numbers of a state, as C reads them.
 use Rattle.std.specs.Prelude.{◌≡◌, ◌*◌, ◌/◌, ◌%◌, ◌^◌, ◌&&◌, ℕ, Bool, true, false, is_some, nat_lt, nat_le, if◌then◌else◌, Option, Some, None}
 use Rattle.core_laws.specs.declared.TheConstants.{MAX_THETA}
-use Rattle.core_state.specs.Fraction.{decimal_of}
-use Rattle.core_state.specs.declared.fraction.TheConstants.{MAX_PLACES}
 use Rattle.estimates.specs.Bounds.{count_bounds}
 use Rattle.sketch_objects.specs.declared.bounds.Wide.{Wide}
 
@@ -17,20 +15,6 @@ is_state retained theta = nat_lt retained (2 ^ 32) && nat_lt 0 theta && nat_le t
 -- the numerator of the estimate, whose divisor is theta
 abbrev pub numerator : (retained : ℕ) → ℕ
 numerator retained = retained * MAX_THETA
-
--- a fraction was written as a decimal number, rounded down, with status 0; or a number is out of range, with 1, and nothing
--- is written
-abbrev pub WritesQuotient : (is_valid : Bool) → ℕ × ℕ → (places : ℕ) → (whole_before : Wide) → (decimals_before status : ℕ) → (whole : Wide) → (decimals : ℕ) → Type 0
-WritesQuotient is_valid fraction places whole_before decimals_before status whole decimals =
-    ((is_valid && nat_le places MAX_PLACES) ≡ true
-    → (status ≡ 0) × (whole ≡ wide (decimal_of fraction places).whole) × (decimals ≡ (decimal_of fraction places).decimals))
-    × ((is_valid && nat_le places MAX_PLACES) ≡ false
-    → (status ≡ 1) × (whole ≡ whole_before) × (decimals ≡ decimals_before))
-
--- the estimate of a state was written as a decimal number; or a number is out of range
-abbrev pub WritesDecimal : (retained theta places : ℕ) → (whole_before : Wide) → (decimals_before status : ℕ) → (whole : Wide) → (decimals : ℕ) → Type 0
-WritesDecimal retained theta places whole_before decimals_before status whole decimals =
-    WritesQuotient (is_state retained theta) (numerator retained, theta) places whole_before decimals_before status whole decimals
 
 -- a number of standard deviations that has bounds
 abbrev pub valid_deviations : ℕ → Option ℕ

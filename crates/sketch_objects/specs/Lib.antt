@@ -3,12 +3,14 @@ pub mod Buffer
 pub mod CompactSums
 pub mod Images
 pub mod Intersection
+pub mod Quotients
 pub mod Settings
 pub mod Status
 pub mod Strings
 pub mod Sums
 pub mod SumsIntersection
 pub mod SumsUnion
+pub mod Text
 pub mod Thetas
 pub mod Totals
 pub mod Union

@@ -1,8 +1,6 @@
--- The decimals of what totals of sums estimate.
+-- Totals of sums, and what they estimate.
 use Rattle.std.specs.Prelude.{◌+◌, ◌*◌, ◌^◌, ◌&&◌, ℕ, Bool, nat_lt, nat_le}
 use Rattle.core_laws.specs.declared.TheConstants.{MAX_THETA}
-use Rattle.sketch_objects.specs.Bounds.{WritesQuotient}
-use Rattle.sketch_objects.specs.declared.bounds.Wide.{Wide}
 
 -- a total, below 2^64 times theta, and a theta from 1 to the greatest, as every sketch has them: it has fewer entries than theta
 abbrev pub is_total : (low high theta : ℕ) → Bool
@@ -15,8 +13,3 @@ joined_halves low high = low + 2 ^ 64 * high
 -- the estimate of the total of all values of the stream: the total of a sketch times the greatest theta, over its theta
 abbrev pub total_fraction : (low high theta : ℕ) → ℕ × ℕ
 total_fraction low high theta = (joined_halves low high * MAX_THETA, theta)
-
--- the decimals of that estimate were written, with status 0; or a number is out of range, with 1, and nothing is written
-abbrev pub WritesTotalDecimal : (low high theta places : ℕ) → (whole_before : Wide) → (decimals_before status : ℕ) → (whole : Wide) → (decimals : ℕ) → Type 0
-WritesTotalDecimal low high theta places whole_before decimals_before status whole decimals =
-    WritesQuotient (is_total low high theta) (total_fraction low high theta) places whole_before decimals_before status whole decimals

@@ -2,11 +2,12 @@
 ghost use Rattle.std.specs.Prelude.{◌≡◌, option_map};
 ghost use Rattle.estimates.specs.Bounds.{deviation_count};
 ghost use Rattle.sketch_objects.specs.Bounds.{wide, is_state, valid_deviations};
+ghost use Rattle.sketch_objects.specs.Totals.{joined_halves};
 
 use estimates::Deviations;
 use theta_sketches::MAX_THETA;
 
-/// A number of 128 bits.
+/// A number of 128 bits: `low + 2^64 * high`.
 #[repr(C)]
 #[derive(Clone, Copy)]
 pub struct Wide {
@@ -24,6 +25,13 @@ pub fn split(number: u128) -> Wide
         low: (number % 18446744073709551616) as u64,
         high: (number / 18446744073709551616) as u64,
     }
+}
+
+/// The number of two halves.
+pub fn joined(halves: &Wide) -> u128
+    ensures { result ≡ joined_halves halves.now.low halves.now.high }
+{
+    halves.low as u128 + 18446744073709551616 * halves.high as u128
 }
 
 /// Whether some sketch may have this state: fewer than 2^32 retained hashes, and a theta from 1 to `MAX_THETA`.

@@ -1,15 +1,15 @@
 //! What C reads of a sketch.
 ghost use Rattle.std.specs.Prelude.{◌≡◌, if◌then◌else◌};
 
-/// The state of a sketch.
+/// The state of a sketch, from which its estimate follows.
 #[repr(C)]
 #[derive(Clone, Copy)]
 pub struct State {
     /// How many hashes it retains, fewer than 2^32.
     pub retained: u64,
-    /// Its theta, from 1 to `MAX_THETA`.
+    /// From 1 to `MAX_THETA`, which is that of an empty sketch.
     pub theta: u64,
-    /// 1 if it is empty, else 0. An estimate of 0 alone doesn't show it.
+    /// 1 if no update was accepted, or an operator returned the empty sketch; else 0.
     pub empty: u64,
 }
 

@@ -1,5 +1,5 @@
-//! Statuses: 0 if a call did what it promises, and otherwise the reason why it did not. `include/kaftanclay.h` has the same
-//! numbers.
+//! Statuses: 0 if a call did what it promises, and otherwise the reason why it did not. The header of C has their numbers and
+//! these comments (`bindings/c/make_calls.py`).
 ghost use Rattle.std.specs.Prelude.{◌≡◌, ◌≢◌, ◌≤◌};
 ghost use Rattle.sketch_objects.specs.Status.{status_of};
 
@@ -8,10 +8,11 @@ use sketch_base::ErrorKind;
 /// The call did what it promises.
 pub const OK: u32 = 0;
 
-/// An argument is out of range or of another seed, a handle has no object, or one that is to be filled has one.
+/// A null pointer, a handle without an object or one that has one already, a number out of range, a sketch of another
+/// seed.
 pub const INVALID_ARGUMENT: u32 = 1;
 
-/// Bytes are no image of a sketch of this seed.
+/// The bytes begin with no sketch of this seed.
 pub const INVALID_DATA: u32 = 2;
 
 /// The memory that the call requested was refused.
@@ -20,10 +21,10 @@ pub const OUT_OF_MEMORY: u32 = 3;
 /// A sum would be 2^64 or more.
 pub const POLICY: u32 = 4;
 
-/// An earlier refusal left the union half changed; it refuses until it is reset.
+/// Memory or a sum was refused in an earlier merge; the union refuses until it is reset.
 pub const FAILED: u32 = 5;
 
-/// The caller's buffer is too small; the length that it needs was written.
+/// The buffer is too small; `*length` is the room that is needed.
 pub const TOO_SMALL: u32 = 6;
 
 /// The status of a kind of error, from 1 to 5.
