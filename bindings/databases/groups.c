@@ -191,29 +191,19 @@ kc_status read_sums(const void *image, size_t count, kc_compact_sums *out, const
 
 double number_of(kc_wide n) { return (double)n.high * 18446744073709551616.0 + (double)n.low; }
 
-/* Writes a number of 128 bits in decimal, and returns the length. */
+/* Writes a number of 128 bits as text with a final 0 byte, in at most 40 bytes, and returns the length. */
 static int write_wide(kc_wide n, char *text) {
-    char digits[40];
-    size_t at = sizeof digits;
-    unsigned __int128 rest = (unsigned __int128)n.high << 64 | n.low;
-    digits[--at] = 0;
-    do digits[--at] = (char)('0' + (int)(rest % 10)); while ((rest /= 10) != 0);
-    memcpy(text, digits + at, sizeof digits - at);
-    return (int)(sizeof digits - at - 1);
-}
-
-/* Writes the nearest whole number to a number with its tenths, likewise. */
-static int write_rounded(kc_wide whole, uint64_t tenths, char *text) {
-    if (tenths >= 5 && ++whole.low == 0) whole.high++;
-    return write_wide(whole, text);
+    uint64_t length = 0;
+    kc_wide_text(&n, text, 39, &length);
+    text[length] = 0;
+    return (int)length;
 }
 
 int describe_state(const kc_state *state, char *text) {
-    kc_wide whole, lower, upper;
-    uint64_t tenths;
-    if (kc_estimate_decimal(state->retained, state->theta, 1, &whole, &tenths) != KC_OK) return -1;
+    kc_wide count, lower, upper;
+    if (kc_estimate_rounded(state->retained, state->theta, &count) != KC_OK) return -1;
     if (kc_count_bounds(state->retained, state->theta, 2, &lower, &upper) != KC_OK) return -1;
-    int at = write_rounded(whole, tenths, text);
+    int at = write_wide(count, text);
     if (state->theta == KC_MAX_THETA) at += sprintf(text + at, " exact");
     else {
         at += sprintf(text + at, " estimated, from ");
@@ -225,12 +215,11 @@ int describe_state(const kc_state *state, char *text) {
 }
 
 int describe_sums(const kc_state *state, const kc_wide *total, char *text) {
-    kc_wide whole;
-    uint64_t tenths;
+    kc_wide rounded;
     int at = describe_state(state, text);
-    if (at < 0 || kc_total_decimal(total, state->theta, 1, &whole, &tenths) != KC_OK) return -1;
+    if (at < 0 || kc_total_rounded(total, state->theta, &rounded) != KC_OK) return -1;
     at += sprintf(text + at, ", total ");
-    return at + write_rounded(whole, tenths, text + at);
+    return at + write_wide(rounded, text + at);
 }
 
 int describe_bounds(kc_wide lower, kc_wide upper, char *text) {
