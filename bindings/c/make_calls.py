@@ -467,6 +467,8 @@ def calls(all_statuses, known, sections):
 def symbols(names, version, old):
     """The list of names with the version that each came in; a new name came in this version."""
     since = dict(re.findall(r"(?m)^ (\w+)@Base (\S+)$", old))
+    if gone := sorted(set(since) - set(names)):
+        stop(SYMBOLS, f"no export has {', '.join(gone)}; a call that programs use stays, or the soname changes with it")
     head = re.match(r"(?:[^ ].*\n)+", old)
     return head[0] + "".join(f" {it}@Base {since.get(it, version)}\n" for it in sorted(names))
 
