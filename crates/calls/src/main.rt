@@ -5,73 +5,11 @@
 //! second implementation that shares no code with this project.
 #![tactic(auto)]
 
-mod answers;
-mod arguments;
-mod base;
-mod built_plans;
-mod bytes;
-mod commands;
-mod differences;
-mod driver;
-mod entries;
-mod estimating;
-mod hash_tables;
-mod hashing;
-mod image_object;
-mod intersection_states;
-mod keeping;
-mod layers;
-mod letters;
-mod object;
-mod operator_tables;
-mod pieces;
-mod plain_tables;
-mod plan_answers;
-mod plan_texts;
-mod plans;
-mod policies;
-mod ports;
-mod preambles;
-mod readings;
-mod running;
-mod runs;
-mod series;
-mod settings;
-mod shown;
-mod sketches;
-mod slices;
-mod state_calls;
-mod state_objects;
-mod state_operands;
-mod states;
-mod steps;
-mod summaries;
-mod table_iterators;
-mod tables;
-mod texts;
-mod theta_compact;
-mod theta_difference;
-mod theta_intersection;
-mod theta_operand;
-mod theta_sketch;
-mod theta_union;
-mod tuple_compact;
-mod tuple_difference;
-mod tuple_intersection;
-mod tuple_operand;
-mod tuple_sketch;
-mod tuple_tables;
-mod tuple_union;
-mod tuples;
-mod tuples_shown;
-mod union_states;
-mod unwritten;
-mod updatables;
-mod words;
-
-use crate::driver::Line;
-use crate::words::cut_word;
+use calls_language::driver::Line;
+use calls_language::object::Heap;
+use calls_language::words::cut_word;
 use lines::cut_line;
+use refusing_allocator::Refusing;
 use std::alloc::{AllocError, Global};
 use std::io::{self, Read, Write};
 use std::str;
@@ -82,6 +20,21 @@ fn cut_settings(text: &str) -> (&str, &str) {
         Some(parts) => parts,
         None => (text.strip_suffix(':').unwrap_or(text), ""),
     }
+}
+
+/// Appends the answers to a line, and returns whether there is an object of this name.
+fn answer(heap: &Heap, object: &str, line: Line<'_>, out: &mut String) -> Result<bool, AllocError> {
+    if calls_theta::answer(heap, object, line, out)?
+        || calls_tuples::answer(heap, object, line, out)?
+        || calls_base::answer(heap, object, line, out)?
+        || calls_tables::answer(heap, object, line, out)?
+    {
+        return Ok(true);
+    }
+    Ok(
+        calls_states::answer(heap, object, line, out)?
+            || calls_plans::answer(heap, object, line, out)?,
+    )
 }
 
 /// Appends the answers to a line.
@@ -97,7 +50,7 @@ fn put_answers(out: &mut String, alloc: Global, text: &str) -> Result<(), AllocE
         settings,
         calls,
     };
-    if sketches::answer(alloc, object, line, out)? || layers::answer(alloc, object, line, out)? {
+    if answer(&Refusing::new(alloc), object, line, out)? {
         return Ok(());
     }
     out.push_str("unknown")
