@@ -4,7 +4,7 @@ use calls_language::arguments::{
     half_number, kind_of, put_number, three_words, two_words, word_number,
 };
 use calls_language::object::{Call, Memory, Object};
-use calls_language::settings::{Settings as Words, factor_of, settings_of};
+use calls_language::settings::{Settings as Words, factor_of, no_settings, settings_of};
 use calls_language::words::{Fault, kind_word, number, small_number};
 use core_slots::NEAR;
 use plan_text::MAX_LEVELS;
@@ -240,11 +240,8 @@ fn put_function(answer: &mut String, call: Call<'_>) -> Result<bool, Fault> {
 
 impl<A: Drop> Object<A> for Base {
     fn make(_plain: Global, _alloc: A, settings: &str) -> Result<Self, Fault> {
-        if settings.is_empty() {
-            Ok(Base)
-        } else {
-            Err(Fault::Unknown)
-        }
+        no_settings(settings)?;
+        Ok(Base)
     }
 
     fn call(
@@ -260,11 +257,6 @@ impl<A: Drop> Object<A> for Base {
             "see" => answer.push_str("ok")?,
             _ => preambles::put(answer, memory.plain(), call)?,
         }
-        Ok(())
-    }
-
-    fn see(&self, text: &mut String) -> Result<(), Fault> {
-        text.push_str("ok")?;
         Ok(())
     }
 }

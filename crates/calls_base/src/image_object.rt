@@ -5,6 +5,7 @@ ghost use Rattle.core_images.specs.Preamble.{IsWholeLayout};
 use calls_language::arguments::{half_number, hex_of, three_words};
 use calls_language::entries::{ShownEntry, put_state};
 use calls_language::object::{Call, Memory, Object};
+use calls_language::settings::no_settings;
 use calls_language::words::{Fault, small_number};
 use std::alloc::{Allocator, Global};
 use theta_core::image::{ImageEntry, Layout, flagged_layout, read_after_preamble};
@@ -45,11 +46,8 @@ fn put_read<E: ShownEntry + ImageEntry<A>, A: Allocator + Copy + Drop>(
 
 impl<A: Allocator + Copy + Drop> Object<A> for ImagesObject<A> {
     fn make(_plain: Global, alloc: A, settings: &str) -> Result<Self, Fault> {
-        if settings.is_empty() {
-            Ok(ImagesObject { alloc })
-        } else {
-            Err(Fault::Unknown)
-        }
+        no_settings(settings)?;
+        Ok(ImagesObject { alloc })
     }
 
     fn call(
@@ -78,10 +76,5 @@ impl<A: Allocator + Copy + Drop> Object<A> for ImagesObject<A> {
             ),
             _ => Err(Fault::Unknown),
         }
-    }
-
-    fn see(&self, text: &mut String) -> Result<(), Fault> {
-        text.push_str("ok")?;
-        Ok(())
     }
 }

@@ -79,8 +79,11 @@ pub trait Object<A>: Sized {
         answer: &mut String,
     ) -> Result<(), Fault>;
 
-    /// Appends all that can be seen of it.
-    fn see(&self, text: &mut String) -> Result<(), Fault>;
+    /// Appends all that can be seen of it: `ok` if that is nothing.
+    fn see(&self, text: &mut String) -> Result<(), Fault> {
+        text.push_str("ok")?;
+        Ok(())
+    }
 
     /// What a call of this verb leaves if it is refused for memory.
     fn left_by(_verb: &str) -> Left {
@@ -94,4 +97,45 @@ pub trait Object<A>: Sized {
 
     /// Makes it empty again, and ends its failure.
     fn reset(&mut self) {}
+}
+
+/// An operand of a call, whose own memory is of `A`.
+pub trait Operand<A>: Sized {
+    /// The operand of a word. What isn't of it is in plain memory, which is never refused. Its errors are those of an operand.
+    fn read(plain: Global, alloc: A, word: &str) -> Result<Self, Fault>;
+}
+
+/// The operand of a word. No request for its memory is refused.
+pub fn operand_of<O: Operand<A>, A>(memory: Memory<'_>, alloc: A, word: &str) -> Result<O, Fault> {
+    memory.pause();
+    let operand = O::read(memory.plain(), alloc, word);
+    memory.refuse();
+    operand
+}
+
+/// The operands of words with blanks between; none of an empty text.
+fn read_operands<O: Operand<A> + Drop, A: Copy>(
+    plain: Global,
+    alloc: A,
+    words: &str,
+) -> Result<Vec<O>, Fault> {
+    let mut operands = Vec::new(plain);
+    if !words.is_empty() {
+        for word in words.split(' ') {
+            operands.push(O::read(plain, alloc, word)?)?;
+        }
+    }
+    Ok(operands)
+}
+
+/// The operands of words with blanks between; none of an empty text. No request for their memory is refused.
+pub fn operands_of<O: Operand<A> + Drop, A: Copy>(
+    memory: Memory<'_>,
+    alloc: A,
+    words: &str,
+) -> Result<Vec<O>, Fault> {
+    memory.pause();
+    let operands = read_operands(memory.plain(), alloc, words);
+    memory.refuse();
+    operands
 }

@@ -52,6 +52,15 @@ impl Settings {
     }
 }
 
+/// Refuses settings of an object that has none.
+pub fn no_settings(words: &str) -> Result<(), Fault> {
+    if words.is_empty() {
+        Ok(())
+    } else {
+        Err(Fault::Unknown)
+    }
+}
+
 /// The seed that settings name, which are none else.
 pub fn seed_alone(words: &str) -> Result<Option<u64>, Fault> {
     if words.is_empty() {

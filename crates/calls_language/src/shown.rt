@@ -5,8 +5,7 @@ ghost use Rattle.core_state.specs.declared.fraction.TheConstants.{MAX_PLACES};
 use crate::words::{Fault, put_bytes};
 use sketch_base::Error;
 use std::alloc::{AllocError, Allocator};
-use theta_core::ThetaFamilySketchMetadata;
-use theta_sketches::{Decimal, MAX_PLACES, estimate_decimal};
+use theta_core::{Decimal, MAX_PLACES, ThetaFamilySketchMetadata, estimate_decimal};
 
 /// The facts that a sketch of either kind and family answers.
 #[derive(Clone, Copy)]

@@ -151,9 +151,4 @@ impl<A: Allocator + Copy + Drop> Object<A> for BuiltObject<A> {
         }
         Ok(())
     }
-
-    fn see(&self, text: &mut String) -> Result<(), Fault> {
-        text.push_str("ok")?;
-        Ok(())
-    }
 }

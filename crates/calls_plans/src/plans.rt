@@ -148,9 +148,4 @@ impl<A: Allocator + Copy + Drop> Object<A> for PlanObject<A> {
         }
         Ok(())
     }
-
-    fn see(&self, text: &mut String) -> Result<(), Fault> {
-        text.push_str("ok")?;
-        Ok(())
-    }
 }

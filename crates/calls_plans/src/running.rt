@@ -134,9 +134,4 @@ impl<A: Allocator + Copy + Drop> Object<A> for RunObject<A> {
             _ => self.put_run(memory.plain(), call, answer),
         }
     }
-
-    fn see(&self, text: &mut String) -> Result<(), Fault> {
-        text.push_str("ok")?;
-        Ok(())
-    }
 }

@@ -121,9 +121,4 @@ impl<A: Allocator + Copy + Drop> Object<A> for DifferenceObject<A> {
             _ => Err(Fault::Unknown),
         }
     }
-
-    fn see(&self, text: &mut String) -> Result<(), Fault> {
-        text.push_str("ok")?;
-        Ok(())
-    }
 }

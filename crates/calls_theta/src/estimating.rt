@@ -3,6 +3,7 @@ ghost use Rattle.std.specs.Prelude.{◌<◌, ◌≤◌, ◌^◌, IfOk};
 ghost use Rattle.core_laws.specs.declared.TheConstants.{MAX_THETA};
 
 use calls_language::object::{Call, Memory, Object};
+use calls_language::settings::no_settings;
 use calls_language::shown::{decimal_of, places_of, put_decimal};
 use calls_language::words::{Fault, cut_word, number, put_bytes};
 use estimates::{Deviations, count_bounds};
@@ -88,11 +89,8 @@ fn put_constants(answer: &mut String) -> Result<(), Fault> {
 
 impl<A: Drop> Object<A> for Estimating {
     fn make(_plain: Global, _alloc: A, settings: &str) -> Result<Self, Fault> {
-        if settings.is_empty() {
-            Ok(Estimating)
-        } else {
-            Err(Fault::Unknown)
-        }
+        no_settings(settings)?;
+        Ok(Estimating)
     }
 
     fn call(
@@ -111,10 +109,5 @@ impl<A: Drop> Object<A> for Estimating {
             }
             _ => Err(Fault::Unknown),
         }
-    }
-
-    fn see(&self, text: &mut String) -> Result<(), Fault> {
-        text.push_str("ok")?;
-        Ok(())
     }
 }

@@ -77,9 +77,4 @@ impl<A: Drop> Object<A> for Texts {
             _ => Err(Fault::Unknown),
         }
     }
-
-    fn see(&self, text: &mut String) -> Result<(), Fault> {
-        text.push_str("ok")?;
-        Ok(())
-    }
 }

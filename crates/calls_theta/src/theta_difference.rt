@@ -1,6 +1,6 @@
 //! `theta_difference`: the difference operator of theta sketches.
 use crate::theta_operand::{ThetaOperand, put_answer};
-use calls_language::object::{Call, Memory, Object};
+use calls_language::object::{Call, Memory, Object, operand_of};
 use calls_language::settings::seed_alone;
 use calls_language::words::{Fault, cut_word, order_flag};
 use std::alloc::{Allocator, Global};
@@ -19,11 +19,8 @@ impl<A: Allocator + Copy + Drop> ThetaDifferenceObject<A> {
         let (first, rest) = cut_word(words);
         let (second, order) = cut_word(rest);
         let ordered = order_flag(order)?;
-        memory.pause();
-        let a = ThetaOperand::read(memory.plain(), self.alloc, first);
-        let b = ThetaOperand::read(memory.plain(), self.alloc, second);
-        memory.refuse();
-        let (a, b) = (a?, b?);
+        let a: ThetaOperand<A> = operand_of(memory, self.alloc, first)?;
+        let b: ThetaOperand<A> = operand_of(memory, self.alloc, second)?;
         let left = self
             .difference
             .compute(self.alloc, a.view(), b.view(), ordered)?;

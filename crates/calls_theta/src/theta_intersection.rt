@@ -1,6 +1,6 @@
 //! `theta_intersection`: an intersection of theta sketches.
 use crate::theta_operand::{ThetaOperand, put_answer, put_compact};
-use calls_language::object::{Call, Memory, Object};
+use calls_language::object::{Call, Memory, Object, operand_of};
 use calls_language::settings::seed_alone;
 use calls_language::words::{Fault, order_flag};
 use std::alloc::{Allocator, Global};
@@ -16,10 +16,8 @@ pub struct ThetaIntersectionObject<A: Allocator> {
 impl<A: Allocator + Copy + Drop> ThetaIntersectionObject<A> {
     /// Intersects with an operand.
     fn update(&mut self, memory: Memory<'_>, word: &str) -> Result<(), Fault> {
-        memory.pause();
-        let operand = ThetaOperand::read(memory.plain(), self.alloc, word);
-        memory.refuse();
-        self.intersection.update(operand?.view())?;
+        let operand: ThetaOperand<A> = operand_of(memory, self.alloc, word)?;
+        self.intersection.update(operand.view())?;
         Ok(())
     }
 }

@@ -1,4 +1,5 @@
 //! Theta sketches as operands, and what is shown of theta sketches.
+use calls_language::object::Operand;
 use calls_language::series::spread_of;
 use calls_language::settings::Settings;
 use calls_language::shown::{
@@ -143,9 +144,8 @@ pub enum ThetaOperand<A: Allocator> {
     Compact(CompactThetaSketch<A>),
 }
 
-impl<A: Allocator + Clone + Drop> ThetaOperand<A> {
-    /// The operand of a word. Its errors are those of an operand.
-    pub fn read(plain: Global, alloc: A, word: &str) -> Result<ThetaOperand<A>, Fault> {
+impl<A: Allocator + Clone + Drop> Operand<A> for ThetaOperand<A> {
+    fn read(plain: Global, alloc: A, word: &str) -> Result<ThetaOperand<A>, Fault> {
         match word.strip_prefix("sketch:") {
             Some(rest) => match stepped(plain, alloc, rest) {
                 Ok(sketch) => Ok(ThetaOperand::Updatable(sketch)),
@@ -157,7 +157,9 @@ impl<A: Allocator + Clone + Drop> ThetaOperand<A> {
             },
         }
     }
+}
 
+impl<A: Allocator> ThetaOperand<A> {
     /// Its view.
     pub fn view(&self) -> ThetaSketchView<'_, A> {
         match self {

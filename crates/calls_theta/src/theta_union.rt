@@ -1,6 +1,6 @@
 //! `theta_union`: a union of theta sketches.
 use crate::theta_operand::{ThetaOperand, put_answer, put_compact};
-use calls_language::object::{Call, Left, Memory, Object};
+use calls_language::object::{Call, Left, Memory, Object, Operand, operand_of, operands_of};
 use calls_language::settings::Settings;
 use calls_language::words::{Fault, is_failure, list_of, order_flag, put_done, small_number};
 use std::alloc::{Allocator, Global};
@@ -32,32 +32,16 @@ fn builder_of(settings: Settings) -> ThetaUnionBuilder {
 }
 
 impl<A: Allocator + Copy + Drop> ThetaUnionObject<A> {
-    /// The operands of words with blanks between; none of an empty text.
-    fn operands(&self, plain: Global, words: &str) -> Result<Vec<ThetaOperand<A>>, Fault> {
-        let mut operands = Vec::new(plain);
-        if !words.is_empty() {
-            for word in words.split(' ') {
-                operands.push(ThetaOperand::read(plain, self.alloc, word)?)?;
-            }
-        }
-        Ok(operands)
-    }
-
     /// Merges an operand.
     fn update(&mut self, memory: Memory<'_>, word: &str) -> Result<(), Fault> {
-        memory.pause();
-        let operand = ThetaOperand::read(memory.plain(), self.alloc, word);
-        memory.refuse();
-        self.union.update(operand?.view())?;
+        let operand: ThetaOperand<A> = operand_of(memory, self.alloc, word)?;
+        self.union.update(operand.view())?;
         Ok(())
     }
 
     /// Merges operands in one call.
     fn update_all(&mut self, memory: Memory<'_>, words: &str) -> Result<(), Fault> {
-        memory.pause();
-        let operands = self.operands(memory.plain(), words);
-        memory.refuse();
-        let operands = operands?;
+        let operands: Vec<ThetaOperand<A>> = operands_of(memory, self.alloc, words)?;
         let mut views = Vec::new(memory.plain());
         for operand in &operands {
             views.push(operand.view())?;

@@ -1,5 +1,6 @@
 //! `reading`: images that are read into memory whose bytes are counted.
 use calls_language::object::{Call, Memory, Object};
+use calls_language::settings::no_settings;
 use calls_language::words::{Fault, bytes_of, kind_word};
 use calls_policies::Letters;
 use sketch_base::{Error, ErrorKind};
@@ -52,11 +53,8 @@ impl<A: Allocator + Copy + Drop> Reading<A> {
 
 impl<A: Allocator + Copy + Drop> Object<A> for Reading<A> {
     fn make(_plain: Global, alloc: A, settings: &str) -> Result<Self, Fault> {
-        if settings.is_empty() {
-            Ok(Reading { alloc })
-        } else {
-            Err(Fault::Unknown)
-        }
+        no_settings(settings)?;
+        Ok(Reading { alloc })
     }
 
     fn call(
@@ -79,11 +77,6 @@ impl<A: Allocator + Copy + Drop> Object<A> for Reading<A> {
             },
         };
         write!(answer, "{word} {amount}")?;
-        Ok(())
-    }
-
-    fn see(&self, text: &mut String) -> Result<(), Fault> {
-        text.push_str("ok")?;
         Ok(())
     }
 }

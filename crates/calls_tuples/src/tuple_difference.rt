@@ -1,7 +1,7 @@
 //! `tuple_difference`: the difference operator of tuple sketches.
 use crate::tuple_operand::TupleOperand;
 use crate::tuples_shown::put_answer;
-use calls_language::object::{Call, Memory, Object};
+use calls_language::object::{Call, Memory, Object, operand_of};
 use calls_language::settings::seed_alone;
 use calls_language::words::{Fault, cut_word, order_flag};
 use calls_policies::{FromWord, Summary};
@@ -30,11 +30,8 @@ impl<
         let (first, rest) = cut_word(words);
         let (second, order) = cut_word(rest);
         let ordered = order_flag(order)?;
-        memory.pause();
-        let a = TupleOperand::<P, A>::read(memory.plain(), self.alloc, first);
-        let b = TupleOperand::<Sums, A>::read(memory.plain(), self.alloc, second);
-        memory.refuse();
-        let (a, b) = (a?, b?);
+        let a: TupleOperand<P, A> = operand_of(memory, self.alloc, first)?;
+        let b: TupleOperand<Sums, A> = operand_of(memory, self.alloc, second)?;
         let left = self
             .difference
             .compute(self.alloc, a.view(), b.view(), ordered)?;

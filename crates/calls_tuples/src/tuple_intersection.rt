@@ -1,7 +1,7 @@
 //! `tuple_intersection`: an intersection of tuple sketches.
 use crate::tuple_operand::TupleOperand;
 use crate::tuples_shown::{put_answer, put_compact};
-use calls_language::object::{Call, Memory, Object};
+use calls_language::object::{Call, Memory, Object, operand_of};
 use calls_language::settings::seed_alone;
 use calls_language::words::{Fault, cut_word, order_flag};
 use calls_policies::{FromWord, Summary};
@@ -25,10 +25,8 @@ impl<
 > TupleIntersectionObject<P, Q, A> {
     /// Intersects with an operand.
     fn update(&mut self, memory: Memory<'_>, word: &str) -> Result<(), Fault> {
-        memory.pause();
-        let operand = TupleOperand::<P, A>::read(memory.plain(), self.alloc, word);
-        memory.refuse();
-        self.intersection.update(operand?.view())?;
+        let operand: TupleOperand<P, A> = operand_of(memory, self.alloc, word)?;
+        self.intersection.update(operand.view())?;
         Ok(())
     }
 }

@@ -1,4 +1,5 @@
 //! Tuple sketches as operands.
+use calls_language::object::Operand;
 use calls_language::series::spread_of;
 use calls_language::settings::Settings;
 use calls_language::words::{Fault, bytes_of, number};
@@ -163,9 +164,8 @@ impl<
     S: Summary<A>,
     P: SummaryUpdatePolicy<S, Summary = S> + FromWord<A> + Drop,
     A: Allocator + Copy + Drop,
-> TupleOperand<P, A> {
-    /// The operand of a word. Its errors are those of an operand.
-    pub fn read(plain: Global, alloc: A, word: &str) -> Result<TupleOperand<P, A>, Fault> {
+> Operand<A> for TupleOperand<P, A> {
+    fn read(plain: Global, alloc: A, word: &str) -> Result<TupleOperand<P, A>, Fault> {
         match word.strip_prefix("sketch:") {
             Some(rest) => match stepped::<S, P, A>(plain, alloc, rest) {
                 Ok(sketch) => Ok(TupleOperand::Updatable(sketch)),

@@ -1,7 +1,7 @@
 //! `tuple_union`: a union of tuple sketches.
 use crate::tuple_operand::TupleOperand;
 use crate::tuples_shown::{put_answer, put_compact};
-use calls_language::object::{Call, Left, Memory, Object};
+use calls_language::object::{Call, Left, Memory, Object, Operand, operand_of, operands_of};
 use calls_language::settings::Settings;
 use calls_language::words::{Fault, cut_word, is_failure, list_of, order_flag, small_number};
 use calls_policies::{FromWord, Summary};
@@ -38,21 +38,6 @@ fn builder_of<Q>(policy: Q, settings: Settings) -> TupleUnionBuilder<Q> {
     builder
 }
 
-/// The operands of words with blanks between; none of an empty text.
-fn operands<
-    S: Summary<A>,
-    P: SummaryUpdatePolicy<S, Summary = S> + FromWord<A> + Drop,
-    A: Allocator + Copy + Drop,
->(plain: Global, alloc: A, words: &str) -> Result<Vec<TupleOperand<P, A>>, Fault> {
-    let mut operands = Vec::new(plain);
-    if !words.is_empty() {
-        for word in words.split(' ') {
-            operands.push(TupleOperand::read(plain, alloc, word)?)?;
-        }
-    }
-    Ok(operands)
-}
-
 /// Views of operands.
 fn views_of<'a, S: Drop, P: SummaryPolicy<Summary = S>, A: Allocator + Copy + Drop>(
     plain: Global,
@@ -73,19 +58,14 @@ impl<
 > TupleUnionObject<P, Q, A> {
     /// Merges an operand.
     fn update(&mut self, memory: Memory<'_>, word: &str) -> Result<(), Fault> {
-        memory.pause();
-        let operand = TupleOperand::<P, A>::read(memory.plain(), self.alloc, word);
-        memory.refuse();
-        self.union.update(operand?.view())?;
+        let operand: TupleOperand<P, A> = operand_of(memory, self.alloc, word)?;
+        self.union.update(operand.view())?;
         Ok(())
     }
 
     /// Merges operands in one call.
     fn update_all(&mut self, memory: Memory<'_>, words: &str) -> Result<(), Fault> {
-        memory.pause();
-        let operands = operands::<S, P, A>(memory.plain(), self.alloc, words);
-        memory.refuse();
-        let operands = operands?;
+        let operands: Vec<TupleOperand<P, A>> = operands_of(memory, self.alloc, words)?;
         let views = views_of(memory.plain(), operands.as_slice())?;
         self.union.update_all(views.as_slice())?;
         Ok(())
