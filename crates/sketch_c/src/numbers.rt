@@ -4,7 +4,7 @@ ghost use Rattle.sketch_objects.specs.Buffer.{IsPut};
 ghost use Rattle.sketch_objects.specs.Totals.{joined_halves};
 
 use sketch_objects::bounds::{Wide, joined};
-use sketch_objects::text::put_number;
+use sketch_objects::numerals::put_number;
 
 /// Writes a number of 128 bits as text, without a final 0 byte: at most 39 bytes.
 #[unsafe(no_mangle)]

@@ -2,7 +2,7 @@
 use Rattle.std.proofs.Common.{◌≡◌, ◌+◌, ◌-◌, ◌/◌, ◌%◌, ◌^◌, ◌<◌, ◌≤◌, ◌++◌, ◌∷◌, [], List, ℕ, zero, suc, length, drop, decimal, slice_set, refl, sym, ap, subst, ◌∙◌, arith}
 use Rattle.std.proofs.lemmas.List.{append_assoc, append-nil, drop_all, drop-set, length-append, length-drop}
 use Rattle.std.proofs.lemmas.Fmt.{decimal_digit, decimal_step_wide, decimal_by_steps_wide, length-decimal-le_wide}
-use Rattle.sketch_objects.specs.Text.{last_digits, after_point}
+use Rattle.sketch_objects.specs.Numerals.{last_digits, after_point}
 
 -- a number of 128 bits has at most 39 digits
 pub length-decimal-le_128 : (n : ℕ) → n < 2 ^ 128 → length (decimal n) ≤ 39

@@ -3,6 +3,7 @@ pub mod Buffer
 pub mod CompactSums
 pub mod Images
 pub mod Intersection
+pub mod Numerals
 pub mod Quotients
 pub mod Settings
 pub mod Status
@@ -10,7 +11,6 @@ pub mod Strings
 pub mod Sums
 pub mod SumsIntersection
 pub mod SumsUnion
-pub mod Text
 pub mod Thetas
 pub mod Totals
 pub mod Union

@@ -5,7 +5,7 @@ use Rattle.core_state.specs.Fraction.{decimal_of}
 use Rattle.estimates.specs.Bounds.{nearest}
 use Rattle.sketch_objects.specs.Bounds.{wide}
 use Rattle.sketch_objects.specs.Buffer.{IsPut}
-use Rattle.sketch_objects.specs.Text.{decimal_text}
+use Rattle.sketch_objects.specs.Numerals.{decimal_text}
 use Rattle.sketch_objects.specs.declared.bounds.Wide.{Wide}
 
 -- a fraction as a decimal number, rounded down: its whole part and its decimals; `None` if a number is out of range

@@ -6,8 +6,8 @@ ghost use Rattle.sketch_objects.specs.Quotients.{WritesNumber, WritesParts, Writ
 ghost use Rattle.sketch_objects.specs.Totals.{is_total, total_fraction};
 
 use crate::bounds::{Wide, is_state, joined, split};
+use crate::numerals::put_decimal;
 use crate::status::{INVALID_ARGUMENT, OK};
-use crate::text::put_decimal;
 use theta_sketches::{MAX_PLACES, MAX_THETA, estimate_decimal};
 
 /// The estimate of a state with `places` decimals, rounded down: its whole part, and its decimals as one number below

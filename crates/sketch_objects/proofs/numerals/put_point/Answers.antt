@@ -1,6 +1,6 @@
 use Rattle.std.proofs.Common.{◌<◌, arith}
 use Rattle.sketch_objects.proofs.Digits.{length-after_point, point_before, point_none}
-use Rattle.sketch_objects.proofs.text.put_point.Goals as goal
+use Rattle.sketch_objects.proofs.numerals.put_point.Goals as goal
 
 pub returns-then-places-eq0-clause-written : goal.returns-then-places-eq0-clause-written
 returns-then-places-eq0-clause-written c = point_none c.args.decimals c.args.places c.args.text.now c.if-places-eq0.true c.told-text

@@ -1,7 +1,7 @@
 use Rattle.std.proofs.Common.{◌+◌, ◌-◌, ◌/◌, ◌%◌, ◌++◌, ◌≤◌, ap, ◌∙◌, arith}
-use Rattle.sketch_objects.specs.Text.{last_digits}
+use Rattle.sketch_objects.specs.Numerals.{last_digits}
 use Rattle.sketch_objects.proofs.Digits.{before_place, last_digits_step, last_digits_none}
-use Rattle.sketch_objects.proofs.text.+put_last_digits.Goals as goal
+use Rattle.sketch_objects.proofs.numerals.+put_last_digits.Goals as goal
 
 pub returns-then-places-eq0 : goal.returns-then-places-eq0
 returns-then-places-eq0 t c = last_digits_none c.args.places c.args.number c.args.end c.args.text.now c.if-places-eq0.true

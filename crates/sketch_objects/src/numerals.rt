@@ -1,7 +1,7 @@
 //! Numbers as text.
 ghost use Rattle.std.specs.Prelude.{◌≡◌, ◌+◌, ◌-◌, ◌≤◌, ◌++◌, length, drop, decimal};
 ghost use Rattle.sketch_objects.specs.Buffer.{IsPut};
-ghost use Rattle.sketch_objects.specs.Text.{last_digits, after_point, decimal_text};
+ghost use Rattle.sketch_objects.specs.Numerals.{last_digits, after_point, decimal_text};
 
 use crate::buffer::put;
 

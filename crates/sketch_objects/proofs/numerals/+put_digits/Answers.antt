@@ -2,7 +2,7 @@ use Rattle.std.proofs.Common.{◌≡◌, ◌+◌, ◌-◌, ◌/◌, ◌%◌, ◌
 use Rattle.std.proofs.lemmas.List.{append_assoc, length-set}
 use Rattle.std.proofs.lemmas.Fmt.{decimal_digit, decimal_step_wide}
 use Rattle.sketch_objects.proofs.Digits.{decimal_not_empty, length-decimal-step, length-decimal-one, before_place}
-use Rattle.sketch_objects.proofs.text.+put_digits.Goals as goal
+use Rattle.sketch_objects.proofs.numerals.+put_digits.Goals as goal
 
 pub overflow_sub-at : goal.overflow_sub-at
 overflow_sub-at t c = omega (arith, decimal_not_empty c.args.number (omega arith), c.requires.fits)
